@@ -1,0 +1,214 @@
+-- What a slot keeps by itself, change by change.
+use Rattle.std.proofs.Common.{ℕ, zero, suc, ◌≡◌, ◌<◌, ◌≤◌, ◌+◌, inl, inr, Bool, true, false, ◌&&◌, ◌||◌, nat_eq, nat_le, nat_lt, None, List, [], ◌∷◌, ◌++◌, length, get_or, set, replicate, refl, sym, ap, ◌∙◌, arith, length-set, length-append, get_or-set_same, get_or-set_other, All}
+use Rattle.std.proofs.lemmas.Bool.{cases_eq, cases_Bool}
+use Rattle.std.proofs.lemmas.Grind.{common_steps}
+use Rattle.std.proofs.lemmas.List.Elements.{All-append, All-nil}
+use Rattle.std.proofs.lemmas.List.Folds.{list_any-append, list_any_at}
+use Rattle.std.specs.List.{list_any}
+use Rattle.std.specs.Ordering.{nat_cmp}
+use Rattle.std.specs.FinMap as map
+use Rattle.kc_types.specs.Configuration.{Configuration}
+use Rattle.kc_types.specs.declared.slot.Phase.{Phase}
+use Rattle.kc_types.specs.declared.slot.Phase.TheVariants.{Empty, Booting}
+use Rattle.kc_model.specs.State.{Slot, Vcpu, Image, absent_vcpu, no_vcpus, empty_slot, with_vcpu}
+use Rattle.kc_model.specs.Refusals.{pages_of, overlaps}
+use Rattle.kc_model.specs.Lawful.{IsLawfulSlot, IsLawfulVcpu, IsLawfulImage, Apart, holds}
+
+-- one value
+same-everywhere : {X : Type 0} (n : ℕ) (x : X) (i : ℕ) → get_or (replicate n x) i x ≡ x
+same-everywhere zero x i = refl
+same-everywhere (suc n) x zero = refl
+same-everywhere (suc n) x (suc i) = same-everywhere n x i
+
+pub length-no_vcpus : length no_vcpus ≡ 8
+unfolding no_vcpus
+length-no_vcpus = refl
+
+at-no_vcpus : (c : ℕ) → get_or no_vcpus c absent_vcpu ≡ absent_vcpu
+unfolding no_vcpus
+at-no_vcpus c = same-everywhere 8 absent_vcpu c
+
+-- a virtual processor that waits for nothing
+pub waits-not : (phase : Phase) (vcpu : Vcpu) → vcpu.fault ≡ None → IsLawfulVcpu phase vcpu
+waits-not phase vcpu none = record {
+  registered = λ g h. cc;
+  active = λ g h. cc;
+  gfn = λ g h. cc;
+}
+
+-- a slot with nothing in it, in a phase
+pub fresh_slot : Phase → Slot
+fresh_slot phase = record empty_slot { phase = phase }
+
+lawful-fresh : (config : Configuration) (phase : Phase) → (phase ≡ Empty → fresh_slot phase ≡ empty_slot) → IsLawfulSlot config (fresh_slot phase)
+unfolding fresh_slot
+lawful-fresh config phase empty = record {
+  vcpus = length-no_vcpus;
+  each_vcpu = λ c. rw at-no_vcpus (waits-not phase absent_vcpu refl);
+  few_images = omega arith;
+  each_image = All-nil IsLawfulImage;
+  apart = tt;
+  few_leaves = omega arith;
+  leaves_once = λ root. omega arith;
+  each_leaf = All-nil _;
+  rooted = λ g f h. let none = map.get-empty {X = ℕ} nat_cmp g in cc;
+  booting = λ h g. rw map.get-empty refl;
+  empty = empty;
+}
+
+pub lawful-empty_slot : (config : Configuration) → IsLawfulSlot config empty_slot
+unfolding fresh_slot
+lawful-empty_slot config = lawful-fresh config Empty (λ h. refl)
+
+-- an empty slot that is registered
+pub lawful-registered : (config : Configuration) (slot : Slot) → IsLawfulSlot config slot → slot.phase ≡ Empty → IsLawfulSlot config (record slot { phase = Booting })
+unfolding fresh_slot
+lawful-registered config slot is empty = rw (is.empty empty) (lawful-fresh config Booting (λ h. cc))
+
+-- what stands at each place after a write, with the value that stands where nothing does
+pub each-place : {X : Type 0} (P : X → Type 0) (xs : List X) (i : ℕ) (x d : X) → i < length xs → ((k : ℕ) → P (get_or xs k d)) → P x → (k : ℕ) → P (get_or (set xs i x) k d)
+each-place P xs i x d lt all here k = elim (cases_eq k i) [
+  | inl same ↦ rw (same, get_or-set_same xs i x d lt) here
+  | inr other ↦ rw (get_or-set_other xs i k x d other) (all k)
+]
+
+-- a virtual processor that is written
+pub lawful-with_vcpu : (config : Configuration) (slot : Slot) (c : ℕ) (vcpu : Vcpu) → IsLawfulSlot config slot → (slot.phase ≡ Empty → ⊥) → c < 8 → IsLawfulVcpu slot.phase vcpu → IsLawfulSlot config (with_vcpu slot c vcpu)
+lawful-with_vcpu config slot c vcpu is used lt here = record {
+  vcpus = length-set slot.vcpus c vcpu ∙ is.vcpus;
+  each_vcpu = each-place (IsLawfulVcpu slot.phase) slot.vcpus c vcpu absent_vcpu (rw is.vcpus lt) is.each_vcpu here;
+  few_images = is.few_images;
+  each_image = is.each_image;
+  apart = is.apart;
+  few_leaves = is.few_leaves;
+  leaves_once = is.leaves_once;
+  each_leaf = is.each_leaf;
+  rooted = is.rooted;
+  booting = is.booting;
+  empty = λ h. absurd (used h);
+}
+
+-- a booting slot that leaves its phase
+pub lawful-with_phase : (config : Configuration) (slot : Slot) (phase : Phase) → IsLawfulSlot config slot → slot.phase ≡ Booting → (phase ≡ Booting → ⊥) → (phase ≡ Empty → ⊥) → IsLawfulSlot config (record slot { phase = phase })
+lawful-with_phase config slot phase is was not_booting not_empty = record {
+  vcpus = is.vcpus;
+  each_vcpu = λ c. record {
+    registered = (is.each_vcpu c).registered;
+    active = λ g h. let active = (is.each_vcpu c).active g h in cc;
+    gfn = (is.each_vcpu c).gfn;
+  };
+  few_images = is.few_images;
+  each_image = is.each_image;
+  apart = is.apart;
+  few_leaves = is.few_leaves;
+  leaves_once = is.leaves_once;
+  each_leaf = is.each_leaf;
+  rooted = is.rooted;
+  booting = λ h. absurd (not_booting h);
+  empty = λ h. absurd (not_empty h);
+}
+
+-- images
+
+overlaps-turned : (a b : Image) → overlaps a.base a.len b ≡ overlaps b.base b.len a
+overlaps-turned a b = grind (arith, common_steps)
+
+or-parts : (a b : Bool) → (a || b) ≡ false → (a ≡ false) × (b ≡ false)
+or-parts true b h = cc
+or-parts false b h = (refl, h)
+
+apart-push : (images : List Image) (new : Image) → Apart images → list_any (overlaps new.base new.len) images ≡ false → Apart (images ++ new ∷ [])
+apart-push [] new apart none = (refl, tt)
+apart-push (image ∷ images) new apart none =
+    let parts = or-parts (overlaps new.base new.len image) (list_any (overlaps new.base new.len) images) none in
+    let turned = overlaps-turned image new in
+    let last : (list_any (overlaps image.base image.len) images || (overlaps image.base image.len new || false)) ≡ false = rw (apart.0, turned, parts.0) refl in
+    (list_any-append (overlaps image.base image.len) images (new ∷ []) ∙ last, apart-push images new apart.1 parts.1)
+
+holds-none : (g : ℕ) (image : Image) → image.pages ≡ 0 → holds g image ≡ false
+holds-none g image none = grind (arith, common_steps)
+
+or-false : (b : Bool) → (b || (false || false)) ≡ b
+or-false true = refl
+or-false false = refl
+
+-- an image more, with no pages yet
+pub lawful-with_image : (config : Configuration) (slot : Slot) (image : Image) → IsLawfulSlot config slot → slot.phase ≡ Booting → length slot.images < 4 → IsLawfulImage image → image.pages ≡ 0 → list_any (overlaps image.base image.len) slot.images ≡ false → IsLawfulSlot config (record slot { images = slot.images ++ image ∷ [] })
+lawful-with_image config slot image is was few here none apart = record {
+  vcpus = is.vcpus;
+  each_vcpu = is.each_vcpu;
+  few_images = simp length-append (omega arith);
+  each_image = All-append IsLawfulImage slot.images (image ∷ []) is.each_image (only image here);
+  apart = apart-push slot.images image is.apart apart;
+  few_leaves = is.few_leaves;
+  leaves_once = is.leaves_once;
+  each_leaf = is.each_leaf;
+  rooted = is.rooted;
+  booting = λ h g. is.booting h g ∙ sym (list_any-append (holds g) slot.images (image ∷ []) ∙ ap (λ b. list_any (holds g) slot.images || (b || false)) (holds-none g image none) ∙ or-false _);
+  empty = λ h. absurd cc;
+}
+  where
+    only : (x : Image) → IsLawfulImage x → All IsLawfulImage (x ∷ [])
+    only x h zero d lt = h
+    only x h (suc k) d lt = absurd (omega arith)
+
+pub list_any-set_same : {X : Type 0} (p : X → Bool) (xs : List X) (i : ℕ) (x d : X) → i < length xs → p x ≡ p (get_or xs i d) → list_any p (set xs i x) ≡ list_any p xs
+list_any-set_same p [] i x d lt same = refl
+list_any-set_same p (y ∷ ys) zero x d lt same = ap (λ b. b || list_any p ys) same
+list_any-set_same p (y ∷ ys) (suc i) x d lt same = ap (λ b. p y || b) (list_any-set_same p ys i x d (omega arith) same)
+
+or-swap : (a b c : Bool) → ((a || b) || c) ≡ ((a || c) || b)
+or-swap true b c = refl
+or-swap false true true = refl
+or-swap false true false = refl
+or-swap false false true = refl
+or-swap false false false = refl
+
+or-assoc : (a b c : Bool) → (a || (b || c)) ≡ ((a || b) || c)
+or-assoc true b c = refl
+or-assoc false b c = refl
+
+pub list_any-set_more : {X : Type 0} (p : X → Bool) (xs : List X) (i : ℕ) (x d : X) (more : Bool) → i < length xs → p x ≡ (p (get_or xs i d) || more) → list_any p (set xs i x) ≡ (list_any p xs || more)
+list_any-set_more p [] i x d more lt is = absurd (omega arith)
+list_any-set_more p (y ∷ ys) zero x d more lt is = ap (λ b. b || list_any p ys) is ∙ or-swap (p y) more (list_any p ys)
+list_any-set_more p (y ∷ ys) (suc i) x d more lt is = ap (λ b. p y || b) (list_any-set_more p ys i x d more (omega arith) is) ∙ or-assoc (p y) (list_any p ys) more
+
+-- the same extent as before
+pub apart-set : (images : List Image) (i : ℕ) (image d : Image) → i < length images → image.base ≡ (get_or images i d).base → image.len ≡ (get_or images i d).len → Apart images → Apart (set images i image)
+apart-set [] i image d lt base len apart = apart
+apart-set (first ∷ images) zero image d lt base len apart = (rw (base, len) apart.0, apart.1)
+apart-set (first ∷ images) (suc i) image d lt base len apart =
+    (list_any-set_same (overlaps first.base first.len) images i image d (omega arith) (rw (base, len) refl) ∙ apart.0, apart-set images i image d (omega arith) base len apart.1)
+
+pub holds-more : (g base pages : ℕ) → (nat_le base g && nat_lt g (base + (pages + 1))) ≡ ((nat_le base g && nat_lt g (base + pages)) || nat_eq g (base + pages))
+holds-more g base pages = grind (arith, common_steps)
+
+-- no image holds a guest frame in the extent of an image that no other overlaps
+outside-others : (base len g : ℕ) (images : List Image) → list_any (overlaps base len) images ≡ false → All IsLawfulImage images → base ≤ g → g < base + pages_of len → list_any (holds g) images ≡ false
+outside-others base len g [] none all low high = refl
+outside-others base len g (image ∷ images) none all low high =
+    let parts = or-parts (overlaps base len image) (list_any (overlaps base len) images) none in
+    let is = all zero image (omega arith) in
+    let pages = is.pages in
+    let first : holds g image ≡ false = grind (arith, common_steps, parts.0, pages) in
+    rw first (outside-others base len g images parts.1 (λ k d lt. all (suc k) d (omega arith)) low high)
+
+-- the next page of an image is held by no image
+pub next-held : (images : List Image) (i : ℕ) (d : Image) (g : ℕ) → Apart images → All IsLawfulImage images → i < length images → g ≡ (get_or images i d).base + (get_or images i d).pages → (get_or images i d).pages < pages_of (get_or images i d).len → list_any (holds g) images ≡ false
+next-held [] i d g apart all lt is short = refl
+next-held (image ∷ images) zero d g apart all lt is short =
+    let first : holds g image ≡ false = grind (arith, common_steps, is) in
+    rw first (outside-others image.base image.len g images apart.0 (λ k e l. all (suc k) e (omega arith)) (omega arith) (omega arith))
+next-held (image ∷ images) (suc i) d g apart all lt is short =
+    let within : i < length images = omega arith in
+    let turned : overlaps image.base image.len (get_or images i d) ≡ false = none-at (overlaps image.base image.len) images i d within apart.0 in
+    let here = all zero image (omega arith) in
+    let pages = here.pages in
+    let first : holds g image ≡ false = grind (arith, common_steps, is, pages, turned, short) in
+    rw first (next-held images i d g apart.1 (λ k e l. all (suc k) e (omega arith)) within is short)
+  where
+    none-at : {X : Type 0} (p : X → Bool) (xs : List X) (j : ℕ) (e : X) → j < length xs → list_any p xs ≡ false → p (get_or xs j e) ≡ false
+    none-at p xs j e l none = elim (cases_Bool (p (get_or xs j e))) [
+      | inl yes_it ↦ let h = list_any_at p xs j e l yes_it in absurd cc
+      | inr no_it ↦ no_it
+    ]

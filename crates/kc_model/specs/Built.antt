@@ -1,0 +1,21 @@
+-- The calls that are built so far. A trace that has another is refused.
+use Rattle.std.specs.Prelude.{Bool, true, false, IsTrue}
+use Rattle.kc_types.specs.declared.call.Call.{Call}
+use Rattle.kc_types.specs.declared.call.Call.TheVariants.{Take, Give, HostFault, HostRead, HostWrite}
+
+abbrev pub is_built : Call → Bool
+is_built Take = true
+is_built (Give f) = true
+is_built (HostFault f) = true
+is_built (HostRead f off len) = true
+is_built (HostWrite f off bytes) = true
+is_built _ = false
+
+abbrev pub IsBuilt : Call → Type 0
+IsBuilt call = IsTrue (is_built call)
+
+-- the calls that are served without memory
+abbrev pub TakesNoMemory : Call → Type 0
+TakesNoMemory (HostRead f off len) = ⊥
+TakesNoMemory (Give f) = ⊥
+TakesNoMemory _ = Unit {0}

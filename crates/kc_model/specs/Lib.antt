@@ -1,0 +1,10 @@
+pub mod State
+pub mod Boot
+pub mod Refusals
+pub mod Effects
+pub mod Next
+pub mod Lawful
+pub mod Built
+pub mod Safety
+pub mod Ranged
+pub mod Blind

@@ -1,0 +1,6 @@
+pub mod Limits
+pub mod Bytes
+pub mod Actors
+pub mod Refusals
+pub mod Configuration
+pub mod ConfigFaults

@@ -1,0 +1,215 @@
+//! A call of an actor.
+ghost use Rattle.std.specs.Prelude.{◌≡◌, IfOk};
+ghost use Rattle.kc_types.specs.Actors.{actor};
+
+use crate::{Data, Memory};
+
+/// A call with its raw numbers, which are judged when it is answered: frames, slots (`vm`), virtual processors
+/// (`vcpu`), guest frames (`gfn`, `base`), images, and offsets and lengths in bytes. Two are equal where they
+/// say the same, of data the same bytes.
+#[derive(Debug, Drop, PartialEq)]
+pub enum Call {
+    /// The first free frame becomes the host's.
+    Take,
+    /// A frame of the host's is zeroed and becomes free.
+    Give {
+        frame: u32,
+    },
+    /// The host's access to a frame that it may reach is mapped.
+    HostFault {
+        frame: u32,
+    },
+    /// The host reads bytes of a mapped frame.
+    HostRead {
+        frame: u32,
+        offset: u32,
+        len: u32,
+    },
+    /// The host writes bytes of a mapped frame.
+    HostWrite {
+        frame: u32,
+        offset: u32,
+        data: Data,
+    },
+    /// An empty slot gets a VM, which begins to boot.
+    RegisterVm {
+        vm: u32,
+    },
+    /// A booting VM gets a virtual processor.
+    RegisterVcpu {
+        vm: u32,
+        vcpu: u32,
+    },
+    /// A booting VM gets a boot image of `len` bytes from guest frame `base` on.
+    SetBoot {
+        vm: u32,
+        base: u32,
+        len: u32,
+    },
+    /// A frame of the host's becomes the next page of a boot image.
+    Remap {
+        vm: u32,
+        image: u32,
+        frame: u32,
+    },
+    /// The boot images are measured, and the VM becomes active or dead.
+    Verify {
+        vm: u32,
+    },
+    /// A frame of the host's is mapped at the guest frame that a virtual processor waits for.
+    Map {
+        vm: u32,
+        vcpu: u32,
+        frame: u32,
+    },
+    /// A virtual processor reads bytes of a guest frame.
+    GuestRead {
+        vm: u32,
+        vcpu: u32,
+        gfn: u32,
+        offset: u32,
+        len: u32,
+    },
+    /// A virtual processor writes bytes of a guest frame.
+    GuestWrite {
+        vm: u32,
+        vcpu: u32,
+        gfn: u32,
+        offset: u32,
+        data: Data,
+    },
+    /// A virtual processor grants the host access to a guest frame once more.
+    Grant {
+        vm: u32,
+        vcpu: u32,
+        gfn: u32,
+    },
+    /// A virtual processor takes one grant back.
+    Revoke {
+        vm: u32,
+        vcpu: u32,
+        gfn: u32,
+    },
+    /// A virtual processor gives up a guest frame, which is zeroed and becomes free.
+    Drop {
+        vm: u32,
+        vcpu: u32,
+        gfn: u32,
+    },
+    /// A VM ends: its frames are zeroed and become free, its slot is empty.
+    Clear {
+        vm: u32,
+    },
+}
+
+/// Who makes a call, by the call's raw numbers.
+#[derive(Clone, Copy, Debug, PartialEq, Eq)]
+pub enum Actor {
+    Host,
+    /// A slot and a virtual processor in it.
+    Vcpu(u32, u32),
+}
+
+/// Who makes a call.
+pub fn actor_of(call: &Call) -> Actor
+    ensures { result ≡ actor call.now }
+{
+    match call {
+        Call::GuestRead { vm, vcpu, .. }
+        | Call::GuestWrite { vm, vcpu, .. }
+        | Call::Grant { vm, vcpu, .. }
+        | Call::Revoke { vm, vcpu, .. }
+        | Call::Drop { vm, vcpu, .. } => Actor::Vcpu(*vm, *vcpu),
+        _ => Actor::Host,
+    }
+}
+
+impl Call {
+    /// A copy, or `Memory` where a growth was refused.
+    pub fn copy(&self) -> Result<Call, Memory>
+        ensures { IfOk result (λ made. made ≡ self.now) }
+    {
+        Ok(match self {
+            Call::Take => Call::Take,
+            Call::Give { frame } => Call::Give { frame: *frame },
+            Call::HostFault { frame } => Call::HostFault { frame: *frame },
+            Call::HostRead { frame, offset, len } => Call::HostRead {
+                frame: *frame,
+                offset: *offset,
+                len: *len,
+            },
+            Call::HostWrite {
+                frame,
+                offset,
+                data,
+            } => Call::HostWrite {
+                frame: *frame,
+                offset: *offset,
+                data: data.copy()?,
+            },
+            Call::RegisterVm { vm } => Call::RegisterVm { vm: *vm },
+            Call::RegisterVcpu { vm, vcpu } => Call::RegisterVcpu {
+                vm: *vm,
+                vcpu: *vcpu,
+            },
+            Call::SetBoot { vm, base, len } => Call::SetBoot {
+                vm: *vm,
+                base: *base,
+                len: *len,
+            },
+            Call::Remap { vm, image, frame } => Call::Remap {
+                vm: *vm,
+                image: *image,
+                frame: *frame,
+            },
+            Call::Verify { vm } => Call::Verify { vm: *vm },
+            Call::Map { vm, vcpu, frame } => Call::Map {
+                vm: *vm,
+                vcpu: *vcpu,
+                frame: *frame,
+            },
+            Call::GuestRead {
+                vm,
+                vcpu,
+                gfn,
+                offset,
+                len,
+            } => Call::GuestRead {
+                vm: *vm,
+                vcpu: *vcpu,
+                gfn: *gfn,
+                offset: *offset,
+                len: *len,
+            },
+            Call::GuestWrite {
+                vm,
+                vcpu,
+                gfn,
+                offset,
+                data,
+            } => Call::GuestWrite {
+                vm: *vm,
+                vcpu: *vcpu,
+                gfn: *gfn,
+                offset: *offset,
+                data: data.copy()?,
+            },
+            Call::Grant { vm, vcpu, gfn } => Call::Grant {
+                vm: *vm,
+                vcpu: *vcpu,
+                gfn: *gfn,
+            },
+            Call::Revoke { vm, vcpu, gfn } => Call::Revoke {
+                vm: *vm,
+                vcpu: *vcpu,
+                gfn: *gfn,
+            },
+            Call::Drop { vm, vcpu, gfn } => Call::Drop {
+                vm: *vm,
+                vcpu: *vcpu,
+                gfn: *gfn,
+            },
+            Call::Clear { vm } => Call::Clear { vm: *vm },
+        })
+    }
+}

@@ -1,0 +1,168 @@
+//! What the core is started with.
+ghost use Rattle.std.specs.Prelude.{◌≡◌, ◌<◌, ◌≤◌, IfOk};
+ghost use Rattle.kc_types.specs.Limits.{frame_limit, leaf_limit};
+ghost use Rattle.kc_types.specs.Configuration.{IsConfiguration};
+ghost use Rattle.kc_types.specs.ConfigFaults.{Configures};
+
+use crate::Memory;
+use std::marker::Model;
+use thiserror::Error;
+
+/// Digests of 32 bytes, seen as the list of them.
+#[derive(Debug, Drop)]
+struct Digests {
+    digests: Vec<[u8; 32]>,
+}
+
+impl Model for Digests {
+    ghost use Rattle.std.specs.Prelude.{ℕ, List};
+
+    ghost Value = { List (List ℕ) };
+
+    ghost view = { λ d. d.digests.items };
+}
+
+impl PartialEq for Digests {
+    ghost use Rattle.std.specs.Prelude.{◌==◌};
+    ghost use Rattle.std.specs.Cmp.Rules.{comparing};
+    ghost use Rattle.std.specs.Cmp.Lexicographic.{pointwise};
+    ghost use Rattle.std.proofs.Common.{rules};
+
+    ghost eq = { pointwise (pointwise ◌==◌) };
+
+    ghost laws = { Prim.search (comparing, rules) };
+
+    fn eq(&self, other: &Digests) -> bool {
+        self.digests == other.digests
+    }
+}
+
+/// The trusted configuration of the core. Two are equal where their numbers and digests are.
+#[derive(Debug, Drop, PartialEq)]
+pub struct Config {
+    frames: u32,
+    core: u32,
+    host: u32,
+    leaves: u32,
+    approved: Digests,
+}
+
+impl Model for Config {
+    ghost use Rattle.kc_types.specs.Configuration.{Configuration, IsConfiguration};
+
+    ghost Value = { Configuration };
+
+    ghost view = { λ c. record { frames = c.frames; core = c.core; host = c.host; leaves = c.leaves; approved = c.approved } };
+
+    ghost invariant = { λ c. IsConfiguration (record { frames = c.frames; core = c.core; host = c.host; leaves = c.leaves; approved = c.approved }) };
+
+    ghost inverse = { λ v. record { frames = v.frames; core = v.core; host = v.host; leaves = v.leaves; approved = v.approved } };
+}
+
+/// Why there is no such configuration; the first that applies is answered.
+#[derive(Clone, Copy, Debug, PartialEq, Eq, Error)]
+pub enum ConfigFault {
+    /// The number of frames is 0 or above 8,192.
+    #[error("frames")]
+    Frames,
+    /// The core's and the host's frames together are more than there are.
+    #[error("core and host")]
+    CoreHost,
+    /// The number of leaf tables is 0 or above 64.
+    #[error("leaves")]
+    Leaves,
+    /// More than 64 digests are approved.
+    #[error("approved")]
+    TooManyDigests,
+}
+
+impl Config {
+    /// A configuration of `frames` frames of 4,096 bytes, the first `core` of them the core's for ever and
+    /// the next `host` the host's at boot; of `leaves` leaf tables for each VM; and of the SHA-256 digests
+    /// (FIPS 180-4) of the boot images that are approved.
+    pub fn try_new(
+        frames: u32,
+        core: u32,
+        host: u32,
+        leaves: u32,
+        approved: Vec<[u8; 32]>,
+    ) -> Result<Config, ConfigFault>
+        ensures { Configures result (record { frames = frames; core = core; host = host; leaves = leaves; approved = approved.items }) }
+    {
+        if frames == 0 || frames > 8_192 {
+            return Err(ConfigFault::Frames);
+        }
+        if core > frames || host > frames - core {
+            return Err(ConfigFault::CoreHost);
+        }
+        if leaves == 0 || leaves > 64 {
+            return Err(ConfigFault::Leaves);
+        }
+        if approved.len() > 64 {
+            return Err(ConfigFault::TooManyDigests);
+        }
+        Ok(Config {
+            frames,
+            core,
+            host,
+            leaves,
+            approved: Digests { digests: approved },
+        })
+    }
+
+    /// The number of frames, 1 to 8,192.
+    pub fn frames(&self) -> u32
+        ensures value { result ≡ self.now.frames }
+        ensures some { 0 < result }
+        ensures few { result ≤ frame_limit }
+    {
+        self.frames
+    }
+
+    /// The number of the core's frames, which are the first.
+    pub fn core(&self) -> u32
+        ensures value { result ≡ self.now.core }
+        ensures kept { IsConfiguration self.now }
+    {
+        self.core
+    }
+
+    /// The number of the host's frames at boot, which follow the core's.
+    pub fn host(&self) -> u32
+        ensures value { result ≡ self.now.host }
+        ensures kept { IsConfiguration self.now }
+    {
+        self.host
+    }
+
+    /// The number of leaf tables of each VM, 1 to 64.
+    pub fn leaves(&self) -> u32
+        ensures value { result ≡ self.now.leaves }
+        ensures some { 0 < result }
+        ensures few { result ≤ leaf_limit }
+    {
+        self.leaves
+    }
+
+    /// The approved digests.
+    pub fn approved(&self) -> &[[u8; 32]]
+        ensures { result.now ≡ self.now.approved }
+    {
+        self.approved.digests.as_slice()
+    }
+
+    /// A copy, or `Memory` where a growth was refused.
+    pub fn copy(&self) -> Result<Config, Memory>
+        ensures { IfOk result (λ made. made ≡ self.now) }
+    {
+        Ok(Config {
+            frames: self.frames,
+            core: self.core,
+            host: self.host,
+            leaves: self.leaves,
+            approved: Digests {
+                digests: self.approved.digests.clone()?,
+            },
+        })
+    }
+}

@@ -1,0 +1,22 @@
+//! What every layer speaks of: numbers with their range, calls, replies, refusals, the configuration, want of memory.
+#![tactic(auto)]
+
+mod call;
+mod config;
+mod data;
+mod memory;
+mod numbers;
+mod owner;
+mod refusal;
+mod reply;
+mod slot;
+
+pub use call::{Actor, Call, actor_of};
+pub use config::{Config, ConfigFault};
+pub use data::Data;
+pub use memory::Memory;
+pub use numbers::{FrameNo, Gfn, VcpuId, VmId};
+pub use owner::Owner;
+pub use refusal::Refusal;
+pub use reply::Reply;
+pub use slot::{Image, Phase, Vcpu};

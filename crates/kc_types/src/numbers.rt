@@ -1,0 +1,172 @@
+//! Numbers that keep their range in the type. Each is seen as the plain number.
+ghost use Rattle.std.specs.Prelude.{◌≡◌, ℕ, ◌<◌, ◌↔◌, IsSome, IfSome};
+ghost use Rattle.kc_types.specs.Limits.{frame_limit, slot_limit, vcpu_limit, gfn_limit};
+
+use std::marker::Model;
+
+/// The number of a frame of 4,096 bytes, 0 to 8,191. Whether the frame exists is a matter of the
+/// configuration.
+#[derive(Clone, Copy, Debug, PartialEq, Eq)]
+pub struct FrameNo {
+    number: u16,
+}
+
+impl Model for FrameNo {
+    ghost Value = { ℕ };
+
+    ghost view = { λ f. f.number };
+
+    ghost invariant = { λ f. f.number < frame_limit };
+
+    ghost inverse = { λ n. record { number = n } };
+}
+
+impl FrameNo {
+    /// The frame of this number, or `None` from 8,192 on.
+    pub fn try_new(number: u32) -> Option<FrameNo>
+        ensures valid { IsSome result ↔ (number < frame_limit) }
+        ensures value { IfSome result (λ frame. frame ≡ number) }
+    {
+        if number < 8_192 {
+            Some(FrameNo {
+                number: number as u16,
+            })
+        } else {
+            None
+        }
+    }
+
+    /// The plain number.
+    pub fn number(self) -> u32
+        ensures value { result ≡ self }
+        ensures within { result < frame_limit }
+    {
+        u32::from(self.number)
+    }
+
+    /// The number as a place in a list of all frames.
+    pub fn index(self) -> usize
+        ensures value { result ≡ self }
+        ensures within { result < frame_limit }
+    {
+        usize::from(self.number)
+    }
+}
+
+/// The number of a VM slot, 0 to 15.
+#[derive(Clone, Copy, Debug, PartialEq, Eq)]
+pub struct VmId {
+    number: u8,
+}
+
+impl Model for VmId {
+    ghost Value = { ℕ };
+
+    ghost view = { λ v. v.number };
+
+    ghost invariant = { λ v. v.number < slot_limit };
+
+    ghost inverse = { λ n. record { number = n } };
+}
+
+impl VmId {
+    /// The slot of this number, or `None` from 16 on.
+    pub fn try_new(number: u32) -> Option<VmId>
+        ensures valid { IsSome result ↔ (number < slot_limit) }
+        ensures value { IfSome result (λ vm. vm ≡ number) }
+    {
+        if number < 16 {
+            Some(VmId {
+                number: number as u8,
+            })
+        } else {
+            None
+        }
+    }
+
+    /// The number as a place in a list of all slots.
+    pub fn index(self) -> usize
+        ensures value { result ≡ self }
+        ensures within { result < slot_limit }
+    {
+        usize::from(self.number)
+    }
+}
+
+/// The number of a virtual processor within its VM, 0 to 7.
+#[derive(Clone, Copy, Debug, PartialEq, Eq)]
+pub struct VcpuId {
+    number: u8,
+}
+
+impl Model for VcpuId {
+    ghost Value = { ℕ };
+
+    ghost view = { λ c. c.number };
+
+    ghost invariant = { λ c. c.number < vcpu_limit };
+
+    ghost inverse = { λ n. record { number = n } };
+}
+
+impl VcpuId {
+    /// The virtual processor of this number, or `None` from 8 on.
+    pub fn try_new(number: u32) -> Option<VcpuId>
+        ensures valid { IsSome result ↔ (number < vcpu_limit) }
+        ensures value { IfSome result (λ vcpu. vcpu ≡ number) }
+    {
+        if number < 8 {
+            Some(VcpuId {
+                number: number as u8,
+            })
+        } else {
+            None
+        }
+    }
+
+    /// The number as a place in a list of the virtual processors of a VM.
+    pub fn index(self) -> usize
+        ensures value { result ≡ self }
+        ensures within { result < vcpu_limit }
+    {
+        usize::from(self.number)
+    }
+}
+
+/// The number of a guest frame, 0 to 262,143: a guest sees at most 1 GiB in frames of 4,096 bytes.
+#[derive(Clone, Copy, Debug, PartialEq, Eq)]
+pub struct Gfn {
+    number: u32,
+}
+
+impl Model for Gfn {
+    ghost Value = { ℕ };
+
+    ghost view = { λ g. g.number };
+
+    ghost invariant = { λ g. g.number < gfn_limit };
+
+    ghost inverse = { λ n. record { number = n } };
+}
+
+impl Gfn {
+    /// The guest frame of this number, or `None` from 262,144 on.
+    pub fn try_new(number: u32) -> Option<Gfn>
+        ensures valid { IsSome result ↔ (number < gfn_limit) }
+        ensures value { IfSome result (λ gfn. gfn ≡ number) }
+    {
+        if number < 262_144 {
+            Some(Gfn { number })
+        } else {
+            None
+        }
+    }
+
+    /// The plain number.
+    pub fn number(self) -> u32
+        ensures value { result ≡ self }
+        ensures within { result < gfn_limit }
+    {
+        self.number
+    }
+}

@@ -1,0 +1,40 @@
+//! What a call is answered.
+ghost use Rattle.std.specs.Prelude.{◌≡◌, IfOk};
+
+use crate::{Data, Memory, Refusal};
+
+/// The answer to a call. Two are equal where they say the same, of data the same bytes.
+#[derive(Debug, Drop, PartialEq)]
+pub enum Reply {
+    /// The call took effect.
+    Done,
+    /// The frame that became the host's.
+    Frame(u32),
+    /// The number of the new image.
+    Image(u32),
+    /// The bytes read.
+    Data(Data),
+    /// The guest frame that the virtual processor waits for now.
+    Fault(u32),
+    /// The first image that is not approved.
+    Rejected(u32),
+    /// The call changed nothing, for this reason.
+    Refused(Refusal),
+}
+
+impl Reply {
+    /// A copy, or `Memory` where a growth was refused.
+    pub fn copy(&self) -> Result<Reply, Memory>
+        ensures { IfOk result (λ made. made ≡ self.now) }
+    {
+        Ok(match self {
+            Reply::Done => Reply::Done,
+            Reply::Frame(frame) => Reply::Frame(*frame),
+            Reply::Image(image) => Reply::Image(*image),
+            Reply::Data(data) => Reply::Data(data.copy()?),
+            Reply::Fault(gfn) => Reply::Fault(*gfn),
+            Reply::Rejected(image) => Reply::Rejected(*image),
+            Reply::Refused(refusal) => Reply::Refused(*refusal),
+        })
+    }
+}
