@@ -10,21 +10,22 @@ use Rattle.kc_model.specs.State.{State, frame_at, slot_at, vcpu_at, mapped_at}
 use Rattle.kc_model.specs.Refusals.{when, is_host, is_empty, is_booting, is_active, bad_vm, bad_vcpu, bad_frame, bad_gfn, not_booting, not_active, no_vcpu, not_mapped, not_host, tables_full, backing}
 use Rattle.kc_model.specs.Lawful.{has_leaf}
 use Rattle.kc_model.proofs.Served.{when-none, nat_le-is_false, not-is_false}
+use Rattle.kc_types.specs.Configuration.{slot_count}
 
 pub nat_lt-is_false : (a b : ℕ) → nat_lt a b ≡ false → b ≤ a
 nat_lt-is_false a b h = grind (arith, common_steps)
 
-pub vm-in : (v : ℕ) → bad_vm v ≡ None → v < 16
-vm-in v h = let le = nat_lt-is_false _ _ (when-none _ _ h) in omega arith
+pub vm-in : (m : State) (v : ℕ) → bad_vm m v ≡ None → v < slot_count m.config
+vm-in m v h = nat_le-is_false _ _ (when-none _ _ h)
 
 pub vcpu-in : (c : ℕ) → bad_vcpu c ≡ None → c < 8
-vcpu-in c h = let le = nat_lt-is_false _ _ (when-none _ _ h) in omega arith
+vcpu-in c h = nat_le-is_false _ _ (when-none _ _ h)
 
 pub frame-in : (m : State) (f : ℕ) → bad_frame m f ≡ None → f < m.config.frames
 frame-in m f h = nat_le-is_false _ _ (when-none _ _ h)
 
 pub gfn-in : (g : ℕ) → bad_gfn g ≡ None → g < 262144
-gfn-in g h = let le = nat_lt-is_false _ _ (when-none _ _ h) in omega arith
+gfn-in g h = nat_le-is_false _ _ (when-none _ _ h)
 
 is_empty-is : (phase : Phase) → not (is_empty phase) ≡ false → phase ≡ Empty
 is_empty-is Empty h = refl

@@ -1,12 +1,12 @@
 -- The state at boot is lawful.
 use Rattle.std.proofs.Common.{ℕ, zero, suc, ◌≡◌, ◌<◌, ◌≤◌, ◌+◌, ◌-◌, ◌⊎◌, inl, inr, cond, ◌&&◌, [], length, get_or, nat_lt, nat_le, replicate, if◌then◌else◌, refl, sym, ap, ◌∙◌, arith}
 use Rattle.std.proofs.lemmas.Grind.{common_steps}
-use Rattle.std.proofs.lemmas.List.{get_or_past}
+use Rattle.std.proofs.lemmas.List.{get_or_past, length-replicate}
 use Rattle.std.proofs.lemmas.List.FromFn.{get_or-map-range_with_len, length-map-range_with_len}
 use Rattle.std.specs.List.{range_with_len}
 use Rattle.std.specs.Ordering.{nat_cmp}
 use Rattle.std.specs.FinMap.{get-empty}
-use Rattle.kc_types.specs.Configuration.{Configuration, IsConfiguration}
+use Rattle.kc_types.specs.Configuration.{Configuration, IsConfiguration, slot_count}
 use Rattle.kc_types.specs.declared.owner.Owner.TheVariants.{Core, Free, Vm}
 use Rattle.kc_model.specs.State.{Frame, frame_at, slot_at, untouched, empty_slot}
 use Rattle.kc_model.specs.Boot.{boot, boot_owner, boot_frame, no_vms}
@@ -28,13 +28,13 @@ get_or-same zero x i = refl
 get_or-same (suc n) x zero = refl
 get_or-same (suc n) x (suc i) = get_or-same n x i
 
-length-no_vms : length no_vms ≡ 16
+length-no_vms : (c : Configuration) → length (no_vms c) ≡ slot_count c
 unfolding no_vms
-length-no_vms = refl
+length-no_vms c = length-replicate (slot_count c) empty_slot
 
 pub slot_at-boot : (c : Configuration) (v : ℕ) → slot_at (boot c) v ≡ empty_slot
 unfolding no_vms
-slot_at-boot c v = get_or-same 16 empty_slot v
+slot_at-boot c v = get_or-same (slot_count c) empty_slot v
 
 frame_at-boot : (c : Configuration) (f : ℕ) → f < c.frames → frame_at (boot c) f ≡ boot_frame c f
 frame_at-boot c f lt = get_or-map-range_with_len (boot_frame c) 0 c.frames f f (untouched Core) lt (omega arith)
@@ -80,7 +80,7 @@ pub lawful-boot : (c : Configuration) → IsConfiguration c → IsLawful (boot c
 lawful-boot c is = record {
   config = is;
   frames = length-map-range_with_len (boot_frame c) 0 c.frames;
-  slots = length-no_vms;
+  slots = length-no_vms c;
   each_frame = λ f lt. let within : f < c.frames = rw length-map-range_with_len at lt in rw (frame_at-boot c f within) (lawful_frame-boot c is f within);
   each_slot = λ v lt. rw (slot_at-boot c v) (lawful-empty_slot c);
   free = free-boot c is;

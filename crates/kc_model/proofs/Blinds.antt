@@ -25,6 +25,7 @@ use Rattle.kc_model.proofs.HandCalls.{remap-served, map-served}
 use Rattle.kc_model.proofs.Verifies.{HasLastPage, last_gfn, each_last_page, verify-served, none-at, backing-of, lawful-trimmed}
 use Rattle.kc_model.proofs.Clears.{after, slot-kept}
 use Rattle.kc_model.proofs.Unseen.{map-same, map-write, frame-hidden, frame-open, open-frame, frames-written, frames-kept, alike-by, hidden-idle, open-owner, open-host, open-free, open-other, open-shared, open-mapped}
+use Rattle.kc_types.specs.Configuration.{slot_count}
 
 -- what a call does is the same where the secret bytes are hidden
 pub record IsBlind (s : Secret) (m : State) (call : Call) : Type 0 where
@@ -136,7 +137,7 @@ reads-state : (s : Secret) (m : State) (v c g off len : ℕ) (at : Option ℕ) �
 reads-state s m v c g off len None = blind-slot s m v _ refl
 reads-state s m v c g off len (Some f) = blind-slot s m v _ refl
 
-reads-answer : (s : Secret) (m : State) (v c g off len : ℕ) (at : Option ℕ) → IsLawful m → v < 16 → mapped_at m v g ≡ at → names_secret s v g ≡ false → (guest_read m v c g off len at).0 ≡ (guest_read (hidden s m) v c g off len at).0
+reads-answer : (s : Secret) (m : State) (v c g off len : ℕ) (at : Option ℕ) → IsLawful m → v < slot_count m.config → mapped_at m v g ≡ at → names_secret s v g ≡ false → (guest_read m v c g off len at).0 ≡ (guest_read (hidden s m) v c g off len at).0
 reads-answer s m v c g off len None is v_in e other = refl
 reads-answer s m v c g off len (Some f) is v_in e other = ap (λ (x : Frame). read x off len) (sym (frame-open s m f (open-mapped s m v g f is v_in e other)))
 
@@ -162,7 +163,7 @@ named true true e = (refl, refl)
 named true false e = cc
 named false c e = cc
 
-is_secret-mapped : (s : Secret) (m : State) (v g f : ℕ) → IsLawful m → v < 16 → (slot_at m v).phase ≡ Active → mapped_at m v g ≡ Some f → names_secret s v g ≡ true → is_secret s (is_running m s.vm) (frame_at m f) ≡ true
+is_secret-mapped : (s : Secret) (m : State) (v g f : ℕ) → IsLawful m → v < slot_count m.config → (slot_at m v).phase ≡ Active → mapped_at m v g ≡ Some f → names_secret s v g ≡ true → is_secret s (is_running m s.vm) (frame_at m f) ≡ true
 is_secret-mapped s m v g f is v_in active mapped names =
     let parts = named (nat_eq v s.vm) (s.gfns g) names in
     let same : v ≡ s.vm = grind (arith, common_steps, parts.0) in
@@ -171,7 +172,7 @@ is_secret-mapped s m v g f is v_in active mapped names =
     let running : is_running m s.vm ≡ true = subst (λ x. is_running m x ≡ true) same (ap is_active active) in
     rw (owner, gfn, running) refl
 
-writes-state : (s : Secret) (m : State) (v c g off : ℕ) (bytes : List ℕ) (at : Option ℕ) (t : Bool) → IsLawful m → v < 16 → (slot_at m v).phase ≡ Active → mapped_at m v g ≡ at → names_secret s v g ≡ t
+writes-state : (s : Secret) (m : State) (v c g off : ℕ) (bytes : List ℕ) (at : Option ℕ) (t : Bool) → IsLawful m → v < slot_count m.config → (slot_at m v).phase ≡ Active → mapped_at m v g ≡ at → names_secret s v g ≡ t
     → hidden s (guest_written m v c g off bytes at).1 ≡ hidden s (guest_written (hidden s m) v c g off (cond t (replicate (length bytes) 0) bytes) at).1
 writes-state s m v c g off bytes None t is v_in active e names = blind-slot s m v _ refl
 writes-state s m v c g off bytes (Some f) true is v_in active e names =
@@ -237,7 +238,7 @@ scrubbed-hidden s b frames [] = refl
 scrubbed-hidden s b frames (f ∷ fs) = scrubbed-hidden s b (set frames f (untouched Free)) fs ∙ ap (λ (xs : List Frame). scrubbed xs fs) (map-write (hidden_frame s b) frames f (untouched Free))
 
 -- after the slot itself is cleared no frame is a secret
-cleared-open : (s : Secret) (m : State) (b : Bool) → IsLawful m → s.vm < 16 → map (hidden_frame s b) (scrubbed m.frames (slot_at m s.vm).frames) ≡ scrubbed m.frames (slot_at m s.vm).frames
+cleared-open : (s : Secret) (m : State) (b : Bool) → IsLawful m → s.vm < slot_count m.config → map (hidden_frame s b) (scrubbed m.frames (slot_at m s.vm).frames) ≡ scrubbed m.frames (slot_at m s.vm).frames
 cleared-open s m b is v_in = map-same (hidden_frame s b) (scrubbed m.frames (slot_at m s.vm).frames) (untouched Core) (λ k lt. elim (after m s.vm k is v_in) [
   | inl mine ↦ rw mine.1 refl
   | inr other ↦ rw other.1 (open-frame s b (frame_at m k) (open-owner s b (frame_at m k) (not_owner (frame_at m k).owner other.0)))
@@ -255,12 +256,12 @@ cleared-open s m b is v_in = map-same (hidden_frame s b) (scrubbed m.frames (slo
 blind-clear : (s : Secret) (m : State) (w : ℕ) → IsLawful m → refusal m (Clear w) ≡ None → IsBlind s m (Clear w)
 blind-clear s m w is served = record { state = state; answer = λ _. refl }
   where
-    v_in : w < 16
-    v_in = let first = or_else-none _ _ served in vm-in w first.0
+    v_in : w < slot_count m.config
+    v_in = let first = or_else-none _ _ served in vm-in m w first.0
 
     mine : w ≡ s.vm → hidden s (cleared m w) ≡ hidden s (cleared (hidden s m) w)
     mine same =
-        let in_range : s.vm < 16 = rw (← same) v_in in
+        let in_range : s.vm < slot_count m.config = rw (← same) v_in in
         let b = is_running m s.vm in
         let gone : scrubbed (map (hidden_frame s b) m.frames) (slot_at m s.vm).frames ≡ scrubbed m.frames (slot_at m s.vm).frames = sym (scrubbed-hidden s b m.frames (slot_at m s.vm).frames) ∙ cleared-open s m b is in_range in
         let lists : scrubbed (map (hidden_frame s b) m.frames) (slot_at m w).frames ≡ scrubbed m.frames (slot_at m w).frames = rw same gone in
@@ -299,7 +300,7 @@ failing-same p q (x ∷ xs) same =
 held : (image : Image) (g : ℕ) → is_short image ≡ false → image.base ≤ g → g < image.base + pages_of image.len → holds g image ≡ true
 held image g full low high = grind (arith, common_steps, full)
 
-approved-same : (s : Secret) (m : State) (w : ℕ) → IsLawful m → w < 16 → (slot_at m w).phase ≡ Booting → list_any is_short (slot_at m w).images ≡ false → (w ≡ s.vm → ⊥)
+approved-same : (s : Secret) (m : State) (w : ℕ) → IsLawful m → w < slot_count m.config → (slot_at m w).phase ≡ Booting → list_any is_short (slot_at m w).images ≡ false → (w ≡ s.vm → ⊥)
     → (i : ℕ) (d : Image) → i < length (slot_at m w).images → is_approved m w (get_or (slot_at m w).images i d) ≡ is_approved (hidden s m) w (get_or (slot_at m w).images i d)
 approved-same s m w is w_in booting full ne i d lt =
     let images = (slot_at m w).images in
@@ -313,7 +314,7 @@ approved-same s m w is w_in booting full ne i d lt =
     let bytes : image_bytes m w image ≡ image_bytes (hidden s m) w image = ap (take image.len) (joined-same (bytes_at m w) (bytes_at (hidden s m) w) image.base (pages_of image.len) page) in
     rw bytes refl
 
-trims-hidden : (s : Secret) (m : State) (w : ℕ) (images : List Image) → IsLawful m → w < 16 → All (HasLastPage m w) images → (w ≡ s.vm → ⊥) → hidden s (all_trimmed m w images) ≡ all_trimmed (hidden s m) w images
+trims-hidden : (s : Secret) (m : State) (w : ℕ) (images : List Image) → IsLawful m → w < slot_count m.config → All (HasLastPage m w) images → (w ≡ s.vm → ⊥) → hidden s (all_trimmed m w images) ≡ all_trimmed (hidden s m) w images
 trims-hidden s m w [] is w_in mapped ne = refl
 trims-hidden s m w (image ∷ images) is w_in mapped ne =
     let b = is_running m s.vm in

@@ -10,6 +10,7 @@ use Rattle.kc_model.specs.State.{State, Frame, Slot, frame_at, slot_at, with_fra
 use Rattle.kc_model.specs.Lawful.{IsLawful, IsLawfulFrame, IsLawfulSlot, ListsOnce, same_owner, is_vm}
 use Rattle.kc_model.proofs.Frames.{each-set, part-set}
 use Rattle.kc_model.proofs.Lists.{lists-other, changed-same, changed-other}
+use Rattle.kc_types.specs.Configuration.{slot_count}
 
 -- a slot after the change, and another one
 pub slot-here : (m : State) (v : ℕ) (slot : Slot) → v < length m.slots → slot_at (with_slot m v slot) v ≡ slot
@@ -49,7 +50,7 @@ exists m f not_core = elim (cases_lt f (length m.frames)) [
 
 -- a frame that keeps its owner and its guest frame
 pub lawful-with_frame : (m : State) (f : ℕ) (frame : Frame) → IsLawful m → f < length m.frames → frame.owner ≡ (frame_at m f).owner → frame.gfn ≡ (frame_at m f).gfn → IsLawfulFrame m.config f frame
-    → ((v : ℕ) → v < 16 → frame.owner ≡ Vm v → 0 < frame.share → (slot_at m v).phase ≡ Active) → IsLawful (with_frame m f frame)
+    → ((v : ℕ) → v < slot_count m.config → frame.owner ≡ Vm v → 0 < frame.share → (slot_at m v).phase ≡ Active) → IsLawful (with_frame m f frame)
 lawful-with_frame m f frame is lt owner gfn here sharing =
     let owners = part-set (λ (x : Frame). x.owner) m.frames f frame (untouched Core) owner in
     let gfns = part-set (λ (x : Frame). x.gfn) m.frames f frame (untouched Core) gfn in
@@ -92,7 +93,7 @@ lawful-moved m f frame free is lt before after here once = record {
 }
 
 -- a slot that keeps its frames and its table
-pub lawful-with_slot : (m : State) (v : ℕ) (slot : Slot) → IsLawful m → v < 16 → slot.frames ≡ (slot_at m v).frames → slot.mapped ≡ (slot_at m v).mapped → IsLawfulSlot m.config slot
+pub lawful-with_slot : (m : State) (v : ℕ) (slot : Slot) → IsLawful m → v < slot_count m.config → slot.frames ≡ (slot_at m v).frames → slot.mapped ≡ (slot_at m v).mapped → IsLawfulSlot m.config slot
     → ((slot_at m v).phase ≡ Active → slot.phase ≡ Active) → IsLawful (with_slot m v slot)
 lawful-with_slot m v slot is v_in frames mapped here active =
     let lists = part-set (λ (x : Slot). x.frames) m.slots v slot empty_slot frames in
@@ -116,7 +117,7 @@ lawful-with_slot m v slot is v_in frames mapped here active =
     }
 
 -- a frame and a slot that change together: the frame is, or was, no other slot's
-pub lawful-handed : (m : State) (f : ℕ) (frame : Frame) (v : ℕ) (slot : Slot) (free : List ℕ) → IsLawful m → f < length m.frames → v < 16
+pub lawful-handed : (m : State) (f : ℕ) (frame : Frame) (v : ℕ) (slot : Slot) (free : List ℕ) → IsLawful m → f < length m.frames → v < slot_count m.config
     → IsLawfulFrame m.config f frame → IsLawfulSlot m.config slot
     → ((w : ℕ) → (w ≡ v → ⊥) → (same_owner (frame_at m f).owner (Vm w) ≡ false) × (same_owner frame.owner (Vm w) ≡ false))
     → ListsOnce (with_frame m f frame) Free free → ListsOnce (with_frame m f frame) (Vm v) slot.frames

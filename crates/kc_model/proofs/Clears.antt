@@ -4,7 +4,7 @@ use Rattle.std.proofs.lemmas.Bool.{cases_eq, cases_lt, ne_eqb}
 use Rattle.std.proofs.lemmas.List.{get_or_past}
 use Rattle.std.specs.Ordering.{nat_cmp}
 use Rattle.std.specs.FinMap as map
-use Rattle.kc_types.specs.Configuration.{Configuration}
+use Rattle.kc_types.specs.Configuration.{Configuration, slot_count}
 use Rattle.kc_types.specs.declared.owner.Owner.{Owner}
 use Rattle.kc_types.specs.declared.owner.Owner.TheVariants.{Core, Host, Free, Vm}
 use Rattle.kc_model.specs.State.{State, Frame, frame_at, slot_at, mapped_at, untouched, empty_slot}
@@ -52,7 +52,7 @@ scrubbed-listed frames (f ∷ fs) k d lt some = elim (cases_eq k f) [
 ]
 
 -- whether the slot owns the frame
-owns : (m : State) (v : ℕ) (k : ℕ) → IsLawful m → v < 16 → ((times_in (slot_at m v).frames k ≡ 1) × ((frame_at m k).owner ≡ Vm v)) ⊎ ((times_in (slot_at m v).frames k ≡ 0) × ((frame_at m k).owner ≡ Vm v → ⊥))
+owns : (m : State) (v : ℕ) (k : ℕ) → IsLawful m → v < slot_count m.config → ((times_in (slot_at m v).frames k ≡ 1) × ((frame_at m k).owner ≡ Vm v)) ⊎ ((times_in (slot_at m v).frames k ≡ 0) × ((frame_at m k).owner ≡ Vm v → ⊥))
 owns m v k is lt = decide (frame_at m k).owner (is.listed v lt k)
   where
     decide : (owner : Owner) → times_in (slot_at m v).frames k ≡ cond (same_owner owner (Vm v)) 1 0 → ((times_in (slot_at m v).frames k ≡ 1) × (owner ≡ Vm v)) ⊎ ((times_in (slot_at m v).frames k ≡ 0) × (owner ≡ Vm v → ⊥))
@@ -71,14 +71,14 @@ exists-vm m k v owned = elim (cases_lt k (length m.frames)) [
 ]
 
 -- a frame after the clear: one of the slot's is untouched, another as before
-pub after : (m : State) (v k : ℕ) → IsLawful m → v < 16 → (((frame_at m k).owner ≡ Vm v) × (frame_at (cleared m v) k ≡ untouched Free) × (times_in (slot_at m v).frames k ≡ 1)) ⊎ (((frame_at m k).owner ≡ Vm v → ⊥) × (frame_at (cleared m v) k ≡ frame_at m k) × (times_in (slot_at m v).frames k ≡ 0))
+pub after : (m : State) (v k : ℕ) → IsLawful m → v < slot_count m.config → (((frame_at m k).owner ≡ Vm v) × (frame_at (cleared m v) k ≡ untouched Free) × (times_in (slot_at m v).frames k ≡ 1)) ⊎ (((frame_at m k).owner ≡ Vm v → ⊥) × (frame_at (cleared m v) k ≡ frame_at m k) × (times_in (slot_at m v).frames k ≡ 0))
 after m v k is lt = elim (owns m v k is lt) [
   | inl mine ↦ inl (mine.1, scrubbed-listed m.frames (slot_at m v).frames k (untouched Core) (exists-vm m k v mine.1) (let h = mine.0 in omega (arith, h)), mine.0)
   | inr other ↦ inr (other.1, scrubbed-other m.frames (slot_at m v).frames k (untouched Core) other.0, other.0)
 ]
 
 -- a frame of another owner is as before
-pub kept-frame : (m : State) (v k : ℕ) → IsLawful m → v < 16 → ((frame_at m k).owner ≡ Vm v → ⊥) → frame_at (cleared m v) k ≡ frame_at m k
+pub kept-frame : (m : State) (v k : ℕ) → IsLawful m → v < slot_count m.config → ((frame_at m k).owner ≡ Vm v → ⊥) → frame_at (cleared m v) k ≡ frame_at m k
 kept-frame m v k is lt other = elim (after m v k is lt) [
   | inl mine ↦ absurd (other mine.0)
   | inr kept ↦ kept.1
@@ -106,7 +106,7 @@ slot-kept m v w ne = get_or-set_other m.slots v w empty_slot empty_slot ne
 vm-same : (v w : ℕ) → Vm v ≡ Vm w → v ≡ w
 vm-same v w e = cc
 
-listed-after : (m : State) (v w k : ℕ) → IsLawful m → v < 16 → w < 16 → times_in (slot_at (cleared m v) w).frames k ≡ cond (same_owner (frame_at (cleared m v) k).owner (Vm w)) 1 0
+listed-after : (m : State) (v w k : ℕ) → IsLawful m → v < slot_count m.config → w < slot_count m.config → times_in (slot_at (cleared m v) w).frames k ≡ cond (same_owner (frame_at (cleared m v) k).owner (Vm w)) 1 0
 listed-after m v w k is v_in lt = elim (cases_eq w v) [
   | inl same ↦ rw (same, slot-cleared m v (rw is.slots v_in)) (elim (after m v k is v_in) [
     | inl mine ↦ rw mine.1 refl
@@ -118,7 +118,7 @@ listed-after m v w k is v_in lt = elim (cases_eq w v) [
   ])
 ]
 
-mapped-after : (m : State) (v w g k : ℕ) → IsLawful m → v < 16 → w < 16 → (mapped_at (cleared m v) w g ≡ Some k) ↔ (((frame_at (cleared m v) k).owner ≡ Vm w) × ((frame_at (cleared m v) k).gfn ≡ Some g))
+mapped-after : (m : State) (v w g k : ℕ) → IsLawful m → v < slot_count m.config → w < slot_count m.config → (mapped_at (cleared m v) w g ≡ Some k) ↔ (((frame_at (cleared m v) k).owner ≡ Vm w) × ((frame_at (cleared m v) k).gfn ≡ Some g))
 mapped-after m v w g k is v_in lt = elim (cases_eq w v) [
   | inl same ↦ rw (same, slot-cleared m v (rw is.slots v_in), map.get-empty nat_cmp g) (elim (after m v k is v_in) [
     | inl mine ↦ rw mine.1 (λ e. cc, λ e. let owner = e.0 in cc)
@@ -131,7 +131,7 @@ mapped-after m v w g k is v_in lt = elim (cases_eq w v) [
 ]
 
 -- clearing a slot keeps the state lawful
-pub lawful-cleared : (m : State) (v : ℕ) → IsLawful m → v < 16 → IsLawful (cleared m v)
+pub lawful-cleared : (m : State) (v : ℕ) → IsLawful m → v < slot_count m.config → IsLawful (cleared m v)
 lawful-cleared m v is v_in = record {
   config = is.config;
   frames = length-scrubbed m.frames (slot_at m v).frames ∙ is.frames;
@@ -157,8 +157,8 @@ lawful-cleared m v is v_in = record {
 }
 
 pub lawful-clear : (m : State) (v : ℕ) → IsLawful m → refusal m (Clear v) ≡ None → IsLawful (effect m (Clear v)).1
-lawful-clear m v is served = let first = or_else-none _ _ served in lawful-cleared m v is (vm-in v first.0)
+lawful-clear m v is served = let first = or_else-none _ _ served in lawful-cleared m v is (vm-in m v first.0)
 
 -- a mapped frame exists
-pub mapped-exists : (m : State) (v g f : ℕ) → IsLawful m → v < 16 → mapped_at m v g ≡ Some f → f < length m.frames
+pub mapped-exists : (m : State) (v g f : ℕ) → IsLawful m → v < slot_count m.config → mapped_at m v g ≡ Some f → f < length m.frames
 mapped-exists m v g f is lt e = exists-vm m f v ((is.mapped v g f lt).0 e).0

@@ -2,7 +2,7 @@
 use Rattle.std.proofs.Common.{ℕ, ◌≡◌, ◌<◌, ◌≤◌, inl, inr, false, None, Some, [], ◌∷◌, ◌++◌, refl, sym, ap, subst, ◌∙◌, arith}
 use Rattle.std.proofs.lemmas.Bool.{cases_eq}
 use Rattle.std.specs.FinMap as map
-use Rattle.kc_types.specs.Configuration.{Configuration}
+use Rattle.kc_types.specs.Configuration.{Configuration, slot_count}
 use Rattle.kc_types.specs.declared.call.Call.TheVariants.{Drop}
 use Rattle.kc_types.specs.declared.owner.Owner.{Owner}
 use Rattle.kc_types.specs.declared.owner.Owner.TheVariants.{Free, Vm}
@@ -55,7 +55,7 @@ lawful-dropped_slot config slot g f is active = record {
   empty = λ h. absurd cc;
 }
 
-pub lawful-dropped : (m : State) (v g f : ℕ) → IsLawful m → v < 16 → (slot_at m v).phase ≡ Active → mapped_at m v g ≡ Some f → (frame_at m f).share ≡ 0 → IsLawful (dropped m v g f)
+pub lawful-dropped : (m : State) (v g f : ℕ) → IsLawful m → v < slot_count m.config → (slot_at m v).phase ≡ Active → mapped_at m v g ≡ Some f → (frame_at m f).share ≡ 0 → IsLawful (dropped m v g f)
 unfolding freed_frame
 lawful-dropped m v g f is v_in active mapped private =
     let owner = owner-mapped m v g f is v_in mapped in

@@ -15,10 +15,11 @@ use Rattle.kc_model.proofs.Answered.{vm-in, vcpu-in, gfn-in, was-active, was-reg
 use Rattle.kc_model.proofs.Changes.{lawful-with_frame, exists, vm-same}
 use Rattle.kc_model.proofs.HostCalls.{lawful-written}
 use Rattle.kc_model.proofs.SlotCalls.{lawful-with_fault}
+use Rattle.kc_types.specs.Configuration.{slot_count}
 
 -- a served call of a virtual processor on a guest frame
 pub record IsGuestCall (m : State) (v c g : ℕ) : Type 0 where
-  pub vm : v < 16
+  pub vm : v < slot_count m.config
   pub vcpu : c < 8
   pub gfn : g < 262144
   pub active : (slot_at m v).phase ≡ Active
@@ -34,7 +35,7 @@ guest_access-served m v c g off len served =
     let s5 = or_else-none _ _ s4.1 in
     let s6 = or_else-none _ _ s5.1 in (
       record {
-        vm = vm-in v s0.0;
+        vm = vm-in m v s0.0;
         vcpu = vcpu-in c s1.0;
         gfn = gfn-in g s2.0;
         active = was-active m v s5.0;
@@ -60,7 +61,7 @@ guest_frame-served m v c g last served =
     let s7 = or_else-none _ _ s6.1 in (
       record {
         call = record {
-          vm = vm-in v s0.0;
+          vm = vm-in m v s0.0;
           vcpu = vcpu-in c s1.0;
           gfn = gfn-in g s2.0;
           active = was-active m v s4.0;
@@ -72,10 +73,10 @@ guest_frame-served m v c g last served =
     )
 
 -- a mapped frame is the slot's, and exists
-pub owner-mapped : (m : State) (v g f : ℕ) → IsLawful m → v < 16 → mapped_at m v g ≡ Some f → (frame_at m f).owner ≡ Vm v
+pub owner-mapped : (m : State) (v g f : ℕ) → IsLawful m → v < slot_count m.config → mapped_at m v g ≡ Some f → (frame_at m f).owner ≡ Vm v
 owner-mapped m v g f is v_in e = ((is.mapped v g f v_in).0 e).0
 
-pub exists-mapped : (m : State) (v g f : ℕ) → IsLawful m → v < 16 → mapped_at m v g ≡ Some f → f < length m.frames
+pub exists-mapped : (m : State) (v g f : ℕ) → IsLawful m → v < slot_count m.config → mapped_at m v g ≡ Some f → f < length m.frames
 exists-mapped m v g f is v_in e = let owner = owner-mapped m v g f is v_in e in exists m f (λ core. cc)
 
 lawful-read : (m : State) (v c g off len : ℕ) (at : Option ℕ) → IsLawful m → IsGuestCall m v c g → IsLawful (guest_read m v c g off len at).1
@@ -98,7 +99,7 @@ lawful-guest_write m v c g off bytes ranged is served =
     lawful-writes m v c g off bytes (mapped_at m v g) refl ranged seen.1 is seen.0
 
 -- a frame of an active slot with another share count
-pub lawful-shared : (m : State) (v f share : ℕ) (present : Bool) → IsLawful m → v < 16 → (slot_at m v).phase ≡ Active → (frame_at m f).owner ≡ Vm v → share ≤ 100 → (IsTrue present → 0 < share) → IsLawful (with_frame m f (record (frame_at m f) { share = share; present = present }))
+pub lawful-shared : (m : State) (v f share : ℕ) (present : Bool) → IsLawful m → v < slot_count m.config → (slot_at m v).phase ≡ Active → (frame_at m f).owner ≡ Vm v → share ≤ 100 → (IsTrue present → 0 < share) → IsLawful (with_frame m f (record (frame_at m f) { share = share; present = present }))
 lawful-shared m v f share present is v_in active owner few reached =
     let lt = exists m f (λ core. cc) in
     let frame = is.each_frame f lt in

@@ -5,7 +5,7 @@ use Rattle.std.proofs.lemmas.Bool.{cases_eq}
 use Rattle.std.proofs.lemmas.Grind.{common_steps}
 use Rattle.std.proofs.lemmas.List.Elements.{All-set}
 use Rattle.std.specs.FinMap as map
-use Rattle.kc_types.specs.Configuration.{Configuration}
+use Rattle.kc_types.specs.Configuration.{Configuration, slot_count}
 use Rattle.kc_types.specs.declared.call.Call.TheVariants.{Remap, Map}
 use Rattle.kc_types.specs.declared.owner.Owner.{Owner}
 use Rattle.kc_types.specs.declared.owner.Owner.TheVariants.{Host, Free, Vm}
@@ -29,7 +29,7 @@ handed_frame m v g f = record (frame_at m f) { owner = Vm v; gfn = Some g; prese
 pub handed_slot : Slot → ℕ → ℕ → List Image → Slot
 handed_slot slot g f images = record slot { frames = slot.frames ++ f ∷ []; mapped = map.insert slot.mapped g f; leaves = with_leaf slot.leaves g; images = images }
 
-lawful-handed_frame : (m : State) (v g f : ℕ) → IsLawfulFrame m.config f (frame_at m f) → (frame_at m f).owner ≡ Host → v < 16 → g < 262144 → IsLawfulFrame m.config f (handed_frame m v g f)
+lawful-handed_frame : (m : State) (v g f : ℕ) → IsLawfulFrame m.config f (frame_at m f) → (frame_at m f).owner ≡ Host → v < slot_count m.config → g < 262144 → IsLawfulFrame m.config f (handed_frame m v g f)
 unfolding handed_frame
 lawful-handed_frame m v g f is host v_in g_in = record {
   core = (λ h. absurd cc, λ h. let core = is.core.1 h in absurd cc);
@@ -69,7 +69,7 @@ host-no_vm : (owner : Owner) (w : ℕ) → owner ≡ Host → same_owner owner (
 host-no_vm owner w host = ap (λ (o : Owner). same_owner o (Vm w)) host
 
 -- handing a host's frame to a slot, which may change otherwise too
-pub lawful-hand : (m : State) (v g f : ℕ) (slot : Slot) → IsLawful m → v < 16 → g < 262144 → f < length m.frames → (frame_at m f).owner ≡ Host → mapped_at m v g ≡ None
+pub lawful-hand : (m : State) (v g f : ℕ) (slot : Slot) → IsLawful m → v < slot_count m.config → g < 262144 → f < length m.frames → (frame_at m f).owner ≡ Host → mapped_at m v g ≡ None
     → slot.frames ≡ (slot_at m v).frames ++ f ∷ [] → slot.mapped ≡ map.insert (slot_at m v).mapped g f → slot.phase ≡ (slot_at m v).phase → IsLawfulSlot m.config slot
     → IsLawful (with_slot (with_frame m f (handed_frame m v g f)) v slot)
 unfolding handed_frame
@@ -104,7 +104,7 @@ more_pages image is short = record { some = is.some; small = is.small; within = 
 
 -- a served `remap`
 pub record IsRemap (m : State) (v i f : ℕ) : Type 0 where
-  pub vm : v < 16
+  pub vm : v < slot_count m.config
   pub frame : f < m.config.frames
   pub booting : (slot_at m v).phase ≡ Booting
   pub image : i < length (slot_at m v).images
@@ -123,7 +123,7 @@ remap-served m v i f served =
     let s6 = or_else-none _ _ s5.1 in
     let s7 = or_else-none _ _ s6.1 in
     record {
-      vm = vm-in v s0.0;
+      vm = vm-in m v s0.0;
       frame = frame-in m f s1.0;
       booting = was-booting m v s3.0;
       image = nat_le-is_false _ _ (when-none _ _ s4.0);
@@ -166,7 +166,7 @@ lawful-remap m v i f is served =
 
 -- a served `map`
 pub record IsMap (m : State) (v c f : ℕ) : Type 0 where
-  pub vm : v < 16
+  pub vm : v < slot_count m.config
   pub vcpu : c < 8
   pub frame : f < m.config.frames
   pub active : (slot_at m v).phase ≡ Active
@@ -189,7 +189,7 @@ map-served m v c f served =
     let s8 = or_else-none _ _ s7.1 in
     let s9 = or_else-none _ _ s8.1 in
     record {
-      vm = vm-in v s0.0;
+      vm = vm-in m v s0.0;
       vcpu = vcpu-in c s1.0;
       frame = frame-in m f s2.0;
       active = was-active m v s4.0;

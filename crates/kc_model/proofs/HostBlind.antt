@@ -17,7 +17,7 @@ use Rattle.kc_model.proofs.Blinds.{blind-effect, hidden-again}
 use Rattle.kc_model.proofs.Private.{private-next, secret-owner}
 use Rattle.kc_model.proofs.AtBoot.{slot_at-boot}
 use Rattle.kc_model.specs.Boot.{boot}
-use Rattle.kc_types.specs.Configuration.{Configuration}
+use Rattle.kc_types.specs.Configuration.{Configuration, slot_count}
 use Rattle.kc_types.specs.declared.owner.Owner.TheVariants.{Vm}
 
 -- the same of a call that may be refused
@@ -121,7 +121,7 @@ alike-boot s c = record { same = refl; private = λ f secret. no_secret f secret
         absurd cc
 
 -- of a lawful state the secret frames are those that the running slot maps at secret guest frames
-pub secret-mapped : (s : Secret) (m : State) (f : ℕ) → IsLawful m → s.vm < 16 → is_secret s (is_running m s.vm) (frame_at m f) ≡ true → (g : ℕ) × (mapped_at m s.vm g ≡ Some f) × (s.gfns g ≡ true)
+pub secret-mapped : (s : Secret) (m : State) (f : ℕ) → IsLawful m → s.vm < slot_count m.config → is_secret s (is_running m s.vm) (frame_at m f) ≡ true → (g : ℕ) × (mapped_at m s.vm g ≡ Some f) × (s.gfns g ≡ true)
 secret-mapped s m f is v_in e = by-gfn (frame_at m f).gfn refl (second (same_owner (frame_at m f).owner (Vm s.vm)) _ _ e)
   where
     second : (p q r : Bool) → (p && (q && r)) ≡ true → q ≡ true

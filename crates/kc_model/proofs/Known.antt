@@ -9,6 +9,7 @@ use Rattle.kc_model.specs.Refusals.{pages_of, overlaps}
 use Rattle.kc_model.specs.Lawful.{IsLawful, ListsOnce, Apart, same_owner, times_in}
 use Rattle.kc_model.proofs.Changes.{exists}
 use Rattle.kc_model.proofs.Verifies.{none-at}
+use Rattle.kc_types.specs.Configuration.{slot_count}
 
 same_owner-is : (owner other : Owner) → same_owner owner other ≡ true → owner ≡ other
 same_owner-is Core Core e = refl
@@ -40,7 +41,7 @@ listed-exist m owner frames not_core once k d lt =
 pub free-exist : (m : State) → IsLawful m → All (λ f. f < length m.frames) m.free
 free-exist m is = listed-exist m Free m.free (λ e. cc) is.free
 
-pub frames-exist : (m : State) (v : ℕ) → IsLawful m → v < 16 → All (λ f. f < length m.frames) (slot_at m v).frames
+pub frames-exist : (m : State) (v : ℕ) → IsLawful m → v < slot_count m.config → All (λ f. f < length m.frames) (slot_at m v).frames
 frames-exist m v is v_in = listed-exist m (Vm v) (slot_at m v).frames (λ e. cc) (is.listed v v_in)
 
 -- no guest frame lies in two images

@@ -26,3 +26,4 @@ pub mod Blinds
 pub mod Private
 pub mod HostBlind
 pub mod Known
+pub mod Wipes

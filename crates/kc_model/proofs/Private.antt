@@ -20,10 +20,11 @@ use Rattle.kc_model.proofs.Answered.{vm-in, was-empty}
 use Rattle.kc_model.proofs.Measured.{set-here}
 use Rattle.kc_model.proofs.GuestCalls.{guest_frame-served}
 use Rattle.kc_model.proofs.HandCalls.{remap-served, map-served}
-use Rattle.kc_model.proofs.Verifies.{verify-served, each_last_page, lawful-all_trimmed, slots-trimmed}
+use Rattle.kc_model.proofs.Verifies.{verify-served, each_last_page, lawful-all_trimmed, slots-trimmed, exists-trimmed}
 use Rattle.kc_model.proofs.Clears.{after, slot-kept}
 use Rattle.kc_model.proofs.Unseen.{open-mapped}
 use Rattle.kc_model.proofs.Blinds.{running-kept, running-elsewhere}
+use Rattle.kc_types.specs.Configuration.{slot_count}
 
 -- a state whose slot runs or not, as told
 private-by : (s : Secret) (m : State) (b : Bool) → is_running m s.vm ≡ b → ((f : ℕ) → is_secret s b (frame_at m f) ≡ true → (frame_at m f).share ≡ 0) → IsPrivate s m
@@ -79,13 +80,13 @@ secret-owner s b x e = owner-is x.owner s.vm (first (same_owner x.owner (Vm s.vm
     first false q h = cc
 
 -- a slot that boots shares nothing
-booting-share : (m : State) (w f : ℕ) → IsLawful m → w < 16 → (slot_at m w).phase ≡ Booting → (frame_at m f).owner ≡ Vm w → (frame_at m f).share ≡ 0
+booting-share : (m : State) (w f : ℕ) → IsLawful m → w < slot_count m.config → (slot_at m w).phase ≡ Booting → (frame_at m f).owner ≡ Vm w → (frame_at m f).share ≡ 0
 booting-share m w f is w_in booting owner = elim (cases_lt 0 (frame_at m f).share) [
   | inl some ↦ let active = is.shared w f w_in owner some in absurd cc
   | inr none ↦ omega arith
 ]
 
-private-phase : (s : Secret) (m : State) (w : ℕ) (phase : Phase) → IsLawful m → w < 16 → (slot_at m w).phase ≡ Booting → IsPrivate s m → IsPrivate s (with_phase m w phase)
+private-phase : (s : Secret) (m : State) (w : ℕ) (phase : Phase) → IsLawful m → w < slot_count m.config → (slot_at m w).phase ≡ Booting → IsPrivate s m → IsPrivate s (with_phase m w phase)
 private-phase s m w phase is w_in booting private = elim (cases_eq s.vm w) [
   | inl same ↦ λ f e. booting-share m w f is w_in booting (secret-owner s (is_running (with_phase m w phase) s.vm) (frame_at m f) e ∙ ap Vm same)
   | inr ne ↦ private-by s (with_phase m w phase) (is_running m s.vm) (running-elsewhere m w _ s.vm ne) private
@@ -96,12 +97,12 @@ private-verified s m w None is served private =
     let seen = verify-served m w served in
     let images = (slot_at m w).images in
     let still : (slot_at (all_trimmed m w images) w).phase ≡ Booting = subst (λ (slots : List Slot). (slot_at (record m { slots = slots }) w).phase ≡ Booting) (sym (slots-trimmed m w images)) seen.1 in
-    private-phase s (all_trimmed m w images) w Active (lawful-all_trimmed m w images is seen.0 (each_last_page m w is seen.0 seen.1 seen.2)) seen.0 still (private-trims s m w images private)
+    private-phase s (all_trimmed m w images) w Active (lawful-all_trimmed m w images is seen.0 (each_last_page m w is seen.0 seen.1 seen.2)) (exists-trimmed m w w images seen.0) still (private-trims s m w images private)
 private-verified s m w (Some i) is served private =
     let seen = verify-served m w served in
     private-phase s m w Dead is seen.0 seen.1 private
 
-private-clear : (s : Secret) (m : State) (w : ℕ) → IsLawful m → w < 16 → IsPrivate s m → IsPrivate s (cleared m w)
+private-clear : (s : Secret) (m : State) (w : ℕ) → IsLawful m → w < slot_count m.config → IsPrivate s m → IsPrivate s (cleared m w)
 private-clear s m w is w_in private f e = elim (after m w f is w_in) [
   | inl mine ↦ ap (λ (y : Frame). y.share) mine.1
   | inr other ↦ ap (λ (y : Frame). y.share) other.1 ∙ kept other.0 (sym (ap (is_secret s (is_running (cleared m w) s.vm)) other.1) ∙ e)
@@ -153,7 +154,7 @@ private-effect s m (Grant w c g) is private grants served =
     private-write s m (backing (mapped_at m w g)) _ private (λ e. absurd cc)
 private-effect s m (Revoke w c g) is private grants served = private-write s m (backing (mapped_at m w g)) _ private (λ e. let none = private (backing (mapped_at m w g)) e in omega (arith, none))
 private-effect s m (Drop w c g) is private grants served = private-dropped s m w g (backing (mapped_at m w g)) private
-private-effect s m (Clear w) is private grants served = let first = or_else-none _ _ served in private-clear s m w is (vm-in w first.0) private
+private-effect s m (Clear w) is private grants served = let first = or_else-none _ _ served in private-clear s m w is (vm-in m w first.0) private
 
 private-unless : (refused : Option Refusal) (s : Secret) (m : State) (call : Call) → IsLawful m → IsPrivate s m → grants_secret s call ≡ false → refusal m call ≡ refused → IsPrivate s (unless_refused refused m call).1
 private-unless None s m call is private grants served = private-effect s m call is private grants served

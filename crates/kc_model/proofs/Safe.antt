@@ -24,6 +24,7 @@ use Rattle.kc_model.proofs.Verifies.{HasLastPage, last_gfn, lawful-trimmed, each
 use Rattle.kc_model.proofs.Clears.{kept-frame}
 use Rattle.kc_model.proofs.Keeps.{lawful-next}
 use Rattle.kc_model.proofs.Measured.{measured-of}
+use Rattle.kc_types.specs.Configuration.{slot_count}
 
 -- what each call of a lawful state keeps, each call of a trace keeps
 pub every_step : (Step : State → Call → Reply → State → Type 0) → ((m : State) (call : Call) → IsRanged call → IsLawful m → Step m call (next m call).0 (next m call).1) → (m : State) (calls : List Call) → AllByRecursion IsRanged calls → IsLawful m → EachStep Step m calls
@@ -78,11 +79,11 @@ reads-bytes : (m : State) (w c g off len : ℕ) (at : Option ℕ) (f : ℕ) → 
 reads-bytes m w c g off len None f = refl
 reads-bytes m w c g off len (Some k) f = refl
 
-writes-bytes : (m : State) (w c g off : ℕ) (bytes : List ℕ) (at : Option ℕ) (v f : ℕ) → IsLawful m → w < 16 → mapped_at m w g ≡ at → (frame_at m f).owner ≡ Vm v → nat_eq w v ≡ false → (frame_at (guest_written m w c g off bytes at).1 f).bytes ≡ (frame_at m f).bytes
+writes-bytes : (m : State) (w c g off : ℕ) (bytes : List ℕ) (at : Option ℕ) (v f : ℕ) → IsLawful m → w < slot_count m.config → mapped_at m w g ≡ at → (frame_at m f).owner ≡ Vm v → nat_eq w v ≡ false → (frame_at (guest_written m w c g off bytes at).1 f).bytes ≡ (frame_at m f).bytes
 writes-bytes m w c g off bytes None v f is w_in e owned differ = refl
 writes-bytes m w c g off bytes (Some k) v f is w_in e owned differ = bytes-other m k f _ (other_frame m f k v w owned (owner-mapped m w g k is w_in e) differ)
 
-trims-bytes : (m : State) (w : ℕ) (images : List Image) (v f : ℕ) → IsLawful m → w < 16 → All (HasLastPage m w) images → (frame_at m f).owner ≡ Vm v → nat_eq w v ≡ false → (frame_at (all_trimmed m w images) f).bytes ≡ (frame_at m f).bytes
+trims-bytes : (m : State) (w : ℕ) (images : List Image) (v f : ℕ) → IsLawful m → w < slot_count m.config → All (HasLastPage m w) images → (frame_at m f).owner ≡ Vm v → nat_eq w v ≡ false → (frame_at (all_trimmed m w images) f).bytes ≡ (frame_at m f).bytes
 trims-bytes m w [] v f is w_in mapped owned differ = refl
 trims-bytes m w (image ∷ images) v f is w_in mapped owned differ =
     let k = backing (mapped_at m w (last_gfn image)) in
@@ -127,7 +128,7 @@ keeps-effect m (Drop w c g) is served v f owned private others =
     bytes-other m k f _ (other_frame m f k v w owned (owner-mapped m w g k is seen.0.call.vm seen.0.mapped) others)
 keeps-effect m (Clear w) is served v f owned private others =
     let first = or_else-none _ _ served in
-    ap (λ (x : Frame). x.bytes) (kept-frame m w f is (vm-in w first.0) (λ theirs. not-same w v others (vm-same w v (sym theirs ∙ owned))))
+    ap (λ (x : Frame). x.bytes) (kept-frame m w f is (vm-in m w first.0) (λ theirs. not-same w v others (vm-same w v (sym theirs ∙ owned))))
 
 keeps-unless : (refused : Option Refusal) (m : State) (call : Call) → IsLawful m → refusal m call ≡ refused → KeepsPrivateBytes m call (unless_refused refused m call).0 (unless_refused refused m call).1
 keeps-unless None m call is served = keeps-effect m call is served

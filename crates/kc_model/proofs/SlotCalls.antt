@@ -12,17 +12,18 @@ use Rattle.kc_model.proofs.Served.{or_else-none, when-none, nat_le-is_false}
 use Rattle.kc_model.proofs.Answered.{nat_lt-is_false, both-false, vm-in, vcpu-in, was-empty, was-booting}
 use Rattle.kc_model.proofs.Slots.{lawful-registered, lawful-with_vcpu, lawful-with_image, waits-not}
 use Rattle.kc_model.proofs.Changes.{lawful-with_slot}
+use Rattle.kc_types.specs.Configuration.{slot_count}
 
 pub lawful-register_vm : (m : State) (v : ℕ) → IsLawful m → refusal m (RegisterVm v) ≡ None → IsLawful (effect m (RegisterVm v)).1
 lawful-register_vm m v is served =
     let s0 = or_else-none _ _ served in
     let s1 = or_else-none _ _ s0.1 in
-    let v_in = vm-in v s0.0 in
+    let v_in = vm-in m v s0.0 in
     let empty = was-empty m v _ s1.0 in
     lawful-with_slot m v (record (slot_at m v) { phase = Booting }) is v_in refl refl (lawful-registered m.config (slot_at m v) (is.each_slot v v_in) empty) (λ h. absurd cc)
 
 -- a virtual processor's fault
-pub lawful-with_fault : (m : State) (v c : ℕ) (fault : Option ℕ) → IsLawful m → v < 16 → c < 8 → (slot_at m v).phase ≡ Active → (vcpu_at m v c).registered ≡ true → ((g : ℕ) → fault ≡ Some g → g < 262144) → IsLawful (with_fault m v c fault)
+pub lawful-with_fault : (m : State) (v c : ℕ) (fault : Option ℕ) → IsLawful m → v < slot_count m.config → c < 8 → (slot_at m v).phase ≡ Active → (vcpu_at m v c).registered ≡ true → ((g : ℕ) → fault ≡ Some g → g < 262144) → IsLawful (with_fault m v c fault)
 lawful-with_fault m v c fault is v_in c_in active registered ranged =
     lawful-with_slot m v (with_vcpu (slot_at m v) c (record (vcpu_at m v c) { fault = fault })) is v_in refl refl
     (lawful-with_vcpu m.config (slot_at m v) c (record (vcpu_at m v c) { fault = fault }) (is.each_slot v v_in) (λ h. cc) c_in (record { registered = λ g h. registered; active = λ g h. active; gfn = ranged })) (λ h. h)
@@ -33,7 +34,7 @@ lawful-register_vcpu m v c is served =
     let s1 = or_else-none _ _ s0.1 in
     let s2 = or_else-none _ _ s1.1 in
     let s3 = or_else-none _ _ s2.1 in
-    let v_in = vm-in v s0.0 in
+    let v_in = vm-in m v s0.0 in
     let c_in = vcpu-in c s1.0 in
     let booting = was-booting m v s3.0 in
     lawful-with_slot m v (with_vcpu (slot_at m v) c (record { registered = true; fault = None })) is v_in refl refl
@@ -51,7 +52,7 @@ lawful-set_boot m v base len is served =
     let s4 = or_else-none _ _ s3.1 in
     let s5 = or_else-none _ _ s4.1 in
     let s6 = or_else-none _ _ s5.1 in
-    let v_in = vm-in v s0.0 in
+    let v_in = vm-in m v s0.0 in
     let placed = both-false (nat_lt 262143 base) (nat_lt 262144 (base + pages_of len)) (when-none _ _ s1.0) in
     let sized = both-false (nat_eq len 0) (nat_lt 1048576 len) (when-none _ _ s2.0) in
     let booting = was-booting m v s4.0 in

@@ -11,6 +11,7 @@ use Rattle.kc_model.specs.State.{State, Frame, frame_at, slot_at, mapped_at, wit
 use Rattle.kc_model.specs.Effects.{without}
 use Rattle.kc_model.specs.Lawful.{IsLawful, ListsOnce, same_owner, times_in}
 use Rattle.kc_model.proofs.Lists.{changed-same, changed-other}
+use Rattle.kc_types.specs.Configuration.{slot_count}
 
 pub some-same : (v w : ℕ) → Some v ≡ Some w → v ≡ w
 some-same v w e = cc
@@ -50,7 +51,7 @@ has-after table g f h = elim (cases_eq h g) [
     or-false false = refl
 
 -- the table agrees with the frames after the slot gained a frame that no table mapped
-pub table-gained : (m : State) (f : ℕ) (frame : Frame) (v g : ℕ) → IsLawful m → v < 16 → f < length m.frames → ((frame_at m f).owner ≡ Vm v → ⊥) → mapped_at m v g ≡ None → frame.owner ≡ Vm v → frame.gfn ≡ Some g
+pub table-gained : (m : State) (f : ℕ) (frame : Frame) (v g : ℕ) → IsLawful m → v < slot_count m.config → f < length m.frames → ((frame_at m f).owner ≡ Vm v → ⊥) → mapped_at m v g ≡ None → frame.owner ≡ Vm v → frame.gfn ≡ Some g
     → (h k : ℕ) → (map.get (map.insert (slot_at m v).mapped g f) h ≡ Some k) ↔ (((frame_at (with_frame m f frame) k).owner ≡ Vm v) × ((frame_at (with_frame m f frame) k).gfn ≡ Some h))
 table-gained m f frame v g is v_in lt was unmapped owner gfn h k = elim (cases_eq k f) [
   | inl same ↦ rw (same, changed-same m f frame lt) (elim (cases_eq h g) [
@@ -64,7 +65,7 @@ table-gained m f frame v g is v_in lt was unmapped owner gfn h k = elim (cases_e
 ]
 
 -- the table agrees with the frames after the slot lost a frame
-pub table-lost : (m : State) (f : ℕ) (frame : Frame) (v g : ℕ) → IsLawful m → v < 16 → f < length m.frames → mapped_at m v g ≡ Some f → (frame.owner ≡ Vm v → ⊥)
+pub table-lost : (m : State) (f : ℕ) (frame : Frame) (v g : ℕ) → IsLawful m → v < slot_count m.config → f < length m.frames → mapped_at m v g ≡ Some f → (frame.owner ≡ Vm v → ⊥)
     → (h k : ℕ) → (map.get (map.remove (slot_at m v).mapped g) h ≡ Some k) ↔ (((frame_at (with_frame m f frame) k).owner ≡ Vm v) × ((frame_at (with_frame m f frame) k).gfn ≡ Some h))
 table-lost m f frame v g is v_in lt mapped gone h k = elim (cases_eq k f) [
   | inl same ↦ rw (same, changed-same m f frame lt) (elim (cases_eq h g) [

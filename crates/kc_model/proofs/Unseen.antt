@@ -11,6 +11,7 @@ use Rattle.kc_model.specs.Refusals.{refusal, is_active, backing, guest_frame, wh
 use Rattle.kc_types.specs.declared.refusal.Refusal.TheVariants.{ShareFull, NotShared, Shared}
 use Rattle.kc_model.specs.Lawful.{IsLawful, same_owner}
 use Rattle.kc_model.specs.Blind.{Secret, has_gfn, is_secret, hidden_frame, is_running, hidden, names_secret, hidden_call, IsPrivate}
+use Rattle.kc_types.specs.Configuration.{slot_count}
 
 -- lists that a function went over
 at-map : {X : Type 0} (change : X → X) (xs : List X) (i : ℕ) (d : X) → change d ≡ d → get_or (map change xs) i d ≡ change (get_or xs i d)
@@ -110,7 +111,7 @@ open-shared s m f private some = elim (cases_Bool (is_secret s (is_running m s.v
 ]
 
 -- the mapped frame of a guest frame that is not named secret
-pub open-mapped : (s : Secret) (m : State) (v g f : ℕ) → IsLawful m → v < 16 → mapped_at m v g ≡ Some f → names_secret s v g ≡ false → is_secret s (is_running m s.vm) (frame_at m f) ≡ false
+pub open-mapped : (s : Secret) (m : State) (v g f : ℕ) → IsLawful m → v < slot_count m.config → mapped_at m v g ≡ Some f → names_secret s v g ≡ false → is_secret s (is_running m s.vm) (frame_at m f) ≡ false
 open-mapped s m v g f is v_in mapped other = elim (cases_eq v s.vm) [
   | inl same ↦ open-gfn s (is_running m s.vm) (frame_at m f) g ((is.mapped v g f v_in).0 mapped).1 (let t = eq-eqb v s.vm same in rw t at other)
   | inr ne ↦ open-other s (is_running m s.vm) (frame_at m f) v ((is.mapped v g f v_in).0 mapped).0 ne

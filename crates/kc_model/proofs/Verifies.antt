@@ -17,6 +17,7 @@ use Rattle.kc_model.proofs.Slots.{lawful-with_phase}
 use Rattle.kc_model.proofs.Changes.{lawful-with_slot}
 use Rattle.kc_model.proofs.HostCalls.{lawful-with_bytes}
 use Rattle.kc_model.proofs.GuestCalls.{owner-mapped, exists-mapped}
+use Rattle.kc_types.specs.Configuration.{slot_count}
 
 -- the guest frame of an image's last page
 abbrev pub last_gfn : Image → ℕ
@@ -30,7 +31,15 @@ pub slots-trimmed : (m : State) (v : ℕ) (images : List Image) → (all_trimmed
 slots-trimmed m v [] = refl
 slots-trimmed m v (image ∷ images) = slots-trimmed (trimmed m v image) v images
 
-pub lawful-trimmed : (m : State) (v : ℕ) (image : Image) → IsLawful m → v < 16 → HasLastPage m v image → IsLawful (trimmed m v image)
+config-trimmed : (m : State) (v : ℕ) (images : List Image) → (all_trimmed m v images).config ≡ m.config
+config-trimmed m v [] = refl
+config-trimmed m v (image ∷ images) = config-trimmed (trimmed m v image) v images
+
+-- a slot exists in the trimmed state where it did before
+pub exists-trimmed : (m : State) (v w : ℕ) (images : List Image) → w < slot_count m.config → w < slot_count (all_trimmed m v images).config
+exists-trimmed m v w images lt = subst (λ config. w < slot_count config) (sym (config-trimmed m v images)) lt
+
+pub lawful-trimmed : (m : State) (v : ℕ) (image : Image) → IsLawful m → v < slot_count m.config → HasLastPage m v image → IsLawful (trimmed m v image)
 lawful-trimmed m v image is v_in mapped =
     let f = backing (mapped_at m v (last_gfn image)) in
     let owner = owner-mapped m v (last_gfn image) f is v_in mapped in
@@ -48,7 +57,7 @@ lawful-trimmed m v image is v_in mapped =
       gfn = frame.gfn;
     })
 
-pub lawful-all_trimmed : (m : State) (v : ℕ) (images : List Image) → IsLawful m → v < 16 → All (HasLastPage m v) images → IsLawful (all_trimmed m v images)
+pub lawful-all_trimmed : (m : State) (v : ℕ) (images : List Image) → IsLawful m → v < slot_count m.config → All (HasLastPage m v) images → IsLawful (all_trimmed m v images)
 lawful-all_trimmed m v [] is v_in mapped = is
 lawful-all_trimmed m v (image ∷ images) is v_in mapped = lawful-all_trimmed (trimmed m v image) v images (lawful-trimmed m v image is v_in (mapped zero image (omega arith))) v_in (λ k d lt. mapped (suc k) d (omega arith))
 
@@ -67,7 +76,7 @@ holds-last : (image : Image) → 0 < image.len → is_short image ≡ false → 
 holds-last image some full = let pages : 0 < pages_of image.len = omega arith in grind (arith, common_steps, full, pages)
 
 -- each image of a slot that boots with all its pages
-pub each_last_page : (m : State) (v : ℕ) → IsLawful m → v < 16 → (slot_at m v).phase ≡ Booting → list_any is_short (slot_at m v).images ≡ false → All (HasLastPage m v) (slot_at m v).images
+pub each_last_page : (m : State) (v : ℕ) → IsLawful m → v < slot_count m.config → (slot_at m v).phase ≡ Booting → list_any is_short (slot_at m v).images ≡ false → All (HasLastPage m v) (slot_at m v).images
 each_last_page m v is v_in booting full i d lt =
     let there = is.each_slot v v_in in
     let image = get_or (slot_at m v).images i d in
@@ -75,24 +84,25 @@ each_last_page m v is v_in booting full i d lt =
     let held = holds-last image image_is.some (none-at is_short (slot_at m v).images i d lt full) in
     backing-of _ (there.booting booting (last_gfn image) ∙ list_any_at (holds (last_gfn image)) (slot_at m v).images i d lt held)
 
-lawful-verified : (m : State) (v : ℕ) (first : Option ℕ) → IsLawful m → v < 16 → (slot_at m v).phase ≡ Booting → list_any is_short (slot_at m v).images ≡ false → IsLawful (verified m v first).1
+lawful-verified : (m : State) (v : ℕ) (first : Option ℕ) → IsLawful m → v < slot_count m.config → (slot_at m v).phase ≡ Booting → list_any is_short (slot_at m v).images ≡ false → IsLawful (verified m v first).1
 lawful-verified m v None is v_in booting full =
     let images = (slot_at m v).images in
     let is_trimmed = lawful-all_trimmed m v images is v_in (each_last_page m v is v_in booting full) in
     let still : (slot_at (all_trimmed m v images) v).phase ≡ Booting = subst (λ (slots : List Slot). (slot_at (record m { slots = slots }) v).phase ≡ Booting) (sym (slots-trimmed m v images)) booting in
-    lawful-with_slot (all_trimmed m v images) v (record (slot_at (all_trimmed m v images) v) { phase = Active }) is_trimmed v_in refl refl
-    (lawful-with_phase (all_trimmed m v images).config (slot_at (all_trimmed m v images) v) Active (is_trimmed.each_slot v v_in) still (λ h. cc) (λ h. cc)) (λ h. refl)
+    let there = exists-trimmed m v v images v_in in
+    lawful-with_slot (all_trimmed m v images) v (record (slot_at (all_trimmed m v images) v) { phase = Active }) is_trimmed there refl refl
+    (lawful-with_phase (all_trimmed m v images).config (slot_at (all_trimmed m v images) v) Active (is_trimmed.each_slot v there) still (λ h. cc) (λ h. cc)) (λ h. refl)
 lawful-verified m v (Some i) is v_in booting full =
     lawful-with_slot m v (record (slot_at m v) { phase = Dead }) is v_in refl refl (lawful-with_phase m.config (slot_at m v) Dead (is.each_slot v v_in) booting (λ h. cc) (λ h. cc)) (λ h. absurd cc)
 
 -- a served `verify`
-pub verify-served : (m : State) (v : ℕ) → refusal m (Verify v) ≡ None → (v < 16) × ((slot_at m v).phase ≡ Booting) × (list_any is_short (slot_at m v).images ≡ false)
+pub verify-served : (m : State) (v : ℕ) → refusal m (Verify v) ≡ None → (v < slot_count m.config) × ((slot_at m v).phase ≡ Booting) × (list_any is_short (slot_at m v).images ≡ false)
 verify-served m v served =
     let s0 = or_else-none _ _ served in
     let s1 = or_else-none _ _ s0.1 in
     let s2 = or_else-none _ _ s1.1 in
     let s3 = or_else-none _ _ s2.1 in
-    (vm-in v s0.0, was-booting m v s2.0, (both-false (nat_eq (length (slot_at m v).images) 0) (list_any is_short (slot_at m v).images) (when-none _ _ s3.0)).1)
+    (vm-in m v s0.0, was-booting m v s2.0, (both-false (nat_eq (length (slot_at m v).images) 0) (list_any is_short (slot_at m v).images) (when-none _ _ s3.0)).1)
 
 pub lawful-verify : (m : State) (v : ℕ) → IsLawful m → refusal m (Verify v) ≡ None → IsLawful (effect m (Verify v)).1
 lawful-verify m v is served =

@@ -2,7 +2,7 @@
 use Rattle.std.specs.Prelude.{ℕ, ◌+◌, ◌/◌, ◌≡◌, ◌≤◌, ◌<◌, ◌⊎◌, ◌↔◌, ◌==◌, ◌&&◌, nat_le, nat_lt, Bool, true, false, List, [], ◌∷◌, length, Some, is_some, IsTrue, All, slice_index_or, if◌then◌else◌}
 use Rattle.std.specs.List.{list_any}
 use Rattle.std.specs.FinMap as map
-use Rattle.kc_types.specs.Configuration.{Configuration, IsConfiguration}
+use Rattle.kc_types.specs.Configuration.{Configuration, IsConfiguration, slot_count}
 use Rattle.kc_types.specs.declared.owner.Owner.{Owner}
 use Rattle.kc_types.specs.declared.owner.Owner.TheVariants.{Core, Host, Free, Vm}
 use Rattle.kc_types.specs.declared.slot.Phase.{Phase}
@@ -47,8 +47,8 @@ pub record IsLawfulFrame (config : Configuration) (f : ℕ) (frame : Frame) : Ty
   pub reached : IsTrue frame.present → (frame.owner ≡ Host) ⊎ (0 < frame.share)
   pub zeroed : frame.owner ≡ Free → frame.bytes ≡ zero_page
   pub page : IsPage frame.bytes
-  -- there are 16 slots, and 262,144 guest frames
-  pub slot : (v : ℕ) → frame.owner ≡ Vm v → v < 16
+  -- the slot and the guest frame that it names exist
+  pub slot : (v : ℕ) → frame.owner ≡ Vm v → v < slot_count config
   pub gfn : (g : ℕ) → frame.gfn ≡ Some g → g < 262144
 
 -- whether the guest frame is one of the image's pages so far
@@ -96,12 +96,12 @@ pub record IsLawfulSlot (config : Configuration) (slot : Slot) : Type 0 where
 pub record IsLawful (m : State) : Type 0 where
   pub config : IsConfiguration m.config
   pub frames : length m.frames ≡ m.config.frames
-  pub slots : length m.slots ≡ 16
+  pub slots : length m.slots ≡ slot_count m.config
   pub each_frame : (f : ℕ) → f < length m.frames → IsLawfulFrame m.config f (frame_at m f)
-  pub each_slot : (v : ℕ) → v < 16 → IsLawfulSlot m.config (slot_at m v)
+  pub each_slot : (v : ℕ) → v < slot_count m.config → IsLawfulSlot m.config (slot_at m v)
   pub free : ListsOnce m Free m.free
-  pub listed : (v : ℕ) → v < 16 → ListsOnce m (Vm v) (slot_at m v).frames
+  pub listed : (v : ℕ) → v < slot_count m.config → ListsOnce m (Vm v) (slot_at m v).frames
   -- a table maps a guest frame to a frame exactly where the frame says so
-  pub mapped : (v g f : ℕ) → v < 16 → (mapped_at m v g ≡ Some f) ↔ (((frame_at m f).owner ≡ Vm v) × ((frame_at m f).gfn ≡ Some g))
+  pub mapped : (v g f : ℕ) → v < slot_count m.config → (mapped_at m v g ≡ Some f) ↔ (((frame_at m f).owner ≡ Vm v) × ((frame_at m f).gfn ≡ Some g))
   -- only an active slot shares frames
-  pub shared : (v f : ℕ) → v < 16 → (frame_at m f).owner ≡ Vm v → 0 < (frame_at m f).share → (slot_at m v).phase ≡ Active
+  pub shared : (v f : ℕ) → v < slot_count m.config → (frame_at m f).owner ≡ Vm v → 0 < (frame_at m f).share → (slot_at m v).phase ≡ Active

@@ -2,8 +2,10 @@ pub mod State
 pub mod Boot
 pub mod Refusals
 pub mod Effects
+pub mod Wiped
 pub mod Next
 pub mod Lawful
+pub mod Links
 pub mod Built
 pub mod Safety
 pub mod Ranged

@@ -10,6 +10,8 @@ use Rattle.kc_types.specs.declared.owner.Owner.TheVariants.{Host}
 use Rattle.kc_types.specs.declared.slot.Phase.{Phase}
 use Rattle.kc_types.specs.declared.slot.Phase.TheVariants.{Empty, Booting, Active}
 use Rattle.kc_model.specs.State.{State, Image, frame_at, slot_at, vcpu_at, image_at, mapped_at}
+use Rattle.kc_types.specs.Configuration.{slot_count}
+use Rattle.kc_types.specs.Limits.{vcpu_limit, gfn_limit}
 
 -- the refusal where the condition holds
 abbrev pub when : Bool → Refusal → Option Refusal
@@ -43,17 +45,17 @@ abbrev pub pages_of : ℕ → ℕ
 pages_of len = (len + 4095) / 4096
 
 -- the conditions that several calls share
-abbrev pub bad_vm : ℕ → Option Refusal
-bad_vm v = when (nat_lt 15 v) BadVm
+abbrev pub bad_vm : State → ℕ → Option Refusal
+bad_vm m v = when (nat_le (slot_count m.config) v) BadVm
 
 abbrev pub bad_vcpu : ℕ → Option Refusal
-bad_vcpu c = when (nat_lt 7 c) BadVcpu
+bad_vcpu c = when (nat_le vcpu_limit c) BadVcpu
 
 abbrev pub bad_frame : State → ℕ → Option Refusal
 bad_frame m f = when (nat_le m.config.frames f) BadFrame
 
 abbrev pub bad_gfn : ℕ → Option Refusal
-bad_gfn g = when (nat_lt 262143 g) BadGfn
+bad_gfn g = when (nat_le gfn_limit g) BadGfn
 
 abbrev pub bad_range : ℕ → ℕ → Option Refusal
 bad_range off len = when (len == 0 || nat_lt 4096 (off + len)) BadRange
@@ -111,10 +113,10 @@ abbrev pub guest_refusals : State → ℕ → ℕ → ℕ → List (Option Refus
 guest_refusals m v c g = no_vm m v ∷ not_active m v ∷ no_vcpu m v c ∷ []
 
 abbrev pub guest_access : State → ℕ → ℕ → ℕ → ℕ → ℕ → Option Refusal
-guest_access m v c g off len = first_of_these (bad_vm v ∷ bad_vcpu c ∷ bad_gfn g ∷ bad_range off len ∷ no_vm m v ∷ not_active m v ∷ no_vcpu m v c ∷ [])
+guest_access m v c g off len = first_of_these (bad_vm m v ∷ bad_vcpu c ∷ bad_gfn g ∷ bad_range off len ∷ no_vm m v ∷ not_active m v ∷ no_vcpu m v c ∷ [])
 
 abbrev pub guest_frame : State → ℕ → ℕ → ℕ → Option Refusal → Option Refusal
-guest_frame m v c g last = first_of_these (bad_vm v ∷ bad_vcpu c ∷ bad_gfn g ∷ no_vm m v ∷ not_active m v ∷ no_vcpu m v c ∷ not_mapped m v g ∷ last ∷ [])
+guest_frame m v c g last = first_of_these (bad_vm m v ∷ bad_vcpu c ∷ bad_gfn g ∷ no_vm m v ∷ not_active m v ∷ no_vcpu m v c ∷ not_mapped m v g ∷ last ∷ [])
 
 abbrev pub refusal : State → Call → Option Refusal
 refusal m Take = when (length m.free == 0) NoFree
@@ -122,21 +124,21 @@ refusal m (Give f) = first_of_these (bad_frame m f ∷ not_host m f ∷ [])
 refusal m (HostFault f) = first_of_these (bad_frame m f ∷ when (not (is_host (frame_at m f).owner) && ((frame_at m f).share == 0)) Protected ∷ [])
 refusal m (HostRead f off len) = first_of_these (bad_frame m f ∷ bad_range off len ∷ not_present m f ∷ [])
 refusal m (HostWrite f off bytes) = first_of_these (bad_frame m f ∷ bad_range off (length bytes) ∷ not_present m f ∷ [])
-refusal m (RegisterVm v) = first_of_these (bad_vm v ∷ when (not (is_empty (slot_at m v).phase)) SlotUsed ∷ [])
-refusal m (RegisterVcpu v c) = first_of_these (bad_vm v ∷ bad_vcpu c ∷ no_vm m v ∷ not_booting m v ∷ when (vcpu_at m v c).registered VcpuUsed ∷ [])
-refusal m (SetBoot v base len) = first_of_these (bad_vm v
+refusal m (RegisterVm v) = first_of_these (bad_vm m v ∷ when (not (is_empty (slot_at m v).phase)) SlotUsed ∷ [])
+refusal m (RegisterVcpu v c) = first_of_these (bad_vm m v ∷ bad_vcpu c ∷ no_vm m v ∷ not_booting m v ∷ when (vcpu_at m v c).registered VcpuUsed ∷ [])
+refusal m (SetBoot v base len) = first_of_these (bad_vm m v
     ∷ when (nat_lt 262143 base || nat_lt 262144 (base + pages_of len)) BadGfn
     ∷ when (len == 0 || nat_lt 1048576 len) BadRange
     ∷ no_vm m v ∷ not_booting m v
     ∷ when (nat_le 4 (length (slot_at m v).images)) ImagesFull
     ∷ when (list_any (overlaps base len) (slot_at m v).images) Overlap ∷ [])
-refusal m (Remap v i f) = first_of_these (bad_vm v ∷ bad_frame m f ∷ no_vm m v ∷ not_booting m v
+refusal m (Remap v i f) = first_of_these (bad_vm m v ∷ bad_frame m f ∷ no_vm m v ∷ not_booting m v
     ∷ when (nat_le (length (slot_at m v).images) i) NoImage
     ∷ when (not (is_short (image_at m v i))) ImageFull
     ∷ not_host m f ∷ tables_full m v (next_gfn m v i) ∷ [])
-refusal m (Verify v) = first_of_these (bad_vm v ∷ no_vm m v ∷ not_booting m v
+refusal m (Verify v) = first_of_these (bad_vm m v ∷ no_vm m v ∷ not_booting m v
     ∷ when (length (slot_at m v).images == 0 || list_any is_short (slot_at m v).images) ImageShort ∷ [])
-refusal m (Map v c f) = first_of_these (bad_vm v ∷ bad_vcpu c ∷ bad_frame m f ∷ no_vm m v ∷ not_active m v ∷ no_vcpu m v c
+refusal m (Map v c f) = first_of_these (bad_vm m v ∷ bad_vcpu c ∷ bad_frame m f ∷ no_vm m v ∷ not_active m v ∷ no_vcpu m v c
     ∷ when (is_none (vcpu_at m v c).fault) NoFault
     ∷ when (is_some (mapped_at m v (pending m v c))) Mapped
     ∷ not_host m f ∷ tables_full m v (pending m v c) ∷ [])
@@ -145,4 +147,4 @@ refusal m (GuestWrite v c g off bytes) = guest_access m v c g off (length bytes)
 refusal m (Grant v c g) = guest_frame m v c g (when (nat_le 100 (share_at m v g)) ShareFull)
 refusal m (Revoke v c g) = guest_frame m v c g (when (share_at m v g == 0) NotShared)
 refusal m (Drop v c g) = guest_frame m v c g (when (nat_lt 0 (share_at m v g)) Shared)
-refusal m (Clear v) = first_of_these (bad_vm v ∷ no_vm m v ∷ [])
+refusal m (Clear v) = first_of_these (bad_vm m v ∷ no_vm m v ∷ [])

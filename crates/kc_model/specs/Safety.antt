@@ -11,6 +11,7 @@ use Rattle.kc_model.specs.State.{State, Frame, frame_at, slot_at}
 use Rattle.kc_model.specs.Effects.{is_approved}
 use Rattle.kc_model.specs.Next.{next, state_after}
 use Rattle.kc_model.specs.Lawful.{ListsOnce}
+use Rattle.kc_types.specs.Configuration.{slot_count}
 
 -- a fact of each call of a trace: of the state before it, the call, its reply and the state after it
 abbrev pub EachStep : (State → Call → Reply → State → Type 0) → State → List Call → Type 0
@@ -19,7 +20,7 @@ EachStep Step m (call ∷ calls) = Step m call (next m call).0 (next m call).1 �
 
 -- each frame is in the list of its owner once, and in no other list
 abbrev pub HasOneOwner : State → Type 0
-HasOneOwner m = ListsOnce m Free m.free × ((v : ℕ) → v < 16 → ListsOnce m (Vm v) (slot_at m v).frames)
+HasOneOwner m = ListsOnce m Free m.free × ((v : ℕ) → v < slot_count m.config → ListsOnce m (Vm v) (slot_at m v).frames)
 
 abbrev pub KeepsOneOwner : State → Call → Reply → State → Type 0
 KeepsOneOwner old call answer new = HasOneOwner new

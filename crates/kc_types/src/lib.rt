@@ -4,6 +4,7 @@
 mod call;
 mod config;
 mod data;
+mod link;
 mod memory;
 mod numbers;
 mod owner;
@@ -14,6 +15,7 @@ mod slot;
 pub use call::{Actor, Call, actor_of};
 pub use config::{Config, ConfigFault};
 pub use data::Data;
+pub use link::{Ends, Link};
 pub use memory::Memory;
 pub use numbers::{FrameNo, Gfn, VcpuId, VmId};
 pub use owner::Owner;

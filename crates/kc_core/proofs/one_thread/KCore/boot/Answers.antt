@@ -1,0 +1,5 @@
+use Rattle.kc_model.proofs.AtBoot.{lawful-boot}
+use Rattle.kc_core.proofs.one_thread.KCore.boot.Goals as goal
+
+pub invariant_of-result : goal.invariant_of-result
+invariant_of-result c = rw c.in_ok-boot.ensures.state (lawful-boot c.args.config c.in_ok-boot.ensures.config)

@@ -1,0 +1,185 @@
+//! The core, seen as a state that is lawful after every call.
+ghost use Rattle.std.specs.Prelude.{◌≡◌, ℕ, ◌+◌, ◌<◌, List, length, take, map, All, IsSome, IfSome, ◌↔◌, IfOk, IfErr, OnOk, OnErr, IsOk};
+ghost use Rattle.kc_model.specs.Built.{IsBuilt, TakesNoMemory};
+ghost use Rattle.kc_model.specs.Boot.{boot};
+ghost use Rattle.kc_model.specs.Next.{next, replies_from, state_after};
+ghost use Rattle.kc_model.specs.Lawful.{IsLawful};
+ghost use Rattle.kc_core.specs.Runs.{StopsAfter};
+ghost use Rattle.kc_model.specs.Safety.{IsSafe};
+ghost use Rattle.kc_model.specs.Blind.{ShowsNothing};
+ghost use Rattle.std.specs.List.{AllByRecursion};
+ghost use Rattle.kc_model.specs.State.{frame_at};
+ghost use Rattle.kc_model.specs.Links.{frames_of};
+ghost use Rattle.kc_model.specs.Wiped.{wiped};
+ghost use Rattle.kc_page.specs.Pages.{frame_of, IsRecordOf};
+
+use crate::ranged::{read_all_numbers, read_numbers};
+use crate::store::Store;
+use kc_page::{Page, PageBytes, PageRecord};
+use kc_types::{Call, Config, FrameNo, Memory, Owner, Reply};
+use std::alloc::Global;
+use std::marker::Model;
+
+/// The core.
+#[derive(Drop)]
+pub struct KCore {
+    store: Store,
+}
+
+impl Model for KCore {
+    ghost use Rattle.kc_model.specs.State.{State};
+    ghost use Rattle.std.specs.Coded.{codes, coded_ℕ};
+    ghost use Rattle.std.specs.FinMap as map;
+    ghost use Rattle.std.specs.Ordering.{nat_cmp};
+
+    ghost Value = { State };
+
+    ghost coded = { Prim.hlevel (codes, map.code {R = nat_cmp} coded_ℕ coded_ℕ) };
+
+    ghost use Rattle.kc_model.specs.Lawful.{IsLawful};
+    ghost use Rattle.kc_core.specs.Store.{state_of};
+
+    ghost view = { λ k. state_of k.store };
+
+    ghost invariant = { λ k. IsLawful (state_of k.store) };
+}
+
+/// Where a run met want of memory: the calls that are done, and their replies.
+#[derive(Drop)]
+pub struct RunStop {
+    pub done: usize,
+    pub replies: Vec<Reply>,
+}
+
+impl KCore {
+    /// The core as it starts.
+    pub fn boot(alloc: Global, config: Config) -> Result<KCore, Memory>
+        ensures { IfOk result (λ core. core ≡ boot config) }
+    {
+        Ok(KCore {
+            store: Store::boot(alloc, config)?,
+        })
+    }
+
+    /// Answers a call.
+    pub fn call(&mut self, call: &Call) -> Result<Reply, Memory>
+        requires { IsBuilt call.now }
+        ensures reply { IfOk result (λ reply. reply ≡ (next self.old call.now).0) }
+        ensures state { OnOk result (self.new ≡ (next self.old call.now).1) }
+        ensures err { OnErr result (self.new ≡ self.old) }
+        ensures lawful { IsLawful self.new }
+        ensures steady { TakesNoMemory call.now → IsOk result }
+    {
+        read_numbers(call);
+        self.store.call(call)
+    }
+
+    /// Answers a trace, call by call.
+    pub fn run(&mut self, alloc: Global, calls: &[Call]) -> Result<Vec<Reply>, RunStop>
+        requires { AllByRecursion IsBuilt calls.now }
+        ensures safe { IsSafe self.old calls.now }
+        ensures blind { IfOk result (λ replies. ShowsNothing self.old calls.now replies.items self.new) }
+        ensures replies { IfOk result (λ replies. replies.items ≡ replies_from self.old calls.now) }
+        ensures state { OnOk result (self.new ≡ state_after self.old calls.now) }
+        ensures stop { IfErr result (λ stop. StopsAfter self.old calls.now stop.done stop.replies.items self.new) }
+    {
+        let _store = &self.store;
+        read_all_numbers(calls);
+        let mut replies = match Vec::with_capacity(alloc, calls.len()) {
+            Ok(replies) => replies,
+            Err(_) => {
+                return Err(RunStop {
+                    done: 0,
+                    replies: Vec::new(alloc),
+                });
+            },
+        };
+        for (done, call) in calls.iter().enumerate() {
+            match self.call(call) {
+                Ok(reply) => replies.push(reply).unwrap(),
+                Err(_) => return Err(RunStop { done, replies }),
+            }
+        }
+        Ok(replies)
+    }
+
+    /// The record of a frame, with its neighbours in the list of its owner; `None` for a frame that does not
+    /// exist.
+    pub fn page_record(&self, frame: u32) -> Option<PageRecord>
+        ensures exists { IsSome result ↔ (frame < self.now.config.frames) }
+        ensures value { IfSome result (IsRecordOf self.now frame) }
+    {
+        if frame >= self.store.config.frames() {
+            return None;
+        }
+        Some(self.store.page_record(FrameNo::try_new(frame).unwrap()))
+    }
+
+    /// The bytes of a frame; `None` for a frame that does not exist.
+    pub fn bytes(&self, frame: u32) -> Option<&PageBytes>
+        ensures exists { IsSome result ↔ (frame < self.now.config.frames) }
+        ensures value { IfSome result (λ bytes. bytes.now ≡ (frame_at self.now frame).bytes) }
+    {
+        if frame >= self.store.config.frames() {
+            return None;
+        }
+        Some(&self.store.pages[frame as usize].bytes)
+    }
+
+    /// The frames of an owner: free frames and a VM's in the order of their list, the core's and the host's by
+    /// rising number. `Memory` where a growth was refused.
+    pub fn frames_of(&self, owner: Owner) -> Result<Vec<FrameNo>, Memory>
+        ensures { IfOk result (λ frames. frames.items ≡ frames_of self.now owner) }
+    {
+        self.store.frames_of(owner)
+    }
+
+    /// All pages, by frame number.
+    pub fn pages(&self) -> &[Page]
+        ensures { map frame_of result.now ≡ self.now.frames }
+    {
+        self.store.pages.as_slice()
+    }
+
+    /// Zeroes all bytes and changes nothing else.
+    pub fn wipe(&mut self)
+        ensures { self.new ≡ wiped self.old }
+    {
+        self.store.wipe();
+    }
+}
+
+#[cfg(test)]
+mod tests {
+    use super::*;
+    use kc_types::Data;
+    use std::test::Fail;
+
+    #[test]
+    fn a_written_byte_is_read(rt: HostRuntime) -> Result<(), Fail> {
+        let alloc = rt.alloc();
+        let config = Config::try_new(8, 1, 4, 1, Vec::new(alloc))
+            .ok()
+            .ok_or("no configuration")?;
+        let mut core = KCore::boot(alloc, config)?;
+        let mut bytes = Vec::new(alloc);
+        bytes.push(170)?;
+        let data = Data::try_new(bytes).ok_or("no data")?;
+        let mut calls = Vec::new(alloc);
+        calls.push(Call::HostFault { frame: 1 })?;
+        calls.push(Call::HostWrite {
+            frame: 1,
+            offset: 0,
+            data,
+        })?;
+        calls.push(Call::HostRead {
+            frame: 1,
+            offset: 0,
+            len: 1,
+        })?;
+        calls.push(Call::Take)?;
+        let replies = core.run(alloc, calls.as_slice()).ok().ok_or("stopped")?;
+        println!(rt; "{replies:?}")?;
+        Ok(())
+    }
+}

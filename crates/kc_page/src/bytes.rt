@@ -1,0 +1,77 @@
+//! The bytes of a page.
+ghost use Rattle.std.specs.Prelude.{◌≡◌, ℕ, ◌+◌, ◌<◌, ◌≤◌, List, length, slice_range, IfOk, vec_len};
+ghost use Rattle.kc_types.specs.Limits.{page_size};
+ghost use Rattle.kc_model.specs.State.{zero_page, overwritten};
+ghost use Rattle.kc_page.specs.Bytes.{zeroed_from};
+
+use kc_types::{Data, Memory};
+use std::alloc::Global;
+use std::marker::Model;
+
+/// The 4,096 bytes of a page, seen as the list of them. They lie on the heap, so a page moves as a few words.
+#[derive(Drop)]
+pub struct PageBytes {
+    bytes: Vec<u8>,
+}
+
+impl Model for PageBytes {
+    ghost Value = { List ℕ };
+
+    ghost view = { λ p. p.bytes.items };
+
+    ghost invariant = { λ p. vec_len p.bytes ≡ 4096 };
+}
+
+impl PageBytes {
+    /// A page of zero bytes, or `Memory` where a growth was refused.
+    #[tactic(auto, unfolding(kc_model::specs::State::zero_page))]
+    pub fn zeroed(alloc: Global) -> Result<PageBytes, Memory>
+        ensures { IfOk result (λ page. page ≡ zero_page) }
+    {
+        Ok(PageBytes {
+            bytes: vec![in alloc; 0; 4_096]?,
+        })
+    }
+
+    /// All bytes.
+    pub fn as_slice(&self) -> &[u8]
+        ensures value { result.now ≡ self.now }
+        ensures whole { length self.now ≡ page_size }
+    {
+        self.bytes.as_slice()
+    }
+
+    /// A copy of `len` bytes from `offset` on, or `Memory` where a growth was refused.
+    pub fn read(&self, alloc: Global, offset: usize, len: usize) -> Result<Data, Memory>
+        requires some { 0 < len }
+        requires within { offset + len ≤ page_size }
+        ensures { IfOk result (λ bytes. bytes ≡ slice_range self.now offset (offset + len)) }
+    {
+        let bytes = self.bytes[offset..offset + len].to_vec(alloc)?;
+        Ok(Data::try_new(bytes).unwrap())
+    }
+
+    /// Writes these bytes from `offset` on.
+    pub fn write(&mut self, offset: usize, bytes: &[u8])
+        requires some { 0 < length bytes.now }
+        requires within { offset + length bytes.now ≤ page_size }
+        ensures { self.new ≡ overwritten self.old offset bytes.now }
+    {
+        self.bytes[offset..offset + bytes.len()].copy_from_slice(bytes);
+    }
+
+    /// Zeroes all bytes.
+    pub fn scrub(&mut self)
+        ensures { self.new ≡ zero_page }
+    {
+        self.bytes.fill(0);
+    }
+
+    /// Zeroes the bytes from place `n` on and keeps those before it.
+    pub fn zero_from(&mut self, n: usize)
+        requires { n ≤ page_size }
+        ensures { self.new ≡ zeroed_from self.old n }
+    {
+        self.bytes[n..].fill(0);
+    }
+}

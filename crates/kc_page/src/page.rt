@@ -1,0 +1,38 @@
+//! A page, and many of them.
+ghost use Rattle.std.specs.Prelude.{◌≡◌, map};
+ghost use Rattle.kc_page.specs.Pages.{scrubbed_page};
+
+use crate::PageBytes;
+use kc_types::{FrameNo, Gfn, Owner};
+
+/// What the core keeps of a frame beside its bytes.
+#[derive(Clone, Copy, Debug, PartialEq, Eq)]
+pub struct PageRecord {
+    pub owner: Owner,
+    /// How often its VM has granted the host access, 0 to 100.
+    pub share: u32,
+    /// The guest frame at which its VM sees it.
+    pub gfn: Option<Gfn>,
+    /// Whether the host's access is mapped.
+    pub present: bool,
+    /// The frame before it in the list of its owner.
+    pub prev: Option<FrameNo>,
+    /// The frame after it in the list of its owner.
+    pub next: Option<FrameNo>,
+}
+
+/// A page: the record of a frame, and its bytes.
+#[derive(Drop)]
+pub struct Page {
+    pub meta: PageRecord,
+    pub bytes: PageBytes,
+}
+
+/// Zeroes the bytes of all pages and keeps their records.
+pub fn scrub_each(pages: &mut [Page])
+    ensures { pages.new ≡ map scrubbed_page pages.old }
+{
+    for page in pages.iter_mut() {
+        page.bytes.scrub();
+    }
+}
