@@ -8,7 +8,7 @@ use Rattle.kc_types.specs.declared.owner.Owner.{Owner}
 use Rattle.kc_types.specs.declared.owner.Owner.TheVariants.{Core, Host, Free, Vm}
 use Rattle.kc_model.specs.Links.{link_at, link_in, list_of}
 use Rattle.kc_model.proofs.AtBoot.{slot_at-boot}
-use Rattle.std.specs.Prelude.{Vec, Bool, None, cond, filter}
+use Rattle.std.specs.Prelude.{Bool, None, cond, filter}
 use Rattle.kc_model.specs.Boot.{boot_frame}
 use Rattle.kc_model.specs.State.{Frame, Slot, with_frame, frame_at, untouched}
 use Rattle.kc_core.specs.declared.store.Store.{Store}

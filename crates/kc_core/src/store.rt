@@ -10,12 +10,6 @@ use kc_types::{Call, Config, Data, FrameNo, Link, Memory, Owner, Refusal, Reply}
 use std::alloc::Global;
 use std::collections::VecDeque;
 
-/// The link of a frame in no list.
-const UNLINKED: Link = Link {
-    prev: None,
-    next: None,
-};
-
 /// All that the core keeps.
 #[derive(Drop)]
 pub struct Store {
@@ -274,7 +268,7 @@ impl Store {
             }
             prev = Some(free);
         }
-        UNLINKED
+        Link::UNLINKED
     }
 
     /// The neighbours of a frame that exists in the list of its owner.
@@ -284,9 +278,9 @@ impl Store {
     {
         match self.pages[frame.index()].meta.owner {
             Owner::Free => self.free_link(frame),
-            Owner::Core => UNLINKED,
-            Owner::Host => UNLINKED,
-            Owner::Vm(_) => UNLINKED,
+            Owner::Core => Link::UNLINKED,
+            Owner::Host => Link::UNLINKED,
+            Owner::Vm(_) => Link::UNLINKED,
         }
     }
 

@@ -1,5 +1,5 @@
 -- A lawful state without its bytes is lawful.
-use Rattle.std.proofs.Common.{ℕ, ◌≡◌, ◌<◌, List, length, map, refl, ◌∙◌}
+use Rattle.std.proofs.Common.{ℕ, ◌≡◌, ◌<◌, length, refl, ◌∙◌}
 use Rattle.std.proofs.Math.ListN.{get_or-map}
 use Rattle.std.proofs.lemmas.List.{length-map}
 use Rattle.kc_types.specs.declared.owner.Owner.TheVariants.{Core}

@@ -10,3 +10,7 @@ pub mod Built
 pub mod Safety
 pub mod Ranged
 pub mod Blind
+pub mod Resources
+pub mod Local
+pub mod Footprints
+pub mod Linked

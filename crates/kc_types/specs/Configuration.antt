@@ -1,5 +1,5 @@
 -- What the core is started with.
-use Rattle.std.specs.Prelude.{ℕ, ◌≡◌, ◌+◌, ◌≤◌, ◌<◌, List, length, All}
+use Rattle.std.specs.Prelude.{ℕ, ◌+◌, ◌≤◌, ◌<◌, List, length}
 use Rattle.kc_types.specs.Limits.{frame_limit, slot_limit, leaf_limit, digest_limit}
 
 -- `frames` are all frames, the first `core` of them are the core's for ever, the next `host` are the host's at boot;

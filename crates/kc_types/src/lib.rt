@@ -10,6 +10,7 @@ mod numbers;
 mod owner;
 mod refusal;
 mod reply;
+mod resource;
 mod slot;
 
 pub use call::{Actor, Call, actor_of};
@@ -21,4 +22,5 @@ pub use numbers::{FrameNo, Gfn, VcpuId, VmId};
 pub use owner::Owner;
 pub use refusal::Refusal;
 pub use reply::Reply;
+pub use resource::Resource;
 pub use slot::{Image, Phase, Vcpu};

@@ -1,4 +1,6 @@
 //! Lists of frames, linked through the records of the frames.
+ghost use Rattle.std.specs.Prelude.{◌≡◌, None};
+
 use crate::FrameNo;
 
 /// The neighbours of a frame in its list; none and none for a frame in no list.
@@ -8,10 +10,31 @@ pub struct Link {
     pub next: Option<FrameNo>,
 }
 
-/// The ends of a list of frames, and how many it has; none, none and 0 for an empty one.
+/// The ends of a list of frames, and how many it has.
 #[derive(Clone, Copy, Debug, PartialEq, Eq)]
 pub struct Ends {
     pub head: Option<FrameNo>,
     pub tail: Option<FrameNo>,
     pub count: u32,
+}
+
+impl Link {
+    /// The link of a frame in no list.
+    pub const UNLINKED: Link = Link {
+        prev: None,
+        next: None,
+    };
+}
+
+impl Ends {
+    /// The ends of a list with no frames.
+    pub fn empty() -> Ends
+        ensures { result ≡ record { head = None; tail = None; count = 0 } }
+    {
+        Ends {
+            head: None,
+            tail: None,
+            count: 0,
+        }
+    }
 }

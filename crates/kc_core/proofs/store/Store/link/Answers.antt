@@ -1,5 +1,4 @@
-use Rattle.std.proofs.Common.{◌≡◌, ap, sym, ◌∙◌}
-use Rattle.kc_page.specs.declared.page.Page.{Page}
+use Rattle.std.proofs.Common.{ap, sym}
 use Rattle.kc_core.proofs.Pages.{frame_at-page, unlinked-at}
 use Rattle.kc_core.proofs.store.Store.link.Goals as goal
 

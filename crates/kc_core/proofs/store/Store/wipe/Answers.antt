@@ -1,7 +1,7 @@
 use Rattle.std.proofs.Common.{◌≡◌, List, ap, sym, ◌∙◌, map, length}
 use Rattle.std.proofs.lemmas.List.{with_items_is, length-map}
 use Rattle.kc_page.specs.Pages.{frame_of, scrubbed_page}
-use Rattle.kc_model.specs.State.{State, Frame}
+use Rattle.kc_model.specs.State.{Frame}
 use Rattle.kc_core.specs.Store.{state_of}
 use Rattle.kc_core.proofs.Pages.{frames-scrubbed}
 use Rattle.kc_core.proofs.store.Store.wipe.Goals as goal

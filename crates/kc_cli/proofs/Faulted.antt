@@ -1,0 +1,14 @@
+-- Which fault of reading a fault of the engine is.
+use Rattle.std.proofs.Common.{◌≡◌, refl, ap, ◌∙◌}
+use Rattle.kc_trace.specs.declared.fault.TraceFault.{TraceFault}
+use Rattle.kc_cli.specs.declared.stream.StreamFault.{StreamFault}
+use Rattle.kc_cli.specs.declared.stream.StreamFault.TheVariants as streams
+use Rattle.kc_cli.specs.declared.fault.TextFault.{TextFault}
+use Rattle.kc_cli.specs.declared.fault.TextFault.TheVariants as texts
+use Rattle.kc_cli.specs.Faults.{stream_fault}
+
+-- a fault of the trace comes from the trace
+pub trace_said : (said : StreamFault) (fault : TraceFault) → stream_fault said ≡ texts.Trace fault → said ≡ streams.Trace fault
+trace_said (streams.Trace other) fault e = let same : other ≡ fault = cc in ap streams.Trace same
+trace_said streams.Memory fault e = cc
+trace_said streams.Read fault e = cc

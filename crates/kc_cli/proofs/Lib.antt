@@ -1,0 +1,4 @@
+pub mod Bytes
+pub mod Asking
+pub mod Fed
+pub mod Faulted

@@ -1,0 +1,13 @@
+-- The program's command, in clap's words.
+use Rattle.std.specs.Prelude.{codes, Some, true}
+use Rattle.clap.specs.Words.{App, Rule, new_app, new_rule, with_rule, with_subcommand}
+use Rattle.clap.specs.Simple.{on_top}
+
+abbrev pub config_rule : Rule
+config_rule = record (new_rule (codes "config")) { long = Some (codes "config") }
+
+abbrev pub replay : App
+replay = with_rule (new_app (codes "replay")) config_rule
+
+abbrev pub kcore : App
+kcore = with_subcommand (on_top (λ s. record s { no_binary_name = true }) (new_app (codes "kcore"))) replay.top

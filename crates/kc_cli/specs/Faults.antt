@@ -1,0 +1,78 @@
+-- The line and the exit status of each fault.
+use Rattle.std.specs.Prelude.{ℕ, List, [], ◌++◌, codes, decimal, Option, Some, None}
+use Rattle.kc_types.specs.declared.config.ConfigFault.TheVariants.{Frames, CoreHost, Leaves, TooManyDigests}
+use Rattle.kc_trace.specs.declared.config_text.ConfigTextFault.{ConfigTextFault}
+use Rattle.kc_trace.specs.declared.config_text.ConfigTextFault.TheVariants as configs
+use Rattle.kc_trace.specs.declared.fault.TraceFault.{TraceFault}
+use Rattle.kc_trace.specs.declared.fault.TraceFault.TheVariants as traces
+use Rattle.kc_cli.specs.declared.whole.ReadFault.{ReadFault}
+use Rattle.kc_cli.specs.declared.whole.ReadFault.TheVariants as reads
+use Rattle.kc_cli.specs.declared.stream.StreamFault.{StreamFault}
+use Rattle.kc_cli.specs.declared.stream.StreamFault.TheVariants as streams
+use Rattle.kc_cli.specs.declared.fault.TextFault.{TextFault}
+use Rattle.kc_cli.specs.declared.fault.TextFault.TheVariants as texts
+
+-- the fault that a fault of reading is
+abbrev pub read_fault : ReadFault → TextFault
+read_fault reads.Memory = texts.Memory
+read_fault reads.Read = texts.Read
+
+-- the fault that a fault of a trace's source is
+abbrev pub stream_fault : StreamFault → TextFault
+stream_fault (streams.Trace fault) = texts.Trace fault
+stream_fault streams.Memory = texts.Memory
+stream_fault streams.Read = texts.Read
+
+-- the fault that a fault of a configuration's text is
+abbrev pub config_fault : ConfigTextFault → TextFault
+config_fault configs.Memory = texts.Memory
+config_fault fault = texts.Config fault
+
+-- 3 where memory or an end failed, 2 where the input is refused
+abbrev pub status_of : TextFault → ℕ
+status_of (texts.Config configs.Memory) = 3
+status_of (texts.Config fault) = 2
+status_of (texts.Trace traces.Memory) = 3
+status_of (texts.Trace fault) = 2
+status_of texts.Workers = 2
+status_of texts.Memory = 3
+status_of texts.Read = 3
+status_of texts.Write = 3
+
+abbrev pub config_words_of : ConfigTextFault → List ℕ
+config_words_of configs.NotJson = codes "kcore: configuration is not JSON"
+config_words_of configs.BadShape = codes "kcore: configuration has a wrong shape"
+config_words_of (configs.Config Frames) = codes "kcore: configuration refused: frames"
+config_words_of (configs.Config CoreHost) = codes "kcore: configuration refused: core and host"
+config_words_of (configs.Config Leaves) = codes "kcore: configuration refused: leaves"
+config_words_of (configs.Config TooManyDigests) = codes "kcore: configuration refused: approved"
+config_words_of configs.Memory = codes "kcore: out of memory"
+
+abbrev pub trace_words_of : TraceFault → List ℕ
+trace_words_of traces.NoHeader = codes "kcore: no trace header"
+trace_words_of (traces.BadLine number) = codes "kcore: bad trace line "
+trace_words_of traces.NoNewline = codes "kcore: last trace line has no newline"
+trace_words_of traces.TooManyCalls = codes "kcore: too many calls"
+trace_words_of traces.Memory = codes "kcore: out of memory"
+
+-- a line up to its number, or to its end where it has none
+abbrev pub words_of : TextFault → List ℕ
+words_of (texts.Config fault) = config_words_of fault
+words_of (texts.Trace fault) = trace_words_of fault
+words_of texts.Workers = codes "kcore: bad number of workers"
+words_of texts.Memory = codes "kcore: out of memory"
+words_of texts.Read = codes "kcore: read failed"
+words_of texts.Write = codes "kcore: write failed"
+
+-- the number in a line
+abbrev pub line_number_of : TextFault → Option ℕ
+line_number_of (texts.Trace (traces.BadLine number)) = Some number
+line_number_of fault = None
+
+abbrev pub numeral_of : Option ℕ → List ℕ
+numeral_of None = []
+numeral_of (Some number) = decimal number
+
+-- the whole line, with the line feed
+abbrev pub line_of : TextFault → List ℕ
+line_of fault = words_of fault ++ numeral_of (line_number_of fault) ++ codes "\n"

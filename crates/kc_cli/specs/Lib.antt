@@ -1,0 +1,5 @@
+pub mod Ends
+pub mod Faults
+pub mod Commands
+pub mod Jobs
+pub mod Engine

@@ -1,0 +1,44 @@
+//! What bytes come from and go to.
+ghost use Rattle.std.specs.Prelude.{◌≡◌, ◌<◌, ◌≤◌, Bool, false, List, ℕ, length, Option, IfOk, is_err};
+ghost use Rattle.std.specs.Io.KnownBytes.{ReadConsumes, WriteAppends};
+
+use thiserror::Error;
+
+/// A read or a write failed.
+#[derive(Clone, Copy, Debug, PartialEq, Eq, Error)]
+#[error("a read or a write failed")]
+pub struct Failed;
+
+/// What bytes come from. After the first `Failed` it is not read again.
+pub trait Source {
+    /// The bytes that are left, where the source tells them.
+    ghost left: { Self → Option (List ℕ) };
+
+    /// Whether a read has failed.
+    ghost failed: { Self → Bool };
+
+    /// Moves bytes to the front of the buffer and answers their number, 0 only at the end or where the buffer is
+    /// empty. An `Err` moves none.
+    fn read(&mut self, buffer: &mut [u8]) -> Result<usize, Failed>
+        requires { failed self.old ≡ false }
+        ensures bytes { ReadConsumes (left self.old) (left self.new) result buffer.new }
+        ensures bound { IfOk result (λ n. n ≤ length buffer.new) }
+        ensures mark { failed self.new ≡ is_err result };
+}
+
+/// What bytes go to. After the first `Failed` it is not written again.
+pub trait Sink {
+    /// The bytes that it has taken, where it tells them.
+    ghost taken: { Self → Option (List ℕ) };
+
+    /// Whether a write has failed.
+    ghost failed: { Self → Bool };
+
+    /// Takes a beginning of the bytes and answers its length, 0 only where there are none. An `Err` takes none.
+    fn write(&mut self, bytes: &[u8]) -> Result<usize, Failed>
+        requires { failed self.old ≡ false }
+        ensures bytes { WriteAppends (taken self.old) (taken self.new) result bytes.now }
+        ensures bound { IfOk result (λ n. n ≤ length bytes.now) }
+        ensures some { IfOk result (λ n. 0 < length bytes.now → 0 < n) }
+        ensures mark { failed self.new ≡ is_err result };
+}

@@ -1,0 +1,77 @@
+//! The engine that replays a trace, over any ends.
+ghost use Rattle.std.specs.Prelude.{◌≡◌, ◌≢◌, ◌⊎◌, ◌↔◌, true, false, IfOk, IfSome, OnOk, OnErr, Err, IsErrOf};
+ghost use Rattle.std.specs.List.{AllByRecursion};
+ghost use Rattle.std.specs.Io.KnownBytes.{IsAtEnd};
+ghost use Rattle.kc_model.specs.Boot.{boot};
+ghost use Rattle.kc_model.specs.Built.{IsBuilt};
+ghost use Rattle.kc_model.specs.Next.{replies_from};
+ghost use Rattle.kc_trace.specs.declared.config_text.ConfigTextFault.{ConfigTextFault};
+ghost use Rattle.kc_trace.specs.declared.fault.TraceFault.{TraceFault};
+ghost use Rattle.kc_trace.specs.ConfigText.{config_in};
+ghost use Rattle.kc_trace.specs.Trace.{IsRefused};
+ghost use Rattle.kc_trace.specs.ReplyText.{reply_text_of};
+ghost use Rattle.kc_cli.specs.Ends.{ReadFailed};
+ghost use Rattle.kc_cli.specs.Engine.{Replays, BeginsReplay};
+
+use crate::stream::read_calls;
+use crate::{Sink, Source, TextFault, read_whole, write_whole};
+use kc_core::KCore;
+use kc_trace::{read_config, write_replies};
+use kc_types::{Call, Config, Memory};
+use std::alloc::Global;
+
+/// The text of the replies to some calls. The core is wiped before it goes, whatever the outcome.
+fn reply_text(alloc: Global, config: Config, calls: &[Call]) -> Result<Vec<u8>, Memory>
+    requires { AllByRecursion IsBuilt calls.now }
+    ensures { IfOk result (λ text. text.items ≡ reply_text_of (replies_from (boot config) calls.now)) }
+{
+    let mut core = KCore::boot(alloc, config)?;
+    let outcome = core.run(alloc, calls);
+    core.wipe();
+    match outcome {
+        Ok(replies) => write_replies(alloc, &replies),
+        Err(_) => Err(Memory),
+    }
+}
+
+/// Reads a configuration and a trace, each to its end, and writes the reply text of the trace. The number of
+/// workers is 1, and judged before anything is read.
+///
+/// Nothing is written but after the whole trace was read and answered. A source that fails, or that has more
+/// than 1,073,741,824 bytes, is `Read`, also where its bytes so far are refused already.
+pub fn replay_text<C: Source, T: Source, K: Sink>(
+    alloc: Global,
+    config: &mut C,
+    trace: &mut T,
+    out: &mut K,
+    workers: u32,
+) -> Result<(), TextFault>
+    requires config { C.failed config.old ≡ false }
+    requires trace { T.failed trace.old ≡ false }
+    requires out { K.failed out.old ≡ false }
+
+    // What is written is the reply text of what the sources held, and nothing of them is left.
+    ensures ok { OnOk result (Replays (C.left config.old) (T.left trace.old) (K.taken out.old) (K.taken out.new)) }
+    ensures ended { OnOk result (IsAtEnd (C.left config.new) × IsAtEnd (T.left trace.new)) }
+
+    // Each fault is that of all the bytes that its source held, and comes where it should.
+    ensures workers { IsErrOf result TextFault.Workers ↔ (workers ≢ 1) }
+    ensures config { (fault : ConfigTextFault) → result ≡ Err (TextFault.Config fault) → IfSome (C.left config.old) (λ text. config_in text ≡ Err fault) × IsAtEnd (C.left config.new) × (trace.new ≡ trace.old) }
+    ensures trace { (fault : TraceFault) → result ≡ Err (TextFault.Trace fault) → IfSome (T.left trace.old) (λ text. IsRefused text fault) × IsAtEnd (T.left trace.new) }
+    ensures read { result ≡ Err TextFault.Read → ReadFailed (C.failed config.new) (C.left config.old) (C.left config.new) ⊎ ReadFailed (T.failed trace.new) (T.left trace.old) (T.left trace.new) }
+    ensures write { result ≡ Err TextFault.Write → (K.failed out.new ≡ true) × BeginsReplay (C.left config.old) (T.left trace.old) (K.taken out.old) (K.taken out.new) }
+
+    // Every fault but that of a write leaves the sink as it was.
+    ensures untouched { OnErr result ((out.new ≡ out.old) ⊎ (result ≡ Err TextFault.Write)) }
+{
+    if workers != 1 {
+        return Err(TextFault::Workers);
+    }
+    let config = read_whole(alloc, config)?;
+    let config = read_config(alloc, &config)?;
+    let calls = read_calls(alloc, trace)?;
+    let Ok(text) = reply_text(alloc, config, &calls) else {
+        return Err(TextFault::Memory);
+    };
+    write_whole(out, &text).map_err(|_| TextFault::Write)
+}

@@ -1,0 +1,134 @@
+//! What goes wrong between the ends.
+ghost use Rattle.std.specs.Prelude.{◌≡◌, ◌≤◌, length};
+ghost use Rattle.kc_cli.specs.Faults.{read_fault, stream_fault, config_fault, status_of, words_of, config_words_of, trace_words_of, line_number_of};
+
+use crate::ReadFault;
+use crate::stream::StreamFault;
+use kc_trace::{ConfigTextFault, TraceFault};
+use kc_types::ConfigFault;
+use thiserror::Error;
+
+/// Why an engine over texts ended without its answer.
+#[derive(Clone, Copy, Debug, PartialEq, Eq, Error)]
+pub enum TextFault {
+    /// The configuration's text is refused.
+    #[error("{0}")]
+    Config(ConfigTextFault),
+    /// The trace is refused.
+    #[error("{0}")]
+    Trace(TraceFault),
+    /// The number of workers is 0 or above 64.
+    #[error("bad number of workers")]
+    Workers,
+    /// A growth of memory was refused.
+    #[error("out of memory")]
+    Memory,
+    /// A source failed, or had too many bytes.
+    #[error("read failed")]
+    Read,
+    /// A sink failed.
+    #[error("write failed")]
+    Write,
+}
+
+impl From<ReadFault> for TextFault {
+    ghost from_gives = { λ fault made. made ≡ read_fault fault };
+
+    fn from(fault: ReadFault) -> TextFault {
+        match fault {
+            ReadFault::Memory => TextFault::Memory,
+            ReadFault::Read => TextFault::Read,
+        }
+    }
+}
+
+impl From<StreamFault> for TextFault {
+    ghost from_gives = { λ fault made. made ≡ stream_fault fault };
+
+    fn from(fault: StreamFault) -> TextFault {
+        match fault {
+            StreamFault::Trace(fault) => TextFault::Trace(fault),
+            StreamFault::Memory => TextFault::Memory,
+            StreamFault::Read => TextFault::Read,
+        }
+    }
+}
+
+impl From<ConfigTextFault> for TextFault {
+    ghost from_gives = { λ fault made. made ≡ config_fault fault };
+
+    fn from(fault: ConfigTextFault) -> TextFault {
+        match fault {
+            ConfigTextFault::Memory => TextFault::Memory,
+            _ => TextFault::Config(fault),
+        }
+    }
+}
+
+impl TextFault {
+    /// The exit status: 2 where the input is refused, 3 where memory or an end failed.
+    pub const fn status(&self) -> u8
+        ensures { result ≡ status_of self.now }
+    {
+        match self {
+            TextFault::Config(ConfigTextFault::Memory) | TextFault::Trace(TraceFault::Memory) => 3,
+            TextFault::Config(_) | TextFault::Trace(_) | TextFault::Workers => 2,
+            TextFault::Memory | TextFault::Read | TextFault::Write => 3,
+        }
+    }
+
+    /// The words of its line, up to a number or the end.
+    pub(crate) const fn words(&self) -> &'static str
+        ensures text { result.now ≡ words_of self.now }
+        ensures short { length result.now ≤ 48 }
+    {
+        match self {
+            TextFault::Config(fault) => config_words(fault),
+            TextFault::Trace(fault) => trace_words(fault),
+            TextFault::Workers => "kcore: bad number of workers",
+            TextFault::Memory => "kcore: out of memory",
+            TextFault::Read => "kcore: read failed",
+            TextFault::Write => "kcore: write failed",
+        }
+    }
+
+    /// The number at the end of its line, if it has one.
+    pub(crate) const fn line_number(&self) -> Option<u32>
+        ensures { result ≡ line_number_of self.now }
+    {
+        match self {
+            TextFault::Trace(TraceFault::BadLine(number)) => Some(*number),
+            _ => None,
+        }
+    }
+}
+
+const fn config_words(fault: &ConfigTextFault) -> &'static str
+    ensures text { result.now ≡ config_words_of fault.now }
+    ensures short { length result.now ≤ 48 }
+{
+    match fault {
+        ConfigTextFault::NotJson => "kcore: configuration is not JSON",
+        ConfigTextFault::BadShape => "kcore: configuration has a wrong shape",
+        ConfigTextFault::Config(ConfigFault::Frames) => "kcore: configuration refused: frames",
+        ConfigTextFault::Config(ConfigFault::CoreHost) =>
+            "kcore: configuration refused: core and host",
+        ConfigTextFault::Config(ConfigFault::Leaves) => "kcore: configuration refused: leaves",
+        ConfigTextFault::Config(ConfigFault::TooManyDigests) =>
+            "kcore: configuration refused: approved",
+        ConfigTextFault::Memory => "kcore: out of memory",
+    }
+}
+
+const fn trace_words(fault: &TraceFault) -> &'static str
+    ensures text { result.now ≡ trace_words_of fault.now }
+    ensures short { length result.now ≤ 48 }
+{
+    match fault {
+        TraceFault::NoHeader => "kcore: no trace header",
+        TraceFault::BadLine(_) => "kcore: bad trace line ",
+        TraceFault::NoNewline => "kcore: last trace line has no newline",
+        TraceFault::TooManyCalls => "kcore: too many calls",
+        TraceFault::Memory => "kcore: out of memory",
+    }
+}

@@ -1,0 +1,157 @@
+use super::*;
+use crate::{FailAt, Mem};
+use kc_trace::{ConfigTextFault, TraceFault};
+use kc_types::ConfigFault;
+use std::alloc::Global;
+use std::process::Abort;
+
+fn tells(rt: &impl Abort, alloc: Global, fault: TextFault, line: &str, status: u8) {
+    let mut sink = Mem::new(alloc);
+    assert_eq!(rt; tell(&fault, &mut sink), status, "of {fault}");
+    assert!(rt;
+        sink.bytes.as_slice() == line.as_bytes(),
+        "not the line of {fault}"
+    );
+    let shown = format!(in alloc; "kcore: {fault}\n");
+    assert!(rt; shown.is_ok());
+    if let Ok(shown) = shown {
+        assert_eq!(rt; shown.as_str(), line);
+    }
+}
+
+#[test]
+fn tells_faults_of_traces(rt: HostRuntime) {
+    tells(
+        &rt,
+        rt.alloc(),
+        TextFault::Trace(TraceFault::NoHeader),
+        "kcore: no trace header\n",
+        2,
+    );
+    tells(
+        &rt,
+        rt.alloc(),
+        TextFault::Trace(TraceFault::BadLine(2)),
+        "kcore: bad trace line 2\n",
+        2,
+    );
+    tells(
+        &rt,
+        rt.alloc(),
+        TextFault::Trace(TraceFault::BadLine(65537)),
+        "kcore: bad trace line 65537\n",
+        2,
+    );
+    tells(
+        &rt,
+        rt.alloc(),
+        TextFault::Trace(TraceFault::NoNewline),
+        "kcore: last trace line has no newline\n",
+        2,
+    );
+    tells(
+        &rt,
+        rt.alloc(),
+        TextFault::Trace(TraceFault::TooManyCalls),
+        "kcore: too many calls\n",
+        2,
+    );
+    tells(
+        &rt,
+        rt.alloc(),
+        TextFault::Trace(TraceFault::Memory),
+        "kcore: out of memory\n",
+        3,
+    );
+}
+
+#[test]
+fn tells_faults_of_configurations(rt: HostRuntime) {
+    tells(
+        &rt,
+        rt.alloc(),
+        TextFault::Config(ConfigTextFault::NotJson),
+        "kcore: configuration is not JSON\n",
+        2,
+    );
+    tells(
+        &rt,
+        rt.alloc(),
+        TextFault::Config(ConfigTextFault::BadShape),
+        "kcore: configuration has a wrong shape\n",
+        2,
+    );
+    let refused = ConfigTextFault::Config(ConfigFault::Frames);
+    tells(
+        &rt,
+        rt.alloc(),
+        TextFault::Config(refused),
+        "kcore: configuration refused: frames\n",
+        2,
+    );
+    let refused = ConfigTextFault::Config(ConfigFault::CoreHost);
+    tells(
+        &rt,
+        rt.alloc(),
+        TextFault::Config(refused),
+        "kcore: configuration refused: core and host\n",
+        2,
+    );
+    let refused = ConfigTextFault::Config(ConfigFault::Leaves);
+    tells(
+        &rt,
+        rt.alloc(),
+        TextFault::Config(refused),
+        "kcore: configuration refused: leaves\n",
+        2,
+    );
+    let refused = ConfigTextFault::Config(ConfigFault::TooManyDigests);
+    tells(
+        &rt,
+        rt.alloc(),
+        TextFault::Config(refused),
+        "kcore: configuration refused: approved\n",
+        2,
+    );
+    tells(
+        &rt,
+        rt.alloc(),
+        TextFault::Config(ConfigTextFault::Memory),
+        "kcore: out of memory\n",
+        3,
+    );
+}
+
+#[test]
+fn tells_other_faults(rt: HostRuntime) {
+    tells(
+        &rt,
+        rt.alloc(),
+        TextFault::Workers,
+        "kcore: bad number of workers\n",
+        2,
+    );
+    tells(
+        &rt,
+        rt.alloc(),
+        TextFault::Memory,
+        "kcore: out of memory\n",
+        3,
+    );
+    tells(&rt, rt.alloc(), TextFault::Read, "kcore: read failed\n", 3);
+    tells(
+        &rt,
+        rt.alloc(),
+        TextFault::Write,
+        "kcore: write failed\n",
+        3,
+    );
+}
+
+#[test]
+fn answers_where_the_sink_fails(rt: HostRuntime) {
+    let mut sink = FailAt::new(Mem::new(rt.alloc()), 0);
+    assert_eq!(rt; tell(&TextFault::Workers, &mut sink), 2);
+    assert!(rt; sink.failed);
+    assert!(rt; sink.inner.bytes.is_empty());
+}

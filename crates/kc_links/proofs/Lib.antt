@@ -1,0 +1,6 @@
+pub mod Times
+pub mod Linked
+pub mod Once
+pub mod Chains
+pub mod Steps
+pub mod Others

@@ -1,0 +1,24 @@
+//! What holds links.
+ghost use Rattle.std.specs.Prelude.{◌≡◌, ℕ, ◌<◌, Option, IsSome};
+ghost use Rattle.kc_types.specs.Limits.{frame_limit};
+ghost use Rattle.kc_links.specs.Chain.{Links, with_link};
+
+use kc_types::{FrameNo, Link};
+
+/// What holds the links of some frames.
+pub trait LinkStore {
+    /// The links, of the frames that are here.
+    ghost links: { Self → Links };
+
+    /// The link of a frame, or `None` where the frame is not here.
+    fn link(&self, frame: FrameNo) -> Option<Link>
+        ensures { result ≡ links self.now frame };
+
+    /// Sets the link of a frame that is here.
+    fn set_link(&mut self, frame: FrameNo, link: Link)
+        requires { IsSome (links self.old frame) }
+        ensures { links self.new ≡ with_link (links self.old) frame link };
+
+    /// Only frames have links.
+    ghost within: { (store : Self) (f : ℕ) → IsSome (links store f) → f < frame_limit };
+}

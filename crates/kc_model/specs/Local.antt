@@ -1,0 +1,55 @@
+-- That a call depends on what it needs alone, and changes nothing else.
+use Rattle.std.specs.Prelude.{ℕ, ◌≡◌, ◌<◌, ◌≤◌, ◌+◌, true, List, [], ◌∷◌, length, Some, is_some}
+use Rattle.kc_types.specs.declared.call.Call.{Call}
+use Rattle.std.specs.Ordering.{nat_cmp}
+use Rattle.std.specs.FinMap as map
+use Rattle.kc_types.specs.declared.slot.Phase.TheVariants.{Booting}
+use Rattle.kc_model.specs.State.{State, Slot, Image, slot_at}
+use Rattle.kc_model.specs.Refusals.{pages_of}
+use Rattle.kc_model.specs.Effects.{Outcome}
+use Rattle.kc_model.specs.Next.{next}
+use Rattle.kc_model.specs.Resources.{Resource, Resources, merged, is_in, part_of}
+use Rattle.kc_types.specs.Configuration.{slot_count}
+
+-- the outcome, with the rest beside the resources
+abbrev pub outcome_merged : Resources → Outcome → State → Outcome
+outcome_merged here outcome rest = (outcome.0, merged here outcome.1 rest)
+
+-- the call does with the resources what it does with the whole state, and leaves the rest, whatever the rest is
+abbrev pub IsLocal : Resources → State → State → Call → Type 0
+IsLocal here m rest call = next (merged here m rest) call ≡ outcome_merged here (next m call) rest
+
+pub record IsMappedImage (mapped : map.FinMap nat_cmp ℕ) (image : Image) : Type 0 where
+  pub some : 0 < pages_of image.len
+  pub each_page : (g : ℕ) → image.base ≤ g → g < image.base + image.pages → is_some (map.get mapped g) ≡ true
+
+-- each image has a page, and its pages so far are mapped
+abbrev pub HasMappedPages : map.FinMap nat_cmp ℕ → List Image → Type 0
+HasMappedPages mapped [] = Unit {0}
+HasMappedPages mapped (image ∷ images) = IsMappedImage mapped image × HasMappedPages mapped images
+
+pub record IsOrderlySlot (there : Slot) : Type 0 where
+  -- a mapped frame is in the slot's list
+  pub listed : (g f : ℕ) → map.get there.mapped g ≡ Some f → is_in there.frames f ≡ true
+  pub images : there.phase ≡ Booting → HasMappedPages there.mapped there.images
+
+-- what a call needs of the state that it is made in: a consequence of being lawful
+pub record IsOrderly (m : State) : Type 0 where
+  pub frames : length m.frames ≡ m.config.frames
+  pub slots : length m.slots ≡ slot_count m.config
+  pub each_slot : (v : ℕ) → v < slot_count m.config → IsOrderlySlot (slot_at m v)
+
+-- no call changes the configuration, or how many frames and slots there are
+pub record IsSameSize (old new : State) : Type 0 where
+  pub config : new.config ≡ old.config
+  pub frames : length new.frames ≡ length old.frames
+  pub slots : length new.slots ≡ length old.slots
+
+-- two states of one size have the same at each of the resources
+pub record AgreesOn (here : Resources) (m other : State) : Type 0 where
+  pub size : IsSameSize m other
+  pub parts : (r : Resource) → here r ≡ true → part_of other r ≡ part_of m r
+
+-- the state's part at each of the resources, and the default elsewhere
+abbrev pub cut : State → Resources → State
+cut m here = merged here m (record { config = m.config; frames = []; free = []; slots = [] })

@@ -1,0 +1,87 @@
+-- The calls of a trace in another order give the same replies and the same end.
+use Rattle.std.proofs.Common.{ℕ, zero, suc, ◌≡◌, ◌<◌, Bool, true, false, List, [], ◌∷◌, All, length, refl, sym, ap, ◌∙◌, arith}
+use Rattle.kc_types.specs.declared.call.Call.{Call}
+use Rattle.kc_types.specs.declared.owner.Owner.TheVariants.{Core}
+use Rattle.kc_model.specs.State.{State, empty_slot, untouched}
+use Rattle.kc_model.specs.Lawful.{IsLawful}
+use Rattle.kc_model.specs.Ranged.{IsRanged}
+use Rattle.kc_model.specs.Next.{next, state_after}
+use Rattle.kc_model.specs.Resources.{Resource, pick, merged, part_of}
+use Rattle.kc_model.specs.Local.{IsSameSize}
+use Rattle.kc_model.specs.Footprints.{call_at, state_at, part_at, footprint}
+use Rattle.kc_model.proofs.Agreeing.{merged-agrees}
+use Rattle.kc_model.proofs.Sizes.{sized-next, sized-then}
+use Rattle.kc_model.proofs.Places.{state_at-end}
+use Rattle.kc_model.proofs.Reaches.{footprint-keeps}
+use Rattle.kc_model.proofs.LawfulTraces.{orderly-at}
+use Rattle.waves.specs.Reorder.{with_number, IsDue, IsReordering, left_by}
+use Rattle.waves.proofs.Reorders.{all_done, rest, due_finds, due_leaves, due_keeps, by_waves}
+use Rattle.kc_plan.specs.Commuting.{IsStep}
+use Rattle.kc_plan.specs.Reordering.{after_order, AnswersAlike, IsOrderFree, IsWaveOrderFree}
+use Rattle.kc_plan.proofs.Commute.{each-ranged, is_stepping}
+
+pick-all : {X : Type 0} (d : X) (xs ys : List X) → pick (λ i. true) d xs ys ≡ xs
+pick-all d [] ys = refl
+pick-all d (x ∷ xs) ys = ap (λ rest. x ∷ rest) (pick-all d xs _)
+
+merged-all : (m other : State) → merged (λ r. true) m other ≡ m
+merged-all m other = rw (pick-all (untouched Core) m.frames other.frames, pick-all empty_slot m.slots other.slots) refl
+
+-- states of one size that have the same parts are the same
+same-state : (m other : State) → IsSameSize m other → ((r : Resource) → part_of other r ≡ part_of m r) → other ≡ m
+same-state m other size parts = sym (merged-agrees (λ r. true) m other (record { size = size; parts = λ r yes. parts r })) ∙ merged-all m other
+
+size-at : (m : State) (calls : List Call) (k : ℕ) → IsSameSize m (state_at m calls k)
+size-at m calls zero = record { config = refl; frames = refl; slots = refl }
+size-at m calls (suc k) = sized-then m (state_at m calls k) (state_at m calls (suc k)) (size-at m calls k) (sized-next (state_at m calls k) (call_at calls k))
+
+-- two states of the size of a third are of one size
+size-between : (m a b : State) → IsSameSize m a → IsSameSize m b → IsSameSize a b
+size-between m a b ma mb = record { config = mb.config ∙ sym ma.config; frames = mb.frames ∙ sym ma.frames; slots = mb.slots ∙ sym ma.slots }
+
+module _ (m : State) (calls : List Call) (is : IsLawful m) (ranged : All IsRanged calls) where
+  -- the store has of each resource what the calls done so far leave
+  Holds : (ℕ → Bool) → State → Type 0
+  Holds done store = IsSameSize m store × ((r : Resource) → part_of store r ≡ left_by (footprint m calls) (part_at m calls) done (length calls) r)
+
+  still : (j : ℕ) (r : Resource) → j < length calls → footprint m calls j r ≡ false → part_at m calls (suc j) r ≡ part_at m calls j r
+  still j r lt outside = footprint-keeps m calls is (orderly-at m calls is (each-ranged calls ranged)) j lt r outside
+
+  due-step : (done : ℕ → Bool) (k : ℕ) (store : State) → IsDue (footprint m calls) (length calls) done k → Holds done store → IsStep m calls k store
+  unfolding Holds
+  due-step done k store due holds = is_stepping m calls is ranged k due.within store (record {
+    size = size-between m (state_at m calls k) store (size-at m calls k) holds.0;
+    parts = λ r here. holds.1 r ∙ due_finds (footprint m calls) (part_at m calls) (length calls) done k r still due here;
+  })
+
+  by_touch : (done : ℕ → Bool) (k : ℕ) (store : State) (r : Resource) → IsDue (footprint m calls) (length calls) done k → Holds done store → IsStep m calls k store → (b : Bool) → footprint m calls k r ≡ b
+      → part_of (next store (call_at calls k)).1 r ≡ left_by (footprint m calls) (part_at m calls) (with_number k done) (length calls) r
+  unfolding Holds
+  by_touch done k store r due holds step true touched = step.here.parts r touched ∙ sym (due_leaves (footprint m calls) (part_at m calls) (length calls) done k r due touched)
+  by_touch done k store r due holds step false outside = step.elsewhere r outside ∙ holds.1 r ∙ sym (due_keeps (footprint m calls) (part_at m calls) (length calls) done k r outside)
+
+  in_order : (order : List ℕ) (done : ℕ → Bool) (store : State) → IsReordering (footprint m calls) (length calls) done order → Holds done store
+      → AnswersAlike m calls store order × (after_order calls store order ≡ state_at m calls (length calls))
+  unfolding Holds
+  in_order [] done store all holds = (
+    tt,
+    same-state (state_at m calls (length calls)) store (size-between m (state_at m calls (length calls)) store (size-at m calls (length calls)) holds.0)
+        (λ r. holds.1 r ∙ all_done (footprint m calls) (part_at m calls) done (length calls) r (λ j lt t. all j lt) (λ j lt t. still j r lt t)),
+  )
+  in_order (k ∷ ks) done store due holds =
+      let step = due-step done k store due.0 holds in
+      let after = in_order ks (with_number k done) (next store (call_at calls k)).1 due.1
+      (sized-then m store (next store (call_at calls k)).1 holds.0 (sized-next store (call_at calls k)), λ r. by_touch done k store r due.0 holds step (footprint m calls k r) refl) in
+      ((step.reply, after.0), after.1)
+
+  pub reordered : (order : List ℕ) → IsReordering (footprint m calls) (length calls) (λ k. false) order → AnswersAlike m calls m order × (after_order calls m order ≡ state_after m calls)
+  unfolding Holds
+  reordered order fits =
+      let got = in_order order (λ k. false) m fits (size-at m calls zero, λ r. sym (rest (footprint m calls) (part_at m calls) (λ k. false) (length calls) zero r (omega arith) (λ j le lt t. refl))) in
+      (got.0, got.1 ∙ state_at-end m calls)
+
+pub is_order_free : IsOrderFree
+is_order_free m calls order is ranged fits = reordered m calls is ranged order fits
+
+pub is_wave_order_free : IsWaveOrderFree
+is_wave_order_free m calls wave order is ranged plan each = reordered m calls is ranged order (by_waves (footprint m calls) wave (length calls) (λ k. false) order plan each)

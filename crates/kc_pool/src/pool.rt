@@ -1,0 +1,100 @@
+//! The pool that a VM's leaf tables come from.
+ghost use Rattle.std.specs.Prelude.{◌≡◌, ℕ, ◌+◌, ◌*◌, ◌<◌, ◌≤◌, Option, Some, None, length, map, IfOk, MatchOption, vec_len};
+ghost use Rattle.kc_pool.specs.Pool.{Pool, IsPool, new_pool, entry_at, with_entry, with_leaf, emptied};
+
+use crate::LeafNo;
+use kc_types::{FrameNo, Memory};
+use std::alloc::Global;
+use std::marker::Model;
+
+/// Leaf tables of 512 entries each. They are handed out in order, and come back only all together.
+#[derive(Drop)]
+pub struct TablePool {
+    entries: Vec<Option<FrameNo>>,
+    taken: u8,
+    room: u8,
+}
+
+impl Model for TablePool {
+    ghost use Rattle.std.specs.Prelude.{◌≡◌, ◌*◌, ◌≤◌, vec_len};
+    ghost use Rattle.kc_pool.specs.Pool.{Pool, IsPool};
+
+    ghost Value = { Pool };
+
+    ghost view = { λ p. record { entries = p.entries.items; taken = p.taken; room = p.room } };
+
+    ghost invariant = { λ p. IsPool (record { entries = p.entries.items; taken = p.taken; room = p.room }) };
+}
+
+impl TablePool {
+    /// This many leaves, none of them taken, or `Memory` where a growth was refused. Nothing else takes memory.
+    #[tactic(auto, unfolding(crate::specs::Pool::no_entries))]
+    pub fn try_new(alloc: Global, leaves: u8) -> Result<TablePool, Memory>
+        requires { leaves ≤ 64 }
+        ensures value { IfOk result (λ pool. pool ≡ new_pool leaves) }
+        ensures kept { IfOk result IsPool }
+    {
+        Ok(TablePool {
+            entries: vec![in alloc; None; leaves as usize * 512]?,
+            taken: 0,
+            room: leaves,
+        })
+    }
+
+    /// How many leaves there are, taken or not.
+    pub fn room(&self) -> u8
+        ensures value { result ≡ self.now.room }
+        ensures kept { IsPool self.now }
+    {
+        self.room
+    }
+
+    /// The next leaf, which has no entries.
+    pub fn take_leaf(&mut self) -> Option<LeafNo>
+        ensures leaf { MatchOption result ((self.old.taken ≡ self.old.room) × (self.new ≡ self.old)) (λ leaf. (leaf ≡ self.old.taken) × (self.old.taken < self.old.room) × (self.new ≡ with_leaf self.old)) }
+        ensures kept { IsPool self.new }
+    {
+        if self.taken == self.room {
+            return None;
+        }
+        let leaf = LeafNo::of(self.taken);
+        self.taken += 1;
+        Some(leaf)
+    }
+
+    /// What stands at a place of a leaf that is taken.
+    pub fn entry(&self, leaf: LeafNo, at: usize) -> Option<FrameNo>
+        requires taken { leaf < self.now.taken }
+        requires within { at < 512 }
+        ensures { result ≡ entry_at self.now leaf at }
+    {
+        self.entries[leaf.index() * 512 + at]
+    }
+
+    /// Sets what stands at a place of a leaf that is taken.
+    pub fn set_entry(&mut self, leaf: LeafNo, at: usize, frame: Option<FrameNo>)
+        requires taken { leaf < self.old.taken }
+        requires within { at < 512 }
+        ensures value { self.new ≡ with_entry self.old leaf at frame }
+        ensures kept { IsPool self.new }
+    {
+        self.entries[leaf.index() * 512 + at] = frame;
+    }
+
+    /// All leaves come back.
+    pub fn reset(&mut self)
+        ensures value { self.new ≡ new_pool self.old.room }
+        ensures kept { IsPool self.new }
+    {
+        make_empty(&mut self.entries);
+        self.taken = 0;
+    }
+}
+
+fn make_empty(entries: &mut [Option<FrameNo>])
+    ensures { entries.new ≡ map emptied entries.old }
+{
+    for entry in entries.iter_mut() {
+        *entry = None;
+    }
+}

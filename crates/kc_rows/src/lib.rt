@@ -1,0 +1,13 @@
+//! Tests that cross crates: worked examples as tables, from the bytes of a trace to the bytes of its replies.
+#![tactic(auto)]
+
+#[cfg(test)]
+mod configurations;
+#[cfg(test)]
+mod copies;
+#[cfg(test)]
+mod ends;
+#[cfg(test)]
+mod support;
+#[cfg(test)]
+mod traces;

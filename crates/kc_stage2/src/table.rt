@@ -1,0 +1,113 @@
+//! The two levels, seen as a finite map.
+ghost use Rattle.std.specs.Prelude.{◌≡◌, ℕ, ◌/◌, ◌≤◌, IfOk, OnOk, OnErr};
+ghost use Rattle.std.specs.Ordering.{nat_cmp};
+ghost use Rattle.std.specs.FinMap as finite;
+ghost use Rattle.kc_stage2.specs.Table.{Table, new_table, with_entry, fits};
+ghost use Rattle.kc_stage2.specs.Faults.{Answers, fault_of};
+
+use crate::levels::Levels;
+use kc_types::{FrameNo, Gfn, Memory};
+use std::alloc::Global;
+use std::marker::Model;
+
+/// Why a guest frame can't be mapped. Each leaves the table as it was.
+#[derive(Clone, Copy, Debug, PartialEq, Eq)]
+pub enum MapFault {
+    Mapped,
+    TablesFull,
+}
+
+/// A VM's table, from guest frames to frames, and the root slots that have leaves, in the order in which they
+/// took them. After it was made it takes no memory.
+#[derive(Drop)]
+pub struct Stage2 {
+    levels: Levels,
+}
+
+impl Model for Stage2 {
+    ghost use Rattle.kc_stage2.specs.Table.{Table, table_code};
+
+    ghost Value = { Table };
+
+    ghost coded = { table_code };
+
+    ghost use Rattle.kc_stage2.specs.TwoLevels.{IsLevels, table_of};
+
+    ghost view = { λ t. table_of t.levels };
+
+    ghost invariant = { λ t. IsLevels t.levels };
+}
+
+impl Stage2 {
+    /// An empty table with room for this many leaves of 512 entries, or `Memory` where a growth was refused.
+    pub fn try_new(alloc: Global, leaves: u8) -> Result<Stage2, Memory>
+        requires { leaves ≤ 64 }
+        ensures { IfOk result (λ table. table ≡ new_table leaves) }
+    {
+        Ok(Stage2 {
+            levels: Levels::try_new(alloc, leaves)?,
+        })
+    }
+
+    /// The frame at a guest frame.
+    pub fn get(&self, gfn: Gfn) -> Option<FrameNo>
+        ensures { result ≡ finite.get self.now.mapped gfn }
+    {
+        let number = gfn.number() as usize;
+        let leaf = self.levels.leaf_at(number / 512)?;
+        self.levels.pool.entry(leaf, number % 512)
+    }
+
+    /// The root slots that have leaves, in the order in which they took them.
+    pub fn leaves(&self) -> &[u32]
+        ensures { result.now ≡ self.now.leaves }
+    {
+        self.levels.leaves.as_slice()
+    }
+
+    /// Whether the guest frame's root slot has a leaf or can take one.
+    pub fn fits(&self, gfn: Gfn) -> bool
+        ensures { result ≡ fits self.now gfn }
+    {
+        let slot = gfn.number() as usize / 512;
+        self.levels.leaf_at(slot).is_some()
+            || self.levels.leaves.len() < self.levels.pool.room() as usize
+    }
+
+    /// Maps a guest frame that isn't mapped yet. `Mapped` where it is, else `TablesFull` where its root slot has
+    /// no leaf and the pool has none left.
+    pub fn map(&mut self, gfn: Gfn, frame: FrameNo) -> Result<(), MapFault>
+        ensures answer { Answers result (fault_of self.old gfn) }
+        ensures ok { OnOk result (self.new ≡ with_entry self.old gfn frame) }
+        ensures err { OnErr result (self.new ≡ self.old) }
+    {
+        if self.get(gfn).is_some() {
+            return Err(MapFault::Mapped);
+        }
+        let number = gfn.number() as usize;
+        let Some(leaf) = self.levels.leaf_for(number / 512) else {
+            return Err(MapFault::TablesFull);
+        };
+        self.levels.pool.set_entry(leaf, number % 512, Some(frame));
+        Ok(())
+    }
+
+    /// Unmaps a guest frame, and answers the frame that was there. Its leaf stays taken.
+    pub fn unmap(&mut self, gfn: Gfn) -> Option<FrameNo>
+        ensures value { result ≡ finite.get self.old.mapped gfn }
+        ensures table { self.new ≡ record self.old { mapped = finite.remove self.old.mapped gfn } }
+    {
+        let number = gfn.number() as usize;
+        let leaf = self.levels.leaf_at(number / 512)?;
+        let frame = self.levels.pool.entry(leaf, number % 512);
+        self.levels.pool.set_entry(leaf, number % 512, None);
+        frame
+    }
+
+    /// All leaves go back to the pool.
+    pub fn clear(&mut self)
+        ensures { self.new ≡ new_table self.old.room }
+    {
+        self.levels.clear();
+    }
+}

@@ -1,0 +1,9 @@
+pub mod Numbers
+pub mod Digits
+pub mod Words
+pub mod Lines
+pub mod Spelled
+pub mod Runs
+pub mod Traces
+pub mod ConfigMembers
+pub mod BuiltCalls

@@ -1,0 +1,6 @@
+pub mod Spelling
+pub mod Reading
+pub mod Machine
+pub mod Trace
+pub mod ReplyText
+pub mod ConfigText

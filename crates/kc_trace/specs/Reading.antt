@@ -1,0 +1,111 @@
+-- What a line of words is read as.
+use Rattle.std.specs.Prelude.{◌+◌, ◌%◌, ◌^◌, ◌==◌, ◌&&◌, ◌||◌, not, nat_lt, nat_le, ℕ, Bool, List, [], ◌∷◌, length, slice_index, codes, Option, Some, None, option_map, option_and_then, if◌then◌else◌}
+use Rattle.std.specs.List.{list_all, slice_split}
+use Rattle.std.specs.Result.{result_ok}
+use Rattle.std.specs.Str.{bytes_eq}
+use Rattle.std.specs.Char.{is_ascii_digit}
+use Rattle.std.specs.Str.Parse.{digits_value}
+use Rattle.hex.specs.Hex.{decode_of}
+use Rattle.kc_types.specs.declared.call.Call.{Call}
+use Rattle.kc_types.specs.declared.call.Call.TheVariants.{Take, Give, HostFault, HostRead, HostWrite, RegisterVm, RegisterVcpu, SetBoot, Remap, Verify, Map, GuestRead, GuestWrite, Grant, Revoke, Drop, Clear}
+use Rattle.kc_model.specs.Built.{is_built}
+
+-- digits with no leading zero
+abbrev pub is_numeral : List ℕ → Bool
+is_numeral word = list_all is_ascii_digit word && not (length word == 0) && (length word == 1 || not (slice_index word 0 == 48))
+
+-- a number of 32 bits
+unfoldable pub number_of : List ℕ → Option ℕ
+number_of word = if is_numeral word && nat_lt (digits_value 10 word) (2 ^ 32) then Some (digits_value 10 word) else None
+
+-- a lower case hexadecimal digit
+abbrev pub is_lower_digit : ℕ → Bool
+is_lower_digit c = (nat_le 48 c && nat_le c 57) || (nat_le 97 c && nat_le c 102)
+
+-- the value of a lower case digit
+abbrev pub digit_value : ℕ → ℕ
+digit_value c = if nat_lt c 97 then c % 16 else (c % 16 + 9) % 16
+
+-- from 1 to 8,192 lower case digits
+abbrev pub is_data_word : List ℕ → Bool
+is_data_word word = list_all is_lower_digit word && not (length word == 0) && nat_le (length word) 8192
+
+-- from 1 to 4,096 bytes, in lower case digits
+unfoldable pub data_of : List ℕ → Option (List ℕ)
+data_of word = if is_data_word word then result_ok (decode_of word) else None
+
+-- ---- a name and so many numbers
+
+abbrev pub one_word : List ℕ → Option Call
+one_word name = if bytes_eq name (codes "take") then Some Take else None
+
+abbrev pub with_one_number : List ℕ → ℕ → Option Call
+with_one_number name number =
+    if bytes_eq name (codes "give") then Some (Give number)
+    else if bytes_eq name (codes "hfault") then Some (HostFault number)
+    else if bytes_eq name (codes "regvm") then Some (RegisterVm number)
+    else if bytes_eq name (codes "verify") then Some (Verify number)
+    else if bytes_eq name (codes "clear") then Some (Clear number)
+    else None
+
+abbrev pub with_two_numbers : List ℕ → ℕ → ℕ → Option Call
+with_two_numbers name first second = if bytes_eq name (codes "regvcpu") then Some (RegisterVcpu first second) else None
+
+abbrev pub with_three_numbers : List ℕ → ℕ → ℕ → ℕ → Option Call
+with_three_numbers name first second third =
+    if bytes_eq name (codes "hread") then Some (HostRead first second third)
+    else if bytes_eq name (codes "setboot") then Some (SetBoot first second third)
+    else if bytes_eq name (codes "remap") then Some (Remap first second third)
+    else if bytes_eq name (codes "map") then Some (Map first second third)
+    else if bytes_eq name (codes "grant") then Some (Grant first second third)
+    else if bytes_eq name (codes "revoke") then Some (Revoke first second third)
+    else if bytes_eq name (codes "drop") then Some (Drop first second third)
+    else None
+
+-- two numbers, and a number or bytes
+abbrev pub host_access : List ℕ → ℕ → ℕ → List ℕ → Option Call
+host_access name first second last =
+    if bytes_eq name (codes "hwrite") then option_map (HostWrite first second) (data_of last)
+    else option_and_then (with_three_numbers name first second) (number_of last)
+
+-- four numbers, and a number or bytes
+abbrev pub guest_access : List ℕ → ℕ → ℕ → ℕ → ℕ → List ℕ → Option Call
+guest_access name vm vcpu gfn offset last =
+    if bytes_eq name (codes "gwrite") then option_map (GuestWrite vm vcpu gfn offset) (data_of last)
+    else if bytes_eq name (codes "gread") then option_map (GuestRead vm vcpu gfn offset) (number_of last)
+    else None
+
+-- ---- a name and so many words
+
+abbrev pub two_words : List ℕ → List ℕ → Option Call
+two_words name first = option_and_then (with_one_number name) (number_of first)
+
+abbrev pub three_words : List ℕ → List ℕ → List ℕ → Option Call
+three_words name first second =
+    option_and_then (λ a. option_and_then (with_two_numbers name a) (number_of second)) (number_of first)
+
+abbrev pub four_words : List ℕ → List ℕ → List ℕ → List ℕ → Option Call
+four_words name first second third =
+    option_and_then (λ a. option_and_then (λ b. host_access name a b third) (number_of second)) (number_of first)
+
+abbrev pub six_words : List ℕ → List ℕ → List ℕ → List ℕ → List ℕ → List ℕ → Option Call
+six_words name first second third fourth fifth =
+    option_and_then (λ a. option_and_then (λ b. option_and_then (λ c. option_and_then (λ d. guest_access name a b c d fifth) (number_of fourth)) (number_of third)) (number_of second)) (number_of first)
+
+-- by the number of words, and then by the name
+unfoldable pub call_of_words : List (List ℕ) → Option Call
+call_of_words (name ∷ []) = one_word name
+call_of_words (name ∷ first ∷ []) = two_words name first
+call_of_words (name ∷ first ∷ second ∷ []) = three_words name first second
+call_of_words (name ∷ first ∷ second ∷ third ∷ []) = four_words name first second third
+call_of_words (name ∷ first ∷ second ∷ third ∷ fourth ∷ fifth ∷ []) = six_words name first second third fourth fifth
+call_of_words _ = None
+
+-- a call that is not built yet is none
+abbrev pub when_built : Option Call → Option Call
+when_built None = None
+when_built (Some call) = if is_built call then Some call else None
+
+-- the call that a line is, without its newline
+abbrev pub call_of : List ℕ → Option Call
+call_of line = when_built (call_of_words (slice_split (λ b. b == 32) line))

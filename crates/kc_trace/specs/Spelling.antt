@@ -1,0 +1,43 @@
+-- How each call is spelled.
+use Rattle.std.specs.Prelude.{ℕ, List, [], ◌∷◌, ◌++◌, codes}
+use Rattle.std.specs.List.{flat_map, join_with_byte}
+use Rattle.std.specs.Fmt.{decimal}
+use Rattle.hex.specs.Hex.{encode_lower}
+use Rattle.kc_types.specs.declared.call.Call.{Call}
+use Rattle.kc_types.specs.declared.call.Call.TheVariants.{Take, Give, HostFault, HostRead, HostWrite, RegisterVm, RegisterVcpu, SetBoot, Remap, Verify, Map, GuestRead, GuestWrite, Grant, Revoke, Drop, Clear}
+
+-- the words of a call's line: its name, its numbers, and the bytes that it writes
+abbrev pub words_of : Call → List (List ℕ)
+words_of Take = codes "take" ∷ []
+words_of (Give frame) = codes "give" ∷ decimal frame ∷ []
+words_of (HostFault frame) = codes "hfault" ∷ decimal frame ∷ []
+words_of (HostRead frame offset len) = codes "hread" ∷ decimal frame ∷ decimal offset ∷ decimal len ∷ []
+words_of (HostWrite frame offset bytes) = codes "hwrite" ∷ decimal frame ∷ decimal offset ∷ encode_lower bytes ∷ []
+words_of (RegisterVm vm) = codes "regvm" ∷ decimal vm ∷ []
+words_of (RegisterVcpu vm vcpu) = codes "regvcpu" ∷ decimal vm ∷ decimal vcpu ∷ []
+words_of (SetBoot vm base len) = codes "setboot" ∷ decimal vm ∷ decimal base ∷ decimal len ∷ []
+words_of (Remap vm image frame) = codes "remap" ∷ decimal vm ∷ decimal image ∷ decimal frame ∷ []
+words_of (Verify vm) = codes "verify" ∷ decimal vm ∷ []
+words_of (Map vm vcpu frame) = codes "map" ∷ decimal vm ∷ decimal vcpu ∷ decimal frame ∷ []
+words_of (GuestRead vm vcpu gfn offset len) = codes "gread" ∷ decimal vm ∷ decimal vcpu ∷ decimal gfn ∷ decimal offset ∷ decimal len ∷ []
+words_of (GuestWrite vm vcpu gfn offset bytes) = codes "gwrite" ∷ decimal vm ∷ decimal vcpu ∷ decimal gfn ∷ decimal offset ∷ encode_lower bytes ∷ []
+words_of (Grant vm vcpu gfn) = codes "grant" ∷ decimal vm ∷ decimal vcpu ∷ decimal gfn ∷ []
+words_of (Revoke vm vcpu gfn) = codes "revoke" ∷ decimal vm ∷ decimal vcpu ∷ decimal gfn ∷ []
+words_of (Drop vm vcpu gfn) = codes "drop" ∷ decimal vm ∷ decimal vcpu ∷ decimal gfn ∷ []
+words_of (Clear vm) = codes "clear" ∷ decimal vm ∷ []
+
+-- the line of a call, without its newline
+abbrev pub line_of : Call → List ℕ
+line_of call = join_with_byte 32 (words_of call)
+
+-- the lines of some calls, each with its newline
+abbrev pub lines_of : List Call → List ℕ
+lines_of calls = flat_map (λ call. line_of call ++ 10 ∷ []) calls
+
+-- the first line of each trace, with its newline
+abbrev pub header : List ℕ
+header = codes "kcore-trace 1" ++ 10 ∷ []
+
+-- the one spelling of a list of calls
+abbrev pub trace_of : List Call → List ℕ
+trace_of calls = header ++ lines_of calls

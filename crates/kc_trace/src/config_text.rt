@@ -1,0 +1,181 @@
+//! Reading the text of a configuration.
+ghost use Rattle.std.specs.Prelude.{◌≡◌, IfOk, option_map};
+ghost use Rattle.serde_json.specs.View.{view, items_view};
+ghost use Rattle.serde_json.specs.Find.{as_object};
+ghost use Rattle.kc_trace.specs.ConfigText.{value_in, number_in, digest_in, digests_in, member_count, fields_in, shape_in, configured, config_in, Gives};
+
+use hex::FromHex;
+use kc_types::{Config, ConfigFault};
+use serde_json::Value;
+use serde_json::error::Category;
+use std::alloc::{AllocError, Global};
+use std::marker::Model;
+use thiserror::Error;
+
+/// Why a text is no configuration.
+#[derive(Clone, Copy, Debug, PartialEq, Eq, Error)]
+pub enum ConfigTextFault {
+    /// The bytes are not UTF-8 or not JSON, or arrays and objects nest deeper than 127.
+    #[error("configuration is not JSON")]
+    NotJson,
+    /// A JSON value that is no object of the five keys, or with another kind of value under one of them.
+    #[error("configuration has a wrong shape")]
+    BadShape,
+    /// There is no configuration of these numbers and digests.
+    #[error("configuration refused: {0}")]
+    Config(ConfigFault),
+    /// A growth of memory was refused.
+    #[error("out of memory")]
+    Memory,
+}
+
+/// What an object of the five keys holds, before it is judged.
+#[derive(Drop)]
+struct Fields {
+    frames: u32,
+    core: u32,
+    host: u32,
+    leaves: u32,
+    approved: Vec<[u8; 32]>,
+}
+
+impl Model for Fields {
+    ghost use Rattle.kc_types.specs.Configuration.{Configuration};
+
+    ghost Value = { Configuration };
+
+    ghost view = { λ f. record { frames = f.frames; core = f.core; host = f.host; leaves = f.leaves; approved = f.approved.items } };
+}
+
+impl Fields {
+    /// The fields under their keys, whatever other keys there are.
+    fn of_members(alloc: Global, value: &Value) -> Result<Option<Fields>, AllocError>
+        ensures { IfOk result (λ found. found ≡ fields_in (view value.now)) }
+    {
+        let Some(frames) = number_under(value, "frames") else {
+            return Ok(None);
+        };
+        let Some(core) = number_under(value, "core") else {
+            return Ok(None);
+        };
+        let Some(host) = number_under(value, "host") else {
+            return Ok(None);
+        };
+        let Some(leaves) = number_under(value, "leaves") else {
+            return Ok(None);
+        };
+        let Some(values) = value.get("approved").and_then(Value::as_array) else {
+            return Ok(None);
+        };
+        let Some(approved) = digests_of(alloc, values)? else {
+            return Ok(None);
+        };
+        Ok(Some(Fields {
+            frames,
+            core,
+            host,
+            leaves,
+            approved,
+        }))
+    }
+
+    /// The fields of an object that has these keys and no others.
+    fn of_value(alloc: Global, value: &Value) -> Result<Option<Fields>, AllocError>
+        ensures { IfOk result (λ found. found ≡ shape_in (view value.now)) }
+    {
+        if count_members(value) != Some(5) {
+            return Ok(None);
+        }
+        Fields::of_members(alloc, value)
+    }
+
+    fn into_config(self) -> Result<Config, ConfigTextFault>
+        ensures { Gives result (configured self) }
+    {
+        match Config::try_new(
+            self.frames,
+            self.core,
+            self.host,
+            self.leaves,
+            self.approved,
+        ) {
+            Ok(config) => Ok(config),
+            Err(fault) => Err(ConfigTextFault::Config(fault)),
+        }
+    }
+}
+
+fn number_under(value: &Value, key: &str) -> Option<u32>
+    ensures { result ≡ number_in key.now (view value.now) }
+{
+    value.get(key)?.as_u64()?.try_into().ok()
+}
+
+fn digest_of(value: &Value) -> Option<[u8; 32]>
+    ensures { result ≡ digest_in (view value.now) }
+{
+    <[u8; 32] as FromHex>::from_hex(value.as_str()?).ok()
+}
+
+fn digests_of(alloc: Global, values: &[Value]) -> Result<Option<Vec<[u8; 32]>>, AllocError>
+    ensures { IfOk result (λ found. option_map (λ digests. digests.items) found ≡ digests_in (items_view values.now)) }
+{
+    let mut digests = Vec::new(alloc);
+    for value in values {
+        let Some(digest) = digest_of(value) else {
+            return Ok(None);
+        };
+        digests.push(digest)?;
+    }
+    Ok(Some(digests))
+}
+
+/// The number of members, where the value is an object.
+fn count_members(value: &Value) -> Option<usize>
+    ensures { result ≡ option_map member_count (as_object (view value.now)) }
+{
+    match value.as_object() {
+        Some(members) => Some(members.len()),
+        None => None,
+    }
+}
+
+/// The value that bytes are, or `None` where they are not JSON.
+fn value_of(alloc: Global, bytes: &[u8]) -> Result<Option<Value>, AllocError>
+    ensures { IfOk result (λ found. option_map view found ≡ value_in bytes.now) }
+{
+    match Value::from_slice(alloc, bytes) {
+        Ok(value) => Ok(Some(value)),
+        Err(error) => match error.classify() {
+            Category::Memory => Err(AllocError),
+            _ => Ok(None),
+        },
+    }
+}
+
+/// The configuration that a JSON text says: an object of exactly the keys `frames`, `core`, `host` and `leaves`
+/// with whole numbers of 32 bits, and `approved` with an array of texts of 64 hexadecimal digits each, upper or
+/// lower case. Of a key that stands twice the last value counts. A number with a fraction or an exponent is no
+/// whole number.
+#[tactic(auto, unfolding(crate::specs::ConfigText::config_in))]
+pub fn read_config(alloc: Global, bytes: &[u8]) -> Result<Config, ConfigTextFault>
+    // The configuration or the fault of the text, unless memory runs out.
+    ensures exact { Gives result (config_in bytes.now) }
+{
+    let Ok(value) = value_of(alloc, bytes) else {
+        return Err(ConfigTextFault::Memory);
+    };
+    let Some(value) = value else {
+        return Err(ConfigTextFault::NotJson);
+    };
+    let Ok(fields) = Fields::of_value(alloc, &value) else {
+        return Err(ConfigTextFault::Memory);
+    };
+    let Some(fields) = fields else {
+        return Err(ConfigTextFault::BadShape);
+    };
+    fields.into_config()
+}
+
+#[cfg(test)]
+mod tests;

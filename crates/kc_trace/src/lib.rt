@@ -1,0 +1,20 @@
+//! Texts in and out: traces of calls, whole or in pieces, and replies.
+#![tactic(auto)]
+
+mod config_text;
+mod data_word;
+mod fault;
+pub mod laws;
+mod line;
+mod number;
+mod reader;
+mod reply_writer;
+#[cfg(test)]
+mod tests;
+mod writer;
+
+pub use config_text::{ConfigTextFault, read_config};
+pub use fault::TraceFault;
+pub use reader::{TraceReader, read_trace};
+pub use reply_writer::write_replies;
+pub use writer::write_trace;

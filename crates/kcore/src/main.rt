@@ -1,0 +1,93 @@
+//! The program: words, files and standard streams around the engines of `kc_cli`.
+#![tactic(auto)]
+
+use kc_cli::{ArgFault, Job, Mem, Std, TextFault, job_of, replay_text, tell};
+use std::env;
+use std::fs::File;
+use std::io::{Error, ErrorKind};
+use std::process::ExitCode;
+
+/// The configuration where no file is named: 8 frames, of which the first is the core's and the next four are
+/// the host's, one leaf table a VM, and the digest of `abc` approved.
+const DEFAULT_CONFIG: &[u8; 122] = b"{\"frames\":8,\"core\":1,\"host\":4,\"leaves\":1,\"approved\":[\"ba7816bf8f01cfea414140de5dae2223b00361a396177a9cb410ff61f20015ad\"]}\n";
+
+/// Writes the fault's line on standard error, and answers the exit status.
+fn fail(rt: &HostRuntime, fault: TextFault) -> u8 {
+    tell(&fault, &mut Std::new(rt.stderr()))
+}
+
+/// Replays the trace on standard input onto standard output, and answers the exit status.
+fn replay(rt: &HostRuntime, config: Option<&str>) -> u8 {
+    let alloc = rt.alloc();
+    let mut trace = Std::new(rt.stdin());
+    let mut out = Std::new(rt.stdout());
+    let outcome = match config {
+        Some(path) => {
+            let Ok(file) = File::open(rt, path) else {
+                return fail(rt, TextFault::Read);
+            };
+            replay_text(alloc, &mut Std::new(file), &mut trace, &mut out, 1)
+        },
+        None => {
+            let Ok(bytes) = Vec::from_slice(alloc, DEFAULT_CONFIG) else {
+                return fail(rt, TextFault::Memory);
+            };
+            replay_text(alloc, &mut Mem::with_bytes(bytes), &mut trace, &mut out, 1)
+        },
+    };
+    match outcome {
+        Ok(()) => 0,
+        Err(fault) => fail(rt, fault),
+    }
+}
+
+/// Prints what stands in place of a job, and answers the exit status.
+fn refuse(rt: &HostRuntime, fault: ArgFault) -> u8 {
+    match fault {
+        ArgFault::Memory => fail(rt, TextFault::Memory),
+        ArgFault::Words(text, 0) => {
+            if rt.print(text).is_err() {
+                return fail(rt, TextFault::Write);
+            }
+            0
+        },
+        ArgFault::Words(text, status) => {
+            let _ = rt.eprint(text);
+            status
+        },
+    }
+}
+
+/// Says why the words can't be read, and answers the exit status.
+fn refuse_words(rt: &HostRuntime, error: &Error) -> u8 {
+    if error.kind() == ErrorKind::OutOfMemory {
+        return fail(rt, TextFault::Memory);
+    }
+    let _ = rt.eprint("error: a word is not UTF-8\n");
+    2
+}
+
+fn run(rt: &HostRuntime) -> u8 {
+    let arguments = match env::args(rt) {
+        Ok(arguments) => arguments,
+        Err(error) => return refuse_words(rt, &error),
+    };
+    let Ok(words) = arguments.skip(1).collect::<Vec<String>>(rt.alloc()) else {
+        return fail(rt, TextFault::Memory);
+    };
+    let Ok(words) = words
+        .iter()
+        .map(String::as_str)
+        .collect::<Vec<&str>>(rt.alloc())
+    else {
+        return fail(rt, TextFault::Memory);
+    };
+    match job_of(rt.alloc(), words.as_slice()) {
+        Ok(Job::Replay { config }) => replay(rt, config),
+        Err(fault) => refuse(rt, fault),
+    }
+}
+
+fn main(rt: HostRuntime) -> ExitCode {
+    ExitCode::from(run(&rt))
+}
