@@ -20,7 +20,7 @@ use kc_types::{Call, Config, FrameNo, Memory, Owner, Reply};
 use std::alloc::Global;
 use std::marker::Model;
 
-/// The core.
+/// The trusted core, seen as its state. Every value of it is lawful, and no call makes it otherwise.
 #[derive(Drop)]
 pub struct KCore {
     store: Store,
@@ -44,16 +44,20 @@ impl Model for KCore {
     ghost invariant = { λ k. IsLawful (state_of k.store) };
 }
 
-/// Where a run met want of memory: the calls that are done, and their replies.
+/// Where a run met want of memory.
 #[derive(Drop)]
 pub struct RunStop {
+    /// How many calls of the trace are done.
     pub done: usize,
+    /// Their replies, in order.
     pub replies: Vec<Reply>,
 }
 
 impl KCore {
-    /// The core as it starts.
+    /// The core in the boot state of its configuration, with all its frames made and zeroed; `Memory` where a
+    /// growth was refused.
     pub fn boot(alloc: Global, config: Config) -> Result<KCore, Memory>
+        // No clause can rule out want of memory: tests boot cores.
         ensures { IfOk result (λ core. core ≡ boot config) }
     {
         Ok(KCore {
@@ -61,7 +65,8 @@ impl KCore {
         })
     }
 
-    /// Answers a call.
+    /// Answers a call: with the first refusal that applies, and then nothing has changed, or with its effect.
+    /// `Memory` where a growth was refused, and then nothing has changed either.
     pub fn call(&mut self, call: &Call) -> Result<Reply, Memory>
         requires { IsBuilt call.now }
         ensures reply { IfOk result (λ reply. reply ≡ (next self.old call.now).0) }
@@ -74,13 +79,14 @@ impl KCore {
         self.store.call(call)
     }
 
-    /// Answers a trace, call by call.
+    /// Answers a trace, call by call, and gives the replies in order.
     pub fn run(&mut self, alloc: Global, calls: &[Call]) -> Result<Vec<Reply>, RunStop>
         requires { AllByRecursion IsBuilt calls.now }
         ensures safe { IsSafe self.old calls.now }
         ensures blind { IfOk result (λ replies. ShowsNothing self.old calls.now replies.items self.new) }
         ensures replies { IfOk result (λ replies. replies.items ≡ replies_from self.old calls.now) }
         ensures state { OnOk result (self.new ≡ state_after self.old calls.now) }
+        // Such a stop comes for want of memory alone, which no clause can rule out: tests run to the end.
         ensures stop { IfErr result (λ stop. StopsAfter self.old calls.now stop.done stop.replies.items self.new) }
     {
         let _store = &self.store;
@@ -129,6 +135,7 @@ impl KCore {
     /// The frames of an owner: free frames and a VM's in the order of their list, the core's and the host's by
     /// rising number. `Memory` where a growth was refused.
     pub fn frames_of(&self, owner: Owner) -> Result<Vec<FrameNo>, Memory>
+        // No clause can rule out want of memory: a test lists frames.
         ensures { IfOk result (λ frames. frames.items ≡ frames_of self.now owner) }
     {
         self.store.frames_of(owner)

@@ -83,6 +83,7 @@ impl Store {
     ghost use Rattle.kc_page.specs.Pages.{IsRecordOf};
 
     pub fn boot(alloc: Global, config: Config) -> Result<Store, Memory>
+        // No clause can rule out want of memory, here and in the lists of frames below: tests boot and list.
         ensures state { IfOk result (λ store. state_of store ≡ boot config) }
         ensures config { OnOk result (IsConfiguration config) }
     {

@@ -18,6 +18,7 @@ fn point_forward<S: LinkStore>(
     requires { Holds (S.links store.old) at }
     ensures links { S.links store.new ≡ pointing_forward (S.links store.old) at next }
     ensures ends { ends.new ≡ starting ends.old at next }
+    ensures rest { S.same_rest store.old store.new }
 {
     match at {
         Some(frame) => {
@@ -44,6 +45,7 @@ fn point_back<S: LinkStore>(
     requires { Holds (S.links store.old) at }
     ensures links { S.links store.new ≡ pointing_back (S.links store.old) at prev }
     ensures ends { ends.new ≡ stopping ends.old at prev }
+    ensures rest { S.same_rest store.old store.new }
 {
     match at {
         Some(frame) => {
@@ -68,6 +70,7 @@ pub fn append<S: LinkStore>(store: &mut S, ends: &mut Ends, frame: FrameNo)
     ensures list { IsList (S.links store.new) ends.new }
     ensures frames { listed (S.links store.new) ends.new ≡ listed (S.links store.old) ends.old ++ frame ∷ [] }
     ensures others { KeepsOthers (S.links store.old) (S.links store.new) (listed (S.links store.old) ends.old ++ frame ∷ []) }
+    ensures rest { S.same_rest store.old store.new }
 {
     let link = Link {
         prev: ends.tail,
@@ -87,6 +90,7 @@ pub fn unlink<S: LinkStore>(store: &mut S, ends: &mut Ends, frame: FrameNo)
     ensures frames { listed (S.links store.new) ends.new ≡ without (listed (S.links store.old) ends.old) frame }
     ensures alone { S.links store.new frame ≡ Some unlinked }
     ensures others { KeepsOthers (S.links store.old) (S.links store.new) (listed (S.links store.old) ends.old) }
+    ensures rest { S.same_rest store.old store.new }
 {
     let link = store.link(frame).unwrap();
     point_forward(store, ends, link.prev, link.next);
@@ -102,6 +106,7 @@ pub fn pop_front<S: LinkStore>(store: &mut S, ends: &mut Ends) -> Option<FrameNo
     ensures frames { MatchOption result ((listed (S.links store.old) ends.old ≡ []) × (listed (S.links store.new) ends.new ≡ [])) (λ frame. listed (S.links store.old) ends.old ≡ frame ∷ listed (S.links store.new) ends.new) }
     ensures alone { IfSome result (λ frame. S.links store.new frame ≡ Some unlinked) }
     ensures others { KeepsOthers (S.links store.old) (S.links store.new) (listed (S.links store.old) ends.old) }
+    ensures rest { S.same_rest store.old store.new }
 {
     let frame = ends.head?;
     unlink(store, ends, frame);
@@ -117,6 +122,7 @@ pub fn splice<S: LinkStore>(store: &mut S, to: &mut Ends, from: &mut Ends)
     ensures frames { listed (S.links store.new) to.new ≡ listed (S.links store.old) to.old ++ listed (S.links store.old) from.old }
     ensures emptied { from.new ≡ record { head = None; tail = None; count = 0 } }
     ensures others { KeepsOthers (S.links store.old) (S.links store.new) (listed (S.links store.old) to.old ++ listed (S.links store.old) from.old) }
+    ensures rest { S.same_rest store.old store.new }
 {
     if let Some(first) = from.head {
         let joint = Link {

@@ -10,15 +10,24 @@ pub trait LinkStore {
     /// The links, of the frames that are here.
     ghost links: { Self → Links };
 
+    /// Two stores are the same but for their links.
+    ghost same_rest: { Self → Self → Type 0 };
+
     /// The link of a frame, or `None` where the frame is not here.
     fn link(&self, frame: FrameNo) -> Option<Link>
         ensures { result ≡ links self.now frame };
 
-    /// Sets the link of a frame that is here.
+    /// Sets the link of a frame that is here, and changes nothing else.
     fn set_link(&mut self, frame: FrameNo, link: Link)
         requires { IsSome (links self.old frame) }
-        ensures { links self.new ≡ with_link (links self.old) frame link };
+        ensures links { links self.new ≡ with_link (links self.old) frame link }
+        ensures rest { same_rest self.old self.new };
 
     /// Only frames have links.
     ghost within: { (store : Self) (f : ℕ) → IsSome (links store f) → f < frame_limit };
+
+    /// A store is the same as itself, and as what a store like it is the same as.
+    ghost rest_kept: { (store : Self) → same_rest store store };
+
+    ghost rest_through: { (old mid new : Self) → same_rest old mid → same_rest mid new → same_rest old new };
 }

@@ -26,6 +26,7 @@ impl PageBytes {
     /// A page of zero bytes, or `Memory` where a growth was refused.
     #[tactic(auto, unfolding(kc_model::specs::State::zero_page))]
     pub fn zeroed(alloc: Global) -> Result<PageBytes, Memory>
+        // No clause can rule out want of memory: tests make pages.
         ensures { IfOk result (λ page. page ≡ zero_page) }
     {
         Ok(PageBytes {
@@ -45,6 +46,7 @@ impl PageBytes {
     pub fn read(&self, alloc: Global, offset: usize, len: usize) -> Result<Data, Memory>
         requires some { 0 < len }
         requires within { offset + len ≤ page_size }
+        // No clause can rule out want of memory: tests read bytes.
         ensures { IfOk result (λ bytes. bytes ≡ slice_range self.now offset (offset + len)) }
     {
         let bytes = self.bytes[offset..offset + len].to_vec(alloc)?;

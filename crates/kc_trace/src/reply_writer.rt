@@ -47,6 +47,7 @@ fn push_reply(alloc: Global, text: &mut String, reply: &Reply) -> Result<(), All
 
 /// The text of some replies: a line for each, in order, each ended by a newline, with no header.
 pub fn write_replies(alloc: Global, replies: &[Reply]) -> Result<Vec<u8>, Memory>
+    // No clause can rule out want of memory: tests write replies.
     ensures { IfOk result (λ text. text.items ≡ reply_text_of replies.now) }
 {
     let mut text = String::new(alloc);

@@ -83,6 +83,7 @@ fn push_call(alloc: Global, text: &mut String, call: &Call) -> Result<(), AllocE
 /// newline.
 pub fn write_trace(alloc: Global, calls: &[Call]) -> Result<Vec<u8>, Memory>
     requires { length calls.now ≤ call_limit }
+    // No clause can rule out want of memory: tests write traces.
     ensures { IfOk result (λ text. text.items ≡ trace_of calls.now) }
 {
     let mut text = String::from_str(alloc, "kcore-trace 1\n")?;

@@ -127,6 +127,7 @@ pub fn actor_of(call: &Call) -> Actor
 impl Call {
     /// A copy, or `Memory` where a growth was refused.
     pub fn copy(&self) -> Result<Call, Memory>
+        // No clause can rule out want of memory: a test makes a copy.
         ensures { IfOk result (λ made. made ≡ self.now) }
     {
         Ok(match self {

@@ -9,7 +9,8 @@ use std::process::ExitCode;
 
 /// The configuration where no file is named: 8 frames, of which the first is the core's and the next four are
 /// the host's, one leaf table a VM, and the digest of `abc` approved.
-const DEFAULT_CONFIG: &[u8; 122] = b"{\"frames\":8,\"core\":1,\"host\":4,\"leaves\":1,\"approved\":[\"ba7816bf8f01cfea414140de5dae2223b00361a396177a9cb410ff61f20015ad\"]}\n";
+const DEFAULT_CONFIG: &[u8; 122] =
+    b"{\"frames\":8,\"core\":1,\"host\":4,\"leaves\":1,\"approved\":[\"ba7816bf8f01cfea414140de5dae2223b00361a396177a9cb410ff61f20015ad\"]}\n";
 
 /// Writes the fault's line on standard error, and answers the exit status.
 fn fail(rt: &HostRuntime, fault: TextFault) -> u8 {

@@ -1,4 +1,4 @@
-use Rattle.std.proofs.Common.{◌≡◌, ◌∙◌, ◌++◌, length, take, refl, arith, inr, length-append, [], Ok, Err, sym, rules}
+use Rattle.std.proofs.Common.{◌≡◌, ◌++◌, length, take, refl, arith, inr, length-append, [], rules}
 use Rattle.std.proofs.lemmas.List.{length-take}
 use Rattle.std.proofs.KnownBytes.{Consumes-nil, Consumes-trans}
 use Rattle.kc_trace.specs.Machine.{start}

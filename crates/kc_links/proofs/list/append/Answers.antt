@@ -16,17 +16,17 @@ overflow_add-ends g c =
 
 pub returns-clause-list : goal.returns-clause-list
 returns-clause-list g c = leaves-list (links_appended (g.S.LinkStore.links c.args.store.now) c.args.ends.now c.args.frame) _ (ends_appended c.args.ends.now c.args.frame) _ _
-    (c.set_link.ensures ∙ ap (λ links. with_link links c.args.frame (record { prev = c.args.ends.now.tail; next = None })) c.point_forward.ensures.links)
+    (c.set_link.ensures.links ∙ ap (λ links. with_link links c.args.frame (record { prev = c.args.ends.now.tail; next = None })) c.point_forward.ensures.links)
     (ap (λ (ends : Ends). record ends { tail = Some c.args.frame; count = ends.count + 1 }) c.point_forward.ensures.ends)
     (chain-append _ _ _ c.args.frame c.requires.list c.requires.apart)
 
 pub returns-clause-frames : goal.returns-clause-frames
 returns-clause-frames g c = leaves-frames (links_appended (g.S.LinkStore.links c.args.store.now) c.args.ends.now c.args.frame) _ (ends_appended c.args.ends.now c.args.frame) _ _
-    (c.set_link.ensures ∙ ap (λ links. with_link links c.args.frame (record { prev = c.args.ends.now.tail; next = None })) c.point_forward.ensures.links)
+    (c.set_link.ensures.links ∙ ap (λ links. with_link links c.args.frame (record { prev = c.args.ends.now.tail; next = None })) c.point_forward.ensures.links)
     (ap (λ (ends : Ends). record ends { tail = Some c.args.frame; count = ends.count + 1 }) c.point_forward.ensures.ends)
     (chain-append _ _ _ c.args.frame c.requires.list c.requires.apart)
 
 pub returns-clause-others : goal.returns-clause-others
 returns-clause-others g c other none =
-    ap (λ links. links other) (c.set_link.ensures ∙ ap (λ links. with_link links c.args.frame (record { prev = c.args.ends.now.tail; next = None })) c.point_forward.ensures.links)
+    ap (λ links. links other) (c.set_link.ensures.links ∙ ap (λ links. with_link links c.args.frame (record { prev = c.args.ends.now.tail; next = None })) c.point_forward.ensures.links)
     ∙ append-others _ _ c.args.frame c.requires.list other none

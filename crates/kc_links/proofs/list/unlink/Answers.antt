@@ -17,17 +17,17 @@ point_back-requires g c = rw c.point_forward.ensures.links (next-held _ _ c.args
 
 pub returns-clause-list : goal.returns-clause-list
 returns-clause-list g c = let link = c.unwrap-link.result in leaves-list (links_unlinked (g.S.LinkStore.links c.args.store.now) c.args.frame link) _ (ends_unlinked c.args.ends.now link) _ _
-    (c.set_link.ensures ∙ ap (λ links. with_link links c.args.frame unlinked) (c.point_back.ensures.links ∙ ap (λ links. pointing_back links link.next link.prev) c.point_forward.ensures.links))
+    (c.set_link.ensures.links ∙ ap (λ links. with_link links c.args.frame unlinked) (c.point_back.ensures.links ∙ ap (λ links. pointing_back links link.next link.prev) c.point_forward.ensures.links))
     (ap (λ (ends : Ends). record ends { count = ends.count - 1 }) (c.point_back.ensures.ends ∙ ap (λ (ends : Ends). stopping ends link.next link.prev) c.point_forward.ensures.ends))
     (list-unlink _ _ c.args.frame link c.requires.list c.requires.inside (sym c.link.ensures ∙ c.unwrap-link.ensures))
 
 pub returns-clause-frames : goal.returns-clause-frames
 returns-clause-frames g c = let link = c.unwrap-link.result in leaves-frames (links_unlinked (g.S.LinkStore.links c.args.store.now) c.args.frame link) _ (ends_unlinked c.args.ends.now link) _ _
-    (c.set_link.ensures ∙ ap (λ links. with_link links c.args.frame unlinked) (c.point_back.ensures.links ∙ ap (λ links. pointing_back links link.next link.prev) c.point_forward.ensures.links))
+    (c.set_link.ensures.links ∙ ap (λ links. with_link links c.args.frame unlinked) (c.point_back.ensures.links ∙ ap (λ links. pointing_back links link.next link.prev) c.point_forward.ensures.links))
     (ap (λ (ends : Ends). record ends { count = ends.count - 1 }) (c.point_back.ensures.ends ∙ ap (λ (ends : Ends). stopping ends link.next link.prev) c.point_forward.ensures.ends))
     (list-unlink _ _ c.args.frame link c.requires.list c.requires.inside (sym c.link.ensures ∙ c.unwrap-link.ensures))
 
 pub returns-clause-others : goal.returns-clause-others
 returns-clause-others g c other none = let link = c.unwrap-link.result in
-    ap (λ links. links other) (c.set_link.ensures ∙ ap (λ links. with_link links c.args.frame unlinked) (c.point_back.ensures.links ∙ ap (λ links. pointing_back links link.next link.prev) c.point_forward.ensures.links))
+    ap (λ links. links other) (c.set_link.ensures.links ∙ ap (λ links. with_link links c.args.frame unlinked) (c.point_back.ensures.links ∙ ap (λ links. pointing_back links link.next link.prev) c.point_forward.ensures.links))
     ∙ unlink-others _ _ c.args.frame link c.requires.list c.requires.inside (sym c.link.ensures ∙ c.unwrap-link.ensures) other none
