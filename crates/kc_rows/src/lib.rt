@@ -8,6 +8,8 @@ mod copies;
 #[cfg(test)]
 mod ends;
 #[cfg(test)]
+mod look_ups;
+#[cfg(test)]
 mod support;
 #[cfg(test)]
 mod traces;
