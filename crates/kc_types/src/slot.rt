@@ -13,8 +13,8 @@ pub enum Phase {
     Dead,
 }
 
-/// A virtual processor of a slot.
-#[derive(Clone, Copy, Debug, PartialEq, Eq)]
+/// A virtual processor of a slot; by default not registered, and waiting for nothing.
+#[derive(Clone, Copy, Debug, Default, PartialEq, Eq)]
 pub struct Vcpu {
     pub registered: bool,
     /// The guest frame that it waits for, if it waits.

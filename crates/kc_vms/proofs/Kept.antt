@@ -1,0 +1,112 @@
+-- What a slot keeps by itself, change by change.
+use Rattle.std.proofs.Common.{ℕ, zero, suc, ◌≡◌, ◌<◌, ◌≤◌, ◌+◌, false, not, None, List, [], ◌∷◌, ◌++◌, length, get_or, set, drop, replicate, refl, sym, ap, ◌∙◌, subst, arith, length-set, length-append}
+use Rattle.std.proofs.lemmas.Grind.{common_steps}
+use Rattle.std.proofs.lemmas.List.{take_at}
+use Rattle.std.proofs.lemmas.List.Elements.{All-set, All-push}
+use Rattle.std.specs.List.{list_any, refill}
+use Rattle.kc_types.specs.declared.slot.Phase.{Phase}
+use Rattle.kc_types.specs.declared.slot.Phase.TheVariants.{Empty}
+use Rattle.kc_model.specs.State.{Vcpu, Image, absent_vcpu, no_vcpus}
+use Rattle.kc_model.specs.Refusals.{first_of_these, pages_of, overlaps, is_short}
+use Rattle.kc_model.specs.Lawful.{IsLawfulVcpu, IsLawfulImage}
+use Rattle.kc_model.specs.Linked.{LinkedSlot}
+use Rattle.kc_model.proofs.Served.{or_else-none, when-none, nat_le-is_false}
+use Rattle.kc_model.proofs.Slots.{lawful-empty_slot, at-no_vcpus, waits-not, each-place, apart-push, apart-set}
+use Rattle.kc_vms.specs.Slots.{IsSlot, image_of}
+use Rattle.kc_vms.specs.Refusals.{no_vm, not_booting, next_page_refusal}
+
+pub slot-empty : IsSlot Empty no_vcpus []
+slot-empty =
+    let is = lawful-empty_slot (record { frames = 0; core = 0; host = 0; leaves = 0; approved = [] }) in
+    record {
+      vcpu_count = is.vcpus;
+      each_vcpu = is.each_vcpu;
+      few_images = is.few_images;
+      each_image = is.each_image;
+      apart = is.apart;
+      empty_vcpus = λ h. refl;
+      empty_images = λ h. refl;
+    }
+
+-- all elements are written back
+refilled : {X : Type 0} (xs ws : List X) → length ws ≡ length xs → refill (length xs) xs ws ≡ ws
+refilled xs ws same = take_at ws (drop (length ws) xs) (length xs) same
+
+set-replicate : {X : Type 0} (n c : ℕ) (x : X) → set (replicate n x) c x ≡ replicate n x
+set-replicate zero c x = refl
+set-replicate (suc n) zero x = refl
+set-replicate (suc n) (suc c) x = ap (λ xs. x ∷ xs) (set-replicate n c x)
+
+set-no_vcpus : (c : ℕ) → set no_vcpus c absent_vcpu ≡ no_vcpus
+unfolding no_vcpus
+set-no_vcpus c = set-replicate 8 c absent_vcpu
+
+-- a virtual processor that waits for nothing
+pub slot-spent : (phase : Phase) (vcpus now : List Vcpu) (images : List Image) (c : ℕ) → IsSlot phase vcpus images → now ≡ vcpus → c < 8
+    → IsSlot phase (refill (length vcpus) vcpus (set now c (record (get_or now c absent_vcpu) { fault = None }))) images
+slot-spent phase vcpus now images c is same lt =
+    let spent : Vcpu = record (get_or vcpus c absent_vcpu) { fault = None } in
+    let written : refill (length vcpus) vcpus (set now c (record (get_or now c absent_vcpu) { fault = None })) ≡ set vcpus c spent
+    = rw same (refilled vcpus (set vcpus c spent) (length-set vcpus c spent)) in
+    subst (λ (vs : List Vcpu). IsSlot phase vs images) (sym written) (record {
+      vcpu_count = length-set vcpus c spent ∙ is.vcpu_count;
+      each_vcpu = each-place (IsLawfulVcpu phase) vcpus c spent absent_vcpu (rw is.vcpu_count lt) is.each_vcpu (waits-not phase spent refl);
+      few_images = is.few_images;
+      each_image = is.each_image;
+      apart = is.apart;
+      empty_vcpus = λ h. rw (is.empty_vcpus h, at-no_vcpus) (set-no_vcpus c);
+      empty_images = is.empty_images;
+    })
+
+-- an image more, with no pages yet
+pub slot-with_image : (phase : Phase) (vcpus : List Vcpu) (images : List Image) (base len : ℕ) → IsSlot phase vcpus images → (phase ≡ Empty → ⊥) → length images < 4
+    → 0 < len → len ≤ 1048576 → base + pages_of len ≤ 262144 → list_any (overlaps base len) images ≡ false → IsSlot phase vcpus (images ++ record { base = base; len = len; pages = 0 } ∷ [])
+slot-with_image phase vcpus images base len is used few some small within none =
+    let image : Image = record { base = base; len = len; pages = 0 } in
+    record {
+      vcpu_count = is.vcpu_count;
+      each_vcpu = is.each_vcpu;
+      few_images = simp length-append (omega arith);
+      each_image = All-push IsLawfulImage images image is.each_image (record { some = some; small = small; within = within; pages = omega arith });
+      apart = apart-push images image is.apart none;
+      empty_vcpus = λ h. absurd (used h);
+      empty_images = λ h. absurd (used h);
+    }
+
+-- a page more of an image
+pub slot-with_page : (phase : Phase) (vcpus : List Vcpu) (images now : List Image) (i : ℕ) (absent : Image) → IsSlot phase vcpus images → now ≡ images → i < length images
+    → (get_or images i absent).pages < pages_of (get_or images i absent).len
+    → IsSlot phase vcpus (refill (length images) images (set now i (record (get_or now i absent) { pages = (get_or now i absent).pages + 1 })))
+slot-with_page phase vcpus images now i absent is same lt short =
+    let image = get_or images i absent in
+    let paged : Image = record image { pages = image.pages + 1 } in
+    let was : IsLawfulImage image = is.each_image i absent lt in
+    let written : refill (length images) images (set now i (record (get_or now i absent) { pages = (get_or now i absent).pages + 1 })) ≡ set images i paged
+    = rw same (refilled images (set images i paged) (length-set images i paged)) in
+    subst (λ (is : List Image). IsSlot phase vcpus is) (sym written) (record {
+      vcpu_count = is.vcpu_count;
+      each_vcpu = is.each_vcpu;
+      few_images = rw length-set is.few_images;
+      each_image = All-set IsLawfulImage images i paged (record { some = was.some; small = was.small; within = was.within; pages = omega arith }) is.each_image;
+      apart = apart-set images i paged absent lt refl refl is.apart;
+      empty_vcpus = is.empty_vcpus;
+      empty_images = λ h. let none = is.empty_images h in rw none refl;
+    })
+
+pub booting-used : (slot : LinkedSlot) → first_of_these (no_vm slot ∷ not_booting slot ∷ []) ≡ None → slot.phase ≡ Empty → ⊥
+booting-used slot served empty =
+    let used = when-none _ _ (or_else-none (no_vm slot) _ served).0 in
+    let no = rw empty at used in
+    cc
+
+is_short-is : (image : Image) → not (is_short image) ≡ false → image.pages < pages_of image.len
+is_short-is image h = grind (arith, common_steps)
+
+-- an image that has a next page
+pub next_page-served : (slot : LinkedSlot) (i : ℕ) → next_page_refusal slot i ≡ None → (i < length slot.images) × ((image_of slot i).pages < pages_of (image_of slot i).len)
+next_page-served slot i served =
+    let used = or_else-none (no_vm slot) _ served in
+    let booting = or_else-none (not_booting slot) _ used.1 in
+    let image = or_else-none _ _ booting.1 in
+    let short = or_else-none _ _ image.1 in
+    (nat_le-is_false _ _ (when-none _ _ image.0), is_short-is (image_of slot i) (when-none _ _ short.0))

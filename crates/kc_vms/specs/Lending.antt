@@ -1,0 +1,16 @@
+-- What a slot ends as, where its list or its table is lent for writing.
+use Rattle.std.specs.Borrow.{Lends, MutBor, Fml}
+use Rattle.kc_types.specs.declared.link.Ends.{Ends}
+use Rattle.kc_types.specs.contracts.link.Ends.{the_row as ends_row}
+use Rattle.kc_stage2.specs.Table.{Table}
+use Rattle.kc_stage2.specs.contracts.table.Stage2.{the_row as table_row}
+use Rattle.kc_vms.specs.Slots.{VmSlot, with_table}
+use Rattle.kc_vms.specs.contracts.vm.Vm.{the_row}
+
+-- the slot ends with the ends that are left behind the reference
+abbrev pub LendsList : MutBor VmSlot → MutBor Ends → Fml
+LendsList vm list = Lends the_row ends_row vm list (λ ends. record vm.now { slot = record vm.now.slot { ends = ends } })
+
+-- the slot ends with the table that is left behind the reference
+abbrev pub LendsTable : MutBor VmSlot → MutBor Table → Fml
+LendsTable vm table = Lends the_row table_row vm table (with_table vm.now)

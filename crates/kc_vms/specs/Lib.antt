@@ -1,0 +1,3 @@
+pub mod Slots
+pub mod Refusals
+pub mod Lending

@@ -1,0 +1,281 @@
+//! A VM slot.
+ghost use Rattle.std.specs.Prelude.{◌≡◌, ◌+◌, ◌<◌, ◌≤◌, Some, None, true, [], ◌∷◌, length, IfOk, OnOk, OnErr};
+ghost use Rattle.std.specs.List.{list_any};
+ghost use Rattle.std.specs.Borrow.{sem};
+ghost use Rattle.kc_types.specs.Limits.{gfn_limit, leaf_limit};
+ghost use Rattle.kc_model.specs.State.{no_vcpus};
+ghost use Rattle.kc_model.specs.Refusals.{pages_of, first_of_these, overlaps};
+ghost use Rattle.kc_vms.specs.Slots.{IsVm, empty_vm, vcpu_of, next_gfn_of, with_phase, with_vcpu, with_fault, with_image, with_page, table_of};
+ghost use Rattle.kc_vms.specs.Refusals.{Answers, no_vm, not_booting, register_refusal, add_vcpu_refusal, add_image_refusal, next_page_refusal};
+
+use arrayvec::ArrayVec;
+use kc_image::{Image, pages_of};
+use kc_stage2::Stage2;
+use kc_types::{Ends, Gfn, Memory, Phase, Refusal, Vcpu, VcpuId};
+use std::alloc::Global;
+use std::marker::Model;
+
+/// A VM slot: its phase, its 8 virtual processors, its boot images, the ends of the list of its frames, and
+/// its table. After it was made it takes no memory.
+#[derive(Drop)]
+pub struct Vm {
+    phase: Phase,
+    vcpus: ArrayVec<Vcpu, 8>,
+    images: ArrayVec<Image, 4>,
+    list: Ends,
+    table: Stage2,
+}
+
+impl Model for Vm {
+    ghost use Rattle.std.specs.Coded.{codes, coded_ℕ};
+    ghost use Rattle.std.specs.Ordering.{nat_cmp};
+    ghost use Rattle.std.specs.FinMap as map;
+    ghost use Rattle.kc_vms.specs.Slots.{VmSlot, IsSlot};
+
+    ghost Value = { VmSlot };
+
+    ghost coded = { Prim.hlevel (codes, map.code {R = nat_cmp} coded_ℕ coded_ℕ) };
+
+    ghost view = { λ v. record { slot = record { phase = v.phase; vcpus = v.vcpus.items; images = v.images.items; ends = v.list; mapped = v.table.mapped; leaves = v.table.leaves }; room = v.table.room } };
+
+    ghost invariant = { λ v. IsSlot v.phase v.vcpus.items v.images.items };
+}
+
+impl Vm {
+    ghost use Rattle.kc_vms.specs.Lending.{LendsList, LendsTable};
+
+    /// An empty slot whose table has room for this many leaves of 512 entries, at most 64; `Memory` where a
+    /// growth was refused.
+    pub fn try_new(alloc: Global, leaves: u8) -> Result<Vm, Memory>
+        requires { leaves ≤ leaf_limit }
+        ensures { IfOk result (λ vm. vm ≡ empty_vm leaves) }
+    {
+        Ok(Vm {
+            phase: Phase::Empty,
+            vcpus: absent_vcpus(),
+            images: ArrayVec::new(),
+            list: Ends::empty(),
+            table: Stage2::try_new(alloc, leaves)?,
+        })
+    }
+
+    /// The phase.
+    pub fn phase(&self) -> Phase
+        ensures value { result ≡ self.now.slot.phase }
+        ensures kept { IsVm self.now }
+    {
+        self.phase
+    }
+
+    /// A virtual processor, registered or not.
+    pub fn vcpu(&self, vcpu: VcpuId) -> Vcpu
+        ensures value { result ≡ vcpu_of self.now.slot vcpu }
+        ensures kept { IsVm self.now }
+    {
+        self.vcpus[vcpu.index()]
+    }
+
+    /// The boot images, by their numbers.
+    pub fn images(&self) -> &[Image]
+        ensures value { result.now ≡ self.now.slot.images }
+        ensures kept { IsVm self.now }
+    {
+        self.images.as_slice()
+    }
+
+    /// The ends of the list of its frames.
+    pub fn list(&self) -> &Ends
+        ensures { result.now ≡ self.now.slot.ends }
+    {
+        &self.list
+    }
+
+    /// The ends of the list of its frames, for writing.
+    pub fn list_mut(&mut self) -> &mut Ends
+        ensures* writes_back { sem 𝓛 (LendsList self.entry result) }
+        ensures value { result.now ≡ self.old.slot.ends }
+    {
+        &mut self.list
+    }
+
+    /// The table from guest frames to frames.
+    pub fn table(&self) -> &Stage2
+        ensures { result.now ≡ table_of self.now }
+    {
+        &self.table
+    }
+
+    /// The table from guest frames to frames, for writing.
+    pub fn table_mut(&mut self) -> &mut Stage2
+        ensures* writes_back { sem 𝓛 (LendsTable self.entry result) }
+        ensures value { result.now ≡ table_of self.old }
+    {
+        &mut self.table
+    }
+
+    /// An empty slot becomes booting. `SlotUsed` where it isn't empty, and then nothing has changed.
+    pub fn register(&mut self) -> Result<(), Refusal>
+        ensures answer { Answers result (register_refusal self.old.slot) }
+        ensures ok { OnOk result (self.new ≡ record self.old { slot = with_phase self.old.slot Phase.Booting }) }
+        ensures err { OnErr result (self.new ≡ self.old) }
+    {
+        if self.phase != Phase::Empty {
+            return Err(Refusal::SlotUsed);
+        }
+        self.phase = Phase::Booting;
+        Ok(())
+    }
+
+    /// `NoVm` where the slot is empty, else `WrongPhase` where it isn't booting.
+    fn expect_booting(&self) -> Result<(), Refusal>
+        ensures { Answers result (first_of_these (no_vm self.now.slot ∷ not_booting self.now.slot ∷ [])) }
+    {
+        match self.phase {
+            Phase::Empty => Err(Refusal::NoVm),
+            Phase::Booting => Ok(()),
+            Phase::Active | Phase::Dead => Err(Refusal::WrongPhase),
+        }
+    }
+
+    /// Registers a virtual processor, which waits for nothing. The first that applies, and then nothing has
+    /// changed: `NoVm` where the slot is empty, `WrongPhase` where it isn't booting, `VcpuUsed` where the
+    /// virtual processor is registered.
+    pub fn add_vcpu(&mut self, vcpu: VcpuId) -> Result<(), Refusal>
+        ensures answer { Answers result (add_vcpu_refusal self.old.slot vcpu) }
+        ensures ok { OnOk result (self.new ≡ record self.old { slot = with_vcpu self.old.slot vcpu (record { registered = true; fault = None }) }) }
+        ensures err { OnErr result (self.new ≡ self.old) }
+    {
+        self.expect_booting()?;
+        if self.vcpus[vcpu.index()].registered {
+            return Err(Refusal::VcpuUsed);
+        }
+        self.vcpus[vcpu.index()] = Vcpu {
+            registered: true,
+            fault: None,
+        };
+        Ok(())
+    }
+
+    /// Adds a boot image of `len` bytes, 1 to 1,048,576, whose first guest frame is `base`, and answers its
+    /// number, 0 to 3. It has no pages yet. The first that applies, and then nothing has changed: `NoVm` where
+    /// the slot is empty, `WrongPhase` where it isn't booting, `ImagesFull` where there are 4 images, `Overlap`
+    /// where a guest frame of the image belongs to one of them.
+    pub fn add_image(&mut self, base: u32, len: u32) -> Result<u32, Refusal>
+        requires some { 0 < len }
+        requires small { len ≤ 1048576 }
+        requires within { base + pages_of len ≤ gfn_limit }
+        ensures answer { Answers result (add_image_refusal self.old.slot base len) }
+        ensures number { IfOk result (λ number. number ≡ length self.old.slot.images) }
+        ensures ok { OnOk result (self.new ≡ record self.old { slot = with_image self.old.slot base len }) }
+        ensures err { OnErr result (self.new ≡ self.old) }
+    {
+        self.expect_booting()?;
+        if self.images.is_full() {
+            return Err(Refusal::ImagesFull);
+        }
+        if overlaps_any(base, len, self.images.as_slice()) {
+            return Err(Refusal::Overlap);
+        }
+        let number = self.images.len() as u32;
+        self.images.push(Image {
+            base,
+            len,
+            pages: 0,
+        });
+        Ok(number)
+    }
+
+    /// The guest frame of the next page of an image. The first that applies: `NoVm` where the slot is empty,
+    /// `WrongPhase` where it isn't booting, `NoImage` where no image has this number, `ImageFull` where all
+    /// pages of the image are there.
+    pub fn next_page(&self, image: u32) -> Result<Gfn, Refusal>
+        ensures answer { Answers result (next_page_refusal self.now.slot image) }
+        ensures gfn { IfOk result (λ gfn. gfn ≡ next_gfn_of self.now.slot image) }
+    {
+        self.expect_booting()?;
+        let Some(image) = self.images.get(image as usize) else {
+            return Err(Refusal::NoImage);
+        };
+        if image.pages >= pages_of(image.len) {
+            return Err(Refusal::ImageFull);
+        }
+        Ok(Gfn::try_new(image.base + image.pages).unwrap())
+    }
+
+    /// An image that has a next page has one page more.
+    pub fn add_page(&mut self, image: u32)
+        requires { next_page_refusal self.old.slot image ≡ None }
+        ensures { self.new ≡ record self.old { slot = with_page self.old.slot image } }
+    {
+        self.images[image as usize].pages += 1;
+    }
+
+    /// A registered virtual processor of an active slot waits for a guest frame.
+    pub fn set_fault(&mut self, vcpu: VcpuId, gfn: Gfn)
+        requires active { self.old.slot.phase ≡ Phase.Active }
+        requires registered { (vcpu_of self.old.slot vcpu).registered ≡ true }
+        ensures { self.new ≡ record self.old { slot = with_fault self.old.slot vcpu (Some gfn) } }
+    {
+        self.vcpus[vcpu.index()].fault = Some(gfn.number());
+    }
+
+    /// A virtual processor waits for nothing.
+    pub fn spend_fault(&mut self, vcpu: VcpuId)
+        ensures { self.new ≡ record self.old { slot = with_fault self.old.slot vcpu None } }
+    {
+        self.vcpus[vcpu.index()].fault = None;
+    }
+
+    /// A booting slot becomes active.
+    pub fn activate(&mut self)
+        requires { self.old.slot.phase ≡ Phase.Booting }
+        ensures { self.new ≡ record self.old { slot = with_phase self.old.slot Phase.Active } }
+    {
+        self.phase = Phase::Active;
+    }
+
+    /// A booting slot becomes dead.
+    pub fn kill(&mut self)
+        requires { self.old.slot.phase ≡ Phase.Booting }
+        ensures { self.new ≡ record self.old { slot = with_phase self.old.slot Phase.Dead } }
+    {
+        self.phase = Phase::Dead;
+    }
+
+    /// The slot is empty again, as it was made: no virtual processors, no images, no frames, all leaves back.
+    pub fn reset(&mut self)
+        ensures { self.new ≡ empty_vm self.old.room }
+    {
+        self.phase = Phase::Empty;
+        self.vcpus = absent_vcpus();
+        self.images.clear();
+        self.list = Ends::empty();
+        self.table.clear();
+    }
+}
+
+/// Eight virtual processors, none of them registered.
+#[tactic(auto, unfolding(kc_model::specs::State::no_vcpus))]
+fn absent_vcpus() -> ArrayVec<Vcpu, 8>
+    ensures { result.items ≡ no_vcpus }
+{
+    ArrayVec::from([Vcpu::default(); 8])
+}
+
+/// Whether an image of `len` bytes at guest frame `base` has a guest frame of this image.
+fn overlaps(base: u32, len: u32, image: &Image) -> bool
+    ensures { result ≡ overlaps base len image.now }
+{
+    u64::from(base) < u64::from(image.base) + u64::from(pages_of(image.len))
+        && u64::from(image.base) < u64::from(base) + u64::from(pages_of(len))
+}
+
+/// Whether an image of `len` bytes at guest frame `base` has a guest frame of one of these images.
+fn overlaps_any(base: u32, len: u32, images: &[Image]) -> bool
+    ensures { result ≡ list_any (overlaps base len) images.now }
+{
+    images.iter().any(|image| overlaps(base, len, image))
+}
+
+#[cfg(test)]
+mod tests;
