@@ -24,7 +24,7 @@ pub length-no_vcpus : length no_vcpus ≡ 8
 unfolding no_vcpus
 length-no_vcpus = refl
 
-at-no_vcpus : (c : ℕ) → get_or no_vcpus c absent_vcpu ≡ absent_vcpu
+pub at-no_vcpus : (c : ℕ) → get_or no_vcpus c absent_vcpu ≡ absent_vcpu
 unfolding no_vcpus
 at-no_vcpus c = same-everywhere 8 absent_vcpu c
 
@@ -117,7 +117,7 @@ or-parts : (a b : Bool) → (a || b) ≡ false → (a ≡ false) × (b ≡ false
 or-parts true b h = cc
 or-parts false b h = (refl, h)
 
-apart-push : (images : List Image) (new : Image) → Apart images → list_any (overlaps new.base new.len) images ≡ false → Apart (images ++ new ∷ [])
+pub apart-push : (images : List Image) (new : Image) → Apart images → list_any (overlaps new.base new.len) images ≡ false → Apart (images ++ new ∷ [])
 apart-push [] new apart none = (refl, tt)
 apart-push (image ∷ images) new apart none =
     let parts = or-parts (overlaps new.base new.len image) (list_any (overlaps new.base new.len) images) none in

@@ -22,7 +22,7 @@ pub struct Vcpu {
 }
 
 /// A boot image.
-#[derive(Clone, Copy, Debug, PartialEq, Eq)]
+#[derive(Clone, Copy, Debug, Default, PartialEq, Eq)]
 pub struct Image {
     /// Its first guest frame.
     pub base: u32,
