@@ -155,38 +155,3 @@ impl KCore {
         self.store.wipe();
     }
 }
-
-#[cfg(test)]
-mod tests {
-    use super::*;
-    use kc_types::Data;
-    use std::test::Fail;
-
-    #[test]
-    fn a_written_byte_is_read(rt: HostRuntime) -> Result<(), Fail> {
-        let alloc = rt.alloc();
-        let config = Config::try_new(8, 1, 4, 1, Vec::new(alloc))
-            .ok()
-            .ok_or("no configuration")?;
-        let mut core = KCore::boot(alloc, config)?;
-        let mut bytes = Vec::new(alloc);
-        bytes.push(170)?;
-        let data = Data::try_new(bytes).ok_or("no data")?;
-        let mut calls = Vec::new(alloc);
-        calls.push(Call::HostFault { frame: 1 })?;
-        calls.push(Call::HostWrite {
-            frame: 1,
-            offset: 0,
-            data,
-        })?;
-        calls.push(Call::HostRead {
-            frame: 1,
-            offset: 0,
-            len: 1,
-        })?;
-        calls.push(Call::Take)?;
-        let replies = core.run(alloc, calls.as_slice()).ok().ok_or("stopped")?;
-        println!(rt; "{replies:?}")?;
-        Ok(())
-    }
-}
