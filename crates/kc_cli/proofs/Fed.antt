@@ -11,16 +11,13 @@ use Rattle.std.specs.List.{AllByRecursion}
 use Rattle.kc_model.specs.Built.{IsBuilt}
 use Rattle.kc_trace.specs.Trace.{IsTrace, IsRefused}
 use Rattle.kc_trace.specs.Machine.{◌>>=◌, Progress, Reader, Fails, start, feed, fed, fed_after, ended, reading}
+use Rattle.kc_trace.proofs.BuiltCalls.{built-append}
 use Rattle.kc_trace.proofs.Traces.{feed-append, and_then_feed, added, Reads, reading_reads}
 
 -- what reading the bytes so far answers
 abbrev pub Answer : Option TraceFault → Progress → List Call → Result (Progress × List Call) TraceFault
 Answer None progress calls = Ok (progress, calls)
 Answer (Some fault) progress calls = Err fault
-
-built-append : (one two : List Call) → AllByRecursion IsBuilt one → AllByRecursion IsBuilt two → AllByRecursion IsBuilt (one ++ two)
-built-append [] two first second = second
-built-append (call ∷ one) two first second = (first.0, built-append one two first.1 second)
 
 -- the reader has read these bytes, and these calls came
 pub record IsFed (bytes : List ℕ) (reader : Reader) (calls : List Call) (total : ℕ) (old new : Option (List ℕ)) : Type 0 where

@@ -7,14 +7,12 @@ ghost use Rattle.kc_trace.specs.declared.fault.TraceFault.{TraceFault};
 ghost use Rattle.kc_trace.specs.Trace.{IsTrace, IsRefused};
 ghost use Rattle.kc_cli.specs.Ends.{ReadFailed};
 
+use crate::whole::MOST;
 use crate::{Failed, Source};
 use kc_trace::{TraceFault, TraceReader};
 use kc_types::Call;
 use std::alloc::Global;
 use thiserror::Error;
-
-/// The most bytes that are read from one source.
-const MOST: usize = 1_073_741_824;
 
 /// Why the calls of a source are not all read.
 #[derive(Clone, Copy, Debug, PartialEq, Eq, Error)]

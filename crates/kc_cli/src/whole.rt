@@ -8,7 +8,7 @@ use std::alloc::Global;
 use thiserror::Error;
 
 /// The most bytes that are read from one source.
-const MOST: usize = 1_073_741_824;
+pub(crate) const MOST: usize = 1_073_741_824;
 
 /// Why the bytes of a source are not all read.
 #[derive(Clone, Copy, Debug, PartialEq, Eq, Error)]

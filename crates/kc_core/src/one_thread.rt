@@ -141,7 +141,7 @@ impl KCore {
         self.store.frames_of(owner)
     }
 
-    /// All pages, by frame number.
+    /// All pages, by frame number. Their records do not keep the neighbours in a list yet: `page_record` has them.
     pub fn pages(&self) -> &[Page]
         ensures { map frame_of result.now ≡ self.now.frames }
     {

@@ -43,7 +43,8 @@ step-built : (progress : Progress) (byte : ℕ) → AreBuilt (step progress byte
 unfolding step
 step-built progress byte = after_byte-built progress.header_left progress byte
 
-built-append : (one two : List Call) → AllByRecursion IsBuilt one → AllByRecursion IsBuilt two → AllByRecursion IsBuilt (one ++ two)
+-- two lists of built calls, joined
+pub built-append : (one two : List Call) → AllByRecursion IsBuilt one → AllByRecursion IsBuilt two → AllByRecursion IsBuilt (one ++ two)
 built-append [] two first second = second
 built-append (call ∷ one) two first second = (first.0, built-append one two first.1 second)
 
