@@ -1,7 +1,7 @@
 //! What the core is started with.
 ghost use Rattle.std.specs.Prelude.{◌≡◌, ◌<◌, ◌≤◌, IfOk};
-ghost use Rattle.kc_types.specs.Limits.{frame_limit, leaf_limit};
-ghost use Rattle.kc_types.specs.Configuration.{IsConfiguration};
+ghost use Rattle.kc_types.specs.Limits.{frame_limit, slot_limit, leaf_limit};
+ghost use Rattle.kc_types.specs.Configuration.{IsConfiguration, slot_count};
 ghost use Rattle.kc_types.specs.ConfigFaults.{Configures};
 
 use crate::Memory;
@@ -142,6 +142,15 @@ impl Config {
         ensures few { result ≤ leaf_limit }
     {
         self.leaves
+    }
+
+    /// The number of VM slots: 16.
+    #[tactic(auto, unfolding(crate::specs::Configuration::slot_count))]
+    pub fn slots(&self) -> u32
+        ensures value { result ≡ slot_count self.now }
+        ensures few { result ≤ slot_limit }
+    {
+        16
     }
 
     /// The approved digests.

@@ -1,0 +1,23 @@
+-- What parts end as, where one of them is lent for writing.
+use Rattle.std.specs.Prelude.{ℕ, Option, Some}
+use Rattle.std.specs.Borrow.{LendsIf, MutBor, Fml}
+use Rattle.kc_types.specs.declared.link.Ends.{Ends}
+use Rattle.kc_types.specs.contracts.link.Ends.{the_row as ends_row}
+use Rattle.kc_page.specs.declared.page.Page.{Page}
+use Rattle.kc_page.specs.contracts.page.Page.{the_row as page_row}
+use Rattle.kc_vms.specs.Slots.{VmSlot}
+use Rattle.kc_vms.specs.contracts.vm.Vm.{the_row as vm_row}
+use Rattle.kc_parts.specs.Held.{Held, with_page, with_vm}
+use Rattle.kc_parts.specs.contracts.parts.Parts.{the_row}
+
+-- the parts end with the page that is left behind the reference
+abbrev pub LendsPage : MutBor Held → ℕ → Option (MutBor Page) → Fml
+LendsPage parts f page = LendsIf the_row page_row parts page (with_page parts.now f) parts.now
+
+-- the parts end with the slot that is left behind the reference
+abbrev pub LendsVm : MutBor Held → ℕ → Option (MutBor VmSlot) → Fml
+LendsVm parts v vm = LendsIf the_row vm_row parts vm (with_vm parts.now v) parts.now
+
+-- the parts end with the ends that are left behind the reference
+abbrev pub LendsFree : MutBor Held → Option (MutBor Ends) → Fml
+LendsFree parts ends = LendsIf the_row ends_row parts ends (λ ends. record parts.now { free = Some ends }) parts.now

@@ -1,0 +1,62 @@
+-- Parts seen as a state, with the untouched value where a part is not here.
+use Rattle.std.specs.Prelude.{ℕ, ◌≡◌, ◌<◌, is_some, List, [], map, Option, Some, None}
+use Rattle.std.specs.List.{range_with_len}
+use Rattle.kc_types.specs.Configuration.{Configuration, slot_count}
+use Rattle.kc_types.specs.declared.link.Ends.{Ends}
+use Rattle.kc_types.specs.declared.owner.Owner.{Owner}
+use Rattle.kc_types.specs.declared.owner.Owner.TheVariants.{Core, Host}
+use Rattle.kc_types.specs.declared.resource.Resource.TheVariants as resource
+use Rattle.kc_model.specs.State.{State, Frame, Slot, untouched, empty_slot}
+use Rattle.kc_model.specs.Resources.{Resources}
+use Rattle.kc_model.specs.Lawful.{times_in}
+use Rattle.kc_model.specs.Linked.{LinkedSlot}
+use Rattle.kc_page.specs.declared.page.Page.{Page}
+use Rattle.kc_page.specs.Pages.{frame_of}
+use Rattle.kc_vms.specs.Slots.{VmSlot, IsVm}
+use Rattle.kc_links.specs.Chain.{Links, unlinked}
+use Rattle.kc_links.specs.Ending.{listed, IsList}
+use Rattle.kc_parts.specs.Held.{Held, page_at, vm_at, links_of, ends_at}
+
+abbrev pub frame_in : Option Page → Frame
+frame_in (Some page) = frame_of page
+frame_in None = untouched Core
+
+-- the list that links and ends spell
+abbrev pub list_in : Links → Option Ends → List ℕ
+list_in links (Some ends) = listed links ends
+list_in links None = []
+
+-- a slot with a list in the place of its ends
+abbrev pub unlinked_slot : LinkedSlot → List ℕ → Slot
+unlinked_slot slot frames = record { phase = slot.phase; vcpus = slot.vcpus; images = slot.images; frames = frames; mapped = slot.mapped; leaves = slot.leaves }
+
+abbrev pub slot_in : Links → Option VmSlot → Slot
+slot_in links (Some vm) = unlinked_slot vm.slot (listed links vm.slot.ends)
+slot_in links None = empty_slot
+
+abbrev pub state_of : Configuration → Held → State
+state_of config h = record {
+  config = config;
+  frames = map (λ f. frame_in (page_at h f)) (range_with_len 0 config.frames);
+  free = list_in (links_of h) h.free;
+  slots = map (λ v. slot_in (links_of h) (vm_at h v)) (range_with_len 0 (slot_count config));
+}
+
+-- what is here
+abbrev pub here_of : Held → Resources
+here_of h (resource.Frame f) = is_some (page_at h f)
+here_of h (resource.Vm v) = is_some (vm_at h v)
+here_of h resource.Free = is_some h.free
+
+abbrev pub owner_at : Held → ℕ → Owner
+owner_at h f = (frame_in (page_at h f)).owner
+
+-- the parts fit the configuration, and the links of the frames spell the lists whose ends are here
+pub record IsLinked (config : Configuration) (h : Held) : Type 0 where
+  pub frames : (f : ℕ) (page : Page) → page_at h f ≡ Some page → f < config.frames
+  pub vms : (v : ℕ) (vm : VmSlot) → vm_at h v ≡ Some vm → IsVm vm × (vm.room ≡ config.leaves)
+  pub lists : (owner : Owner) (ends : Ends) → ends_at h owner ≡ Some ends → IsList (links_of h) ends
+  -- a list has its owner's frames alone
+  pub owned : (owner : Owner) (ends : Ends) (f : ℕ) → ends_at h owner ≡ Some ends → 0 < times_in (listed (links_of h) ends) f → owner_at h f ≡ owner
+  -- the host's frames are in no list
+  pub alone : (f : ℕ) → owner_at h f ≡ Host → links_of h f ≡ Some unlinked

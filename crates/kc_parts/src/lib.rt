@@ -1,0 +1,6 @@
+//! Parts of the core: the frames, VM slots and the free list that are in one hand.
+#![tactic(auto)]
+
+mod parts;
+
+pub use parts::Parts;
