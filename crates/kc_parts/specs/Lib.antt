@@ -1,3 +1,4 @@
 pub mod Held
 pub mod States
+pub mod Linking
 pub mod Lending

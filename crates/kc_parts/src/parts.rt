@@ -1,6 +1,6 @@
 //! Pages, slots and the ends of the free list, taken out and put back.
 ghost use Rattle.std.specs.Prelude.{◌≡◌, ℕ, ◌<◌, length, get_or, IsSome, IfSome, Option, Some, None};
-ghost use Rattle.std.specs.Option.{option_copied};
+ghost use Rattle.std.specs.Option.{option_copied, option_copied_mut};
 ghost use Rattle.std.specs.Borrow.{sem};
 ghost use Rattle.kc_parts.specs.Held.{IsRising, place_of};
 
@@ -80,6 +80,7 @@ impl Parts {
 
     /// The page of a frame, for writing; `None` where it is not here.
     pub fn frame_mut(&mut self, frame: FrameNo) -> Option<&mut Page>
+        ensures value { option_copied_mut result ≡ page_at self.old frame }
         ensures* writes_back { sem 𝓛 (LendsPage self.entry frame result) }
     {
         let at = self.place_in(frame);
@@ -98,6 +99,7 @@ impl Parts {
 
     /// A VM slot, for writing; `None` where it is not here.
     pub fn vm_mut(&mut self, vm: VmId) -> Option<&mut Vm>
+        ensures value { option_copied_mut result ≡ vm_at self.old vm }
         ensures* writes_back { sem 𝓛 (LendsVm self.entry vm result) }
     {
         self.vms.get_mut(vm.index())?.as_mut()
@@ -112,6 +114,7 @@ impl Parts {
 
     /// The ends of the free list, for writing; `None` where they are not here.
     pub fn free_mut(&mut self) -> Option<&mut Ends>
+        ensures value { option_copied_mut result ≡ self.old.free }
         ensures* writes_back { sem 𝓛 (LendsFree self.entry result) }
     {
         self.free.as_mut()
