@@ -7,7 +7,7 @@ use Rattle.kc_types.specs.declared.owner.Owner.{Owner}
 use Rattle.kc_types.specs.declared.owner.Owner.TheVariants.{Core, Host}
 use Rattle.kc_types.specs.declared.resource.Resource.TheVariants as resource
 use Rattle.kc_model.specs.State.{State, Frame, Slot, untouched, empty_slot}
-use Rattle.kc_model.specs.Resources.{Resources}
+use Rattle.kc_model.specs.Resources.{Resource, Resources}
 use Rattle.kc_model.specs.Lawful.{times_in}
 use Rattle.kc_model.specs.Linked.{LinkedSlot}
 use Rattle.kc_page.specs.declared.page.Page.{Page}
@@ -64,3 +64,21 @@ pub record IsLinked (config : Configuration) (h : Held) : Type 0 where
   pub frames : (f : ℕ) → is_some (page_at h f) ≡ true → f < config.frames
   pub vms : (v : ℕ) (vm : VmSlot) → vm_at h v ≡ Some vm → IsVm vm × (vm.room ≡ config.leaves)
   pub lists : AreLists (links_of h) (ends_at h) (owner_at h)
+
+-- the free list, where its ends are here
+abbrev pub free_of : Held → List ℕ
+free_of h = list_in (links_of h) h.free
+
+-- the frame is in no list
+pub record IsLoose (h : Held) (f : ℕ) : Type 0 where
+  pub alone : links_of h f ≡ Some unlinked
+  pub absent : (owner : Owner) (ends : Ends) → ends_at h owner ≡ Some ends → times_in (listed (links_of h) ends) f ≡ 0
+
+-- the free list changes, and nothing else that is seen
+pub record IsFreeMove (old new : Held) : Type 0 where
+  pub numbers : new.numbers ≡ old.numbers
+  pub filled : new.here ≡ old.here
+  pub here : (r : Resource) → here_of new r ≡ here_of old r
+  pub owners : (f : ℕ) → owner_at new f ≡ owner_at old f
+  pub state : (config : Configuration) → state_of config new ≡ record (state_of config old) { free = free_of new }
+  pub linked : (config : Configuration) → IsLinked config old → IsLinked config new

@@ -2,6 +2,7 @@
 #![tactic(auto)]
 
 mod links;
+mod lists;
 mod parts;
 
 pub use parts::Parts;
