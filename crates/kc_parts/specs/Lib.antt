@@ -1,4 +1,5 @@
 pub mod Held
 pub mod States
 pub mod Linking
+pub mod Booting
 pub mod Lending

@@ -1,13 +1,14 @@
 //! Pages, slots and the ends of the free list, taken out and put back.
-ghost use Rattle.std.specs.Prelude.{◌≡◌, ℕ, ◌<◌, length, get_or, IsSome, IfSome, Option, Some, None};
+ghost use Rattle.std.specs.Prelude.{◌≡◌, ℕ, ◌<◌, length, get_or, IsSome, IfSome, IfOk, Option, Some, None};
 ghost use Rattle.std.specs.Option.{option_copied, option_copied_mut};
 ghost use Rattle.std.specs.Borrow.{sem};
 ghost use Rattle.kc_parts.specs.Held.{IsRising, place_of};
 
-use kc_links::LinkStore;
+use crate::boot::{all_filled, all_numbers, boot_ends, boot_pages, boot_vms};
 use kc_page::Page;
-use kc_types::{Ends, FrameNo, Link, VmId};
+use kc_types::{Config, Ends, FrameNo, Memory, VmId};
 use kc_vms::Vm;
+use std::alloc::Global;
 use std::marker::Model;
 
 /// Parts that are in one hand: pages in places of their own, by rising frame number, VM slots, and the ends of
@@ -55,8 +56,29 @@ fn place_of(numbers: &[u32], frame: u32) -> usize
 }
 
 impl Parts {
+    ghost use Rattle.kc_model.specs.Boot.{boot};
     ghost use Rattle.kc_parts.specs.Held.{place_in, page_at, vm_at};
+    ghost use Rattle.kc_parts.specs.States.{state_of, IsLinked};
+    ghost use Rattle.kc_parts.specs.Booting.{IsWhole};
     ghost use Rattle.kc_parts.specs.Lending.{LendsPage, LendsVm, LendsFree};
+
+    /// All parts of the boot state: every frame of the configuration, zeroed, every slot, empty, and the free
+    /// list by rising number; `Memory` where a growth was refused.
+    pub fn boot(alloc: Global, config: &Config) -> Result<Parts, Memory>
+        // No clause can rule out want of memory: a test boots parts.
+        ensures state { IfOk result (λ parts. state_of config.now parts ≡ boot config.now) }
+        ensures linked { IfOk result (IsLinked config.now) }
+        ensures whole { IfOk result (IsWhole config.now) }
+    {
+        Ok(Parts {
+            numbers: all_numbers(alloc, config.frames())?,
+            here: all_filled(alloc, config.frames())?,
+            pages: boot_pages(alloc, config)?,
+            blanks: Vec::new(alloc),
+            vms: boot_vms(alloc, config)?,
+            free: Some(boot_ends(config)),
+        })
+    }
 
     /// The place where a frame's page is, and the number of pages where it is not here.
     fn place_in(&self, frame: FrameNo) -> usize
