@@ -1,7 +1,7 @@
 -- The calls that are built so far. A trace that has another is refused.
 use Rattle.std.specs.Prelude.{Bool, true, false, IsTrue}
 use Rattle.kc_types.specs.declared.call.Call.{Call}
-use Rattle.kc_types.specs.declared.call.Call.TheVariants.{Take, Give, HostFault, HostRead, HostWrite}
+use Rattle.kc_types.specs.declared.call.Call.TheVariants.{Take, Give, HostFault, HostRead, HostWrite, GuestRead}
 
 abbrev pub is_built : Call → Bool
 is_built Take = true
@@ -14,8 +14,8 @@ is_built _ = false
 abbrev pub IsBuilt : Call → Type 0
 IsBuilt call = IsTrue (is_built call)
 
--- the calls that are served without memory
+-- the calls that are served without memory: all that answer no data
 abbrev pub TakesNoMemory : Call → Type 0
 TakesNoMemory (HostRead f off len) = ⊥
-TakesNoMemory (Give f) = ⊥
+TakesNoMemory (GuestRead v c g off len) = ⊥
 TakesNoMemory _ = Unit {0}

@@ -65,7 +65,7 @@ ends-page h f page Host = refl
 ends-page h f page Free = refl
 ends-page h f page (Vm v) = refl
 
-here-page : (h : Held) (f : ℕ) (old new : Page) → page_at h f ≡ Some old → (g : ℕ) → is_some (page_at (with_page h f new) g) ≡ is_some (page_at h g)
+pub here-page : (h : Held) (f : ℕ) (old new : Page) → page_at h f ≡ Some old → (g : ℕ) → is_some (page_at (with_page h f new) g) ≡ is_some (page_at h g)
 here-page h f old new is g = elim (cases_eq g f) [
   | inl e ↦ rw e (ap is_some (page-set h f old new is) ∙ sym (ap is_some is))
   | inr other ↦ ap is_some (page-other h f g old new is other)

@@ -1,10 +1,10 @@
 //! What the core is started with.
-ghost use Rattle.std.specs.Prelude.{◌≡◌, ◌<◌, ◌≤◌, IfOk};
+ghost use Rattle.std.specs.Prelude.{◌≡◌, ◌<◌, ◌≤◌, ◌↔◌, IsSome, IfSome, IfOk};
 ghost use Rattle.kc_types.specs.Limits.{frame_limit, slot_limit, leaf_limit};
 ghost use Rattle.kc_types.specs.Configuration.{IsConfiguration, slot_count};
 ghost use Rattle.kc_types.specs.ConfigFaults.{Configures};
 
-use crate::Memory;
+use crate::{FrameNo, Memory, VmId};
 use std::marker::Model;
 use thiserror::Error;
 
@@ -152,6 +152,30 @@ impl Config {
         ensures few { result ≤ slot_limit }
     {
         16
+    }
+
+    /// The frame of this number; `None` where there is none.
+    pub fn frame(&self, number: u32) -> Option<FrameNo>
+        ensures valid { IsSome result ↔ (number < self.now.frames) }
+        ensures value { IfSome result (λ frame. frame ≡ number) }
+    {
+        if number < self.frames {
+            FrameNo::try_new(number)
+        } else {
+            None
+        }
+    }
+
+    /// The VM slot of this number; `None` where there is none.
+    pub fn vm(&self, number: u32) -> Option<VmId>
+        ensures valid { IsSome result ↔ (number < slot_count self.now) }
+        ensures value { IfSome result (λ vm. vm ≡ number) }
+    {
+        if number < self.slots() {
+            VmId::try_new(number)
+        } else {
+            None
+        }
     }
 
     /// The approved digests.

@@ -1,0 +1,31 @@
+use Rattle.std.proofs.Common.{◌≡◌, ◌<◌, Some, true, refl, sym, ap, ◌∙◌}
+use Rattle.kc_parts.specs.Held.{page_at}
+use Rattle.kc_parts.specs.States.{state_of}
+use Rattle.kc_parts.proofs.Seen.{linked-kept}
+use Rattle.kc_model.proofs.Served.{host_fault-served}
+use Rattle.kc_calls.proofs.Frames.{some-lent, there, changed, room-page}
+use Rattle.kc_calls.proofs.Hosts.{fault-touched}
+use Rattle.kc_calls.proofs.host.host_fault.Goals as goal
+
+pub unwrap-page-requires : goal.unwrap-page-requires
+unwrap-page-requires c =
+    let is : c.unwrap-frame.result ≡ c.args.frame = rw c.unwrap-frame.ensures at c.frame.ensures.value in
+    let m = state_of c.args.config.now c.args.parts.now in
+    some-lent c.frame_mut.result _ c.frame_mut.ensures.value (rw is (there c.args.config.now c.args.parts.now c.args.frame (host_fault-served m c.args.frame c.requires.served).0 (fault-touched m c.args.frame c.requires.served)))
+
+pub returns-clause-state : goal.returns-clause-state
+returns-clause-state c =
+    let is : c.unwrap-frame.result ≡ c.args.frame = rw c.unwrap-frame.ensures at c.frame.ensures.value in
+    let at : page_at c.args.parts.now c.unwrap-frame.result ≡ Some c.unwrap-page.result.now = sym (rw c.unwrap-page.ensures at c.frame_mut.ensures.value) in
+    let m = state_of c.args.config.now c.args.parts.now in
+    rw (← is) (changed c.args.config.now c.args.parts.now c.unwrap-frame.result c.unwrap-page.result.now _ (λ frame. record frame { present = true }) (rw is (host_fault-served m c.args.frame c.requires.served).0) at refl refl)
+
+pub returns-clause-linked : goal.returns-clause-linked
+returns-clause-linked c =
+    let at : page_at c.args.parts.now c.unwrap-frame.result ≡ Some c.unwrap-page.result.now = sym (rw c.unwrap-page.ensures at c.frame_mut.ensures.value) in
+    linked-kept c.args.config.now c.args.parts.now c.unwrap-frame.result c.unwrap-page.result.now _ c.requires.linked at refl refl
+
+pub returns-clause-room : goal.returns-clause-room
+returns-clause-room c =
+    let at : page_at c.args.parts.now c.unwrap-frame.result ≡ Some c.unwrap-page.result.now = sym (rw c.unwrap-page.ensures at c.frame_mut.ensures.value) in
+    room-page c.args.parts.now c.unwrap-frame.result c.unwrap-page.result.now _ at

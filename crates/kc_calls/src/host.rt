@@ -1,0 +1,159 @@
+//! The host's calls on frames: taking and giving them, mapping, reading and writing.
+ghost use Rattle.std.specs.Prelude.{◌≡◌, ◌<◌, None, true, is_some, IfOk};
+ghost use Rattle.kc_types.specs.declared.call.Call.TheVariants.{Take, Give, HostFault, HostRead, HostWrite};
+ghost use Rattle.kc_model.specs.Refusals.{refusal};
+ghost use Rattle.kc_model.specs.Effects.{effect};
+ghost use Rattle.kc_parts.specs.States.{state_of, IsLinked};
+ghost use Rattle.kc_calls.specs.Applying.{IsSameRoom};
+
+use crate::look_ups::record_at;
+use kc_parts::Parts;
+use kc_types::{Config, Data, Memory, Owner, Refusal, Reply};
+use std::alloc::Global;
+
+pub fn take_refusal(parts: &Parts, config: &Config) -> Option<Refusal>
+    requires { IsLinked config.now parts.now }
+    ensures { result ≡ refusal (state_of config.now parts.now) Take }
+{
+    match parts.free() {
+        Some(free) => if free.count == 0 {
+            Some(Refusal::NoFree)
+        } else {
+            None
+        },
+        None => Some(Refusal::NoFree),
+    }
+}
+
+/// The first free frame becomes the host's.
+pub fn take(parts: &mut Parts, config: &Config) -> Reply
+    requires served { refusal (state_of config.now parts.old) Take ≡ None }
+    requires linked { IsLinked config.now parts.old }
+    ensures reply { result ≡ (effect (state_of config.now parts.old) Take).0 }
+    ensures state { state_of config.now parts.new ≡ (effect (state_of config.now parts.old) Take).1 }
+    ensures linked { IsLinked config.now parts.new }
+    ensures room { IsSameRoom parts.old parts.new }
+{
+    let frame = parts.pop_free().unwrap();
+    let page = parts.frame_mut(frame).unwrap();
+    page.meta.owner = Owner::Host;
+    page.meta.present = false;
+    Reply::Frame(frame.number())
+}
+
+pub fn give_refusal(parts: &Parts, config: &Config, frame: u32) -> Option<Refusal>
+    ensures { result ≡ refusal (state_of config.now parts.now) (Give frame) }
+{
+    if frame >= config.frames() {
+        return Some(Refusal::BadFrame);
+    }
+    if record_at(parts, config, frame).owner != Owner::Host {
+        return Some(Refusal::NotHost);
+    }
+    None
+}
+
+/// A frame of the host's becomes free.
+pub fn give(parts: &mut Parts, config: &Config, frame: u32) -> Reply
+    requires served { refusal (state_of config.now parts.old) (Give frame) ≡ None }
+    requires linked { IsLinked config.now parts.old }
+    requires free { is_some parts.old.free ≡ true }
+    ensures reply { result ≡ (effect (state_of config.now parts.old) (Give frame)).0 }
+    ensures state { state_of config.now parts.new ≡ (effect (state_of config.now parts.old) (Give frame)).1 }
+    ensures linked { IsLinked config.now parts.new }
+    ensures room { IsSameRoom parts.old parts.new }
+{
+    let frame = config.frame(frame).unwrap();
+    let page = parts.frame_mut(frame).unwrap();
+    page.meta.owner = Owner::Free;
+    page.meta.present = false;
+    page.bytes.scrub();
+    parts.append_free(frame);
+    Reply::Done
+}
+
+pub fn host_fault_refusal(parts: &Parts, config: &Config, frame: u32) -> Option<Refusal>
+    ensures { result ≡ refusal (state_of config.now parts.now) (HostFault frame) }
+{
+    if frame >= config.frames() {
+        return Some(Refusal::BadFrame);
+    }
+    let record = record_at(parts, config, frame);
+    if record.owner != Owner::Host && record.share == 0 {
+        return Some(Refusal::Protected);
+    }
+    None
+}
+
+/// Marks a frame as present.
+pub fn host_fault(parts: &mut Parts, config: &Config, frame: u32) -> Reply
+    requires served { refusal (state_of config.now parts.old) (HostFault frame) ≡ None }
+    requires linked { IsLinked config.now parts.old }
+    ensures reply { result ≡ (effect (state_of config.now parts.old) (HostFault frame)).0 }
+    ensures state { state_of config.now parts.new ≡ (effect (state_of config.now parts.old) (HostFault frame)).1 }
+    ensures linked { IsLinked config.now parts.new }
+    ensures room { IsSameRoom parts.old parts.new }
+{
+    let frame = config.frame(frame).unwrap();
+    let page = parts.frame_mut(frame).unwrap();
+    page.meta.present = true;
+    Reply::Done
+}
+
+pub fn host_access_refusal(
+    parts: &Parts,
+    config: &Config,
+    frame: u32,
+    offset: u32,
+    len: u32,
+) -> Option<Refusal>
+    ensures { result ≡ refusal (state_of config.now parts.now) (HostRead frame offset len) }
+{
+    if frame >= config.frames() {
+        return Some(Refusal::BadFrame);
+    }
+    if len == 0 || len > 4096 || offset > 4096 - len {
+        return Some(Refusal::BadRange);
+    }
+    if !record_at(parts, config, frame).present {
+        return Some(Refusal::NotPresent);
+    }
+    None
+}
+
+pub fn host_read(
+    alloc: Global,
+    parts: &Parts,
+    config: &Config,
+    frame: u32,
+    offset: u32,
+    len: u32,
+) -> Result<Reply, Memory>
+    requires { refusal (state_of config.now parts.now) (HostRead frame offset len) ≡ None }
+    ensures { IfOk result (λ reply. reply ≡ (effect (state_of config.now parts.now) (HostRead frame offset len)).0) }
+{
+    let frame = config.frame(frame).unwrap();
+    let page = parts.frame(frame).unwrap();
+    let bytes = page.bytes.read(alloc, offset as usize, len as usize)?;
+    Ok(Reply::Data(bytes))
+}
+
+pub fn host_write(
+    parts: &mut Parts,
+    config: &Config,
+    frame: u32,
+    offset: u32,
+    bytes: &Data,
+) -> Reply
+    requires served { refusal (state_of config.now parts.old) (HostWrite frame offset bytes.now) ≡ None }
+    requires linked { IsLinked config.now parts.old }
+    ensures reply { result ≡ (effect (state_of config.now parts.old) (HostWrite frame offset bytes.now)).0 }
+    ensures state { state_of config.now parts.new ≡ (effect (state_of config.now parts.old) (HostWrite frame offset bytes.now)).1 }
+    ensures linked { IsLinked config.now parts.new }
+    ensures room { IsSameRoom parts.old parts.new }
+{
+    let frame = config.frame(frame).unwrap();
+    let page = parts.frame_mut(frame).unwrap();
+    page.bytes.write(offset as usize, bytes.as_slice());
+    Reply::Done
+}

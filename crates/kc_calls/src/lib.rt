@@ -1,0 +1,9 @@
+//! One call on the parts that it needs.
+#![tactic(auto)]
+
+mod dispatch;
+mod host;
+pub mod laws;
+mod look_ups;
+
+pub use dispatch::apply;
