@@ -2,5 +2,7 @@
 #![tactic(auto)]
 
 mod parts;
+mod room;
 
 pub use parts::Parts;
+pub use room::Room;

@@ -1,9 +1,10 @@
 //! Pages, slots and the ends of the free list, taken out and put back.
-ghost use Rattle.std.specs.Prelude.{◌≡◌, ℕ, ◌<◌, length, get_or, IsSome, IfSome, Option, Some, None};
+ghost use Rattle.std.specs.Prelude.{◌≡◌, ℕ, ◌<◌, length, get_or, slice_get, IsSome, IfSome, IfOk, OnErr, Option, Some, None, map};
 ghost use Rattle.std.specs.Option.{option_copied};
 ghost use Rattle.std.specs.Borrow.{sem};
 ghost use Rattle.kc_parts.specs.Held.{IsRising, place_of};
 
+use crate::Room;
 use kc_links::LinkStore;
 use kc_page::Page;
 use kc_types::{Ends, FrameNo, Link, VmId};
@@ -56,7 +57,8 @@ fn place_of(numbers: &[u32], frame: u32) -> usize
 
 impl Parts {
     ghost use Rattle.kc_parts.specs.Held.{place_in, page_at, vm_at};
-    ghost use Rattle.kc_parts.specs.Lending.{LendsPage, LendsVm, LendsFree};
+    ghost use Rattle.kc_parts.specs.Lending.{LendsPage, LendsVm, LendsFree, LendsPages};
+    ghost use Rattle.kc_parts.specs.Cuts.{IsWhole};
 
     /// The place where a frame's page is, and the number of pages where it is not here.
     fn place_in(&self, frame: FrameNo) -> usize
@@ -115,5 +117,39 @@ impl Parts {
         ensures* writes_back { sem 𝓛 (LendsFree self.entry result) }
     {
         self.free.as_mut()
+    }
+
+    /// How many frames and slots it can hold without memory.
+    pub fn room(&self) -> Room
+        ensures { result ≡ record { frames = length self.now.numbers; slots = length self.now.vms } }
+    {
+        Room {
+            frames: self.numbers.len(),
+            slots: self.vms.len(),
+        }
+    }
+
+    /// The `n`-th of the frames that there are places for, from 0 on, by rising number; `None` from their count on.
+    pub fn frame_at(&self, n: usize) -> Option<FrameNo>
+        ensures { result ≡ slice_get self.now.numbers n }
+    {
+        FrameNo::try_new(*self.numbers.get(n)?)
+    }
+
+    /// All pages, by rising frame number.
+    pub fn pages(&self) -> &[Page]
+        requires { IsWhole self.now }
+        ensures { result.now ≡ self.now.pages }
+    {
+        self.pages.as_slice()
+    }
+
+    /// All pages, by rising frame number, for writing.
+    pub fn pages_mut(&mut self) -> &mut [Page]
+        requires { IsWhole self.old }
+        ensures* writes_back { sem 𝓛 (LendsPages self.entry result) }
+        ensures value { result.now ≡ self.old.pages }
+    {
+        self.pages.as_mut_slice()
     }
 }
