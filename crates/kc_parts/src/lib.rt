@@ -3,6 +3,7 @@
 
 mod parts;
 mod room;
+mod wanted;
 
 pub use parts::Parts;
 pub use room::Room;
