@@ -3,6 +3,7 @@
 
 mod parts;
 mod room;
+mod slots;
 mod wanted;
 
 pub use parts::Parts;
