@@ -13,7 +13,7 @@ use Rattle.kc_parts.specs.Cuts.{HeldPart, held_at, either, IsJoin}
 use Rattle.kc_parts.specs.Cuts.HeldPart.{page_part, slot_part, ends_part}
 use Rattle.kc_parts.specs.Moves.{IsEmptyPlace, IsLaid, IsWrite, only_at}
 use Rattle.kc_parts.proofs.Filled.{cells, cell_in, cells-append, length-cells, cell-no_place, eqb-yes, eqb-no, same-number}
-use Rattle.kc_parts.proofs.Moving.{either-none}
+use Rattle.kc_parts.proofs.SlotMoves.{either-none}
 
 -- laying where the place is empty
 pub laid-some : (before after : Held) (f : ℕ) (page : Page) → page_at before f ≡ None → IsWrite f (Some page) before after → IsLaid (only_at f (Some page)) before after

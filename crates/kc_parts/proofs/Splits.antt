@@ -11,7 +11,7 @@ use Rattle.kc_parts.specs.Held.{Held, place_of, page_at, vm_at}
 use Rattle.kc_parts.specs.Cuts.{HeldPart, held_at, IsSplit, FitsInto, IsJoin, either}
 use Rattle.kc_parts.specs.Cuts.HeldPart.{page_part, slot_part, ends_part}
 use Rattle.kc_parts.proofs.Writing.{place-here}
-use Rattle.kc_parts.proofs.Moving.{slot-within}
+use Rattle.kc_parts.proofs.SlotMoves.{slot-within}
 
 none-of : {A : Type 0} → (part : A → HeldPart) (o : Option A) → option_map part o ≡ None → o ≡ None
 none-of part None e = refl

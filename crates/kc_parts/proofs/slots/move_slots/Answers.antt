@@ -1,7 +1,7 @@
 use Rattle.std.proofs.Common.{ℕ, ◌≡◌, ◌<◌, ◌+◌, Bool, ◌||◌, nat_eq, true, length, get_or, take, set, ◌∙◌, sym, ap, refl, arith, length-set}
 use Rattle.kc_types.specs.declared.resource.Resource.TheVariants as resource
 use Rattle.kc_parts.specs.Cuts.{is_wanted}
-use Rattle.kc_parts.proofs.Moving.{moved-more, left-more, wanted-slot, wanted-no_slot, wanted-here}
+use Rattle.kc_parts.proofs.SlotMoves.{moved-more, left-more, wanted-slot, wanted-no_slot, wanted-here}
 use Rattle.kc_parts.proofs.slots.move_slots.Goals as goal
 use Rattle.kc_parts.proofs.slots.move_slots.Goals.{in-Vm, in_default}
 

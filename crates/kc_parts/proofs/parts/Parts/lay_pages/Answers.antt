@@ -2,7 +2,7 @@ use Rattle.std.proofs.Common.{◌∙◌, sym, ap, refl, arith}
 use Rattle.kc_parts.specs.Held.{page_at}
 use Rattle.kc_parts.specs.Cuts.{either}
 use Rattle.kc_parts.proofs.Filled.{cells, page_at-cells}
-use Rattle.kc_parts.proofs.Moving.{either-none}
+use Rattle.kc_parts.proofs.SlotMoves.{either-none}
 use Rattle.kc_parts.proofs.Putting.{IsLast, rest-lengths, last-empty, put-last, cells-end}
 use Rattle.kc_parts.proofs.parts.Parts.lay_pages.Goals as goal
 
