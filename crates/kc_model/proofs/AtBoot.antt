@@ -18,7 +18,7 @@ lt_or_le : (a b : ℕ) → (a < b) ⊎ (b ≤ a)
 lt_or_le a b = grind (arith, common_steps)
 
 -- a number stands once in the range that it is in
-times_in-range : (first count f : ℕ) → times_in (range_with_len first count) f ≡ cond (nat_le first f && nat_lt f (first + count)) 1 0
+pub times_in-range : (first count f : ℕ) → times_in (range_with_len first count) f ≡ cond (nat_le first f && nat_lt f (first + count)) 1 0
 times_in-range first zero f = grind (arith, common_steps)
 times_in-range first (suc count) f = let rest = times_in-range (first + 1) count f in grind (arith, common_steps, rest)
 

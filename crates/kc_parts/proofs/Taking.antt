@@ -10,7 +10,7 @@ use Rattle.kc_types.specs.declared.resource.Resource.TheVariants as resource
 use Rattle.kc_page.specs.declared.page.Page.{Page}
 use Rattle.kc_vms.specs.Slots.{VmSlot}
 use Rattle.kc_parts.specs.Held.{Held, IsHeld, IsRising, page_at, vm_at}
-use Rattle.kc_parts.specs.Cuts.{HeldPart, held_at, is_wanted, AreHere, IsSplit}
+use Rattle.kc_parts.specs.Cuts.{HeldPart, held_at, is_wanted, AreHere, IsSplit, IsFull}
 use Rattle.kc_parts.specs.Cuts.HeldPart.{page_part, slot_part, ends_part}
 use Rattle.kc_parts.specs.Moves.{is_among, AreAmong, AreFramesOf, IsLifted, WithSlots, page_among, slot_of}
 use Rattle.kc_parts.proofs.Filled.{cells, cell_in, page_at-cells, cell-by_numbers, eqb-no}
@@ -106,3 +106,10 @@ split-end wanted ns hs ps vms ends start mid freed rest asked n are filled count
       (lifted.free ∙ ap (λ h. h.free) kept ∙ ap (λ b. cond b None mid.free) is ∙ ap (cond (is_wanted wanted resource.Free) None) (ap (λ h. h.free) slots_only))
       (lifted.numbers ∙ ap (λ h. h.numbers) kept ∙ ap (λ h. h.numbers) slots_only)
       (ap length (lifted.vms ∙ ap (λ h. h.vms) kept) ∙ room)
+
+-- all that came out is here
+pub taken-full : (wanted : List Resource) (start rest taken : Held) → AreHere start wanted → IsSplit start (is_wanted wanted) rest taken → AreAmong wanted taken.numbers → IsFull taken
+taken-full wanted start rest taken here split among i low =
+    let n = get_or taken.numbers i 0 in
+    let named : is_wanted wanted (resource.Frame n) ≡ true = sym (among n) ∙ among-at taken.numbers i low in
+    page-here (page_at taken n) (rw (split.taken_is (resource.Frame n), named) (here (resource.Frame n) named))

@@ -7,6 +7,7 @@ use Rattle.kc_page.specs.declared.page.Page.{Page}
 use Rattle.kc_vms.specs.Slots.{VmSlot}
 use Rattle.kc_parts.specs.Held.{Held, IsHeld, IsRising, place_of, is_filled, page_at}
 use Rattle.kc_parts.specs.Moves.{IsWrite, page_among}
+use Rattle.kc_parts.proofs.Places.{place-found}
 use Rattle.kc_parts.proofs.Filled.{cells, cell_in, page_at-cells, cells-set, cell-set, length-cells, same-number}
 
 pub place-number : (ns : List ℕ) (f : ℕ) → place_of ns f < length ns → get_or ns (place_of ns f) 0 ≡ f
@@ -53,3 +54,18 @@ write-place ns hs ps vms free f at b p held is low = record {
           ∙ cell-set ns (cells hs ps) (place_of ns f) g (cond b (Some p) None) held.rising (length-cells hs ps (held.here ∙ sym held.pages) ∙ held.here) low
           ∙ ap (λ n. cond (nat_eq g n) (cond b (Some p) None) (cell_in ns (cells hs ps) g)) (place-number ns f low)
           ∙ ap (cond (nat_eq g f) (cond b (Some p) None)) (sym (page_at-cells ns hs ps g held.here held.pages))
+
+pub filled-here : (ns : List ℕ) (hs : List Bool) (ps : List Page) (f : ℕ) → IsSome (page_among ns hs ps f) → is_filled ns hs f ≡ true
+filled-here ns hs ps f h = by_filled (is_filled ns hs f) refl h
+  where
+    by_filled : (b : Bool) → is_filled ns hs f ≡ b → IsSome (slice_get ps (cond b (place_of ns f) (length ps))) → is_filled ns hs f ≡ true
+    by_filled true e some = e
+    by_filled false e some = let none : slice_get ps (length ps) ≡ None = slice_get_past ps (length ps) (omega arith) in let no_page = rw none at some in cc
+
+-- a page that is here is that at its frame's place, whatever the pages become
+pub page-with : (h : Held) (pages : List Page) (f : ℕ) → IsSome (page_at h f) → page_at (record h { pages = pages }) f ≡ slice_get pages (place_of h.numbers f)
+page-with h pages f here = rw (filled-here h.numbers h.here h.pages f here) refl
+
+-- the page at a place is that of the frame there
+pub full-page : (h : Held) (i : ℕ) → IsRising h.numbers → i < length h.numbers → IsSome (page_at h (get_or h.numbers i 0)) → slice_get h.pages i ≡ page_at h (get_or h.numbers i 0)
+full-page h i up low here = rw (filled-here h.numbers h.here h.pages (get_or h.numbers i 0) here, place-found h.numbers i (get_or h.numbers i 0) up low refl) refl

@@ -63,6 +63,6 @@ either None second = second
 abbrev pub IsJoin : Held → Held → Held → Type 0
 IsJoin one other after = (r : Resource) → held_at after r ≡ either (held_at one r) (held_at other r)
 
--- nothing is taken out: each place is filled
-abbrev pub IsWhole : Held → Type 0
-IsWhole h = (i : ℕ) → i < length h.here → get_or h.here i false ≡ true
+-- no page is taken out: each place has one
+abbrev pub IsFull : Held → Type 0
+IsFull h = (i : ℕ) → i < length h.numbers → IsSome (page_at h (get_or h.numbers i 0))

@@ -1,5 +1,5 @@
 -- Parts seen as a state, with the untouched value where a part is not here.
-use Rattle.std.specs.Prelude.{ℕ, ◌≡◌, ◌<◌, is_some, List, [], map, Option, Some, None}
+use Rattle.std.specs.Prelude.{ℕ, ◌≡◌, ◌<◌, true, is_some, List, [], map, Option, Some, None}
 use Rattle.std.specs.List.{range_with_len}
 use Rattle.kc_types.specs.Configuration.{Configuration, slot_count}
 use Rattle.kc_types.specs.declared.link.Ends.{Ends}
@@ -7,7 +7,7 @@ use Rattle.kc_types.specs.declared.owner.Owner.{Owner}
 use Rattle.kc_types.specs.declared.owner.Owner.TheVariants.{Core, Host}
 use Rattle.kc_types.specs.declared.resource.Resource.TheVariants as resource
 use Rattle.kc_model.specs.State.{State, Frame, Slot, untouched, empty_slot}
-use Rattle.kc_model.specs.Resources.{Resources}
+use Rattle.kc_model.specs.Resources.{Resource, Resources}
 use Rattle.kc_model.specs.Lawful.{times_in}
 use Rattle.kc_model.specs.Linked.{LinkedSlot}
 use Rattle.kc_page.specs.declared.page.Page.{Page}
@@ -51,12 +51,34 @@ here_of h resource.Free = is_some h.free
 abbrev pub owner_at : Held → ℕ → Owner
 owner_at h f = (frame_in (page_at h f)).owner
 
--- the parts fit the configuration, and the links of the frames spell the lists whose ends are here
-pub record IsLinked (config : Configuration) (h : Held) : Type 0 where
-  pub frames : (f : ℕ) (page : Page) → page_at h f ≡ Some page → f < config.frames
-  pub vms : (v : ℕ) (vm : VmSlot) → vm_at h v ≡ Some vm → IsVm vm × (vm.room ≡ config.leaves)
-  pub lists : (owner : Owner) (ends : Ends) → ends_at h owner ≡ Some ends → IsList (links_of h) ends
+-- the links of the frames spell each owner's list whose ends are here
+pub record AreLists (links : Links) (ends_at : Owner → Option Ends) (owner_at : ℕ → Owner) : Type 0 where
+  pub spelled : (owner : Owner) (ends : Ends) → ends_at owner ≡ Some ends → IsList links ends
   -- a list has its owner's frames alone
-  pub owned : (owner : Owner) (ends : Ends) (f : ℕ) → ends_at h owner ≡ Some ends → 0 < times_in (listed (links_of h) ends) f → owner_at h f ≡ owner
+  pub owned : (owner : Owner) (ends : Ends) (f : ℕ) → ends_at owner ≡ Some ends → 0 < times_in (listed links ends) f → owner_at f ≡ owner
   -- the host's frames are in no list
-  pub alone : (f : ℕ) → owner_at h f ≡ Host → links_of h f ≡ Some unlinked
+  pub alone : (f : ℕ) → owner_at f ≡ Host → links f ≡ Some unlinked
+
+-- the parts fit the configuration, and their links and ends are those of lists
+pub record IsLinked (config : Configuration) (h : Held) : Type 0 where
+  pub frames : (f : ℕ) → is_some (page_at h f) ≡ true → f < config.frames
+  pub vms : (v : ℕ) (vm : VmSlot) → vm_at h v ≡ Some vm → IsVm vm × (vm.room ≡ config.leaves)
+  pub lists : AreLists (links_of h) (ends_at h) (owner_at h)
+
+-- the free list, where its ends are here
+abbrev pub free_of : Held → List ℕ
+free_of h = list_in (links_of h) h.free
+
+-- the frame is in no list
+pub record IsLoose (h : Held) (f : ℕ) : Type 0 where
+  pub alone : links_of h f ≡ Some unlinked
+  pub absent : (owner : Owner) (ends : Ends) → ends_at h owner ≡ Some ends → times_in (listed (links_of h) ends) f ≡ 0
+
+-- the free list changes, and nothing else that is seen
+pub record IsFreeMove (old new : Held) : Type 0 where
+  pub numbers : new.numbers ≡ old.numbers
+  pub filled : new.here ≡ old.here
+  pub here : (r : Resource) → here_of new r ≡ here_of old r
+  pub owners : (f : ℕ) → owner_at new f ≡ owner_at old f
+  pub state : (config : Configuration) → state_of config new ≡ record (state_of config old) { free = free_of new }
+  pub linked : (config : Configuration) → IsLinked config old → IsLinked config new

@@ -1,6 +1,9 @@
 //! Parts of the core: the frames, VM slots and the free list that are in one hand.
 #![tactic(auto)]
 
+mod boot;
+mod links;
+mod lists;
 mod parts;
 mod room;
 mod slots;

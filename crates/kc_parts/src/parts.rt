@@ -1,16 +1,16 @@
 //! Pages, slots and the ends of the free list, taken out and put back.
 ghost use Rattle.std.specs.Prelude.{◌≡◌, ℕ, ◌<◌, length, get_or, slice_get, IsSome, IfSome, IfOk, OnErr, Option, Some, None, map, cond, true};
-ghost use Rattle.kc_types.specs.declared.resource.Resource.TheVariants as resource;
-ghost use Rattle.std.specs.Option.{option_copied};
+ghost use Rattle.std.specs.Option.{option_copied, option_copied_mut};
 ghost use Rattle.std.specs.Borrow.{sem};
+ghost use Rattle.kc_types.specs.declared.resource.Resource.TheVariants as resource;
 ghost use Rattle.kc_parts.specs.Held.{IsRising, place_of};
 
 use crate::Room;
+use crate::boot::{all_filled, all_numbers, boot_ends, boot_pages, boot_vms};
 use crate::slots::{lay_slots, move_slots};
 use crate::wanted::{empty_slots, slots_up_to, wanted_frames, wants_free};
-use kc_links::LinkStore;
 use kc_page::{Page, PageBytes, PageRecord};
-use kc_types::{Ends, FrameNo, Link, Memory, Owner, Resource, VmId};
+use kc_types::{Config, Ends, FrameNo, Memory, Owner, Resource, VmId};
 use kc_vms::Vm;
 use std::alloc::Global;
 use std::marker::Model;
@@ -61,10 +61,31 @@ fn place_of(numbers: &[u32], frame: u32) -> usize
 }
 
 impl Parts {
+    ghost use Rattle.kc_model.specs.Boot.{boot};
     ghost use Rattle.kc_parts.specs.Held.{IsHeld, place_in, page_at, vm_at};
+    ghost use Rattle.kc_parts.specs.States.{state_of, IsLinked};
+    ghost use Rattle.kc_parts.specs.Booting.{IsWhole};
     ghost use Rattle.kc_parts.specs.Lending.{LendsPage, LendsVm, LendsFree, LendsPages};
-    ghost use Rattle.kc_parts.specs.Cuts.{AreHere, IsSplit, FitsInto, IsJoin, IsWhole, is_wanted};
+    ghost use Rattle.kc_parts.specs.Cuts.{AreHere, IsSplit, FitsInto, IsJoin, IsFull, is_wanted};
     ghost use Rattle.kc_parts.specs.Moves.{IsWrite, IsLifted, IsLaid, IsEmptyPlace, WithSlots, only_at, page_among, slot_of};
+
+    /// All parts of the boot state: every frame of the configuration, zeroed, every slot, empty, and the free
+    /// list by rising number; `Memory` where a growth was refused.
+    pub fn boot(alloc: Global, config: &Config) -> Result<Parts, Memory>
+        // No clause can rule out want of memory: a test boots parts.
+        ensures state { IfOk result (λ parts. state_of config.now parts ≡ boot config.now) }
+        ensures linked { IfOk result (IsLinked config.now) }
+        ensures whole { IfOk result (IsWhole config.now) }
+    {
+        Ok(Parts {
+            numbers: all_numbers(alloc, config.frames())?,
+            here: all_filled(alloc, config.frames())?,
+            pages: boot_pages(alloc, config)?,
+            blanks: Vec::new(alloc),
+            vms: boot_vms(alloc, config)?,
+            free: Some(boot_ends(config)),
+        })
+    }
 
     /// The place where a frame's page is, and the number of pages where it is not here.
     fn place_in(&self, frame: FrameNo) -> usize
@@ -88,6 +109,7 @@ impl Parts {
 
     /// The page of a frame, for writing; `None` where it is not here.
     pub fn frame_mut(&mut self, frame: FrameNo) -> Option<&mut Page>
+        ensures value { option_copied_mut result ≡ page_at self.old frame }
         ensures* writes_back { sem 𝓛 (LendsPage self.entry frame result) }
     {
         let at = self.place_in(frame);
@@ -106,6 +128,7 @@ impl Parts {
 
     /// A VM slot, for writing; `None` where it is not here.
     pub fn vm_mut(&mut self, vm: VmId) -> Option<&mut Vm>
+        ensures value { option_copied_mut result ≡ vm_at self.old vm }
         ensures* writes_back { sem 𝓛 (LendsVm self.entry vm result) }
     {
         self.vms.get_mut(vm.index())?.as_mut()
@@ -120,6 +143,7 @@ impl Parts {
 
     /// The ends of the free list, for writing; `None` where they are not here.
     pub fn free_mut(&mut self) -> Option<&mut Ends>
+        ensures value { option_copied_mut result ≡ self.old.free }
         ensures* writes_back { sem 𝓛 (LendsFree self.entry result) }
     {
         self.free.as_mut()
@@ -142,19 +166,21 @@ impl Parts {
         FrameNo::try_new(*self.numbers.get(n)?)
     }
 
-    /// All pages, by rising frame number.
+    /// All pages, by rising frame number, where none is taken out.
     pub fn pages(&self) -> &[Page]
-        requires { IsWhole self.now }
-        ensures { result.now ≡ self.now.pages }
+        requires { IsFull self.now }
+        ensures value { result.now ≡ self.now.pages }
+        ensures each { (i : ℕ) → i < length self.now.numbers → slice_get result.now i ≡ page_at self.now (get_or self.now.numbers i 0) }
     {
         self.pages.as_slice()
     }
 
-    /// All pages, by rising frame number, for writing.
+    /// All pages, by rising frame number, for writing, where none is taken out.
     pub fn pages_mut(&mut self) -> &mut [Page]
-        requires { IsWhole self.old }
+        requires { IsFull self.old }
         ensures* writes_back { sem 𝓛 (LendsPages self.entry result) }
         ensures value { result.now ≡ self.old.pages }
+        ensures each { (i : ℕ) → i < length self.old.numbers → slice_get result.now i ≡ page_at self.old (get_or self.old.numbers i 0) }
     {
         self.pages.as_mut_slice()
     }
@@ -166,7 +192,7 @@ impl Parts {
         requires { AreHere self.old wanted.now }
         // No clause can rule out want of memory: tests take parts out.
         ensures ok { IfOk result (λ taken. IsSplit self.old (is_wanted wanted.now) self.new taken) }
-        ensures whole { IfOk result IsWhole }
+        ensures full { IfOk result IsFull }
         ensures err { OnErr result (self.new ≡ self.old) }
     {
         let numbers = wanted_frames(alloc, wanted)?;

@@ -115,6 +115,7 @@ impl Config {
         ensures value { result ≡ self.now.frames }
         ensures some { 0 < result }
         ensures few { result ≤ frame_limit }
+        ensures kept { IsConfiguration self.now }
     {
         self.frames
     }

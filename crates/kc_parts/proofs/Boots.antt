@@ -1,0 +1,67 @@
+-- The parts of the boot state, one after another and all together.
+use Rattle.std.proofs.Common.{ℕ, zero, suc, ◌≡◌, ◌≢◌, ◌<◌, ◌≤◌, ◌+◌, ◌-◌, ◌⊎◌, inl, inr, Bool, true, false, cond, nat_eq, nat_lt, eq-eqb, List, [], ◌∷◌, ◌++◌, length, get_or, map, replicate, Option, Some, None, is_some, refl, sym, ap, ◌∙◌, arith}
+use Rattle.std.specs.List.{range_with_len, slice_get}
+use Rattle.std.specs.Option.{option_map}
+use Rattle.std.proofs.lemmas.Bool.{cases_lt, ne_eqb, lt-ltb}
+use Rattle.std.proofs.lemmas.Grind.{common_steps}
+use Rattle.std.proofs.lemmas.List.{map-id}
+use Rattle.std.proofs.lemmas.List.FromFn.{map-range_with_len_more, length-map-range_with_len, get_or-map-range_with_len}
+use Rattle.std.proofs.lemmas.Option.{slice_get-get_or, slice_get_past}
+use Rattle.kc_types.specs.Limits.{frame_limit}
+use Rattle.kc_types.specs.Configuration.{Configuration, IsConfiguration, slot_count}
+use Rattle.kc_types.specs.declared.link.Ends.{Ends}
+use Rattle.kc_types.specs.declared.owner.Owner.{Owner}
+use Rattle.kc_types.specs.declared.owner.Owner.TheVariants.{Core, Host, Free, Vm}
+use Rattle.kc_model.specs.Lawful.{times_in}
+use Rattle.kc_model.specs.State.{State, Frame, Slot, untouched, empty_slot}
+use Rattle.kc_model.specs.Boot.{boot, boot_owner, boot_frame, no_vms}
+use Rattle.kc_page.specs.declared.page.Page.{Page}
+use Rattle.kc_vms.specs.Slots.{VmSlot, empty_vm}
+use Rattle.kc_links.specs.Chain.{Links, IsLinked, first_or, last_or, unlinked}
+use Rattle.kc_links.specs.Ending.{Chain, listed, IsList}
+use Rattle.kc_links.proofs.Chains.{chain-listed, chain-is_list}
+use Rattle.kc_parts.specs.Held.{Held, place_of, is_filled, place_in, page_at, vm_at, link_of, links_of, ends_at}
+use Rattle.kc_parts.specs.States.{frame_in, slot_in, list_in, state_of, owner_at, AreLists, IsLinked as IsLinkedUp}
+use Rattle.kc_parts.specs.Booting.{first_free, boot_prev, boot_next, boot_page, boot_ends, IsWhole}
+
+pub numbers-more : (n : ℕ) → range_with_len 0 (n + 1) ≡ range_with_len 0 n ++ n ∷ []
+numbers-more n = sym (map-id (range_with_len 0 (n + 1))) ∙ map-range_with_len_more (λ f. f) 0 n n (omega arith) ∙ ap (λ fs. fs ++ n ∷ []) (map-id (range_with_len 0 n))
+
+pub pages-more : {X : Type 0} (at : ℕ → X) (n : ℕ) → map at (range_with_len 0 (n + 1)) ≡ map at (range_with_len 0 n) ++ at n ∷ []
+pages-more at n = map-range_with_len_more at 0 n n (omega arith)
+
+pub same-more : {X : Type 0} (x : X) (n : ℕ) → replicate (suc n) x ≡ replicate n x ++ x ∷ []
+same-more x zero = refl
+same-more x (suc n) = ap (λ xs. x ∷ xs) (same-more x n)
+
+-- where all numbers from one on have places, each is at its distance
+place-range : (a n k : ℕ) → k < n → place_of (range_with_len a n) (a + k) ≡ k
+place-range a zero k lt = absurd (omega (arith, lt))
+place-range a (suc n) zero lt = rw (eq-eqb a (a + 0) (omega arith)) refl
+place-range a (suc n) (suc k) lt =
+    let e : a + suc k ≡ (a + 1) + k = omega arith in
+    rw (ne_eqb a (a + suc k) (λ same. omega (arith, same))) (ap suc (ap (place_of (range_with_len (a + 1) n)) e ∙ place-range (a + 1) n k (omega (arith, lt))))
+
+filled-range : (a n k : ℕ) → k < n → is_filled (range_with_len a n) (replicate n true) (a + k) ≡ true
+filled-range a zero k lt = absurd (omega (arith, lt))
+filled-range a (suc n) zero lt = rw (eq-eqb a (a + 0) (omega arith)) refl
+filled-range a (suc n) (suc k) lt =
+    let e : a + suc k ≡ (a + 1) + k = omega arith in
+    rw (ne_eqb a (a + suc k) (λ same. omega (arith, same))) (ap (is_filled (range_with_len (a + 1) n) (replicate n true)) e ∙ filled-range (a + 1) n k (omega (arith, lt)))
+
+unfilled-range : (a n f : ℕ) → a + n ≤ f → is_filled (range_with_len a n) (replicate n true) f ≡ false
+unfilled-range a zero f le = refl
+unfilled-range a (suc n) f le = rw (ne_eqb a f (λ same. omega (arith, le, same))) (unfilled-range (a + 1) n f (omega (arith, le)))
+
+-- the page of a frame where all have places and all are here
+pub page-whole : (h : Held) (n f : ℕ) → h.numbers ≡ range_with_len 0 n → h.here ≡ replicate n true → f < n → page_at h f ≡ slice_get h.pages f
+page-whole h n f numbers here lt =
+    let e : 0 + f ≡ f = omega arith in
+    let filled : is_filled h.numbers h.here f ≡ true = ap (λ ns. is_filled ns h.here f) numbers ∙ ap (λ hs. is_filled (range_with_len 0 n) hs f) here ∙ ap (is_filled (range_with_len 0 n) (replicate n true)) (sym e) ∙ filled-range 0 n f lt in
+    let place : place_of h.numbers f ≡ f = ap (λ ns. place_of ns f) numbers ∙ ap (place_of (range_with_len 0 n)) (sym e) ∙ place-range 0 n f lt in
+    ap (slice_get h.pages) (ap (λ b. cond b (place_of h.numbers f) (length h.pages)) filled ∙ place)
+
+pub page-past : (h : Held) (n f : ℕ) → h.numbers ≡ range_with_len 0 n → h.here ≡ replicate n true → n ≤ f → page_at h f ≡ None
+page-past h n f numbers here le =
+    let empty : is_filled h.numbers h.here f ≡ false = ap (λ ns. is_filled ns h.here f) numbers ∙ ap (λ hs. is_filled (range_with_len 0 n) hs f) here ∙ unfilled-range 0 n f (omega (arith, le)) in
+    ap (slice_get h.pages) (ap (λ b. cond b (place_of h.numbers f) (length h.pages)) empty) ∙ slice_get_past h.pages (length h.pages) (omega arith)

@@ -1,0 +1,6 @@
+use Rattle.std.proofs.Common.{◌≡◌, replicate, Some}
+use Rattle.kc_vms.specs.Slots.{empty_vm}
+use Rattle.kc_parts.proofs.boot.boot_vms.Given as goal
+
+abbrev pub invariant-loop : goal.invariant-loop
+invariant-loop l = l.vms.items ≡ replicate l.counter (Some (empty_vm l.config.leaves))

@@ -1,0 +1,42 @@
+-- The parts of the boot state.
+use Rattle.std.specs.Prelude.{ℕ, ◌≡◌, ◌<◌, ◌+◌, ◌-◌, nat_lt, false, true, cond, replicate, Option, Some, None, is_some}
+use Rattle.std.specs.List.{range_with_len}
+use Rattle.kc_types.specs.Configuration.{Configuration, slot_count}
+use Rattle.kc_types.specs.declared.link.Link.{Link}
+use Rattle.kc_types.specs.declared.link.Ends.{Ends}
+use Rattle.kc_model.specs.State.{zero_page}
+use Rattle.kc_model.specs.Boot.{boot_owner}
+use Rattle.kc_page.specs.declared.page.Page.{Page}
+use Rattle.kc_parts.specs.Held.{Held, page_at, vm_at}
+
+-- the first frame that is free at boot
+abbrev pub first_free : Configuration → ℕ
+first_free config = config.core + config.host
+
+-- the free frames are linked by rising number, the others are in no list
+abbrev pub boot_prev : Configuration → ℕ → Option ℕ
+boot_prev config f = cond (nat_lt (first_free config) f) (Some (f - 1)) None
+
+abbrev pub boot_next : Configuration → ℕ → Option ℕ
+boot_next config f = cond (nat_lt f (first_free config)) None (cond (nat_lt (f + 1) config.frames) (Some (f + 1)) None)
+
+abbrev pub boot_page : Configuration → ℕ → Page
+boot_page config f = record {
+  meta = record { owner = boot_owner config f; share = 0; gfn = None; present = false; prev = boot_prev config f; next = boot_next config f };
+  bytes = zero_page;
+}
+
+abbrev pub boot_ends : Configuration → Ends
+boot_ends config = record {
+  head = cond (nat_lt (first_free config) config.frames) (Some (first_free config)) None;
+  tail = cond (nat_lt (first_free config) config.frames) (Some (config.frames - 1)) None;
+  count = config.frames - first_free config;
+}
+
+-- all that the configuration has is here, in the places of its numbers
+pub record IsWhole (config : Configuration) (h : Held) : Type 0 where
+  pub numbers : h.numbers ≡ range_with_len 0 config.frames
+  pub filled : h.here ≡ replicate config.frames true
+  pub frames : (f : ℕ) → f < config.frames → is_some (page_at h f) ≡ true
+  pub vms : (v : ℕ) → v < slot_count config → is_some (vm_at h v) ≡ true
+  pub free : is_some h.free ≡ true

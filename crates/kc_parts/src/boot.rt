@@ -1,0 +1,124 @@
+//! The parts that a core starts with.
+ghost use Rattle.std.specs.Prelude.{◌≡◌, ◌<◌, ◌+◌, ◌≤◌, map, replicate, Some, true, IfOk, vec_len};
+ghost use Rattle.std.specs.List.{range_with_len};
+ghost use Rattle.kc_types.specs.Configuration.{slot_count};
+ghost use Rattle.kc_model.specs.Boot.{boot_owner};
+ghost use Rattle.kc_vms.specs.Slots.{empty_vm};
+ghost use Rattle.kc_parts.specs.Booting.{boot_prev, boot_next, boot_page, boot_ends};
+
+use kc_page::{Page, PageBytes, PageRecord};
+use kc_types::{Config, Ends, FrameNo, Memory, Owner};
+use kc_vms::Vm;
+use std::alloc::Global;
+
+/// Who owns a frame at boot.
+fn boot_owner(config: &Config, frame: u32) -> Owner
+    ensures { result ≡ boot_owner config.now frame }
+{
+    let core = config.core();
+    let host = config.host();
+    if frame < core {
+        Owner::Core
+    } else if frame < core + host {
+        Owner::Host
+    } else {
+        Owner::Free
+    }
+}
+
+/// The free frame before a frame, at boot.
+fn boot_prev(config: &Config, frame: u32) -> Option<FrameNo>
+    requires { frame < config.now.frames }
+    ensures { result ≡ boot_prev config.now frame }
+{
+    if frame > config.core() + config.host() {
+        FrameNo::try_new(frame - 1)
+    } else {
+        None
+    }
+}
+
+/// The free frame after a free frame, at boot.
+fn boot_next(config: &Config, frame: u32) -> Option<FrameNo>
+    requires { frame < config.now.frames }
+    ensures { result ≡ boot_next config.now frame }
+{
+    if frame >= config.core() + config.host() && frame + 1 < config.frames() {
+        FrameNo::try_new(frame + 1)
+    } else {
+        None
+    }
+}
+
+/// The page of a frame at boot.
+fn boot_page(alloc: Global, config: &Config, frame: u32) -> Result<Page, Memory>
+    requires { frame < config.now.frames }
+    ensures { IfOk result (λ page. page ≡ boot_page config.now frame) }
+{
+    let meta = PageRecord {
+        owner: boot_owner(config, frame),
+        share: 0,
+        gfn: None,
+        present: false,
+        prev: boot_prev(config, frame),
+        next: boot_next(config, frame),
+    };
+    let bytes = PageBytes::zeroed(alloc)?;
+    Ok(Page { meta, bytes })
+}
+
+/// The pages of all frames at boot.
+pub fn boot_pages(alloc: Global, config: &Config) -> Result<Vec<Page>, Memory>
+    ensures { IfOk result (λ pages. pages.items ≡ map (boot_page config.now) (range_with_len 0 config.now.frames)) }
+{
+    let mut pages = Vec::with_capacity(alloc, config.frames() as usize)?;
+    for frame in 0..config.frames() {
+        pages.push(boot_page(alloc, config, frame)?)?;
+    }
+    Ok(pages)
+}
+
+/// The numbers of all frames.
+pub fn all_numbers(alloc: Global, count: u32) -> Result<Vec<u32>, Memory>
+    ensures { IfOk result (λ numbers. numbers.items ≡ range_with_len 0 count) }
+{
+    let mut numbers = Vec::with_capacity(alloc, count as usize)?;
+    for number in 0..count {
+        numbers.push(number)?;
+    }
+    Ok(numbers)
+}
+
+/// As many places, all of them filled.
+pub fn all_filled(alloc: Global, count: u32) -> Result<Vec<bool>, Memory>
+    ensures { IfOk result (λ here. here.items ≡ replicate count true) }
+{
+    Ok(vec![in alloc; true; count as usize]?)
+}
+
+/// All slots, empty.
+pub fn boot_vms(alloc: Global, config: &Config) -> Result<Vec<Option<Vm>>, Memory>
+    ensures { IfOk result (λ vms. vms.items ≡ replicate (slot_count config.now) (Some (empty_vm config.now.leaves))) }
+{
+    let mut vms = Vec::with_capacity(alloc, config.slots() as usize)?;
+    for _ in 0..config.slots() {
+        vms.push(Some(Vm::try_new(alloc, config.leaves() as u8)?))?;
+    }
+    Ok(vms)
+}
+
+/// The ends of the free list at boot.
+pub fn boot_ends(config: &Config) -> Ends
+    ensures { result ≡ boot_ends config.now }
+{
+    let first = config.core() + config.host();
+    let frames = config.frames();
+    if first >= frames {
+        return Ends::empty();
+    }
+    Ends {
+        head: FrameNo::try_new(first),
+        tail: FrameNo::try_new(frames - 1),
+        count: frames - first,
+    }
+}

@@ -1,0 +1,36 @@
+//! The links of the frames that are here, kept in their records.
+use crate::Parts;
+use kc_links::LinkStore;
+use kc_types::{FrameNo, Link};
+
+impl LinkStore for Parts {
+    ghost use Rattle.kc_parts.specs.Held.{links_of};
+    ghost use Rattle.kc_parts.specs.Linking.{IsSameRest, rest_kept, rest_through, links_within};
+
+    ghost links = { links_of };
+
+    ghost same_rest = { IsSameRest };
+
+    fn link(&self, frame: FrameNo) -> Option<Link> {
+        match self.frame(frame) {
+            Some(page) => Some(Link {
+                prev: page.meta.prev,
+                next: page.meta.next,
+            }),
+            None => None,
+        }
+    }
+
+    fn set_link(&mut self, frame: FrameNo, link: Link) {
+        if let Some(page) = self.frame_mut(frame) {
+            page.meta.prev = link.prev;
+            page.meta.next = link.next;
+        }
+    }
+
+    ghost within = { links_within };
+
+    ghost rest_kept = { rest_kept };
+
+    ghost rest_through = { rest_through };
+}
