@@ -1,5 +1,5 @@
 //! Pages, slots and the ends of the free list, taken out and put back.
-ghost use Rattle.std.specs.Prelude.{◌≡◌, ℕ, ◌<◌, length, get_or, slice_get, IsSome, IfSome, IfOk, OnErr, Option, Some, None, map, cond, true};
+ghost use Rattle.std.specs.Prelude.{◌≡◌, ◌↔◌, ℕ, ◌<◌, IsTrue, is_some, length, get_or, slice_get, IsSome, IfSome, IfOk, OnErr, Option, Some, None, map, cond, true};
 ghost use Rattle.std.specs.Option.{option_copied, option_copied_mut};
 ghost use Rattle.std.specs.Borrow.{sem};
 ghost use Rattle.kc_types.specs.declared.resource.Resource.TheVariants as resource;
@@ -66,7 +66,7 @@ impl Parts {
     ghost use Rattle.kc_parts.specs.States.{state_of, IsLinked};
     ghost use Rattle.kc_parts.specs.Booting.{IsWhole};
     ghost use Rattle.kc_parts.specs.Lending.{LendsPage, LendsVm, LendsFree, LendsPages};
-    ghost use Rattle.kc_parts.specs.Cuts.{AreHere, IsSplit, FitsInto, IsJoin, IsFull, is_wanted};
+    ghost use Rattle.kc_parts.specs.Cuts.{AreHere, IsSplit, FitsInto, IsJoin, IsFull, held_at, is_wanted};
     ghost use Rattle.kc_parts.specs.Moves.{IsWrite, IsLifted, IsLaid, IsEmptyPlace, WithSlots, only_at, page_among, slot_of};
 
     /// All parts of the boot state: every frame of the configuration, zeroed, every slot, empty, and the free
@@ -183,6 +183,29 @@ impl Parts {
         ensures each { (i : ℕ) → i < length self.old.numbers → slice_get result.now i ≡ page_at self.old (get_or self.old.numbers i 0) }
     {
         self.pages.as_mut_slice()
+    }
+
+    /// Whether a resource is here.
+    pub fn has(&self, resource: Resource) -> bool
+        ensures { result ≡ is_some (held_at self.now resource) }
+    {
+        match resource {
+            Resource::Frame(frame) => self.frame(frame).is_some(),
+            Resource::Vm(vm) => self.vm(vm).is_some(),
+            Resource::Free => self.free.is_some(),
+        }
+    }
+
+    /// Whether all of the resources are here.
+    pub fn has_all(&self, wanted: &[Resource]) -> bool
+        ensures { IsTrue result ↔ AreHere self.now wanted.now }
+    {
+        for resource in wanted {
+            if !self.has(*resource) {
+                return false;
+            }
+        }
+        true
     }
 
     /// Takes the resources out, all of which are here. What comes out has room for just these: a place for each
@@ -367,3 +390,6 @@ fn blank_page(alloc: Global) -> Result<Page, Memory> {
         bytes: PageBytes::zeroed(alloc)?,
     })
 }
+
+#[cfg(test)]
+mod tests;
