@@ -1,6 +1,6 @@
 -- What parts end as, where one of them is lent for writing.
-use Rattle.std.specs.Prelude.{ℕ, Option, Some}
-use Rattle.std.specs.Borrow.{LendsIf, MutBor, Fml}
+use Rattle.std.specs.Prelude.{ℕ, List, ◌++◌, length, take, drop, Option, Some}
+use Rattle.std.specs.Borrow.{Array, Lends, LendsIf, MutBor, Fml}
 use Rattle.kc_types.specs.declared.link.Ends.{Ends}
 use Rattle.kc_types.specs.contracts.link.Ends.{the_row as ends_row}
 use Rattle.kc_page.specs.declared.page.Page.{Page}
@@ -21,3 +21,11 @@ LendsVm parts v vm = LendsIf the_row vm_row parts vm (with_vm parts.now v) parts
 -- the parts end with the ends that are left behind the reference
 abbrev pub LendsFree : MutBor Held → Option (MutBor Ends) → Fml
 LendsFree parts ends = LendsIf the_row ends_row parts ends (λ ends. record parts.now { free = Some ends }) parts.now
+
+-- the list with these in the place of its own, as long as it was
+abbrev pub refilled : List Page → List Page → List Page
+refilled pages new = take (length pages) (new ++ drop (length new) pages)
+
+-- the parts end with the pages that are left behind the reference
+abbrev pub LendsPages : MutBor Held → MutBor (List Page) → Fml
+LendsPages parts pages = Lends the_row (Array page_row 0) parts pages (λ new. record parts.now { pages = refilled parts.now.pages new })

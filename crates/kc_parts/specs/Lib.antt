@@ -3,3 +3,5 @@ pub mod States
 pub mod Linking
 pub mod Booting
 pub mod Lending
+pub mod Cuts
+pub mod Moves

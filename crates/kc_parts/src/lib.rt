@@ -5,5 +5,9 @@ mod boot;
 mod links;
 mod lists;
 mod parts;
+mod room;
+mod slots;
+mod wanted;
 
 pub use parts::Parts;
+pub use room::Room;

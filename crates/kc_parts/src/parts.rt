@@ -1,15 +1,20 @@
 //! Pages, slots and the ends of the free list, taken out and put back.
-ghost use Rattle.std.specs.Prelude.{◌≡◌, ℕ, ◌<◌, length, get_or, IsSome, IfSome, IfOk, Option, Some, None};
+ghost use Rattle.std.specs.Prelude.{◌≡◌, ◌↔◌, ℕ, ◌<◌, IsTrue, is_some, length, get_or, slice_get, IsSome, IfSome, IfOk, OnErr, Option, Some, None, map, cond, true};
 ghost use Rattle.std.specs.Option.{option_copied, option_copied_mut};
 ghost use Rattle.std.specs.Borrow.{sem};
+ghost use Rattle.kc_types.specs.declared.resource.Resource.TheVariants as resource;
 ghost use Rattle.kc_parts.specs.Held.{IsRising, place_of};
 
+use crate::Room;
 use crate::boot::{all_filled, all_numbers, boot_ends, boot_pages, boot_vms};
-use kc_page::Page;
-use kc_types::{Config, Ends, FrameNo, Memory, VmId};
+use crate::slots::{lay_slots, move_slots};
+use crate::wanted::{empty_slots, slots_up_to, wanted_frames, wants_free};
+use kc_page::{Page, PageBytes, PageRecord};
+use kc_types::{Config, Ends, FrameNo, Memory, Owner, Resource, VmId};
 use kc_vms::Vm;
 use std::alloc::Global;
 use std::marker::Model;
+use std::mem::{replace, swap};
 
 /// Parts that are in one hand: pages in places of their own, by rising frame number, VM slots, and the ends of
 /// the free list. A place stays where it is when its page is taken out, with a blank page in it, so what is
@@ -57,10 +62,12 @@ fn place_of(numbers: &[u32], frame: u32) -> usize
 
 impl Parts {
     ghost use Rattle.kc_model.specs.Boot.{boot};
-    ghost use Rattle.kc_parts.specs.Held.{place_in, page_at, vm_at};
+    ghost use Rattle.kc_parts.specs.Held.{IsHeld, place_in, page_at, vm_at};
     ghost use Rattle.kc_parts.specs.States.{state_of, IsLinked};
     ghost use Rattle.kc_parts.specs.Booting.{IsWhole};
-    ghost use Rattle.kc_parts.specs.Lending.{LendsPage, LendsVm, LendsFree};
+    ghost use Rattle.kc_parts.specs.Lending.{LendsPage, LendsVm, LendsFree, LendsPages};
+    ghost use Rattle.kc_parts.specs.Cuts.{AreHere, IsSplit, FitsInto, IsJoin, IsFull, held_at, is_wanted};
+    ghost use Rattle.kc_parts.specs.Moves.{IsWrite, IsLifted, IsLaid, IsEmptyPlace, WithSlots, only_at, page_among, slot_of};
 
     /// All parts of the boot state: every frame of the configuration, zeroed, every slot, empty, and the free
     /// list by rising number; `Memory` where a growth was refused.
@@ -141,4 +148,248 @@ impl Parts {
     {
         self.free.as_mut()
     }
+
+    /// How many frames and slots it can hold without memory.
+    pub fn room(&self) -> Room
+        ensures { result ≡ record { frames = length self.now.numbers; slots = length self.now.vms } }
+    {
+        Room {
+            frames: self.numbers.len(),
+            slots: self.vms.len(),
+        }
+    }
+
+    /// The `n`-th of the frames that there are places for, from 0 on, by rising number; `None` from their count on.
+    pub fn frame_at(&self, n: usize) -> Option<FrameNo>
+        ensures { result ≡ slice_get self.now.numbers n }
+    {
+        FrameNo::try_new(*self.numbers.get(n)?)
+    }
+
+    /// All pages, by rising frame number, where none is taken out.
+    pub fn pages(&self) -> &[Page]
+        requires { IsFull self.now }
+        ensures value { result.now ≡ self.now.pages }
+        ensures each { (i : ℕ) → i < length self.now.numbers → slice_get result.now i ≡ page_at self.now (get_or self.now.numbers i 0) }
+    {
+        self.pages.as_slice()
+    }
+
+    /// All pages, by rising frame number, for writing, where none is taken out.
+    pub fn pages_mut(&mut self) -> &mut [Page]
+        requires { IsFull self.old }
+        ensures* writes_back { sem 𝓛 (LendsPages self.entry result) }
+        ensures value { result.now ≡ self.old.pages }
+        ensures each { (i : ℕ) → i < length self.old.numbers → slice_get result.now i ≡ page_at self.old (get_or self.old.numbers i 0) }
+    {
+        self.pages.as_mut_slice()
+    }
+
+    /// Whether a resource is here.
+    pub fn has(&self, resource: Resource) -> bool
+        ensures { result ≡ is_some (held_at self.now resource) }
+    {
+        match resource {
+            Resource::Frame(frame) => self.frame(frame).is_some(),
+            Resource::Vm(vm) => self.vm(vm).is_some(),
+            Resource::Free => self.free.is_some(),
+        }
+    }
+
+    /// Whether all of the resources are here.
+    pub fn has_all(&self, wanted: &[Resource]) -> bool
+        ensures { IsTrue result ↔ AreHere self.now wanted.now }
+    {
+        for resource in wanted {
+            if !self.has(*resource) {
+                return false;
+            }
+        }
+        true
+    }
+
+    /// Takes the resources out, all of which are here. What comes out has room for just these: a place for each
+    /// frame, and slots up to the highest. A resource may be named more than once. `Memory` where a growth was
+    /// refused, and then nothing has changed.
+    pub fn take_out(&mut self, alloc: Global, wanted: &[Resource]) -> Result<Parts, Memory>
+        requires { AreHere self.old wanted.now }
+        // No clause can rule out want of memory: tests take parts out.
+        ensures ok { IfOk result (λ taken. IsSplit self.old (is_wanted wanted.now) self.new taken) }
+        ensures full { IfOk result IsFull }
+        ensures err { OnErr result (self.new ≡ self.old) }
+    {
+        let numbers = wanted_frames(alloc, wanted)?;
+        let here = vec![in alloc; true; numbers.len()]?;
+        let mut vms = empty_slots(alloc, slots_up_to(wanted))?;
+        let mut pages = self.blank_pages(alloc, numbers.len())?;
+        self.lift_slots(wanted, &mut vms);
+        let free = self.lift_free(wants_free(wanted));
+        self.lift_pages(numbers.as_slice(), &mut pages);
+        Ok(Parts {
+            numbers,
+            here,
+            pages,
+            blanks: Vec::new(alloc),
+            vms,
+            free,
+        })
+    }
+
+    /// Puts parts back into their places, which are empty. It takes no memory.
+    pub fn put_back(&mut self, other: Parts)
+        requires { FitsInto self.old other }
+        ensures joined { IsJoin self.old other self.new }
+        ensures places { self.new.numbers ≡ self.old.numbers }
+        ensures slots { length self.new.vms ≡ length self.old.vms }
+    {
+        let Parts {
+            numbers,
+            here,
+            pages,
+            blanks,
+            vms,
+            free,
+        } = other;
+        drop(blanks);
+        lay_slots(&mut self.vms, vms);
+        if free.is_some() {
+            self.free = free;
+        }
+        self.lay_pages(numbers, here, pages);
+    }
+
+    /// A blank page, from the stock if it has one. Where it has none, the stock first takes the room for a blank of
+    /// each place, so blanks that come back need no memory.
+    fn blank_page(&mut self, alloc: Global) -> Result<Page, Memory>
+        ensures { self.new ≡ self.old }
+    {
+        if let Some(page) = self.blanks.pop() {
+            return Ok(page);
+        }
+        self.blanks.reserve(self.numbers.len())?;
+        blank_page(alloc)
+    }
+
+    /// This many blank pages.
+    fn blank_pages(&mut self, alloc: Global, count: usize) -> Result<Vec<Page>, Memory>
+        ensures kept { self.new ≡ self.old }
+        ensures count { IfOk result (λ pages. length pages.items ≡ count) }
+    {
+        let mut pages = Vec::with_capacity(alloc, count)?;
+        for _ in 0..count {
+            pages.push(self.blank_page(alloc)?)?;
+        }
+        Ok(pages)
+    }
+
+    /// Keeps a blank page in the stock, where that has room.
+    fn keep_blank(&mut self, page: Page)
+        ensures { self.new ≡ self.old }
+    {
+        if self.blanks.len() < self.blanks.capacity() {
+            let Ok(()) = self.blanks.push(page) else {
+                unreachable!()
+            };
+        }
+    }
+
+    /// Takes the slots among the resources, which are here, into places that are empty.
+    fn lift_slots(&mut self, wanted: &[Resource], vms: &mut Vec<Option<Vm>>)
+        requires here { AreHere self.old wanted.now }
+        requires room { (v : ℕ) → is_wanted wanted.now (resource.Vm v) ≡ true → v < length vms.old.items }
+        requires empty { (v : ℕ) → slot_of vms.old.items v ≡ None }
+        ensures taken { (v : ℕ) → slot_of vms.new.items v ≡ cond (is_wanted wanted.now (resource.Vm v)) (vm_at self.old v) None }
+        ensures left { (v : ℕ) → vm_at self.new v ≡ cond (is_wanted wanted.now (resource.Vm v)) None (vm_at self.old v) }
+        ensures length { length self.new.vms ≡ length self.old.vms }
+        ensures rest { WithSlots self.old self.new }
+    {
+        move_slots(&mut self.vms, vms, wanted);
+    }
+
+    /// Takes the ends of the free list, where asked.
+    fn lift_free(&mut self, asked: bool) -> Option<Ends>
+        ensures ends { result ≡ cond asked self.old.free None }
+        ensures rest { self.new ≡ record self.old { free = cond asked None self.old.free } }
+    {
+        if asked { self.free.take() } else { None }
+    }
+
+    /// Takes the pages of these frames, which are here, and leaves the blanks in their places.
+    fn lift_pages(&mut self, numbers: &[u32], pages: &mut Vec<Page>)
+        requires rising { IsRising numbers.now }
+        requires count { length pages.old.items ≡ length numbers.now }
+        requires here { (i : ℕ) → i < length numbers.now → IsSome (page_at self.old (get_or numbers.now i 0)) }
+        ensures taken { map Some pages.new.items ≡ map (page_at self.old) numbers.now }
+        ensures rest { IsLifted numbers.now self.old self.new }
+    {
+        for at in 0..numbers.len() {
+            self.lift_page(numbers[at], &mut pages[at]);
+        }
+    }
+
+    /// Takes the page of a frame, which is here, and leaves the blank in its place.
+    fn lift_page(&mut self, number: u32, page: &mut Page)
+        requires { IsSome (page_at self.old number) }
+        ensures taken { Some page.new ≡ page_at self.old number }
+        ensures rest { IsWrite number None self.old self.new }
+    {
+        let at = place_of(self.numbers.as_slice(), number);
+        swap(&mut self.pages[at], page);
+        self.here[at] = false;
+    }
+
+    /// Lays pages into their places, which are empty, and keeps the blanks.
+    fn lay_pages(&mut self, mut numbers: Vec<u32>, mut here: Vec<bool>, mut pages: Vec<Page>)
+        requires held { IsHeld numbers.items here.items pages.items }
+        requires fits { (f : ℕ) (page : Page) → page_among numbers.items here.items pages.items f ≡ Some page → IsEmptyPlace self.old f }
+        ensures { IsLaid (page_among numbers.items here.items pages.items) self.old self.new }
+    {
+        while let Some(number) = numbers.pop() {
+            let (Some(filled), Some(page)) = (here.pop(), pages.pop()) else {
+                unreachable!()
+            };
+            self.lay_back(number, filled, page);
+        }
+    }
+
+    /// Lays a page into its place, which is empty, if it means something; else it is a blank to be kept.
+    fn lay_back(&mut self, number: u32, filled: bool, page: Page)
+        requires { filled ≡ true → IsEmptyPlace self.old number }
+        ensures { IsLaid (only_at number (cond filled (Some page) None)) self.old self.new }
+    {
+        if filled {
+            self.lay_page(number, page);
+        } else {
+            self.keep_blank(page);
+        }
+    }
+
+    /// Lays a page into its place, and keeps the blank that was there.
+    fn lay_page(&mut self, number: u32, page: Page)
+        requires { place_of self.old.numbers number < length self.old.numbers }
+        ensures { IsWrite number (Some page) self.old self.new }
+    {
+        let at = place_of(self.numbers.as_slice(), number);
+        let blank = replace(&mut self.pages[at], page);
+        self.here[at] = true;
+        self.keep_blank(blank);
+    }
 }
+
+/// A page that means nothing.
+fn blank_page(alloc: Global) -> Result<Page, Memory> {
+    Ok(Page {
+        meta: PageRecord {
+            owner: Owner::Core,
+            share: 0,
+            gfn: None,
+            present: false,
+            prev: None,
+            next: None,
+        },
+        bytes: PageBytes::zeroed(alloc)?,
+    })
+}
+
+#[cfg(test)]
+mod tests;

@@ -1,0 +1,151 @@
+-- What is kept while pages are put back.
+use Rattle.std.proofs.Common.{ℕ, zero, suc, ◌≡◌, ◌≢◌, ◌<◌, ◌≤◌, ◌+◌, Bool, true, false, cond, ◌||◌, nat_eq, List, [], ◌∷◌, ◌++◌, length, get_or, refl, sym, ◌∙◌, ap, arith}
+use Rattle.std.specs.Prelude.{Option, Some, None}
+use Rattle.std.specs.Option.{option_map}
+use Rattle.std.proofs.lemmas.List.{get_or_append_left}
+use Rattle.std.proofs.Math.Seq.{get_or-append_seam}
+use Rattle.std.proofs.Math.ListN.{length-append}
+use Rattle.kc_types.specs.declared.resource.Resource.{Resource}
+use Rattle.kc_types.specs.declared.resource.Resource.TheVariants as resource
+use Rattle.kc_page.specs.declared.page.Page.{Page}
+use Rattle.kc_parts.specs.Held.{Held, IsRising, place_of, page_at, vm_at}
+use Rattle.kc_parts.specs.Cuts.{HeldPart, held_at, either, IsJoin}
+use Rattle.kc_parts.specs.Cuts.HeldPart.{page_part, slot_part, ends_part}
+use Rattle.kc_parts.specs.Moves.{IsEmptyPlace, IsLaid, IsWrite, only_at}
+use Rattle.kc_parts.proofs.Filled.{cells, cell_in, cells-append, length-cells, cell-no_place, eqb-yes, eqb-no, same-number}
+use Rattle.kc_parts.proofs.SlotMoves.{either-none}
+
+-- laying where the place is empty
+pub laid-some : (before after : Held) (f : ℕ) (page : Page) → page_at before f ≡ None → IsWrite f (Some page) before after → IsLaid (only_at f (Some page)) before after
+laid-some before after f page none w = record { numbers = w.numbers; vms = w.vms; free = w.free; pages = λ g. w.pages g ∙ by_test g (nat_eq g f) refl }
+  where
+    by_test : (g : ℕ) (b : Bool) → nat_eq g f ≡ b → cond b (Some page) (page_at before g) ≡ either (page_at before g) (cond b (Some page) None)
+    by_test g true e = let at : page_at before g ≡ None = rw (same-number g f e) none in rw at refl
+    by_test g false e = sym (either-none (page_at before g))
+
+pub laid-none : (h : Held) (f : ℕ) → IsLaid (only_at f None) h h
+laid-none h f = record { numbers = refl; vms = refl; free = refl; pages = λ g. by_test g (nat_eq g f) }
+  where
+    by_test : (g : ℕ) (b : Bool) → page_at h g ≡ either (page_at h g) (cond b None None)
+    by_test g true = sym (either-none (page_at h g))
+    by_test g false = sym (either-none (page_at h g))
+
+-- one more place at the end
+cell-last : (ns : List ℕ) (cs : List (Option Page)) (n : ℕ) (c : Option Page) (g : ℕ) → length cs ≡ length ns → ((k : ℕ) → k < length ns → get_or ns k 0 ≢ n)
+    → cell_in (ns ++ n ∷ []) (cs ++ c ∷ []) g ≡ either (cell_in ns cs g) (cond (nat_eq g n) c None)
+cell-last [] [] n c g l absent = refl
+cell-last [] (d ∷ cs) n c g l absent = absurd (omega (arith, l))
+cell-last (m ∷ ns) [] n c g l absent = absurd (omega (arith, l))
+cell-last (m ∷ ns) (d ∷ cs) n c g l absent =
+    by_test (nat_eq g m) refl (cell-last ns cs n c g (omega (arith, l)) (λ k h. absent (suc k) (omega (arith, h))))
+  where
+    by_test : (b : Bool) → nat_eq g m ≡ b → cell_in (ns ++ n ∷ []) (cs ++ c ∷ []) g ≡ either (cell_in ns cs g) (cond (nat_eq g n) c None)
+        → cond b d (cell_in (ns ++ n ∷ []) (cs ++ c ∷ []) g) ≡ either (cond b d (cell_in ns cs g)) (cond (nat_eq g n) c None)
+    by_test true e rest =
+        let no_more : nat_eq g n ≡ false = eqb-no g n (λ is. absent 0 (omega arith) (sym (same-number g m e) ∙ is)) in
+        rw no_more (sym (either-none d))
+    by_test false e rest = rest
+
+front-rising : (ns : List ℕ) (n : ℕ) → IsRising (ns ++ n ∷ []) → IsRising ns
+front-rising ns n up i j l h =
+    let e : get_or (ns ++ n ∷ []) i 0 ≡ get_or ns i 0 = get_or_append_left ns (n ∷ []) 0 i (omega (arith, l, h)) in
+    let f : get_or (ns ++ n ∷ []) j 0 ≡ get_or ns j 0 = get_or_append_left ns (n ∷ []) 0 j h in
+    let less : get_or (ns ++ n ∷ []) i 0 < get_or (ns ++ n ∷ []) j 0 = up i j l (omega (arith, h, length-append ns (n ∷ []))) in omega (arith, e, f, less)
+
+below-last : (ns : List ℕ) (n : ℕ) → IsRising (ns ++ n ∷ []) → (k : ℕ) → k < length ns → get_or ns k 0 ≢ n
+below-last ns n up k h is =
+    let e : get_or (ns ++ n ∷ []) k 0 ≡ get_or ns k 0 = get_or_append_left ns (n ∷ []) 0 k h in
+    let f : get_or (ns ++ n ∷ []) (length ns) 0 ≡ n = get_or-append_seam ns n [] 0 in
+    let less : get_or (ns ++ n ∷ []) k 0 < get_or (ns ++ n ∷ []) (length ns) 0 = up k (length ns) h (omega (arith, length-append ns (n ∷ []))) in
+    absurd (omega (arith, e, f, less, is))
+
+empty-at_last : (ns : List ℕ) (cs : List (Option Page)) (n : ℕ) (c : Option Page) (h : Held) → length cs ≡ length ns → IsRising (ns ++ n ∷ [])
+    → ((f : ℕ) (page : Page) → cell_in (ns ++ n ∷ []) (cs ++ c ∷ []) f ≡ Some page → IsEmptyPlace h f) → (page : Page) → c ≡ Some page → IsEmptyPlace h n
+empty-at_last ns cs n c h l up fits page e =
+    let gone : cell_in ns cs n ≡ None = cell-no_place ns cs n (below-last ns n up) in
+    fits n page (cell-last ns cs n c n l (below-last ns n up) ∙ rw (gone, eqb-yes n n refl) e)
+
+pub record Steps (all_ns : List ℕ) (all_cs : List (Option Page)) (ns : List ℕ) (cs : List (Option Page)) (before after : Held) : Type 0 where
+  pub rising : IsRising ns
+  pub fits : (f : ℕ) (page : Page) → cell_in ns cs f ≡ Some page → IsEmptyPlace after f
+  pub joined : (f : ℕ) → either (page_at after f) (cell_in ns cs f) ≡ either (page_at before f) (cell_in all_ns all_cs f)
+
+put-step : (ns : List ℕ) (cs : List (Option Page)) (n : ℕ) (c : Option Page) (before after : Held) → length cs ≡ length ns → IsRising (ns ++ n ∷ [])
+    → ((f : ℕ) (page : Page) → cell_in (ns ++ n ∷ []) (cs ++ c ∷ []) f ≡ Some page → IsEmptyPlace before f)
+    → IsLaid (only_at n c) before after → Steps (ns ++ n ∷ []) (cs ++ c ∷ []) ns cs before after
+put-step ns cs n c before after l up fits laid =
+    record {
+      rising = front-rising ns n up;
+      fits = λ f page e. fits_at f page e (nat_eq f n) refl;
+      joined = λ f. joined_at f (nat_eq f n) refl
+    }
+  where
+    fits_at : (f : ℕ) (page : Page) → cell_in ns cs f ≡ Some page → (b : Bool) → nat_eq f n ≡ b → IsEmptyPlace after f
+    fits_at f page e true same =
+        let gone : cell_in ns cs n ≡ None = cell-no_place ns cs n (below-last ns n up) in
+        let no_cell : cell_in ns cs f ≡ None = rw (same-number f n same) gone in cc
+    fits_at f page e false same =
+        let was = fits f page (cell-last ns cs n c f l (below-last ns n up) ∙ rw e refl) in
+        (rw laid.numbers was.0, laid.pages f ∙ rw (was.1, same) refl)
+    joined_at : (f : ℕ) (b : Bool) → nat_eq f n ≡ b → either (page_at after f) (cell_in ns cs f) ≡ either (page_at before f) (cell_in (ns ++ n ∷ []) (cs ++ c ∷ []) f)
+    joined_at f true same =
+        let gone : cell_in ns cs f ≡ None = rw (same-number f n same) (cell-no_place ns cs n (below-last ns n up)) in
+        rw (cell-last ns cs n c f l (below-last ns n up), laid.pages f, gone, same) (either-none _)
+    joined_at f false same =
+        rw (cell-last ns cs n c f l (below-last ns n up), laid.pages f, same, either-none (page_at before f), either-none (cell_in ns cs f)) refl
+
+part-either : {A : Type 0} → (part : A → HeldPart) (o p : Option A) → option_map part (either o p) ≡ either (option_map part o) (option_map part p)
+part-either part None p = refl
+part-either part (Some x) p = refl
+
+-- the pages, the slots and the ends together
+pub join-whole : (one other after : Held) → ((f : ℕ) → page_at after f ≡ either (page_at one f) (page_at other f)) → ((v : ℕ) → vm_at after v ≡ either (vm_at one v) (vm_at other v))
+    → after.free ≡ either one.free other.free → IsJoin one other after
+join-whole one other after pages slots ends = by_kind
+  where
+    by_kind : (r : Resource) → held_at after r ≡ either (held_at one r) (held_at other r)
+    by_kind (resource.Frame f) = ap (option_map page_part) (pages f) ∙ part-either page_part (page_at one f) (page_at other f)
+    by_kind (resource.Vm v) = ap (option_map slot_part) (slots v) ∙ part-either slot_part (vm_at one v) (vm_at other v)
+    by_kind resource.Free = ap (option_map ends_part) ends ∙ part-either ends_part one.free other.free
+
+-- the same, over flags and pages
+cells-all : (hs all_hs : List Bool) (ps all_ps : List Page) (b : Bool) (p : Page) → all_hs ≡ hs ++ b ∷ [] → all_ps ≡ ps ++ p ∷ [] → length hs ≡ length ps
+    → cells all_hs all_ps ≡ cells hs ps ++ cond b (Some p) None ∷ []
+cells-all hs all_hs ps all_ps b p e f same = rw (e, f) (cells-append hs ps b p same)
+
+pub record IsLast (all_ns ns : List ℕ) (all_hs hs : List Bool) (all_ps ps : List Page) (n : ℕ) (b : Bool) (p : Page) : Type 0 where
+  pub numbers : all_ns ≡ ns ++ n ∷ []
+  pub here : all_hs ≡ hs ++ b ∷ []
+  pub pages : all_ps ≡ ps ++ p ∷ []
+  pub same_here : length all_hs ≡ length all_ns
+  pub same_pages : length all_ps ≡ length all_ns
+
+pub rest-lengths : (all_ns ns : List ℕ) (all_hs hs : List Bool) (all_ps ps : List Page) (n : ℕ) (b : Bool) (p : Page) → IsLast all_ns ns all_hs hs all_ps ps n b p
+    → (length hs ≡ length ns) × (length ps ≡ length ns)
+rest-lengths all_ns ns all_hs hs all_ps ps n b p last =
+    let a = ap length last.numbers ∙ length-append ns (n ∷ []) in
+    let d = ap length last.here ∙ length-append hs (b ∷ []) in
+    let e = ap length last.pages ∙ length-append ps (p ∷ []) in
+    (omega (arith, a, d, last.same_here), omega (arith, a, e, last.same_pages))
+
+pub last-empty : (all_ns ns : List ℕ) (all_hs hs : List Bool) (all_ps ps : List Page) (n : ℕ) (b : Bool) (p : Page) (h : Held) → IsLast all_ns ns all_hs hs all_ps ps n b p → IsRising all_ns
+    → ((f : ℕ) (page : Page) → cell_in all_ns (cells all_hs all_ps) f ≡ Some page → IsEmptyPlace h f) → b ≡ true → IsEmptyPlace h n
+last-empty all_ns ns all_hs hs all_ps ps n b p h last up fits e =
+    let lengths = rest-lengths all_ns ns all_hs hs all_ps ps n b p last in
+    let all = cells-all hs all_hs ps all_ps b p last.here last.pages (lengths.0 ∙ sym lengths.1) in
+    empty-at_last ns (cells hs ps) n (cond b (Some p) None) h (length-cells hs ps (lengths.0 ∙ sym lengths.1) ∙ lengths.0) (rw (← last.numbers) up)
+      (λ f page is. fits f page (rw (last.numbers, all) is)) p (rw e refl)
+
+pub put-last : (all_ns ns : List ℕ) (all_hs hs : List Bool) (all_ps ps : List Page) (n : ℕ) (b : Bool) (p : Page) (before after : Held) → IsLast all_ns ns all_hs hs all_ps ps n b p → IsRising all_ns
+    → ((f : ℕ) (page : Page) → cell_in all_ns (cells all_hs all_ps) f ≡ Some page → IsEmptyPlace before f) → IsLaid (only_at n (cond b (Some p) None)) before after
+    → Steps all_ns (cells all_hs all_ps) ns (cells hs ps) before after
+put-last all_ns ns all_hs hs all_ps ps n b p before after last up fits laid =
+    let lengths = rest-lengths all_ns ns all_hs hs all_ps ps n b p last in
+    let all = cells-all hs all_hs ps all_ps b p last.here last.pages (lengths.0 ∙ sym lengths.1) in
+    rw (last.numbers, all)
+      (put-step ns (cells hs ps) n (cond b (Some p) None) before after (length-cells hs ps (lengths.0 ∙ sym lengths.1) ∙ lengths.0) (rw (← last.numbers) up)
+        (λ f page is. fits f page (rw (last.numbers, all) is)) laid)
+
+pub cells-end : (ns : List ℕ) (cs : List (Option Page)) (f : ℕ) → length ns ≡ 0 → cell_in ns cs f ≡ None
+cells-end [] cs f e = refl
+cells-end (n ∷ ns) cs f e = absurd (omega (arith, e))

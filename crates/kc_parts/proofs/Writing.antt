@@ -1,0 +1,71 @@
+-- A write at the place of a frame.
+use Rattle.std.proofs.Common.{ℕ, zero, suc, ◌≡◌, ◌<◌, ◌≤◌, Bool, true, false, cond, nat_eq, List, [], ◌∷◌, length, get_or, set, refl, sym, ◌∙◌, ap, arith, length-set}
+use Rattle.std.specs.Prelude.{Option, Some, None, IsSome, slice_get}
+use Rattle.std.proofs.lemmas.Option.{slice_get_past}
+use Rattle.kc_types.specs.declared.link.Ends.{Ends}
+use Rattle.kc_page.specs.declared.page.Page.{Page}
+use Rattle.kc_vms.specs.Slots.{VmSlot}
+use Rattle.kc_parts.specs.Held.{Held, IsHeld, IsRising, place_of, is_filled, page_at}
+use Rattle.kc_parts.specs.Moves.{IsWrite, page_among}
+use Rattle.kc_parts.proofs.Places.{place-found}
+use Rattle.kc_parts.proofs.Filled.{cells, cell_in, page_at-cells, cells-set, cell-set, length-cells, same-number}
+
+pub place-number : (ns : List ℕ) (f : ℕ) → place_of ns f < length ns → get_or ns (place_of ns f) 0 ≡ f
+place-number [] f h = absurd (omega (arith, h))
+place-number (n ∷ ns) f h = by_first (nat_eq n f) refl h (λ low. place-number ns f low)
+  where
+    by_first : (b : Bool) → nat_eq n f ≡ b → cond b 0 (suc (place_of ns f)) < suc (length ns) → (place_of ns f < length ns → get_or ns (place_of ns f) 0 ≡ f)
+        → get_or (n ∷ ns) (cond b 0 (suc (place_of ns f))) 0 ≡ f
+    by_first true e low rest = same-number n f e
+    by_first false e low rest = rest (omega (arith, low))
+
+filled-place : (ns : List ℕ) (hs : List Bool) (f : ℕ) → is_filled ns hs f ≡ true → place_of ns f < length ns
+filled-place [] hs f e = cc
+filled-place (n ∷ ns) [] f e = cc
+filled-place (n ∷ ns) (h ∷ hs) f e = by_first (nat_eq n f) e (λ rest. filled-place ns hs f rest)
+  where
+    by_first : (b : Bool) → cond b h (is_filled ns hs f) ≡ true → (is_filled ns hs f ≡ true → place_of ns f < length ns) → cond b 0 (suc (place_of ns f)) < suc (length ns)
+    by_first true e rest = omega arith
+    by_first false e rest = let low : place_of ns f < length ns = rest e in omega arith
+
+-- a page that is here has its place
+pub place-here : (ns : List ℕ) (hs : List Bool) (ps : List Page) (f : ℕ) → IsSome (page_among ns hs ps f) → place_of ns f < length ns
+place-here ns hs ps f h = by_filled (is_filled ns hs f) refl h
+  where
+    by_filled : (b : Bool) → is_filled ns hs f ≡ b → IsSome (slice_get ps (cond b (place_of ns f) (length ps))) → place_of ns f < length ns
+    by_filled true e some = filled-place ns hs f e
+    by_filled false e some = let none : slice_get ps (length ps) ≡ None = slice_get_past ps (length ps) (omega arith) in let no_page = rw none at some in cc
+
+pub write-place : (ns : List ℕ) (hs : List Bool) (ps : List Page) (vms : List (Option VmSlot)) (free : Option Ends) (f at : ℕ) (b : Bool) (p : Page)
+    → IsHeld ns hs ps → at ≡ place_of ns f → place_of ns f < length ns
+    → IsWrite f (cond b (Some p) None) (record { numbers = ns; here = hs; pages = ps; vms = vms; free = free })
+      (record { numbers = ns; here = set hs at b; pages = set ps at p; vms = vms; free = free })
+write-place ns hs ps vms free f at b p held is low = record {
+    numbers = refl;
+    vms = refl;
+    free = refl;
+    pages = λ g. rw is (after g)
+  }
+  where
+    after : (g : ℕ) → page_among ns (set hs (place_of ns f) b) (set ps (place_of ns f) p) g ≡ cond (nat_eq g f) (cond b (Some p) None) (page_among ns hs ps g)
+    after g =
+        page_at-cells ns (set hs (place_of ns f) b) (set ps (place_of ns f) p) g (length-set hs (place_of ns f) b ∙ held.here) (length-set ps (place_of ns f) p ∙ held.pages)
+          ∙ ap (λ cs. cell_in ns cs g) (cells-set hs ps (place_of ns f) b p)
+          ∙ cell-set ns (cells hs ps) (place_of ns f) g (cond b (Some p) None) held.rising (length-cells hs ps (held.here ∙ sym held.pages) ∙ held.here) low
+          ∙ ap (λ n. cond (nat_eq g n) (cond b (Some p) None) (cell_in ns (cells hs ps) g)) (place-number ns f low)
+          ∙ ap (cond (nat_eq g f) (cond b (Some p) None)) (sym (page_at-cells ns hs ps g held.here held.pages))
+
+pub filled-here : (ns : List ℕ) (hs : List Bool) (ps : List Page) (f : ℕ) → IsSome (page_among ns hs ps f) → is_filled ns hs f ≡ true
+filled-here ns hs ps f h = by_filled (is_filled ns hs f) refl h
+  where
+    by_filled : (b : Bool) → is_filled ns hs f ≡ b → IsSome (slice_get ps (cond b (place_of ns f) (length ps))) → is_filled ns hs f ≡ true
+    by_filled true e some = e
+    by_filled false e some = let none : slice_get ps (length ps) ≡ None = slice_get_past ps (length ps) (omega arith) in let no_page = rw none at some in cc
+
+-- a page that is here is that at its frame's place, whatever the pages become
+pub page-with : (h : Held) (pages : List Page) (f : ℕ) → IsSome (page_at h f) → page_at (record h { pages = pages }) f ≡ slice_get pages (place_of h.numbers f)
+page-with h pages f here = rw (filled-here h.numbers h.here h.pages f here) refl
+
+-- the page at a place is that of the frame there
+pub full-page : (h : Held) (i : ℕ) → IsRising h.numbers → i < length h.numbers → IsSome (page_at h (get_or h.numbers i 0)) → slice_get h.pages i ≡ page_at h (get_or h.numbers i 0)
+full-page h i up low here = rw (filled-here h.numbers h.here h.pages (get_or h.numbers i 0) here, place-found h.numbers i (get_or h.numbers i 0) up low refl) refl

@@ -1,0 +1,67 @@
+use Rattle.std.proofs.Common.{◌∙◌, sym, ap, refl, arith}
+use Rattle.kc_parts.specs.Held.{page_at}
+use Rattle.kc_parts.specs.Cuts.{either}
+use Rattle.kc_parts.proofs.Filled.{cells, page_at-cells}
+use Rattle.kc_parts.proofs.SlotMoves.{either-none}
+use Rattle.kc_parts.proofs.Putting.{IsLast, rest-lengths, last-empty, put-last, cells-end}
+use Rattle.kc_parts.proofs.parts.Parts.lay_pages.Goals as goal
+
+pub loop-number-init : goal.loop-number-init
+loop-number-init c =
+    let ns = c.args.numbers.items in
+    let hs = c.args.here.items in
+    let ps = c.args.pages.items in
+    let held = c.requires.held in
+    record {
+      rising = held.rising;
+      same_here = held.here;
+      same_pages = held.pages;
+      places = refl;
+      vms = refl;
+      free = refl;
+      fits = λ f page e. c.requires.fits f page (page_at-cells ns hs ps f held.here held.pages ∙ e);
+      joined = λ f. refl
+    }
+
+pub lay_back-requires : goal.lay_back-requires
+lay_back-requires c =
+    let l = c.loop-number in
+    let was = l.invariant in
+    let last : IsLast l.numbers.items c.pop.new.self.items l.here.items c.pop-in-Some.new.self.items l.pages.items c.pop-in-Some-2.new.self.items c.in-Some.number c.in-Some-Some.filled c.in-Some-Some.page =
+      record { numbers = c.in-Some.ensures.items; here = c.in-Some-Some.ensures.items; pages = c.in-Some-Some.ensures'.items; same_here = was.same_here; same_pages = was.same_pages } in
+    last-empty _ _ _ _ _ _ c.in-Some.number c.in-Some-Some.filled c.in-Some-Some.page l.self last was.rising was.fits
+
+pub loop-number-preserved : goal.loop-number-preserved
+loop-number-preserved c =
+    let l = c.loop-number in
+    let was = l.invariant in
+    let last : IsLast l.numbers.items c.pop.new.self.items l.here.items c.pop-in-Some.new.self.items l.pages.items c.pop-in-Some-2.new.self.items c.in-Some.number c.in-Some-Some.filled c.in-Some-Some.page =
+      record { numbers = c.in-Some.ensures.items; here = c.in-Some-Some.ensures.items; pages = c.in-Some-Some.ensures'.items; same_here = was.same_here; same_pages = was.same_pages } in
+    let lengths = rest-lengths _ _ _ _ _ _ c.in-Some.number c.in-Some-Some.filled c.in-Some-Some.page last in
+    let step = put-last _ _ _ _ _ _ c.in-Some.number c.in-Some-Some.filled c.in-Some-Some.page l.self c.lay_back.new.self last was.rising was.fits c.lay_back.ensures in
+    record {
+      rising = step.rising;
+      same_here = lengths.0;
+      same_pages = lengths.1;
+      places = c.lay_back.ensures.numbers ∙ was.places;
+      vms = c.lay_back.ensures.vms ∙ was.vms;
+      free = c.lay_back.ensures.free ∙ was.free;
+      fits = step.fits;
+      joined = λ f. step.joined f ∙ was.joined f
+    }
+
+pub returns : goal.returns
+returns c =
+    let l = c.loop-number in
+    let was = l.invariant in
+    let held = c.requires.held in
+    record {
+      numbers = was.places;
+      vms = was.vms;
+      free = was.free;
+      pages = λ f.
+        sym (either-none (page_at l.self f))
+          ∙ ap (either (page_at l.self f)) (sym (cells-end l.numbers.items (cells l.here.items l.pages.items) f (omega (arith, c.in_default.ensures.cases.0, l.numbers.ok.0))))
+          ∙ was.joined f
+          ∙ ap (either (page_at c.args.self.now f)) (sym (page_at-cells c.args.numbers.items c.args.here.items c.args.pages.items f held.here held.pages))
+    }

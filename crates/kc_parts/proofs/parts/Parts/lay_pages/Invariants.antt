@@ -1,0 +1,25 @@
+use Rattle.std.proofs.Common.{ℕ, ◌≡◌, length}
+use Rattle.std.specs.Prelude.{Some}
+use Rattle.std.specs.Vec.{vec_len}
+use Rattle.kc_page.specs.declared.page.Page.{Page}
+use Rattle.kc_parts.specs.Held.{IsRising, page_at}
+use Rattle.kc_parts.specs.Cuts.{either}
+use Rattle.kc_parts.specs.Moves.{IsEmptyPlace}
+use Rattle.kc_parts.proofs.Filled.{cells, cell_in}
+use Rattle.kc_parts.proofs.parts.Parts.lay_pages.Given as goal
+
+abbrev pub invariant-loop-number : goal.invariant-loop-number
+invariant-loop-number l = record {
+  rising : IsRising l.numbers.items;
+  same_here : length l.here.items ≡ length l.numbers.items;
+  same_pages : length l.pages.items ≡ length l.numbers.items;
+  places : l.self.numbers ≡ l.initial.self.numbers;
+  vms : l.self.vms ≡ l.initial.self.vms;
+  free : l.self.free ≡ l.initial.self.free;
+  fits : (f : ℕ) (page : Page) → cell_in l.numbers.items (cells l.here.items l.pages.items) f ≡ Some page → IsEmptyPlace l.self f;
+  joined : (f : ℕ) → either (page_at l.self f) (cell_in l.numbers.items (cells l.here.items l.pages.items) f)
+    ≡ either (page_at l.initial.self f) (cell_in l.initial.numbers.items (cells l.initial.here.items l.initial.pages.items) f)
+}
+
+abbrev pub decreases-loop-number : goal.decreases-loop-number
+decreases-loop-number l = vec_len l.numbers

@@ -1,0 +1,68 @@
+-- Parts taken out of parts, and parts put back.
+use Rattle.std.specs.Prelude.{ℕ, ◌≡◌, ◌<◌, ◌==◌, Bool, true, false, cond, List, length, get_or, Option, Some, None, IsSome}
+use Rattle.std.specs.Option.{option_map}
+use Rattle.std.specs.List.{list_any}
+use Rattle.kc_types.specs.declared.link.Ends.{Ends}
+use Rattle.kc_types.specs.declared.resource.Resource.{Resource}
+use Rattle.kc_types.specs.declared.resource.Resource.TheVariants as resource
+use Rattle.kc_page.specs.declared.page.Page.{Page}
+use Rattle.kc_vms.specs.Slots.{VmSlot}
+use Rattle.kc_parts.specs.Held.{Held, place_of, page_at, vm_at}
+
+-- what can be held of one resource: a page with its record and links, a slot with the ends of its list, the ends of the free list
+pub data HeldPart : Type 0 where
+  page_part : Page → HeldPart
+  slot_part : VmSlot → HeldPart
+  ends_part : Ends → HeldPart
+
+-- what is held of a resource, and nothing where it is not here
+abbrev pub held_at : Held → Resource → Option HeldPart
+held_at h (resource.Frame f) = option_map page_part (page_at h f)
+held_at h (resource.Vm v) = option_map slot_part (vm_at h v)
+held_at h resource.Free = option_map ends_part h.free
+
+-- the two resources are one
+abbrev pub same : Resource → Resource → Bool
+same (resource.Frame f) (resource.Frame g) = f == g
+same (resource.Frame f) (resource.Vm w) = false
+same (resource.Frame f) resource.Free = false
+same (resource.Vm v) (resource.Frame g) = false
+same (resource.Vm v) (resource.Vm w) = v == w
+same (resource.Vm v) resource.Free = false
+same resource.Free (resource.Frame g) = false
+same resource.Free (resource.Vm w) = false
+same resource.Free resource.Free = true
+
+-- the resource is in the list
+abbrev pub is_wanted : List Resource → Resource → Bool
+is_wanted wanted r = list_any (same r) wanted
+
+-- all of the list is here
+abbrev pub AreHere : Held → List Resource → Type 0
+AreHere h wanted = (r : Resource) → is_wanted wanted r ≡ true → IsSome (held_at h r)
+
+-- taken has what passes the test of what there was before, and rest has all else; rest keeps its places
+pub record IsSplit (before : Held) (test : Resource → Bool) (rest taken : Held) : Type 0 where
+  pub taken_is : (r : Resource) → held_at taken r ≡ cond (test r) (held_at before r) None
+  pub rest_is : (r : Resource) → held_at rest r ≡ cond (test r) None (held_at before r)
+  pub places : rest.numbers ≡ before.numbers
+  pub slots : length rest.vms ≡ length before.vms
+
+-- for whatever other has, h has a place, and nothing in it
+pub record FitsInto (h other : Held) : Type 0 where
+  pub pages : (f : ℕ) (page : Page) → page_at other f ≡ Some page → (place_of h.numbers f < length h.numbers) × (page_at h f ≡ None)
+  pub slots : (v : ℕ) (vm : VmSlot) → vm_at other v ≡ Some vm → (v < length h.vms) × (vm_at h v ≡ None)
+  pub ends : (ends : Ends) → other.free ≡ Some ends → h.free ≡ None
+
+-- the first where there is one, else the second
+abbrev pub either : {X : Type 0} → Option X → Option X → Option X
+either (Some x) second = Some x
+either None second = second
+
+-- after has what either of the two has
+abbrev pub IsJoin : Held → Held → Held → Type 0
+IsJoin one other after = (r : Resource) → held_at after r ≡ either (held_at one r) (held_at other r)
+
+-- no page is taken out: each place has one
+abbrev pub IsFull : Held → Type 0
+IsFull h = (i : ℕ) → i < length h.numbers → IsSome (page_at h (get_or h.numbers i 0))

@@ -1,0 +1,10 @@
+//! How much parts can hold.
+
+/// How many frames and slots there are places for.
+#[derive(Clone, Copy, Debug, PartialEq, Eq)]
+pub struct Room {
+    /// Places for frames, filled or empty.
+    pub frames: usize,
+    /// Places for VM slots, filled or empty.
+    pub slots: usize,
+}
