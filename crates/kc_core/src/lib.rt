@@ -1,8 +1,8 @@
 //! The core on one thread.
 #![tactic(auto)]
 
+mod look_ups;
 mod one_thread;
 mod ranged;
-mod store;
 
 pub use one_thread::{KCore, RunStop};

@@ -12,10 +12,14 @@ ghost use Rattle.kc_model.specs.State.{frame_at};
 ghost use Rattle.kc_model.specs.Links.{frames_of};
 ghost use Rattle.kc_model.specs.Wiped.{wiped};
 ghost use Rattle.kc_page.specs.Pages.{frame_of, IsRecordOf};
+ghost use Rattle.kc_parts.specs.States.{state_of};
+ghost use Rattle.kc_core.specs.Cores.{IsCore};
 
+use crate::look_ups::{frames_of, page_record};
 use crate::ranged::{read_all_numbers, read_numbers};
-use crate::store::Store;
-use kc_page::{Page, PageBytes, PageRecord};
+use kc_calls::apply;
+use kc_page::{Page, PageBytes, PageRecord, scrub_each};
+use kc_parts::Parts;
 use kc_types::{Call, Config, FrameNo, Memory, Owner, Reply};
 use std::alloc::Global;
 use std::marker::Model;
@@ -23,7 +27,9 @@ use std::marker::Model;
 /// The trusted core, seen as its state. Every value of it is lawful, and no call makes it otherwise.
 #[derive(Drop)]
 pub struct KCore {
-    store: Store,
+    alloc: Global,
+    config: Config,
+    parts: Parts,
 }
 
 impl Model for KCore {
@@ -36,12 +42,12 @@ impl Model for KCore {
 
     ghost coded = { Prim.hlevel (codes, map.code {R = nat_cmp} coded_ℕ coded_ℕ) };
 
-    ghost use Rattle.kc_model.specs.Lawful.{IsLawful};
-    ghost use Rattle.kc_core.specs.Store.{state_of};
+    ghost use Rattle.kc_parts.specs.States.{state_of};
+    ghost use Rattle.kc_core.specs.Cores.{IsCore};
 
-    ghost view = { λ k. state_of k.store };
+    ghost view = { λ k. state_of k.config k.parts };
 
-    ghost invariant = { λ k. IsLawful (state_of k.store) };
+    ghost invariant = { λ k. IsCore k.config k.parts };
 }
 
 /// Where a run met want of memory.
@@ -60,9 +66,32 @@ impl KCore {
         // No clause can rule out want of memory: tests boot cores.
         ensures { IfOk result (λ core. core ≡ boot config) }
     {
+        let parts = Parts::boot(alloc, &config)?;
         Ok(KCore {
-            store: Store::boot(alloc, config)?,
+            alloc,
+            config,
+            parts,
         })
+    }
+
+    /// The core of a configuration and parts: all of them are here, linked, and those of a lawful state.
+    pub fn from_parts(alloc: Global, config: Config, parts: Parts) -> KCore
+        requires { IsCore config parts }
+        ensures { result ≡ state_of config parts }
+    {
+        KCore {
+            alloc,
+            config,
+            parts,
+        }
+    }
+
+    /// The configuration and the parts, all of them here: what `from_parts` makes this core of again.
+    pub fn into_parts(self) -> (Config, Parts)
+        ensures core { IsCore result.0 result.1 }
+        ensures state { state_of result.0 result.1 ≡ self }
+    {
+        (self.config, self.parts)
     }
 
     /// Answers a call: with the first refusal that applies, and then nothing has changed, or with its effect.
@@ -76,7 +105,7 @@ impl KCore {
         ensures steady { TakesNoMemory call.now → IsOk result }
     {
         read_numbers(call);
-        self.store.call(call)
+        apply(self.alloc, &mut self.parts, &self.config, call)
     }
 
     /// Answers a trace, call by call, and gives the replies in order.
@@ -89,7 +118,7 @@ impl KCore {
         // Such a stop comes for want of memory alone, which no clause can rule out: tests run to the end.
         ensures stop { IfErr result (λ stop. StopsAfter self.old calls.now stop.done stop.replies.items self.new) }
     {
-        let _store = &self.store;
+        let _parts = &self.parts;
         read_all_numbers(calls);
         let mut replies = match Vec::with_capacity(alloc, calls.len()) {
             Ok(replies) => replies,
@@ -115,10 +144,8 @@ impl KCore {
         ensures exists { IsSome result ↔ (frame < self.now.config.frames) }
         ensures value { IfSome result (IsRecordOf self.now frame) }
     {
-        if frame >= self.store.config.frames() {
-            return None;
-        }
-        Some(self.store.page_record(FrameNo::try_new(frame).unwrap()))
+        let frame = self.config.frame(frame)?;
+        Some(page_record(&self.parts, frame))
     }
 
     /// The bytes of a frame; `None` for a frame that does not exist.
@@ -126,10 +153,8 @@ impl KCore {
         ensures exists { IsSome result ↔ (frame < self.now.config.frames) }
         ensures value { IfSome result (λ bytes. bytes.now ≡ (frame_at self.now frame).bytes) }
     {
-        if frame >= self.store.config.frames() {
-            return None;
-        }
-        Some(&self.store.pages[frame as usize].bytes)
+        let page = self.parts.frame(self.config.frame(frame)?)?;
+        Some(&page.bytes)
     }
 
     /// The frames of an owner: free frames and a VM's in the order of their list, the core's and the host's by
@@ -138,20 +163,20 @@ impl KCore {
         // No clause can rule out want of memory: a test lists frames.
         ensures { IfOk result (λ frames. frames.items ≡ frames_of self.now owner) }
     {
-        self.store.frames_of(owner)
+        frames_of(self.alloc, &self.parts, &self.config, owner)
     }
 
-    /// All pages, by frame number. Their records do not keep the neighbours in a list yet: `page_record` has them.
+    /// All pages, by frame number.
     pub fn pages(&self) -> &[Page]
         ensures { map frame_of result.now ≡ self.now.frames }
     {
-        self.store.pages.as_slice()
+        self.parts.pages()
     }
 
     /// Zeroes all bytes and changes nothing else.
     pub fn wipe(&mut self)
         ensures { self.new ≡ wiped self.old }
     {
-        self.store.wipe();
+        scrub_each(self.parts.pages_mut());
     }
 }

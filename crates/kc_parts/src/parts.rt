@@ -1,5 +1,5 @@
 //! Pages, slots and the ends of the free list, taken out and put back.
-ghost use Rattle.std.specs.Prelude.{◌≡◌, ◌↔◌, ℕ, ◌<◌, IsTrue, is_some, length, get_or, slice_get, IsSome, IfSome, IfOk, OnErr, Option, Some, None, map, cond, true};
+ghost use Rattle.std.specs.Prelude.{◌≡◌, ◌↔◌, ℕ, ◌<◌, IsTrue, is_some, length, get_or, slice_get, IsSome, IfSome, IfOk, OnOk, OnErr, Option, Some, None, map, cond, true};
 ghost use Rattle.std.specs.Option.{option_copied, option_copied_mut};
 ghost use Rattle.std.specs.Borrow.{sem};
 ghost use Rattle.kc_types.specs.declared.resource.Resource.TheVariants as resource;
@@ -61,6 +61,7 @@ fn place_of(numbers: &[u32], frame: u32) -> usize
 }
 
 impl Parts {
+    ghost use Rattle.kc_types.specs.Configuration.{IsConfiguration};
     ghost use Rattle.kc_model.specs.Boot.{boot};
     ghost use Rattle.kc_parts.specs.Held.{IsHeld, place_in, page_at, vm_at};
     ghost use Rattle.kc_parts.specs.States.{state_of, IsLinked};
@@ -76,6 +77,7 @@ impl Parts {
         ensures state { IfOk result (λ parts. state_of config.now parts ≡ boot config.now) }
         ensures linked { IfOk result (IsLinked config.now) }
         ensures whole { IfOk result (IsWhole config.now) }
+        ensures config { OnOk result (IsConfiguration config.now) }
     {
         Ok(Parts {
             numbers: all_numbers(alloc, config.frames())?,
@@ -170,6 +172,7 @@ impl Parts {
     pub fn pages(&self) -> &[Page]
         requires { IsFull self.now }
         ensures value { result.now ≡ self.now.pages }
+        ensures count { length result.now ≡ length self.now.numbers }
         ensures each { (i : ℕ) → i < length self.now.numbers → slice_get result.now i ≡ page_at self.now (get_or self.now.numbers i 0) }
     {
         self.pages.as_slice()
@@ -180,6 +183,7 @@ impl Parts {
         requires { IsFull self.old }
         ensures* writes_back { sem 𝓛 (LendsPages self.entry result) }
         ensures value { result.now ≡ self.old.pages }
+        ensures count { length result.now ≡ length self.old.numbers }
         ensures each { (i : ℕ) → i < length self.old.numbers → slice_get result.now i ≡ page_at self.old (get_or self.old.numbers i 0) }
     {
         self.pages.as_mut_slice()

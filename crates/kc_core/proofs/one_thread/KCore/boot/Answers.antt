@@ -1,5 +1,10 @@
+use Rattle.std.proofs.Common.{sym}
 use Rattle.kc_model.proofs.AtBoot.{lawful-boot}
 use Rattle.kc_core.proofs.one_thread.KCore.boot.Goals as goal
 
 pub invariant_of-result : goal.invariant_of-result
-invariant_of-result c = rw c.in_ok-boot.ensures.state (lawful-boot c.args.config c.in_ok-boot.ensures.config)
+invariant_of-result c = record {
+  lawful = rw c.in_ok-parts.ensures.state (lawful-boot c.args.config c.in_ok-parts.ensures.config);
+  linked = c.in_ok-parts.ensures.linked;
+  whole = c.in_ok-parts.ensures.whole;
+}

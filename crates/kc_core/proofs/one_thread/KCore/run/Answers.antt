@@ -20,17 +20,17 @@ loop-done-preserved c =
     }
 
 pub returns-in-Err-clause-safe : goal.returns-in-Err-clause-safe
-returns-in-Err-clause-safe c = rw (← c.self.view_is) (safe _ c.args.calls.now c.read_all_numbers.ensures c.self.invariant)
+returns-in-Err-clause-safe c = rw (← c.self.view_is) (safe _ c.args.calls.now c.read_all_numbers.ensures c.self.invariant.lawful)
 
 pub returns-in-Err-call-clause-safe : goal.returns-in-Err-call-clause-safe
-returns-in-Err-call-clause-safe c = rw (← c.self.view_is) (safe _ c.args.calls.now c.read_all_numbers.ensures c.self.invariant)
+returns-in-Err-call-clause-safe c = rw (← c.self.view_is) (safe _ c.args.calls.now c.read_all_numbers.ensures c.self.invariant.lawful)
 
 pub returns-clause-safe : goal.returns-clause-safe
-returns-clause-safe c = rw (← c.self.view_is) (safe _ c.args.calls.now c.read_all_numbers.ensures c.self.invariant)
+returns-clause-safe c = rw (← c.self.view_is) (safe _ c.args.calls.now c.read_all_numbers.ensures c.self.invariant.lawful)
 
 pub returns-clause-blind : goal.returns-clause-blind
 returns-clause-blind c =
     let all = take_all c.loop-done.done c.args.calls.now c.loop-done-test.false in
     let answered = c.loop-done.invariant.replies ∙ ap (replies_from c.args.self.now) all in
     let left = c.loop-done.invariant.state ∙ ap (state_after c.args.self.now) all in
-    shows_nothing _ _ c.args.calls.now _ c.read_all_numbers.ensures (rw (← c.self.view_is) c.self.invariant) answered left
+    shows_nothing _ _ c.args.calls.now _ c.read_all_numbers.ensures (rw (← c.self.view_is) c.self.invariant.lawful) answered left

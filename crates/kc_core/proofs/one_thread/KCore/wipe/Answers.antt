@@ -1,5 +1,28 @@
-use Rattle.kc_model.proofs.Wipes.{lawful-wiped}
+use Rattle.std.proofs.Common.{List, ◌≡◌, map, length, ap, ◌∙◌, subst, sym}
+use Rattle.std.proofs.lemmas.List.{length-map}
+use Rattle.kc_page.specs.declared.page.Page.{Page}
+use Rattle.kc_page.specs.Pages.{scrubbed_page}
+use Rattle.kc_parts.specs.Held.{Held}
+use Rattle.kc_parts.specs.Lending.{refilled}
+use Rattle.kc_parts.specs.States.{state_of}
+use Rattle.kc_parts.proofs.Full.{full-from_whole}
+use Rattle.kc_core.specs.Cores.{IsCore}
+use Rattle.kc_core.proofs.Wiped.{refilled-same, clean, state-clean, core-clean}
 use Rattle.kc_core.proofs.one_thread.KCore.wipe.Goals as goal
 
+pub pages_mut-requires : goal.pages_mut-requires
+pages_mut-requires c = full-from_whole c.self.inside.config c.self.inside.parts c.self.invariant.whole
+
 pub invariant_of-self : goal.invariant_of-self
-invariant_of-self c = rw c.wipe.ensures (lawful-wiped _ c.self.invariant)
+invariant_of-self c =
+    let h = c.self.inside.parts in
+    let scrubbed : c.scrub_each.new.pages ≡ map scrubbed_page h.pages = c.scrub_each.ensures ∙ ap (map scrubbed_page) c.pages_mut.ensures.value in
+    let whole : refilled h.pages c.scrub_each.new.pages ≡ map scrubbed_page h.pages = ap (refilled h.pages) scrubbed ∙ refilled-same h.pages (map scrubbed_page h.pages) (length-map h.pages scrubbed_page) in
+    subst (λ (pages : List Page). IsCore c.self.inside.config (record h { pages = pages })) (sym whole) (core-clean c.self.inside.config h c.self.invariant)
+
+pub returns : goal.returns
+returns c =
+    let h = c.self.inside.parts in
+    let scrubbed : c.scrub_each.new.pages ≡ map scrubbed_page h.pages = c.scrub_each.ensures ∙ ap (map scrubbed_page) c.pages_mut.ensures.value in
+    let whole : refilled h.pages c.scrub_each.new.pages ≡ map scrubbed_page h.pages = ap (refilled h.pages) scrubbed ∙ refilled-same h.pages (map scrubbed_page h.pages) (length-map h.pages scrubbed_page) in
+    rw (← c.self.view_is) (ap (λ (pages : List Page). state_of c.self.inside.config (record h { pages = pages })) whole ∙ state-clean c.self.inside.config h)

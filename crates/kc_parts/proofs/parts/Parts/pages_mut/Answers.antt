@@ -1,5 +1,6 @@
-use Rattle.std.proofs.Common.{ℕ, ◌++◌, length, take, drop, refl, ◌∙◌, ap, subst}
+use Rattle.std.proofs.Common.{ℕ, ◌≡◌, ◌++◌, List, length, take, drop, refl, ◌∙◌, ap, subst}
 use Rattle.std.specs.Prelude.{slice_get}
+use Rattle.kc_page.specs.declared.page.Page.{Page}
 use Rattle.kc_parts.specs.Held.{Held, IsRising}
 use Rattle.kc_parts.proofs.Writing.{full-page}
 use Rattle.kc_parts.proofs.parts.Parts.pages_mut.Goals as goal
@@ -17,6 +18,7 @@ returns c =
     , record {
         writes_back = tt;
         value = value;
+        count = ap (λ (ps : List Page). length ps) value ∙ subst (λ (h : Held). length h.pages ≡ length h.numbers) c.self.view_is c.self.invariant.pages;
         each = λ i low. ap (λ ps. slice_get ps i) value ∙ full-page c.args.self.now i rising low (c.requires i low)
       }
     )

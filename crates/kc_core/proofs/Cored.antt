@@ -1,0 +1,90 @@
+-- A core keeps its parts whole, and calls find what they need in them.
+use Rattle.std.proofs.Common.{ℕ, ◌≡◌, ◌<◌, Bool, true, false, ◌&&◌, ◌||◌, nat_lt, nat_eq, Option, Some, None, Result, Ok, Err, OnErr, is_some, refl, sym, ap, ◌∙◌, arith}
+use Rattle.std.proofs.lemmas.Bool.{ltb-true, eqb-true}
+use Rattle.kc_types.specs.Configuration.{Configuration, slot_count}
+use Rattle.kc_types.specs.declared.call.Call.{Call}
+use Rattle.kc_types.specs.declared.owner.Owner.{Owner}
+use Rattle.kc_types.specs.declared.owner.Owner.TheVariants.{Core, Free, Vm}
+use Rattle.kc_types.specs.declared.resource.Resource.{Resource}
+use Rattle.kc_types.specs.declared.resource.Resource.TheVariants as resource
+use Rattle.kc_model.specs.State.{State, frame_at}
+use Rattle.kc_model.specs.Lawful.{IsLawful, same_owner}
+use Rattle.kc_model.specs.Resources.{need, names_frame, slot_of, uses_free, of_slot, exists_slot, listed_in, is_in}
+use Rattle.kc_model.proofs.Orderly.{listed-owned}
+use Rattle.kc_model.proofs.Changes.{exists}
+use Rattle.kc_model.proofs.LawfulTraces.{orderly-is}
+use Rattle.kc_parts.specs.Held.{Held, page_at, vm_at}
+use Rattle.kc_parts.specs.States.{state_of, here_of, IsLinked}
+use Rattle.kc_calls.specs.Applying.{IsAble, IsSameRoom}
+use Rattle.kc_core.specs.Cores.{IsCore}
+
+not_core : (owner other : Owner) → same_owner owner other ≡ true → (same_owner Core other ≡ false) → owner ≡ Core → ⊥
+not_core owner other same differs core = let no : same_owner owner other ≡ false = ap (λ o. same_owner o other) core ∙ differs in cc
+
+-- a listed frame exists
+listed-low : (m : State) → IsLawful m → (owner : Owner) (f : ℕ) → same_owner Core owner ≡ false → listed_in m owner f ≡ true → f < m.config.frames
+listed-low m is owner f differs listed = rw is.frames at (exists m f (not_core (frame_at m f).owner owner (listed-owned m is owner f listed) differs))
+
+module _ (config : Configuration) (h : Held) (is : IsCore config h) where
+  m : State
+  m = state_of config h
+
+  frame-here : (call : Call) (f : ℕ) → (a b c d : Bool) → nat_lt f config.frames ≡ b → of_slot config (listed_in (state_of config h)) (slot_of call) f ≡ c → (d ≡ true → is_in (state_of config h).free f ≡ true)
+      → ((a && b) || c || d) ≡ true → is_some (page_at h f) ≡ true
+  frame-here call f true true c d low e e' some = is.whole.frames f (ltb-true f config.frames low)
+  frame-here call f a b true d low of e' some = is.whole.frames f (by_slot (slot_of call) of)
+    where
+      by_slot : (named : Option ℕ) → of_slot config (listed_in (state_of config h)) named f ≡ true → f < config.frames
+      by_slot None of = cc
+      by_slot (Some v) of = listed-low (state_of config h) is.lawful (Vm v) f refl (second (nat_lt v (slot_count config)) _ of)
+        where
+          second : (x y : Bool) → (x && y) ≡ true → y ≡ true
+          second true y both = both
+          second false y both = cc
+  frame-here call f a b c true low of free some = is.whole.frames f (listed-low (state_of config h) is.lawful Free f refl (free refl))
+  frame-here call f true false false false low of free some = cc
+  frame-here call f false b false false low of free some = cc
+
+  slot-here : (named : Option ℕ) (w : ℕ) → exists_slot config named w ≡ true → is_some (vm_at h w) ≡ true
+  slot-here None w there = cc
+  slot-here (Some v) w there = by_tests (nat_lt v (slot_count config)) (nat_eq v w) refl refl there
+    where
+      by_tests : (low same : Bool) → nat_lt v (slot_count config) ≡ low → nat_eq v w ≡ same → (low && same) ≡ true → is_some (vm_at h w) ≡ true
+      by_tests true true low same both = is.whole.vms w (rw (← eqb-true v w same) (ltb-true v (slot_count config) low))
+      by_tests true false low same both = cc
+      by_tests false same' low same both = cc
+
+  free-in : (uses in_free : Bool) → (uses && in_free) ≡ true → in_free ≡ true
+  free-in true in_free both = both
+  free-in false in_free both = cc
+
+  pub able : (call : Call) → IsAble config h call
+  able call = record {
+    orderly = orderly-is (state_of config h) is.lawful;
+    linked = is.linked;
+    here = here;
+  }
+    where
+      here : (r : Resource) → need (state_of config h) call r ≡ true → here_of h r ≡ true
+      here (resource.Frame f) needed = frame-here call f (names_frame call f) (nat_lt f config.frames) (of_slot config (listed_in (state_of config h)) (slot_of call) f) (uses_free call && is_in (state_of config h).free f) refl refl
+        (free-in (uses_free call) (is_in (state_of config h).free f)) needed
+      here (resource.Vm w) needed = slot-here (slot_of call) w needed
+      here resource.Free needed = is.whole.free
+
+-- a core keeps itself where all that was here stays, and the state is lawful
+pub core-kept : (config : Configuration) (old new : Held) → IsCore config old → IsLawful (state_of config new) → IsLinked config new → IsSameRoom old new → IsCore config new
+core-kept config old new is lawful linked room = record {
+  lawful = lawful;
+  linked = linked;
+  whole = record {
+    numbers = room.numbers ∙ is.whole.numbers;
+    filled = room.filled ∙ is.whole.filled;
+    frames = λ f low. room.here (resource.Frame f) ∙ is.whole.frames f low;
+    vms = λ v low. room.here (resource.Vm v) ∙ is.whole.vms v low;
+    free = room.here resource.Free ∙ is.whole.free;
+  };
+}
+
+pub err-then : {X E P Q : Type 0} (r : Result X E) → (P → Q) → OnErr r P → OnErr r Q
+err-then (Ok x) then_ e = tt
+err-then (Err x) then_ e = then_ e

@@ -1,0 +1,146 @@
+-- What a core shows of its parts is the state's.
+use Rattle.std.proofs.Common.{ℕ, zero, suc, ◌≡◌, ◌<◌, ◌≤◌, ◌+◌, inl, inr, Bool, true, false, cond, List, [], ◌∷◌, ◌++◌, length, get_or, map, Option, Some, None, is_some, nat_eq, nat_lt, eq-eqb, refl, sym, ap, ◌∙◌, arith}
+use Rattle.std.specs.Prelude.{filter}
+use Rattle.std.specs.List.{range_with_len, slice_get}
+use Rattle.std.specs.Option.{option_map}
+use Rattle.std.proofs.lemmas.Bool.{cases_eq, cases_lt, ne_eqb, lt-ltb}
+use Rattle.std.proofs.lemmas.List.{map-append, map-id, append-nil, get_or_past}
+use Rattle.std.proofs.lemmas.List.Elements.{filter-append}
+use Rattle.std.proofs.lemmas.List.FromFn.{map-range_with_len_more, length-map-range_with_len}
+use Rattle.kc_types.specs.Limits.{frame_limit}
+use Rattle.kc_types.specs.Configuration.{Configuration, slot_count}
+use Rattle.kc_types.specs.declared.link.Ends.{Ends}
+use Rattle.kc_types.specs.declared.link.Link.{Link}
+use Rattle.kc_types.specs.declared.owner.Owner.{Owner}
+use Rattle.kc_types.specs.declared.owner.Owner.TheVariants.{Core, Host, Free, Vm}
+use Rattle.kc_model.specs.State.{State, Frame, Slot, frame_at, slot_at, empty_slot}
+use Rattle.kc_model.specs.Lawful.{IsLawful, ListsOnce, same_owner, times_in}
+use Rattle.kc_model.specs.Links.{link_after, link_in, link_at, list_of, first_of}
+use Rattle.kc_page.specs.declared.page.Page.{Page}
+use Rattle.kc_page.specs.declared.page.PageRecord.{PageRecord}
+use Rattle.kc_page.specs.Pages.{frame_of, IsRecordOf}
+use Rattle.kc_vms.specs.Slots.{VmSlot}
+use Rattle.kc_links.specs.Chain.{Links, IsLinked as IsLinkedFrom, first_or}
+use Rattle.kc_links.specs.Ending.{listed, IsList}
+use Rattle.kc_links.proofs.Times.{times-other}
+use Rattle.kc_parts.specs.Held.{Held, page_at, vm_at, link_of, links_of}
+use Rattle.kc_parts.specs.States.{frame_in, slot_in, list_in, state_of}
+use Rattle.kc_parts.proofs.Seen.{frame-seen, slot-seen}
+use Rattle.kc_core.specs.Cores.{IsCore, shown, ShowsRecord}
+
+some-same : {X : Type 0} (a b : X) → Some a ≡ Some b → a ≡ b
+some-same {X = X} a b e = ap inner e
+  where
+    inner : Option X → X
+    inner (Some x) = x
+    inner None = a
+
+-- a frame's link in a list is its link in the store
+link_in-linked : (links : Links) (before : Option ℕ) (fs : List ℕ) (f : ℕ) → IsLinkedFrom links before fs None → 0 < times_in fs f → links f ≡ Some (link_after before fs f)
+link_in-linked links before [] f linked some = absurd (omega (arith, some))
+link_in-linked links before (x ∷ xs) f linked some = elim (cases_eq x f) [
+  | inl same ↦ rw (eq-eqb x f same) (ap links (sym same) ∙ linked.0 ∙ ap (λ next. Some (linking before next)) (first-is xs))
+  | inr other ↦ rw (ne_eqb x f other) (link_in-linked links (Some x) xs f linked.1 (rw (times-other x xs f (λ e. other (sym e))) at some))
+]
+  where
+    linking : Option ℕ → Option ℕ → Link
+    linking prev next = record { prev = prev; next = next }
+
+    first-is : (xs : List ℕ) → first_or None xs ≡ first_of xs
+    first-is [] = refl
+    first-is (x ∷ xs) = refl
+
+one-of : (there : Bool) (n : ℕ) → there ≡ true → n ≡ cond there 1 0 → 0 < n
+one-of true n is e = omega (arith, e)
+one-of false n is e = cc
+
+module _ (config : Configuration) (h : Held) (is : IsCore config h) where
+  pub frame-shown : (f : ℕ) (page : Page) → f < config.frames → page_at h f ≡ Some page → frame_at (state_of config h) f ≡ frame_of page
+  frame-shown f page low at = frame-seen config h f low ∙ ap frame_in at
+
+  link-here : (f : ℕ) (page : Page) → f < config.frames → page_at h f ≡ Some page → links_of h f ≡ Some (link_of page)
+  link-here f page low at = let few = is.lawful.config.few_frames in rw (lt-ltb f frame_limit (omega (arith, low, few)), at) refl
+
+  -- the link of a frame that its owner's list holds
+  link-listed : (f : ℕ) (page : Page) (ends : Ends) → f < config.frames → page_at h f ≡ Some page → IsList (links_of h) ends → 0 < times_in (listed (links_of h) ends) f → link_in (listed (links_of h) ends) f ≡ link_of page
+  link-listed f page ends low at list some = sym (some-same (link_of page) (link_in (listed (links_of h) ends) f) (sym (link-here f page low at) ∙ link_in-linked (links_of h) None (listed (links_of h) ends) f list.linked some))
+
+  shown-link : PageRecord → Link
+  shown-link meta = record { prev = (shown meta).prev; next = (shown meta).next }
+
+  link-shown : (f : ℕ) (page : Page) → f < config.frames → page_at h f ≡ Some page → (owner : Owner) → page.meta.owner ≡ owner → link_in (list_of (state_of config h) owner) f ≡ shown-link page.meta
+  unfolding shown-link
+  link-shown f page low at Core mine = rw mine refl
+  link-shown f page low at Host mine = rw mine refl
+  link-shown f page low at Free mine = rw mine (by_ends h.free refl)
+    where
+      by_ends : (free : Option Ends) → h.free ≡ free → link_in (list_in (links_of h) free) f ≡ link_of page
+      by_ends None e = let some = is.whole.free in let none : is_some h.free ≡ false = ap is_some e in cc
+      by_ends (Some ends) e =
+          let owner : same_owner (frame_at (state_of config h) f).owner Free ≡ true = ap (λ (frame : Frame). same_owner frame.owner Free) (frame-shown f page low at) ∙ ap (λ o. same_owner o Free) mine in
+          let inside : 0 < times_in (listed (links_of h) ends) f = rw e at (one-of (same_owner (frame_at (state_of config h) f).owner Free) (times_in (state_of config h).free f) owner (is.lawful.free f)) in
+          link-listed f page ends low at (is.linked.lists.spelled Free ends e) inside
+  link-shown f page low at (Vm v) mine = rw mine (by_vm (vm_at h v) refl)
+    where
+      owned : (frame_at (state_of config h) f).owner ≡ Vm v
+      owned = ap (λ (frame : Frame). frame.owner) (frame-shown f page low at) ∙ mine
+
+      slot_low : v < slot_count config
+      slot_low = (is.lawful.each_frame f (rw is.lawful.frames low)).slot v owned
+
+      by_vm : (there : Option VmSlot) → vm_at h v ≡ there → link_in (slot_at (state_of config h) v).frames f ≡ link_of page
+      by_vm None e = let some = is.whole.vms v slot_low in let none : is_some (vm_at h v) ≡ false = ap is_some e in cc
+      by_vm (Some vm) e =
+          let frames : (slot_at (state_of config h) v).frames ≡ listed (links_of h) vm.slot.ends = ap (λ (slot : Slot). slot.frames) (slot-seen config h v slot_low ∙ ap (slot_in (links_of h)) e) in
+          let mine' : same_owner (frame_at (state_of config h) f).owner (Vm v) ≡ true = ap (λ o. same_owner o (Vm v)) owned ∙ eq-eqb v v refl in
+          let inside : 0 < times_in (listed (links_of h) vm.slot.ends) f = rw frames at (one-of (same_owner (frame_at (state_of config h) f).owner (Vm v)) (times_in (slot_at (state_of config h) v).frames f) mine' (is.lawful.listed v slot_low f)) in
+          ap (λ fs. link_in fs f) frames ∙ link-listed f page vm.slot.ends low at (is.linked.lists.spelled (Vm v) vm.slot.ends (ap (option_map (λ (vm : VmSlot). vm.slot.ends)) e)) inside
+
+  -- the record of a page is that of its frame
+  pub record-shown : (f : ℕ) (meta : PageRecord) → f < config.frames → ShowsRecord h f meta → IsRecordOf (state_of config h) f meta
+  unfolding shown-link
+  record-shown f meta low shows = by_page (page_at h f) refl shows
+    where
+      by_page : (there : Option Page) → page_at h f ≡ there → Some meta ≡ option_map (λ (page : Page). shown page.meta) there → IsRecordOf (state_of config h) f meta
+      by_page None e s = cc
+      by_page (Some page) e s =
+          let is_shown : meta ≡ shown page.meta = some-same meta (shown page.meta) s in
+          let frame = frame-shown f page low e in
+          let link : link_at (state_of config h) f ≡ shown-link page.meta = ap (λ (x : Frame). link_in (list_of (state_of config h) x.owner) f) frame ∙ link-shown f page low e page.meta.owner refl in
+          rw is_shown (record {
+            owner = sym (ap (λ (x : Frame). x.owner) frame);
+            share = sym (ap (λ (x : Frame). x.share) frame);
+            gfn = sym (ap (λ (x : Frame). x.gfn) frame);
+            present = sym (ap (λ (x : Frame). x.present) frame);
+            prev = sym (ap (λ (l : Link). l.prev) link);
+            next = sym (ap (λ (l : Link). l.next) link);
+          })
+
+-- pages in the places of their numbers are the frames
+pub pages-frames : (h : Held) (pages : List Page) (a : ℕ) → ((k : ℕ) → k < length pages → slice_get pages k ≡ page_at h (a + k)) → map frame_of pages ≡ map (λ f. frame_in (page_at h f)) (range_with_len a (length pages))
+pages-frames h [] a each = refl
+pages-frames h (page ∷ pages) a each =
+    let first : page_at h a ≡ Some page = ap (page_at h) (let e : a ≡ a + 0 = omega arith in e) ∙ sym (each 0 (omega arith)) in
+    rw (first, pages-frames h pages (a + 1) (λ k low. each (suc k) (omega (arith, low)) ∙ ap (page_at h) (let e : a + suc k ≡ a + 1 + k = omega arith in e))) refl
+
+-- the frames of a VM
+pub vm-listed : (config : Configuration) (h : Held) (v : ℕ) (vm : VmSlot) → v < slot_count config → vm_at h v ≡ Some vm → (slot_at (state_of config h) v).frames ≡ listed (links_of h) vm.slot.ends
+vm-listed config h v vm low at = ap (λ (slot : Slot). slot.frames) (slot-seen config h v low ∙ ap (slot_in (links_of h)) at)
+
+pub vm-absent : (config : Configuration) (h : Held) (v : ℕ) → vm_at h v ≡ None → v < slot_count config → (slot_at (state_of config h) v).frames ≡ []
+vm-absent config h v at low = ap (λ (slot : Slot). slot.frames) (slot-seen config h v low ∙ ap (slot_in (links_of h)) at)
+
+pub vm-past : (config : Configuration) (h : Held) (v : ℕ) → slot_count config ≤ v → (slot_at (state_of config h) v).frames ≡ []
+vm-past config h v past = ap (λ (slot : Slot). slot.frames) (get_or_past (state_of config h).slots v empty_slot (rw (length-map-range_with_len (λ w. slot_in (links_of h) (vm_at h w)) 0 (slot_count config)) past))
+
+-- the numbers that pass a test, one number later
+filtered-more : (test : ℕ → Bool) (n : ℕ) → filter test (range_with_len 0 (n + 1)) ≡ filter test (range_with_len 0 n) ++ cond (test n) (n ∷ []) []
+filtered-more test n =
+    let more : range_with_len 0 (n + 1) ≡ range_with_len 0 n ++ n ∷ [] = sym (map-id (range_with_len 0 (n + 1))) ∙ map-range_with_len_more (λ f. f) 0 n n (omega arith) ∙ ap (λ fs. fs ++ n ∷ []) (map-id (range_with_len 0 n)) in
+    rw more (filter-append test (range_with_len 0 n) (n ∷ []))
+
+pub filtered-taken : (test : ℕ → Bool) (n x : ℕ) (old new : List ℕ) → old ≡ filter test (range_with_len 0 n) → test n ≡ true → x ≡ n → new ≡ old ++ x ∷ [] → new ≡ filter test (range_with_len 0 (n + 1))
+filtered-taken test n x old new so_far passes is pushed = rw (filtered-more test n, passes, ← so_far, ← is) pushed
+
+pub filtered-left : (test : ℕ → Bool) (n : ℕ) (old : List ℕ) → old ≡ filter test (range_with_len 0 n) → test n ≡ false → old ≡ filter test (range_with_len 0 (n + 1))
+filtered-left test n old so_far fails = rw (filtered-more test n, fails, append-nil) so_far
