@@ -43,9 +43,6 @@ page_at-cells (n ∷ ns) (h ∷ hs) (p ∷ ps) f a b =
     by_first false h true place rest e = e
     by_first false h false place rest e = e
 
-pub held-cells : (h : Held) (f : ℕ) → IsHeld h.numbers h.here h.pages → page_at h f ≡ cell_in h.numbers (cells h.here h.pages) f
-held-cells h f held = page_at-cells h.numbers h.here h.pages f held.here held.pages
-
 pub length-cells : (hs : List Bool) (ps : List Page) → length hs ≡ length ps → length (cells hs ps) ≡ length hs
 length-cells [] ps e = refl
 length-cells (h ∷ hs) [] e = absurd (omega (arith, e))

@@ -14,8 +14,8 @@ use Rattle.kc_parts.specs.Cuts.{held_at, same, is_wanted, AreHere, IsFull}
 use Rattle.kc_parts.proofs.Filled.{same-number, eqb-yes}
 
 -- where all of a configuration is here, no page is taken out
-pub full-from_whole : (config : Configuration) (h : Held) → IsWhole config h → IsFull h
-full-from_whole config h whole i low =
+pub full_from_whole : (config : Configuration) (h : Held) → IsWhole config h → IsFull h
+full_from_whole config h whole i low =
     let within : i < config.frames = omega (arith, rw (whole.numbers, length-range_with_len 0 config.frames) at low) in
     let e : get_or (range_with_len 0 config.frames) i 0 ≡ i = get_or-range_with_len 0 config.frames i 0 within ∙ omega arith in
     let number : get_or h.numbers i 0 ≡ i = ap (λ ns. get_or ns i 0) whole.numbers ∙ e in

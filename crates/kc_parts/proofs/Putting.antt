@@ -15,21 +15,6 @@ use Rattle.kc_parts.specs.Moves.{IsEmptyPlace, IsLaid, IsWrite, only_at}
 use Rattle.kc_parts.proofs.Filled.{cells, cell_in, cells-append, length-cells, cell-no_place, eqb-yes, eqb-no, same-number}
 use Rattle.kc_parts.proofs.SlotMoves.{either-none}
 
--- laying where the place is empty
-pub laid-some : (before after : Held) (f : ℕ) (page : Page) → page_at before f ≡ None → IsWrite f (Some page) before after → IsLaid (only_at f (Some page)) before after
-laid-some before after f page none w = record { numbers = w.numbers; vms = w.vms; free = w.free; pages = λ g. w.pages g ∙ by_test g (nat_eq g f) refl }
-  where
-    by_test : (g : ℕ) (b : Bool) → nat_eq g f ≡ b → cond b (Some page) (page_at before g) ≡ either (page_at before g) (cond b (Some page) None)
-    by_test g true e = let at : page_at before g ≡ None = rw (same-number g f e) none in rw at refl
-    by_test g false e = sym (either-none (page_at before g))
-
-pub laid-none : (h : Held) (f : ℕ) → IsLaid (only_at f None) h h
-laid-none h f = record { numbers = refl; vms = refl; free = refl; pages = λ g. by_test g (nat_eq g f) }
-  where
-    by_test : (g : ℕ) (b : Bool) → page_at h g ≡ either (page_at h g) (cond b None None)
-    by_test g true = sym (either-none (page_at h g))
-    by_test g false = sym (either-none (page_at h g))
-
 -- one more place at the end
 cell-last : (ns : List ℕ) (cs : List (Option Page)) (n : ℕ) (c : Option Page) (g : ℕ) → length cs ≡ length ns → ((k : ℕ) → k < length ns → get_or ns k 0 ≢ n)
     → cell_in (ns ++ n ∷ []) (cs ++ c ∷ []) g ≡ either (cell_in ns cs g) (cond (nat_eq g n) c None)
@@ -93,20 +78,6 @@ put-step ns cs n c before after l up fits laid =
         rw (cell-last ns cs n c f l (below-last ns n up), laid.pages f, gone, same) (either-none _)
     joined_at f false same =
         rw (cell-last ns cs n c f l (below-last ns n up), laid.pages f, same, either-none (page_at before f), either-none (cell_in ns cs f)) refl
-
-part-either : {A : Type 0} → (part : A → HeldPart) (o p : Option A) → option_map part (either o p) ≡ either (option_map part o) (option_map part p)
-part-either part None p = refl
-part-either part (Some x) p = refl
-
--- the pages, the slots and the ends together
-pub join-whole : (one other after : Held) → ((f : ℕ) → page_at after f ≡ either (page_at one f) (page_at other f)) → ((v : ℕ) → vm_at after v ≡ either (vm_at one v) (vm_at other v))
-    → after.free ≡ either one.free other.free → IsJoin one other after
-join-whole one other after pages slots ends = by_kind
-  where
-    by_kind : (r : Resource) → held_at after r ≡ either (held_at one r) (held_at other r)
-    by_kind (resource.Frame f) = ap (option_map page_part) (pages f) ∙ part-either page_part (page_at one f) (page_at other f)
-    by_kind (resource.Vm v) = ap (option_map slot_part) (slots v) ∙ part-either slot_part (vm_at one v) (vm_at other v)
-    by_kind resource.Free = ap (option_map ends_part) ends ∙ part-either ends_part one.free other.free
 
 -- the same, over flags and pages
 cells-all : (hs all_hs : List Bool) (ps all_ps : List Page) (b : Bool) (p : Page) → all_hs ≡ hs ++ b ∷ [] → all_ps ≡ ps ++ p ∷ [] → length hs ≡ length ps

@@ -23,24 +23,6 @@ slot-set xs at v x h = by_test (nat_eq v at) refl
     by_test true e = rw (same-number v at e) (get_or-set_same xs at x None h)
     by_test false e = get_or-set_other xs at v x None (eqb-false v at e)
 
-suc-eq : (a b : ℕ) → nat_eq (suc a) (suc b) ≡ nat_eq a b
-suc-eq a b = by_test (nat_eq (suc a) (suc b)) (nat_eq a b) (λ e. grind (arith, nat_tests)) (λ e. grind (arith, nat_tests))
-  where
-    by_test : (x y : Bool) → (x ≡ true → y ≡ true) → (y ≡ true → x ≡ true) → x ≡ y
-    by_test true y f g = sym (f refl)
-    by_test false true f g = g refl
-    by_test false false f g = refl
-
-pub slot-last : (xs : List (Option VmSlot)) (v : ℕ) (x : Option VmSlot) → slot_of (xs ++ x ∷ []) v ≡ cond (nat_eq v (length xs)) x (slot_of xs v)
-slot-last [] zero x = refl
-slot-last [] (suc v) x = rw (eqb-no (suc v) 0 (λ e. omega (arith, e))) refl
-slot-last (y ∷ xs) zero x = rw (eqb-no 0 (suc (length xs)) (λ e. omega (arith, e))) refl
-slot-last (y ∷ xs) (suc v) x = rw (suc-eq v (length xs)) (slot-last xs v x)
-
-pub slot-past : (xs : List (Option VmSlot)) → slot_of xs (length xs) ≡ None
-slot-past [] = refl
-slot-past (y ∷ xs) = slot-past xs
-
 pub slot-within : (xs : List (Option VmSlot)) (v : ℕ) (x : VmSlot) → slot_of xs v ≡ Some x → v < length xs
 slot-within [] v x e = cc
 slot-within (y ∷ xs) zero x e = omega arith
@@ -72,26 +54,6 @@ left-more from start at v was now h left e = rw (slot-set from at v None h, e, l
     by_test true false = refl
     by_test false true = refl
     by_test false false = refl
-
--- what is left fits, after one slot more was laid
-pub fits-more : (into after rest : List (Option VmSlot)) (slot : Option VmSlot)
-    → ((v : ℕ) (vm : VmSlot) → slot_of (rest ++ slot ∷ []) v ≡ Some vm → (v < length into) × (slot_of into v ≡ None))
-    → ((v : ℕ) → slot_of after v ≡ either (slot_of into v) (cond (nat_eq v (length rest)) slot None)) → length after ≡ length into
-    → (v : ℕ) (vm : VmSlot) → slot_of rest v ≡ Some vm → (v < length after) × (slot_of after v ≡ None)
-fits-more into after rest slot fits laid same v vm e =
-    let low : v < length rest = slot-within rest v vm e in
-    let other : nat_eq v (length rest) ≡ false = grind (arith, nat_tests) in
-    let was = fits v vm (rw (slot-last rest v slot, other) e) in
-    (rw same was.0, rw (laid v, was.1, other) refl)
-
-pub joined-more : (into after rest : List (Option VmSlot)) (slot : Option VmSlot)
-    → ((v : ℕ) → slot_of after v ≡ either (slot_of into v) (cond (nat_eq v (length rest)) slot None))
-    → (v : ℕ) → either (slot_of after v) (slot_of rest v) ≡ either (slot_of into v) (slot_of (rest ++ slot ∷ []) v)
-joined-more into after rest slot laid v = rw (laid v, slot-last rest v slot) (by_test (nat_eq v (length rest)) refl)
-  where
-    by_test : (b : Bool) → nat_eq v (length rest) ≡ b → either (either (slot_of into v) (cond b slot None)) (slot_of rest v) ≡ either (slot_of into v) (cond b slot (slot_of rest v))
-    by_test true e = rw (same-number v (length rest) e, slot-past rest, either-none (either (slot_of into (length rest)) slot)) refl
-    by_test false e = rw (either-none (slot_of into v)) refl
 
 -- one more of the resources, which is a slot
 pub wanted-slot : (wanted : List Resource) (i at v : ℕ) (r : Resource) → i < length wanted → r ≡ get_or wanted i r → r ≡ resource.Vm at

@@ -1,5 +1,7 @@
 //! Parts out and back, on four frames: the first is the core's, the second the host's, the others are free.
-ghost use Rattle.std.specs.Prelude.{[]};
+ghost use Rattle.std.specs.Prelude.{[], IfOk};
+ghost use Rattle.kc_parts.specs.Booting.{IsWhole};
+ghost use Rattle.kc_parts.specs.Cuts.{IsSplit, IsFull, is_wanted};
 
 use super::*;
 use std::test::Fail;
@@ -22,8 +24,9 @@ fn out(rt: &HostRuntime, parts: &mut Parts, wanted: &[Resource]) -> Result<Parts
     ensures split { IfOk result (λ taken. IsSplit parts.old (is_wanted wanted.now) parts.new taken) }
     ensures full { IfOk result IsFull }
 {
-    let here = parts.has_all(wanted);
-    assert!(rt; here);
+    if !parts.has_all(wanted) {
+        return Err(Fail::from("not all here"));
+    }
     Ok(parts.take_out(rt.alloc(), wanted)?)
 }
 
@@ -60,6 +63,7 @@ fn a_page_a_slot_and_the_free_list_go_out_and_come_back(rt: HostRuntime) -> Resu
 }
 
 #[test]
+#[tactic(auto, using(crate::proofs::Full::full_from_whole))]
 fn pages_are_lent_as_one_slice(rt: HostRuntime) -> Result<(), Fail> {
     let mut parts = booted(&rt)?;
     assert_eq!(rt; parts.room().frames, 4);
