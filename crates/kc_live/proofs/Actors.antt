@@ -17,7 +17,7 @@ use Rattle.kc_live.specs.Programs.{calls_in, NoneIs, Apart}
 use Rattle.kc_live.specs.Logs.{calls_of}
 use Rattle.kc_model.specs.Histories.{same_actor, calls_by}
 
-same_actor-refl : (a : Actor) → same_actor a a ≡ true
+pub same_actor-refl : (a : Actor) → same_actor a a ≡ true
 same_actor-refl Host = refl
 same_actor-refl (Vcpu s c) = rw (eq-eqb s s refl, eq-eqb c c refl) refl
 
@@ -28,7 +28,7 @@ same_actor-true (Vcpu s c) Host h = absurd (false≢true h)
 same_actor-true (Vcpu s c) (Vcpu t d) h =
     let parts = and_parts (eqb s t) (eqb c d) h in rw (eqb-true s t parts.0, eqb-true c d parts.1) refl
 
-same_actor-false : (a b : Actor) → b ≢ a → same_actor a b ≡ false
+pub same_actor-false : (a b : Actor) → b ≢ a → same_actor a b ≡ false
 same_actor-false a b apart = false_from_ne_true (same_actor a b) (λ t. apart (sym (same_actor-true a b t)))
 
 -- g lists what stands in h, from this place on

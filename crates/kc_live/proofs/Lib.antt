@@ -4,3 +4,4 @@ pub mod Settlement
 pub mod Actors
 pub mod Planning
 pub mod Runs
+pub mod Cuts

@@ -18,9 +18,13 @@ known_push : (config : Configuration) (a : Actor) (owners : List Actor) → AreA
 known_push config a [] known one = (one, tt)
 known_push config a (o ∷ owners) known one = (known.0, known_push config a owners known.1 one)
 
+actors_more : (ps : List ProgramView) (i : ℕ) (p : ProgramView) → p ≡ get_or ps i p → i < length ps → actors_of (take (i + 1) ps) ≡ actors_of (take i ps) ++ p.actor ∷ []
+actors_more ps i p is lt =
+    ap actors_of (take_more ps i p lt) ∙ (map-append (λ (p : ProgramView). p.actor) (take i ps) (get_or ps i p ∷ []) ∙ ap (λ (q : ProgramView). actors_of (take i ps) ++ q.actor ∷ []) (sym is))
+
 pub actors_take : (config : Configuration) (ps : List ProgramView) (i : ℕ) (p : ProgramView) → p ≡ get_or ps i p → i < length ps → HaveActors config (take i ps) → MayJoin config (take i ps) p → HaveActors config (take (i + 1) ps)
 actors_take config ps i p is lt have joins =
-    let owners = actors_of (take i ps) in
-    let more : actors_of (take (i + 1) ps) ≡ owners ++ p.actor ∷ [] =
-    ap actors_of (take_more ps i p lt) ∙ (map-append (λ (p : ProgramView). p.actor) (take i ps) (get_or ps i p ∷ []) ∙ ap (λ (q : ProgramView). owners ++ q.actor ∷ []) (sym is)) in
-    rw more (apart_push p.actor owners have.0 joins.0, known_push config p.actor owners have.1 joins.1)
+    rw (actors_more ps i p is lt) (apart_push p.actor (actors_of (take i ps)) have.0 joins.0, known_push config p.actor (actors_of (take i ps)) have.1 joins.1)
+
+pub none_take : (a : Actor) (ps : List ProgramView) (i : ℕ) (p : ProgramView) → p ≡ get_or ps i p → i < length ps → NoneIs a (actors_of (take i ps)) → p.actor ≢ a → NoneIs a (actors_of (take (i + 1) ps))
+none_take a ps i p is lt none other = rw (actors_more ps i p is lt) (none_push a p.actor (actors_of (take i ps)) none other)

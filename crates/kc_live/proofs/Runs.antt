@@ -10,9 +10,10 @@ use Rattle.kc_live.specs.declared.receipt.Entry.{Entry}
 use Rattle.kc_live.specs.declared.receipt.Receipt.{Receipt}
 use Rattle.kc_live.specs.Programs.{ProgramView}
 use Rattle.kc_live.specs.Settling.{IsSettled}
-use Rattle.kc_live.specs.Programs.{calls_in, Apart, actors_of, HasCalls}
-use Rattle.kc_model.specs.Histories.{same_actor}
+use Rattle.kc_live.specs.Programs.{calls_in, NoneIs, Apart, actors_of, HasCalls}
+use Rattle.kc_model.specs.Histories.{same_actor, calls_by}
 use Rattle.kc_live.specs.Plans.{stranger_in, stranger_from}
+use Rattle.kc_live.specs.Logs.{calls_of}
 use Rattle.kc_live.proofs.Actors.{OwnedBy, OwnedRows, AllBy, same_actor-true, settled_by_actors}
 
 none_first : (b : Bool) (i : ℕ) (rest : Option ℕ) → cond (not b) (Some i) rest ≡ None → (b ≡ true) × (rest ≡ None)
@@ -60,3 +61,10 @@ calls_in_rows items (row ∷ rows) = ap (λ rest. calls_in (items row) ∷ rest)
 pub run_calls : {X : Type 0} (items : X → List Receipt) (h : List Entry) (ps : List ProgramView) (rows : List X) → IsSettled h (map items rows) → map (λ row. calls_in (items row)) rows ≡ map (λ p. p.calls) ps
     → stranger_from 0 ps ≡ None → Apart (actors_of ps) → HasCalls h ps
 run_calls items h ps rows settled same own apart = settled_calls h ps (map items rows) settled (calls_in_rows items rows ∙ same) own apart
+
+-- and an actor that has no program has no calls
+pub run_others : {X : Type 0} (items : X → List Receipt) (h : List Entry) (ps : List ProgramView) (rows : List X) → IsSettled h (map items rows) → map (λ row. calls_in (items row)) rows ≡ map (λ p. p.calls) ps
+    → stranger_from 0 ps ≡ None → Apart (actors_of ps) → (a : Actor) → NoneIs a (actors_of ps) → calls_by a (calls_of h) ≡ []
+run_others items h ps rows settled same own apart a none =
+    let beside : IsSettled h ([] ∷ map items rows) = record { once = settled.once; match = ((tt, tt), settled.match) } in
+    (settled_by_actors h (a ∷ actors_of ps) ([] ∷ map items rows) beside (tt, own_rows 0 ps (map items rows) (calls_in_rows items rows ∙ same) own) (none, apart)).0

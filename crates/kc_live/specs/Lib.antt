@@ -5,3 +5,4 @@ pub mod Settling
 pub mod Programs
 pub mod Plans
 pub mod Stops
+pub mod Cuts

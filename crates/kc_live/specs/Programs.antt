@@ -33,3 +33,7 @@ Apart (a ∷ rest) = NoneIs a rest × Apart rest
 abbrev pub HasCalls : List Entry → List ProgramView → Type 0
 HasCalls h [] = Unit {0}
 HasCalls h (p ∷ ps) = (calls_by p.actor (calls_of h) ≡ p.calls) × HasCalls h ps
+
+-- an actor that has no program has no calls in the history
+abbrev pub HasNoOthers : List Entry → List ProgramView → Type 0
+HasNoOthers h ps = (a : Actor) → NoneIs a (actors_of ps) → calls_by a (calls_of h) ≡ []

@@ -2,6 +2,7 @@
 #![tactic(auto)]
 
 mod book;
+mod cut;
 mod early;
 mod fault;
 mod live_core;
@@ -15,6 +16,7 @@ mod tests;
 mod threads;
 
 pub use book::{Book, History};
+pub use cut::{programs_of, run_trace};
 pub use fault::{LiveCause, LiveFault, LiveStop};
 pub use live_core::LiveCore;
 pub use program::Program;

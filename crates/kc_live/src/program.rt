@@ -1,15 +1,16 @@
 //! The calls of one actor, and the thread that makes them.
-ghost use Rattle.std.specs.Prelude.{◌≡◌, IfOk};
+ghost use Rattle.std.specs.Prelude.{◌≡◌, IfOk, OnOk, OnErr};
 ghost use Rattle.std.specs.List.{AllByRecursion};
 ghost use Rattle.kc_model.specs.Built.{IsBuilt};
 ghost use Rattle.kc_live.specs.Programs.{calls_in};
+ghost use Rattle.kc_live.specs.Cuts.{grown};
 
 use crate::fault::LiveFault;
 use crate::live_core::LiveCore;
 use crate::receipt::Receipt;
 use crate::seat::Seat;
 use kc_replay::Gate;
-use kc_types::{Actor, Call};
+use kc_types::{Actor, Call, Memory};
 use std::alloc::Global;
 use std::marker::Model;
 use std::snapshot::Snapshot;
@@ -70,6 +71,17 @@ impl Program {
         ensures { result.now ≡ self.now.calls }
     {
         self.calls.as_slice()
+    }
+
+    /// Adds a call behind the others. `Memory` where a growth was refused, and then nothing has changed.
+    pub fn add(&mut self, call: Call) -> Result<(), Memory>
+        requires { IsBuilt call }
+        ensures more { OnOk result (self.new ≡ grown self.old call) }
+        ensures err { OnErr result (self.new ≡ self.old) }
+    {
+        self.calls.reserve(1)?;
+        self.calls.push_reserved(call);
+        Ok(())
     }
 
     /// What a thread promises that makes the calls.

@@ -1,6 +1,6 @@
 //! A whole live run: from programs to a closed history with its receipts.
 ghost use Rattle.std.specs.Prelude.{◌≡◌, ◌↔◌, map, true, false, is_some, IfOk, IfErr, OnOk, IfSome, MatchOption, IsTrue};
-ghost use Rattle.kc_live.specs.Programs.{calls_in, HasCalls};
+ghost use Rattle.kc_live.specs.Programs.{calls_in, HasCalls, HasNoOthers};
 ghost use Rattle.kc_live.specs.Settling.{IsSettled};
 ghost use Rattle.kc_live.specs.Plans.{IsSound};
 ghost use Rattle.kc_live.specs.Stops.{StopsFor, IsLate, FitsHistory};
@@ -20,7 +20,7 @@ use std::sync::Wait;
 use std::thread::Threads;
 
 /// A run that was refused before it began.
-fn refused(cause: LiveCause) -> LiveStop
+pub fn refused(cause: LiveCause) -> LiveStop
     ensures { result ≡ record { cause = cause; history = None } }
 {
     LiveStop {
@@ -124,6 +124,7 @@ pub fn run_live<G: Gate + Sync, R: Threads + Wait + Sync>(
     // Row by row the receipts are of the programs' calls, and so is the history, actor by actor.
     ensures rows { IfOk result (λ r. map (λ row. calls_in row.items) r.1.items ≡ map (λ p. p.calls) programs.items) }
     ensures calls { IfOk result (λ r. HasCalls r.0.entries programs.items) }
+    ensures others { IfOk result (λ r. HasNoOthers r.0.entries programs.items) }
 {
     if let Some(cause) = early_stop(&config, programs.as_slice()) {
         return Err(refused(cause));
