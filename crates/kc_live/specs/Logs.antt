@@ -1,5 +1,6 @@
 -- What a book keeps: a configuration, and the calls that were made under it with their replies.
 use Rattle.std.specs.Prelude.{◌≡◌, ◌≤◌, List, [], ◌∷◌, ◌++◌, length, map}
+use Rattle.std.specs.List.{AllByRecursion}
 use Rattle.kc_types.specs.Configuration.{Configuration}
 use Rattle.kc_types.specs.Limits.{call_limit}
 use Rattle.kc_types.specs.declared.call.Call.{Call}
@@ -7,6 +8,7 @@ use Rattle.kc_types.specs.declared.reply.Reply.{Reply}
 use Rattle.kc_model.specs.State.{State}
 use Rattle.kc_model.specs.Boot.{boot}
 use Rattle.kc_model.specs.Next.{next, state_after}
+use Rattle.kc_model.specs.Built.{IsBuilt}
 use Rattle.kc_model.specs.Histories.{IsLegalHistory}
 use Rattle.kc_live.specs.declared.receipt.Entry.{Entry}
 use Rattle.kc_live.specs.declared.receipt.Receipt.{Receipt}
@@ -34,6 +36,7 @@ pub record IsKept (config : Configuration) (entries : List Entry) (state : State
   pub legal : IsLegalHistory config (calls_of entries) (replies_of entries)
   pub ends : state ≡ state_after (boot config) (calls_of entries)
   pub short : length entries ≤ call_limit
+  pub built : AllByRecursion IsBuilt (calls_of entries)
 
 abbrev pub new_log : Configuration → Log
 new_log config = record { config = config; entries = [] }

@@ -1,5 +1,6 @@
 //! The core beside the history of its calls.
 ghost use Rattle.std.specs.Prelude.{◌≡◌, ◌≢◌, ◌≤◌, ◌↔◌, length, Err, IfOk, OnErr};
+ghost use Rattle.std.specs.List.{AllByRecursion};
 ghost use Rattle.kc_types.specs.Limits.{call_limit};
 ghost use Rattle.kc_model.specs.Built.{IsBuilt};
 
@@ -115,7 +116,7 @@ impl Model for History {
 }
 
 impl History {
-    ghost use Rattle.kc_live.specs.Logs.{IsLegal, end_state};
+    ghost use Rattle.kc_live.specs.Logs.{IsLegal, calls_of, end_state};
 
     /// The configuration of the core.
     pub fn config(&self) -> &Config
@@ -146,6 +147,7 @@ impl History {
         ensures core { result.1 ≡ end_state self }
         ensures legal { IsLegal self }
         ensures short { length self.entries ≤ call_limit }
+        ensures built { AllByRecursion IsBuilt (calls_of self.entries) }
     {
         let History {
             config: _,
