@@ -151,10 +151,10 @@ some-none i call None none some = cc
 some-none i call (Some x) none some = cc
 
 -- why the programs of a trace stop is why the trace stops
-pub stops-trace : (config : Configuration) (calls : List Call) (ps : List ProgramView) (cause : LiveCause) → IsCut calls ps → length calls ≤ 65536 → StopsFor config ps cause → StopsTrace config calls cause
-stops-trace config calls ps (BadActor i) cut few stops = (ps, cut, stops)
-stops-trace config calls ps (NotYours i call) cut few stops = some-none i call (stranger_from 0 ps) (strangers-none 0 ps cut.own) stops.1
-stops-trace config calls ps HistoryFull cut few stops = let count = cut.count in let many = stops.1 in absurd (omega arith)
-stops-trace config calls ps Memory cut few stops = tt
-stops-trace config calls ps Start cut few stops = tt
-stops-trace config calls ps Unsettled cut few stops = tt
+pub stops-trace : (config : Configuration) (calls : List Call) (ps : List ProgramView) (cause : LiveCause) → IsCut calls ps → StopsFor config ps cause → StopsTrace config calls cause
+stops-trace config calls ps (BadActor i) cut stops = (ps, cut, stops)
+stops-trace config calls ps (NotYours i call) cut stops = some-none i call (stranger_from 0 ps) (strangers-none 0 ps cut.own) stops.1
+stops-trace config calls ps HistoryFull cut stops = let count = cut.count in let many = stops.1 in omega arith
+stops-trace config calls ps Memory cut stops = tt
+stops-trace config calls ps Start cut stops = tt
+stops-trace config calls ps Unsettled cut stops = tt

@@ -1,7 +1,8 @@
 -- A trace that is cut into programs, and a history that has its calls.
-use Rattle.std.specs.Prelude.{◌≡◌, ◌++◌, ℕ, List, [], ◌∷◌, length, take, slice_get, Some, true, if◌then◌else◌}
+use Rattle.std.specs.Prelude.{◌≡◌, ◌<◌, ◌++◌, ℕ, List, [], ◌∷◌, length, take, slice_get, Some, true, if◌then◌else◌}
 use Rattle.kc_types.specs.Actors.{actor}
 use Rattle.kc_types.specs.Configuration.{Configuration}
+use Rattle.kc_types.specs.Limits.{call_limit}
 use Rattle.kc_types.specs.declared.call.Call.{Call}
 use Rattle.kc_types.specs.declared.call.Actor.{Actor}
 use Rattle.kc_model.specs.Histories.{same_actor, calls_by}
@@ -52,11 +53,11 @@ with_call call (p ∷ ps) = if same_actor p.actor (actor call) then grown p call
 abbrev pub KeepsOrders : List Call → List Call → Type 0
 KeepsOrders made calls = (a : Actor) → calls_by a made ≡ calls_by a calls
 
--- why a trace is not run: one of its actors is none of the core's, or a cause that shows only in a run
+-- why a trace is not run: one of its actors is none of the core's, it has more calls than a history, or a cause that shows only in a run
 abbrev pub StopsTrace : Configuration → List Call → LiveCause → Type 0
 StopsTrace config calls (BadActor i) = (ps : List ProgramView) × IsCut calls ps × IsFirstBad config ps i
 StopsTrace config calls (NotYours i call) = ⊥
-StopsTrace config calls HistoryFull = ⊥
+StopsTrace config calls HistoryFull = call_limit < length calls
 StopsTrace config calls Memory = Unit {0}
 StopsTrace config calls Start = Unit {0}
 StopsTrace config calls Unsettled = Unit {0}

@@ -1,8 +1,7 @@
 //! A trace that is cut into programs and run.
-ghost use Rattle.std.specs.Prelude.{◌≡◌, ◌≤◌, [], ◌∷◌, length, IfOk, IfErr, OnOk, MatchOption, IsTrue, ◌↔◌};
+ghost use Rattle.std.specs.Prelude.{◌≡◌, [], ◌∷◌, IfOk, IfErr, OnOk, MatchOption, IsTrue, ◌↔◌};
 ghost use Rattle.kc_types.specs.Actors.{actor as actor_made};
 ghost use Rattle.std.specs.List.{AllByRecursion};
-ghost use Rattle.kc_types.specs.Limits.{call_limit};
 ghost use Rattle.kc_model.specs.Built.{IsBuilt};
 ghost use Rattle.kc_live.specs.Logs.{calls_of};
 ghost use Rattle.kc_live.specs.Programs.{NoneIs, actors_of};
@@ -87,8 +86,7 @@ pub fn run_trace<G: Gate + Sync, R: Threads + Wait + Sync>(
     calls: Vec<Call>,
     gate: &G,
 ) -> Result<History, LiveStop>
-    requires built { AllByRecursion IsBuilt calls.items }
-    requires few { length calls.items ≤ call_limit }
+    requires { AllByRecursion IsBuilt calls.items }
     ensures config { IfOk result (λ history. history.config ≡ config) }
     ensures order { IfOk result (λ history. KeepsOrders (calls_of history.entries) calls.items) }
     ensures stop { IfErr result (λ stop. StopsTrace config calls.items stop.cause) }

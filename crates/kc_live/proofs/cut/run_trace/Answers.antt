@@ -2,7 +2,7 @@ use Rattle.kc_live.proofs.Cuts.{keeps-orders, stops-trace}
 use Rattle.kc_live.proofs.cut.run_trace.Goals as goal
 
 pub returns-in-Err-clause-stop : goal.returns-in-Err-clause-stop
-returns-in-Err-clause-stop g c = stops-trace c.args.config c.args.calls.items c.in-Ok.programs.items c.in-Err.stop.cause c.in-Ok.ensures c.requires.few c.in-Err.ensures.stop
+returns-in-Err-clause-stop g c = stops-trace c.args.config c.args.calls.items c.in-Ok.programs.items c.in-Err.stop.cause c.in-Ok.ensures c.in-Err.ensures.stop
 
 pub returns-in-Ok-run_live-clause-order : goal.returns-in-Ok-run_live-clause-order
 returns-in-Ok-run_live-clause-order g c =
