@@ -1,7 +1,8 @@
 //! The program: words, files and standard streams around the engines of `kc_cli`.
 #![tactic(auto)]
 
-use kc_cli::{ArgFault, Job, Mem, Std, TextFault, job_of, replay_text, tell};
+use kc_cli::{ArgFault, Job, Mem, Std, TextFault, job_of, live_text, replay_text, tell};
+use kc_replay::OpenGate;
 use std::env;
 use std::fs::File;
 use std::io::{Error, ErrorKind};
@@ -34,6 +35,33 @@ fn replay(rt: &HostRuntime, config: Option<&str>) -> u8 {
                 return fail(rt, TextFault::Memory);
             };
             replay_text(alloc, &mut Mem::with_bytes(bytes), &mut trace, &mut out, 1)
+        },
+    };
+    match outcome {
+        Ok(()) => 0,
+        Err(fault) => fail(rt, fault),
+    }
+}
+
+/// Runs the trace on standard input live, writes the history onto standard output, and answers the exit status.
+fn live(rt: &HostRuntime, config: Option<&str>) -> u8 {
+    let alloc = rt.alloc();
+    let mut trace = Std::new(rt.stdin());
+    let mut out = Std::new(rt.stdout());
+    let outcome = match config {
+        Some(path) => {
+            let Ok(file) = File::open(rt, path) else {
+                return fail(rt, TextFault::Read);
+            };
+            let mut config = Std::new(file);
+            live_text(rt, alloc, &mut config, &mut trace, &mut out, 1, &OpenGate)
+        },
+        None => {
+            let Ok(bytes) = Vec::from_slice(alloc, DEFAULT_CONFIG) else {
+                return fail(rt, TextFault::Memory);
+            };
+            let mut config = Mem::with_bytes(bytes);
+            live_text(rt, alloc, &mut config, &mut trace, &mut out, 1, &OpenGate)
         },
     };
     match outcome {
@@ -85,6 +113,7 @@ fn run(rt: &HostRuntime) -> u8 {
     };
     match job_of(rt.alloc(), words.as_slice()) {
         Ok(Job::Replay { config }) => replay(rt, config),
+        Ok(Job::Live { config }) => live(rt, config),
         Err(fault) => refuse(rt, fault),
     }
 }
