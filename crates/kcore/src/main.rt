@@ -7,6 +7,8 @@ use std::env;
 use std::fs::File;
 use std::io::{Error, ErrorKind};
 use std::process::ExitCode;
+use std::sync::Wait;
+use std::thread::Threads;
 
 /// The configuration where no file is named: 8 frames, of which the first is the core's and the next four are
 /// the host's, one leaf table a VM, and the digest of `abc` approved.
@@ -44,7 +46,7 @@ fn replay(rt: &HostRuntime, config: Option<&str>) -> u8 {
 }
 
 /// Runs the trace on standard input live, writes the history onto standard output, and answers the exit status.
-fn live(rt: &HostRuntime, config: Option<&str>) -> u8 {
+fn live<R: Threads + Wait + Sync>(rt: &HostRuntime, threads: &R, config: Option<&str>) -> u8 {
     let alloc = rt.alloc();
     let mut trace = Std::new(rt.stdin());
     let mut out = Std::new(rt.stdout());
@@ -54,14 +56,14 @@ fn live(rt: &HostRuntime, config: Option<&str>) -> u8 {
                 return fail(rt, TextFault::Read);
             };
             let mut config = Std::new(file);
-            live_text(rt, alloc, &mut config, &mut trace, &mut out, 1, &OpenGate)
+            live_text(threads, alloc, &mut config, &mut trace, &mut out, 1, &OpenGate)
         },
         None => {
             let Ok(bytes) = Vec::from_slice(alloc, DEFAULT_CONFIG) else {
                 return fail(rt, TextFault::Memory);
             };
             let mut config = Mem::with_bytes(bytes);
-            live_text(rt, alloc, &mut config, &mut trace, &mut out, 1, &OpenGate)
+            live_text(threads, alloc, &mut config, &mut trace, &mut out, 1, &OpenGate)
         },
     };
     match outcome {
@@ -96,7 +98,7 @@ fn refuse_words(rt: &HostRuntime, error: &Error) -> u8 {
     2
 }
 
-fn run(rt: &HostRuntime) -> u8 {
+fn run<R: Threads + Wait + Sync>(rt: &HostRuntime, threads: &R) -> u8 {
     let arguments = match env::args(rt) {
         Ok(arguments) => arguments,
         Err(error) => return refuse_words(rt, &error),
@@ -113,11 +115,11 @@ fn run(rt: &HostRuntime) -> u8 {
     };
     match job_of(rt.alloc(), words.as_slice()) {
         Ok(Job::Replay { config }) => replay(rt, config),
-        Ok(Job::Live { config }) => live(rt, config),
+        Ok(Job::Live { config }) => live(rt, threads, config),
         Err(fault) => refuse(rt, fault),
     }
 }
 
 fn main(rt: HostRuntime) -> ExitCode {
-    ExitCode::from(run(&rt))
+    ExitCode::from(run(&rt, &rt))
 }
