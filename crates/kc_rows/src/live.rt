@@ -3,13 +3,17 @@ use kc_live::{LiveCause, LiveCore, LiveFault, LiveStop, Program, Seat, run_live}
 use kc_replay::OpenGate;
 use kc_types::{Actor, Call, Config, Refusal, Reply};
 use std::alloc::Global;
+use std::sync::Wait;
 use std::test::Fail;
+use std::thread::Threads;
 
 /// Frames of which 0 is the core's, 1 to 4 are the host's and the rest is free.
 fn config(alloc: Global, frames: u32) -> Result<Config, Fail> {
-    Ok(Config::try_new(frames, 1, 4, 1, Vec::new(alloc))
-        .ok()
-        .ok_or("no configuration")?)
+    Ok(
+        Config::try_new(frames, 1, 4, 1, Vec::new(alloc))
+            .ok()
+            .ok_or("no configuration")?,
+    )
 }
 
 /// A program of an actor that takes a frame so often.
@@ -22,17 +26,22 @@ fn takes(alloc: Global, actor: Actor, count: u32) -> Result<Program, Fail> {
 }
 
 /// Why the second program does not run beside the first, which takes one frame.
-fn cause_beside(rt: &HostRuntime, other: Program) -> Result<LiveCause, Fail> {
-    let alloc = rt.alloc();
+fn cause_beside<R: Threads + Wait + Sync>(
+    rt: &R,
+    alloc: Global,
+    other: Program,
+) -> Result<LiveCause, Fail> {
     let mut programs = Vec::new(alloc);
     programs.push(takes(alloc, Actor::Host, 1)?)?;
     programs.push(other)?;
     match run_live(rt, alloc, config(alloc, 8)?, programs, &OpenGate) {
         Ok(_) => Err(Fail::from("it ran")),
-        Err(LiveStop {
-            cause,
-            history: None,
-        }) => Ok(cause),
+        Err(
+            LiveStop {
+                cause,
+                history: None,
+            },
+        ) => Ok(cause),
         Err(_) => Err(Fail::from("it left a history")),
     }
 }
@@ -41,13 +50,16 @@ fn cause_beside(rt: &HostRuntime, other: Program) -> Result<LiveCause, Fail> {
 fn programs_are_refused_before_the_run(rt: HostRuntime) -> Result<(), Fail> {
     let alloc = rt.alloc();
     let again = takes(alloc, Actor::Host, 1)?;
-    assert_eq!(rt; cause_beside(&rt, again)?, LiveCause::BadActor(1));
+    assert_eq!(rt; cause_beside(&rt, alloc, again)?, LiveCause::BadActor(1));
     let no_slot = takes(alloc, Actor::Vcpu(16, 0), 0)?;
-    assert_eq!(rt; cause_beside(&rt, no_slot)?, LiveCause::BadActor(1));
+    assert_eq!(rt; cause_beside(&rt, alloc, no_slot)?, LiveCause::BadActor(1));
     let no_vcpu = takes(alloc, Actor::Vcpu(0, 8), 0)?;
-    assert_eq!(rt; cause_beside(&rt, no_vcpu)?, LiveCause::BadActor(1));
+    assert_eq!(rt; cause_beside(&rt, alloc, no_vcpu)?, LiveCause::BadActor(1));
     let not_its_own = takes(alloc, Actor::Vcpu(0, 0), 65_537)?;
-    assert_eq!(rt; cause_beside(&rt, not_its_own)?, LiveCause::NotYours(1, 0));
+    assert_eq!(rt;
+        cause_beside(&rt, alloc, not_its_own)?,
+        LiveCause::NotYours(1, 0)
+    );
     Ok(())
 }
 

@@ -4,12 +4,17 @@ use kc_cli::{Mem, TextFault, live_text};
 use kc_replay::OpenGate;
 use kc_trace::TraceFault;
 use kc_types::{Call, Reply};
-use std::alloc::AllocError;
+use std::alloc::{AllocError, Global};
+use std::sync::Wait;
 use std::test::Fail;
+use std::thread::Threads;
 
 /// What the engine answers to a trace, and what it wrote.
-fn run(rt: &HostRuntime, trace: &str) -> Result<(Result<(), TextFault>, Vec<u8>), AllocError> {
-    let alloc = rt.alloc();
+fn run<R: Threads + Wait + Sync>(
+    rt: &R,
+    alloc: Global,
+    trace: &str,
+) -> Result<(Result<(), TextFault>, Vec<u8>), AllocError> {
     let mut config = Mem::with_bytes(Vec::from_slice(alloc, SMALL.as_bytes())?);
     let mut trace = Mem::with_bytes(Vec::from_slice(alloc, trace.as_bytes())?);
     let mut out = Mem::new(alloc);
@@ -23,7 +28,7 @@ fn one_actor_keeps_its_order(rt: HostRuntime) -> Result<(), Fail> {
         "kcore-trace 1\n",
         "kcore-trace 1\nhfault 1\nhfault 2\nhwrite 1 0 aa\ntake\nhfault 5\nhfault 3\n",
     ] {
-        let (outcome, bytes) = run(&rt, trace)?;
+        let (outcome, bytes) = run(&rt, rt.alloc(), trace)?;
         assert_eq!(rt; outcome, Ok(()));
         assert!(rt; bytes.as_slice() == trace.as_bytes());
     }
@@ -32,7 +37,7 @@ fn one_actor_keeps_its_order(rt: HostRuntime) -> Result<(), Fail> {
 
 #[test]
 fn a_refused_trace_writes_nothing(rt: HostRuntime) -> Result<(), Fail> {
-    let (outcome, bytes) = run(&rt, "kcore-trace 1\nhfault 01\n")?;
+    let (outcome, bytes) = run(&rt, rt.alloc(), "kcore-trace 1\nhfault 01\n")?;
     assert_eq!(rt; outcome, Err(TextFault::Trace(TraceFault::BadLine(2))));
     assert!(rt; bytes.is_empty());
     Ok(())

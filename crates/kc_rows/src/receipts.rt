@@ -46,7 +46,9 @@ fn second(alloc: Global, number: u32, frame: u32, byte: u8) -> Result<Receipt, F
 }
 
 fn row(alloc: Global, receipt: Receipt) -> Result<Vec<Receipt>, AllocError> {
-    vec![in alloc; receipt]
+    let mut row = Vec::with_capacity(alloc, 1)?;
+    row.push_reserved(receipt);
+    Ok(row)
 }
 
 #[test]
