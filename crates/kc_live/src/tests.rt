@@ -119,8 +119,10 @@ fn the_host_may_run_beside_others(rt: HostRuntime) -> Result<(), Fail> {
     };
     assert_eq!(rt; history.entries().len(), 3);
     assert_eq!(rt; rows.len(), 2);
-    assert_eq!(rt; rows[1][2].number, 2);
-    assert_eq!(rt; rows[1][2].reply, Reply::Done);
+    let row = &rows[1];
+    assert_eq!(rt; row.len(), 3);
+    assert_eq!(rt; row[2].number, 2);
+    assert_eq!(rt; row[2].reply, Reply::Done);
     let (entries, mut core) = history.into_parts();
     core.wipe();
     assert_eq!(rt; entries.len(), 3);
