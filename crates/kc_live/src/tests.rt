@@ -16,9 +16,11 @@ mod gates;
 
 /// `frames` frames: 0 is the core's, 1 to 4 are the host's, the rest is free.
 fn config(alloc: Global, frames: u32) -> Result<Config, Fail> {
-    Ok(Config::try_new(frames, 1, 4, 1, Vec::new(alloc))
-        .ok()
-        .ok_or("no configuration")?)
+    Ok(
+        Config::try_new(frames, 1, 4, 1, Vec::new(alloc))
+            .ok()
+            .ok_or("no configuration")?,
+    )
 }
 
 fn reads(alloc: Global) -> Result<Program, AllocError> {

@@ -56,14 +56,30 @@ fn live<R: Threads + Wait + Sync>(rt: &HostRuntime, threads: &R, config: Option<
                 return fail(rt, TextFault::Read);
             };
             let mut config = Std::new(file);
-            live_text(threads, alloc, &mut config, &mut trace, &mut out, 1, &OpenGate)
+            live_text(
+                threads,
+                alloc,
+                &mut config,
+                &mut trace,
+                &mut out,
+                1,
+                &OpenGate,
+            )
         },
         None => {
             let Ok(bytes) = Vec::from_slice(alloc, DEFAULT_CONFIG) else {
                 return fail(rt, TextFault::Memory);
             };
             let mut config = Mem::with_bytes(bytes);
-            live_text(threads, alloc, &mut config, &mut trace, &mut out, 1, &OpenGate)
+            live_text(
+                threads,
+                alloc,
+                &mut config,
+                &mut trace,
+                &mut out,
+                1,
+                &OpenGate,
+            )
         },
     };
     match outcome {

@@ -24,7 +24,10 @@ fn asks_for_a_replay(rt: HostRuntime) {
 #[test]
 fn asks_for_a_live_run(rt: HostRuntime) {
     let with_path = Job::Live { config: Some("p") };
-    assert_eq!(rt; answer(rt.alloc(), &["live"]), Ok(Job::Live { config: None }));
+    assert_eq!(rt;
+        answer(rt.alloc(), &["live"]),
+        Ok(Job::Live { config: None })
+    );
     assert_eq!(rt;
         answer(rt.alloc(), &["live", "--config", "p"]),
         Ok(with_path)
