@@ -2,3 +2,4 @@ pub mod Bytes
 pub mod Asking
 pub mod Fed
 pub mod Faulted
+pub mod LiveFaults

@@ -9,5 +9,12 @@ config_rule = record (new_rule (codes "config")) { long = Some (codes "config") 
 abbrev pub replay : App
 replay = with_rule (new_app (codes "replay")) config_rule
 
+abbrev pub live : App
+live = with_rule (new_app (codes "live")) config_rule
+
+-- the command with `replay` alone
+abbrev pub base : App
+base = with_subcommand (on_top (λ s. record s { no_binary_name = true }) (new_app (codes "kcore"))) replay.top
+
 abbrev pub kcore : App
-kcore = with_subcommand (on_top (λ s. record s { no_binary_name = true }) (new_app (codes "kcore"))) replay.top
+kcore = with_subcommand base live.top

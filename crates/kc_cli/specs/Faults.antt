@@ -5,6 +5,8 @@ use Rattle.kc_trace.specs.declared.config_text.ConfigTextFault.{ConfigTextFault}
 use Rattle.kc_trace.specs.declared.config_text.ConfigTextFault.TheVariants as configs
 use Rattle.kc_trace.specs.declared.fault.TraceFault.{TraceFault}
 use Rattle.kc_trace.specs.declared.fault.TraceFault.TheVariants as traces
+use Rattle.kc_live.specs.declared.fault.LiveCause.{LiveCause}
+use Rattle.kc_live.specs.declared.fault.LiveCause.TheVariants as causes
 use Rattle.kc_cli.specs.declared.whole.ReadFault.{ReadFault}
 use Rattle.kc_cli.specs.declared.whole.ReadFault.TheVariants as reads
 use Rattle.kc_cli.specs.declared.stream.StreamFault.{StreamFault}
@@ -28,7 +30,16 @@ abbrev pub config_fault : ConfigTextFault → TextFault
 config_fault configs.Memory = texts.Memory
 config_fault fault = texts.Config fault
 
--- 3 where memory or an end failed, 2 where the input is refused
+-- the fault that the cause of a live run is; with more calls than a history has room for the trace is refused, and no program of a trace has another's calls
+abbrev pub live_fault : LiveCause → TextFault
+live_fault (causes.BadActor program) = texts.BadActor program
+live_fault causes.HistoryFull = texts.Trace traces.TooManyCalls
+live_fault causes.Memory = texts.Memory
+live_fault causes.Start = texts.Start
+live_fault causes.Unsettled = texts.Unsettled
+live_fault (causes.NotYours program call) = texts.Unsettled
+
+-- 3 where memory, a thread or an end failed, 2 where the input is refused
 abbrev pub status_of : TextFault → ℕ
 status_of (texts.Config configs.Memory) = 3
 status_of (texts.Config fault) = 2
@@ -36,6 +47,9 @@ status_of (texts.Trace traces.Memory) = 3
 status_of (texts.Trace fault) = 2
 status_of texts.Workers = 2
 status_of texts.Memory = 3
+status_of texts.Start = 3
+status_of texts.Unsettled = 3
+status_of (texts.BadActor program) = 2
 status_of texts.Read = 3
 status_of texts.Write = 3
 
@@ -61,12 +75,16 @@ words_of (texts.Config fault) = config_words_of fault
 words_of (texts.Trace fault) = trace_words_of fault
 words_of texts.Workers = codes "kcore: bad number of workers"
 words_of texts.Memory = codes "kcore: out of memory"
+words_of texts.Start = codes "kcore: a worker could not be started"
+words_of texts.Unsettled = codes "kcore: history not settled"
+words_of (texts.BadActor program) = codes "kcore: bad actor of program "
 words_of texts.Read = codes "kcore: read failed"
 words_of texts.Write = codes "kcore: write failed"
 
 -- the number in a line
 abbrev pub line_number_of : TextFault → Option ℕ
 line_number_of (texts.Trace (traces.BadLine number)) = Some number
+line_number_of (texts.BadActor program) = Some program
 line_number_of fault = None
 
 abbrev pub numeral_of : Option ℕ → List ℕ

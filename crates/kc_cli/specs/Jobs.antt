@@ -4,19 +4,21 @@ use Rattle.clap.specs.Words.{Text, Row, first_of, subcommand_of, fault_of, IsAmo
 use Rattle.clap.specs.declared.error.kind.ErrorKind.{ErrorKind}
 use Rattle.clap.specs.declared.error.kind.ErrorKind.TheVariants.{DisplayHelp, DisplayVersion, OutOfMemory}
 use Rattle.kc_cli.specs.declared.words.Job.{Job}
-use Rattle.kc_cli.specs.declared.words.Job.TheVariants.{Replay}
+use Rattle.kc_cli.specs.declared.words.Job.TheVariants.{Replay, Live}
 use Rattle.kc_cli.specs.declared.words.ArgFault.{ArgFault}
 use Rattle.kc_cli.specs.declared.words.ArgFault.TheVariants.{Memory, Words}
 use Rattle.kc_cli.specs.Commands.{kcore}
 
--- what the only subcommand asks for, by the rows of its options
-abbrev pub IsJobIn : List Row → Job → Type 0
-IsJobIn rows (Replay config) = option_map (λ s. s.now) config ≡ first_of (codes "config") rows
+-- what the subcommand of this name asks for, by the rows of its options: there are `live` and `replay` alone
+abbrev pub IsJobIn : Text → List Row → Job → Type 0
+IsJobIn name rows (Replay config) = (name ≢ codes "live") × (option_map (λ s. s.now) config ≡ first_of (codes "config") rows)
+IsJobIn name rows (Live config) = (name ≡ codes "live") × (option_map (λ s. s.now) config ≡ first_of (codes "config") rows)
 
 -- the same where there may be no subcommand: then it is as if `replay` stood there alone
 abbrev pub Asks : Option (Text × List Row) → Job → Type 0
 Asks None (Replay config) = option_map (λ s. s.now) config ≡ None
-Asks (Some found) job = IsJobIn found.1 job
+Asks None (Live config) = ⊥
+Asks (Some found) job = IsJobIn found.0 found.1 job
 
 -- clap's rules find no fault in the words, and the job is what they hold for the program's command
 pub record IsJob (words : List Text) (job : Job) : Type 0 where

@@ -3,3 +3,4 @@ pub mod Faults
 pub mod Commands
 pub mod Jobs
 pub mod Engine
+pub mod Live

@@ -23,6 +23,15 @@ pub enum TextFault {
     /// A growth of memory was refused.
     #[error("out of memory")]
     Memory,
+    /// A thread could not be started.
+    #[error("a worker could not be started")]
+    Start,
+    /// The receipts of a live run are not those of its history.
+    #[error("history not settled")]
+    Unsettled,
+    /// The actor of this program, counted from 0, is none of the core's.
+    #[error("bad actor of program {0}")]
+    BadActor(usize),
     /// A source failed, or had too many bytes.
     #[error("read failed")]
     Read,
@@ -72,8 +81,15 @@ impl TextFault {
     {
         match self {
             TextFault::Config(ConfigTextFault::Memory) | TextFault::Trace(TraceFault::Memory) => 3,
-            TextFault::Config(_) | TextFault::Trace(_) | TextFault::Workers => 2,
-            TextFault::Memory | TextFault::Read | TextFault::Write => 3,
+            TextFault::Config(_)
+            | TextFault::Trace(_)
+            | TextFault::Workers
+            | TextFault::BadActor(_) => 2,
+            TextFault::Memory
+            | TextFault::Start
+            | TextFault::Unsettled
+            | TextFault::Read
+            | TextFault::Write => 3,
         }
     }
 
@@ -87,17 +103,21 @@ impl TextFault {
             TextFault::Trace(fault) => trace_words(fault),
             TextFault::Workers => "kcore: bad number of workers",
             TextFault::Memory => "kcore: out of memory",
+            TextFault::Start => "kcore: a worker could not be started",
+            TextFault::Unsettled => "kcore: history not settled",
+            TextFault::BadActor(_) => "kcore: bad actor of program ",
             TextFault::Read => "kcore: read failed",
             TextFault::Write => "kcore: write failed",
         }
     }
 
     /// The number at the end of its line, if it has one.
-    pub(crate) const fn line_number(&self) -> Option<u32>
+    pub(crate) const fn line_number(&self) -> Option<usize>
         ensures { result ≡ line_number_of self.now }
     {
         match self {
-            TextFault::Trace(TraceFault::BadLine(number)) => Some(*number),
+            TextFault::Trace(TraceFault::BadLine(number)) => Some(*number as usize),
+            TextFault::BadActor(program) => Some(*program),
             _ => None,
         }
     }

@@ -4,6 +4,7 @@
 mod ends;
 mod engine;
 mod fault;
+mod live;
 mod mem;
 mod standard;
 mod stream;
@@ -14,6 +15,7 @@ mod words;
 pub use ends::{Failed, Sink, Source};
 pub use engine::replay_text;
 pub use fault::TextFault;
+pub use live::live_text;
 pub use mem::{FailAt, Mem};
 pub use standard::Std;
 pub use telling::tell;

@@ -1,9 +1,9 @@
 //! What the program is asked to do.
-ghost use Rattle.std.specs.Prelude.{◌≡◌, IfOk, IfErr, map, false, option_map, codes};
+ghost use Rattle.std.specs.Prelude.{◌≡◌, ◌↔◌, IfOk, IfErr, IsTrue, map, false, option_map, codes};
 ghost use Rattle.clap.specs.Words.{app_of, rule_of, found_of, rows_of, first_of};
 ghost use Rattle.clap.specs.Values.{kind_of};
 ghost use Rattle.kc_cli.specs.Commands.{kcore, config_rule};
-ghost use Rattle.kc_cli.specs.Jobs.{IsJob, IsRefusal, HasStatus};
+ghost use Rattle.kc_cli.specs.Jobs.{IsJob, IsJobIn, IsRefusal, HasStatus};
 
 use clap::error::ErrorKind;
 use clap::{Arg, ArgMatches, Command, Error};
@@ -14,6 +14,8 @@ use std::alloc::{AllocError, Global};
 pub enum Job<'a> {
     /// Replay the trace on standard input, with the configuration in a file where a path is given.
     Replay { config: Option<&'a str> },
+    /// Run the trace on standard input live, with the configuration in a file where a path is given.
+    Live { config: Option<&'a str> },
 }
 
 /// Why there is no job.
@@ -47,9 +49,11 @@ fn command<'a>(alloc: Global) -> Result<Command<'a>, AllocError>
     ensures app { IfOk result (λ c. app_of c ≡ kcore) }
 {
     let replay = Command::new(alloc, "replay").arg(config_arg(alloc))?;
-    Command::new(alloc, "kcore")
+    let live = Command::new(alloc, "live").arg(config_arg(alloc))?;
+    let base = Command::new(alloc, "kcore")
         .no_binary_name(true)
-        .subcommand(replay)
+        .subcommand(replay)?;
+    base.subcommand(live)
 }
 
 /// What is printed in place of a job.
@@ -72,8 +76,26 @@ fn config_in<'a>(matches: &ArgMatches<'a>) -> Option<&'a str>
     matches.get_str("config")
 }
 
-/// What the words, without the program's name, ask for: `replay`, with `--config PATH` or without, and the same
-/// for no words at all.
+fn is_live(name: &str) -> bool
+    ensures { IsTrue result ↔ (name.now ≡ codes "live") }
+{
+    name == "live"
+}
+
+/// What the subcommand of this name asks for.
+fn job_in<'a>(name: &str, found: &ArgMatches<'a>) -> Job<'a>
+    ensures { IsJobIn name.now (rows_of (found_of found.now)) result }
+{
+    let config = config_in(found);
+    if is_live(name) {
+        Job::Live { config }
+    } else {
+        Job::Replay { config }
+    }
+}
+
+/// What the words, without the program's name, ask for: `replay` or `live`, with `--config PATH` or without, and
+/// `replay` for no words at all.
 pub fn job_of<'a>(alloc: Global, words: &'a [&'a str]) -> Result<Job<'a>, ArgFault>
     // The job is what the words say by the command's rules, and only words that break them are refused.
     ensures job { IfOk result (IsJob (map (λ w. w.now) words.entry.now)) }
@@ -84,9 +106,7 @@ pub fn job_of<'a>(alloc: Global, words: &'a [&'a str]) -> Result<Job<'a>, ArgFau
         Err(error) => return Err(refused(alloc, &error)),
     };
     match matches.subcommand() {
-        Some((_, found)) => Ok(Job::Replay {
-            config: config_in(found),
-        }),
+        Some((name, found)) => Ok(job_in(name, found)),
         None => Ok(Job::Replay { config: None }),
     }
 }

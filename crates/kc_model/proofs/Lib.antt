@@ -45,3 +45,4 @@ pub mod Parts
 pub mod LawfulTraces
 pub mod FootprintExamples
 pub mod Spelled
+pub mod Rooms

@@ -14,3 +14,4 @@ pub mod Resources
 pub mod Local
 pub mod Footprints
 pub mod Linked
+pub mod Histories

@@ -8,7 +8,13 @@ mod copies;
 #[cfg(test)]
 mod ends;
 #[cfg(test)]
+mod live;
+#[cfg(test)]
+mod live_texts;
+#[cfg(test)]
 mod look_ups;
+#[cfg(test)]
+mod receipts;
 #[cfg(test)]
 mod support;
 #[cfg(test)]

@@ -12,6 +12,7 @@ mod refusal;
 mod reply;
 mod resource;
 mod slot;
+mod spare;
 
 pub use call::{Actor, Call, actor_of};
 pub use config::{Config, ConfigFault};
@@ -24,3 +25,4 @@ pub use refusal::Refusal;
 pub use reply::Reply;
 pub use resource::Resource;
 pub use slot::{Image, Phase, Vcpu};
+pub use spare::Spare;

@@ -1,11 +1,14 @@
 //! The program: words, files and standard streams around the engines of `kc_cli`.
 #![tactic(auto)]
 
-use kc_cli::{ArgFault, Job, Mem, Std, TextFault, job_of, replay_text, tell};
+use kc_cli::{ArgFault, Job, Mem, Std, TextFault, job_of, live_text, replay_text, tell};
+use kc_replay::OpenGate;
 use std::env;
 use std::fs::File;
 use std::io::{Error, ErrorKind};
 use std::process::ExitCode;
+use std::sync::Wait;
+use std::thread::Threads;
 
 /// The configuration where no file is named: 8 frames, of which the first is the core's and the next four are
 /// the host's, one leaf table a VM, and the digest of `abc` approved.
@@ -42,6 +45,49 @@ fn replay(rt: &HostRuntime, config: Option<&str>) -> u8 {
     }
 }
 
+/// Runs the trace on standard input live, writes the history onto standard output, and answers the exit status.
+fn live<R: Threads + Wait + Sync>(rt: &HostRuntime, threads: &R, config: Option<&str>) -> u8 {
+    let alloc = rt.alloc();
+    let mut trace = Std::new(rt.stdin());
+    let mut out = Std::new(rt.stdout());
+    let outcome = match config {
+        Some(path) => {
+            let Ok(file) = File::open(rt, path) else {
+                return fail(rt, TextFault::Read);
+            };
+            let mut config = Std::new(file);
+            live_text(
+                threads,
+                alloc,
+                &mut config,
+                &mut trace,
+                &mut out,
+                1,
+                &OpenGate,
+            )
+        },
+        None => {
+            let Ok(bytes) = Vec::from_slice(alloc, DEFAULT_CONFIG) else {
+                return fail(rt, TextFault::Memory);
+            };
+            let mut config = Mem::with_bytes(bytes);
+            live_text(
+                threads,
+                alloc,
+                &mut config,
+                &mut trace,
+                &mut out,
+                1,
+                &OpenGate,
+            )
+        },
+    };
+    match outcome {
+        Ok(()) => 0,
+        Err(fault) => fail(rt, fault),
+    }
+}
+
 /// Prints what stands in place of a job, and answers the exit status.
 fn refuse(rt: &HostRuntime, fault: ArgFault) -> u8 {
     match fault {
@@ -68,7 +114,7 @@ fn refuse_words(rt: &HostRuntime, error: &Error) -> u8 {
     2
 }
 
-fn run(rt: &HostRuntime) -> u8 {
+fn run<R: Threads + Wait + Sync>(rt: &HostRuntime, threads: &R) -> u8 {
     let arguments = match env::args(rt) {
         Ok(arguments) => arguments,
         Err(error) => return refuse_words(rt, &error),
@@ -85,10 +131,11 @@ fn run(rt: &HostRuntime) -> u8 {
     };
     match job_of(rt.alloc(), words.as_slice()) {
         Ok(Job::Replay { config }) => replay(rt, config),
+        Ok(Job::Live { config }) => live(rt, threads, config),
         Err(fault) => refuse(rt, fault),
     }
 }
 
 fn main(rt: HostRuntime) -> ExitCode {
-    ExitCode::from(run(&rt))
+    ExitCode::from(run(&rt, &rt))
 }

@@ -22,12 +22,26 @@ fn asks_for_a_replay(rt: HostRuntime) {
 }
 
 #[test]
+fn asks_for_a_live_run(rt: HostRuntime) {
+    let with_path = Job::Live { config: Some("p") };
+    assert_eq!(rt;
+        answer(rt.alloc(), &["live"]),
+        Ok(Job::Live { config: None })
+    );
+    assert_eq!(rt;
+        answer(rt.alloc(), &["live", "--config", "p"]),
+        Ok(with_path)
+    );
+    assert_eq!(rt; answer(rt.alloc(), &["live", "--workers", "1"]), Err(2));
+}
+
+#[test]
 fn refuses_other_words(rt: HostRuntime) {
     assert_eq!(rt; answer(rt.alloc(), &["--config", "p"]), Err(2));
     assert_eq!(rt; answer(rt.alloc(), &["replay", "--workers", "1"]), Err(2));
     assert_eq!(rt; answer(rt.alloc(), &["replay", "--config"]), Err(2));
     assert_eq!(rt; answer(rt.alloc(), &["replay", "more"]), Err(2));
-    assert_eq!(rt; answer(rt.alloc(), &["live"]), Err(2));
+    assert_eq!(rt; answer(rt.alloc(), &["alive"]), Err(2));
 }
 
 #[test]

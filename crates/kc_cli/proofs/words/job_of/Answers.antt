@@ -1,7 +1,7 @@
 use Rattle.std.proofs.Common.{map, ap, ◌∙◌}
 use Rattle.clap.specs.Words.{App, app_of, found_of, rows_of, subcommand_rows_of, is_simple, is_simple_and_free, subcommand_of}
 use Rattle.clap.specs.Values.{kind_of}
-use Rattle.kc_cli.proofs.Asking.{kcore_is_simple, kcore_is_free, asked_within, nothing_refused, refused_for}
+use Rattle.kc_cli.proofs.Asking.{kcore_is_simple, kcore_is_free, asked_within, named, nothing_refused, refused_for}
 use Rattle.kc_cli.proofs.words.job_of.Goals as goal
 
 pub returns-in-Some-clause-job : goal.returns-in-Some-clause-job
@@ -11,7 +11,7 @@ returns-in-Some-clause-job c =
     let met = (c.in-Ok.ensures.matches (ap is_simple app_is ∙ kcore_is_simple)).1 ∙ ap (λ (a : App). subcommand_of a words) app_is in
     record {
       faultless = nothing_refused words _ app_is (c.in-Ok.ensures.kinds (ap is_simple_and_free app_is ∙ kcore_is_free));
-      asked = asked_within words (subcommand_rows_of c.in-Ok.matches) (rows_of (found_of c.in-Some.found.now)) _ met c.in-Some.ensures.rows c.config_in.ensures;
+      asked = asked_within words (subcommand_rows_of c.in-Ok.matches) c.in-Some.name.now (rows_of (found_of c.in-Some.found.now)) _ met (c.in-Some.ensures.name ∙ named c.in-Ok.matches) c.in-Some.ensures.rows c.job_in.ensures;
     }
 
 pub returns-in-Err-clause-refused : goal.returns-in-Err-clause-refused

@@ -1,0 +1,56 @@
+-- What the live engine leaves of what its sources held.
+use Rattle.std.specs.Prelude.{◌≡◌, ◌≢◌, ◌<◌, ℕ, List, length, take, Option, Some, None, Ok}
+use Rattle.std.specs.Io.KnownBytes.{Appends}
+use Rattle.kc_types.specs.Configuration.{Configuration}
+use Rattle.kc_types.specs.Limits.{call_limit}
+use Rattle.kc_types.specs.declared.call.Call.{Call}
+use Rattle.kc_live.specs.declared.fault.LiveCause.TheVariants.{BadActor}
+use Rattle.kc_live.specs.Cuts.{KeepsOrders, StopsTrace}
+use Rattle.kc_trace.specs.declared.config_text.ConfigTextFault.{ConfigTextFault}
+use Rattle.kc_trace.specs.declared.fault.TraceFault.{TraceFault}
+use Rattle.kc_trace.specs.ConfigText.{config_in}
+use Rattle.kc_trace.specs.Trace.{IsTrace}
+use Rattle.kc_trace.specs.Spelling.{trace_of}
+use Rattle.kc_cli.specs.declared.fault.TextFault.{TextFault}
+use Rattle.kc_cli.specs.declared.fault.TextFault.TheVariants as texts
+
+-- the text is the trace of these calls in an order in which each actor's calls keep theirs
+abbrev pub IsRearranged : List Call → List ℕ → Type 0
+IsRearranged calls text = (made : List Call) × KeepsOrders made calls × (text ≡ trace_of made)
+
+-- the configuration and the trace that the texts hold
+pub record AreRead (config_text trace_text : List ℕ) (config : Configuration) (calls : List Call) : Type 0 where
+  pub configured : config_in config_text ≡ Ok config
+  pub traced : IsTrace trace_text calls
+
+-- the text is the trace read, rearranged
+abbrev pub IsLiveText : List ℕ → List ℕ → List ℕ → Type 0
+IsLiveText config_text trace_text text = (config : Configuration) × (calls : List Call) × AreRead config_text trace_text config calls × IsRearranged calls text
+
+-- the sink took such a text of what the sources held, where all of them tell
+abbrev pub RunsLive : Option (List ℕ) → Option (List ℕ) → Option (List ℕ) → Option (List ℕ) → Type 0
+RunsLive None trace old new = Unit {0}
+RunsLive (Some config) None old new = Unit {0}
+RunsLive (Some config) (Some trace) old new = (text : List ℕ) × IsLiveText config trace text × Appends old new text
+
+-- the same of a beginning of the text
+abbrev pub BeginsLive : Option (List ℕ) → Option (List ℕ) → Option (List ℕ) → Option (List ℕ) → Type 0
+BeginsLive None trace old new = Unit {0}
+BeginsLive (Some config) None old new = Unit {0}
+BeginsLive (Some config) (Some trace) old new = (text : List ℕ) × (n : ℕ) × IsLiveText config trace text × Appends old new (take n text)
+
+-- the program of this number, of those that the trace is cut into, has an actor that is none of the core's
+abbrev pub HasBadActor : Option (List ℕ) → Option (List ℕ) → ℕ → Type 0
+HasBadActor None trace program = Unit {0}
+HasBadActor (Some config) None program = Unit {0}
+HasBadActor (Some config_text) (Some trace_text) program =
+    (config : Configuration) × (calls : List Call) × AreRead config_text trace_text config calls × StopsTrace config calls (BadActor program)
+
+-- what a live run of these calls may be refused for
+pub record IsLiveFault (machine : Configuration) (calls : List Call) (fault : TextFault) : Type 0 where
+  pub workers : fault ≢ texts.Workers
+  pub read : fault ≢ texts.Read
+  pub write : fault ≢ texts.Write
+  pub config : (said : ConfigTextFault) → fault ≢ texts.Config said
+  pub trace : (said : TraceFault) → fault ≡ texts.Trace said → call_limit < length calls
+  pub actor : (program : ℕ) → fault ≡ texts.BadActor program → StopsTrace machine calls (BadActor program)

@@ -1,0 +1,159 @@
+//! The engine that runs a trace live, over any ends.
+ghost use Rattle.std.specs.Prelude.{◌≡◌, ◌≢◌, ◌⊎◌, ◌↔◌, ℕ, map, false, true, IfOk, IfErr, IfSome, OnOk, OnErr, Err, IsErrOf};
+ghost use Rattle.std.specs.List.{AllByRecursion};
+ghost use Rattle.std.specs.Io.KnownBytes.{IsAtEnd};
+ghost use Rattle.kc_model.specs.Built.{IsBuilt};
+ghost use Rattle.kc_live.specs.Logs.{calls_of};
+ghost use Rattle.kc_trace.specs.declared.config_text.ConfigTextFault.{ConfigTextFault};
+ghost use Rattle.kc_trace.specs.declared.fault.TraceFault.{TraceFault};
+ghost use Rattle.kc_trace.specs.ConfigText.{config_in};
+ghost use Rattle.kc_trace.specs.Spelling.{trace_of};
+ghost use Rattle.kc_trace.specs.Trace.{IsRefused};
+ghost use Rattle.kc_cli.specs.Ends.{ReadFailed};
+ghost use Rattle.kc_cli.specs.Faults.{live_fault};
+ghost use Rattle.kc_cli.specs.Live.{IsRearranged, IsLiveFault, RunsLive, BeginsLive, HasBadActor};
+
+use crate::stream::read_calls;
+use crate::{Sink, Source, TextFault, read_whole, write_whole};
+use kc_core::KCore;
+use kc_live::{Entry, History, LiveCause, LiveStop, run_trace};
+use kc_replay::Gate;
+use kc_trace::{TraceFault, read_config, write_trace};
+use kc_types::{Call, Config, Memory};
+use std::alloc::Global;
+use std::sync::Wait;
+use std::thread::Threads;
+
+/// The fault that the cause of a live run is.
+fn fault_of(cause: LiveCause) -> TextFault
+    ensures { result ≡ live_fault cause }
+{
+    match cause {
+        LiveCause::BadActor(program) => TextFault::BadActor(program),
+        LiveCause::HistoryFull => TextFault::Trace(TraceFault::TooManyCalls),
+        LiveCause::Memory => TextFault::Memory,
+        LiveCause::Start => TextFault::Start,
+        LiveCause::Unsettled | LiveCause::NotYours(_, _) => TextFault::Unsettled,
+    }
+}
+
+/// The calls of some entries.
+fn calls_in(alloc: Global, entries: Vec<Entry>) -> Result<Vec<Call>, Memory>
+    ensures { IfOk result (λ calls. calls.items ≡ calls_of entries.items) }
+{
+    let mut calls = Vec::new(alloc);
+    for entry in entries {
+        let Entry { call, reply: _ } = entry;
+        calls.push(call)?;
+    }
+    Ok(calls)
+}
+
+/// Makes the calls on one thread, and wipes the core that they leave.
+fn replay(alloc: Global, config: Config, calls: &[Call]) -> Result<(), Memory>
+    requires { AllByRecursion IsBuilt calls.now }
+{
+    let mut core = KCore::boot(alloc, config)?;
+    let outcome = core.run(alloc, calls);
+    core.wipe();
+    match outcome {
+        Ok(_) => Ok(()),
+        Err(_) => Err(Memory),
+    }
+}
+
+/// The cause of a run that gave no answer. The core that it left, if any, is wiped.
+fn wiped(stop: LiveStop) -> LiveCause
+    ensures { result ≡ stop.cause }
+{
+    let LiveStop { cause, history } = stop;
+    match history {
+        Some(history) => {
+            let (_entries, mut core) = history.into_parts();
+            core.wipe();
+        }
+        None => {}
+    }
+    cause
+}
+
+/// The text of a history, which is replayed first. Both cores are wiped.
+fn text_of(alloc: Global, config: Config, history: History) -> Result<Vec<u8>, Memory>
+    ensures { IfOk result (λ text. text.items ≡ trace_of (calls_of history.entries)) }
+{
+    let (entries, mut core) = history.into_parts();
+    core.wipe();
+    let calls = calls_in(alloc, entries)?;
+    replay(alloc, config, &calls)?;
+    write_trace(alloc, &calls)
+}
+
+/// The text of the history of a live run of some calls. The cores are wiped before they go, whatever the outcome.
+fn history_text<G: Gate + Sync, R: Threads + Wait + Sync>(
+    rt: &R,
+    alloc: Global,
+    config: Config,
+    calls: Vec<Call>,
+    gate: &G,
+) -> Result<Vec<u8>, TextFault>
+    requires { AllByRecursion IsBuilt calls.items }
+    ensures text { IfOk result (λ text. IsRearranged calls.items text.items) }
+    ensures fault { IfErr result (IsLiveFault config calls.items) }
+{
+    let Ok(kept) = config.copy() else {
+        return Err(fault_of(LiveCause::Memory));
+    };
+    let history = match run_trace(rt, alloc, config, calls, gate) {
+        Ok(history) => history,
+        Err(stop) => return Err(fault_of(wiped(stop))),
+    };
+    match text_of(alloc, kept, history) {
+        Ok(text) => Ok(text),
+        Err(_) => Err(fault_of(LiveCause::Memory)),
+    }
+}
+
+/// Reads a configuration and a trace, each to its end, makes the trace's calls live, each actor's in a thread of its
+/// own, replays the history and writes it as a trace. The number of workers is 1, and judged before anything is read.
+///
+/// Nothing is written but after the whole run. A source that fails, or that has more than 1,073,741,824 bytes, is
+/// `Read`, also where its bytes so far are refused already.
+pub fn live_text<C: Source, T: Source, K: Sink, G: Gate + Sync, R: Threads + Wait + Sync>(
+    rt: &R,
+    alloc: Global,
+    config: &mut C,
+    trace: &mut T,
+    out: &mut K,
+    workers: u32,
+    gate: &G,
+) -> Result<(), TextFault>
+    requires config { C.failed config.old ≡ false }
+    requires trace { T.failed trace.old ≡ false }
+    requires out { K.failed out.old ≡ false }
+
+    // What is written is the trace read, in an order that keeps each actor's, and nothing of the sources is left.
+    ensures ok { OnOk result (RunsLive (C.left config.old) (T.left trace.old) (K.taken out.old) (K.taken out.new)) }
+    ensures ended { OnOk result (IsAtEnd (C.left config.new) × IsAtEnd (T.left trace.new)) }
+
+    // Each fault is that of all the bytes that its source held, and comes where it should.
+    ensures workers { IsErrOf result TextFault.Workers ↔ (workers ≢ 1) }
+    ensures config { (fault : ConfigTextFault) → result ≡ Err (TextFault.Config fault) → IfSome (C.left config.old) (λ text. config_in text ≡ Err fault) × IsAtEnd (C.left config.new) × (trace.new ≡ trace.old) }
+    ensures trace { (fault : TraceFault) → result ≡ Err (TextFault.Trace fault) → IfSome (T.left trace.old) (λ text. IsRefused text fault) × IsAtEnd (T.left trace.new) }
+    ensures actor { (program : ℕ) → result ≡ Err (TextFault.BadActor program) → HasBadActor (C.left config.old) (T.left trace.old) program }
+    ensures read { result ≡ Err TextFault.Read → ReadFailed (C.failed config.new) (C.left config.old) (C.left config.new) ⊎ ReadFailed (T.failed trace.new) (T.left trace.old) (T.left trace.new) }
+    ensures write { result ≡ Err TextFault.Write → (K.failed out.new ≡ true) × BeginsLive (C.left config.old) (T.left trace.old) (K.taken out.old) (K.taken out.new) }
+
+    // Every fault but that of a write leaves the sink as it was.
+    ensures untouched { OnErr result ((out.new ≡ out.old) ⊎ (result ≡ Err TextFault.Write)) }
+{
+    if workers != 1 {
+        return Err(TextFault::Workers);
+    }
+    let config = read_whole(alloc, config)?;
+    let config = read_config(alloc, &config)?;
+    let calls = read_calls(alloc, trace)?;
+    match history_text(rt, alloc, config, calls, gate) {
+        Ok(text) => write_whole(out, &text).map_err(|_| TextFault::Write),
+        Err(fault) => Err(fault),
+    }
+}

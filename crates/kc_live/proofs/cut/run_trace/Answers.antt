@@ -1,0 +1,9 @@
+use Rattle.kc_live.proofs.Cuts.{keeps-orders, stops-trace}
+use Rattle.kc_live.proofs.cut.run_trace.Goals as goal
+
+pub returns-in-Err-clause-stop : goal.returns-in-Err-clause-stop
+returns-in-Err-clause-stop g c = stops-trace c.args.config c.args.calls.items c.in-Ok.programs.items c.in-Err.stop.cause c.in-Ok.ensures c.in-Err.ensures.stop
+
+pub returns-in-Ok-run_live-clause-order : goal.returns-in-Ok-run_live-clause-order
+returns-in-Ok-run_live-clause-order g c =
+    rw c.history_of.ensures (keeps-orders c.in-Ok-run_live.answer.0.entries c.in-Ok.programs.items c.args.calls.items c.in-Ok.ensures c.in-Ok-run_live.ensures.calls c.in-Ok-run_live.ensures.others)

@@ -1,0 +1,6 @@
+use Rattle.std.proofs.Common.{◌≡◌}
+use Rattle.kc_live.specs.Programs.{calls_in}
+use Rattle.kc_live.proofs.program.run_program.Given as goal
+
+abbrev pub invariant-loop-call : goal.invariant-loop-call
+invariant-loop-call g l = calls_in l.seat.receipts ≡ l.yielded

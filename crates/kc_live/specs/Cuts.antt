@@ -1,0 +1,63 @@
+-- A trace that is cut into programs, and a history that has its calls.
+use Rattle.std.specs.Prelude.{◌≡◌, ◌<◌, ◌++◌, ℕ, List, [], ◌∷◌, length, take, slice_get, Some, true, if◌then◌else◌}
+use Rattle.kc_types.specs.Actors.{actor}
+use Rattle.kc_types.specs.Configuration.{Configuration}
+use Rattle.kc_types.specs.Limits.{call_limit}
+use Rattle.kc_types.specs.declared.call.Call.{Call}
+use Rattle.kc_types.specs.declared.call.Actor.{Actor}
+use Rattle.kc_model.specs.Histories.{same_actor, calls_by}
+use Rattle.kc_live.specs.declared.fault.LiveCause.{LiveCause}
+use Rattle.kc_live.specs.declared.fault.LiveCause.TheVariants.{NotYours, HistoryFull, Memory, Start, Unsettled, BadActor}
+use Rattle.kc_live.specs.Programs.{ProgramView, NoneIs, Apart, actors_of}
+use Rattle.kc_live.specs.Plans.{IsFirstBad, count_of}
+
+-- the calls of the actor's program; none where it has no program
+abbrev pub program_of : Actor → List ProgramView → List Call
+program_of a [] = []
+program_of a (p ∷ ps) = if same_actor a p.actor then p.calls else program_of a ps
+
+-- each call is this actor's
+abbrev pub AreOf : Actor → List Call → Type 0
+AreOf a [] = Unit {0}
+AreOf a (call ∷ calls) = (same_actor a (actor call) ≡ true) × AreOf a calls
+
+-- each program has calls of its actor alone
+abbrev pub OwnCalls : List ProgramView → Type 0
+OwnCalls [] = Unit {0}
+OwnCalls (p ∷ ps) = AreOf p.actor p.calls × OwnCalls ps
+
+-- one program for each actor, which has the actor's calls in order
+pub record IsCut (calls : List Call) (ps : List ProgramView) : Type 0 where
+  pub apart : Apart (actors_of ps)
+  pub own : OwnCalls ps
+  pub count : count_of ps ≡ length calls
+  pub each : (a : Actor) → program_of a ps ≡ calls_by a calls
+
+-- the program with one call more
+abbrev pub grown : ProgramView → Call → ProgramView
+grown p call = record { actor = p.actor; calls = p.calls ++ call ∷ [] }
+
+-- the first program of the actor stands at this place
+pub record IsPlaceOf (ps : List ProgramView) (a : Actor) (i : ℕ) : Type 0 where
+  pub program : ProgramView
+  pub at : slice_get ps i ≡ Some program
+  pub owned : program.actor ≡ a
+  pub before : NoneIs a (actors_of (take i ps))
+
+-- the programs with one call more, in the program of its actor, which is a new one where there is none
+abbrev pub with_call : Call → List ProgramView → List ProgramView
+with_call call [] = record { actor = actor call; calls = call ∷ [] } ∷ []
+with_call call (p ∷ ps) = if same_actor p.actor (actor call) then grown p call ∷ ps else p ∷ with_call call ps
+
+-- each actor makes the same calls in the same order: one list is a rearrangement of the other that keeps these orders
+abbrev pub KeepsOrders : List Call → List Call → Type 0
+KeepsOrders made calls = (a : Actor) → calls_by a made ≡ calls_by a calls
+
+-- why a trace is not run: one of its actors is none of the core's, it has more calls than a history, or a cause that shows only in a run
+abbrev pub StopsTrace : Configuration → List Call → LiveCause → Type 0
+StopsTrace config calls (BadActor i) = (ps : List ProgramView) × IsCut calls ps × IsFirstBad config ps i
+StopsTrace config calls (NotYours i call) = ⊥
+StopsTrace config calls HistoryFull = call_limit < length calls
+StopsTrace config calls Memory = Unit {0}
+StopsTrace config calls Start = Unit {0}
+StopsTrace config calls Unsettled = Unit {0}

@@ -1,0 +1,35 @@
+-- Why a run gives no answer.
+use Rattle.std.specs.Prelude.{Bool, true, false, ◌≡◌, ◌<◌, Some, None, List}
+use Rattle.kc_types.specs.Configuration.{Configuration}
+use Rattle.kc_types.specs.Limits.{call_limit}
+use Rattle.kc_live.specs.declared.fault.LiveCause.{LiveCause}
+use Rattle.kc_live.specs.declared.fault.LiveCause.TheVariants.{NotYours, HistoryFull, Memory, Start, Unsettled, BadActor}
+use Rattle.kc_live.specs.Programs.{ProgramView}
+use Rattle.kc_live.specs.Plans.{HaveActors, IsFirstBad, stranger_from, count_of, IsSound}
+
+-- the programs are such that this is the cause: a bad actor goes before a call of another, and this before too many calls; programs with none of the three may run
+abbrev pub StopsFor : Configuration → List ProgramView → LiveCause → Type 0
+StopsFor config ps (BadActor i) = IsFirstBad config ps i
+StopsFor config ps (NotYours i call) = HaveActors config ps × (stranger_from 0 ps ≡ Some (i, call))
+StopsFor config ps HistoryFull = HaveActors config ps × (stranger_from 0 ps ≡ None) × (call_limit < count_of ps)
+StopsFor config ps Memory = IsSound config ps
+StopsFor config ps Start = IsSound config ps
+StopsFor config ps Unsettled = IsSound config ps
+
+-- the cause shows only in a run
+abbrev pub IsLate : LiveCause → Type 0
+IsLate (BadActor i) = ⊥
+IsLate (NotYours i call) = ⊥
+IsLate HistoryFull = ⊥
+IsLate Memory = Unit {0}
+IsLate Start = Unit {0}
+IsLate Unsettled = Unit {0}
+
+-- a history is handed back just where the run began: without memory it may not have
+abbrev pub FitsHistory : LiveCause → Bool → Type 0
+FitsHistory (BadActor i) is_there = is_there ≡ false
+FitsHistory (NotYours i call) is_there = is_there ≡ false
+FitsHistory HistoryFull is_there = is_there ≡ false
+FitsHistory Memory is_there = Unit {0}
+FitsHistory Start is_there = is_there ≡ true
+FitsHistory Unsettled is_there = is_there ≡ true

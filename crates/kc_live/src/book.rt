@@ -1,0 +1,159 @@
+//! The core beside the history of its calls.
+ghost use Rattle.std.specs.Prelude.{◌≡◌, ◌≢◌, ◌≤◌, ◌↔◌, length, Err, IfOk, OnErr};
+ghost use Rattle.std.specs.List.{AllByRecursion};
+ghost use Rattle.kc_types.specs.Limits.{call_limit};
+ghost use Rattle.kc_model.specs.Built.{IsBuilt};
+
+use crate::fault::LiveFault;
+use crate::receipt::{Entry, Receipt};
+use kc_core::KCore;
+use kc_types::{Call, Config, Memory};
+use std::alloc::Global;
+use std::marker::Model;
+
+/// The most calls that a history holds.
+pub const MOST_CALLS: usize = 65_536;
+
+/// The core of one thread and the history of all calls that were made of it. Every value of it is legal: each reply
+/// is the one that a single thread gets at that point, from the boot state of the configuration on, and the core
+/// stands at the history's end.
+#[derive(Drop)]
+pub struct Book {
+    alloc: Global,
+    config: Config,
+    core: KCore,
+    entries: Vec<Entry>,
+}
+
+impl Model for Book {
+    ghost use Rattle.kc_live.specs.Logs.{Log, IsKept};
+
+    ghost Value = { Log };
+
+    ghost view = { λ b. record { config = b.config; entries = b.entries.items } };
+
+    ghost invariant = { λ b. IsKept b.config b.entries.items b.core };
+}
+
+impl Book {
+    ghost use Rattle.kc_live.specs.Logs.{longer, receipt_of, new_log};
+
+    /// The core in the boot state of its configuration, and no calls; `Memory` where a growth was refused.
+    pub fn new(alloc: Global, config: Config) -> Result<Book, Memory>
+        // No clause can rule out want of memory, here and below: tests make books and calls.
+        ensures { IfOk result (λ book. book ≡ new_log config) }
+    {
+        let kept = config.copy()?;
+        Ok(Book {
+            alloc,
+            config: kept,
+            core: KCore::boot(alloc, config)?,
+            entries: Vec::new(alloc),
+        })
+    }
+
+    /// Makes one call, which the history then has with its reply. `HistoryFull` comes exactly where the history
+    /// has 65,536 calls, else `Memory` where a growth was refused; all growth comes before any change.
+    pub fn step(&mut self, call: Call) -> Result<Receipt, LiveFault>
+        requires { IsBuilt call }
+        ensures receipt { IfOk result (λ r. r ≡ receipt_of self.old call) }
+        ensures entry { IfOk result (λ r. self.new ≡ longer self.old r.call r.reply) }
+        ensures full { (result ≡ Err LiveFault.HistoryFull) ↔ (length self.old.entries ≡ call_limit) }
+        ensures faults { result ≢ Err LiveFault.NotYours }
+        ensures err { OnErr result (self.new ≡ self.old) }
+    {
+        if self.entries.len() >= MOST_CALLS {
+            return Err(LiveFault::HistoryFull);
+        }
+        let kept = call.copy()?;
+        let spare = call.spare(self.alloc)?;
+        self.entries.reserve(1)?;
+        let reply = self.core.call(&call)?;
+        let told = reply.copy_into(spare);
+        let number = self.entries.len() as u32;
+        self.entries.push_reserved(Entry { call: kept, reply });
+        Ok(Receipt {
+            number,
+            call,
+            reply: told,
+        })
+    }
+
+    /// Ends the history.
+    pub fn close(self) -> History
+        ensures { result ≡ self }
+    {
+        let Book {
+            alloc: _,
+            config,
+            core,
+            entries,
+        } = self;
+        History {
+            config,
+            core,
+            entries,
+        }
+    }
+}
+
+/// A history that has ended, and the core that it left. Every value of it is legal, as a `Book` is.
+#[derive(Drop)]
+pub struct History {
+    config: Config,
+    core: KCore,
+    entries: Vec<Entry>,
+}
+
+impl Model for History {
+    ghost use Rattle.kc_live.specs.Logs.{Log, IsKept};
+
+    ghost Value = { Log };
+
+    ghost view = { λ h. record { config = h.config; entries = h.entries.items } };
+
+    ghost invariant = { λ h. IsKept h.config h.entries.items h.core };
+}
+
+impl History {
+    ghost use Rattle.kc_live.specs.Logs.{IsLegal, calls_of, end_state};
+
+    /// The configuration of the core.
+    pub fn config(&self) -> &Config
+        ensures { result.now ≡ self.now.config }
+    {
+        &self.config
+    }
+
+    /// The calls in the order in which they were made, each with its reply.
+    pub fn entries(&self) -> &[Entry]
+        ensures entries { result.now ≡ self.now.entries }
+        ensures legal { IsLegal self.now }
+        ensures short { length self.now.entries ≤ call_limit }
+    {
+        self.entries.as_slice()
+    }
+
+    /// The core as the calls left it.
+    pub fn core(&self) -> &KCore
+        ensures { result.now ≡ end_state self.now }
+    {
+        &self.core
+    }
+
+    /// The calls, each with its reply, and the core as they left it.
+    pub fn into_parts(self) -> (Vec<Entry>, KCore)
+        ensures entries { result.0.items ≡ self.entries }
+        ensures core { result.1 ≡ end_state self }
+        ensures legal { IsLegal self }
+        ensures short { length self.entries ≤ call_limit }
+        ensures built { AllByRecursion IsBuilt (calls_of self.entries) }
+    {
+        let History {
+            config: _,
+            core,
+            entries,
+        } = self;
+        (entries, core)
+    }
+}

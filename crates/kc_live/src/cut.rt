@@ -1,0 +1,101 @@
+//! A trace that is cut into programs and run.
+ghost use Rattle.std.specs.Prelude.{◌≡◌, [], ◌∷◌, IfOk, IfErr, OnOk, MatchOption, IsTrue, ◌↔◌};
+ghost use Rattle.kc_types.specs.Actors.{actor as actor_made};
+ghost use Rattle.std.specs.List.{AllByRecursion};
+ghost use Rattle.kc_model.specs.Built.{IsBuilt};
+ghost use Rattle.kc_live.specs.Logs.{calls_of};
+ghost use Rattle.kc_live.specs.Programs.{NoneIs, actors_of};
+ghost use Rattle.kc_live.specs.Cuts.{IsCut, IsPlaceOf, KeepsOrders, StopsTrace, with_call};
+
+use crate::book::History;
+use crate::fault::{LiveCause, LiveStop};
+use crate::program::Program;
+use crate::receipt::Receipt;
+use crate::run::{refused, run_live};
+use kc_replay::Gate;
+use kc_types::{Actor, Call, Config, Memory, actor_of};
+use std::alloc::Global;
+use std::sync::Wait;
+use std::thread::Threads;
+
+/// Whether the program is the actor's.
+fn is_of(program: &Program, actor: Actor) -> bool
+    ensures { IsTrue result ↔ (program.now.actor ≡ actor) }
+{
+    program.actor() == actor
+}
+
+/// The place of the actor's program, if it has one.
+fn place_of(programs: &[Program], actor: Actor) -> Option<usize>
+    ensures { MatchOption result (NoneIs actor (actors_of programs.now)) (IsPlaceOf programs.now actor) }
+{
+    for i in 0..programs.len() {
+        if is_of(&programs[i], actor) {
+            return Some(i);
+        }
+    }
+    None
+}
+
+/// A program of one call.
+fn begun(alloc: Global, call: Call) -> Result<Program, Memory>
+    requires { IsBuilt call }
+    ensures { IfOk result (λ program. program ≡ record { actor = actor_made call; calls = call ∷ [] }) }
+{
+    let mut program = Program::new(actor_of(&call), Vec::new(alloc));
+    program.add(call)?;
+    Ok(program)
+}
+
+/// Adds a call to the program of its actor, or to a new one.
+fn add_call(alloc: Global, programs: &mut Vec<Program>, call: Call) -> Result<(), Memory>
+    requires { IsBuilt call }
+    ensures { OnOk result (programs.new.items ≡ with_call call programs.old.items) }
+{
+    match place_of(programs.as_slice(), actor_of(&call)) {
+        Some(at) => programs[at].add(call)?,
+        None => programs.push(begun(alloc, call)?)?,
+    }
+    Ok(())
+}
+
+/// Cuts a trace into one program for each actor, in the order in which the actors first appear.
+pub fn programs_of(alloc: Global, calls: Vec<Call>) -> Result<Vec<Program>, Memory>
+    requires { AllByRecursion IsBuilt calls.items }
+    ensures { IfOk result (λ programs. IsCut calls.items programs.items) }
+{
+    let mut programs = Vec::new(alloc);
+    for call in calls {
+        add_call(alloc, &mut programs, call)?;
+    }
+    Ok(programs)
+}
+
+fn history_of(answer: (History, Vec<Vec<Receipt>>)) -> History
+    ensures { result ≡ answer.0 }
+{
+    answer.0
+}
+
+/// Cuts a trace into one program for each actor, in the order in which the actors first appear, and runs them live.
+/// The history has each actor's calls in the trace's order.
+pub fn run_trace<G: Gate + Sync, R: Threads + Wait + Sync>(
+    rt: &R,
+    alloc: Global,
+    config: Config,
+    calls: Vec<Call>,
+    gate: &G,
+) -> Result<History, LiveStop>
+    requires { AllByRecursion IsBuilt calls.items }
+    ensures config { IfOk result (λ history. history.config ≡ config) }
+    ensures order { IfOk result (λ history. KeepsOrders (calls_of history.entries) calls.items) }
+    ensures stop { IfErr result (λ stop. StopsTrace config calls.items stop.cause) }
+{
+    let Ok(programs) = programs_of(alloc, calls) else {
+        return Err(refused(LiveCause::Memory));
+    };
+    match run_live(rt, alloc, config, programs, gate) {
+        Ok(answer) => Ok(history_of(answer)),
+        Err(stop) => Err(stop),
+    }
+}

@@ -1,0 +1,104 @@
+//! What is wrong with programs before they run.
+ghost use Rattle.std.specs.Prelude.{◌≡◌, ◌↔◌, ◌<◌, MatchOption, IsTrue, not};
+ghost use Rattle.kc_types.specs.Actors.{actor as actor_made};
+ghost use Rattle.kc_types.specs.Limits.{call_limit};
+ghost use Rattle.kc_model.specs.Histories.{same_actor};
+ghost use Rattle.kc_live.specs.Programs.{NoneIs, actors_of};
+ghost use Rattle.kc_live.specs.Plans.{IsActor, HaveActors, MayJoin, IsFirstBad, stranger_from, stranger_in, count_of};
+
+use crate::book::MOST_CALLS;
+use crate::program::Program;
+use kc_types::{Actor, Call, Config, VcpuId, VmId, actor_of};
+
+/// Whether none of the programs has this actor.
+fn is_free(programs: &[Program], actor: Actor) -> bool
+    ensures { IsTrue result ↔ NoneIs actor (actors_of programs.now) }
+{
+    for program in programs {
+        if program.actor() == actor {
+            return false;
+        }
+    }
+    true
+}
+
+/// Whether the actor is the host, or names a slot and a virtual processor that there can be.
+#[tactic(auto, unfolding(kc_types::specs::Configuration::slot_count))]
+fn is_actor(_config: &Config, actor: Actor) -> bool
+    ensures { IsTrue result ↔ IsActor _config.now actor }
+{
+    match actor {
+        Actor::Host => true,
+        Actor::Vcpu(vm, vcpu) => VmId::try_new(vm).is_some() && VcpuId::try_new(vcpu).is_some(),
+    }
+}
+
+/// Whether the program may stand behind these.
+fn may_join(config: &Config, earlier: &[Program], program: &Program) -> bool
+    ensures { IsTrue result ↔ MayJoin config.now earlier.now program.now }
+{
+    is_free(earlier, program.actor()) && is_actor(config, program.actor())
+}
+
+/// The first program whose actor is an earlier one's or none of the core's.
+pub fn first_bad(config: &Config, programs: &[Program]) -> Option<usize>
+    ensures { MatchOption result (HaveActors config.now programs.now) (IsFirstBad config.now programs.now) }
+{
+    for i in 0..programs.len() {
+        if !may_join(config, &programs[..i], &programs[i]) {
+            return Some(i);
+        }
+    }
+    None
+}
+
+/// Whether the call is another actor's.
+fn is_strange(actor: Actor, call: &Call) -> bool
+    ensures { result ≡ not (same_actor actor (actor_made call.now)) }
+{
+    match (actor, actor_of(call)) {
+        (Actor::Host, Actor::Host) => false,
+        (Actor::Vcpu(vm, vcpu), Actor::Vcpu(other_vm, other_vcpu)) => {
+            vm != other_vm || vcpu != other_vcpu
+        },
+        _ => true,
+    }
+}
+
+/// The first call of a program that is another actor's.
+fn first_strange(program: &Program) -> Option<usize>
+    ensures { result ≡ stranger_in program.now }
+{
+    let actor = program.actor();
+    program
+        .calls()
+        .iter()
+        .position(|call| is_strange(actor, call))
+}
+
+/// The first program with a call of another actor, and its first such call.
+pub fn first_stranger(programs: &[Program]) -> Option<(usize, usize)>
+    ensures { result ≡ stranger_from 0 programs.now }
+{
+    for i in 0..programs.len() {
+        if let Some(call) = first_strange(&programs[i]) {
+            return Some((i, call));
+        }
+    }
+    None
+}
+
+/// Whether the programs have more calls than a history holds.
+pub fn has_too_many(programs: &[Program]) -> bool
+    ensures { IsTrue result ↔ (call_limit < count_of programs.now) }
+{
+    let mut count = 0usize;
+    for program in programs {
+        let more = program.calls().len();
+        if more > MOST_CALLS - count {
+            return true;
+        }
+        count += more;
+    }
+    false
+}

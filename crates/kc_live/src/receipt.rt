@@ -1,0 +1,20 @@
+//! What a call leaves behind.
+
+use kc_types::{Call, Reply};
+
+/// One call of a history, and what it was answered.
+#[derive(Debug, Drop, PartialEq)]
+pub struct Entry {
+    pub call: Call,
+    pub reply: Reply,
+}
+
+/// What the caller of a live call keeps of it. It is a plain value, which anyone can make: whether it stands in a
+/// history is decided by `settle`.
+#[derive(Debug, Drop, PartialEq)]
+pub struct Receipt {
+    /// The place of the call in the history, from 0.
+    pub number: u32,
+    pub call: Call,
+    pub reply: Reply,
+}

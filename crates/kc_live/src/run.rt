@@ -1,0 +1,146 @@
+//! A whole live run: from programs to a closed history with its receipts.
+ghost use Rattle.std.specs.Prelude.{◌≡◌, ◌↔◌, map, true, false, is_some, IfOk, IfErr, OnOk, IfSome, MatchOption, IsTrue};
+ghost use Rattle.kc_live.specs.Programs.{calls_in, HasCalls, HasNoOthers};
+ghost use Rattle.kc_live.specs.Settling.{IsSettled};
+ghost use Rattle.kc_live.specs.Plans.{IsSound};
+ghost use Rattle.kc_live.specs.Stops.{StopsFor, IsLate, FitsHistory};
+
+use crate::book::History;
+use crate::early::{first_bad, first_stranger, has_too_many};
+use crate::fault::{LiveCause, LiveFault, LiveStop};
+use crate::live_core::LiveCore;
+use crate::program::Program;
+use crate::receipt::Receipt;
+use crate::settling::settle;
+use crate::threads::{ThreadStop, make_calls};
+use kc_replay::Gate;
+use kc_types::{Config, Memory};
+use std::alloc::Global;
+use std::sync::Wait;
+use std::thread::Threads;
+
+/// A run that was refused before it began.
+pub fn refused(cause: LiveCause) -> LiveStop
+    ensures { result ≡ record { cause = cause; history = None } }
+{
+    LiveStop {
+        cause,
+        history: None,
+    }
+}
+
+/// A run that left a history.
+fn stopped(cause: LiveCause, history: History) -> LiveStop
+    ensures { result ≡ record { cause = cause; history = Some history } }
+{
+    LiveStop {
+        cause,
+        history: Some(history),
+    }
+}
+
+/// The copy of the configuration that is kept beside the run, and the core.
+fn open(alloc: Global, config: Config) -> Result<(Config, LiveCore), Memory>
+    ensures { IfOk result (λ r. r.0 ≡ config) }
+{
+    let kept = config.copy()?;
+    let core = LiveCore::new(alloc, config)?;
+    Ok((kept, core))
+}
+
+/// What is wrong with the programs.
+fn early_stop(config: &Config, programs: &[Program]) -> Option<LiveCause>
+    ensures cause { MatchOption result (IsSound config.now programs.now) (StopsFor config.now programs.now) }
+    ensures early { IfSome result (λ cause. FitsHistory cause false) }
+{
+    if let Some(program) = first_bad(config, programs) {
+        return Some(LiveCause::BadActor(program));
+    }
+    if let Some((program, call)) = first_stranger(programs) {
+        return Some(LiveCause::NotYours(program, call));
+    }
+    if has_too_many(programs) {
+        return Some(LiveCause::HistoryFull);
+    }
+    None
+}
+
+/// The cause of a run whose threads did not make all calls.
+fn cause_of(stop: ThreadStop) -> LiveCause
+    ensures late { IsLate result }
+    ensures begun { FitsHistory result true }
+{
+    match stop {
+        ThreadStop::Start => LiveCause::Start,
+        ThreadStop::Fault(LiveFault::Memory) => LiveCause::Memory,
+        ThreadStop::Fault(_) => LiveCause::Unsettled,
+    }
+}
+
+fn is_same_config(config: &Config, other: &Config) -> bool
+    ensures { IsTrue result ↔ (config.now ≡ other.now) }
+{
+    config == other
+}
+
+/// Whether the rows are those of the history, and this is of the configuration.
+fn is_answer(
+    alloc: Global,
+    config: &Config,
+    history: &History,
+    rows: &[Vec<Receipt>],
+) -> Result<bool, Memory>
+    ensures { IfOk result (λ yes. IsTrue yes ↔ ((history.now.config ≡ config.now) × IsSettled history.now.entries (map (λ v. v.items) rows.now))) }
+{
+    if !is_same_config(history.config(), config) {
+        return Ok(false);
+    }
+    settle(alloc, history, rows)
+}
+
+/// Runs each program in a thread of its own, and answers the closed history and each program's receipts.
+///
+/// Before the run the programs are judged: `BadActor`, `NotYours` and `HistoryFull` come in this order. Each thread is
+/// joined, whatever comes; a program that meets want of memory makes no more calls, one whose thread could not be
+/// started makes none, and the others go on to their ends. Then `Start` goes before `Memory`, and this before
+/// `Unsettled`. The gate is told call `j` of program `p` by the number `j` plus the lengths of the programs before
+/// `p`, outside the lock.
+pub fn run_live<G: Gate + Sync, R: Threads + Wait + Sync>(
+    rt: &R,
+    alloc: Global,
+    config: Config,
+    programs: Vec<Program>,
+    gate: &G,
+) -> Result<(History, Vec<Vec<Receipt>>), LiveStop>
+    // The programs were in order, or the cause is what is wrong with them, or shows only in a run.
+    ensures sound { OnOk result (IsSound config programs.items) }
+    ensures stop { IfErr result (λ stop. StopsFor config programs.items stop.cause) }
+    ensures history { IfErr result (λ stop. FitsHistory stop.cause (is_some stop.history)) }
+
+    // The history is of the configuration handed in, and the receipts are just those of it.
+    ensures config { IfOk result (λ r. r.0.config ≡ config) }
+    ensures settled { IfOk result (λ r. IsSettled r.0.entries (map (λ v. v.items) r.1.items)) }
+
+    // Row by row the receipts are of the programs' calls, and so is the history, actor by actor.
+    ensures rows { IfOk result (λ r. map (λ row. calls_in row.items) r.1.items ≡ map (λ p. p.calls) programs.items) }
+    ensures calls { IfOk result (λ r. HasCalls r.0.entries programs.items) }
+    ensures others { IfOk result (λ r. HasNoOthers r.0.entries programs.items) }
+{
+    if let Some(cause) = early_stop(&config, programs.as_slice()) {
+        return Err(refused(cause));
+    }
+    let Ok((config, core)) = open(alloc, config) else {
+        return Err(refused(LiveCause::Memory));
+    };
+    let made = make_calls(rt, alloc, &core, gate, programs);
+    let history = core.close();
+    let rows = match made {
+        Ok(rows) => rows,
+        Err(stop) => return Err(stopped(cause_of(stop), history)),
+    };
+    match is_answer(alloc, &config, &history, rows.as_slice()) {
+        Ok(true) => Ok((history, rows)),
+        Ok(false) => Err(stopped(LiveCause::Unsettled, history)),
+        Err(_) => Err(stopped(LiveCause::Memory, history)),
+    }
+}

@@ -1,0 +1,116 @@
+//! The seats from which actors call.
+ghost use Rattle.std.specs.Prelude.{◌≡◌, ◌≢◌, ◌↔◌, ◌<◌, ◌-◌, length, slice_get, Err, OnOk, OnErr};
+ghost use Rattle.kc_types.specs.Limits.{call_limit};
+ghost use Rattle.kc_types.specs.Actors.{actor as actor_made};
+ghost use Rattle.kc_model.specs.Built.{IsBuilt};
+
+use crate::book::Book;
+use crate::fault::LiveFault;
+use crate::live_core::LiveCore;
+use crate::receipt::Receipt;
+use kc_types::{Actor, Call, actor_of};
+use std::alloc::Global;
+use std::marker::Model;
+use std::sync::Wait;
+
+/// The place of one actor, with the receipts of the calls that it made from here, in order.
+#[derive(Debug, Drop)]
+pub struct Seat {
+    actor: Actor,
+    receipts: Vec<Receipt>,
+}
+
+impl Model for Seat {
+    ghost use Rattle.kc_live.specs.Seats.{SeatView};
+
+    ghost Value = { SeatView };
+
+    ghost view = { λ s. record { actor = s.actor; receipts = s.receipts.items } };
+}
+
+impl Seat {
+    ghost use Rattle.kc_live.specs.Seats.{new_seat, gaining};
+    ghost use Rattle.kc_live.specs.Logs.{longer, receipt_of, reply_to};
+
+    /// A seat with no receipts.
+    pub fn new(alloc: Global, actor: Actor) -> Seat
+        ensures { result ≡ new_seat actor }
+    {
+        Seat {
+            actor,
+            receipts: Vec::new(alloc),
+        }
+    }
+
+    /// The receipts, in the order of the calls.
+    pub fn receipts(&self) -> &[Receipt]
+        ensures { result.now ≡ self.now.receipts }
+    {
+        self.receipts.as_slice()
+    }
+
+    /// The receipt of the newest call.
+    pub fn newest(&self) -> &Receipt
+        requires { 0 < length self.now.receipts }
+        ensures { slice_get self.now.receipts (length self.now.receipts - 1) ≡ Some result.now }
+    {
+        &self.receipts[self.receipts.len() - 1]
+    }
+
+    /// Takes the receipts out, in the order of the calls.
+    pub fn into_receipts(self) -> Vec<Receipt>
+        ensures { result.items ≡ self.receipts }
+    {
+        let Seat { actor: _, receipts } = self;
+        receipts
+    }
+
+    /// Makes one call of a book, and keeps its receipt. The faults come in this order: `NotYours`, `Memory` for the
+    /// seat, `HistoryFull`, `Memory` for the book.
+    pub fn record(&mut self, book: &mut Book, call: Call) -> Result<(), LiveFault>
+        requires { IsBuilt call }
+        ensures seat { OnOk result (self.new ≡ gaining self.old (receipt_of book.old call)) }
+        ensures book { OnOk result (book.new ≡ longer book.old call (reply_to book.old call)) }
+        ensures yours { (result ≡ Err LiveFault.NotYours) ↔ (actor_made call ≢ self.old.actor) }
+        ensures full { result ≡ Err LiveFault.HistoryFull → length book.old.entries ≡ call_limit }
+        ensures err { OnErr result ((self.new ≡ self.old) × (book.new ≡ book.old)) }
+    {
+        if actor_of(&call) != self.actor {
+            return Err(LiveFault::NotYours);
+        }
+        self.receipts.reserve(1)?;
+        let receipt = book.step(call)?;
+        self.receipts.push_reserved(receipt);
+        Ok(())
+    }
+}
+
+impl Seat {
+    ghost use Rattle.std.specs.Borrow.{sem};
+    ghost use Rattle.kc_live.specs.Seats.{LendsNewest, GainsReceipt};
+    ghost use Rattle.kc_live.specs.Lending.{Rests};
+
+    /// Makes one call of the core from this seat, and lends its receipt. The faults are those of `LiveCore::call`.
+    pub fn call<R: Wait>(
+        &mut self,
+        rt: &R,
+        core: &LiveCore,
+        call: Call,
+    ) -> Result<&Receipt, LiveFault>
+        requires { IsBuilt call }
+        ensures* seat { sem 𝓛 (Rests self.entry (λ now. LendsNewest self.old now call result)) }
+        ensures yours { (result ≡ Err LiveFault.NotYours) ↔ (actor_made call ≢ self.old.actor) }
+    {
+        self.gain(rt, core, call)?;
+        Ok(self.newest())
+    }
+
+    fn gain<R: Wait>(&mut self, rt: &R, core: &LiveCore, call: Call) -> Result<(), LiveFault>
+        requires { IsBuilt call }
+        ensures gains { OnOk result (GainsReceipt self.old self.new call) }
+        ensures yours { (result ≡ Err LiveFault.NotYours) ↔ (actor_made call ≢ self.old.actor) }
+        ensures err { OnErr result (self.new ≡ self.old) }
+    {
+        core.call(rt, self, call)
+    }
+}

@@ -1,0 +1,99 @@
+//! Whether the receipts of all callers are the history's, each once.
+ghost use Rattle.std.specs.Prelude.{◌≡◌, ◌↔◌, length, map, replicate, false, IsTrue, IfOk};
+ghost use Rattle.std.specs.Bool.{OnTrue};
+ghost use Rattle.kc_live.specs.Logs.{entry as entry_of};
+ghost use Rattle.kc_live.specs.Settling.{Fits, RowFits, RowsFit, IsSettled, marked};
+
+use crate::book::History;
+use crate::receipt::{Entry, Receipt};
+use kc_types::{Call, Memory, Reply};
+use std::alloc::Global;
+
+fn is_same_call(call: &Call, other: &Call) -> bool
+    ensures { IsTrue result ↔ (call.now ≡ other.now) }
+{
+    call == other
+}
+
+fn is_same_reply(reply: &Reply, other: &Reply) -> bool
+    ensures { IsTrue result ↔ (reply.now ≡ other.now) }
+{
+    reply == other
+}
+
+/// Whether the receipt says what the entry says.
+fn is_of(entry: &Entry, receipt: &Receipt) -> bool
+    ensures { IsTrue result ↔ (entry.now ≡ entry_of receipt.now.call receipt.now.reply) }
+{
+    is_same_call(&entry.call, &receipt.call) && is_same_reply(&entry.reply, &receipt.reply)
+}
+
+/// Whether the receipt may come next in its row: its number is not below `least`, no receipt had it before, and it
+/// says what the entry says.
+fn is_next(entries: &[Entry], seen: &[bool], least: u64, receipt: &Receipt) -> bool
+    requires { length seen.now ≡ length entries.now }
+    ensures { IsTrue result ↔ Fits entries.now seen.now least receipt.now }
+{
+    let number = receipt.number as usize;
+    let Some(entry) = entries.get(number) else {
+        return false;
+    };
+    if seen[number] {
+        return false;
+    }
+    if u64::from(receipt.number) < least {
+        return false;
+    }
+    is_of(entry, receipt)
+}
+
+/// Whether the receipts of a row may come next, in order; it marks them.
+fn mark_row(entries: &[Entry], seen: &mut [bool], row: &[Receipt]) -> bool
+    requires { length seen.old ≡ length entries.now }
+    ensures fits { IsTrue result ↔ RowFits entries.now seen.old 0 row.now }
+    ensures seen { OnTrue result (seen.new ≡ marked seen.old row.now) }
+{
+    let mut least = 0;
+    for receipt in row {
+        if !is_next(entries, seen, least, receipt) {
+            return false;
+        }
+        seen[receipt.number as usize] = true;
+        least = u64::from(receipt.number) + 1;
+    }
+    true
+}
+
+/// Whether all rows may come next, and leave no entry unmarked.
+fn mark_rows(entries: &[Entry], seen: &mut [bool], rows: &[Vec<Receipt>]) -> bool
+    requires { length seen.old ≡ length entries.now }
+    ensures { IsTrue result ↔ RowsFit entries.now seen.old (map (λ v. v.items) rows.now) }
+{
+    for row in rows {
+        if !mark_row(entries, seen, row.as_slice()) {
+            return false;
+        }
+    }
+    seen.iter().all(|is_seen| *is_seen)
+}
+
+/// A table in which no entry is marked.
+fn unmarked(alloc: Global, len: usize) -> Result<Vec<bool>, Memory>
+    ensures { IfOk result (λ v. v.items ≡ replicate len false) }
+{
+    let mut seen = Vec::new(alloc);
+    seen.resize(len, false)?;
+    Ok(seen)
+}
+
+/// Whether the receipts are just those of the history: each entry's number stands in exactly one receipt and no other
+/// number does, each receipt says what its entry says, and numbers rise in each row. `Memory` where a growth was
+/// refused.
+pub fn settle(alloc: Global, history: &History, rows: &[Vec<Receipt>]) -> Result<bool, Memory>
+    // No clause can rule out want of memory: tests settle.
+    ensures { IfOk result (λ yes. IsTrue yes ↔ IsSettled history.now.entries (map (λ v. v.items) rows.now)) }
+{
+    let entries = history.entries();
+    let mut seen = unmarked(alloc, entries.len())?;
+    Ok(mark_rows(entries, seen.as_mut_slice(), rows))
+}

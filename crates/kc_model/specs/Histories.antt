@@ -1,0 +1,25 @@
+-- Histories: the calls that were made of one core, in order, with their replies.
+use Rattle.std.specs.Prelude.{◌≡◌, ◌==◌, ◌&&◌, Bool, true, false, List, [], ◌∷◌, if◌then◌else◌}
+use Rattle.kc_types.specs.Configuration.{Configuration}
+use Rattle.kc_types.specs.Actors.{actor}
+use Rattle.kc_types.specs.declared.call.Call.{Call}
+use Rattle.kc_types.specs.declared.call.Actor.{Actor}
+use Rattle.kc_types.specs.declared.call.Actor.TheVariants.{Host, Vcpu}
+use Rattle.kc_types.specs.declared.reply.Reply.{Reply}
+use Rattle.kc_model.specs.Boot.{boot}
+use Rattle.kc_model.specs.Next.{replies_from}
+
+-- one thread that makes these calls, from the boot state of the configuration on, gets these replies
+abbrev pub IsLegalHistory : Configuration → List Call → List Reply → Type 0
+IsLegalHistory config calls replies = replies ≡ replies_from (boot config) calls
+
+abbrev pub same_actor : Actor → Actor → Bool
+same_actor Host Host = true
+same_actor Host (Vcpu v c) = false
+same_actor (Vcpu v c) Host = false
+same_actor (Vcpu v c) (Vcpu w d) = (v == w) && (c == d)
+
+-- the calls of one actor, in order
+abbrev pub calls_by : Actor → List Call → List Call
+calls_by a [] = []
+calls_by a (call ∷ calls) = if same_actor a (actor call) then call ∷ calls_by a calls else calls_by a calls

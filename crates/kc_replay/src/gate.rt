@@ -1,0 +1,21 @@
+//! What runs just before and just after each call.
+
+/// It is told each call by its number, on the thread that makes the call. A gate that sleeps or locks holds what it
+/// needs for that in its own fields.
+pub trait Gate {
+    /// Runs just before call `number`, counted from 0 over all calls of the run.
+    fn before(&self, number: usize);
+
+    /// Runs just after call `number`, counted from 0 over all calls of the run.
+    fn after(&self, number: usize);
+}
+
+/// A gate that is always open: it does nothing.
+#[derive(Clone, Copy, Debug)]
+pub struct OpenGate;
+
+impl Gate for OpenGate {
+    fn before(&self, _number: usize) {}
+
+    fn after(&self, _number: usize) {}
+}

@@ -1,0 +1,22 @@
+-- How many bytes a reply carries, and how many the reply to a call may carry.
+use Rattle.std.specs.Prelude.{ℕ, length, nat_le, if◌then◌else◌}
+use Rattle.kc_types.specs.Limits.{page_size}
+use Rattle.kc_types.specs.declared.call.Call.{Call}
+use Rattle.kc_types.specs.declared.call.Call.TheVariants.{HostRead, GuestRead}
+use Rattle.kc_types.specs.declared.reply.Reply.{Reply}
+use Rattle.kc_types.specs.declared.reply.Reply.TheVariants.{Data}
+
+-- the bytes that a reply carries
+abbrev pub bytes_in : Reply → ℕ
+bytes_in (Data bytes) = length bytes
+bytes_in _ = 0
+
+-- the bytes of a read, which is refused where it asks for more than a page
+abbrev pub readable : ℕ → ℕ
+readable len = if nat_le len page_size then len else 0
+
+-- the most bytes that the reply to a call may carry
+abbrev pub room_of : Call → ℕ
+room_of (HostRead f off len) = readable len
+room_of (GuestRead v c g off len) = readable len
+room_of _ = 0
