@@ -5,13 +5,13 @@ use Rattle.kc_page.specs.Pages.{scrubbed_page}
 use Rattle.kc_parts.specs.Held.{Held}
 use Rattle.kc_parts.specs.Lending.{refilled}
 use Rattle.kc_parts.specs.States.{state_of}
-use Rattle.kc_parts.proofs.Full.{full-from_whole}
+use Rattle.kc_parts.proofs.Full.{full_from_whole}
 use Rattle.kc_core.specs.Cores.{IsCore}
 use Rattle.kc_core.proofs.Wiped.{refilled-same, clean, state-clean, core-clean}
 use Rattle.kc_core.proofs.one_thread.KCore.wipe.Goals as goal
 
 pub pages_mut-requires : goal.pages_mut-requires
-pages_mut-requires c = full-from_whole c.self.inside.config c.self.inside.parts c.self.invariant.whole
+pages_mut-requires c = full_from_whole c.self.inside.config c.self.inside.parts c.self.invariant.whole
 
 pub invariant_of-self : goal.invariant_of-self
 invariant_of-self c =
