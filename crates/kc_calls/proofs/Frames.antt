@@ -1,17 +1,15 @@
 -- A frame of parts that is here, and its change.
-use Rattle.std.proofs.Common.{ℕ, ◌≡◌, ◌<◌, inl, inr, Bool, true, false, List, [], ◌∷◌, ◌++◌, Option, Some, None, is_some, IsSome, MutBor, Bor, refl, sym, ap, ◌∙◌, arith}
+use Rattle.std.proofs.Common.{ℕ, ◌≡◌, ◌<◌, true, Option, Some, None, is_some, IsSome, MutBor, Bor, refl, sym, ap, ◌∙◌}
 use Rattle.std.specs.Option.{option_copied, option_copied_mut}
-use Rattle.std.proofs.lemmas.Bool.{cases_eq}
 use Rattle.kc_types.specs.Configuration.{Configuration}
 use Rattle.kc_types.specs.declared.owner.Owner.TheVariants.{Core}
 use Rattle.kc_types.specs.declared.resource.Resource.{Resource}
 use Rattle.kc_types.specs.declared.resource.Resource.TheVariants as resource
-use Rattle.kc_model.specs.State.{State, Frame, frame_at, with_frame, untouched}
+use Rattle.kc_model.specs.State.{Frame, frame_at, with_frame, untouched}
 use Rattle.kc_page.specs.declared.page.Page.{Page}
 use Rattle.kc_page.specs.Pages.{frame_of}
 use Rattle.kc_parts.specs.Held.{Held, page_at, with_page, link_of}
 use Rattle.kc_parts.specs.States.{frame_in, state_of, here_of, IsFreeMove}
-use Rattle.kc_parts.proofs.Pages.{page-set, page-other}
 use Rattle.kc_parts.proofs.Seen.{frame-seen, state-page, here-page}
 use Rattle.kc_calls.specs.Applying.{IsSameRoom}
 

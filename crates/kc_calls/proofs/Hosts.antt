@@ -1,5 +1,5 @@
 -- The host's calls on parts.
-use Rattle.std.proofs.Common.{ℕ, zero, suc, ◌≡◌, ◌<◌, ◌≤◌, inl, inr, Bool, true, false, not, nat_eq, List, [], ◌∷◌, ◌++◌, length, Option, Some, None, is_some, refl, sym, ap, ◌∙◌, arith}
+use Rattle.std.proofs.Common.{ℕ, zero, suc, ◌≡◌, ◌<◌, inl, inr, true, false, not, [], ◌∷◌, ◌++◌, length, Some, None, refl, sym, ap, ◌∙◌, arith}
 use Rattle.kc_types.specs.Configuration.{Configuration}
 use Rattle.kc_types.specs.declared.link.Ends.{Ends}
 use Rattle.kc_types.specs.declared.owner.Owner.{Owner}
@@ -13,12 +13,12 @@ use Rattle.kc_model.proofs.Served.{or_else-none, when-none, nat_le-is_false, not
 use Rattle.kc_page.specs.declared.page.Page.{Page}
 use Rattle.kc_page.specs.Pages.{frame_of}
 use Rattle.kc_links.specs.Chain.{Links}
-use Rattle.kc_links.specs.Ending.{listed, IsList}
+use Rattle.kc_links.specs.Ending.{listed}
 use Rattle.kc_parts.specs.Held.{Held, page_at, with_page, link_of, links_of, ends_at}
-use Rattle.kc_parts.specs.States.{frame_in, list_in, state_of, owner_at, IsLinked, IsLoose, IsFreeMove, free_of}
-use Rattle.kc_parts.proofs.Pages.{links-kept, page-set}
-use Rattle.kc_parts.proofs.Seen.{frame-seen, state-page, ends-page, linked-moved}
-use Rattle.kc_calls.proofs.Frames.{frame-is, changed}
+use Rattle.kc_parts.specs.States.{list_in, state_of, owner_at, IsLinked, IsLoose, IsFreeMove, free_of}
+use Rattle.kc_parts.proofs.Pages.{links-kept}
+use Rattle.kc_parts.proofs.Seen.{ends-page, linked-moved}
+use Rattle.kc_calls.proofs.Frames.{changed}
 
 pub give-served : (m : State) (f : ℕ) → refusal m (Give f) ≡ None → (f < m.config.frames) × ((frame_at m f).owner ≡ Host)
 give-served m f served =

@@ -1,5 +1,5 @@
 -- What a call does with parts, beside what the rules say.
-use Rattle.std.specs.Prelude.{ℕ, ◌≡◌}
+use Rattle.std.specs.Prelude.{◌≡◌}
 use Rattle.kc_types.specs.declared.call.Call.{Call}
 use Rattle.kc_types.specs.declared.reply.Reply.{Reply}
 use Rattle.kc_types.specs.Configuration.{Configuration}
@@ -34,7 +34,7 @@ pub record IsAble (config : Configuration) (h : Held) (call : Call) : Type 0 whe
 pub record IsLocality : Type 0 where
   -- the reply is that state's, the parts are what it leaves of them, and the rest stays
   pub step : (here : Resources) (m rest held left : State) (call : Call) (reply : Reply) → IsLawful m → IsWithin (need m call) here → held ≡ merged here m rest
-    → reply ≡ (next held call).0 → left ≡ (next held call).1 → (reply ≡ (next m call).0) × (left ≡ merged here (next m call).1 rest)
+      → reply ≡ (next held call).0 → left ≡ (next held call).1 → (reply ≡ (next m call).0) × (left ≡ merged here (next m call).1 rest)
   -- parts that are cut from a lawful state are orderly, and the call needs the same in them
   pub orderly : (here : Resources) (m : State) → IsLawful m → IsOrderly (cut m here)
   pub needs : (here : Resources) (m rest : State) (call : Call) → IsWithin (need m call) here → (r : Resource) → need (merged here m rest) call r ≡ need m call r

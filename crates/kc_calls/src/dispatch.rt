@@ -31,15 +31,7 @@ fn refusal(parts: &Parts, config: &Config, call: &Call) -> Option<Refusal>
             frame,
             offset,
             data,
-        } => {
-            host_access_refusal(
-                parts,
-                config,
-                *frame,
-                *offset,
-                data.as_slice().len() as u32,
-            )
-        },
+        } => { host_access_refusal(parts, config, *frame, *offset, data.as_slice().len() as u32) },
         _ => unreachable!(),
     }
 }

@@ -1,5 +1,5 @@
 -- A core keeps its parts whole, and calls find what they need in them.
-use Rattle.std.proofs.Common.{ℕ, ◌≡◌, ◌<◌, Bool, true, false, ◌&&◌, ◌||◌, nat_lt, nat_eq, Option, Some, None, Result, Ok, Err, OnErr, is_some, refl, sym, ap, ◌∙◌, arith}
+use Rattle.std.proofs.Common.{ℕ, ◌≡◌, ◌<◌, Bool, true, false, ◌&&◌, ◌||◌, nat_lt, nat_eq, Option, Some, None, Result, Ok, Err, OnErr, is_some, refl, ap, ◌∙◌}
 use Rattle.std.proofs.lemmas.Bool.{ltb-true, eqb-true}
 use Rattle.kc_types.specs.Configuration.{Configuration, slot_count}
 use Rattle.kc_types.specs.declared.call.Call.{Call}
@@ -67,7 +67,7 @@ module _ (config : Configuration) (h : Held) (is : IsCore config h) where
     where
       here : (r : Resource) → need (state_of config h) call r ≡ true → here_of h r ≡ true
       here (resource.Frame f) needed = frame-here call f (names_frame call f) (nat_lt f config.frames) (of_slot config (listed_in (state_of config h)) (slot_of call) f) (uses_free call && is_in (state_of config h).free f) refl refl
-        (free-in (uses_free call) (is_in (state_of config h).free f)) needed
+          (free-in (uses_free call) (is_in (state_of config h).free f)) needed
       here (resource.Vm w) needed = slot-here (slot_of call) w needed
       here resource.Free needed = is.whole.free
 

@@ -1,10 +1,10 @@
 -- What a core shows of its parts is the state's.
-use Rattle.std.proofs.Common.{ℕ, zero, suc, ◌≡◌, ◌<◌, ◌≤◌, ◌+◌, inl, inr, Bool, true, false, cond, List, [], ◌∷◌, ◌++◌, length, get_or, map, Option, Some, None, is_some, nat_eq, nat_lt, eq-eqb, refl, sym, ap, ◌∙◌, arith}
+use Rattle.std.proofs.Common.{ℕ, suc, ◌≡◌, ◌<◌, ◌≤◌, ◌+◌, inl, inr, Bool, true, false, cond, List, [], ◌∷◌, ◌++◌, length, map, Option, Some, None, is_some, eq-eqb, refl, sym, ap, ◌∙◌, arith}
 use Rattle.std.specs.Prelude.{filter}
 use Rattle.std.specs.List.{range_with_len, slice_get}
 use Rattle.std.specs.Option.{option_map}
-use Rattle.std.proofs.lemmas.Bool.{cases_eq, cases_lt, ne_eqb, lt-ltb}
-use Rattle.std.proofs.lemmas.List.{map-append, map-id, append-nil, get_or_past}
+use Rattle.std.proofs.lemmas.Bool.{cases_eq, ne_eqb, lt-ltb}
+use Rattle.std.proofs.lemmas.List.{map-id, append-nil, get_or_past}
 use Rattle.std.proofs.lemmas.List.Elements.{filter-append}
 use Rattle.std.proofs.lemmas.List.FromFn.{map-range_with_len_more, length-map-range_with_len}
 use Rattle.kc_types.specs.Limits.{frame_limit}
@@ -13,8 +13,8 @@ use Rattle.kc_types.specs.declared.link.Ends.{Ends}
 use Rattle.kc_types.specs.declared.link.Link.{Link}
 use Rattle.kc_types.specs.declared.owner.Owner.{Owner}
 use Rattle.kc_types.specs.declared.owner.Owner.TheVariants.{Core, Host, Free, Vm}
-use Rattle.kc_model.specs.State.{State, Frame, Slot, frame_at, slot_at, empty_slot}
-use Rattle.kc_model.specs.Lawful.{IsLawful, ListsOnce, same_owner, times_in}
+use Rattle.kc_model.specs.State.{Frame, Slot, frame_at, slot_at, empty_slot}
+use Rattle.kc_model.specs.Lawful.{same_owner, times_in}
 use Rattle.kc_model.specs.Links.{link_after, link_in, link_at, list_of, first_of}
 use Rattle.kc_page.specs.declared.page.Page.{Page}
 use Rattle.kc_page.specs.declared.page.PageRecord.{PageRecord}

@@ -1,5 +1,5 @@
 -- Parts whose bytes are zeroed.
-use Rattle.std.proofs.Common.{ℕ, zero, suc, ◌≡◌, ◌<◌, ◌+◌, cond, nat_lt, List, [], ◌∷◌, ◌++◌, length, map, take, drop, get_or, Option, Some, None, is_some, refl, sym, ap, ◌∙◌, arith}
+use Rattle.std.proofs.Common.{ℕ, zero, suc, ◌≡◌, ◌<◌, cond, nat_lt, List, [], ◌∷◌, ◌++◌, length, map, take, drop, get_or, Option, Some, None, is_some, refl, sym, ap, ◌∙◌, arith}
 use Rattle.std.specs.List.{range_with_len, slice_get}
 use Rattle.std.specs.Option.{option_map}
 use Rattle.std.proofs.lemmas.List.{length-map, take_at}
@@ -9,15 +9,14 @@ use Rattle.kc_types.specs.Limits.{frame_limit}
 use Rattle.kc_types.specs.Configuration.{Configuration, slot_count}
 use Rattle.kc_types.specs.declared.owner.Owner.{Owner}
 use Rattle.kc_types.specs.declared.owner.Owner.TheVariants.{Core, Host, Free, Vm}
-use Rattle.kc_model.specs.State.{State, Frame}
+use Rattle.kc_model.specs.State.{Frame}
 use Rattle.kc_model.specs.Wiped.{wiped, wiped_frame}
 use Rattle.kc_model.proofs.Wipes.{lawful-wiped}
 use Rattle.kc_page.specs.declared.page.Page.{Page}
 use Rattle.kc_page.specs.Pages.{frame_of, scrubbed_page}
 use Rattle.kc_parts.specs.Held.{Held, is_filled, place_of, place_in, page_at, vm_at, link_of, links_of, ends_at}
-use Rattle.kc_parts.specs.States.{frame_in, slot_in, list_in, state_of, owner_at, IsLinked}
+use Rattle.kc_parts.specs.States.{frame_in, slot_in, list_in, state_of, owner_at}
 use Rattle.kc_parts.proofs.Moving.{lists-same}
-use Rattle.kc_parts.proofs.Seen.{table-same}
 use Rattle.kc_core.specs.Cores.{IsCore}
 use Rattle.kc_core.proofs.Shown.{pages-frames}
 
@@ -37,8 +36,8 @@ frames-whole config h pages is count each =
     let numbers = is.whole.numbers in
     let long : length pages ≡ config.frames = count ∙ ap (λ (ns : List ℕ). length ns) numbers ∙ length-range_with_len 0 config.frames in
     pages-frames h pages 0 (λ k low.
-        let within : k < config.frames = omega (arith, low, long) in
-        each k (rw (← count) low) ∙ ap (page_at h) (ap (λ ns. get_or ns k 0) numbers ∙ get_or-range_with_len 0 config.frames k 0 within))
+    let within : k < config.frames = omega (arith, low, long) in
+    each k (rw (← count) low) ∙ ap (page_at h) (ap (λ ns. get_or ns k 0) numbers ∙ get_or-range_with_len 0 config.frames k 0 within))
     ∙ ap (λ n. map (λ f. frame_in (page_at h f)) (range_with_len 0 n)) long
 
 module _ (config : Configuration) (h : Held) where
@@ -82,7 +81,7 @@ module _ (config : Configuration) (h : Held) where
       frames = λ f here. is.linked.frames f (sym (some-at f) ∙ here);
       vms = is.linked.vms;
       lists = lists-same (links_of h) (links_of clean) (ends_at h) (ends_at clean) (owner_at h) (owner_at clean) links-clean ends
-        (λ f. ap (λ (frame : Frame). frame.owner) (ap frame_in (page-clean f) ∙ frame-clean (page_at h f))) is.linked.lists;
+          (λ f. ap (λ (frame : Frame). frame.owner) (ap frame_in (page-clean f) ∙ frame-clean (page_at h f))) is.linked.lists;
     };
     whole = record {
       numbers = is.whole.numbers;

@@ -1,6 +1,6 @@
 -- The parts that a core starts with are those of the boot state, linked.
-use Rattle.std.proofs.Common.{ℕ, zero, suc, ◌≡◌, ◌≢◌, ◌<◌, ◌≤◌, ◌+◌, ◌-◌, ◌⊎◌, inl, inr, Bool, true, false, cond, nat_eq, nat_lt, nat_le, ◌&&◌, List, [], ◌∷◌, length, get_or, map, replicate, Option, Some, None, is_some, refl, sym, ap, ◌∙◌, arith}
-use Rattle.std.specs.List.{range_with_len, slice_get}
+use Rattle.std.proofs.Common.{ℕ, zero, suc, ◌≡◌, ◌<◌, ◌≤◌, ◌+◌, ◌-◌, ◌⊎◌, inl, inr, Bool, true, false, cond, nat_eq, nat_lt, nat_le, ◌&&◌, List, [], length, get_or, map, replicate, Option, Some, None, is_some, refl, sym, ap, ◌∙◌, arith}
+use Rattle.std.specs.List.{range_with_len}
 use Rattle.std.specs.Option.{option_map}
 use Rattle.std.proofs.lemmas.Bool.{cases_lt, lt-ltb, ltb-true, ne_eqb}
 use Rattle.std.proofs.lemmas.Grind.{common_steps}
@@ -14,17 +14,17 @@ use Rattle.kc_types.specs.declared.link.Link.{Link}
 use Rattle.kc_types.specs.declared.owner.Owner.{Owner}
 use Rattle.kc_types.specs.declared.owner.Owner.TheVariants.{Core, Host, Free, Vm}
 use Rattle.kc_model.specs.Lawful.{times_in}
-use Rattle.kc_model.specs.State.{State, Frame, Slot, untouched, empty_slot}
+use Rattle.kc_model.specs.State.{empty_slot}
 use Rattle.kc_model.specs.Boot.{boot, boot_owner, boot_frame, no_vms}
 use Rattle.kc_model.proofs.AtBoot.{times_in-range}
 use Rattle.kc_page.specs.declared.page.Page.{Page}
-use Rattle.kc_vms.specs.Slots.{VmSlot, IsVm, empty_vm}
+use Rattle.kc_vms.specs.Slots.{VmSlot, empty_vm}
 use Rattle.kc_vms.proofs.Kept.{slot-empty}
 use Rattle.kc_links.specs.Chain.{Links, IsLinked as IsLinkedFrom, first_or, last_or, unlinked}
 use Rattle.kc_links.specs.Ending.{Chain, listed, IsList}
 use Rattle.kc_links.proofs.Chains.{chain-listed, chain-is_list}
-use Rattle.kc_parts.specs.Held.{Held, IsHeld, page_at, vm_at, link_of, links_of, ends_at}
-use Rattle.kc_parts.specs.States.{frame_in, slot_in, state_of, owner_at, AreLists, IsLinked}
+use Rattle.kc_parts.specs.Held.{Held, IsHeld, page_at, vm_at, links_of, ends_at}
+use Rattle.kc_parts.specs.States.{frame_in, slot_in, state_of, owner_at, IsLinked}
 use Rattle.kc_parts.specs.Booting.{first_free, boot_prev, boot_next, boot_page, boot_ends, IsWhole}
 use Rattle.kc_parts.proofs.Boots.{page-whole, page-past}
 

@@ -1,28 +1,11 @@
 -- The parts of the boot state, one after another and all together.
-use Rattle.std.proofs.Common.{ℕ, zero, suc, ◌≡◌, ◌≢◌, ◌<◌, ◌≤◌, ◌+◌, ◌-◌, ◌⊎◌, inl, inr, Bool, true, false, cond, nat_eq, nat_lt, eq-eqb, List, [], ◌∷◌, ◌++◌, length, get_or, map, replicate, Option, Some, None, is_some, refl, sym, ap, ◌∙◌, arith}
+use Rattle.std.proofs.Common.{ℕ, zero, suc, ◌≡◌, ◌<◌, ◌≤◌, ◌+◌, true, false, cond, eq-eqb, [], ◌∷◌, ◌++◌, length, map, replicate, None, refl, sym, ap, ◌∙◌, arith}
 use Rattle.std.specs.List.{range_with_len, slice_get}
-use Rattle.std.specs.Option.{option_map}
-use Rattle.std.proofs.lemmas.Bool.{cases_lt, ne_eqb, lt-ltb}
-use Rattle.std.proofs.lemmas.Grind.{common_steps}
+use Rattle.std.proofs.lemmas.Bool.{ne_eqb}
 use Rattle.std.proofs.lemmas.List.{map-id}
-use Rattle.std.proofs.lemmas.List.FromFn.{map-range_with_len_more, length-map-range_with_len, get_or-map-range_with_len}
-use Rattle.std.proofs.lemmas.Option.{slice_get-get_or, slice_get_past}
-use Rattle.kc_types.specs.Limits.{frame_limit}
-use Rattle.kc_types.specs.Configuration.{Configuration, IsConfiguration, slot_count}
-use Rattle.kc_types.specs.declared.link.Ends.{Ends}
-use Rattle.kc_types.specs.declared.owner.Owner.{Owner}
-use Rattle.kc_types.specs.declared.owner.Owner.TheVariants.{Core, Host, Free, Vm}
-use Rattle.kc_model.specs.Lawful.{times_in}
-use Rattle.kc_model.specs.State.{State, Frame, Slot, untouched, empty_slot}
-use Rattle.kc_model.specs.Boot.{boot, boot_owner, boot_frame, no_vms}
-use Rattle.kc_page.specs.declared.page.Page.{Page}
-use Rattle.kc_vms.specs.Slots.{VmSlot, empty_vm}
-use Rattle.kc_links.specs.Chain.{Links, IsLinked, first_or, last_or, unlinked}
-use Rattle.kc_links.specs.Ending.{Chain, listed, IsList}
-use Rattle.kc_links.proofs.Chains.{chain-listed, chain-is_list}
-use Rattle.kc_parts.specs.Held.{Held, place_of, is_filled, place_in, page_at, vm_at, link_of, links_of, ends_at}
-use Rattle.kc_parts.specs.States.{frame_in, slot_in, list_in, state_of, owner_at, AreLists, IsLinked as IsLinkedUp}
-use Rattle.kc_parts.specs.Booting.{first_free, boot_prev, boot_next, boot_page, boot_ends, IsWhole}
+use Rattle.std.proofs.lemmas.List.FromFn.{map-range_with_len_more}
+use Rattle.std.proofs.lemmas.Option.{slice_get_past}
+use Rattle.kc_parts.specs.Held.{Held, place_of, is_filled, page_at}
 
 pub numbers-more : (n : ℕ) → range_with_len 0 (n + 1) ≡ range_with_len 0 n ++ n ∷ []
 numbers-more n = sym (map-id (range_with_len 0 (n + 1))) ∙ map-range_with_len_more (λ f. f) 0 n n (omega arith) ∙ ap (λ fs. fs ++ n ∷ []) (map-id (range_with_len 0 n))

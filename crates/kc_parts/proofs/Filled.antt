@@ -1,10 +1,10 @@
 -- A page by its place.
-use Rattle.std.proofs.Common.{ℕ, zero, suc, ◌≡◌, ◌≢◌, ◌<◌, ◌≤◌, ◌+◌, Bool, true, false, cond, ◌||◌, nat_eq, eqb, List, [], ◌∷◌, ◌++◌, length, map, get_or, set, refl, sym, ◌∙◌, ap, arith}
+use Rattle.std.proofs.Common.{ℕ, zero, suc, ◌≡◌, ◌≢◌, ◌<◌, Bool, true, false, cond, ◌||◌, nat_eq, List, [], ◌∷◌, ◌++◌, length, map, get_or, set, refl, sym, ◌∙◌, ap, arith}
 use Rattle.std.specs.Prelude.{Option, Some, None, slice_get}
 use Rattle.std.proofs.lemmas.Bool.Decides.{nat_tests}
 use Rattle.std.proofs.lemmas.Option.{slice_get_past}
 use Rattle.kc_page.specs.declared.page.Page.{Page}
-use Rattle.kc_parts.specs.Held.{Held, IsRising, IsHeld, place_of, is_filled, page_at}
+use Rattle.kc_parts.specs.Held.{IsRising, place_of, is_filled}
 use Rattle.kc_parts.specs.Moves.{is_among}
 
 -- what the places have
@@ -85,7 +85,7 @@ cell-at_place (n ∷ ns) (c ∷ cs) zero d up l h = rw (eqb-yes n n refl) refl
 cell-at_place (n ∷ ns) (c ∷ cs) (suc i) d up l h =
     let below : n < get_or ns i 0 = up 0 (suc i) (omega arith) h in
     cond-unless _ _ _ (eqb-no (get_or ns i 0) n (λ same. omega (arith, below, same)))
-      ∙ cell-at_place ns cs i d (rising-rest n ns up) (omega (arith, l)) (omega (arith, h))
+    ∙ cell-at_place ns cs i d (rising-rest n ns up) (omega (arith, l)) (omega (arith, h))
 
 -- no place, no cell
 pub cell-no_place : (ns : List ℕ) (cs : List (Option Page)) (f : ℕ) → ((k : ℕ) → k < length ns → get_or ns k 0 ≢ f) → cell_in ns cs f ≡ None
@@ -107,8 +107,8 @@ cell-set (n ∷ ns) (c ∷ cs) zero g x up l h = set_first (nat_eq g n) x c (cel
 cell-set (n ∷ ns) (c ∷ cs) (suc i) g x up l h =
     let below : n < get_or ns i 0 = up 0 (suc i) (omega arith) h in
     set_later (nat_eq g n) (nat_eq g (get_or ns i 0)) x c _ _
-      (λ a. eqb-no g (get_or ns i 0) (λ e. omega (arith, below, e, same-number g n a)))
-      (cell-set ns cs i g x (rising-rest n ns up) (omega (arith, l)) (omega (arith, h)))
+    (λ a. eqb-no g (get_or ns i 0) (λ e. omega (arith, below, e, same-number g n a)))
+    (cell-set ns cs i g x (rising-rest n ns up) (omega (arith, l)) (omega (arith, h)))
   where
     set_later : (b d : Bool) (x c y z : Option Page) → (b ≡ true → d ≡ false) → z ≡ cond d x y → cond b c z ≡ cond d x (cond b c y)
     set_later true d x c y z differ e = sym (cond-unless d x c (differ refl))

@@ -1,25 +1,25 @@
 -- The free list takes a frame in, or gives one out.
-use Rattle.std.proofs.Common.{ℕ, zero, suc, ◌≡◌, ◌≢◌, ◌<◌, ◌≤◌, ◌+◌, inl, inr, Bool, true, List, [], ◌∷◌, ◌++◌, map, Option, Some, None, is_some, slice_index_or, IfSome, MatchOption, refl, sym, ap, ◌∙◌, arith}
+use Rattle.std.proofs.Common.{ℕ, zero, suc, ◌≡◌, ◌≢◌, ◌<◌, inl, inr, List, [], ◌∷◌, ◌++◌, Option, Some, None, is_some, slice_index_or, IfSome, MatchOption, refl, sym, ap, ◌∙◌, arith}
 use Rattle.std.specs.List.{range_with_len}
 use Rattle.std.specs.Option.{option_map}
 use Rattle.std.proofs.lemmas.Bool.{cases_eq}
-use Rattle.kc_types.specs.Configuration.{Configuration, slot_count}
+use Rattle.kc_types.specs.Configuration.{slot_count}
 use Rattle.kc_types.specs.declared.link.Ends.{Ends}
 use Rattle.kc_types.specs.declared.owner.Owner.{Owner}
 use Rattle.kc_types.specs.declared.owner.Owner.TheVariants.{Core, Host, Free, Vm}
 use Rattle.kc_types.specs.declared.resource.Resource.{Resource}
 use Rattle.kc_types.specs.declared.resource.Resource.TheVariants as resource
 use Rattle.kc_model.specs.Lawful.{times_in}
-use Rattle.kc_model.specs.State.{State, Frame, Slot}
+use Rattle.kc_model.specs.State.{Frame, Slot}
 use Rattle.kc_page.specs.declared.page.Page.{Page}
 use Rattle.kc_page.specs.Pages.{frame_of}
 use Rattle.kc_vms.specs.Slots.{VmSlot}
-use Rattle.kc_links.specs.Chain.{Links, unlinked}
+use Rattle.kc_links.specs.Chain.{unlinked}
 use Rattle.kc_links.specs.Ending.{listed, IsList, KeepsOthers}
 use Rattle.kc_links.proofs.Times.{times-same, times-other, times-append, once-first}
 use Rattle.kc_links.proofs.Chains.{chain-once}
 use Rattle.kc_parts.specs.Held.{Held, page_at, vm_at, links_of, ends_at}
-use Rattle.kc_parts.specs.States.{frame_in, slot_in, state_of, owner_at, here_of, AreLists, IsLinked, free_of, IsLoose, IsFreeMove}
+use Rattle.kc_parts.specs.States.{frame_in, slot_in, owner_at, here_of, AreLists, IsLoose, IsFreeMove}
 use Rattle.kc_parts.specs.Linking.{IsSameRest}
 use Rattle.kc_parts.proofs.Moving.{list-kept, lists-moved, lists-same}
 use Rattle.kc_parts.proofs.Seen.{table-same}
@@ -42,7 +42,6 @@ here-same (Some a) (Some b) e = refl
 
 module _ (old mid : Held) (e e' : Ends) (frames : List ℕ) (rest : IsSameRest old mid) (free_is : old.free ≡ Some e) (are : AreLists (links_of old) (ends_at old) (owner_at old))
     (keeps : KeepsOthers (links_of old) (links_of mid) frames) (owned : (f : ℕ) → 0 < times_in frames f → owner_at old f ≡ Free) where
-
   abbrev pub moved : Held
   moved = record mid { free = Some e' }
 
@@ -84,7 +83,7 @@ module _ (old mid : Held) (e e' : Ends) (frames : List ℕ) (rest : IsSameRest o
       frames = λ f here. linked.frames f (sym (here-all (resource.Frame f)) ∙ here);
       vms = λ v vm is. linked.vms v vm (sym (vms-same v) ∙ is);
       lists = lists-same (links_of mid) (links_of mid) (ends_at moved) (ends_at moved) (owner_at old) (owner_at moved) refl (λ p. refl) owners-same
-        (lists-moved (links_of old) (links_of mid) (ends_at old) (ends_at moved) (owner_at old) Free frames are keeps owned e' refl ends-others (λ is. cc) list within);
+          (lists-moved (links_of old) (links_of mid) (ends_at old) (ends_at moved) (owner_at old) Free frames are keeps owned e' refl ends-others (λ is. cc) list within);
     };
   }
     where

@@ -1,5 +1,5 @@
 -- Lists of several owners over one store of links, where one of them changes.
-use Rattle.std.proofs.Common.{ℕ, zero, suc, ◌≡◌, ◌≢◌, ◌<◌, ◌≤◌, ◌⊎◌, inl, inr, Bool, true, false, List, [], ◌∷◌, ◌++◌, Option, Some, None, refl, sym, ap, ◌∙◌, arith}
+use Rattle.std.proofs.Common.{ℕ, zero, suc, ◌≡◌, ◌≢◌, ◌<◌, ◌⊎◌, inl, inr, List, Option, Some, None, refl, sym, ap, ◌∙◌, arith}
 use Rattle.std.proofs.lemmas.Bool.{cases_eq}
 use Rattle.kc_types.specs.declared.link.Ends.{Ends}
 use Rattle.kc_types.specs.declared.owner.Owner.{Owner}
@@ -39,7 +39,6 @@ none-or-some (suc n) = inr (omega arith)
 -- one owner's list and links change, among frames that are that owner's
 module _ (links links' : Links) (ends ends' : Owner → Option Ends) (owner_at : ℕ → Owner) (mine : Owner) (frames : List ℕ)
     (are : AreLists links ends owner_at) (keeps : KeepsOthers links links' frames) (owned : (f : ℕ) → 0 < times_in frames f → owner_at f ≡ mine) where
-
   apart : (p : Owner) (e : Ends) → p ≢ mine → ends p ≡ Some e → AreApart (listed links e) frames
   apart p e other is f some = elim (none-or-some (times_in frames f)) [
     | inl none ↦ none

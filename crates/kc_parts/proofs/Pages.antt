@@ -1,12 +1,11 @@
 -- A page that is changed, and the pages of the other frames.
-use Rattle.std.proofs.Common.{ℕ, zero, suc, ◌≡◌, ◌≢◌, ◌<◌, ◌≤◌, inl, inr, Bool, true, false, cond, nat_eq, nat_lt, eq-eqb, List, [], ◌∷◌, length, length-set, get_or, set, get_or-set_same, Option, Some, None, is_some, IsSome, refl, sym, ap, ◌∙◌, arith}
+use Rattle.std.proofs.Common.{ℕ, zero, suc, ◌≡◌, ◌≢◌, ◌<◌, inl, inr, Bool, true, false, cond, nat_eq, nat_lt, List, [], ◌∷◌, length, length-set, get_or, set, Some, None, refl, sym, ap, ◌∙◌, arith}
 use Rattle.std.specs.List.{slice_get}
 use Rattle.std.specs.Option.{option_map}
-use Rattle.std.proofs.lemmas.Bool.{cases_eq, ne_eqb, eqb-true}
-use Rattle.std.proofs.lemmas.Option.{slice_get-get_or, slice_get_within, slice_get_past}
+use Rattle.std.proofs.lemmas.Bool.{cases_eq, eqb-true}
+use Rattle.std.proofs.lemmas.Option.{slice_get_within}
 use mathlib.Core.Path.{fun_ext}
 use Rattle.kc_types.specs.Limits.{frame_limit}
-use Rattle.kc_types.specs.declared.link.Link.{Link}
 use Rattle.kc_page.specs.declared.page.Page.{Page}
 use Rattle.kc_parts.specs.Held.{Held, place_of, is_filled, place_in, page_at, with_page, link_of, links_of}
 

@@ -1,17 +1,13 @@
 -- What is kept while pages are put back.
-use Rattle.std.proofs.Common.{ℕ, zero, suc, ◌≡◌, ◌≢◌, ◌<◌, ◌≤◌, ◌+◌, Bool, true, false, cond, ◌||◌, nat_eq, List, [], ◌∷◌, ◌++◌, length, get_or, refl, sym, ◌∙◌, ap, arith}
+use Rattle.std.proofs.Common.{ℕ, suc, ◌≡◌, ◌≢◌, ◌<◌, Bool, true, false, cond, nat_eq, List, [], ◌∷◌, ◌++◌, length, get_or, refl, sym, ◌∙◌, ap, arith}
 use Rattle.std.specs.Prelude.{Option, Some, None}
-use Rattle.std.specs.Option.{option_map}
 use Rattle.std.proofs.lemmas.List.{get_or_append_left}
 use Rattle.std.proofs.Math.Seq.{get_or-append_seam}
 use Rattle.std.proofs.Math.ListN.{length-append}
-use Rattle.kc_types.specs.declared.resource.Resource.{Resource}
-use Rattle.kc_types.specs.declared.resource.Resource.TheVariants as resource
 use Rattle.kc_page.specs.declared.page.Page.{Page}
-use Rattle.kc_parts.specs.Held.{Held, IsRising, place_of, page_at, vm_at}
-use Rattle.kc_parts.specs.Cuts.{HeldPart, held_at, either, IsJoin}
-use Rattle.kc_parts.specs.Cuts.HeldPart.{page_part, slot_part, ends_part}
-use Rattle.kc_parts.specs.Moves.{IsEmptyPlace, IsLaid, IsWrite, only_at}
+use Rattle.kc_parts.specs.Held.{Held, IsRising, page_at}
+use Rattle.kc_parts.specs.Cuts.{either}
+use Rattle.kc_parts.specs.Moves.{IsEmptyPlace, IsLaid, only_at}
 use Rattle.kc_parts.proofs.Filled.{cells, cell_in, cells-append, length-cells, cell-no_place, eqb-yes, eqb-no, same-number}
 use Rattle.kc_parts.proofs.SlotMoves.{either-none}
 
@@ -62,7 +58,7 @@ put-step ns cs n c before after l up fits laid =
     record {
       rising = front-rising ns n up;
       fits = λ f page e. fits_at f page e (nat_eq f n) refl;
-      joined = λ f. joined_at f (nat_eq f n) refl
+      joined = λ f. joined_at f (nat_eq f n) refl;
     }
   where
     fits_at : (f : ℕ) (page : Page) → cell_in ns cs f ≡ Some page → (b : Bool) → nat_eq f n ≡ b → IsEmptyPlace after f
@@ -72,6 +68,7 @@ put-step ns cs n c before after l up fits laid =
     fits_at f page e false same =
         let was = fits f page (cell-last ns cs n c f l (below-last ns n up) ∙ rw e refl) in
         (rw laid.numbers was.0, laid.pages f ∙ rw (was.1, same) refl)
+
     joined_at : (f : ℕ) (b : Bool) → nat_eq f n ≡ b → either (page_at after f) (cell_in ns cs f) ≡ either (page_at before f) (cell_in (ns ++ n ∷ []) (cs ++ c ∷ []) f)
     joined_at f true same =
         let gone : cell_in ns cs f ≡ None = rw (same-number f n same) (cell-no_place ns cs n (below-last ns n up)) in
@@ -105,7 +102,7 @@ last-empty all_ns ns all_hs hs all_ps ps n b p h last up fits e =
     let lengths = rest-lengths all_ns ns all_hs hs all_ps ps n b p last in
     let all = cells-all hs all_hs ps all_ps b p last.here last.pages (lengths.0 ∙ sym lengths.1) in
     empty-at_last ns (cells hs ps) n (cond b (Some p) None) h (length-cells hs ps (lengths.0 ∙ sym lengths.1) ∙ lengths.0) (rw (← last.numbers) up)
-      (λ f page is. fits f page (rw (last.numbers, all) is)) p (rw e refl)
+    (λ f page is. fits f page (rw (last.numbers, all) is)) p (rw e refl)
 
 pub put-last : (all_ns ns : List ℕ) (all_hs hs : List Bool) (all_ps ps : List Page) (n : ℕ) (b : Bool) (p : Page) (before after : Held) → IsLast all_ns ns all_hs hs all_ps ps n b p → IsRising all_ns
     → ((f : ℕ) (page : Page) → cell_in all_ns (cells all_hs all_ps) f ≡ Some page → IsEmptyPlace before f) → IsLaid (only_at n (cond b (Some p) None)) before after
@@ -114,8 +111,8 @@ put-last all_ns ns all_hs hs all_ps ps n b p before after last up fits laid =
     let lengths = rest-lengths all_ns ns all_hs hs all_ps ps n b p last in
     let all = cells-all hs all_hs ps all_ps b p last.here last.pages (lengths.0 ∙ sym lengths.1) in
     rw (last.numbers, all)
-      (put-step ns (cells hs ps) n (cond b (Some p) None) before after (length-cells hs ps (lengths.0 ∙ sym lengths.1) ∙ lengths.0) (rw (← last.numbers) up)
-        (λ f page is. fits f page (rw (last.numbers, all) is)) laid)
+    (put-step ns (cells hs ps) n (cond b (Some p) None) before after (length-cells hs ps (lengths.0 ∙ sym lengths.1) ∙ lengths.0) (rw (← last.numbers) up)
+    (λ f page is. fits f page (rw (last.numbers, all) is)) laid)
 
 pub cells-end : (ns : List ℕ) (cs : List (Option Page)) (f : ℕ) → length ns ≡ 0 → cell_in ns cs f ≡ None
 cells-end [] cs f e = refl

@@ -1,23 +1,21 @@
 -- What parts are seen as, and how that changes with one page.
-use Rattle.std.proofs.Common.{ℕ, zero, suc, ◌≡◌, ◌≢◌, ◌<◌, ◌≤◌, ◌+◌, inl, inr, Bool, true, false, List, [], ◌∷◌, length, get_or, set, map, Option, Some, None, is_some, refl, sym, ap, ◌∙◌, arith}
+use Rattle.std.proofs.Common.{ℕ, zero, suc, ◌≡◌, ◌≢◌, ◌<◌, ◌≤◌, ◌+◌, inl, inr, List, [], ◌∷◌, set, map, Option, Some, None, is_some, refl, sym, ap, ◌∙◌, arith}
 use Rattle.std.specs.List.{range_with_len}
 use Rattle.std.specs.Option.{option_map}
-use Rattle.std.proofs.lemmas.Bool.{cases_eq, cases_lt}
-use Rattle.std.proofs.lemmas.List.{get_or_past}
-use Rattle.std.proofs.lemmas.List.FromFn.{get_or-map-range_with_len, length-map-range_with_len}
+use Rattle.std.proofs.lemmas.Bool.{cases_eq}
+use Rattle.std.proofs.lemmas.List.FromFn.{get_or-map-range_with_len}
 use Rattle.kc_types.specs.Configuration.{Configuration, slot_count}
 use Rattle.kc_types.specs.declared.link.Ends.{Ends}
-use Rattle.kc_types.specs.declared.link.Link.{Link}
 use Rattle.kc_types.specs.declared.owner.Owner.{Owner}
 use Rattle.kc_types.specs.declared.owner.Owner.TheVariants.{Core, Host, Free, Vm}
 use Rattle.kc_model.specs.Lawful.{times_in}
-use Rattle.kc_model.specs.State.{State, Frame, Slot, frame_at, slot_at, with_frame, untouched, empty_slot}
+use Rattle.kc_model.specs.State.{frame_at, slot_at, with_frame, untouched, empty_slot}
 use Rattle.kc_page.specs.declared.page.Page.{Page}
 use Rattle.kc_page.specs.Pages.{frame_of}
 use Rattle.kc_links.specs.Chain.{Links, unlinked}
 use Rattle.kc_links.specs.Ending.{listed}
 use Rattle.kc_parts.specs.Held.{Held, page_at, vm_at, links_of, link_of, ends_at, with_page}
-use Rattle.kc_parts.specs.States.{frame_in, slot_in, list_in, state_of, owner_at, AreLists, IsLinked}
+use Rattle.kc_parts.specs.States.{frame_in, slot_in, list_in, state_of, owner_at, IsLinked}
 use Rattle.kc_parts.proofs.Pages.{page-set, page-other, kept-at, links-kept}
 use Rattle.kc_parts.proofs.Moving.{lists-owner, lists-same}
 
@@ -77,7 +75,7 @@ linked-kept config h f old new linked is same owner = record {
   frames = λ g here. linked.frames g (sym (here-page h f old new is g) ∙ here);
   vms = linked.vms;
   lists = lists-same (links_of h) (links_of (with_page h f new)) (ends_at h) (ends_at (with_page h f new)) (owner_at h) (owner_at (with_page h f new))
-    (links-kept h f old new is same) (ends-page h f new) (λ g. owner-of (page_at h g) (page_at (with_page h f new) g) (kept-at (λ (page : Page). page.meta.owner) h f old new is owner g)) linked.lists;
+      (links-kept h f old new is same) (ends-page h f new) (λ g. owner-of (page_at h g) (page_at (with_page h f new) g) (kept-at (λ (page : Page). page.meta.owner) h f old new is owner g)) linked.lists;
 }
   where
     owner-of : (a b : Option Page) → option_map (λ (page : Page). page.meta.owner) b ≡ option_map (λ (page : Page). page.meta.owner) a → (frame_in b).owner ≡ (frame_in a).owner
@@ -97,8 +95,8 @@ linked-moved config h f old new linked is same none alone = record {
   frames = λ g here. linked.frames g (sym (here-page h f old new is g) ∙ here);
   vms = linked.vms;
   lists = lists-owner (links_of (with_page h f new)) (ends_at (with_page h f new)) (owner_at h) (owner_at (with_page h f new)) f
-    (lists-same (links_of h) (links_of (with_page h f new)) (ends_at h) (ends_at (with_page h f new)) (owner_at h) (owner_at h) (links-kept h f old new is same) (ends-page h f new) (λ g. refl) linked.lists)
-    (λ g other. ap (λ there. (frame_in there).owner) (page-other h f g old new is other))
-    (λ p e here. rw (links-kept h f old new is same) (none p e (sym (ends-page h f new p) ∙ here)))
-    (λ host. ap (λ (l : Links). l f) (links-kept h f old new is same) ∙ alone (sym (ap (λ there. (frame_in there).owner) (page-set h f old new is)) ∙ host));
+      (lists-same (links_of h) (links_of (with_page h f new)) (ends_at h) (ends_at (with_page h f new)) (owner_at h) (owner_at h) (links-kept h f old new is same) (ends-page h f new) (λ g. refl) linked.lists)
+      (λ g other. ap (λ there. (frame_in there).owner) (page-other h f g old new is other))
+      (λ p e here. rw (links-kept h f old new is same) (none p e (sym (ends-page h f new p) ∙ here)))
+      (λ host. ap (λ (l : Links). l f) (links-kept h f old new is same) ∙ alone (sym (ap (λ there. (frame_in there).owner) (page-set h f old new is)) ∙ host));
 }

@@ -1,7 +1,6 @@
 -- Slots that move from list to list.
-use Rattle.std.proofs.Common.{ℕ, zero, suc, ◌≡◌, ◌≢◌, ◌<◌, ◌≤◌, ◌+◌, Bool, true, false, cond, ◌||◌, nat_eq, List, [], ◌∷◌, ◌++◌, length, get_or, set, take, refl, sym, ◌∙◌, ap, arith}
+use Rattle.std.proofs.Common.{ℕ, zero, suc, ◌≡◌, ◌<◌, ◌+◌, Bool, true, false, cond, ◌||◌, nat_eq, List, [], ◌∷◌, length, get_or, set, take, refl, sym, ◌∙◌, ap, arith}
 use Rattle.std.specs.Prelude.{Option, Some, None}
-use Rattle.std.proofs.lemmas.Bool.Decides.{nat_tests}
 use Rattle.std.proofs.lemmas.Bool.{eqb-false}
 use Rattle.std.proofs.lemmas.List.{get_or-set_same, get_or-set_other}
 use Rattle.std.proofs.lemmas.List.Folds.{list_any_more}
@@ -10,7 +9,7 @@ use Rattle.kc_types.specs.declared.resource.Resource.TheVariants as resource
 use Rattle.kc_vms.specs.Slots.{VmSlot}
 use Rattle.kc_parts.specs.Cuts.{is_wanted, same, either}
 use Rattle.kc_parts.specs.Moves.{slot_of}
-use Rattle.kc_parts.proofs.Filled.{same-number, eqb-yes, eqb-no}
+use Rattle.kc_parts.proofs.Filled.{same-number, eqb-yes}
 
 pub either-none : {X : Type 0} → (o : Option X) → either o None ≡ o
 either-none None = refl
@@ -38,6 +37,7 @@ moved-more from to start at v was now h moved left e =
     by_was : (b : Bool) (o : Option VmSlot) → either (cond b None o) (cond b o None) ≡ o
     by_was true o = refl
     by_was false o = either-none o
+
     by_test : (b : Bool) → nat_eq v at ≡ b → (d : Bool) → was v ≡ d → cond b (either (slot_of from at) (slot_of to at)) (cond d (slot_of start v) None) ≡ cond (d || b) (slot_of start v) None
     by_test true e true f = rw (same-number v at e, left at, moved at) (by_was (was at) (slot_of start at))
     by_test true e false f = rw (same-number v at e, left at, moved at) (by_was (was at) (slot_of start at))
@@ -69,6 +69,7 @@ wanted-no_slot wanted i v r h is none =
     or-false : (b : Bool) → (b || false) ≡ b
     or-false true = refl
     or-false false = refl
+
     by_kind : (s : Resource) → ((at : ℕ) → s ≡ resource.Vm at → ⊥) → (is_wanted (take i wanted) (resource.Vm v) || same (resource.Vm v) s) ≡ is_wanted (take i wanted) (resource.Vm v)
     by_kind (resource.Frame f) none = or-false _
     by_kind (resource.Vm w) none = absurd (none w refl)

@@ -1,13 +1,10 @@
 -- What was taken out fits back, and gives what there was before.
-use Rattle.std.proofs.Common.{ℕ, ◌≡◌, ◌<◌, Bool, true, false, cond, List, refl, sym, ◌∙◌, ap, arith}
-use Rattle.std.specs.Prelude.{Option, Some, None, length}
+use Rattle.std.proofs.Common.{◌≡◌, Bool, true, false, cond, refl, ◌∙◌}
+use Rattle.std.specs.Prelude.{Option, Some, None}
 use Rattle.std.specs.Option.{option_map}
-use Rattle.kc_types.specs.declared.link.Ends.{Ends}
 use Rattle.kc_types.specs.declared.resource.Resource.{Resource}
 use Rattle.kc_types.specs.declared.resource.Resource.TheVariants as resource
-use Rattle.kc_page.specs.declared.page.Page.{Page}
-use Rattle.kc_vms.specs.Slots.{VmSlot}
-use Rattle.kc_parts.specs.Held.{Held, place_of, page_at, vm_at}
+use Rattle.kc_parts.specs.Held.{Held, page_at, vm_at}
 use Rattle.kc_parts.specs.Cuts.{HeldPart, held_at, IsSplit, FitsInto, IsJoin, either}
 use Rattle.kc_parts.specs.Cuts.HeldPart.{page_part, slot_part, ends_part}
 use Rattle.kc_parts.proofs.Writing.{place-here}
@@ -30,16 +27,16 @@ some-split part false before rest (Some y) one took left x e = cc
 
 pub split_fits : (before : Held) (test : Resource → Bool) (rest taken : Held) → IsSplit before test rest taken → FitsInto rest taken
 split_fits before test rest taken split = record {
-    pages = λ f page e.
+  pages = λ f page e.
       let both = some-split page_part (test (resource.Frame f)) (page_at before f) (page_at rest f) (page_at taken f) (λ x y same. cc) (split.taken_is (resource.Frame f)) (split.rest_is (resource.Frame f)) page e in
       (rw split.places (place-here before.numbers before.here before.pages f (rw both.0 refl)), both.1);
-    slots = λ v vm e.
+  slots = λ v vm e.
       let both = some-split slot_part (test (resource.Vm v)) (vm_at before v) (vm_at rest v) (vm_at taken v) (λ x y same. cc) (split.taken_is (resource.Vm v)) (split.rest_is (resource.Vm v)) vm e in
       (rw split.slots (slot-within before.vms v vm both.0), both.1);
-    ends = λ ends e.
+  ends = λ ends e.
       let both = some-split ends_part (test resource.Free) before.free rest.free taken.free (λ x y same. cc) (split.taken_is resource.Free) (split.rest_is resource.Free) ends e in
-      both.1
-  }
+      both.1;
+}
 
 pub split_joined : (before : Held) (test : Resource → Bool) (rest taken after : Held) → IsSplit before test rest taken → IsJoin rest taken after → (r : Resource) → held_at after r ≡ held_at before r
 split_joined before test rest taken after split join r = join r ∙ rw (split.rest_is r, split.taken_is r) (by_test (test r))

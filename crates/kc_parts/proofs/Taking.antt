@@ -1,5 +1,5 @@
 -- What is kept while pages are taken out, and what the whole comes to.
-use Rattle.std.proofs.Common.{ℕ, zero, suc, ◌≡◌, ◌≢◌, ◌<◌, ◌≤◌, ◌+◌, Bool, true, false, cond, ◌||◌, nat_eq, List, [], ◌∷◌, ◌++◌, length, get_or, take, map, replicate, refl, sym, ◌∙◌, ap, arith}
+use Rattle.std.proofs.Common.{ℕ, zero, suc, ◌≡◌, ◌<◌, ◌≤◌, ◌+◌, Bool, true, false, cond, nat_eq, List, [], ◌∷◌, length, get_or, take, map, replicate, refl, sym, ◌∙◌, ap, arith}
 use Rattle.std.specs.Prelude.{Option, Some, None, IsSome}
 use Rattle.std.specs.Option.{option_map}
 use Rattle.std.proofs.lemmas.List.{length-map, length-replicate}
@@ -49,8 +49,8 @@ pub pages-taken : (ns : List ℕ) (hs : List Bool) (ps : List Page) (start : Hel
     → (f : ℕ) → page_among ns hs ps f ≡ cond (is_among ns f) (page_at start f) None
 pages-taken ns hs ps start held filled are f =
     page_at-cells ns hs ps f held.here held.pages
-      ∙ ap (λ cs. cell_in ns cs f) (ap (λ bs. cells bs ps) filled ∙ cells-filled ps ∙ are)
-      ∙ cell-by_numbers ns (page_at start) f
+    ∙ ap (λ cs. cell_in ns cs f) (ap (λ bs. cells bs ps) filled ∙ cells-filled ps ∙ are)
+    ∙ cell-by_numbers ns (page_at start) f
 
 part-if : {A : Type 0} → (part : A → HeldPart) (b : Bool) (o : Option A) → option_map part (cond b o None) ≡ cond b (option_map part o) None
 part-if part true o = refl
@@ -67,17 +67,18 @@ pub split-whole : (wanted : List Resource) (ns : List ℕ) (start rest taken : H
     → taken.free ≡ cond (is_wanted wanted resource.Free) start.free None → rest.free ≡ cond (is_wanted wanted resource.Free) None start.free
     → rest.numbers ≡ start.numbers → length rest.vms ≡ length start.vms → IsSplit start (is_wanted wanted) rest taken
 split-whole wanted ns start rest taken among pages others slots left ends kept places room = record {
-    taken_is = taken_at;
-    rest_is = rest_at;
-    places = places;
-    slots = room
-  }
+  taken_is = taken_at;
+  rest_is = rest_at;
+  places = places;
+  slots = room;
+}
   where
     taken_at : (r : Resource) → held_at taken r ≡ cond (is_wanted wanted r) (held_at start r) None
     taken_at (resource.Frame f) =
         ap (option_map page_part) (pages f ∙ ap (λ b. cond b (page_at start f) None) (among f)) ∙ part-if page_part (is_wanted wanted (resource.Frame f)) (page_at start f)
     taken_at (resource.Vm v) = ap (option_map slot_part) (slots v) ∙ part-if slot_part (is_wanted wanted (resource.Vm v)) (vm_at start v)
     taken_at resource.Free = ap (option_map ends_part) ends ∙ part-if ends_part (is_wanted wanted resource.Free) start.free
+
     rest_at : (r : Resource) → held_at rest r ≡ cond (is_wanted wanted r) None (held_at start r)
     rest_at (resource.Frame f) =
         ap (option_map page_part) (others f ∙ ap (λ b. cond b None (page_at start f)) (among f)) ∙ part-unless page_part (is_wanted wanted (resource.Frame f)) (page_at start f)
@@ -98,14 +99,14 @@ split-end wanted ns hs ps vms ends start mid freed rest asked n are filled count
     let held : IsHeld ns hs ps = record { rising = are.rising; frames = are.frames; here = ap length filled ∙ length-replicate n true ∙ count; pages = same } in
     let unmoved = same-pages start mid freed (cond asked None mid.free) slots_only kept in
     split-whole wanted ns start rest (record { numbers = ns; here = hs; pages = ps; vms = vms; free = ends }) are.members
-      (λ f. pages-taken ns hs ps freed held (filled ∙ ap (λ k. replicate k true) (count ∙ sym same)) pages f ∙ ap (λ o. cond (is_among ns f) o None) (unmoved f))
-      (λ f. lifted.pages f ∙ ap (cond (is_among ns f) None) (unmoved f))
-      slots
-      (λ v. ap (λ vs. slot_of vs v) (lifted.vms ∙ ap (λ h. h.vms) kept) ∙ left v)
-      (took ∙ ap (λ b. cond b mid.free None) is ∙ ap (λ o. cond (is_wanted wanted resource.Free) o None) (ap (λ h. h.free) slots_only))
-      (lifted.free ∙ ap (λ h. h.free) kept ∙ ap (λ b. cond b None mid.free) is ∙ ap (cond (is_wanted wanted resource.Free) None) (ap (λ h. h.free) slots_only))
-      (lifted.numbers ∙ ap (λ h. h.numbers) kept ∙ ap (λ h. h.numbers) slots_only)
-      (ap length (lifted.vms ∙ ap (λ h. h.vms) kept) ∙ room)
+    (λ f. pages-taken ns hs ps freed held (filled ∙ ap (λ k. replicate k true) (count ∙ sym same)) pages f ∙ ap (λ o. cond (is_among ns f) o None) (unmoved f))
+    (λ f. lifted.pages f ∙ ap (cond (is_among ns f) None) (unmoved f))
+    slots
+    (λ v. ap (λ vs. slot_of vs v) (lifted.vms ∙ ap (λ h. h.vms) kept) ∙ left v)
+    (took ∙ ap (λ b. cond b mid.free None) is ∙ ap (λ o. cond (is_wanted wanted resource.Free) o None) (ap (λ h. h.free) slots_only))
+    (lifted.free ∙ ap (λ h. h.free) kept ∙ ap (λ b. cond b None mid.free) is ∙ ap (cond (is_wanted wanted resource.Free) None) (ap (λ h. h.free) slots_only))
+    (lifted.numbers ∙ ap (λ h. h.numbers) kept ∙ ap (λ h. h.numbers) slots_only)
+    (ap length (lifted.vms ∙ ap (λ h. h.vms) kept) ∙ room)
 
 -- all that came out is here
 pub taken-full : (wanted : List Resource) (start rest taken : Held) → AreHere start wanted → IsSplit start (is_wanted wanted) rest taken → AreAmong wanted taken.numbers → IsFull taken

@@ -1,5 +1,5 @@
 -- A write at the place of a frame.
-use Rattle.std.proofs.Common.{ℕ, zero, suc, ◌≡◌, ◌<◌, ◌≤◌, Bool, true, false, cond, nat_eq, List, [], ◌∷◌, length, get_or, set, refl, sym, ◌∙◌, ap, arith, length-set}
+use Rattle.std.proofs.Common.{ℕ, suc, ◌≡◌, ◌<◌, Bool, true, false, cond, nat_eq, List, [], ◌∷◌, length, get_or, set, refl, sym, ◌∙◌, ap, arith, length-set}
 use Rattle.std.specs.Prelude.{Option, Some, None, IsSome, slice_get}
 use Rattle.std.proofs.lemmas.Option.{slice_get_past}
 use Rattle.kc_types.specs.declared.link.Ends.{Ends}
@@ -39,21 +39,21 @@ place-here ns hs ps f h = by_filled (is_filled ns hs f) refl h
 pub write-place : (ns : List ℕ) (hs : List Bool) (ps : List Page) (vms : List (Option VmSlot)) (free : Option Ends) (f at : ℕ) (b : Bool) (p : Page)
     → IsHeld ns hs ps → at ≡ place_of ns f → place_of ns f < length ns
     → IsWrite f (cond b (Some p) None) (record { numbers = ns; here = hs; pages = ps; vms = vms; free = free })
-      (record { numbers = ns; here = set hs at b; pages = set ps at p; vms = vms; free = free })
+    (record { numbers = ns; here = set hs at b; pages = set ps at p; vms = vms; free = free })
 write-place ns hs ps vms free f at b p held is low = record {
-    numbers = refl;
-    vms = refl;
-    free = refl;
-    pages = λ g. rw is (after g)
-  }
+  numbers = refl;
+  vms = refl;
+  free = refl;
+  pages = λ g. rw is (after g);
+}
   where
     after : (g : ℕ) → page_among ns (set hs (place_of ns f) b) (set ps (place_of ns f) p) g ≡ cond (nat_eq g f) (cond b (Some p) None) (page_among ns hs ps g)
     after g =
         page_at-cells ns (set hs (place_of ns f) b) (set ps (place_of ns f) p) g (length-set hs (place_of ns f) b ∙ held.here) (length-set ps (place_of ns f) p ∙ held.pages)
-          ∙ ap (λ cs. cell_in ns cs g) (cells-set hs ps (place_of ns f) b p)
-          ∙ cell-set ns (cells hs ps) (place_of ns f) g (cond b (Some p) None) held.rising (length-cells hs ps (held.here ∙ sym held.pages) ∙ held.here) low
-          ∙ ap (λ n. cond (nat_eq g n) (cond b (Some p) None) (cell_in ns (cells hs ps) g)) (place-number ns f low)
-          ∙ ap (cond (nat_eq g f) (cond b (Some p) None)) (sym (page_at-cells ns hs ps g held.here held.pages))
+        ∙ ap (λ cs. cell_in ns cs g) (cells-set hs ps (place_of ns f) b p)
+        ∙ cell-set ns (cells hs ps) (place_of ns f) g (cond b (Some p) None) held.rising (length-cells hs ps (held.here ∙ sym held.pages) ∙ held.here) low
+        ∙ ap (λ n. cond (nat_eq g n) (cond b (Some p) None) (cell_in ns (cells hs ps) g)) (place-number ns f low)
+        ∙ ap (cond (nat_eq g f) (cond b (Some p) None)) (sym (page_at-cells ns hs ps g held.here held.pages))
 
 pub filled-here : (ns : List ℕ) (hs : List Bool) (ps : List Page) (f : ℕ) → IsSome (page_among ns hs ps f) → is_filled ns hs f ≡ true
 filled-here ns hs ps f h = by_filled (is_filled ns hs f) refl h

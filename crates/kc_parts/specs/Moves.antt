@@ -1,12 +1,12 @@
 -- The steps by which parts are taken out and put back.
-use Rattle.std.specs.Prelude.{ℕ, ◌≡◌, ◌<◌, ◌==◌, Bool, cond, List, map, length, get_or, slice_get, slice_index_or, true, Option, Some, None}
+use Rattle.std.specs.Prelude.{ℕ, ◌≡◌, ◌<◌, ◌==◌, Bool, cond, List, length, get_or, slice_get, slice_index_or, Option, None}
 use Rattle.std.specs.List.{list_any}
 use Rattle.kc_types.specs.Limits.{frame_limit}
 use Rattle.kc_types.specs.declared.resource.Resource.{Resource}
 use Rattle.kc_types.specs.declared.resource.Resource.TheVariants as resource
 use Rattle.kc_page.specs.declared.page.Page.{Page}
 use Rattle.kc_vms.specs.Slots.{VmSlot}
-use Rattle.kc_parts.specs.Held.{Held, IsRising, place_of, is_filled, page_at, vm_at}
+use Rattle.kc_parts.specs.Held.{Held, IsRising, place_of, is_filled, page_at}
 use Rattle.kc_parts.specs.Cuts.{is_wanted, either}
 
 -- the number is in the list

@@ -9,11 +9,7 @@ use kc_types::Resource;
 use kc_vms::Vm;
 
 /// Moves the slots among the resources.
-pub(crate) fn move_slots(
-    from: &mut Vec<Option<Vm>>,
-    to: &mut Vec<Option<Vm>>,
-    wanted: &[Resource],
-)
+pub(crate) fn move_slots(from: &mut Vec<Option<Vm>>, to: &mut Vec<Option<Vm>>, wanted: &[Resource])
     requires room { (v : ℕ) → is_wanted wanted.now (resource.Vm v) ≡ true → (v < length from.old.items) × (v < length to.old.items) }
     requires empty { (v : ℕ) → slot_of to.old.items v ≡ None }
     ensures moved { (v : ℕ) → slot_of to.new.items v ≡ cond (is_wanted wanted.now (resource.Vm v)) (slot_of from.old.items v) None }

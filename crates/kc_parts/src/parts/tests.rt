@@ -49,7 +49,13 @@ fn a_page_a_slot_and_the_free_list_go_out_and_come_back(rt: HostRuntime) -> Resu
         assert!(rt; !parts.has(Resource::Frame(second)));
         assert!(rt; !parts.has(Resource::Vm(slot)));
         assert!(rt; parts.free().is_none());
-        assert_eq!(rt; taken.room(), Room { frames: 1, slots: 1 });
+        assert_eq!(rt;
+            taken.room(),
+            Room {
+                frames: 1,
+                slots: 1
+            }
+        );
         match taken.frame(second) {
             Some(page) => assert!(rt; page.bytes.as_slice().starts_with(b"abc")),
             None => assert!(rt; false),

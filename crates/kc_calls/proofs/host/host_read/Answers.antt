@@ -1,4 +1,4 @@
-use Rattle.std.proofs.Common.{◌≡◌, ◌<◌, ◌+◌, Some, refl, sym, ap, ◌∙◌, slice_range}
+use Rattle.std.proofs.Common.{◌≡◌, ◌+◌, Some, sym, ap, ◌∙◌, slice_range}
 use Rattle.kc_types.specs.declared.reply.Reply.TheVariants as reply
 use Rattle.kc_model.specs.State.{Frame}
 use Rattle.kc_model.proofs.Served.{host_access-served}

@@ -1,4 +1,4 @@
-use Rattle.std.proofs.Common.{◌≡◌, ◌<◌, ◌≤◌, inl, inr, refl, sym}
+use Rattle.std.proofs.Common.{inl, inr, refl, sym}
 use Rattle.std.proofs.lemmas.Bool.{cases_lt}
 use Rattle.kc_calls.proofs.Looked.{meta-here, meta-absent, meta-past}
 use Rattle.kc_calls.proofs.look_ups.record_at.Goals as goal

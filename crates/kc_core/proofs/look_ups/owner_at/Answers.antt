@@ -1,4 +1,4 @@
-use Rattle.std.proofs.Common.{◌≡◌, ◌<◌, sym, ap, ◌∙◌}
+use Rattle.std.proofs.Common.{◌≡◌, sym, ap, ◌∙◌}
 use Rattle.kc_model.specs.State.{Frame}
 use Rattle.kc_parts.specs.States.{frame_in}
 use Rattle.kc_parts.proofs.Seen.{frame-seen}

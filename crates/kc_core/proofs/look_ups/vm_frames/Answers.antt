@@ -1,4 +1,4 @@
-use Rattle.std.proofs.Common.{◌≡◌, ◌<◌, ◌≤◌, sym, arith}
+use Rattle.std.proofs.Common.{◌<◌, ◌≤◌, sym}
 use Rattle.kc_types.specs.Configuration.{slot_count}
 use Rattle.kc_core.proofs.Shown.{vm-past, vm-listed, vm-absent}
 use Rattle.kc_core.proofs.look_ups.vm_frames.Goals as goal

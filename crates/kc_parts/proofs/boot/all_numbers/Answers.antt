@@ -1,4 +1,4 @@
-use Rattle.std.proofs.Common.{◌≡◌, ap, ◌∙◌, ◌++◌, ◌∷◌, [], sym}
+use Rattle.std.proofs.Common.{ap, ◌∙◌, ◌++◌, ◌∷◌, [], sym}
 use Rattle.kc_parts.proofs.Boots.{numbers-more}
 use Rattle.kc_parts.proofs.boot.all_numbers.Goals as goal
 

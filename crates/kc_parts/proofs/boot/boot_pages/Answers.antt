@@ -1,4 +1,4 @@
-use Rattle.std.proofs.Common.{◌≡◌, ap, ◌∙◌, ◌++◌, ◌∷◌, [], map, sym}
+use Rattle.std.proofs.Common.{ap, ◌∙◌, ◌++◌, ◌∷◌, [], map, sym}
 use Rattle.std.specs.List.{range_with_len}
 use Rattle.kc_parts.specs.Booting.{boot_page}
 use Rattle.kc_parts.proofs.Boots.{pages-more}

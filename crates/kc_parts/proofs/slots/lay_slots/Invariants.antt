@@ -10,7 +10,7 @@ abbrev pub invariant-loop-slot : goal.invariant-loop-slot
 invariant-loop-slot l = record {
   fits : (v : ℕ) (vm : VmSlot) → slot_of l.from.items v ≡ Some vm → (v < length l.into.items) × (slot_of l.into.items v ≡ None);
   joined : (v : ℕ) → either (slot_of l.into.items v) (slot_of l.from.items v) ≡ either (slot_of l.initial.into.items v) (slot_of l.initial.from.items v);
-  same_into : length l.into.items ≡ length l.initial.into.items
+  same_into : length l.into.items ≡ length l.initial.into.items;
 }
 
 abbrev pub decreases-loop-slot : goal.decreases-loop-slot

@@ -1,4 +1,4 @@
-use Rattle.std.proofs.Common.{ℕ, ◌≡◌, ◌<◌, ◌+◌, Bool, ◌||◌, nat_eq, true, length, get_or, take, set, ◌∙◌, sym, ap, refl, arith, length-set}
+use Rattle.std.proofs.Common.{ℕ, ◌<◌, ◌+◌, length, take, ◌∙◌, sym, ap, length-set}
 use Rattle.kc_types.specs.declared.resource.Resource.TheVariants as resource
 use Rattle.kc_parts.specs.Cuts.{is_wanted}
 use Rattle.kc_parts.proofs.SlotMoves.{moved-more, left-more, wanted-slot, wanted-no_slot, wanted-here}
@@ -38,7 +38,7 @@ loop-resource-preserved c =
             moved = λ v. rw (w.to-is, w.move_slot.ensures.moved) (moved-more from to start at v before after low_to was.moved was.left (more v));
             left = λ v. rw (w.from-is, w.move_slot.ensures.left) (left-more from start at v before after low_from was.left (more v));
             same_from = rw (w.from-is, w.move_slot.ensures.left) (length-set from at _ ∙ was.same_from);
-            same_to = rw (w.to-is, w.move_slot.ensures.moved) (length-set to at _ ∙ was.same_to)
+            same_to = rw (w.to-is, w.move_slot.ensures.moved) (length-set to at _ ∙ was.same_to);
           }
       | in_default w ↦
           let same = λ (v : ℕ). wanted-no_slot wanted i v c.resource-item.result within c.resource-item.is w.in_default.not-Vm in
@@ -46,6 +46,6 @@ loop-resource-preserved c =
             moved = λ v. rw (w.to-is, same v) (was.moved v);
             left = λ v. rw (w.from-is, same v) (was.left v);
             same_from = rw w.from-is was.same_from;
-            same_to = rw w.to-is was.same_to
+            same_to = rw w.to-is was.same_to;
           }
     ]

@@ -10,5 +10,5 @@ invariant-loop-resource l = record {
   moved : (v : ℕ) → slot_of l.to.items v ≡ cond (is_wanted (take l.resource-index l.wanted) (resource.Vm v)) (slot_of l.initial.from.items v) None;
   left : (v : ℕ) → slot_of l.from.items v ≡ cond (is_wanted (take l.resource-index l.wanted) (resource.Vm v)) None (slot_of l.initial.from.items v);
   same_from : length l.from.items ≡ length l.initial.from.items;
-  same_to : length l.to.items ≡ length l.initial.to.items
+  same_to : length l.to.items ≡ length l.initial.to.items;
 }

@@ -1,4 +1,3 @@
-use Rattle.std.proofs.Common.{sym}
 use Rattle.kc_model.proofs.AtBoot.{lawful-boot}
 use Rattle.kc_core.proofs.one_thread.KCore.boot.Goals as goal
 

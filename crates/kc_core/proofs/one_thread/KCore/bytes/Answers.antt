@@ -1,4 +1,4 @@
-use Rattle.std.proofs.Common.{◌≡◌, ◌<◌, refl, sym, ap}
+use Rattle.std.proofs.Common.{◌≡◌, refl, sym, ap}
 use Rattle.kc_model.specs.State.{Frame}
 use Rattle.kc_core.proofs.Shown.{frame-shown}
 use Rattle.kc_core.proofs.one_thread.KCore.bytes.Goals as goal

@@ -1,4 +1,4 @@
-use Rattle.std.proofs.Common.{◌≡◌, ◌<◌, refl}
+use Rattle.std.proofs.Common.{◌≡◌, refl}
 use Rattle.kc_core.proofs.Shown.{record-shown}
 use Rattle.kc_core.proofs.one_thread.KCore.page_record.Goals as goal
 

@@ -1,4 +1,3 @@
-use Rattle.std.proofs.Common.{◌∙◌}
 use Rattle.kc_parts.proofs.Full.{full_from_whole}
 use Rattle.kc_core.proofs.Wiped.{frames-whole}
 use Rattle.kc_core.proofs.one_thread.KCore.pages.Goals as goal

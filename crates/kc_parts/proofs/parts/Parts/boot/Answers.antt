@@ -1,8 +1,7 @@
-use Rattle.std.proofs.Common.{◌≡◌, Some, refl, sym, ap, ◌∙◌, subst}
-use Rattle.kc_parts.specs.Held.{Held}
+use Rattle.std.proofs.Common.{Some, sym, ap, ◌∙◌, subst}
 use Rattle.kc_parts.specs.States.{state_of, IsLinked}
 use Rattle.kc_parts.specs.Booting.{IsWhole}
-use Rattle.kc_parts.proofs.Booted.{booted, made, is_held-boot, linked-boot, whole-boot, state-boot}
+use Rattle.kc_parts.proofs.Booted.{made, is_held-boot, linked-boot, whole-boot, state-boot}
 use Rattle.kc_parts.proofs.parts.Parts.boot.Goals as goal
 
 pub invariant_of-result : goal.invariant_of-result

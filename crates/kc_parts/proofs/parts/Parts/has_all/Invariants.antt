@@ -1,6 +1,4 @@
-use Rattle.std.proofs.Common.{◌≡◌, true, take}
-use Rattle.std.specs.Prelude.{IsSome}
-use Rattle.kc_types.specs.declared.resource.Resource.{Resource}
+use Rattle.std.proofs.Common.{take}
 use Rattle.kc_parts.specs.Cuts.{AreHere}
 use Rattle.kc_parts.proofs.parts.Parts.has_all.Given as goal
 

@@ -20,7 +20,7 @@ loop-number-init c =
       vms = refl;
       free = refl;
       fits = λ f page e. c.requires.fits f page (page_at-cells ns hs ps f held.here held.pages ∙ e);
-      joined = λ f. refl
+      joined = λ f. refl;
     }
 
 pub lay_back-requires : goal.lay_back-requires
@@ -28,7 +28,7 @@ lay_back-requires c =
     let l = c.loop-number in
     let was = l.invariant in
     let last : IsLast l.numbers.items c.pop.new.self.items l.here.items c.pop-in-Some.new.self.items l.pages.items c.pop-in-Some-2.new.self.items c.in-Some.number c.in-Some-Some.filled c.in-Some-Some.page =
-      record { numbers = c.in-Some.ensures.items; here = c.in-Some-Some.ensures.items; pages = c.in-Some-Some.ensures'.items; same_here = was.same_here; same_pages = was.same_pages } in
+    record { numbers = c.in-Some.ensures.items; here = c.in-Some-Some.ensures.items; pages = c.in-Some-Some.ensures'.items; same_here = was.same_here; same_pages = was.same_pages } in
     last-empty _ _ _ _ _ _ c.in-Some.number c.in-Some-Some.filled c.in-Some-Some.page l.self last was.rising was.fits
 
 pub loop-number-preserved : goal.loop-number-preserved
@@ -36,7 +36,7 @@ loop-number-preserved c =
     let l = c.loop-number in
     let was = l.invariant in
     let last : IsLast l.numbers.items c.pop.new.self.items l.here.items c.pop-in-Some.new.self.items l.pages.items c.pop-in-Some-2.new.self.items c.in-Some.number c.in-Some-Some.filled c.in-Some-Some.page =
-      record { numbers = c.in-Some.ensures.items; here = c.in-Some-Some.ensures.items; pages = c.in-Some-Some.ensures'.items; same_here = was.same_here; same_pages = was.same_pages } in
+    record { numbers = c.in-Some.ensures.items; here = c.in-Some-Some.ensures.items; pages = c.in-Some-Some.ensures'.items; same_here = was.same_here; same_pages = was.same_pages } in
     let lengths = rest-lengths _ _ _ _ _ _ c.in-Some.number c.in-Some-Some.filled c.in-Some-Some.page last in
     let step = put-last _ _ _ _ _ _ c.in-Some.number c.in-Some-Some.filled c.in-Some-Some.page l.self c.lay_back.new.self last was.rising was.fits c.lay_back.ensures in
     record {
@@ -47,7 +47,7 @@ loop-number-preserved c =
       vms = c.lay_back.ensures.vms ∙ was.vms;
       free = c.lay_back.ensures.free ∙ was.free;
       fits = step.fits;
-      joined = λ f. step.joined f ∙ was.joined f
+      joined = λ f. step.joined f ∙ was.joined f;
     }
 
 pub returns : goal.returns
@@ -60,8 +60,8 @@ returns c =
       vms = was.vms;
       free = was.free;
       pages = λ f.
-        sym (either-none (page_at l.self f))
+          sym (either-none (page_at l.self f))
           ∙ ap (either (page_at l.self f)) (sym (cells-end l.numbers.items (cells l.here.items l.pages.items) f (omega (arith, c.in_default.ensures.cases.0, l.numbers.ok.0))))
           ∙ was.joined f
-          ∙ ap (either (page_at c.args.self.now f)) (sym (page_at-cells c.args.numbers.items c.args.here.items c.args.pages.items f held.here held.pages))
+          ∙ ap (either (page_at c.args.self.now f)) (sym (page_at-cells c.args.numbers.items c.args.here.items c.args.pages.items f held.here held.pages));
     }

@@ -18,7 +18,7 @@ invariant-loop-number l = record {
   free : l.self.free ≡ l.initial.self.free;
   fits : (f : ℕ) (page : Page) → cell_in l.numbers.items (cells l.here.items l.pages.items) f ≡ Some page → IsEmptyPlace l.self f;
   joined : (f : ℕ) → either (page_at l.self f) (cell_in l.numbers.items (cells l.here.items l.pages.items) f)
-    ≡ either (page_at l.initial.self f) (cell_in l.initial.numbers.items (cells l.initial.here.items l.initial.pages.items) f)
+      ≡ either (page_at l.initial.self f) (cell_in l.initial.numbers.items (cells l.initial.here.items l.initial.pages.items) f);
 }
 
 abbrev pub decreases-loop-number : goal.decreases-loop-number

@@ -1,4 +1,4 @@
-use Rattle.std.proofs.Common.{ℕ, ◌≡◌, length, map, take}
+use Rattle.std.proofs.Common.{◌≡◌, length, map, take}
 use Rattle.std.specs.Prelude.{Some}
 use Rattle.kc_parts.specs.Held.{page_at}
 use Rattle.kc_parts.specs.Moves.{IsLifted}
@@ -8,5 +8,5 @@ abbrev pub invariant-loop-at : goal.invariant-loop-at
 invariant-loop-at l = record {
   count : length l.pages.items ≡ length l.numbers;
   taken : map Some (take l.at l.pages.items) ≡ map (page_at l.initial.self) (take l.at l.numbers);
-  rest : IsLifted (take l.at l.numbers) l.initial.self l.self
+  rest : IsLifted (take l.at l.numbers) l.initial.self l.self;
 }

@@ -9,16 +9,17 @@ pub returns : goal.returns
 returns c =
     let p = c.self.inside in
     let rising = subst (λ (h : Held). IsRising h.numbers) c.self.view_is c.self.invariant.rising in
-    let value = c.as_mut_slice.ensures.value ∙ ap (λ (h : Held). h.pages) c.self.view_is in
-    ( ( refl
-      , λ w.
-          rw (← c.self.view_is)
-            (ap (λ (n : ℕ). record { numbers = p.numbers.items; here = p.here.items; pages = take n (w ++ drop (length w) p.pages.items); vms = p.vms.items; free = p.free }) p.pages.ok.0)
-      )
-    , record {
+    let value = c.as_mut_slice.ensures.value ∙ ap (λ (h : Held). h.pages) c.self.view_is in (
+      (
+        refl,
+        λ w.
+            rw (← c.self.view_is)
+            (ap (λ (n : ℕ). record { numbers = p.numbers.items; here = p.here.items; pages = take n (w ++ drop (length w) p.pages.items); vms = p.vms.items; free = p.free }) p.pages.ok.0),
+      ),
+      record {
         writes_back = tt;
         value = value;
         count = ap (λ (ps : List Page). length ps) value ∙ subst (λ (h : Held). length h.pages ≡ length h.numbers) c.self.view_is c.self.invariant.pages;
-        each = λ i low. ap (λ ps. slice_get ps i) value ∙ full-page c.args.self.now i rising low (c.requires i low)
-      }
+        each = λ i low. ap (λ ps. slice_get ps i) value ∙ full-page c.args.self.now i rising low (c.requires i low);
+      },
     )

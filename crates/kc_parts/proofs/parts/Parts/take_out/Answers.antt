@@ -1,5 +1,4 @@
-use Rattle.std.proofs.Common.{get_or, ◌∙◌, sym, ap, arith}
-use Rattle.std.specs.Prelude.{IsSome}
+use Rattle.std.proofs.Common.{get_or, ◌∙◌}
 use Rattle.kc_parts.proofs.Taking.{pages-here, same-pages, split-end, taken-full}
 use Rattle.kc_parts.proofs.parts.Parts.take_out.Goals as goal
 
@@ -16,10 +15,10 @@ returns-clause-ok c =
     let numbers = c.in_ok-numbers.numbers in
     let value = c.as_slice.ensures.value in
     rw (← c.in_ok-pages.ensures.kept)
-      (split-end c.args.wanted.now numbers.items c.in_ok-here.here.items c.lift_pages.new.pages.items c.lift_slots.new.vms.items c.lift_free-free.result
-        c.blank_pages.new.self c.lift_slots.new.self c.lift_free-free.new.self c.lift_pages.new.self c.wants_free.result c.len.result
-        c.in_ok-numbers.ensures (c.in_ok-here.ensures.items_if_clones_equal (λ y h. h)) (c.len.ensures ∙ numbers.ok.0) (rw value at c.lift_pages.ensures.taken) (rw value at c.lift_pages.ensures.rest)
-        c.lift_slots.ensures.taken c.lift_slots.ensures.left c.lift_slots.ensures.length c.lift_slots.ensures.rest c.lift_free-free.ensures.ends c.lift_free-free.ensures.rest c.wants_free.ensures)
+    (split-end c.args.wanted.now numbers.items c.in_ok-here.here.items c.lift_pages.new.pages.items c.lift_slots.new.vms.items c.lift_free-free.result
+    c.blank_pages.new.self c.lift_slots.new.self c.lift_free-free.new.self c.lift_pages.new.self c.wants_free.result c.len.result
+    c.in_ok-numbers.ensures (c.in_ok-here.ensures.items_if_clones_equal (λ y h. h)) (c.len.ensures ∙ numbers.ok.0) (rw value at c.lift_pages.ensures.taken) (rw value at c.lift_pages.ensures.rest)
+    c.lift_slots.ensures.taken c.lift_slots.ensures.left c.lift_slots.ensures.length c.lift_slots.ensures.rest c.lift_free-free.ensures.ends c.lift_free-free.ensures.rest c.wants_free.ensures)
 
 pub returns-clause-full : goal.returns-clause-full
 returns-clause-full c = taken-full c.args.wanted.now c.args.self.now c.lift_pages.new.self _ c.requires (returns-clause-ok c) c.in_ok-numbers.ensures.members
