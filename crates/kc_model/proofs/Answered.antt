@@ -55,7 +55,7 @@ backing-is : (at : Option ℕ) → is_none at ≡ false → at ≡ Some (backing
 backing-is (Some f) h = refl
 backing-is None h = cc
 
-is_none-of : {X : Type 0} (at : Option X) → is_some at ≡ false → at ≡ None
+pub is_none-of : {X : Type 0} (at : Option X) → is_some at ≡ false → at ≡ None
 is_none-of None h = refl
 is_none-of (Some x) h = cc
 

@@ -15,7 +15,7 @@ use Rattle.kc_model.specs.Refusals.{refusal, pending, next_gfn, pages_of, is_sho
 use Rattle.kc_model.specs.Effects.{effect, with_leaf}
 use Rattle.kc_model.specs.Lawful.{IsLawful, IsLawfulFrame, IsLawfulSlot, IsLawfulImage, Apart, holds, has_leaf, same_owner, is_vm}
 use Rattle.kc_model.proofs.Served.{or_else-none, when-none, nat_le-is_false}
-use Rattle.kc_model.proofs.Answered.{vm-in, vcpu-in, frame-in, was-host, was-booting, was-active, was-registered, was-pending, was-unmapped, was-room}
+use Rattle.kc_model.proofs.Answered.{vm-in, vcpu-in, frame-in, was-host, was-booting, was-active, was-registered, was-pending, was-unmapped, was-room, is_none-of}
 use Rattle.kc_model.proofs.Lists.{lists-other, lists-gained, changed-same, changed-other}
 use Rattle.kc_model.proofs.Leaves.{leaves-grown}
 use Rattle.kc_model.proofs.Slots.{lawful-with_vcpu, waits-not, next-held, apart-set, holds-more, list_any-set_more}
@@ -159,10 +159,6 @@ lawful-remap m v i f is served =
     (λ b h. rw (there.booting b h) (sym (list_any-set_more (holds h) slot.images i paged absent (nat_eq h g) i_in (holds-more h image.base image.pages)))) in
     subst IsLawful (sym (written-twice (with_frame m f (handed_frame m v g f)) v (handed_slot slot g f slot.images) (λ (s : Slot). record s { images = set slot.images i paged }) (rw is.slots v_in)))
     (lawful-hand m v g f (handed_slot slot g f (set slot.images i paged)) is v_in g_in lt host unmapped refl refl refl lawful_slot)
-  where
-    is_none-of : (at : Option ℕ) → is_some at ≡ false → at ≡ None
-    is_none-of None h = refl
-    is_none-of (Some x) h = cc
 
 -- a served `map`
 pub record IsMap (m : State) (v c f : ℕ) : Type 0 where

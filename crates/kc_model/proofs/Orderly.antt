@@ -1,14 +1,17 @@
 -- What a lawful state has of what a call needs.
-use Rattle.std.proofs.Common.{ℕ, ◌≡◌, ◌<◌, inl, inr, Bool, true, false, cond, Some, refl, ap, ◌∙◌, arith}
+use Rattle.std.proofs.Common.{ℕ, ◌≡◌, ◌<◌, ◌+◌, inl, inr, Bool, true, false, cond, None, Some, length, get_or, refl, ap, ◌∙◌, arith}
 use Rattle.std.proofs.lemmas.Bool.{cases_lt}
 use Rattle.std.proofs.lemmas.List.{get_or_past}
 use Rattle.kc_types.specs.declared.owner.Owner.{Owner}
 use Rattle.kc_types.specs.declared.owner.Owner.TheVariants.{Core, Host, Free, Vm}
 use Rattle.kc_types.specs.declared.slot.Phase.TheVariants.{Booting}
-use Rattle.kc_model.specs.State.{State, Slot, frame_at, slot_at, mapped_at, empty_slot}
+use Rattle.kc_model.specs.State.{State, Slot, Image, frame_at, slot_at, mapped_at, empty_slot}
+use Rattle.kc_model.specs.Refusals.{pages_of}
 use Rattle.kc_model.specs.Lawful.{IsLawful, same_owner, times_in}
 use Rattle.kc_model.specs.Resources.{is_in, listed_in}
 use Rattle.kc_model.specs.Local.{IsOrderly, HasMappedPages}
+use Rattle.kc_model.proofs.Answered.{is_none-of}
+use Rattle.kc_model.proofs.Slots.{next-held}
 use Rattle.kc_model.proofs.Members.{times_in-held, held-times_in, same_number}
 use Rattle.kc_types.specs.Configuration.{slot_count}
 
@@ -34,10 +37,18 @@ mapped-listed m v g f is low e =
     let once : times_in (slot_at m v).frames f ≡ 1 = is.listed v low f ∙ ap (λ b. cond b 1 0) mine in
     held-times_in (slot_at m v).frames f (omega (arith, once))
 
+-- the next page of a booting slot's image is not mapped
+next-unmapped : (m : State) (v : ℕ) → IsLawful m → v < slot_count m.config → (slot_at m v).phase ≡ Booting → (i : ℕ) (absent : Image) → i < length (slot_at m v).images
+    → (get_or (slot_at m v).images i absent).pages < pages_of (get_or (slot_at m v).images i absent).len → mapped_at m v ((get_or (slot_at m v).images i absent).base + (get_or (slot_at m v).images i absent).pages) ≡ None
+next-unmapped m v is low booting i absent within short =
+    let slot = is.each_slot v low in
+    let g = (get_or (slot_at m v).images i absent).base + (get_or (slot_at m v).images i absent).pages in
+    is_none-of (mapped_at m v g) (slot.booting booting g ∙ next-held (slot_at m v).images i absent g slot.apart slot.each_image within refl short)
+
 -- a lawful state whose booting slots have their images' pages mapped is orderly
 pub orderly-lawful : (m : State) → IsLawful m → ((v : ℕ) → v < slot_count m.config → (slot_at m v).phase ≡ Booting → HasMappedPages (slot_at m v).mapped (slot_at m v).images) → IsOrderly m
 orderly-lawful m is images = record {
   frames = is.frames;
   slots = is.slots;
-  each_slot = λ v low. record { listed = λ g f e. mapped-listed m v g f is low e; images = images v low };
+  each_slot = λ v low. record { listed = λ g f e. mapped-listed m v g f is low e; images = images v low; next_page = next-unmapped m v is low };
 }

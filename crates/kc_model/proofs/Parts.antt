@@ -38,7 +38,7 @@ orderly-merged here m rest is others = record {
 }
 
 orderly-empty : IsOrderlySlot empty_slot
-orderly-empty = record { listed = λ g f e. let none = map.get-empty {X = ℕ} nat_cmp g in cc; images = λ booting. cc }
+orderly-empty = record { listed = λ g f e. let none = map.get-empty {X = ℕ} nat_cmp g in cc; images = λ booting. cc; next_page = λ booting. cc }
 
 -- a part of an orderly state alone is orderly
 pub orderly-cut : (m : State) (here : Resources) → IsOrderly m → IsOrderly (cut m here)

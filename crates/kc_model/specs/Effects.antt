@@ -64,13 +64,13 @@ bytes_at m v g = (frame_at m (backing (mapped_at m v g))).bytes
 abbrev pub image_bytes : State → ℕ → Image → List ℕ
 image_bytes m v image = take image.len (flat_map (bytes_at m v) (gfns_of image))
 
+abbrev pub same_bytes : List ℕ → List ℕ → Bool
+same_bytes [] [] = true
+same_bytes (x ∷ xs) (y ∷ ys) = if x == y then same_bytes xs ys else false
+same_bytes _ _ = false
+
 abbrev pub is_approved : State → ℕ → Image → Bool
-is_approved m v image = list_any (λ digest. list_eq digest (sha256 (image_bytes m v image))) m.config.approved
-  where
-    list_eq : List ℕ → List ℕ → Bool
-    list_eq [] [] = true
-    list_eq (x ∷ xs) (y ∷ ys) = if x == y then list_eq xs ys else false
-    list_eq _ _ = false
+is_approved m v image = list_any (λ digest. same_bytes digest (sha256 (image_bytes m v image))) m.config.approved
 
 -- the frame at the last page of an image, with zero bytes past the image's end
 abbrev pub trimmed : State → ℕ → Image → State

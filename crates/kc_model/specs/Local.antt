@@ -1,5 +1,5 @@
 -- That a call depends on what it needs alone, and changes nothing else.
-use Rattle.std.specs.Prelude.{ℕ, ◌≡◌, ◌<◌, ◌≤◌, ◌+◌, true, List, [], ◌∷◌, length, Some, is_some}
+use Rattle.std.specs.Prelude.{ℕ, ◌≡◌, ◌<◌, ◌≤◌, ◌+◌, true, List, [], ◌∷◌, length, Some, None, is_some, slice_index_or}
 use Rattle.kc_types.specs.declared.call.Call.{Call}
 use Rattle.std.specs.Ordering.{nat_cmp}
 use Rattle.std.specs.FinMap as map
@@ -32,6 +32,9 @@ pub record IsOrderlySlot (there : Slot) : Type 0 where
   -- a mapped frame is in the slot's list
   pub listed : (g f : ℕ) → map.get there.mapped g ≡ Some f → is_in there.frames f ≡ true
   pub images : there.phase ≡ Booting → HasMappedPages there.mapped there.images
+  -- the next page of an image is not mapped yet
+  pub next_page : there.phase ≡ Booting → (i : ℕ) (absent : Image) → i < length there.images → (slice_index_or there.images i absent).pages < pages_of (slice_index_or there.images i absent).len
+      → map.get there.mapped ((slice_index_or there.images i absent).base + (slice_index_or there.images i absent).pages) ≡ None
 
 -- what a call needs of the state that it is made in: a consequence of being lawful
 pub record IsOrderly (m : State) : Type 0 where
