@@ -1,3 +1,4 @@
 pub mod Looked
 pub mod Frames
+pub mod Needed
 pub mod Hosts
