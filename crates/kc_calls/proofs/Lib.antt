@@ -1,4 +1,6 @@
 pub mod Looked
 pub mod Frames
 pub mod Needed
+pub mod Answered
+pub mod SlotCalls
 pub mod Hosts

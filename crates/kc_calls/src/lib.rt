@@ -5,5 +5,6 @@ mod dispatch;
 mod host;
 pub mod laws;
 mod look_ups;
+mod slots;
 
 pub use dispatch::apply;
