@@ -3,4 +3,5 @@ pub mod Frames
 pub mod Needed
 pub mod Answered
 pub mod SlotCalls
+pub mod Hands
 pub mod Hosts

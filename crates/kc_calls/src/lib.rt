@@ -2,6 +2,7 @@
 #![tactic(auto)]
 
 mod dispatch;
+mod hand;
 mod host;
 pub mod laws;
 mod look_ups;
