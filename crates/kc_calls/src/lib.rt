@@ -2,6 +2,7 @@
 #![tactic(auto)]
 
 mod dispatch;
+mod guest;
 mod host;
 pub mod laws;
 mod look_ups;
