@@ -1,3 +1,4 @@
 pub mod Looked
 pub mod Frames
 pub mod Hosts
+pub mod Guests

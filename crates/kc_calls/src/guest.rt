@@ -1,13 +1,15 @@
 //! The calls of a virtual processor: reading and writing its guest frames, granting and revoking access to them.
-ghost use Rattle.std.specs.Prelude.{◌≡◌};
+ghost use Rattle.std.specs.Prelude.{◌≡◌, ◌<◌, ◌-◌, ◌==◌, None, false, if◌then◌else◌};
 ghost use Rattle.kc_types.specs.declared.call.Call.TheVariants.{GuestRead, Grant, Revoke, Drop};
 ghost use Rattle.kc_model.specs.Refusals.{refusal, first_of_these, guest_refusals};
-ghost use Rattle.kc_parts.specs.States.{state_of};
-ghost use Rattle.kc_calls.specs.Applying.{AnswersMapped};
+ghost use Rattle.kc_model.specs.Effects.{effect};
+ghost use Rattle.kc_parts.specs.States.{state_of, IsLinked};
+ghost use Rattle.kc_calls.specs.Applying.{AnswersMapped, IsAble, IsSameRoom};
 
 use crate::look_ups::{mapped_at, phase_at, record_at, vcpu_at};
+use kc_page::PageRecord;
 use kc_parts::Parts;
-use kc_types::{Config, FrameNo, Gfn, Phase, Refusal, VcpuId};
+use kc_types::{Config, FrameNo, Gfn, Phase, Refusal, Reply, VcpuId};
 
 /// Why a virtual processor can make no call: its VM is not there, or not active, or it is not registered.
 fn vcpu_refusal(parts: &Parts, config: &Config, vm: u32, vcpu: VcpuId) -> Option<Refusal>
@@ -97,6 +99,22 @@ pub fn grant_refusal(
     }
 }
 
+/// The host is granted access to a guest frame once more.
+pub fn grant(parts: &mut Parts, config: &Config, vm: u32, vcpu: u32, gfn: u32) -> Reply
+    requires served { refusal (state_of config.now parts.old) (Grant vm vcpu gfn) ≡ None }
+    requires able { IsAble config.now parts.old (Grant vm vcpu gfn) }
+    ensures reply { result ≡ (effect (state_of config.now parts.old) (Grant vm vcpu gfn)).0 }
+    ensures state { state_of config.now parts.new ≡ (effect (state_of config.now parts.old) (Grant vm vcpu gfn)).1 }
+    ensures linked { IsLinked config.now parts.new }
+    ensures room { IsSameRoom parts.old parts.new }
+{
+    let gfn = Gfn::try_new(gfn).unwrap();
+    let frame = mapped_at(parts, config, vm, gfn).unwrap();
+    let page = parts.frame_mut(frame).unwrap();
+    page.meta.share += 1;
+    Reply::Done
+}
+
 pub fn revoke_refusal(
     parts: &Parts,
     config: &Config,
@@ -114,6 +132,35 @@ pub fn revoke_refusal(
         },
         Err(refusal) => Some(refusal),
     }
+}
+
+/// The record of a frame to which the host has one grant less, and which it no longer reaches where that was
+/// the last.
+fn revoked(meta: PageRecord) -> PageRecord
+    requires { 0 < meta.share }
+    ensures { result ≡ record meta { share = meta.share - 1; present = if meta.share == 1 then false else meta.present } }
+{
+    PageRecord {
+        share: meta.share - 1,
+        present: meta.share != 1 && meta.present,
+        ..meta
+    }
+}
+
+/// A grant of the host's to a guest frame is taken back.
+pub fn revoke(parts: &mut Parts, config: &Config, vm: u32, vcpu: u32, gfn: u32) -> Reply
+    requires served { refusal (state_of config.now parts.old) (Revoke vm vcpu gfn) ≡ None }
+    requires able { IsAble config.now parts.old (Revoke vm vcpu gfn) }
+    ensures reply { result ≡ (effect (state_of config.now parts.old) (Revoke vm vcpu gfn)).0 }
+    ensures state { state_of config.now parts.new ≡ (effect (state_of config.now parts.old) (Revoke vm vcpu gfn)).1 }
+    ensures linked { IsLinked config.now parts.new }
+    ensures room { IsSameRoom parts.old parts.new }
+{
+    let gfn = Gfn::try_new(gfn).unwrap();
+    let frame = mapped_at(parts, config, vm, gfn).unwrap();
+    let page = parts.frame_mut(frame).unwrap();
+    page.meta = revoked(page.meta);
+    Reply::Done
 }
 
 pub fn drop_refusal(
