@@ -1,4 +1,5 @@
 pub mod Looked
 pub mod Frames
+pub mod Needed
 pub mod Hosts
 pub mod Guests
