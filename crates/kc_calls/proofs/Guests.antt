@@ -1,29 +1,22 @@
 -- A virtual processor's calls on parts.
-use Rattle.std.proofs.Common.{ℕ, zero, suc, arith, ◌≡◌, ◌<◌, ◌+◌, ◌-◌, true, false, cond, nat_eq, Some, None, is_some, IsSome, refl, sym, ap, ◌∙◌}
+use Rattle.std.proofs.Common.{ℕ, zero, suc, arith, ◌≡◌, ◌<◌, ◌+◌, ◌-◌, false, nat_eq, Option, Some, None, is_some, get_or, slice_range, refl, sym, ap, ◌∙◌}
 use Rattle.kc_types.specs.Configuration.{Configuration, slot_count}
-use Rattle.kc_types.specs.declared.call.Call.{Call}
-use Rattle.kc_types.specs.declared.call.Call.TheVariants.{Grant, Revoke}
-use Rattle.kc_model.specs.State.{State, Frame, frame_at, slot_at, mapped_at, with_frame}
+use Rattle.kc_types.specs.declared.reply.Reply.TheVariants as reply
+use Rattle.kc_types.specs.declared.call.Call.TheVariants.{GuestRead, Grant, Revoke}
+use Rattle.kc_model.specs.State.{State, Frame, Slot, frame_at, mapped_at, absent_vcpu, with_frame, with_slot, with_vcpu}
 use Rattle.kc_model.specs.Refusals.{refusal, backing, share_at}
-use Rattle.kc_model.specs.Effects.{effect}
-use Rattle.kc_model.specs.Resources.{slot_of}
-use Rattle.kc_model.proofs.Needs.{has_slot, has_listed}
+use Rattle.kc_model.specs.Effects.{effect, guest_read, with_fault}
 use Rattle.kc_model.proofs.Served.{when-none, nat_le-is_false}
-use Rattle.kc_model.proofs.GuestCalls.{guest_frame-served}
+use Rattle.kc_model.proofs.GuestCalls.{guest_access-served, guest_frame-served}
 use Rattle.kc_page.specs.declared.page.Page.{Page}
 use Rattle.kc_page.specs.Pages.{frame_of}
-use Rattle.kc_parts.specs.Held.{Held, page_at, vm_at, with_page, link_of}
-use Rattle.kc_parts.specs.States.{state_of, here_of, IsLinked}
-use Rattle.kc_calls.specs.Applying.{IsAble}
+use Rattle.kc_vms.specs.Slots.{VmSlot}
+use Rattle.kc_vms.specs.Slots as slots
+use Rattle.kc_parts.specs.Held.{Held, page_at, vm_at, with_page, with_vm, link_of}
+use Rattle.kc_parts.specs.States.{state_of, IsLinked}
+use Rattle.kc_parts.proofs.SlotChanges.{state-vm}
 use Rattle.kc_calls.proofs.Frames.{changed, frame-is}
-
--- the slot that the call names is here
-pub slot-here : (config : Configuration) (h : Held) (call : Call) (v : ℕ) → IsAble config h call → slot_of call ≡ Some v → v < slot_count config → is_some (vm_at h v) ≡ true
-slot-here config h call v able names low = has_slot (here_of h) (state_of config h) call able.orderly able.here v names (rw able.orderly.slots low)
-
--- and so is what its guest frames are mapped to
-pub mapped-here : (config : Configuration) (h : Held) (call : Call) (v g f : ℕ) → IsAble config h call → slot_of call ≡ Some v → v < slot_count config → mapped_at (state_of config h) v g ≡ Some f → is_some (page_at h f) ≡ true
-mapped-here config h call v g f able names low at = has_listed (here_of h) (state_of config h) call able.orderly able.here v f names low ((able.orderly.each_slot v low).listed g f at)
+use Rattle.kc_calls.proofs.Needed.{slot-is}
 
 -- the state where the page at a guest frame is changed as its frame is changed
 pub state-mapped : (config : Configuration) (h : Held) (v g f : ℕ) (page new : Page) (change : Frame → Frame) → IsLinked config h → mapped_at (state_of config h) v g ≡ Some f → page_at h f ≡ Some page → link_of new ≡ link_of page
@@ -49,3 +42,22 @@ some-granted m v c g served = by_count (share_at m v g) (when-none _ _ (guest_fr
     by_count : (n : ℕ) → nat_eq n 0 ≡ false → 0 < n
     by_count zero e = cc
     by_count (suc n) e = omega arith
+
+-- the state where a virtual processor of a slot that is here waits for another guest frame, or for none
+pub state-faulted : (config : Configuration) (h : Held) (v c : ℕ) (fault : Option ℕ) (vm new : VmSlot) → v < slot_count config → vm_at h v ≡ Some vm → new ≡ record vm { slot = slots.with_fault vm.slot c fault }
+    → state_of config (with_vm h v new) ≡ with_fault (state_of config h) v c fault
+state-faulted config h v c fault vm new low at is =
+    let m : State = state_of config h in
+    state-vm config h v vm new at ∙ rw is (ap (λ (there : Slot). with_slot m v (with_vcpu there c (record (get_or there.vcpus c absent_vcpu) { fault = fault }))) (sym (slot-is config h v vm low at)))
+
+-- a served call of a virtual processor names a slot
+pub slot-named : (m : State) (v c g off len : ℕ) → refusal m (GuestRead v c g off len) ≡ None → v < slot_count m.config
+slot-named m v c g off len served = (guest_access-served m v c g off len served).0.vm
+
+-- the bytes of the page at a guest frame are those that are read
+pub read-mapped : (config : Configuration) (h : Held) (v c g off len f : ℕ) (page : Page) → IsLinked config h → mapped_at (state_of config h) v g ≡ Some f → page_at h f ≡ Some page
+    → reply.Data (slice_range page.bytes off (off + len)) ≡ (effect (state_of config h) (GuestRead v c g off len)).0
+read-mapped config h v c g off len f page linked mapped at =
+    let m : State = state_of config h in
+    ap (λ (frame : Frame). reply.Data (slice_range frame.bytes off (off + len))) (sym (frame-is config h f page (linked.frames f (ap is_some at)) at))
+    ∙ ap (λ there. (guest_read m v c g off len there).0) (sym mapped)

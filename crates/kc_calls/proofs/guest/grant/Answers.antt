@@ -6,7 +6,8 @@ use Rattle.kc_parts.specs.Held.{page_at}
 use Rattle.kc_parts.specs.States.{state_of}
 use Rattle.kc_parts.proofs.Seen.{linked-kept}
 use Rattle.kc_calls.proofs.Frames.{some-lent, room-page}
-use Rattle.kc_calls.proofs.Guests.{mapped-here, state-mapped, share-mapped, few-granted}
+use Rattle.kc_calls.proofs.Needed.{mapped-needed}
+use Rattle.kc_calls.proofs.Guests.{state-mapped, share-mapped, few-granted}
 use Rattle.kc_calls.proofs.guest.grant.Goals as goal
 
 pub unwrap-page-requires : goal.unwrap-page-requires
@@ -14,7 +15,7 @@ unwrap-page-requires c =
     let is : c.unwrap-gfn.result ≡ c.args.gfn = rw c.unwrap-gfn.ensures at c.try_new.ensures.value in
     let m = state_of c.args.config.now c.args.parts.now in
     let mapped : mapped_at m c.args.vm c.args.gfn ≡ Some c.unwrap-frame.result = rw (← is) (sym c.mapped_at.ensures ∙ c.unwrap-frame.ensures) in
-    some-lent c.frame_mut.result _ c.frame_mut.ensures.value (mapped-here c.args.config.now c.args.parts.now (Grant c.args.vm c.args.vcpu c.args.gfn) c.args.vm c.args.gfn c.unwrap-frame.result c.requires.able refl
+    some-lent c.frame_mut.result _ c.frame_mut.ensures.value (mapped-needed c.args.config.now c.args.parts.now (Grant c.args.vm c.args.vcpu c.args.gfn) c.requires.able c.args.vm c.args.gfn c.unwrap-frame.result refl
         (guest_frame-served m c.args.vm c.args.vcpu c.args.gfn _ c.requires.served).0.call.vm mapped)
 
 pub overflow_add-page : goal.overflow_add-page
