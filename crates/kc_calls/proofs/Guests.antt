@@ -1,5 +1,5 @@
 -- A virtual processor's calls on parts.
-use Rattle.std.proofs.Common.{ℕ, zero, suc, arith, ◌≡◌, ◌<◌, ◌+◌, ◌-◌, false, nat_eq, Option, Some, None, is_some, get_or, slice_range, refl, sym, ap, ◌∙◌}
+use Rattle.std.proofs.Common.{ℕ, zero, suc, arith, ◌≡◌, ◌<◌, ◌+◌, false, nat_eq, Option, Some, None, is_some, get_or, slice_range, sym, ap, ◌∙◌}
 use Rattle.kc_types.specs.Configuration.{Configuration, slot_count}
 use Rattle.kc_types.specs.declared.reply.Reply.TheVariants as reply
 use Rattle.kc_types.specs.declared.call.Call.TheVariants.{GuestRead, Grant, Revoke}

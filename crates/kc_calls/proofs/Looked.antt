@@ -6,7 +6,7 @@ use Rattle.std.specs.Ordering.{nat_cmp}
 use Rattle.std.specs.FinMap as map
 use Rattle.kc_types.specs.Configuration.{Configuration, slot_count}
 use Rattle.kc_types.specs.declared.owner.Owner.TheVariants.{Core}
-use Rattle.kc_model.specs.State.{Frame, Slot, frame_at, slot_at, vcpu_at, mapped_at, untouched, absent_vcpu, empty_slot}
+use Rattle.kc_model.specs.State.{Frame, Slot, frame_at, slot_at, untouched, absent_vcpu, empty_slot}
 use Rattle.kc_model.proofs.Slots.{at-no_vcpus}
 use Rattle.kc_page.specs.declared.page.Page.{Page}
 use Rattle.kc_page.specs.declared.page.PageRecord.{PageRecord}

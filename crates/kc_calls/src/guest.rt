@@ -1,10 +1,10 @@
 //! The calls of a virtual processor: reading and writing its guest frames, granting and revoking access to them.
-ghost use Rattle.std.specs.Prelude.{◌≡◌, ◌<◌, ◌≤◌, ◌+◌, ◌-◌, ◌==◌, Some, None, is_some, true, false, if◌then◌else◌, length, IfOk, OnOk, OnErr};
+ghost use Rattle.std.specs.Prelude.{◌≡◌, ◌<◌, ◌≤◌, ◌+◌, ◌-◌, ◌==◌, Some, None, is_some, true, false, if◌then◌else◌, [], ◌∷◌, length, IfOk, OnOk, OnErr};
 ghost use Rattle.kc_types.specs.Configuration.{slot_count};
 ghost use Rattle.kc_types.specs.Limits.{page_size};
 ghost use Rattle.kc_types.specs.declared.call.Call.TheVariants.{GuestRead, GuestWrite, Grant, Revoke, Drop};
 ghost use Rattle.kc_model.specs.State.{slot_at, vcpu_at};
-ghost use Rattle.kc_model.specs.Refusals.{refusal, first_of_these, guest_refusals};
+ghost use Rattle.kc_model.specs.Refusals.{refusal, first_of_these, no_vm, not_active, no_vcpu};
 ghost use Rattle.kc_model.specs.Effects.{effect, with_fault, written};
 ghost use Rattle.kc_parts.specs.Held.{page_at, vm_at};
 ghost use Rattle.kc_parts.specs.States.{state_of, IsLinked};
@@ -16,9 +16,10 @@ use kc_parts::Parts;
 use kc_types::{Config, Data, FrameNo, Gfn, Memory, Phase, Refusal, Reply, VcpuId};
 use std::alloc::Global;
 
-/// Why a virtual processor can make no call: its VM is not there, or not active, or it is not registered.
+/// Why a virtual processor can make no call: there is no VM in the slot, or it isn't active, or the virtual
+/// processor isn't registered.
 fn vcpu_refusal(parts: &Parts, config: &Config, vm: u32, vcpu: VcpuId) -> Option<Refusal>
-    ensures { result ≡ first_of_these (guest_refusals (state_of config.now parts.now) vm vcpu 0) }
+    ensures { result ≡ first_of_these (no_vm (state_of config.now parts.now) vm ∷ not_active (state_of config.now parts.now) vm ∷ no_vcpu (state_of config.now parts.now) vm vcpu ∷ []) }
 {
     match phase_at(parts, config, vm) {
         Phase::Empty => Some(Refusal::NoVm),
@@ -31,6 +32,7 @@ fn vcpu_refusal(parts: &Parts, config: &Config, vm: u32, vcpu: VcpuId) -> Option
     }
 }
 
+/// Why `len` bytes of a guest frame from `offset` on can't be read, or written.
 pub fn guest_access_refusal(
     parts: &Parts,
     config: &Config,
@@ -196,6 +198,7 @@ fn mapped_frame(
     }
 }
 
+/// Why the host can't be granted access to a guest frame once more.
 pub fn grant_refusal(
     parts: &Parts,
     config: &Config,
@@ -231,6 +234,7 @@ pub fn grant(parts: &mut Parts, config: &Config, vm: u32, vcpu: u32, gfn: u32) -
     Reply::Done
 }
 
+/// Why no grant of the host's to a guest frame can be taken back.
 pub fn revoke_refusal(
     parts: &Parts,
     config: &Config,
@@ -279,13 +283,8 @@ pub fn revoke(parts: &mut Parts, config: &Config, vm: u32, vcpu: u32, gfn: u32) 
     Reply::Done
 }
 
-pub fn drop_refusal(
-    parts: &Parts,
-    config: &Config,
-    vm: u32,
-    vcpu: u32,
-    gfn: u32,
-) -> Option<Refusal>
+/// Why a guest frame can't be given up.
+pub fn drop_refusal(parts: &Parts, config: &Config, vm: u32, vcpu: u32, gfn: u32) -> Option<Refusal>
     ensures { result ≡ refusal (state_of config.now parts.now) (Drop vm vcpu gfn) }
 {
     match mapped_frame(parts, config, vm, vcpu, gfn) {

@@ -1,6 +1,6 @@
-use Rattle.std.proofs.Common.{◌≡◌, ◌<◌, ◌+◌, Some, refl, sym, ap, ◌∙◌, arith}
+use Rattle.std.proofs.Common.{◌≡◌, ◌+◌, Some, refl, sym, ◌∙◌, arith}
 use Rattle.kc_types.specs.declared.call.Call.TheVariants.{Grant}
-use Rattle.kc_model.specs.State.{Frame, mapped_at}
+use Rattle.kc_model.specs.State.{mapped_at}
 use Rattle.kc_model.proofs.GuestCalls.{guest_frame-served}
 use Rattle.kc_parts.specs.Held.{page_at}
 use Rattle.kc_parts.specs.States.{state_of}
@@ -16,7 +16,7 @@ unwrap-page-requires c =
     let m = state_of c.args.config.now c.args.parts.now in
     let mapped : mapped_at m c.args.vm c.args.gfn ≡ Some c.unwrap-frame.result = rw (← is) (sym c.mapped_at.ensures ∙ c.unwrap-frame.ensures) in
     some-lent c.frame_mut.result _ c.frame_mut.ensures.value (mapped-needed c.args.config.now c.args.parts.now (Grant c.args.vm c.args.vcpu c.args.gfn) c.requires.able c.args.vm c.args.gfn c.unwrap-frame.result refl
-        (guest_frame-served m c.args.vm c.args.vcpu c.args.gfn _ c.requires.served).0.call.vm mapped)
+    (guest_frame-served m c.args.vm c.args.vcpu c.args.gfn _ c.requires.served).0.call.vm mapped)
 
 pub overflow_add-page : goal.overflow_add-page
 overflow_add-page c =

@@ -15,7 +15,7 @@ unwrap-page-requires c =
     let m = state_of c.args.config.now c.args.parts.now in
     let mapped : mapped_at m c.args.vm c.args.gfn ≡ Some c.in-Some.frame = rw (← is) (sym c.in-Some.ensures) in
     some-shown c.frame.result _ c.frame.ensures (mapped-needed c.args.config.now c.args.parts.now (GuestRead c.args.vm c.args.vcpu c.args.gfn c.args.offset c.args.len) c.requires.able c.args.vm c.args.gfn c.in-Some.frame refl
-        (slot-named m c.args.vm c.args.vcpu c.args.gfn c.args.offset c.args.len c.requires.served) mapped)
+    (slot-named m c.args.vm c.args.vcpu c.args.gfn c.args.offset c.args.len c.requires.served) mapped)
 
 pub spend_fault-requires-clause-here : goal.spend_fault-requires-clause-here
 spend_fault-requires-clause-here c =

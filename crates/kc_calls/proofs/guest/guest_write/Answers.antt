@@ -19,7 +19,7 @@ pub spend_fault-requires-clause-here : goal.spend_fault-requires-clause-here
 spend_fault-requires-clause-here c =
     c.write_frame.ensures.room.here (resource.Vm c.args.vm)
     ∙ slot-needed c.args.config.now c.args.parts.now (GuestWrite c.args.vm c.args.vcpu c.args.gfn c.args.offset c.args.bytes.now) c.requires.able c.args.vm refl
-        (slot-named (state_of c.args.config.now c.args.parts.now) c.args.vm c.args.vcpu c.args.gfn c.args.offset (length c.args.bytes.now) c.requires.served)
+    (slot-named (state_of c.args.config.now c.args.parts.now) c.args.vm c.args.vcpu c.args.gfn c.args.offset (length c.args.bytes.now) c.requires.served)
 
 pub set_fault-requires-clause-here : goal.set_fault-requires-clause-here
 set_fault-requires-clause-here c =

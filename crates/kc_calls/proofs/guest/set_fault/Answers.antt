@@ -1,4 +1,4 @@
-use Rattle.std.proofs.Common.{◌≡◌, Some, None, get_or, refl, sym, ap, ◌∙◌}
+use Rattle.std.proofs.Common.{◌≡◌, Some, get_or, refl, sym, ap, ◌∙◌}
 use Rattle.kc_model.specs.State.{Slot, absent_vcpu}
 use Rattle.kc_parts.specs.Held.{vm_at}
 use Rattle.kc_parts.proofs.SlotChanges.{linked-vm}

@@ -1,8 +1,6 @@
-use Rattle.std.proofs.Common.{◌≡◌, Some, None, get_or, refl, sym, ap, ◌∙◌}
-
+use Rattle.std.proofs.Common.{◌≡◌, Some, None, refl, sym}
 use Rattle.kc_parts.specs.Held.{vm_at}
 use Rattle.kc_parts.proofs.SlotChanges.{linked-vm}
-
 use Rattle.kc_calls.proofs.Guests.{state-faulted}
 use Rattle.kc_calls.proofs.guest.spend_fault.Goals as goal
 

@@ -9,7 +9,7 @@ pub returns-clause-state : goal.returns-clause-state
 returns-clause-state c =
     let at : page_at c.args.parts.now c.args.frame ≡ Some c.unwrap-page.result.now = sym (rw c.unwrap-page.ensures at c.frame_mut.ensures.value) in
     changed c.args.config.now c.args.parts.now c.args.frame c.unwrap-page.result.now _ (λ frame. record frame { bytes = overwritten frame.bytes c.args.offset c.args.bytes.now }) (c.requires.linked.frames c.args.frame (ap is_some at)) at refl
-        (rw (c.write.ensures, c.as_slice.ensures.value) refl)
+    (rw (c.write.ensures, c.as_slice.ensures.value) refl)
 
 pub returns-clause-linked : goal.returns-clause-linked
 returns-clause-linked c =
