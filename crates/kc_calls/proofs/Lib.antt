@@ -1,5 +1,7 @@
 pub mod Looked
 pub mod Frames
 pub mod Needed
+pub mod Answered
+pub mod SlotCalls
 pub mod Hosts
 pub mod Guests

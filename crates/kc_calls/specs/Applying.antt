@@ -32,6 +32,13 @@ pub record IsAble (config : Configuration) (h : Held) (call : Call) : Type 0 whe
   pub linked : IsLinked config h
   pub here : IsWithin (need (state_of config h) call) (here_of h)
 
+-- the reply to a call, and the parts that it leaves, are what the rules say, and all parts stay in their places
+pub record IsAnswer (config : Configuration) (old new : Held) (call : Call) (answer : Reply) : Type 0 where
+  pub reply : answer ≡ (next (state_of config old) call).0
+  pub state : state_of config new ≡ (next (state_of config old) call).1
+  pub linked : IsLinked config new
+  pub room : IsSameRoom old new
+
 -- what a call does with parts, it does with every lawful state that they are cut from, whatever stands where they are not
 pub record IsLocality : Type 0 where
   -- the reply is that state's, the parts are what it leaves of them, and the rest stays

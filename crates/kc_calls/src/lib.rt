@@ -6,5 +6,6 @@ mod guest;
 mod host;
 pub mod laws;
 mod look_ups;
+mod slots;
 
 pub use dispatch::apply;
