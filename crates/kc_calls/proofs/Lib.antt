@@ -5,3 +5,4 @@ pub mod Answered
 pub mod SlotCalls
 pub mod Hands
 pub mod Hosts
+pub mod Guests

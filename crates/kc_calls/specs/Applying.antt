@@ -1,12 +1,14 @@
 -- What a call does with parts, beside what the rules say.
-use Rattle.std.specs.Prelude.{◌≡◌}
+use Rattle.std.specs.Prelude.{ℕ, ◌≡◌, Option, Some, Result, Ok, Err}
 use Rattle.kc_types.specs.declared.call.Call.{Call}
 use Rattle.kc_types.specs.declared.reply.Reply.{Reply}
+use Rattle.kc_types.specs.declared.refusal.Refusal.{Refusal}
 use Rattle.kc_types.specs.Configuration.{Configuration}
 use Rattle.kc_page.specs.declared.page.PageRecord.{PageRecord}
-use Rattle.kc_model.specs.State.{State, Frame}
+use Rattle.kc_model.specs.State.{State, Frame, mapped_at}
 use Rattle.kc_model.specs.Lawful.{IsLawful}
 use Rattle.kc_model.specs.Next.{next}
+use Rattle.kc_model.specs.Refusals.{guest_frame}
 use Rattle.kc_model.specs.Resources.{Resource, Resources, merged, need, IsWithin}
 use Rattle.kc_model.specs.Local.{IsOrderly, cut}
 use Rattle.kc_parts.specs.Held.{Held}
@@ -45,3 +47,8 @@ pub record IsLocality : Type 0 where
   -- parts that are cut from a lawful state are orderly, and the call needs the same in them
   pub orderly : (here : Resources) (m : State) → IsLawful m → IsOrderly (cut m here)
   pub needs : (here : Resources) (m rest : State) (call : Call) → IsWithin (need m call) here → (r : Resource) → need (merged here m rest) call r ≡ need m call r
+
+-- the first refusal of a call on a mapped guest frame, whatever its last condition is, or the frame there, and then only the last condition counts
+abbrev pub AnswersMapped : State → ℕ → ℕ → ℕ → Result ℕ Refusal → Type 0
+AnswersMapped m v c g (Ok f) = (mapped_at m v g ≡ Some f) × ((last : Option Refusal) → guest_frame m v c g last ≡ last)
+AnswersMapped m v c g (Err refusal) = (last : Option Refusal) → guest_frame m v c g last ≡ Some refusal

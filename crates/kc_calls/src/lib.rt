@@ -2,6 +2,7 @@
 #![tactic(auto)]
 
 mod dispatch;
+mod guest;
 mod hand;
 mod host;
 pub mod laws;
