@@ -10,9 +10,8 @@ use Rattle.kc_model.specs.Refusals.{refusal, bad_vm, bad_frame, not_host, tables
 use Rattle.kc_types.specs.declared.refusal.Refusal.TheVariants.{TablesFull}
 use Rattle.kc_types.specs.declared.call.Call.TheVariants.{Remap}
 use Rattle.kc_model.specs.Linked.{LinkedSlot, linked_slot}
-use Rattle.kc_model.proofs.Served.{or_else-none, when-none, nat_le-is_false}
+use Rattle.kc_model.proofs.Served.{or_else-none, when-none, not-is_false}
 use Rattle.kc_model.proofs.Changes.{slot-here}
-use Rattle.kc_model.proofs.Needs.{nat_lt-is}
 use Rattle.kc_model.specs.Effects.{effect, hand, with_leaf}
 use Rattle.kc_page.specs.declared.page.Page.{Page}
 use Rattle.kc_page.specs.Pages.{frame_of}
@@ -35,18 +34,15 @@ use Rattle.kc_parts.proofs.SlotLists.{frames-here}
 use Rattle.kc_calls.specs.Applying.{IsSameRoom}
 use Rattle.kc_calls.proofs.Frames.{frame-is, room-page, room-vm, room-through}
 use Rattle.kc_calls.proofs.Hosts.{loose-host, loose-page}
+use Rattle.kc_calls.proofs.Looked.{fits-seen}
 use Rattle.kc_calls.proofs.Needed.{slot-is}
 
 -- the table takes the guest frame
 pub map-fits : (m : State) (v g : ℕ) (vm : VmSlot) (frames : List ℕ) → slot_at m v ≡ unlinked_slot vm.slot frames → vm.room ≡ m.config.leaves → mapped_at m v g ≡ None → tables_full m v g ≡ None → fault_of (table_of vm) g ≡ None
 map-fits m v g vm frames is room unmapped room_left =
     let free : map.get vm.slot.mapped g ≡ None = ap (λ (slot : Slot). map.get slot.mapped g) (sym is) ∙ unmapped in
-    let left : fits (table_of vm) g ≡ true = fits-is (list_any (λ root. root == g / 512) vm.slot.leaves) vm.room (length vm.slot.leaves) (rw room (rw is at (when-none _ TablesFull room_left))) in
+    let left : fits (table_of vm) g ≡ true = not-is_false (fits (table_of vm) g) (when-none _ TablesFull (sym (fits-seen m v g vm frames is room) ∙ room_left)) in
     rw (free, left) refl
-  where
-    fits-is : (a : Bool) (n k : ℕ) → (not a && nat_le n k) ≡ false → (a || nat_lt k n) ≡ true
-    fits-is true n k e = refl
-    fits-is false n k e = nat_lt-is k n (nat_le-is_false n k e)
 
 pub map-ok : (answer : Result Unit MapFault) (fault : Option MapFault) → fault ≡ None → Answers answer fault → IsOk answer
 map-ok (Ok x) fault none is = refl

@@ -18,7 +18,7 @@ use std::alloc::Global;
 
 /// Why a virtual processor can make no call: there is no VM in the slot, or it isn't active, or the virtual
 /// processor isn't registered.
-fn vcpu_refusal(parts: &Parts, config: &Config, vm: u32, vcpu: VcpuId) -> Option<Refusal>
+pub fn vcpu_refusal(parts: &Parts, config: &Config, vm: u32, vcpu: VcpuId) -> Option<Refusal>
     ensures { result ≡ first_of_these (no_vm (state_of config.now parts.now) vm ∷ not_active (state_of config.now parts.now) vm ∷ no_vcpu (state_of config.now parts.now) vm vcpu ∷ []) }
 {
     match phase_at(parts, config, vm) {
@@ -76,7 +76,7 @@ fn set_fault(parts: &mut Parts, config: &Config, vm: u32, vcpu: VcpuId, gfn: Gfn
 }
 
 /// A virtual processor waits for nothing.
-fn spend_fault(parts: &mut Parts, config: &Config, vm: u32, vcpu: VcpuId)
+pub fn spend_fault(parts: &mut Parts, config: &Config, vm: u32, vcpu: VcpuId)
     requires exists { vm < slot_count config.now }
     requires here { is_some (vm_at parts.old vm) ≡ true }
     requires linked { IsLinked config.now parts.old }

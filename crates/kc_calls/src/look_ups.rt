@@ -1,14 +1,19 @@
 //! Look-ups in parts, which answer for all numbers: what is not here counts as untouched.
-ghost use Rattle.std.specs.Prelude.{◌≡◌};
+ghost use Rattle.std.specs.Prelude.{◌≡◌, not, IfOk, Some};
 ghost use Rattle.std.specs.Option.{option_copied};
 ghost use Rattle.kc_model.specs.State.{frame_at, slot_at, vcpu_at, mapped_at};
-ghost use Rattle.kc_parts.specs.Held.{links_of};
-ghost use Rattle.kc_parts.specs.States.{state_of, slot_in};
+ghost use Rattle.kc_types.specs.declared.refusal.Refusal.TheVariants.{TablesFull};
+ghost use Rattle.kc_model.specs.Refusals.{when, tables_full, next_gfn};
+ghost use Rattle.kc_model.specs.Linked.{linked_slot};
+ghost use Rattle.kc_vms.specs.Slots.{VmSlot};
+ghost use Rattle.kc_vms.specs.Refusals.{Answers, next_page_refusal};
+ghost use Rattle.kc_parts.specs.Held.{vm_at, links_of};
+ghost use Rattle.kc_parts.specs.States.{state_of, slot_in, IsLinked};
 ghost use Rattle.kc_calls.specs.Applying.{IsMetaOf};
 
 use kc_page::PageRecord;
 use kc_parts::Parts;
-use kc_types::{Config, FrameNo, Gfn, Owner, Phase, Vcpu, VcpuId};
+use kc_types::{Config, FrameNo, Gfn, Owner, Phase, Refusal, Vcpu, VcpuId};
 use kc_vms::Vm;
 
 /// The record of an untouched frame of the core's.
@@ -36,7 +41,8 @@ pub fn record_at(parts: &Parts, config: &Config, frame: u32) -> PageRecord
 
 /// The slot of this number, where it is here.
 fn slot_at<'a>(parts: &'a Parts, config: &Config, vm: u32) -> Option<&'a Vm>
-    ensures { slot_at (state_of config.now parts.now) vm ≡ slot_in (links_of parts.now) (option_copied result) }
+    ensures value { slot_at (state_of config.now parts.now) vm ≡ slot_in (links_of parts.now) (option_copied result) }
+    ensures here { (slot : VmSlot) → option_copied result ≡ Some slot → vm_at parts.now vm ≡ Some slot }
 {
     match config.vm(vm) {
         Some(vm) => parts.vm(vm),
@@ -74,5 +80,40 @@ pub fn mapped_at(parts: &Parts, config: &Config, vm: u32, gfn: Gfn) -> Option<Fr
     match slot_at(parts, config, vm) {
         Some(slot) => slot.table().get(gfn),
         None => None,
+    }
+}
+
+/// The guest frame that a virtual processor of a slot waits for.
+pub fn pending_at(parts: &Parts, config: &Config, vm: u32, vcpu: VcpuId) -> Option<Gfn>
+    ensures { result ≡ (vcpu_at (state_of config.now parts.now) vm vcpu).fault }
+{
+    match slot_at(parts, config, vm) {
+        Some(slot) => match slot.vcpu(vcpu).fault {
+            Some(gfn) => Gfn::try_new(gfn),
+            None => None,
+        },
+        None => None,
+    }
+}
+
+/// The guest frame of the next page of a slot's image, or why it has none.
+pub fn next_page_at(parts: &Parts, config: &Config, vm: u32, image: u32) -> Result<Gfn, Refusal>
+    ensures answer { Answers result (next_page_refusal (linked_slot (slot_at (state_of config.now parts.now) vm)) image) }
+    ensures gfn { IfOk result (λ gfn. gfn ≡ next_gfn (state_of config.now parts.now) vm image) }
+{
+    match slot_at(parts, config, vm) {
+        Some(slot) => slot.next_page(image),
+        None => Err(Refusal::NoVm),
+    }
+}
+
+/// Whether the root slot of a slot's guest frame has a leaf or can take one.
+pub fn fits_at(parts: &Parts, config: &Config, vm: u32, gfn: Gfn) -> bool
+    requires { IsLinked config.now parts.now }
+    ensures { tables_full (state_of config.now parts.now) vm gfn ≡ when (not result) TablesFull }
+{
+    match slot_at(parts, config, vm) {
+        Some(slot) => slot.table().fits(gfn),
+        None => config.leaves() > 0,
     }
 }
