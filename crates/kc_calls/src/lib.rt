@@ -5,5 +5,6 @@ mod dispatch;
 mod host;
 pub mod laws;
 mod look_ups;
+mod verify;
 
 pub use dispatch::apply;
