@@ -8,20 +8,22 @@ use Rattle.kc_types.specs.declared.resource.Resource.TheVariants as resource
 use Rattle.kc_model.specs.State.{Frame, frame_at, with_frame, untouched}
 use Rattle.kc_page.specs.declared.page.Page.{Page}
 use Rattle.kc_page.specs.Pages.{frame_of}
-use Rattle.kc_parts.specs.Held.{Held, page_at, with_page, link_of}
+use Rattle.kc_vms.specs.Slots.{VmSlot}
+use Rattle.kc_parts.specs.Held.{Held, page_at, vm_at, with_page, with_vm, link_of}
 use Rattle.kc_parts.specs.States.{frame_in, state_of, here_of, IsFreeMove}
 use Rattle.kc_parts.proofs.Seen.{frame-seen, state-page, here-page}
+use Rattle.kc_parts.proofs.SlotChanges.{here-vm}
 use Rattle.kc_calls.specs.Applying.{IsSameRoom}
 
 -- what is lent is there where its value is
-pub some-lent : (r : Option (MutBor Page)) (there : Option Page) → option_copied_mut r ≡ there → is_some there ≡ true → IsSome r
+pub some-lent : {X : Type 0} (r : Option (MutBor X)) (there : Option X) → option_copied_mut r ≡ there → is_some there ≡ true → IsSome r
 some-lent None None is some = cc
-some-lent None (Some page) is some = cc
+some-lent None (Some x) is some = cc
 some-lent (Some r) there is some = refl
 
-pub some-shown : (r : Option (Bor Page)) (there : Option Page) → option_copied r ≡ there → is_some there ≡ true → IsSome r
+pub some-shown : {X : Type 0} (r : Option (Bor X)) (there : Option X) → option_copied r ≡ there → is_some there ≡ true → IsSome r
 some-shown None None is some = cc
-some-shown None (Some page) is some = cc
+some-shown None (Some x) is some = cc
 some-shown (Some r) there is some = refl
 
 -- a frame that is not as it would be if it were not here is here
@@ -51,6 +53,9 @@ room-page h f page new at = record {
     here (resource.Frame g) = here-page h f page new at g
     here (resource.Vm v) = refl
     here resource.Free = refl
+
+pub room-vm : (h : Held) (v : ℕ) (vm new : VmSlot) → vm_at h v ≡ Some vm → IsSameRoom h (with_vm h v new)
+room-vm h v vm new at = record { numbers = refl; filled = refl; here = here-vm h v vm new at }
 
 pub room-move : (old new : Held) → IsFreeMove old new → IsSameRoom old new
 room-move old new move = record { numbers = move.numbers; filled = move.filled; here = move.here }

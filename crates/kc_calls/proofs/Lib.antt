@@ -1,5 +1,6 @@
 pub mod Looked
 pub mod Frames
+pub mod Needed
 pub mod Hosts
 pub mod Verifying
 pub mod Measuring

@@ -195,7 +195,7 @@ module _ (config : Configuration) (is : IsConfiguration config) where
   pub linked-boot : IsLinked config booted
   linked-boot = record {
     frames = λ f here. elim (cases_lt f config.frames) [ inl low ↦ low | inr past ↦ let none : is_some (page_at booted f) ≡ false = ap is_some (page-none f past) in cc ];
-    vms = λ v vm at. rw (vm-boot v vm at) (slot-empty, refl);
+    vms = λ v vm at. rw (vm-boot v vm at) refl;
     lists = record {
       spelled = λ owner ends at. elim (list-boot owner ends at) [
         | inl free ↦ rw free.1 (chain-is_list (links_of booted) (boot_ends config) (range_with_len (first_free config) count) chain)

@@ -12,7 +12,7 @@ use Rattle.kc_model.specs.Lawful.{times_in}
 use Rattle.kc_model.specs.Linked.{LinkedSlot}
 use Rattle.kc_page.specs.declared.page.Page.{Page}
 use Rattle.kc_page.specs.Pages.{frame_of}
-use Rattle.kc_vms.specs.Slots.{VmSlot, IsVm}
+use Rattle.kc_vms.specs.Slots.{VmSlot}
 use Rattle.kc_links.specs.Chain.{Links, unlinked}
 use Rattle.kc_links.specs.Ending.{listed, IsList}
 use Rattle.kc_parts.specs.Held.{Held, page_at, vm_at, links_of, ends_at}
@@ -62,7 +62,7 @@ pub record AreLists (links : Links) (ends_at : Owner → Option Ends) (owner_at 
 -- the parts fit the configuration, and their links and ends are those of lists
 pub record IsLinked (config : Configuration) (h : Held) : Type 0 where
   pub frames : (f : ℕ) → is_some (page_at h f) ≡ true → f < config.frames
-  pub vms : (v : ℕ) (vm : VmSlot) → vm_at h v ≡ Some vm → IsVm vm × (vm.room ≡ config.leaves)
+  pub vms : (v : ℕ) (vm : VmSlot) → vm_at h v ≡ Some vm → vm.room ≡ config.leaves
   pub lists : AreLists (links_of h) (ends_at h) (owner_at h)
 
 -- the free list, where its ends are here
