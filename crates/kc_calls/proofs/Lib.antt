@@ -4,3 +4,4 @@ pub mod Needed
 pub mod Hosts
 pub mod Verifying
 pub mod Measuring
+pub mod Imaged

@@ -1,11 +1,14 @@
 -- The bytes of pages, joined and cut, and the approval of their digest.
-use Rattle.std.proofs.Common.{ℕ, zero, suc, ◌≡◌, ◌≤◌, ◌<◌, ◌+◌, ◌-◌, ◌*◌, inl, inr, min, List, [], ◌∷◌, ◌++◌, length, take, map, refl, sym, ap, ◌∙◌, arith, length-append}
-use Rattle.std.specs.List.{flat_map, range_with_len}
-use Rattle.std.proofs.lemmas.Bool.{cases_lt}
+use Rattle.std.proofs.Common.{ℕ, zero, suc, ◌≡◌, ◌≤◌, ◌<◌, ◌+◌, ◌-◌, ◌*◌, inl, inr, min, Bool, true, false, cond, List, [], ◌∷◌, ◌++◌, length, take, map, refl, sym, ap, subst, ◌∙◌, arith, eq-eqb, length-append}
+use Rattle.std.specs.Prelude.{◌==◌, ◌↔◌, IsTrue, Contains}
+use Rattle.std.specs.List.{flat_map, list_any, range_with_len}
+use Rattle.std.proofs.lemmas.Bool.{cases_lt, eqb-true}
 use Rattle.std.proofs.lemmas.Grind.{common_steps, flat_map-append}
 use Rattle.std.proofs.lemmas.List.{take_all, append-nil}
 use Rattle.std.proofs.lemmas.List.FromFn.{map-range_with_len_more}
 use Rattle.std.proofs.lemmas.List.{map-id}
+use Rattle.std.proofs.lemmas.List.Folds.{list_any_at, Any-from_list_any}
+use Rattle.kc_model.specs.Effects.{same_bytes}
 
 -- the bytes of `n` places, joined
 abbrev pub joined : (ℕ → List ℕ) → ℕ → ℕ → List ℕ
@@ -52,3 +55,35 @@ whole-more bytes a g page from is whole before =
     let at : a + (g - a) ≡ g = omega (arith, from) in
     let more : joined bytes a (g + 1 - a) ≡ joined bytes a (g - a) ++ page = ap (joined bytes a) next ∙ joined-more bytes a (g - a) ∙ ap (λ k. joined bytes a (g - a) ++ bytes k) at ∙ ap (λ p. joined bytes a (g - a) ++ p) is in
     ap length more ∙ length-append (joined bytes a (g - a)) page ∙ (omega (arith, before, whole, from))
+
+-- bytes are the same where the test says so
+same_bytes-is : (xs ys : List ℕ) → same_bytes xs ys ≡ true → xs ≡ ys
+same_bytes-is [] [] same = refl
+same_bytes-is [] (y ∷ ys) same = cc
+same_bytes-is (x ∷ xs) [] same = cc
+same_bytes-is (x ∷ xs) (y ∷ ys) same = by_first (x == y) refl (same_bytes-is xs ys) same
+  where
+    by_first : (first : Bool) → (x == y) ≡ first → (same_bytes xs ys ≡ true → xs ≡ ys) → cond first (same_bytes xs ys) false ≡ true → x ∷ xs ≡ y ∷ ys
+    by_first true is later rest = rw (eqb-true x y is, later rest) refl
+    by_first false is later rest = cc
+
+same_bytes-refl : (xs : List ℕ) → same_bytes xs xs ≡ true
+same_bytes-refl [] = refl
+same_bytes-refl (x ∷ xs) = ap (λ first. cond first (same_bytes xs xs) false) (eq-eqb x x refl) ∙ same_bytes-refl xs
+
+-- a digest is approved where it is one of the list
+pub approved-is : (answer : Bool) (approved : List (List ℕ)) (digest : List ℕ) → IsTrue answer ↔ Contains approved digest → answer ≡ list_any (λ other. same_bytes other digest) approved
+approved-is true approved digest tells =
+    let found = tells.0 refl in
+    sym (list_any_at (λ other. same_bytes other digest) approved found.0 digest found.1 (ap (λ other. same_bytes other digest) found.2 ∙ same_bytes-refl digest))
+approved-is false approved digest tells = by_any (list_any (λ other. same_bytes other digest) approved) refl
+  where
+    by_any : (any : Bool) → list_any (λ other. same_bytes other digest) approved ≡ any → false ≡ any
+    by_any false is = refl
+    by_any true is =
+        let found = Any-from_list_any (λ other. same_bytes other digest) approved is in
+        let same = same_bytes-is found.1 digest found.4 in
+        absurd (no (tells.1 (subst (λ other. Contains approved other) same (found.0, found.2, found.3))))
+      where
+        no : IsTrue false → ⊥
+        no is = cc

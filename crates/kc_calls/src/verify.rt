@@ -99,6 +99,7 @@ fn digest_of(parts: &Parts, table: &Stage2, image: &Image) -> [u8; 32]
 
 /// Whether the digest of an image's bytes is approved.
 fn is_approved_image(parts: &Parts, config: &Config, vm: VmId, image: &Image) -> bool
+    requires low { vm < slot_count config.now }
     requires linked { IsLinked config.now parts.now }
     requires here { IsImageHere parts.now (mapped_in (vm_at parts.now vm)) image.now }
     ensures { result ≡ is_approved (state_of config.now parts.now) vm image.now }
