@@ -1,17 +1,21 @@
 -- The images of a slot that is here, as the state has them.
-use Rattle.std.proofs.Common.{ℕ, zero, suc, ◌≡◌, ◌≤◌, ◌<◌, ◌+◌, true, is_some, List, [], ◌∷◌, take, Option, Some, None, refl, sym, ap, subst, ◌∙◌, arith}
+use Rattle.std.proofs.Common.{ℕ, zero, suc, ◌≡◌, ◌≤◌, ◌<◌, ◌+◌, ◌-◌, ◌%◌, true, is_some, List, [], ◌∷◌, take, Option, Some, None, refl, sym, ap, subst, ◌∙◌, arith}
 use Rattle.std.specs.List.{flat_map, range_with_len}
 use Rattle.std.specs.FinMap as map
 use Rattle.kc_types.specs.Configuration.{Configuration, slot_count}
-use Rattle.kc_model.specs.State.{Image, Slot, mapped_at, frame_at}
+use Rattle.kc_model.specs.State.{State, Image, Slot, slot_at, mapped_at, frame_at, with_frame}
 use Rattle.kc_model.specs.Refusals.{backing, pages_of}
-use Rattle.kc_model.specs.Effects.{bytes_at, image_bytes}
+use Rattle.kc_model.specs.Effects.{bytes_at, image_bytes, trimmed}
+use Rattle.kc_page.specs.declared.page.Page.{Page}
+use Rattle.kc_page.specs.Bytes.{zeroed_from}
+use Rattle.kc_page.specs.Pages.{frame_of}
 use Rattle.kc_stage2.specs.Table.{Table}
 use Rattle.kc_vms.specs.Slots.{VmSlot, table_of}
-use Rattle.kc_parts.specs.Held.{Held, vm_at}
+use Rattle.kc_parts.specs.Held.{Held, page_at, vm_at, with_page, link_of}
 use Rattle.kc_parts.specs.States.{frame_in, state_of, IsLinked}
 use Rattle.kc_parts.proofs.Seen.{frame-seen}
 use Rattle.kc_calls.specs.Verifying.{mapped_in, page_under, bytes_under, bytes_of_image, IsImageHere}
+use Rattle.kc_calls.proofs.Frames.{changed}
 use Rattle.kc_calls.proofs.Needed.{slot-is}
 
 -- where a guest frame leads, in a slot that is here
@@ -45,3 +49,21 @@ slot-there h None image here =
 -- the images of a slot that is here, through its table
 pub image-through : (h : Held) (v : ℕ) (vm : VmSlot) (table : Table) (image : Image) → vm_at h v ≡ Some vm → table ≡ table_of vm → IsImageHere h (mapped_in (vm_at h v)) image → IsImageHere h (map.get table.mapped) image
 image-through h v vm table image at through here = subst (λ (t : Table). IsImageHere h (map.get t.mapped) image) (sym through) (subst (λ there. IsImageHere h (mapped_in there) image) at here)
+
+-- the last page of an image that is trimmed
+pub state-trimmed : (config : Configuration) (h : Held) (v : ℕ) (vm : VmSlot) (image : Image) (f : ℕ) (page new : Page) → v < slot_count config → IsLinked config h → vm_at h v ≡ Some vm → 0 < image.len
+    → f ≡ backing (map.get vm.slot.mapped (image.base + (pages_of image.len - 1))) → page_at h f ≡ Some page → link_of new ≡ link_of page
+    → frame_of new ≡ record (frame_of page) { bytes = zeroed_from page.bytes ((image.len - 1) % 4096 + 1) }
+    → state_of config (with_page h f new) ≡ trimmed (state_of config h) v image
+state-trimmed config h v vm image f page new low linked at some is here same to =
+    let m : State = state_of config h in
+    let kept : ℕ = (image.len - 1) % 4096 + 1 in
+    let pages : 0 < pages_of image.len = omega arith in
+    let last : image.base + (pages_of image.len - 1) ≡ image.base + pages_of image.len - 1 = omega (arith, pages) in
+    let there : f ≡ backing (mapped_at m v (image.base + pages_of image.len - 1)) = is ∙ ap (λ g. backing (map.get vm.slot.mapped g)) last ∙ sym (ap backing (mapped-seen config h v vm (image.base + pages_of image.len - 1) low at)) in
+    changed config h f page new (λ frame. record frame { bytes = zeroed_from frame.bytes kept }) (linked.frames f (ap is_some here)) here same to
+    ∙ ap (λ g. with_frame m g (record (frame_at m g) { bytes = zeroed_from (frame_at m g).bytes kept })) there
+
+-- the images of a slot that is here are those of the state
+pub images-seen : (config : Configuration) (h : Held) (v : ℕ) (vm : VmSlot) (images : List Image) → v < slot_count config → vm_at h v ≡ Some vm → images ≡ vm.slot.images → (slot_at (state_of config h) v).images ≡ images
+images-seen config h v vm images low at is = ap (λ (there : Slot). there.images) (slot-is config h v vm low at) ∙ sym is

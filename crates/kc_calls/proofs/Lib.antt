@@ -5,3 +5,4 @@ pub mod Hosts
 pub mod Verifying
 pub mod Measuring
 pub mod Imaged
+pub mod FirstFailing

@@ -1,15 +1,17 @@
 //! Verifying a VM: its boot images are measured, and it becomes active or dead.
-ghost use Rattle.std.specs.Prelude.{◌≡◌, ◌<◌, ◌||◌, ◌==◌, Some, None, true, is_some, length, cond};
+ghost use Rattle.std.specs.Prelude.{◌≡◌, ◌<◌, ◌||◌, ◌==◌, All, Some, None, true, is_some, length};
 ghost use Rattle.std.specs.List.{list_any};
 ghost use Rattle.std.specs.FinMap as map;
 ghost use Rattle.sha2.specs.Sha256.{sha256};
 ghost use Rattle.kc_types.specs.Limits.{gfn_limit};
 ghost use Rattle.kc_types.specs.Configuration.{slot_count};
 ghost use Rattle.kc_types.specs.declared.call.Call.TheVariants.{Verify};
+ghost use Rattle.kc_model.specs.State.{slot_at};
 ghost use Rattle.kc_model.specs.Refusals.{refusal, backing, is_short};
-ghost use Rattle.kc_model.specs.Effects.{is_approved};
+ghost use Rattle.kc_model.specs.Effects.{is_approved, first_failing, trimmed};
 ghost use Rattle.kc_parts.specs.Held.{vm_at};
 ghost use Rattle.kc_parts.specs.States.{state_of, IsLinked};
+ghost use Rattle.kc_calls.specs.Applying.{IsSameRoom};
 ghost use Rattle.kc_calls.specs.Verifying.{mapped_in, page_under, bytes_of_image, IsImageHere};
 
 use kc_image::{Approved, Measure, pages_of};
@@ -107,4 +109,37 @@ fn is_approved_image(parts: &Parts, config: &Config, vm: VmId, image: &Image) ->
     let slot = parts.vm(vm).unwrap();
     let digest = digest_of(parts, slot.table(), image);
     Approved::new(config.approved()).is_approved(&digest)
+}
+
+/// The number of a slot's first image that is not approved.
+fn first_unapproved(parts: &Parts, config: &Config, vm: VmId) -> Option<u32>
+    requires low { vm < slot_count config.now }
+    requires linked { IsLinked config.now parts.now }
+    requires slot { is_some (vm_at parts.now vm) ≡ true }
+    requires here { All (IsImageHere parts.now (mapped_in (vm_at parts.now vm))) (slot_at (state_of config.now parts.now) vm).images }
+    ensures { result ≡ first_failing (is_approved (state_of config.now parts.now) vm) (slot_at (state_of config.now parts.now) vm).images }
+{
+    let images = parts.vm(vm).unwrap().images();
+    for i in 0..images.len() {
+        if !is_approved_image(parts, config, vm, &images[i]) {
+            return Some(i as u32);
+        }
+    }
+    None
+}
+
+/// Zeroes the bytes past an image's end in its last page.
+fn trim_image(parts: &mut Parts, config: &Config, vm: VmId, image: &Image)
+    requires low { vm < slot_count config.now }
+    requires linked { IsLinked config.now parts.old }
+    requires here { IsImageHere parts.old (mapped_in (vm_at parts.old vm)) image.now }
+    ensures state { state_of config.now parts.new ≡ trimmed (state_of config.now parts.old) vm image.now }
+    ensures linked { IsLinked config.now parts.new }
+    ensures room { IsSameRoom parts.old parts.new }
+    ensures slots { parts.new.vms ≡ parts.old.vms }
+{
+    let slot = parts.vm(vm).unwrap();
+    let frame = frame_under(slot.table(), image.base + (pages_of(image.len) - 1));
+    let page = parts.frame_mut(frame).unwrap();
+    page.bytes.zero_from((image.len as usize - 1) % 4_096 + 1);
 }
