@@ -1,22 +1,31 @@
 -- The images of a slot that is here, as the state has them.
-use Rattle.std.proofs.Common.{ℕ, zero, suc, ◌≡◌, ◌≤◌, ◌<◌, ◌+◌, ◌-◌, ◌%◌, true, is_some, List, [], ◌∷◌, take, Option, Some, None, refl, sym, ap, subst, ◌∙◌, arith}
+use Rattle.std.proofs.Common.{ℕ, zero, suc, ◌≡◌, ◌≤◌, ◌<◌, ◌+◌, ◌-◌, ◌%◌, true, false, is_some, All, List, [], ◌∷◌, length, get_or, take, Option, Some, None, refl, sym, ap, subst, ◌∙◌, arith}
 use Rattle.std.specs.List.{flat_map, range_with_len}
+use Rattle.std.specs.Prelude.{slice_index_or}
+use Rattle.std.specs.Ordering.{nat_cmp}
 use Rattle.std.specs.FinMap as map
+use Rattle.std.proofs.lemmas.Grind.{common_steps}
 use Rattle.kc_types.specs.Configuration.{Configuration, slot_count}
+use Rattle.kc_types.specs.declared.call.Call.TheVariants.{Verify}
+use Rattle.kc_types.specs.declared.resource.Resource.TheVariants as resource
 use Rattle.kc_model.specs.State.{State, Image, Slot, slot_at, mapped_at, frame_at, with_frame}
-use Rattle.kc_model.specs.Refusals.{backing, pages_of}
-use Rattle.kc_model.specs.Effects.{bytes_at, image_bytes, trimmed}
+use Rattle.kc_model.specs.Refusals.{refusal, backing, pages_of, is_short}
+use Rattle.kc_model.specs.Effects.{bytes_at, image_bytes, trimmed, all_trimmed}
+use Rattle.kc_model.specs.Local.{IsMappedImage, HasMappedPages}
+use Rattle.kc_model.proofs.Verifies.{verify-served, none-at, backing-of}
 use Rattle.kc_page.specs.declared.page.Page.{Page}
 use Rattle.kc_page.specs.Bytes.{zeroed_from}
 use Rattle.kc_page.specs.Pages.{frame_of}
 use Rattle.kc_stage2.specs.Table.{Table}
 use Rattle.kc_vms.specs.Slots.{VmSlot, table_of}
-use Rattle.kc_parts.specs.Held.{Held, page_at, vm_at, with_page, link_of}
-use Rattle.kc_parts.specs.States.{frame_in, state_of, IsLinked}
-use Rattle.kc_parts.proofs.Seen.{frame-seen}
+use Rattle.kc_parts.specs.Held.{Held, page_at, vm_at, links_of, with_page, link_of}
+use Rattle.kc_parts.specs.States.{frame_in, slot_in, state_of, IsLinked}
+use Rattle.kc_parts.proofs.Seen.{frame-seen, slot-seen}
+use Rattle.kc_links.specs.Chain.{Links}
+use Rattle.kc_calls.specs.Applying.{IsSameRoom, IsAble}
 use Rattle.kc_calls.specs.Verifying.{mapped_in, page_under, bytes_under, bytes_of_image, IsImageHere}
 use Rattle.kc_calls.proofs.Frames.{changed}
-use Rattle.kc_calls.proofs.Needed.{slot-is}
+use Rattle.kc_calls.proofs.Needed.{slot-needed, mapped-needed, slot-is}
 
 -- where a guest frame leads, in a slot that is here
 pub mapped-seen : (config : Configuration) (h : Held) (v : ℕ) (vm : VmSlot) (g : ℕ) → v < slot_count config → vm_at h v ≡ Some vm → mapped_at (state_of config h) v g ≡ map.get vm.slot.mapped g
@@ -37,14 +46,6 @@ pub image-seen : (config : Configuration) (h : Held) (v : ℕ) (vm : VmSlot) (im
     → bytes_of_image h (map.get vm.slot.mapped) image ≡ image_bytes (state_of config h) v image
 image-seen config h v vm image low linked at here =
     ap (take image.len) (pages-same (bytes_under h (map.get vm.slot.mapped)) (bytes_at (state_of config h) v) image.base (pages_of image.len) (λ g from below. bytes-seen config h v vm g low linked at (here.pages g from below)))
-
--- a slot with a mapped page is here
-pub slot-there : (h : Held) (at : Option VmSlot) (image : Image) → IsImageHere h (mapped_in at) image → is_some at ≡ true
-slot-there h (Some vm) image here = refl
-slot-there h None image here =
-    let len = here.some in
-    let some : 0 < pages_of image.len = omega arith in
-    here.mapped_pages image.base (omega arith) (omega (arith, some))
 
 -- the images of a slot that is here, through its table
 pub image-through : (h : Held) (v : ℕ) (vm : VmSlot) (table : Table) (image : Image) → vm_at h v ≡ Some vm → table ≡ table_of vm → IsImageHere h (mapped_in (vm_at h v)) image → IsImageHere h (map.get table.mapped) image
@@ -67,3 +68,48 @@ state-trimmed config h v vm image f page new low linked at some is here same to 
 -- the images of a slot that is here are those of the state
 pub images-seen : (config : Configuration) (h : Held) (v : ℕ) (vm : VmSlot) (images : List Image) → v < slot_count config → vm_at h v ≡ Some vm → images ≡ vm.slot.images → (slot_at (state_of config h) v).images ≡ images
 images-seen config h v vm images low at is = ap (λ (there : Slot). there.images) (slot-is config h v vm low at) ∙ sym is
+
+-- an image is here as long as the places and the slots stay
+pub image-still : (old new : Held) (v : ℕ) (image : Image) → IsSameRoom old new → new.vms ≡ old.vms → IsImageHere old (mapped_in (vm_at old v)) image → IsImageHere new (mapped_in (vm_at new v)) image
+image-still old new v image room slots here = subst (λ (vms : List (Option VmSlot)). IsImageHere new (mapped_in (slice_index_or vms v None)) image) (sym slots) (record {
+  mapped_pages = here.mapped_pages;
+  pages = λ g from below. room.here (resource.Frame (backing (mapped_in (vm_at old v) g))) ∙ here.pages g from below;
+})
+
+-- one image more is trimmed
+pub all_trimmed-more : (m : State) (v : ℕ) (images : List Image) (i : ℕ) (d : Image) → i < length images → all_trimmed m v (take (i + 1) images) ≡ trimmed (all_trimmed m v (take i images)) v (get_or images i d)
+all_trimmed-more m v [] i d low = absurd (omega (arith, low))
+all_trimmed-more m v (image ∷ images) zero d low = refl
+all_trimmed-more m v (image ∷ images) (suc i) d low =
+    let next : suc i + 1 ≡ suc (i + 1) = omega arith in
+    ap (λ n. all_trimmed m v (take n (image ∷ images))) next ∙ all_trimmed-more (trimmed m v image) v images i d (omega (arith, low))
+
+-- the images of a slot that a served verifying needs are here
+pub images-needed : (config : Configuration) (h : Held) (v : ℕ) → IsAble config h (Verify v) → refusal (state_of config h) (Verify v) ≡ None → All (IsImageHere h (mapped_in (vm_at h v))) (slot_at (state_of config h) v).images
+images-needed config h v able served i d low =
+    let m : State = state_of config h in
+    let seen = verify-served m v served in
+    let there = slot-needed config h (Verify v) able v refl seen.0 in
+    let image : Image = get_or (slot_at m v).images i d in
+    let whole : is_short image ≡ false = none-at is_short (slot_at m v).images i d low seen.2 in
+    let pages = has-pages (slot_at m v).mapped (slot_at m v).images i d ((able.orderly.each_slot v seen.0).images seen.1) low in
+    let same : (g : ℕ) → mapped_at m v g ≡ mapped_in (vm_at h v) g = mapped-as config h v seen.0 in
+    record {
+      mapped_pages = λ g from below. sym (ap is_some (same g)) ∙ pages.each_page g from (not-short image g whole below);
+      pages = λ g from below. ap (λ f. is_some (page_at h (backing f))) (sym (same g)) ∙ mapped-needed config h (Verify v) able v g (backing (mapped_at m v g)) refl seen.0 (backing-of (mapped_at m v g) (pages.each_page g from (not-short image g whole below)));
+    }
+  where
+    has-pages : (mapped : map.FinMap nat_cmp ℕ) (images : List Image) (i : ℕ) (d : Image) → HasMappedPages mapped images → i < length images → IsMappedImage mapped (get_or images i d)
+    has-pages mapped [] i d each low = absurd (omega (arith, low))
+    has-pages mapped (image ∷ images) zero d each low = each.0
+    has-pages mapped (image ∷ images) (suc i) d each low = has-pages mapped images i d each.1 (omega (arith, low))
+
+    not-short : (image : Image) (g : ℕ) → is_short image ≡ false → g < image.base + pages_of image.len → g < image.base + image.pages
+    not-short image g full lt = grind (arith, common_steps)
+
+    mapped-as : (config : Configuration) (h : Held) (v : ℕ) → v < slot_count config → (g : ℕ) → mapped_at (state_of config h) v g ≡ mapped_in (vm_at h v) g
+    mapped-as config h v low g = ap (λ (there : Slot). map.get there.mapped g) (slot-seen config h v low) ∙ by_slot (links_of h) (vm_at h v)
+      where
+        by_slot : (links : Links) (at : Option VmSlot) → map.get (slot_in links at).mapped g ≡ mapped_in at g
+        by_slot links (Some vm) = refl
+        by_slot links None = map.get-empty nat_cmp g

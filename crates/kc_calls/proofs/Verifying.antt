@@ -7,12 +7,18 @@ use Rattle.kc_types.specs.declared.call.Call.TheVariants.{Verify}
 use Rattle.kc_types.specs.declared.refusal.Refusal.{Refusal}
 use Rattle.kc_types.specs.declared.refusal.Refusal.TheVariants.{BadVm, NoVm, WrongPhase, ImageShort}
 use Rattle.kc_types.specs.declared.slot.Phase.{Phase}
-use Rattle.kc_model.specs.State.{Slot, slot_at, empty_slot}
+use Rattle.kc_types.specs.declared.slot.Phase.TheVariants.{Booting}
+use Rattle.kc_model.specs.State.{Slot, slot_at, empty_slot, with_slot}
 use Rattle.kc_model.specs.Refusals.{refusal, when, or_else, first_of_these, is_empty, is_booting, is_short}
+use Rattle.kc_model.specs.Effects.{with_phase}
+use Rattle.kc_model.proofs.Verifies.{verify-served}
+use Rattle.kc_vms.specs.Slots as slots
 use Rattle.kc_vms.specs.Slots.{VmSlot}
-use Rattle.kc_parts.specs.Held.{Held, vm_at, links_of}
-use Rattle.kc_parts.specs.States.{slot_in, state_of}
+use Rattle.kc_parts.specs.Held.{Held, vm_at, links_of, with_vm}
+use Rattle.kc_parts.specs.States.{slot_in, state_of, IsLinked}
 use Rattle.kc_parts.proofs.Seen.{slot-seen}
+use Rattle.kc_parts.proofs.SlotChanges.{state-vm, linked-vm}
+use Rattle.kc_calls.proofs.Needed.{slot-is}
 
 -- why the verifying of a slot is refused, by its phase and whether it lacks pages
 abbrev pub refusal_in : Phase → Bool → Option Refusal
@@ -47,3 +53,20 @@ refusal-past config h v past = ap (λ is_past. or_else (when is_past BadVm) (ref
 
     is_past : (n k : ℕ) → n ≤ k → nat_le n k ≡ true
     is_past n k le = grind (arith, common_steps)
+
+-- a slot that is here boots where the state says so
+pub booting-here : (config : Configuration) (h : Held) (v : ℕ) (vm : VmSlot) → refusal (state_of config h) (Verify v) ≡ None → vm_at h v ≡ Some vm → vm.slot.phase ≡ Booting
+booting-here config h v vm served at =
+    let seen = verify-served (state_of config h) v served in
+    sym (ap (λ (slot : Slot). slot.phase) (slot-is config h v vm seen.0 at)) ∙ seen.1
+
+-- a slot that goes to another phase
+pub state-phase : (config : Configuration) (h : Held) (v : ℕ) (vm new : VmSlot) (phase : Phase) → v < slot_count config → vm_at h v ≡ Some vm → new ≡ record vm { slot = slots.with_phase vm.slot phase }
+    → state_of config (with_vm h v new) ≡ with_phase (state_of config h) v phase
+state-phase config h v vm new phase low at is =
+    ap (λ n. state_of config (with_vm h v n)) is
+    ∙ state-vm config h v vm (record vm { slot = slots.with_phase vm.slot phase }) at
+    ∙ ap (λ (slot : Slot). with_slot (state_of config h) v (record slot { phase = phase })) (sym (slot-is config h v vm low at))
+
+pub linked-phase : (config : Configuration) (h : Held) (v : ℕ) (vm new : VmSlot) (phase : Phase) → IsLinked config h → vm_at h v ≡ Some vm → new ≡ record vm { slot = slots.with_phase vm.slot phase } → IsLinked config (with_vm h v new)
+linked-phase config h v vm new phase linked at is = linked-vm config h v vm new linked at (ap (λ (n : VmSlot). n.slot.ends) is) (ap (λ (n : VmSlot). n.room) is)

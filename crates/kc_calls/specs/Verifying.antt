@@ -2,7 +2,6 @@
 use Rattle.std.specs.Prelude.{ℕ, ◌≡◌, ◌<◌, ◌≤◌, ◌+◌, List, true, is_some, Option, Some, None, take}
 use Rattle.std.specs.List.{flat_map}
 use Rattle.std.specs.FinMap as map
-use Rattle.kc_types.specs.Limits.{gfn_limit}
 use Rattle.kc_model.specs.State.{Image}
 use Rattle.kc_model.specs.Refusals.{backing, pages_of}
 use Rattle.kc_model.specs.Effects.{gfns_of}
@@ -29,7 +28,5 @@ bytes_of_image h mapped image = take image.len (flat_map (bytes_under h mapped) 
 
 -- each page of the image is mapped, and here
 pub record IsImageHere (h : Held) (mapped : ℕ → Option ℕ) (image : Image) : Type 0 where
-  pub some : 0 < image.len
-  pub within : image.base + pages_of image.len ≤ gfn_limit
   pub mapped_pages : (g : ℕ) → image.base ≤ g → g < image.base + pages_of image.len → is_some (mapped g) ≡ true
   pub pages : (g : ℕ) → image.base ≤ g → g < image.base + pages_of image.len → is_some (page_under h mapped g) ≡ true

@@ -7,18 +7,19 @@ ghost use Rattle.kc_types.specs.Limits.{gfn_limit};
 ghost use Rattle.kc_types.specs.Configuration.{slot_count};
 ghost use Rattle.kc_types.specs.declared.call.Call.TheVariants.{Verify};
 ghost use Rattle.kc_model.specs.State.{slot_at};
+ghost use Rattle.kc_model.specs.Lawful.{IsLawfulImage};
 ghost use Rattle.kc_model.specs.Refusals.{refusal, backing, is_short};
-ghost use Rattle.kc_model.specs.Effects.{is_approved, first_failing, trimmed};
+ghost use Rattle.kc_model.specs.Effects.{effect, is_approved, first_failing, trimmed, all_trimmed};
 ghost use Rattle.kc_parts.specs.Held.{vm_at};
 ghost use Rattle.kc_parts.specs.States.{state_of, IsLinked};
-ghost use Rattle.kc_calls.specs.Applying.{IsSameRoom};
+ghost use Rattle.kc_calls.specs.Applying.{IsSameRoom, IsAble};
 ghost use Rattle.kc_calls.specs.Verifying.{mapped_in, page_under, bytes_of_image, IsImageHere};
 
 use kc_image::{Approved, Measure, pages_of};
 use kc_page::Page;
 use kc_parts::Parts;
 use kc_stage2::Stage2;
-use kc_types::{Config, FrameNo, Gfn, Image, Phase, Refusal, VmId};
+use kc_types::{Config, FrameNo, Gfn, Image, Phase, Refusal, Reply, VmId};
 use kc_vms::Vm;
 
 /// Whether the image lacks a page.
@@ -86,7 +87,8 @@ fn page_under<'a>(parts: &'a Parts, table: &Stage2, gfn: u32) -> &'a Page
 
 /// The digest of an image's bytes, page by page.
 fn digest_of(parts: &Parts, table: &Stage2, image: &Image) -> [u8; 32]
-    requires { IsImageHere parts.now (map.get table.now.mapped) image.now }
+    requires lawful { IsLawfulImage image.now }
+    requires here { IsImageHere parts.now (map.get table.now.mapped) image.now }
     ensures { result ≡ sha256 (bytes_of_image parts.now (map.get table.now.mapped) image.now) }
 {
     let mut measure = Measure::new();
@@ -103,6 +105,7 @@ fn digest_of(parts: &Parts, table: &Stage2, image: &Image) -> [u8; 32]
 fn is_approved_image(parts: &Parts, config: &Config, vm: VmId, image: &Image) -> bool
     requires low { vm < slot_count config.now }
     requires linked { IsLinked config.now parts.now }
+    requires lawful { IsLawfulImage image.now }
     requires here { IsImageHere parts.now (mapped_in (vm_at parts.now vm)) image.now }
     ensures { result ≡ is_approved (state_of config.now parts.now) vm image.now }
 {
@@ -132,6 +135,7 @@ fn first_unapproved(parts: &Parts, config: &Config, vm: VmId) -> Option<u32>
 fn trim_image(parts: &mut Parts, config: &Config, vm: VmId, image: &Image)
     requires low { vm < slot_count config.now }
     requires linked { IsLinked config.now parts.old }
+    requires lawful { IsLawfulImage image.now }
     requires here { IsImageHere parts.old (mapped_in (vm_at parts.old vm)) image.now }
     ensures state { state_of config.now parts.new ≡ trimmed (state_of config.now parts.old) vm image.now }
     ensures linked { IsLinked config.now parts.new }
@@ -142,4 +146,41 @@ fn trim_image(parts: &mut Parts, config: &Config, vm: VmId, image: &Image)
     let frame = frame_under(slot.table(), image.base + (pages_of(image.len) - 1));
     let page = parts.frame_mut(frame).unwrap();
     page.bytes.zero_from((image.len as usize - 1) % 4_096 + 1);
+}
+
+/// Zeroes the bytes past the end of each of a slot's images.
+fn trim_images(parts: &mut Parts, config: &Config, vm: VmId)
+    requires low { vm < slot_count config.now }
+    requires linked { IsLinked config.now parts.old }
+    requires slot { is_some (vm_at parts.old vm) ≡ true }
+    requires here { All (IsImageHere parts.old (mapped_in (vm_at parts.old vm))) (slot_at (state_of config.now parts.old) vm).images }
+    ensures state { state_of config.now parts.new ≡ all_trimmed (state_of config.now parts.old) vm (slot_at (state_of config.now parts.old) vm).images }
+    ensures linked { IsLinked config.now parts.new }
+    ensures room { IsSameRoom parts.old parts.new }
+    ensures slots { parts.new.vms ≡ parts.old.vms }
+{
+    let count = parts.vm(vm).unwrap().images().len();
+    for i in 0..count {
+        let image = parts.vm(vm).unwrap().images()[i];
+        trim_image(parts, config, vm, &image);
+    }
+}
+
+/// The slot becomes active if all its images are approved, and dead if one is not.
+pub fn verify(parts: &mut Parts, config: &Config, vm: u32) -> Reply
+    requires served { refusal (state_of config.now parts.old) (Verify vm) ≡ None }
+    requires able { IsAble config.now parts.old (Verify vm) }
+    ensures reply { result ≡ (effect (state_of config.now parts.old) (Verify vm)).0 }
+    ensures state { state_of config.now parts.new ≡ (effect (state_of config.now parts.old) (Verify vm)).1 }
+    ensures linked { IsLinked config.now parts.new }
+    ensures room { IsSameRoom parts.old parts.new }
+{
+    let vm = config.vm(vm).unwrap();
+    if let Some(image) = first_unapproved(parts, config, vm) {
+        parts.vm_mut(vm).unwrap().kill();
+        return Reply::Rejected(image);
+    }
+    trim_images(parts, config, vm);
+    parts.vm_mut(vm).unwrap().activate();
+    Reply::Done
 }

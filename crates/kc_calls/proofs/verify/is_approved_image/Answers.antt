@@ -12,8 +12,8 @@ use Rattle.kc_calls.proofs.Measuring.{approved-is}
 use Rattle.kc_calls.proofs.Imaged.{image-seen, image-through}
 use Rattle.kc_calls.proofs.verify.is_approved_image.Goals as goal
 
-pub digest_of-digest-requires : goal.digest_of-digest-requires
-digest_of-digest-requires c =
+pub digest_of-digest-requires-clause-here : goal.digest_of-digest-requires-clause-here
+digest_of-digest-requires-clause-here c =
     let at : vm_at c.args.parts.now c.args.vm ≡ Some c.unwrap-slot.result.now = sym (rw c.unwrap-slot.ensures at c.vm.ensures) in
     image-through c.args.parts.now c.args.vm c.unwrap-slot.result.now c.table.result.now c.args.image.now at c.table.ensures c.requires.here
 
@@ -25,8 +25,8 @@ returns c =
     let through = c.table.ensures in
     let here = image-through parts c.args.vm slot (table_of slot) c.args.image.now at refl c.requires.here in
     let digest = c.digest_of-digest.ensures
-        ∙ ap (λ (t : Table). sha256 (bytes_of_image parts (map.get t.mapped) c.args.image.now)) through
-        ∙ ap sha256 (image-seen c.args.config.now parts c.args.vm slot c.args.image.now c.requires.low c.requires.linked at here) in
+    ∙ ap (λ (t : Table). sha256 (bytes_of_image parts (map.get t.mapped) c.args.image.now)) through
+    ∙ ap sha256 (image-seen c.args.config.now parts c.args.vm slot c.args.image.now c.requires.low c.requires.linked at here) in
     approved-is c.is_approved.result c.new.result c.digest_of-digest.result c.is_approved.ensures
     ∙ ap (λ approved. list_any (λ other. same_bytes other c.digest_of-digest.result) approved) (c.new.ensures ∙ c.approved.ensures)
     ∙ ap (λ bytes. list_any (λ other. same_bytes other bytes) c.args.config.now.approved) digest

@@ -15,8 +15,8 @@ returns-clause-state c =
     let there : vm_at c.args.parts.now c.args.vm ≡ Some slot = sym (rw c.unwrap-slot.ensures at c.vm.ensures) in
     let at : page_at c.args.parts.now c.frame_under-frame.result ≡ Some c.unwrap-page.result.now = sym (rw c.unwrap-page.ensures at c.frame_mut.ensures.value) in
     let leads : c.frame_under-frame.result ≡ backing (map.get slot.slot.mapped (image.base + (pages_of image.len - 1))) =
-        c.frame_under-frame.ensures ∙ ap (λ (t : Table). backing (map.get t.mapped (image.base + (c.pages_of.result - 1)))) c.table.ensures ∙ ap (λ n. backing (map.get slot.slot.mapped (image.base + (n - 1)))) c.pages_of.ensures in
-    state-trimmed c.args.config.now c.args.parts.now c.args.vm slot image c.frame_under-frame.result c.unwrap-page.result.now _ c.requires.low c.requires.linked there c.requires.here.some leads at refl (rw c.zero_from.ensures refl)
+    c.frame_under-frame.ensures ∙ ap (λ (t : Table). backing (map.get t.mapped (image.base + (c.pages_of.result - 1)))) c.table.ensures ∙ ap (λ n. backing (map.get slot.slot.mapped (image.base + (n - 1)))) c.pages_of.ensures in
+    state-trimmed c.args.config.now c.args.parts.now c.args.vm slot image c.frame_under-frame.result c.unwrap-page.result.now _ c.requires.low c.requires.linked there c.requires.lawful.some leads at refl (rw c.zero_from.ensures refl)
 
 pub returns-clause-linked : goal.returns-clause-linked
 returns-clause-linked c =
