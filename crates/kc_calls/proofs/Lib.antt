@@ -6,3 +6,7 @@ pub mod SlotCalls
 pub mod Hands
 pub mod Hosts
 pub mod Guests
+pub mod Verifying
+pub mod Measuring
+pub mod Imaged
+pub mod FirstFailing

@@ -8,5 +8,6 @@ mod host;
 pub mod laws;
 mod look_ups;
 mod slots;
+mod verify;
 
 pub use dispatch::apply;

@@ -1,0 +1,31 @@
+-- The first element that fails a test, found place by place.
+use Rattle.std.proofs.Common.{ℕ, zero, suc, ◌≡◌, ◌<◌, ◌+◌, Bool, true, false, cond, Option, Some, None, List, [], ◌∷◌, length, get_or, take, refl, sym, ap, ◌∙◌, arith}
+use Rattle.std.specs.Option.{option_map}
+use Rattle.kc_model.specs.Effects.{first_failing}
+
+abbrev pub at_first : Bool → Option ℕ → Option ℕ
+at_first passes later = cond passes (option_map (λ place. place + 1) later) (Some 0)
+
+-- where the first passes, none fails exactly where none of the others does
+none-later : (passes : Bool) (later : Option ℕ) → at_first passes later ≡ None → (passes ≡ true) × (later ≡ None)
+none-later true None is = (refl, refl)
+none-later true (Some place) is = cc
+none-later false later is = cc
+
+-- one place more passes
+pub none-more : {X : Type 0} (test : X → Bool) (xs : List X) (i : ℕ) (d : X) → first_failing test (take i xs) ≡ None → i < length xs → test (get_or xs i d) ≡ true → first_failing test (take (i + 1) xs) ≡ None
+none-more test [] i d none low passes = absurd (omega (arith, low))
+none-more test (x ∷ xs) zero d none low passes = ap (λ first. at_first first (first_failing test (take 0 xs))) passes
+none-more test (x ∷ xs) (suc i) d none low passes =
+    let both = none-later (test x) (first_failing test (take i xs)) none in
+    let next : suc i + 1 ≡ suc (i + 1) = omega arith in
+    ap (λ n. first_failing test (take n (x ∷ xs))) next ∙ ap (λ first. at_first first (first_failing test (take (i + 1) xs))) both.0 ∙ ap (at_first true) (none-more test xs i d both.1 (omega (arith, low)) passes)
+
+-- the next place fails
+pub fails-at : {X : Type 0} (test : X → Bool) (xs : List X) (i : ℕ) (d : X) → first_failing test (take i xs) ≡ None → i < length xs → test (get_or xs i d) ≡ false → first_failing test xs ≡ Some i
+fails-at test [] i d none low fails = absurd (omega (arith, low))
+fails-at test (x ∷ xs) zero d none low fails = ap (λ first. at_first first (first_failing test xs)) fails
+fails-at test (x ∷ xs) (suc i) d none low fails =
+    let both = none-later (test x) (first_failing test (take i xs)) none in
+    let next : i + 1 ≡ suc i = omega arith in
+    ap (λ first. at_first first (first_failing test xs)) both.0 ∙ ap (at_first true) (fails-at test xs i d both.1 (omega (arith, low)) fails) ∙ ap Some next

@@ -1,0 +1,89 @@
+-- The bytes of pages, joined and cut, and the approval of their digest.
+use Rattle.std.proofs.Common.{ℕ, zero, suc, ◌≡◌, ◌≤◌, ◌<◌, ◌+◌, ◌-◌, ◌*◌, inl, inr, min, Bool, true, false, cond, List, [], ◌∷◌, ◌++◌, length, take, map, refl, sym, ap, subst, ◌∙◌, arith, eq-eqb, length-append}
+use Rattle.std.specs.Prelude.{◌==◌, ◌↔◌, IsTrue, Contains}
+use Rattle.std.specs.List.{flat_map, list_any, range_with_len}
+use Rattle.std.proofs.lemmas.Bool.{cases_lt, eqb-true}
+use Rattle.std.proofs.lemmas.Grind.{common_steps, flat_map-append}
+use Rattle.std.proofs.lemmas.List.{take_all, append-nil}
+use Rattle.std.proofs.lemmas.List.FromFn.{map-range_with_len_more}
+use Rattle.std.proofs.lemmas.List.{map-id}
+use Rattle.std.proofs.lemmas.List.Folds.{list_any_at, Any-from_list_any}
+use Rattle.kc_model.specs.Effects.{same_bytes}
+
+-- the bytes of `n` places, joined
+abbrev pub joined : (ℕ → List ℕ) → ℕ → ℕ → List ℕ
+joined bytes a n = flat_map bytes (range_with_len a n)
+
+range-more : (a n : ℕ) → range_with_len a (n + 1) ≡ range_with_len a n ++ (a + n) ∷ []
+range-more a n = sym (map-id (range_with_len a (n + 1))) ∙ map-range_with_len_more (λ g. g) a n (a + n) refl ∙ ap (λ gs. gs ++ (a + n) ∷ []) (map-id (range_with_len a n))
+
+joined-more : (bytes : ℕ → List ℕ) (a n : ℕ) → joined bytes a (n + 1) ≡ joined bytes a n ++ bytes (a + n)
+joined-more bytes a n = ap (flat_map bytes) (range-more a n) ∙ flat_map-append bytes (range_with_len a n) ((a + n) ∷ []) ∙ ap (λ page. joined bytes a n ++ page) (append-nil _)
+
+take-split : (n : ℕ) (xs ys : List ℕ) → take n (xs ++ ys) ≡ take n xs ++ take (n - length xs) ys
+take-split n [] ys = let e : n - 0 ≡ n = omega arith in rw e (none n)
+  where
+    none : (k : ℕ) → take k ys ≡ take k [] ++ take k ys
+    none zero = refl
+    none (suc k) = refl
+take-split zero (x ∷ xs) ys = let e : 0 - (length (x ∷ xs)) ≡ 0 = omega arith in rw e refl
+take-split (suc n) (x ∷ xs) ys = let e : suc n - length (x ∷ xs) ≡ n - length xs = omega arith in rw e (ap (λ zs. x ∷ zs) (take-split n xs ys))
+
+take-min : (n : ℕ) (page : List ℕ) → length page ≡ 4096 → take n page ≡ take (min n 4096) page
+take-min n page whole = elim (cases_lt n 4096) [
+  | inl lt ↦ let e : min n 4096 ≡ n = omega arith in rw e refl
+  | inr le ↦ let e : min n 4096 ≡ 4096 = omega arith in let short : length page ≤ n = omega arith in let same : length page ≤ 4096 = omega arith in rw e (take_all n page short ∙ sym (take_all 4096 page same))
+]
+
+-- the used bytes of one page more
+cut-more : (before page : List ℕ) (len : ℕ) → length page ≡ 4096 → take len (before ++ page) ≡ take len before ++ take (min (len - length before) 4096) page
+cut-more before page len whole = take-split len before page ∙ ap (λ rest. take len before ++ rest) (take-min (len - length before) page whole)
+
+-- what is fed of the page at the next place
+pub fed-more : (bytes : ℕ → List ℕ) (len a g : ℕ) (page : List ℕ) (used : ℕ) → a ≤ g → bytes g ≡ page → length page ≡ 4096 → length (joined bytes a (g - a)) ≡ 4096 * (g - a) → used ≡ min (len - 4096 * (g - a)) 4096
+    → take len (joined bytes a (g - a)) ++ take used page ≡ take len (joined bytes a (g + 1 - a))
+fed-more bytes len a g page used from is whole before part =
+    let next : g + 1 - a ≡ (g - a) + 1 = omega (arith, from) in
+    let at : a + (g - a) ≡ g = omega (arith, from) in
+    let more : joined bytes a (g + 1 - a) ≡ joined bytes a (g - a) ++ page = ap (joined bytes a) next ∙ joined-more bytes a (g - a) ∙ ap (λ k. joined bytes a (g - a) ++ bytes k) at ∙ ap (λ p. joined bytes a (g - a) ++ p) is in
+    let cut = cut-more (joined bytes a (g - a)) page len whole in
+    ap (λ k. take len (joined bytes a (g - a)) ++ take k page) (part ∙ ap (λ n. min (len - n) 4096) (sym before)) ∙ sym cut ∙ sym (ap (take len) more)
+
+pub whole-more : (bytes : ℕ → List ℕ) (a g : ℕ) (page : List ℕ) → a ≤ g → bytes g ≡ page → length page ≡ 4096 → length (joined bytes a (g - a)) ≡ 4096 * (g - a) → length (joined bytes a (g + 1 - a)) ≡ 4096 * (g + 1 - a)
+whole-more bytes a g page from is whole before =
+    let next : g + 1 - a ≡ (g - a) + 1 = omega (arith, from) in
+    let at : a + (g - a) ≡ g = omega (arith, from) in
+    let more : joined bytes a (g + 1 - a) ≡ joined bytes a (g - a) ++ page = ap (joined bytes a) next ∙ joined-more bytes a (g - a) ∙ ap (λ k. joined bytes a (g - a) ++ bytes k) at ∙ ap (λ p. joined bytes a (g - a) ++ p) is in
+    ap length more ∙ length-append (joined bytes a (g - a)) page ∙ (omega (arith, before, whole, from))
+
+-- bytes are the same where the test says so
+same_bytes-is : (xs ys : List ℕ) → same_bytes xs ys ≡ true → xs ≡ ys
+same_bytes-is [] [] same = refl
+same_bytes-is [] (y ∷ ys) same = cc
+same_bytes-is (x ∷ xs) [] same = cc
+same_bytes-is (x ∷ xs) (y ∷ ys) same = by_first (x == y) refl (same_bytes-is xs ys) same
+  where
+    by_first : (first : Bool) → (x == y) ≡ first → (same_bytes xs ys ≡ true → xs ≡ ys) → cond first (same_bytes xs ys) false ≡ true → x ∷ xs ≡ y ∷ ys
+    by_first true is later rest = rw (eqb-true x y is, later rest) refl
+    by_first false is later rest = cc
+
+same_bytes-refl : (xs : List ℕ) → same_bytes xs xs ≡ true
+same_bytes-refl [] = refl
+same_bytes-refl (x ∷ xs) = ap (λ first. cond first (same_bytes xs xs) false) (eq-eqb x x refl) ∙ same_bytes-refl xs
+
+-- a digest is approved where it is one of the list
+pub approved-is : (answer : Bool) (approved : List (List ℕ)) (digest : List ℕ) → IsTrue answer ↔ Contains approved digest → answer ≡ list_any (λ other. same_bytes other digest) approved
+approved-is true approved digest tells =
+    let found = tells.0 refl in
+    sym (list_any_at (λ other. same_bytes other digest) approved found.0 digest found.1 (ap (λ other. same_bytes other digest) found.2 ∙ same_bytes-refl digest))
+approved-is false approved digest tells = by_any (list_any (λ other. same_bytes other digest) approved) refl
+  where
+    by_any : (any : Bool) → list_any (λ other. same_bytes other digest) approved ≡ any → false ≡ any
+    by_any false is = refl
+    by_any true is =
+        let found = Any-from_list_any (λ other. same_bytes other digest) approved is in
+        let same = same_bytes-is found.1 digest found.4 in
+        absurd (no (tells.1 (subst (λ other. Contains approved other) same (found.0, found.2, found.3))))
+      where
+        no : IsTrue false → ⊥
+        no is = cc

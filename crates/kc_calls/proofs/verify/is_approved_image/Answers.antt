@@ -1,0 +1,32 @@
+use Rattle.std.proofs.Common.{ℕ, ◌≡◌, List, Some, refl, sym, ap, subst, ◌∙◌}
+use Rattle.std.specs.Prelude.{◌↔◌, IsTrue, Contains}
+use Rattle.std.specs.List.{list_any}
+use Rattle.std.specs.FinMap as map
+use Rattle.sha2.specs.Sha256.{sha256}
+use Rattle.kc_stage2.specs.Table.{Table}
+use Rattle.kc_model.specs.Effects.{same_bytes}
+use Rattle.kc_vms.specs.Slots.{table_of}
+use Rattle.kc_parts.specs.Held.{vm_at}
+use Rattle.kc_calls.specs.Verifying.{bytes_of_image}
+use Rattle.kc_calls.proofs.Measuring.{approved-is}
+use Rattle.kc_calls.proofs.Imaged.{image-seen, image-through}
+use Rattle.kc_calls.proofs.verify.is_approved_image.Goals as goal
+
+pub digest_of-digest-requires-clause-here : goal.digest_of-digest-requires-clause-here
+digest_of-digest-requires-clause-here c =
+    let at : vm_at c.args.parts.now c.args.vm ≡ Some c.unwrap-slot.result.now = sym (rw c.unwrap-slot.ensures at c.vm.ensures) in
+    image-through c.args.parts.now c.args.vm c.unwrap-slot.result.now c.table.result.now c.args.image.now at c.table.ensures c.requires.here
+
+pub returns : goal.returns
+returns c =
+    let parts = c.args.parts.now in
+    let slot = c.unwrap-slot.result.now in
+    let at : vm_at parts c.args.vm ≡ Some slot = sym (rw c.unwrap-slot.ensures at c.vm.ensures) in
+    let through = c.table.ensures in
+    let here = image-through parts c.args.vm slot (table_of slot) c.args.image.now at refl c.requires.here in
+    let digest = c.digest_of-digest.ensures
+    ∙ ap (λ (t : Table). sha256 (bytes_of_image parts (map.get t.mapped) c.args.image.now)) through
+    ∙ ap sha256 (image-seen c.args.config.now parts c.args.vm slot c.args.image.now c.requires.low c.requires.linked at here) in
+    approved-is c.is_approved.result c.new.result c.digest_of-digest.result c.is_approved.ensures
+    ∙ ap (λ approved. list_any (λ other. same_bytes other c.digest_of-digest.result) approved) (c.new.ensures ∙ c.approved.ensures)
+    ∙ ap (λ bytes. list_any (λ other. same_bytes other bytes) c.args.config.now.approved) digest

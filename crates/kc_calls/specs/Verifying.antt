@@ -1,0 +1,32 @@
+-- What verifying a slot reads of parts.
+use Rattle.std.specs.Prelude.{ℕ, ◌≡◌, ◌<◌, ◌≤◌, ◌+◌, List, true, is_some, Option, Some, None, take}
+use Rattle.std.specs.List.{flat_map}
+use Rattle.std.specs.FinMap as map
+use Rattle.kc_model.specs.State.{Image}
+use Rattle.kc_model.specs.Refusals.{backing, pages_of}
+use Rattle.kc_model.specs.Effects.{gfns_of}
+use Rattle.kc_page.specs.declared.page.Page.{Page}
+use Rattle.kc_vms.specs.Slots.{VmSlot}
+use Rattle.kc_parts.specs.Held.{Held, page_at}
+use Rattle.kc_parts.specs.States.{frame_in}
+
+-- where a slot leads from a guest frame; nowhere if it is not here
+abbrev pub mapped_in : Option VmSlot → ℕ → Option ℕ
+mapped_in (Some vm) g = map.get vm.slot.mapped g
+mapped_in None g = None
+
+-- the page at a guest frame
+abbrev pub page_under : Held → (ℕ → Option ℕ) → ℕ → Option Page
+page_under h mapped g = page_at h (backing (mapped g))
+
+abbrev pub bytes_under : Held → (ℕ → Option ℕ) → ℕ → List ℕ
+bytes_under h mapped g = (frame_in (page_under h mapped g)).bytes
+
+-- the bytes of an image, of its pages joined
+abbrev pub bytes_of_image : Held → (ℕ → Option ℕ) → Image → List ℕ
+bytes_of_image h mapped image = take image.len (flat_map (bytes_under h mapped) (gfns_of image))
+
+-- each page of the image is mapped, and here
+pub record IsImageHere (h : Held) (mapped : ℕ → Option ℕ) (image : Image) : Type 0 where
+  pub mapped_pages : (g : ℕ) → image.base ≤ g → g < image.base + pages_of image.len → is_some (mapped g) ≡ true
+  pub pages : (g : ℕ) → image.base ≤ g → g < image.base + pages_of image.len → is_some (page_under h mapped g) ≡ true

@@ -1,0 +1,186 @@
+//! Verifying a VM: its boot images are measured, and it becomes active or dead.
+ghost use Rattle.std.specs.Prelude.{◌≡◌, ◌<◌, ◌||◌, ◌==◌, All, Some, None, true, is_some, length};
+ghost use Rattle.std.specs.List.{list_any};
+ghost use Rattle.std.specs.FinMap as map;
+ghost use Rattle.sha2.specs.Sha256.{sha256};
+ghost use Rattle.kc_types.specs.Limits.{gfn_limit};
+ghost use Rattle.kc_types.specs.Configuration.{slot_count};
+ghost use Rattle.kc_types.specs.declared.call.Call.TheVariants.{Verify};
+ghost use Rattle.kc_model.specs.State.{slot_at};
+ghost use Rattle.kc_model.specs.Lawful.{IsLawfulImage};
+ghost use Rattle.kc_model.specs.Refusals.{refusal, backing, is_short};
+ghost use Rattle.kc_model.specs.Effects.{effect, is_approved, first_failing, trimmed, all_trimmed};
+ghost use Rattle.kc_parts.specs.Held.{vm_at};
+ghost use Rattle.kc_parts.specs.States.{state_of, IsLinked};
+ghost use Rattle.kc_calls.specs.Applying.{IsSameRoom, IsAble};
+ghost use Rattle.kc_calls.specs.Verifying.{mapped_in, page_under, bytes_of_image, IsImageHere};
+
+use kc_image::{Approved, Measure, pages_of};
+use kc_page::Page;
+use kc_parts::Parts;
+use kc_stage2::Stage2;
+use kc_types::{Config, FrameNo, Gfn, Image, Phase, Refusal, Reply, VmId};
+use kc_vms::Vm;
+
+/// Whether the image lacks a page.
+fn is_short(image: &Image) -> bool
+    ensures { result ≡ is_short image.now }
+{
+    image.pages < pages_of(image.len)
+}
+
+/// Whether one of the images lacks a page.
+fn any_is_short(images: &[Image]) -> bool
+    ensures { result ≡ list_any is_short images.now }
+{
+    images.iter().any(|image| is_short(image))
+}
+
+/// Whether a slot has no image, or one that lacks a page.
+fn lacks_pages(slot: &Vm) -> bool
+    ensures { result ≡ (length slot.now.slot.images == 0 || list_any is_short slot.now.slot.images) }
+{
+    let images = slot.images();
+    images.is_empty() || any_is_short(images)
+}
+
+pub fn verify_refusal(parts: &Parts, config: &Config, vm: u32) -> Option<Refusal>
+    ensures { result ≡ refusal (state_of config.now parts.now) (Verify vm) }
+{
+    let Some(vm) = config.vm(vm) else {
+        return Some(Refusal::BadVm);
+    };
+    let Some(slot) = parts.vm(vm) else {
+        return Some(Refusal::NoVm);
+    };
+    match slot.phase() {
+        Phase::Empty => Some(Refusal::NoVm),
+        Phase::Booting => if lacks_pages(slot) {
+            Some(Refusal::ImageShort)
+        } else {
+            None
+        },
+        Phase::Active | Phase::Dead => Some(Refusal::WrongPhase),
+    }
+}
+
+/// The frame at a mapped guest frame.
+fn frame_under(table: &Stage2, gfn: u32) -> FrameNo
+    requires low { gfn < gfn_limit }
+    requires mapped { is_some (map.get table.now.mapped gfn) ≡ true }
+    ensures { result ≡ backing (map.get table.now.mapped gfn) }
+{
+    let gfn = Gfn::try_new(gfn).unwrap();
+    table.get(gfn).unwrap()
+}
+
+/// The page at a mapped guest frame, which is here.
+fn page_under<'a>(parts: &'a Parts, table: &Stage2, gfn: u32) -> &'a Page
+    requires low { gfn < gfn_limit }
+    requires mapped { is_some (map.get table.now.mapped gfn) ≡ true }
+    requires here { is_some (page_under parts.now (map.get table.now.mapped) gfn) ≡ true }
+    ensures { page_under parts.now (map.get table.now.mapped) gfn ≡ Some result.now }
+{
+    let frame = frame_under(table, gfn);
+    parts.frame(frame).unwrap()
+}
+
+/// The digest of an image's bytes, page by page.
+fn digest_of(parts: &Parts, table: &Stage2, image: &Image) -> [u8; 32]
+    requires lawful { IsLawfulImage image.now }
+    requires here { IsImageHere parts.now (map.get table.now.mapped) image.now }
+    ensures { result ≡ sha256 (bytes_of_image parts.now (map.get table.now.mapped) image.now) }
+{
+    let mut measure = Measure::new();
+    let mut left = image.len;
+    for gfn in image.base..image.base + pages_of(image.len) {
+        let used = left.min(4_096);
+        measure.page(&page_under(parts, table, gfn).bytes, used as usize);
+        left -= used;
+    }
+    measure.finish()
+}
+
+/// Whether the digest of an image's bytes is approved.
+fn is_approved_image(parts: &Parts, config: &Config, vm: VmId, image: &Image) -> bool
+    requires low { vm < slot_count config.now }
+    requires linked { IsLinked config.now parts.now }
+    requires lawful { IsLawfulImage image.now }
+    requires here { IsImageHere parts.now (mapped_in (vm_at parts.now vm)) image.now }
+    ensures { result ≡ is_approved (state_of config.now parts.now) vm image.now }
+{
+    let slot = parts.vm(vm).unwrap();
+    let digest = digest_of(parts, slot.table(), image);
+    Approved::new(config.approved()).is_approved(&digest)
+}
+
+/// The number of a slot's first image that is not approved.
+fn first_unapproved(parts: &Parts, config: &Config, vm: VmId) -> Option<u32>
+    requires low { vm < slot_count config.now }
+    requires linked { IsLinked config.now parts.now }
+    requires slot { is_some (vm_at parts.now vm) ≡ true }
+    requires here { All (IsImageHere parts.now (mapped_in (vm_at parts.now vm))) (slot_at (state_of config.now parts.now) vm).images }
+    ensures { result ≡ first_failing (is_approved (state_of config.now parts.now) vm) (slot_at (state_of config.now parts.now) vm).images }
+{
+    let images = parts.vm(vm).unwrap().images();
+    for i in 0..images.len() {
+        if !is_approved_image(parts, config, vm, &images[i]) {
+            return Some(i as u32);
+        }
+    }
+    None
+}
+
+/// Zeroes the bytes past an image's end in its last page.
+fn trim_image(parts: &mut Parts, config: &Config, vm: VmId, image: &Image)
+    requires low { vm < slot_count config.now }
+    requires linked { IsLinked config.now parts.old }
+    requires lawful { IsLawfulImage image.now }
+    requires here { IsImageHere parts.old (mapped_in (vm_at parts.old vm)) image.now }
+    ensures state { state_of config.now parts.new ≡ trimmed (state_of config.now parts.old) vm image.now }
+    ensures linked { IsLinked config.now parts.new }
+    ensures room { IsSameRoom parts.old parts.new }
+    ensures slots { parts.new.vms ≡ parts.old.vms }
+{
+    let slot = parts.vm(vm).unwrap();
+    let frame = frame_under(slot.table(), image.base + (pages_of(image.len) - 1));
+    let page = parts.frame_mut(frame).unwrap();
+    page.bytes.zero_from((image.len as usize - 1) % 4_096 + 1);
+}
+
+/// Zeroes the bytes past the end of each of a slot's images.
+fn trim_images(parts: &mut Parts, config: &Config, vm: VmId)
+    requires low { vm < slot_count config.now }
+    requires linked { IsLinked config.now parts.old }
+    requires slot { is_some (vm_at parts.old vm) ≡ true }
+    requires here { All (IsImageHere parts.old (mapped_in (vm_at parts.old vm))) (slot_at (state_of config.now parts.old) vm).images }
+    ensures state { state_of config.now parts.new ≡ all_trimmed (state_of config.now parts.old) vm (slot_at (state_of config.now parts.old) vm).images }
+    ensures linked { IsLinked config.now parts.new }
+    ensures room { IsSameRoom parts.old parts.new }
+    ensures slots { parts.new.vms ≡ parts.old.vms }
+{
+    let count = parts.vm(vm).unwrap().images().len();
+    for i in 0..count {
+        let image = parts.vm(vm).unwrap().images()[i];
+        trim_image(parts, config, vm, &image);
+    }
+}
+
+/// The slot becomes active if all its images are approved, and dead if one is not.
+pub fn verify(parts: &mut Parts, config: &Config, vm: u32) -> Reply
+    requires served { refusal (state_of config.now parts.old) (Verify vm) ≡ None }
+    requires able { IsAble config.now parts.old (Verify vm) }
+    ensures reply { result ≡ (effect (state_of config.now parts.old) (Verify vm)).0 }
+    ensures state { state_of config.now parts.new ≡ (effect (state_of config.now parts.old) (Verify vm)).1 }
+    ensures linked { IsLinked config.now parts.new }
+    ensures room { IsSameRoom parts.old parts.new }
+{
+    let vm = config.vm(vm).unwrap();
+    if let Some(image) = first_unapproved(parts, config, vm) {
+        parts.vm_mut(vm).unwrap().kill();
+        return Reply::Rejected(image);
+    }
+    trim_images(parts, config, vm);
+    parts.vm_mut(vm).unwrap().activate();
+    Reply::Done
+}
