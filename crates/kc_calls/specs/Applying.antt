@@ -1,6 +1,7 @@
 -- What a call does with parts, beside what the rules say.
-use Rattle.std.specs.Prelude.{ℕ, ◌≡◌, Option, Some, Result, Ok, Err}
+use Rattle.std.specs.Prelude.{ℕ, ◌≡◌, Option, None, Some, Result, Ok, Err}
 use Rattle.kc_types.specs.declared.call.Call.{Call}
+use Rattle.kc_types.specs.declared.call.Call.TheVariants.{RegisterVm, RegisterVcpu, SetBoot}
 use Rattle.kc_types.specs.declared.reply.Reply.{Reply}
 use Rattle.kc_types.specs.declared.refusal.Refusal.{Refusal}
 use Rattle.kc_types.specs.Configuration.{Configuration}
@@ -8,7 +9,7 @@ use Rattle.kc_page.specs.declared.page.PageRecord.{PageRecord}
 use Rattle.kc_model.specs.State.{State, Frame, mapped_at}
 use Rattle.kc_model.specs.Lawful.{IsLawful}
 use Rattle.kc_model.specs.Next.{next}
-use Rattle.kc_model.specs.Refusals.{guest_frame}
+use Rattle.kc_model.specs.Refusals.{refusal, guest_frame}
 use Rattle.kc_model.specs.Resources.{Resource, Resources, merged, need, IsWithin}
 use Rattle.kc_model.specs.Local.{IsOrderly, cut}
 use Rattle.kc_parts.specs.Held.{Held}
@@ -31,6 +32,13 @@ pub record IsAble (config : Configuration) (h : Held) (call : Call) : Type 0 whe
   pub orderly : IsOrderly (state_of config h)
   pub linked : IsLinked config h
   pub here : IsWithin (need (state_of config h) call) (here_of h)
+
+-- the refusal that is looked up before a call is carried out. The calls that change a slot alone are refused by the slot
+abbrev pub looked_up : State → Call → Option Refusal
+looked_up m (RegisterVm v) = None
+looked_up m (RegisterVcpu v c) = None
+looked_up m (SetBoot v base len) = None
+looked_up m call = refusal m call
 
 -- the reply to a call, and the parts that it leaves, are what the rules say, and all parts stay in their places
 pub record IsAnswer (config : Configuration) (old new : Held) (call : Call) (answer : Reply) : Type 0 where
