@@ -19,3 +19,5 @@ mod receipts;
 mod support;
 #[cfg(test)]
 mod traces;
+#[cfg(test)]
+mod vms;

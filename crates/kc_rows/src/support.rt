@@ -2,6 +2,12 @@
 use kc_cli::{Mem, TextFault, replay_text};
 use std::alloc::AllocError;
 
+/// The calls of a trace, and the replies that they get.
+pub struct Example {
+    pub calls: &'static str,
+    pub replies: &'static str,
+}
+
 /// 8 frames: 0 is the core's, 1 to 4 are the host's, 5 to 7 are free.
 pub const SMALL: &str =
     "{\"frames\":8,\"core\":1,\"host\":4,\"leaves\":1,\"approved\":[\"ba7816bf8f01cfea414140de5dae2223b00361a396177a9cb410ff61f20015ad\"]}";

@@ -1,14 +1,8 @@
 //! Traces and their replies.
-use crate::support::{SMALL, replayed};
+use crate::support::{Example, SMALL, replayed};
 use kc_cli::TextFault;
 use kc_trace::TraceFault;
 use std::test::Fail;
-
-/// The calls of a trace, and the replies that they get.
-struct Example {
-    calls: &'static str,
-    replies: &'static str,
-}
 
 const EXAMPLES: [Example; 10] = [
     Example {
@@ -89,7 +83,7 @@ fn refused_traces_write_nothing(rt: HostRuntime) -> Result<(), Fail> {
             TraceFault::BadLine(3),
         ),
         ("kcore-trace 1\nhfault 1", TraceFault::NoNewline),
-        ("kcore-trace 1\nregvm 0\n", TraceFault::BadLine(2)),
+        ("kcore-trace 1\nclear 0\n", TraceFault::BadLine(2)),
     ];
     for (trace, fault) in cases {
         let (outcome, written) = replayed(&rt, SMALL, trace.as_bytes())?;

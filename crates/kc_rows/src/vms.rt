@@ -1,0 +1,160 @@
+//! Stories of VMs: their images, their faults, what they share.
+use crate::support::{Example, SMALL, replayed};
+use std::test::Fail;
+
+/// Two leaves in the place of one.
+const TWO_LEAVES: &str =
+    "{\"frames\":8,\"core\":1,\"host\":4,\"leaves\":2,\"approved\":[\"ba7816bf8f01cfea414140de5dae2223b00361a396177a9cb410ff61f20015ad\"]}";
+
+/// A VM whose one image is the approved `abc`, in frame 1, at guest frame 0.
+const BOOT: &str =
+    "hfault 1\nhwrite 1 0 616263\nregvm 0\nregvcpu 0 0\nsetboot 0 0 3\nremap 0 0 1\nverify 0\n";
+
+const BOOTED: &str = "done\ndone\ndone\ndone\nimage 0\ndone\ndone\n";
+
+/// Calls before the VM boots, or without it.
+const BOOTS: [Example; 8] = [
+    // The approved image runs.
+    Example {
+        calls: "hfault 1\nhwrite 1 0 616263\nregvm 0\nregvcpu 0 0\nsetboot 0 0 3\nremap 0 0 1\nverify 0\n",
+        replies: "done\ndone\ndone\ndone\nimage 0\ndone\ndone\n",
+    },
+    // Another does not, and the VM is dead.
+    Example {
+        calls: "hfault 1\nhwrite 1 0 616264\nregvm 0\nregvcpu 0 0\nsetboot 0 0 3\nremap 0 0 1\nverify 0\ngread 0 0 0 0 1\nverify 0\n",
+        replies: "done\ndone\ndone\ndone\nimage 0\ndone\nrejected 0\nrefused wrong-phase\nrefused wrong-phase\n",
+    },
+    // A page that was handed over is out of the host's reach.
+    Example {
+        calls: "hfault 1\nhwrite 1 0 616263\nregvm 0\nregvcpu 0 0\nsetboot 0 0 3\nremap 0 0 1\nhwrite 1 0 00\nhfault 1\n",
+        replies: "done\ndone\ndone\ndone\nimage 0\ndone\nrefused not-present\nrefused protected\n",
+    },
+    // Bytes past the image's end in its last page are zeroed.
+    Example {
+        calls: "hfault 1\nhwrite 1 0 616263ff\nregvm 0\nregvcpu 0 0\nsetboot 0 0 3\nremap 0 0 1\nverify 0\ngread 0 0 0 0 4\n",
+        replies: "done\ndone\ndone\ndone\nimage 0\ndone\ndone\ndata 61626300\n",
+    },
+    // The first image that is not approved is named; a full image takes no page.
+    Example {
+        calls: "hfault 1\nhwrite 1 0 616263\nregvm 0\nsetboot 0 0 3\nsetboot 0 1 1\nremap 0 1 2\nremap 0 0 1\nremap 0 0 1\nverify 0\n",
+        replies: "done\ndone\ndone\nimage 0\nimage 1\ndone\ndone\nrefused image-full\nrejected 1\n",
+    },
+    // An image over two root slots needs two leaves.
+    Example {
+        calls: "regvm 0\nsetboot 0 511 4097\nremap 0 0 1\nremap 0 0 2\ngive 2\n",
+        replies: "done\nimage 0\ndone\nrefused tables-full\ndone\n",
+    },
+    // Where an image may lie.
+    Example {
+        calls: "regvm 0\nsetboot 0 262143 4097\nsetboot 0 0 4294967295\nsetboot 0 0 0\nsetboot 0 0 1048577\nsetboot 0 262143 4096\nsetboot 0 262143 1\nverify 0\n",
+        replies: "done\nrefused bad-gfn\nrefused bad-gfn\nrefused bad-range\nrefused bad-range\nimage 0\nrefused overlap\nrefused image-short\n",
+    },
+    // Each slot once, and each of its virtual processors.
+    Example {
+        calls: "regvm 15\nregvm 15\nregvm 16\nregvcpu 15 7\nregvcpu 15 7\nregvcpu 15 8\nregvcpu 14 0\nverify 14\nremap 15 0 1\nverify 15\n",
+        replies: "done\nrefused slot-used\nrefused bad-vm\ndone\nrefused vcpu-used\nrefused bad-vcpu\nrefused no-vm\nrefused no-vm\nrefused no-image\nrefused image-short\n",
+    },
+];
+
+/// Calls after the VM has booted.
+const GUESTS: [Example; 6] = [
+    // A guest frame that is not mapped is waited for, and supplied.
+    Example {
+        calls: "gread 0 0 7 0 1\nmap 0 0 2\ngwrite 0 0 7 0 2a\ngread 0 0 7 0 1\n",
+        replies: "fault 7\ndone\ndone\ndata 2a\n",
+    },
+    // No leaf is left, and the fault stays.
+    Example {
+        calls: "gread 0 0 512 0 1\nmap 0 0 2\nmap 0 0 2\ngive 2\n",
+        replies: "fault 512\nrefused tables-full\nrefused tables-full\ndone\n",
+    },
+    // Another fault replaces the first; a served one is spent.
+    Example {
+        calls: "gread 0 0 7 0 1\ngread 0 0 8 0 1\nmap 0 0 2\ngread 0 0 7 0 1\ngread 0 0 8 0 1\nmap 0 0 3\n",
+        replies: "fault 7\nfault 8\ndone\nfault 7\ndata 00\nrefused no-fault\n",
+    },
+    // What the host mapped for itself is its own no longer.
+    Example {
+        calls: "hfault 2\ngread 0 0 7 0 1\nmap 0 0 2\nhread 2 0 1\nhfault 2\n",
+        replies: "done\nfault 7\ndone\nrefused not-present\nrefused protected\n",
+    },
+    // What is granted the host may read, until it is revoked.
+    Example {
+        calls: "grant 0 0 0\nhfault 1\nhread 1 0 3\nrevoke 0 0 0\nhread 1 0 3\nrevoke 0 0 0\ngrant 0 0 1\n",
+        replies: "done\ndone\ndata 616263\ndone\nrefused not-present\nrefused not-shared\nrefused not-mapped\n",
+    },
+    // Who may call.
+    Example {
+        calls: "gread 1 0 0 0 1\ngread 16 0 0 0 1\ngread 0 8 0 0 1\ngread 0 0 262144 0 1\ngread 0 0 0 0 0\ngread 0 1 0 0 1\nmap 0 1 2\nregvcpu 0 1\nmap 0 0 8\n",
+        replies: "refused no-vm\nrefused bad-vm\nrefused bad-vcpu\nrefused bad-gfn\nrefused bad-range\nrefused no-vcpu\nrefused no-vcpu\nrefused wrong-phase\nrefused bad-frame\n",
+    },
+];
+
+#[test]
+fn boots(rt: HostRuntime) -> Result<(), Fail> {
+    for example in &BOOTS {
+        let trace = format!(in rt.alloc(); "kcore-trace 1\n{}", example.calls)?;
+        let (outcome, written) = replayed(&rt, SMALL, trace.as_bytes())?;
+        assert_eq!(rt; outcome, Ok(()));
+        assert_eq!(rt; written.as_slice(), example.replies.as_bytes(), "at {}", example.calls);
+    }
+    Ok(())
+}
+
+#[test]
+fn guests(rt: HostRuntime) -> Result<(), Fail> {
+    for example in &GUESTS {
+        let trace = format!(in rt.alloc(); "kcore-trace 1\n{BOOT}{}", example.calls)?;
+        let replies = format!(in rt.alloc(); "{BOOTED}{}", example.replies)?;
+        let (outcome, written) = replayed(&rt, SMALL, trace.as_bytes())?;
+        assert_eq!(rt; outcome, Ok(()));
+        assert_eq!(rt; written.as_slice(), replies.as_bytes(), "at {}", example.calls);
+    }
+    Ok(())
+}
+
+/// Two virtual processors wait for one guest frame, and each for itself.
+#[test]
+fn two_wait_for_one_guest_frame(rt: HostRuntime) -> Result<(), Fail> {
+    let trace = b"kcore-trace 1\nhfault 1\nhwrite 1 0 616263\nregvm 0\nregvcpu 0 0\nregvcpu 0 1\nsetboot 0 0 3\nremap 0 0 1\nverify 0\ngread 0 0 7 0 1\ngread 0 1 7 0 1\nmap 0 0 2\nmap 0 1 3\ngread 0 1 7 0 1\nmap 0 1 3\ngive 3\n";
+    let replies = "done\ndone\ndone\ndone\ndone\nimage 0\ndone\ndone\nfault 7\nfault 7\ndone\nrefused mapped\ndata 00\nrefused no-fault\ndone\n";
+    let (outcome, written) = replayed(&rt, SMALL, trace)?;
+    assert_eq!(rt; outcome, Ok(()));
+    assert_eq!(rt; written.as_slice(), replies.as_bytes());
+    Ok(())
+}
+
+/// A refused `map` has taken no leaf, so the two leaves go to the two guest frames that are served.
+#[test]
+fn a_refused_map_takes_no_leaf(rt: HostRuntime) -> Result<(), Fail> {
+    let trace = format!(in rt.alloc(); "kcore-trace 1\n{BOOT}gread 0 0 512 0 1\nmap 0 0 0\nmap 0 0 5\ngread 0 0 1024 0 1\nmap 0 0 2\ngread 0 0 512 0 1\nmap 0 0 3\n")?;
+    let replies = format!(in rt.alloc(); "{BOOTED}fault 512\nrefused not-host\nrefused not-host\nfault 1024\ndone\nfault 512\nrefused tables-full\n")?;
+    let (outcome, written) = replayed(&rt, TWO_LEAVES, trace.as_bytes())?;
+    assert_eq!(rt; outcome, Ok(()));
+    assert_eq!(rt; written.as_slice(), replies.as_bytes());
+    Ok(())
+}
+
+/// A guest frame can be granted 100 times, and revoked as often.
+#[test]
+fn a_hundred_grants(rt: HostRuntime) -> Result<(), Fail> {
+    let alloc = rt.alloc();
+    let mut trace = format!(in alloc; "kcore-trace 1\n{BOOT}")?;
+    let mut replies = format!(in alloc; "{BOOTED}")?;
+    for _ in 0..100 {
+        trace.push_str("grant 0 0 0\n")?;
+        replies.push_str("done\n")?;
+    }
+    trace.push_str("grant 0 0 0\nhfault 1\nhread 1 0 1\n")?;
+    replies.push_str("refused share-full\ndone\ndata 61\n")?;
+    for _ in 0..100 {
+        trace.push_str("revoke 0 0 0\n")?;
+        replies.push_str("done\n")?;
+    }
+    trace.push_str("hread 1 0 1\nrevoke 0 0 0\n")?;
+    replies.push_str("refused not-present\nrefused not-shared\n")?;
+    let (outcome, written) = replayed(&rt, SMALL, trace.as_bytes())?;
+    assert_eq!(rt; outcome, Ok(()));
+    assert_eq!(rt; written.as_slice(), replies.as_bytes());
+    Ok(())
+}
