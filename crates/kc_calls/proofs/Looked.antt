@@ -1,15 +1,25 @@
--- A look-up shows the frame of the state.
-use Rattle.std.proofs.Common.{ℕ, ◌≡◌, ◌<◌, ◌≤◌, false, Some, None, refl, ap, ◌∙◌}
+-- A look-up shows the frame or the slot of the state.
+use Rattle.std.proofs.Common.{ℕ, ◌≡◌, ◌<◌, ◌≤◌, ◌/◌, inl, inr, Bool, true, false, not, ◌&&◌, ◌||◌, ◌==◌, nat_le, nat_lt, List, length, Some, None, get_or, refl, sym, ap, ◌∙◌, arith}
 use Rattle.std.proofs.lemmas.List.{get_or_past}
 use Rattle.std.proofs.lemmas.List.FromFn.{length-map-range_with_len}
-use Rattle.kc_types.specs.Configuration.{Configuration}
+use Rattle.std.specs.Ordering.{nat_cmp}
+use Rattle.std.specs.FinMap as map
+use Rattle.kc_types.specs.Configuration.{Configuration, slot_count}
 use Rattle.kc_types.specs.declared.owner.Owner.TheVariants.{Core}
-use Rattle.kc_model.specs.State.{Frame, frame_at, untouched}
+use Rattle.std.specs.List.{list_any}
+use Rattle.std.proofs.lemmas.Bool.{cases_lt}
+use Rattle.std.proofs.lemmas.Grind.{common_steps}
+use Rattle.kc_types.specs.declared.refusal.Refusal.TheVariants.{TablesFull}
+use Rattle.kc_model.specs.Refusals.{when, tables_full}
+use Rattle.kc_stage2.specs.Table.{fits}
+use Rattle.kc_vms.specs.Slots.{VmSlot, table_of}
+use Rattle.kc_model.specs.State.{State, Frame, Slot, frame_at, slot_at, untouched, absent_vcpu, empty_slot}
+use Rattle.kc_model.proofs.Slots.{at-no_vcpus}
 use Rattle.kc_page.specs.declared.page.Page.{Page}
 use Rattle.kc_page.specs.declared.page.PageRecord.{PageRecord}
 use Rattle.kc_page.specs.Pages.{frame_of}
-use Rattle.kc_parts.specs.Held.{Held, page_at}
-use Rattle.kc_parts.specs.States.{frame_in, state_of}
+use Rattle.kc_parts.specs.Held.{Held, page_at, vm_at, links_of}
+use Rattle.kc_parts.specs.States.{frame_in, slot_in, unlinked_slot, state_of}
 use Rattle.kc_parts.proofs.Seen.{frame-seen}
 use Rattle.kc_calls.specs.Applying.{IsMetaOf}
 
@@ -31,3 +41,27 @@ meta-absent config h f low at = meta-none (frame_at (state_of config h) f) (fram
 
 pub meta-past : (config : Configuration) (h : Held) (f : ℕ) → config.frames ≤ f → IsMetaOf (frame_at (state_of config h) f) no_record
 meta-past config h f past = meta-none (frame_at (state_of config h) f) (get_or_past (state_of config h).frames f (untouched Core) (rw (length-map-range_with_len (λ g. frame_in (page_at h g)) 0 config.frames) past))
+
+pub slot-past : (config : Configuration) (h : Held) (v : ℕ) → slot_count config ≤ v → slot_at (state_of config h) v ≡ empty_slot
+slot-past config h v past = get_or_past (state_of config h).slots v empty_slot (rw (length-map-range_with_len (λ w. slot_in (links_of h) (vm_at h w)) 0 (slot_count config)) past)
+
+-- an empty slot has no virtual processor and no mapped guest frame
+pub vcpu-none : (slot : Slot) (c : ℕ) → slot ≡ empty_slot → absent_vcpu ≡ get_or slot.vcpus c absent_vcpu
+vcpu-none slot c is = sym (ap (λ (there : Slot). get_or there.vcpus c absent_vcpu) is ∙ at-no_vcpus c)
+
+pub mapped-none : (slot : Slot) (g : ℕ) → slot ≡ empty_slot → None ≡ map.get slot.mapped g
+mapped-none slot g is = sym (ap (λ (there : Slot). map.get there.mapped g) is ∙ map.get-empty nat_cmp g)
+
+-- a slot's table takes a guest frame where the state says so
+pub fits-seen : (m : State) (v g : ℕ) (vm : VmSlot) (frames : List ℕ) → slot_at m v ≡ unlinked_slot vm.slot frames → vm.room ≡ m.config.leaves → tables_full m v g ≡ when (not (fits (table_of vm) g)) TablesFull
+fits-seen m v g vm frames is room = rw is (ap (λ full. when full TablesFull) (rw (← room) (turned (list_any (λ root. root == g / 512) vm.slot.leaves) vm.room (length vm.slot.leaves))))
+  where
+    past : (n k : ℕ) → nat_le n k ≡ not (nat_lt k n)
+    past n k = elim (cases_lt k n) [
+      | inl low ↦ grind (arith, common_steps, low)
+      | inr high ↦ grind (arith, common_steps, high)
+    ]
+
+    turned : (a : Bool) (n k : ℕ) → (not a && nat_le n k) ≡ not (a || nat_lt k n)
+    turned true n k = refl
+    turned false n k = past n k

@@ -2,9 +2,12 @@
 #![tactic(auto)]
 
 mod dispatch;
+mod guest;
+mod hand;
 mod host;
 pub mod laws;
 mod look_ups;
+mod slots;
 mod verify;
 
 pub use dispatch::apply;

@@ -1,11 +1,20 @@
 //! Look-ups in parts, which answer for all numbers: what is not here counts as untouched.
-ghost use Rattle.kc_model.specs.State.{frame_at};
-ghost use Rattle.kc_parts.specs.States.{state_of};
+ghost use Rattle.std.specs.Prelude.{◌≡◌, not, IfOk, Some};
+ghost use Rattle.std.specs.Option.{option_copied};
+ghost use Rattle.kc_model.specs.State.{frame_at, slot_at, vcpu_at, mapped_at};
+ghost use Rattle.kc_types.specs.declared.refusal.Refusal.TheVariants.{TablesFull};
+ghost use Rattle.kc_model.specs.Refusals.{when, tables_full, next_gfn};
+ghost use Rattle.kc_model.specs.Linked.{linked_slot};
+ghost use Rattle.kc_vms.specs.Slots.{VmSlot};
+ghost use Rattle.kc_vms.specs.Refusals.{Answers, next_page_refusal};
+ghost use Rattle.kc_parts.specs.Held.{vm_at, links_of};
+ghost use Rattle.kc_parts.specs.States.{state_of, slot_in, IsLinked};
 ghost use Rattle.kc_calls.specs.Applying.{IsMetaOf};
 
 use kc_page::PageRecord;
 use kc_parts::Parts;
-use kc_types::{Config, Owner};
+use kc_types::{Config, FrameNo, Gfn, Owner, Phase, Refusal, Vcpu, VcpuId};
+use kc_vms::Vm;
 
 /// The record of an untouched frame of the core's.
 const UNTOUCHED: PageRecord = PageRecord {
@@ -27,5 +36,84 @@ pub fn record_at(parts: &Parts, config: &Config, frame: u32) -> PageRecord
             None => UNTOUCHED,
         },
         None => UNTOUCHED,
+    }
+}
+
+/// The slot of this number, where it is here.
+fn slot_at<'a>(parts: &'a Parts, config: &Config, vm: u32) -> Option<&'a Vm>
+    ensures value { slot_at (state_of config.now parts.now) vm ≡ slot_in (links_of parts.now) (option_copied result) }
+    ensures here { (slot : VmSlot) → option_copied result ≡ Some slot → vm_at parts.now vm ≡ Some slot }
+{
+    match config.vm(vm) {
+        Some(vm) => parts.vm(vm),
+        None => None,
+    }
+}
+
+/// The phase of a slot.
+pub fn phase_at(parts: &Parts, config: &Config, vm: u32) -> Phase
+    ensures { result ≡ (slot_at (state_of config.now parts.now) vm).phase }
+{
+    match slot_at(parts, config, vm) {
+        Some(slot) => slot.phase(),
+        None => Phase::Empty,
+    }
+}
+
+/// A virtual processor of a slot.
+pub fn vcpu_at(parts: &Parts, config: &Config, vm: u32, vcpu: VcpuId) -> Vcpu
+    ensures { result ≡ vcpu_at (state_of config.now parts.now) vm vcpu }
+{
+    match slot_at(parts, config, vm) {
+        Some(slot) => slot.vcpu(vcpu),
+        None => Vcpu {
+            registered: false,
+            fault: None,
+        },
+    }
+}
+
+/// The frame at a guest frame of a slot.
+pub fn mapped_at(parts: &Parts, config: &Config, vm: u32, gfn: Gfn) -> Option<FrameNo>
+    ensures { result ≡ mapped_at (state_of config.now parts.now) vm gfn }
+{
+    match slot_at(parts, config, vm) {
+        Some(slot) => slot.table().get(gfn),
+        None => None,
+    }
+}
+
+/// The guest frame that a virtual processor of a slot waits for.
+pub fn pending_at(parts: &Parts, config: &Config, vm: u32, vcpu: VcpuId) -> Option<Gfn>
+    ensures { result ≡ (vcpu_at (state_of config.now parts.now) vm vcpu).fault }
+{
+    match slot_at(parts, config, vm) {
+        Some(slot) => match slot.vcpu(vcpu).fault {
+            Some(gfn) => Gfn::try_new(gfn),
+            None => None,
+        },
+        None => None,
+    }
+}
+
+/// The guest frame of the next page of a slot's image, or why it has none.
+pub fn next_page_at(parts: &Parts, config: &Config, vm: u32, image: u32) -> Result<Gfn, Refusal>
+    ensures answer { Answers result (next_page_refusal (linked_slot (slot_at (state_of config.now parts.now) vm)) image) }
+    ensures gfn { IfOk result (λ gfn. gfn ≡ next_gfn (state_of config.now parts.now) vm image) }
+{
+    match slot_at(parts, config, vm) {
+        Some(slot) => slot.next_page(image),
+        None => Err(Refusal::NoVm),
+    }
+}
+
+/// Whether the root slot of a slot's guest frame has a leaf or can take one.
+pub fn fits_at(parts: &Parts, config: &Config, vm: u32, gfn: Gfn) -> bool
+    requires { IsLinked config.now parts.now }
+    ensures { tables_full (state_of config.now parts.now) vm gfn ≡ when (not result) TablesFull }
+{
+    match slot_at(parts, config, vm) {
+        Some(slot) => slot.table().fits(gfn),
+        None => config.leaves() > 0,
     }
 }

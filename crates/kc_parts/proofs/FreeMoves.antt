@@ -22,23 +22,8 @@ use Rattle.kc_parts.specs.Held.{Held, page_at, vm_at, links_of, ends_at}
 use Rattle.kc_parts.specs.States.{frame_in, slot_in, owner_at, here_of, AreLists, IsLoose, IsFreeMove}
 use Rattle.kc_parts.specs.Linking.{IsSameRest}
 use Rattle.kc_parts.proofs.Moving.{list-kept, lists-moved, lists-same}
+use Rattle.kc_parts.proofs.Relinked.{frames-stay, vms-stay, here-stays, slot-stays, absent-others}
 use Rattle.kc_parts.proofs.Seen.{table-same}
-
-frame-same : (a b : Option Page) → option_map frame_of b ≡ option_map frame_of a → frame_in b ≡ frame_in a
-frame-same None None e = refl
-frame-same None (Some b) e = cc
-frame-same (Some a) None e = cc
-frame-same (Some a) (Some b) e = ap (λ o. inner o) e
-  where
-    inner : Option Frame → Frame
-    inner (Some x) = x
-    inner None = frame_of a
-
-here-same : (a b : Option Page) → option_map frame_of b ≡ option_map frame_of a → is_some b ≡ is_some a
-here-same None None e = refl
-here-same None (Some b) e = cc
-here-same (Some a) None e = cc
-here-same (Some a) (Some b) e = refl
 
 module _ (old mid : Held) (e e' : Ends) (frames : List ℕ) (rest : IsSameRest old mid) (free_is : old.free ≡ Some e) (are : AreLists (links_of old) (ends_at old) (owner_at old))
     (keeps : KeepsOthers (links_of old) (links_of mid) frames) (owned : (f : ℕ) → 0 < times_in frames f → owner_at old f ≡ Free) where
@@ -48,24 +33,14 @@ module _ (old mid : Held) (e e' : Ends) (frames : List ℕ) (rest : IsSameRest o
   not_free : (v : ℕ) → Vm v ≢ Free
   not_free v is = cc
 
-  vms-same : (v : ℕ) → vm_at moved v ≡ vm_at old v
-  vms-same v = ap (λ vms. slice_index_or vms v None) rest.vms
-
-  slot-same : (v : ℕ) (there : Option VmSlot) → vm_at old v ≡ there → slot_in (links_of mid) there ≡ slot_in (links_of old) there
-  slot-same v None is = refl
-  slot-same v (Some vm) is = ap (λ l. slot-with vm l) (list-kept (links_of old) (links_of mid) (ends_at old) (ends_at moved) (owner_at old) Free frames are keeps owned (Vm v) vm.slot.ends (not_free v) (ap (option_map (λ (vm : VmSlot). vm.slot.ends)) is))
-    where
-      slot-with : VmSlot → List ℕ → Slot
-      slot-with vm frames = record { phase = vm.slot.phase; vcpus = vm.slot.vcpus; images = vm.slot.images; frames = frames; mapped = vm.slot.mapped; leaves = vm.slot.leaves }
-
   ends-others : (p : Owner) → p ≢ Free → ends_at moved p ≡ ends_at old p
   ends-others Core other = refl
   ends-others Host other = refl
   ends-others Free other = absurd (other refl)
-  ends-others (Vm v) other = ap (option_map (λ (vm : VmSlot). vm.slot.ends)) (vms-same v)
+  ends-others (Vm v) other = ap (option_map (λ (vm : VmSlot). vm.slot.ends)) (vms-stay old mid Free frames rest are keeps owned v)
 
   owners-same : (f : ℕ) → owner_at moved f ≡ owner_at old f
-  owners-same f = ap (λ (frame : Frame). frame.owner) (frame-same (page_at old f) (page_at mid f) (rest.frames f))
+  owners-same f = ap (λ (frame : Frame). frame.owner) (frames-stay old mid Free frames rest are keeps owned f)
 
   pub free-moved : IsList (links_of mid) e' → ((f : ℕ) → 0 < times_in (listed (links_of mid) e') f → 0 < times_in frames f) → IsFreeMove old moved
   free-moved list within = record {
@@ -75,21 +50,21 @@ module _ (old mid : Held) (e e' : Ends) (frames : List ℕ) (rest : IsSameRest o
     owners = owners-same;
     state = λ config i. record {
       config = config;
-      frames = table-same (λ f. frame_in (page_at old f)) (λ f. frame_in (page_at moved f)) (range_with_len 0 config.frames) (λ f. frame-same (page_at old f) (page_at mid f) (rest.frames f)) i;
+      frames = table-same (λ f. frame_in (page_at old f)) (λ f. frame_in (page_at moved f)) (range_with_len 0 config.frames) (frames-stay old mid Free frames rest are keeps owned) i;
       free = listed (links_of mid) e';
-      slots = table-same (λ v. slot_in (links_of old) (vm_at old v)) (λ v. slot_in (links_of moved) (vm_at moved v)) (range_with_len 0 (slot_count config)) (λ v. ap (slot_in (links_of mid)) (vms-same v) ∙ slot-same v (vm_at old v) refl) i;
+      slots = table-same (λ v. slot_in (links_of old) (vm_at old v)) (λ v. slot_in (links_of moved) (vm_at moved v)) (range_with_len 0 (slot_count config)) (λ v. ap (slot_in (links_of mid)) (vms-stay old mid Free frames rest are keeps owned v) ∙ slot-stays old mid Free frames rest are keeps owned v (not_free v)) i;
     };
     linked = λ config linked. record {
       frames = λ f here. linked.frames f (sym (here-all (resource.Frame f)) ∙ here);
-      vms = λ v vm is. linked.vms v vm (sym (vms-same v) ∙ is);
+      vms = λ v vm is. linked.vms v vm (sym (vms-stay old mid Free frames rest are keeps owned v) ∙ is);
       lists = lists-same (links_of mid) (links_of mid) (ends_at moved) (ends_at moved) (owner_at old) (owner_at moved) refl (λ p. refl) owners-same
           (lists-moved (links_of old) (links_of mid) (ends_at old) (ends_at moved) (owner_at old) Free frames are keeps owned e' refl ends-others (λ is. cc) list within);
     };
   }
     where
       here-all : (r : Resource) → here_of moved r ≡ here_of old r
-      here-all (resource.Frame f) = here-same (page_at old f) (page_at mid f) (rest.frames f)
-      here-all (resource.Vm v) = ap is_some (vms-same v)
+      here-all (resource.Frame f) = here-stays old mid Free frames rest are keeps owned (resource.Frame f)
+      here-all (resource.Vm v) = here-stays old mid Free frames rest are keeps owned (resource.Vm v)
       here-all resource.Free = sym (ap is_some free_is)
 
   -- a frame that was taken off the list is in none
@@ -102,16 +77,6 @@ module _ (old mid : Held) (e e' : Ends) (frames : List ℕ) (rest : IsSameRest o
       mine : owner_at old f ≡ Free
       mine = owned f (rw (frames_are, was) (let one = times-same f (listed (links_of mid) e') in omega (arith, one)))
 
-      absent-other : (v : ℕ) (ends : Ends) → ends_at old (Vm v) ≡ Some ends → times_in (listed (links_of mid) ends) f ≡ 0
-      absent-other v ends is = by_count (times_in (listed (links_of mid) ends) f) refl
-        where
-          by_count : (n : ℕ) → times_in (listed (links_of mid) ends) f ≡ n → n ≡ 0
-          by_count zero e = refl
-          by_count (suc n) count =
-              let kept = list-kept (links_of old) (links_of mid) (ends_at old) (ends_at moved) (owner_at old) Free frames are keeps owned (Vm v) ends (not_free v) is in
-              let some : 0 < times_in (listed (links_of old) ends) f = rw (← kept, count) (omega arith) in
-              absurd (not_free v (sym (are.owned (Vm v) ends f is some) ∙ mine))
-
       absent-from : (p : Owner) (ends : Ends) → ends_at moved p ≡ Some ends → times_in (listed (links_of mid) ends) f ≡ 0
       absent-from Core ends is = cc
       absent-from Host ends is = cc
@@ -120,7 +85,7 @@ module _ (old mid : Held) (e e' : Ends) (frames : List ℕ) (rest : IsSameRest o
           inner : Option Ends → Ends
           inner (Some x) = x
           inner None = ends
-      absent-from (Vm v) ends is = absent-other v ends (sym (ends-others (Vm v) (not_free v)) ∙ is)
+      absent-from (Vm v) ends is = absent-others old mid Free frames rest are keeps owned (Vm v) ends (not_free v) (sym (ends-others (Vm v) (not_free v)) ∙ is) f mine
 
   pub loose-first : (r : Option ℕ) → MatchOption r ((listed (links_of old) e ≡ []) × (listed (links_of mid) e' ≡ [])) (λ f. listed (links_of old) e ≡ f ∷ listed (links_of mid) e') → frames ≡ listed (links_of old) e
       → IfSome r (λ f. links_of mid f ≡ Some unlinked) → IfSome r (IsLoose moved)

@@ -55,6 +55,10 @@ with_page h f page = record h { pages = slice_set h.pages (place_in h f) page }
 abbrev pub with_vm : Held → ℕ → VmSlot → Held
 with_vm h v vm = record h { vms = slice_set h.vms v (Some vm) }
 
+-- the slot with other ends of its list
+abbrev pub with_ends : VmSlot → Ends → VmSlot
+with_ends vm ends = record vm { slot = record vm.slot { ends = ends } }
+
 abbrev pub link_of : Page → Link
 link_of page = record { prev = page.meta.prev; next = page.meta.next }
 

@@ -6,7 +6,7 @@ use Rattle.kc_types.specs.declared.link.Ends.{Ends}
 use Rattle.kc_types.specs.declared.owner.Owner.{Owner}
 use Rattle.kc_types.specs.declared.owner.Owner.TheVariants.{Core, Host}
 use Rattle.kc_types.specs.declared.resource.Resource.TheVariants as resource
-use Rattle.kc_model.specs.State.{State, Frame, Slot, untouched, empty_slot}
+use Rattle.kc_model.specs.State.{State, Frame, Slot, untouched, empty_slot, with_slot}
 use Rattle.kc_model.specs.Resources.{Resource, Resources}
 use Rattle.kc_model.specs.Lawful.{times_in}
 use Rattle.kc_model.specs.Linked.{LinkedSlot}
@@ -81,4 +81,17 @@ pub record IsFreeMove (old new : Held) : Type 0 where
   pub here : (r : Resource) → here_of new r ≡ here_of old r
   pub owners : (f : ℕ) → owner_at new f ≡ owner_at old f
   pub state : (config : Configuration) → state_of config new ≡ record (state_of config old) { free = free_of new }
+  pub linked : (config : Configuration) → IsLinked config old → IsLinked config new
+
+-- the list of a slot, where the slot is here
+abbrev pub frames_of : Held → ℕ → List ℕ
+frames_of h v = (slot_in (links_of h) (vm_at h v)).frames
+
+-- the list of a slot changes, and nothing else that is seen
+pub record IsSlotMove (v : ℕ) (old new : Held) : Type 0 where
+  pub numbers : new.numbers ≡ old.numbers
+  pub filled : new.here ≡ old.here
+  pub here : (r : Resource) → here_of new r ≡ here_of old r
+  pub owners : (f : ℕ) → owner_at new f ≡ owner_at old f
+  pub state : (config : Configuration) (vm : VmSlot) → vm_at old v ≡ Some vm → state_of config new ≡ with_slot (state_of config old) v (unlinked_slot vm.slot (frames_of new v))
   pub linked : (config : Configuration) → IsLinked config old → IsLinked config new

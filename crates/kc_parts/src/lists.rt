@@ -1,12 +1,15 @@
-//! The free list, linked through the records of its frames.
-ghost use Rattle.std.specs.Prelude.{◌≡◌, ◌++◌, [], ◌∷◌, IsSome, IfSome, MatchOption, Some};
+//! The free list and the lists of the slots, linked through the records of their frames.
+ghost use Rattle.std.specs.Prelude.{◌≡◌, ◌<◌, ◌++◌, [], ◌∷◌, IsSome, IfSome, MatchOption, Some};
 ghost use Rattle.kc_types.specs.declared.owner.Owner.TheVariants.{Free};
-ghost use Rattle.kc_parts.specs.Held.{links_of, ends_at};
-ghost use Rattle.kc_parts.specs.States.{AreLists, owner_at, free_of, IsLoose, IsFreeMove};
+ghost use Rattle.kc_types.specs.declared.owner.Owner.TheVariants as owner;
+ghost use Rattle.kc_model.specs.Lawful.{times_in};
+ghost use Rattle.kc_model.specs.Effects.{without};
+ghost use Rattle.kc_parts.specs.Held.{vm_at, links_of, ends_at, with_vm, with_ends};
+ghost use Rattle.kc_parts.specs.States.{AreLists, owner_at, free_of, frames_of, IsLoose, IsFreeMove, IsSlotMove};
 
 use crate::Parts;
-use kc_links::{append, pop_front};
-use kc_types::{Ends, FrameNo};
+use kc_links::{append, pop_front, unlink};
+use kc_types::{Ends, FrameNo, VmId};
 
 impl Parts {
     /// Sets the ends of the free list, which are here.
@@ -46,6 +49,48 @@ impl Parts {
             let mut ends = *ends;
             append(self, &mut ends, frame);
             self.set_free(ends);
+        }
+    }
+
+    /// Sets the ends of the list of a slot, which is here.
+    fn set_list(&mut self, vm: VmId, ends: Ends)
+        requires { IsSome (vm_at self.old vm) }
+        ensures { IfSome (vm_at self.old vm) (λ slot. self.new ≡ with_vm self.old vm (with_ends slot ends)) }
+    {
+        if let Some(slot) = self.vm_mut(vm) {
+            *slot.list_mut() = ends;
+        }
+    }
+
+    /// Puts a frame of a slot's that is in no list at the end of the list of the slot, which is here.
+    pub fn append_vm(&mut self, vm: VmId, frame: FrameNo)
+        requires here { IsSome (vm_at self.old vm) }
+        requires lists { AreLists (links_of self.old) (ends_at self.old) (owner_at self.old) }
+        requires loose { IsLoose self.old frame }
+        requires mine { owner_at self.old frame ≡ owner.Vm vm }
+        ensures frames { frames_of self.new vm ≡ frames_of self.old vm ++ frame ∷ [] }
+        ensures rest { IsSlotMove vm self.old self.new }
+    {
+        if let Some(slot) = self.vm(vm) {
+            let mut ends = *slot.list();
+            append(self, &mut ends, frame);
+            self.set_list(vm, ends);
+        }
+    }
+
+    /// Takes a frame off the list of a slot, which is here.
+    pub fn unlink_vm(&mut self, vm: VmId, frame: FrameNo)
+        requires here { IsSome (vm_at self.old vm) }
+        requires lists { AreLists (links_of self.old) (ends_at self.old) (owner_at self.old) }
+        requires inside { 0 < times_in (frames_of self.old vm) frame }
+        ensures frames { frames_of self.new vm ≡ without (frames_of self.old vm) frame }
+        ensures loose { IsLoose self.new frame }
+        ensures rest { IsSlotMove vm self.old self.new }
+    {
+        if let Some(slot) = self.vm(vm) {
+            let mut ends = *slot.list();
+            unlink(self, &mut ends, frame);
+            self.set_list(vm, ends);
         }
     }
 }

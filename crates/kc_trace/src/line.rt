@@ -255,6 +255,16 @@ fn is_built(call: &Call) -> bool
             | Call::HostFault { .. }
             | Call::HostRead { .. }
             | Call::HostWrite { .. }
+            | Call::RegisterVm { .. }
+            | Call::RegisterVcpu { .. }
+            | Call::SetBoot { .. }
+            | Call::Remap { .. }
+            | Call::Verify { .. }
+            | Call::Map { .. }
+            | Call::GuestRead { .. }
+            | Call::GuestWrite { .. }
+            | Call::Grant { .. }
+            | Call::Revoke { .. }
     )
 }
 

@@ -1,0 +1,168 @@
+-- A frame of the host's that is handed to a slot.
+use Rattle.std.proofs.Common.{ℕ, zero, suc, ◌≡◌, ◌<◌, ◌/◌, Bool, true, false, not, ◌&&◌, ◌||◌, ◌==◌, nat_le, nat_lt, List, [], ◌∷◌, ◌++◌, ◌+◌, length, get_or, set, Option, Some, None, Result, Ok, Err, IsOk, is_some, refl, sym, ap, ◌∙◌}
+use Rattle.std.specs.List.{list_any}
+use Rattle.std.proofs.lemmas.Grind.{common_steps}
+use Rattle.std.specs.FinMap as map
+use Rattle.kc_types.specs.Configuration.{Configuration, slot_count}
+use Rattle.kc_types.specs.declared.owner.Owner.TheVariants.{Host, Vm}
+use Rattle.kc_model.specs.State.{State, Frame, Slot, Image, frame_at, slot_at, mapped_at, with_frame, with_slot}
+use Rattle.kc_model.specs.Refusals.{refusal, bad_vm, bad_frame, not_host, tables_full, next_gfn}
+use Rattle.kc_types.specs.declared.refusal.Refusal.TheVariants.{TablesFull}
+use Rattle.kc_types.specs.declared.call.Call.TheVariants.{Remap}
+use Rattle.kc_model.specs.Linked.{LinkedSlot, linked_slot}
+use Rattle.kc_model.proofs.Served.{or_else-none, when-none, not-is_false}
+use Rattle.kc_model.proofs.Changes.{slot-here}
+use Rattle.kc_model.specs.Effects.{effect, hand, with_leaf}
+use Rattle.kc_page.specs.declared.page.Page.{Page}
+use Rattle.kc_page.specs.Pages.{frame_of}
+use Rattle.kc_stage2.specs.Table.{Table, with_entry, fits}
+use Rattle.kc_stage2.specs.Faults.{fault_of, Answers}
+use Rattle.kc_stage2.specs.declared.table.MapFault.{MapFault}
+use Rattle.kc_vms.specs.Slots.{VmSlot, table_of, with_table, with_page, next_gfn_of}
+use Rattle.kc_types.specs.declared.refusal.Refusal.{Refusal}
+use Rattle.kc_vms.specs.Refusals.{next_page_refusal}
+use Rattle.kc_vms.specs.Refusals as refusals
+use Rattle.kc_vms.proofs.Rows.{refusal-remap}
+use Rattle.kc_links.specs.Ending.{listed}
+use Rattle.kc_parts.specs.Held.{Held, page_at, vm_at, links_of, link_of, with_vm}
+use Rattle.kc_parts.specs.Held as held
+use Rattle.kc_parts.specs.States.{frame_in, state_of, unlinked_slot, owner_at, frames_of, IsLinked, IsLoose, IsSlotMove}
+use Rattle.kc_parts.proofs.Pages.{page-set, links-kept}
+use Rattle.kc_parts.proofs.Seen.{frame-seen, state-page, linked-moved}
+use Rattle.kc_parts.proofs.SlotChanges.{vm-set, state-vm, linked-vm}
+use Rattle.kc_parts.proofs.SlotLists.{frames-here}
+use Rattle.kc_calls.specs.Applying.{IsSameRoom}
+use Rattle.kc_calls.proofs.Frames.{frame-is, room-page, room-vm, room-through}
+use Rattle.kc_calls.proofs.Hosts.{loose-host, loose-page}
+use Rattle.kc_calls.proofs.Looked.{fits-seen}
+use Rattle.kc_calls.proofs.Needed.{slot-is}
+
+-- the table takes the guest frame
+pub map-fits : (m : State) (v g : ℕ) (vm : VmSlot) (frames : List ℕ) → slot_at m v ≡ unlinked_slot vm.slot frames → vm.room ≡ m.config.leaves → mapped_at m v g ≡ None → tables_full m v g ≡ None → fault_of (table_of vm) g ≡ None
+map-fits m v g vm frames is room unmapped room_left =
+    let free : map.get vm.slot.mapped g ≡ None = ap (λ (slot : Slot). map.get slot.mapped g) (sym is) ∙ unmapped in
+    let left : fits (table_of vm) g ≡ true = not-is_false (fits (table_of vm) g) (when-none _ TablesFull (sym (fits-seen m v g vm frames is room) ∙ room_left)) in
+    rw (free, left) refl
+
+pub map-ok : (answer : Result Unit MapFault) (fault : Option MapFault) → fault ≡ None → Answers answer fault → IsOk answer
+map-ok (Ok x) fault none is = refl
+map-ok (Err e) fault none is = let no = rw none at is in cc
+
+set-twice : {X : Type 0} (xs : List X) (i : ℕ) (x y : X) → set (set xs i x) i y ≡ set xs i y
+set-twice [] i x y = refl
+set-twice (z ∷ zs) zero x y = refl
+set-twice (z ∷ zs) (suc i) x y = ap (λ ws. z ∷ ws) (set-twice zs i x y)
+
+module _ (config : Configuration) (old : Held) (v g f : ℕ) (vm : VmSlot) (table : Table) (page new_page : Page) (table_is : table ≡ with_entry (table_of vm) g f) (linked : IsLinked config old) (low : v < slot_count config) (at_vm : vm_at old v ≡ Some vm) (at : page_at old f ≡ Some page)
+    (host : owner_at old f ≡ Host) (same : link_of new_page ≡ link_of page) (to : frame_of new_page ≡ record (frame_of page) { owner = Vm v; gfn = Some g; present = false }) where
+  abbrev pub mapped_vm : VmSlot
+  mapped_vm = with_table vm table
+
+  -- the guest frame is mapped
+  abbrev pub mapped : Held
+  mapped = with_vm old v mapped_vm
+
+  -- and the frame is the slot's
+  abbrev pub owned : Held
+  owned = held.with_page mapped f new_page
+
+  linked-mapped : IsLinked config mapped
+  linked-mapped = linked-vm config old v vm mapped_vm linked at_vm refl (ap (λ (t : Table). t.room) table_is)
+
+  loose-mapped : IsLoose mapped f
+  loose-mapped = loose-host config mapped f linked-mapped host
+
+  pub loose-owned : IsLoose owned f
+  loose-owned = loose-page mapped f page new_page at same loose-mapped
+
+  pub linked-owned : IsLinked config owned
+  linked-owned = linked-moved config mapped f page new_page linked-mapped at same loose-mapped.absent (λ host. loose-mapped.alone)
+
+  pub owner-owned : owner_at owned f ≡ Vm v
+  owner-owned = ap (λ there. (frame_in there).owner) (page-set mapped f page new_page at) ∙ ap (λ (frame : Frame). frame.owner) to
+
+  vm-owned : vm_at owned v ≡ Some mapped_vm
+  vm-owned = vm-set old v vm mapped_vm at_vm
+
+  pub state-handed : (new : Held) → IsSlotMove v owned new → frames_of new v ≡ frames_of owned v ++ f ∷ [] → f < config.frames → state_of config new ≡ hand (state_of config old) v g f
+  state-handed new move frames f_low =
+      move.state config mapped_vm vm-owned
+      ∙ ap (λ fs. with_slot (state_of config owned) v (unlinked_slot mapped_vm.slot fs)) (frames ∙ ap (λ fs. fs ++ f ∷ []) frames-owned)
+      ∙ ap (λ (s : State). with_slot s v after) (state-page config mapped f page new_page at same ∙ ap (λ (s : State). with_frame s f (frame_of new_page)) (state-vm config old v vm mapped_vm at_vm))
+      ∙ ap (λ slots. record (with_frame m f (frame_of new_page)) { slots = slots }) (set-twice m.slots v (unlinked_slot mapped_vm.slot fs) after)
+      ∙ ap (λ frame. with_slot (with_frame m f frame) v after) (to ∙ ap (λ (frame : Frame). record frame { owner = Vm v; gfn = Some g; present = false }) (sym (frame-is config old f page f_low at)))
+      ∙ ap (λ (t : Table). with_slot (with_frame m f (record (frame_at m f) { owner = Vm v; gfn = Some g; present = false })) v (unlinked_slot (with_table vm t).slot (fs ++ f ∷ []))) table_is
+      ∙ ap (λ (slot : Slot). with_slot (with_frame m f (record (frame_at m f) { owner = Vm v; gfn = Some g; present = false })) v (record slot { frames = slot.frames ++ f ∷ []; mapped = map.insert slot.mapped g f; leaves = with_leaf slot.leaves g }))
+        (sym (slot-is config old v vm low at_vm))
+    where
+      m : State
+      m = state_of config old
+
+      fs : List ℕ
+      fs = listed (links_of old) vm.slot.ends
+
+      after : Slot
+      after = unlinked_slot mapped_vm.slot (fs ++ f ∷ [])
+
+      frames-owned : frames_of owned v ≡ fs
+      frames-owned = frames-here owned v mapped_vm vm-owned ∙ ap (λ links. listed links vm.slot.ends) (links-kept mapped f page new_page at same)
+
+  pub room-handed : (new : Held) → IsSlotMove v owned new → IsSameRoom old new
+  room-handed new move = room-through old owned new (room-through old mapped owned (room-vm old v vm mapped_vm at_vm) (room-page mapped f page new_page at)) (record { numbers = move.numbers; filled = move.filled; here = move.here })
+
+-- an answer without a refusal
+pub answers-ok : {X : Type 0} (answer : Result X Refusal) (why : Option Refusal) → why ≡ None → refusals.Answers answer why → IsOk answer
+answers-ok (Ok x) why none is = refl
+answers-ok (Err e) why none is = let no = rw none at is in cc
+
+-- the frame of a served `remap` may become the slot's
+pub remap-fits : (m : State) (v i f : ℕ) → refusal m (Remap v i f) ≡ None → tables_full m v (next_gfn m v i) ≡ None
+remap-fits m v i f served =
+    let s0 = or_else-none (bad_vm m v) _ (sym (refusal-remap m v i f) ∙ served) in
+    let s1 = or_else-none (bad_frame m f) _ s0.1 in
+    let s2 = or_else-none (next_page_refusal (linked_slot (slot_at m v)) i) _ s1.1 in
+    let s3 = or_else-none (not_host m f) _ s2.1 in
+    (or_else-none (tables_full m v (next_gfn m v i)) None s3.1).0
+
+-- and the image has a next page
+pub remap-page : (m : State) (v i f : ℕ) → refusal m (Remap v i f) ≡ None → next_page_refusal (linked_slot (slot_at m v)) i ≡ None
+remap-page m v i f served =
+    let s0 = or_else-none (bad_vm m v) _ (sym (refusal-remap m v i f) ∙ served) in
+    let s1 = or_else-none (bad_frame m f) _ s0.1 in
+    (or_else-none (next_page_refusal (linked_slot (slot_at m v)) i) _ s1.1).0
+
+pub host-owner : (config : Configuration) (h : Held) (f : ℕ) → f < config.frames → (frame_at (state_of config h) f).owner ≡ Host → owner_at h f ≡ Host
+host-owner config h f low host = sym (ap (λ (frame : Frame). frame.owner) (frame-seen config h f low)) ∙ host
+
+-- a slot's own look at its next page
+pub next_page-slot : (slot : LinkedSlot) (there : Slot) (frames : List ℕ) (i : ℕ) → there ≡ unlinked_slot slot frames → next_page_refusal slot i ≡ next_page_refusal (linked_slot there) i
+next_page-slot slot there frames i is = rw is refl
+
+pub next_gfn-slot : (slot : LinkedSlot) (m : State) (v i : ℕ) (frames : List ℕ) → slot_at m v ≡ unlinked_slot slot frames → next_gfn_of slot i ≡ next_gfn m v i
+next_gfn-slot slot m v i frames is = rw is refl
+
+-- after the hand the slot is as before, but for the frame
+module _ (config : Configuration) (old new : Held) (v g f : ℕ) (vm : VmSlot) (state : state_of config new ≡ hand (state_of config old) v g f) (low : v < length (state_of config old).slots) (low' : v < slot_count config) (at : vm_at new v ≡ Some vm) where
+  slot-after : unlinked_slot vm.slot (listed (links_of new) vm.slot.ends) ≡ slot_at (hand (state_of config old) v g f) v
+  slot-after = sym (slot-is config new v vm low' at) ∙ ap (λ (s : State). slot_at s v) state
+
+  slot-handed : slot_at (hand (state_of config old) v g f) v ≡ record (slot_at (state_of config old) v) {
+    frames = (slot_at (state_of config old) v).frames ++ f ∷ [];
+    mapped = map.insert (slot_at (state_of config old) v).mapped g f;
+    leaves = with_leaf (slot_at (state_of config old) v).leaves g;
+  }
+  slot-handed = slot-here (with_frame (state_of config old) f (record (frame_at (state_of config old) f) { owner = Vm v; gfn = Some g; present = false })) v _ low
+
+  pub page-after : (i : ℕ) → next_page_refusal (linked_slot (slot_at (state_of config old) v)) i ≡ None → next_page_refusal vm.slot i ≡ None
+  page-after i served = ap (λ (slot : Slot). next_page_refusal (linked_slot slot) i) (slot-after ∙ slot-handed) ∙ served
+
+  pub state-paged : (i : ℕ) (paged : VmSlot) → paged ≡ record vm { slot = with_page vm.slot i } → g ≡ next_gfn (state_of config old) v i → state_of config (with_vm new v paged) ≡ (effect (state_of config old) (Remap v i f)).1
+  state-paged i paged is gfn =
+      let m : State = state_of config old in
+      let paged_images : List Image → List Image = λ images. set images i (record (get_or images i (record { base = 0; len = 0; pages = 0 })) { pages = (get_or images i (record { base = 0; len = 0; pages = 0 })).pages + 1 }) in
+      ap (λ (vm : VmSlot). state_of config (with_vm new v vm)) is
+      ∙ state-vm config new v vm (record vm { slot = with_page vm.slot i }) at
+      ∙ ap (λ (s : State). with_slot s v (unlinked_slot (with_page vm.slot i) (listed (links_of new) vm.slot.ends))) state
+      ∙ ap (λ (slot : Slot). with_slot (hand m v g f) v (record slot { images = paged_images slot.images })) slot-after
+      ∙ ap (λ (slot : Slot). with_slot (hand m v g f) v (record (slot_at (hand m v g f) v) { images = paged_images slot.images })) slot-handed
+      ∙ ap (λ g. with_slot (hand m v g f) v (record (slot_at (hand m v g f) v) { images = paged_images (slot_at m v).images })) gfn

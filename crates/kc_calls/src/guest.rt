@@ -1,0 +1,298 @@
+//! The calls of a virtual processor: reading and writing its guest frames, granting and revoking access to them.
+ghost use Rattle.std.specs.Prelude.{◌≡◌, ◌<◌, ◌≤◌, ◌+◌, ◌-◌, ◌==◌, Some, None, is_some, true, false, if◌then◌else◌, [], ◌∷◌, length, IfOk, OnOk, OnErr};
+ghost use Rattle.kc_types.specs.Configuration.{slot_count};
+ghost use Rattle.kc_types.specs.Limits.{page_size};
+ghost use Rattle.kc_types.specs.declared.call.Call.TheVariants.{GuestRead, GuestWrite, Grant, Revoke, Drop};
+ghost use Rattle.kc_model.specs.State.{slot_at, vcpu_at};
+ghost use Rattle.kc_model.specs.Refusals.{refusal, first_of_these, no_vm, not_active, no_vcpu};
+ghost use Rattle.kc_model.specs.Effects.{effect, with_fault, written};
+ghost use Rattle.kc_parts.specs.Held.{page_at, vm_at};
+ghost use Rattle.kc_parts.specs.States.{state_of, IsLinked};
+ghost use Rattle.kc_calls.specs.Applying.{AnswersMapped, IsAble, IsSameRoom};
+
+use crate::look_ups::{mapped_at, phase_at, record_at, vcpu_at};
+use kc_page::PageRecord;
+use kc_parts::Parts;
+use kc_types::{Config, Data, FrameNo, Gfn, Memory, Phase, Refusal, Reply, VcpuId};
+use std::alloc::Global;
+
+/// Why a virtual processor can make no call: there is no VM in the slot, or it isn't active, or the virtual
+/// processor isn't registered.
+pub fn vcpu_refusal(parts: &Parts, config: &Config, vm: u32, vcpu: VcpuId) -> Option<Refusal>
+    ensures { result ≡ first_of_these (no_vm (state_of config.now parts.now) vm ∷ not_active (state_of config.now parts.now) vm ∷ no_vcpu (state_of config.now parts.now) vm vcpu ∷ []) }
+{
+    match phase_at(parts, config, vm) {
+        Phase::Empty => Some(Refusal::NoVm),
+        Phase::Booting | Phase::Dead => Some(Refusal::WrongPhase),
+        Phase::Active => if vcpu_at(parts, config, vm, vcpu).registered {
+            None
+        } else {
+            Some(Refusal::NoVcpu)
+        },
+    }
+}
+
+/// Why `len` bytes of a guest frame from `offset` on can't be read, or written.
+pub fn guest_access_refusal(
+    parts: &Parts,
+    config: &Config,
+    vm: u32,
+    vcpu: u32,
+    gfn: u32,
+    offset: u32,
+    len: u32,
+) -> Option<Refusal>
+    ensures { result ≡ refusal (state_of config.now parts.now) (GuestRead vm vcpu gfn offset len) }
+{
+    if vm >= config.slots() {
+        return Some(Refusal::BadVm);
+    }
+    let Some(vcpu) = VcpuId::try_new(vcpu) else {
+        return Some(Refusal::BadVcpu);
+    };
+    if Gfn::try_new(gfn).is_none() {
+        return Some(Refusal::BadGfn);
+    }
+    if len == 0 || len > 4096 || offset > 4096 - len {
+        return Some(Refusal::BadRange);
+    }
+    vcpu_refusal(parts, config, vm, vcpu)
+}
+
+/// A registered virtual processor of an active slot waits for a guest frame.
+fn set_fault(parts: &mut Parts, config: &Config, vm: u32, vcpu: VcpuId, gfn: Gfn)
+    requires exists { vm < slot_count config.now }
+    requires here { is_some (vm_at parts.old vm) ≡ true }
+    requires linked { IsLinked config.now parts.old }
+    requires active { (slot_at (state_of config.now parts.old) vm).phase ≡ Phase.Active }
+    requires registered { (vcpu_at (state_of config.now parts.old) vm vcpu).registered ≡ true }
+    ensures state { state_of config.now parts.new ≡ with_fault (state_of config.now parts.old) vm vcpu (Some gfn) }
+    ensures linked { IsLinked config.now parts.new }
+    ensures room { IsSameRoom parts.old parts.new }
+{
+    let vm = config.vm(vm).unwrap();
+    let slot = parts.vm_mut(vm).unwrap();
+    slot.set_fault(vcpu, gfn);
+}
+
+/// A virtual processor waits for nothing.
+pub fn spend_fault(parts: &mut Parts, config: &Config, vm: u32, vcpu: VcpuId)
+    requires exists { vm < slot_count config.now }
+    requires here { is_some (vm_at parts.old vm) ≡ true }
+    requires linked { IsLinked config.now parts.old }
+    ensures state { state_of config.now parts.new ≡ with_fault (state_of config.now parts.old) vm vcpu None }
+    ensures linked { IsLinked config.now parts.new }
+    ensures room { IsSameRoom parts.old parts.new }
+{
+    let vm = config.vm(vm).unwrap();
+    let slot = parts.vm_mut(vm).unwrap();
+    slot.spend_fault(vcpu);
+}
+
+/// Reads bytes of a guest frame that is mapped; where it is not, the virtual processor waits for it. `Memory`
+/// where a growth was refused, and then nothing has changed.
+pub fn guest_read(
+    alloc: Global,
+    parts: &mut Parts,
+    config: &Config,
+    vm: u32,
+    vcpu: u32,
+    gfn: u32,
+    offset: u32,
+    len: u32,
+) -> Result<Reply, Memory>
+    requires served { refusal (state_of config.now parts.old) (GuestRead vm vcpu gfn offset len) ≡ None }
+    requires able { IsAble config.now parts.old (GuestRead vm vcpu gfn offset len) }
+    ensures reply { IfOk result (λ reply. reply ≡ (effect (state_of config.now parts.old) (GuestRead vm vcpu gfn offset len)).0) }
+    ensures state { OnOk result (state_of config.now parts.new ≡ (effect (state_of config.now parts.old) (GuestRead vm vcpu gfn offset len)).1) }
+    ensures err { OnErr result (parts.new ≡ parts.old) }
+    ensures linked { IsLinked config.now parts.new }
+    ensures room { IsSameRoom parts.old parts.new }
+{
+    let vcpu = VcpuId::try_new(vcpu).unwrap();
+    let gfn = Gfn::try_new(gfn).unwrap();
+    match mapped_at(parts, config, vm, gfn) {
+        Some(frame) => {
+            let page = parts.frame(frame).unwrap();
+            let bytes = page.bytes.read(alloc, offset as usize, len as usize)?;
+            spend_fault(parts, config, vm, vcpu);
+            Ok(Reply::Data(bytes))
+        },
+        None => {
+            set_fault(parts, config, vm, vcpu, gfn);
+            Ok(Reply::Fault(gfn.number()))
+        },
+    }
+}
+
+/// Writes bytes to a frame.
+fn write_frame(parts: &mut Parts, config: &Config, frame: FrameNo, offset: u32, bytes: &Data)
+    requires here { is_some (page_at parts.old frame) ≡ true }
+    requires within { offset + length bytes.now ≤ page_size }
+    requires linked { IsLinked config.now parts.old }
+    ensures state { state_of config.now parts.new ≡ written (state_of config.now parts.old) frame offset bytes.now }
+    ensures linked { IsLinked config.now parts.new }
+    ensures room { IsSameRoom parts.old parts.new }
+{
+    let page = parts.frame_mut(frame).unwrap();
+    page.bytes.write(offset as usize, bytes.as_slice());
+}
+
+/// Writes bytes to a guest frame that is mapped; where it is not, the virtual processor waits for it.
+pub fn guest_write(
+    parts: &mut Parts,
+    config: &Config,
+    vm: u32,
+    vcpu: u32,
+    gfn: u32,
+    offset: u32,
+    bytes: &Data,
+) -> Reply
+    requires served { refusal (state_of config.now parts.old) (GuestWrite vm vcpu gfn offset bytes.now) ≡ None }
+    requires able { IsAble config.now parts.old (GuestWrite vm vcpu gfn offset bytes.now) }
+    ensures reply { result ≡ (effect (state_of config.now parts.old) (GuestWrite vm vcpu gfn offset bytes.now)).0 }
+    ensures state { state_of config.now parts.new ≡ (effect (state_of config.now parts.old) (GuestWrite vm vcpu gfn offset bytes.now)).1 }
+    ensures linked { IsLinked config.now parts.new }
+    ensures room { IsSameRoom parts.old parts.new }
+{
+    let vcpu = VcpuId::try_new(vcpu).unwrap();
+    let gfn = Gfn::try_new(gfn).unwrap();
+    match mapped_at(parts, config, vm, gfn) {
+        Some(frame) => {
+            write_frame(parts, config, frame, offset, bytes);
+            spend_fault(parts, config, vm, vcpu);
+            Reply::Done
+        },
+        None => {
+            set_fault(parts, config, vm, vcpu, gfn);
+            Reply::Fault(gfn.number())
+        },
+    }
+}
+
+/// The frame at the guest frame that a virtual processor's call names, or why the call is refused.
+fn mapped_frame(
+    parts: &Parts,
+    config: &Config,
+    vm: u32,
+    vcpu: u32,
+    gfn: u32,
+) -> Result<FrameNo, Refusal>
+    ensures { AnswersMapped (state_of config.now parts.now) vm vcpu gfn result }
+{
+    if vm >= config.slots() {
+        return Err(Refusal::BadVm);
+    }
+    let Some(vcpu) = VcpuId::try_new(vcpu) else {
+        return Err(Refusal::BadVcpu);
+    };
+    let Some(gfn) = Gfn::try_new(gfn) else {
+        return Err(Refusal::BadGfn);
+    };
+    if let Some(refusal) = vcpu_refusal(parts, config, vm, vcpu) {
+        return Err(refusal);
+    }
+    match mapped_at(parts, config, vm, gfn) {
+        Some(frame) => Ok(frame),
+        None => Err(Refusal::NotMapped),
+    }
+}
+
+/// Why the host can't be granted access to a guest frame once more.
+pub fn grant_refusal(
+    parts: &Parts,
+    config: &Config,
+    vm: u32,
+    vcpu: u32,
+    gfn: u32,
+) -> Option<Refusal>
+    ensures { result ≡ refusal (state_of config.now parts.now) (Grant vm vcpu gfn) }
+{
+    match mapped_frame(parts, config, vm, vcpu, gfn) {
+        Ok(frame) => if record_at(parts, config, frame.number()).share >= 100 {
+            Some(Refusal::ShareFull)
+        } else {
+            None
+        },
+        Err(refusal) => Some(refusal),
+    }
+}
+
+/// The host is granted access to a guest frame once more.
+pub fn grant(parts: &mut Parts, config: &Config, vm: u32, vcpu: u32, gfn: u32) -> Reply
+    requires served { refusal (state_of config.now parts.old) (Grant vm vcpu gfn) ≡ None }
+    requires able { IsAble config.now parts.old (Grant vm vcpu gfn) }
+    ensures reply { result ≡ (effect (state_of config.now parts.old) (Grant vm vcpu gfn)).0 }
+    ensures state { state_of config.now parts.new ≡ (effect (state_of config.now parts.old) (Grant vm vcpu gfn)).1 }
+    ensures linked { IsLinked config.now parts.new }
+    ensures room { IsSameRoom parts.old parts.new }
+{
+    let gfn = Gfn::try_new(gfn).unwrap();
+    let frame = mapped_at(parts, config, vm, gfn).unwrap();
+    let page = parts.frame_mut(frame).unwrap();
+    page.meta.share += 1;
+    Reply::Done
+}
+
+/// Why no grant of the host's to a guest frame can be taken back.
+pub fn revoke_refusal(
+    parts: &Parts,
+    config: &Config,
+    vm: u32,
+    vcpu: u32,
+    gfn: u32,
+) -> Option<Refusal>
+    ensures { result ≡ refusal (state_of config.now parts.now) (Revoke vm vcpu gfn) }
+{
+    match mapped_frame(parts, config, vm, vcpu, gfn) {
+        Ok(frame) => if record_at(parts, config, frame.number()).share == 0 {
+            Some(Refusal::NotShared)
+        } else {
+            None
+        },
+        Err(refusal) => Some(refusal),
+    }
+}
+
+/// The record of a frame to which the host has one grant less, and which it no longer reaches where that was
+/// the last.
+fn revoked(meta: PageRecord) -> PageRecord
+    requires { 0 < meta.share }
+    ensures { result ≡ record meta { share = meta.share - 1; present = if meta.share == 1 then false else meta.present } }
+{
+    PageRecord {
+        share: meta.share - 1,
+        present: meta.share != 1 && meta.present,
+        ..meta
+    }
+}
+
+/// A grant of the host's to a guest frame is taken back.
+pub fn revoke(parts: &mut Parts, config: &Config, vm: u32, vcpu: u32, gfn: u32) -> Reply
+    requires served { refusal (state_of config.now parts.old) (Revoke vm vcpu gfn) ≡ None }
+    requires able { IsAble config.now parts.old (Revoke vm vcpu gfn) }
+    ensures reply { result ≡ (effect (state_of config.now parts.old) (Revoke vm vcpu gfn)).0 }
+    ensures state { state_of config.now parts.new ≡ (effect (state_of config.now parts.old) (Revoke vm vcpu gfn)).1 }
+    ensures linked { IsLinked config.now parts.new }
+    ensures room { IsSameRoom parts.old parts.new }
+{
+    let gfn = Gfn::try_new(gfn).unwrap();
+    let frame = mapped_at(parts, config, vm, gfn).unwrap();
+    let page = parts.frame_mut(frame).unwrap();
+    page.meta = revoked(page.meta);
+    Reply::Done
+}
+
+/// Why a guest frame can't be given up.
+pub fn drop_refusal(parts: &Parts, config: &Config, vm: u32, vcpu: u32, gfn: u32) -> Option<Refusal>
+    ensures { result ≡ refusal (state_of config.now parts.now) (Drop vm vcpu gfn) }
+{
+    match mapped_frame(parts, config, vm, vcpu, gfn) {
+        Ok(frame) => if record_at(parts, config, frame.number()).share > 0 {
+            Some(Refusal::Shared)
+        } else {
+            None
+        },
+        Err(refusal) => Some(refusal),
+    }
+}
