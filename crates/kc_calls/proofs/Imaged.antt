@@ -19,7 +19,7 @@ use Rattle.kc_page.specs.Pages.{frame_of}
 use Rattle.kc_stage2.specs.Table.{Table}
 use Rattle.kc_vms.specs.Slots.{VmSlot, table_of}
 use Rattle.kc_parts.specs.Held.{Held, page_at, vm_at, links_of, with_page, link_of}
-use Rattle.kc_parts.specs.States.{frame_in, slot_in, state_of, IsLinked}
+use Rattle.kc_parts.specs.States.{slot_in, state_of, IsLinked}
 use Rattle.kc_parts.proofs.Seen.{frame-seen, slot-seen}
 use Rattle.kc_links.specs.Chain.{Links}
 use Rattle.kc_calls.specs.Applying.{IsSameRoom, IsAble}

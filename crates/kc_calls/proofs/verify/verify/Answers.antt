@@ -1,6 +1,5 @@
-use Rattle.std.proofs.Common.{◌≡◌, Some, None, All, refl, sym, ap, subst, ◌∙◌}
+use Rattle.std.proofs.Common.{◌≡◌, Some, None, All, sym, ap, subst, ◌∙◌}
 use Rattle.std.specs.Prelude.{slice_index_or}
-use Rattle.kc_types.specs.declared.call.Call.TheVariants.{Verify}
 use Rattle.kc_types.specs.declared.resource.Resource.TheVariants as resource
 use Rattle.kc_types.specs.declared.slot.Phase.TheVariants.{Active, Dead}
 use Rattle.kc_model.specs.State.{slot_at}
