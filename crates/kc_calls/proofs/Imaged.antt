@@ -19,7 +19,7 @@ use Rattle.kc_page.specs.Pages.{frame_of}
 use Rattle.kc_stage2.specs.Table.{Table}
 use Rattle.kc_vms.specs.Slots.{VmSlot, table_of}
 use Rattle.kc_parts.specs.Held.{Held, page_at, vm_at, links_of, with_page, link_of}
-use Rattle.kc_parts.specs.States.{frame_in, slot_in, state_of, IsLinked}
+use Rattle.kc_parts.specs.States.{slot_in, state_of, IsLinked}
 use Rattle.kc_parts.proofs.Seen.{frame-seen, slot-seen}
 use Rattle.kc_links.specs.Chain.{Links}
 use Rattle.kc_calls.specs.Applying.{IsSameRoom, IsAble}
@@ -69,6 +69,10 @@ state-trimmed config h v vm image f page new low linked at some is here same to 
 pub images-seen : (config : Configuration) (h : Held) (v : ℕ) (vm : VmSlot) (images : List Image) → v < slot_count config → vm_at h v ≡ Some vm → images ≡ vm.slot.images → (slot_at (state_of config h) v).images ≡ images
 images-seen config h v vm images low at is = ap (λ (there : Slot). there.images) (slot-is config h v vm low at) ∙ sym is
 
+-- the images of a slot are the same in parts with the same slots
+pub images-kept : (config : Configuration) (old new : Held) (v : ℕ) (vm : VmSlot) (images : List Image) → v < slot_count config → new.vms ≡ old.vms → vm_at new v ≡ Some vm → images ≡ vm.slot.images → (slot_at (state_of config old) v).images ≡ images
+images-kept config old new v vm images low slots at is = images-seen config old v vm images low (ap (λ (vms : List (Option VmSlot)). slice_index_or vms v None) (sym slots) ∙ at) is
+
 -- an image is here as long as the places and the slots stay
 pub image-still : (old new : Held) (v : ℕ) (image : Image) → IsSameRoom old new → new.vms ≡ old.vms → IsImageHere old (mapped_in (vm_at old v)) image → IsImageHere new (mapped_in (vm_at new v)) image
 image-still old new v image room slots here = subst (λ (vms : List (Option VmSlot)). IsImageHere new (mapped_in (slice_index_or vms v None)) image) (sym slots) (record {
@@ -84,12 +88,15 @@ all_trimmed-more m v (image ∷ images) (suc i) d low =
     let next : suc i + 1 ≡ suc (i + 1) = omega arith in
     ap (λ n. all_trimmed m v (take n (image ∷ images))) next ∙ all_trimmed-more (trimmed m v image) v images i d (omega (arith, low))
 
--- the images of a slot that a served verifying needs are here
+-- the slot of a served verifying is here
+pub slot-verified : (config : Configuration) (h : Held) (v : ℕ) → IsAble config h (Verify v) → refusal (state_of config h) (Verify v) ≡ None → is_some (vm_at h v) ≡ true
+slot-verified config h v able served = slot-needed config h (Verify v) able v refl (verify-served (state_of config h) v served).0
+
+-- and so are its images
 pub images-needed : (config : Configuration) (h : Held) (v : ℕ) → IsAble config h (Verify v) → refusal (state_of config h) (Verify v) ≡ None → All (IsImageHere h (mapped_in (vm_at h v))) (slot_at (state_of config h) v).images
 images-needed config h v able served i d low =
     let m : State = state_of config h in
     let seen = verify-served m v served in
-    let there = slot-needed config h (Verify v) able v refl seen.0 in
     let image : Image = get_or (slot_at m v).images i d in
     let whole : is_short image ≡ false = none-at is_short (slot_at m v).images i d low seen.2 in
     let pages = has-pages (slot_at m v).mapped (slot_at m v).images i d ((able.orderly.each_slot v seen.0).images seen.1) low in

@@ -44,6 +44,7 @@ fn lacks_pages(slot: &Vm) -> bool
     images.is_empty() || any_is_short(images)
 }
 
+/// Why a slot is not verified: the first condition that holds. A slot that is not here counts as empty.
 pub fn verify_refusal(parts: &Parts, config: &Config, vm: u32) -> Option<Refusal>
     ensures { result ≡ refusal (state_of config.now parts.now) (Verify vm) }
 {

@@ -1,5 +1,4 @@
-use Rattle.std.proofs.Common.{◌≡◌, ◌+◌, ◌<◌, Some, None, All, List, length, get_or, take, sym, ap, subst, ◌∙◌}
-use Rattle.std.specs.Prelude.{slice_index_or}
+use Rattle.std.proofs.Common.{◌≡◌, ◌<◌, Some, All, length, get_or, take, sym, ap, subst, ◌∙◌}
 use Rattle.std.proofs.lemmas.List.{take_all}
 use Rattle.kc_model.specs.State.{Image, slot_at}
 use Rattle.kc_model.specs.Effects.{trimmed, all_trimmed}
@@ -7,7 +6,7 @@ use Rattle.kc_parts.specs.Held.{vm_at}
 use Rattle.kc_parts.specs.States.{state_of}
 use Rattle.kc_calls.specs.Verifying.{mapped_in, IsImageHere}
 use Rattle.kc_calls.proofs.Frames.{room-through}
-use Rattle.kc_calls.proofs.Imaged.{images-seen, image-still, all_trimmed-more}
+use Rattle.kc_calls.proofs.Imaged.{images-seen, images-kept, image-still, all_trimmed-more}
 use Rattle.kc_calls.proofs.verify.trim_images.Goals as goal
 
 pub trim_image-requires-clause-here : goal.trim_image-requires-clause-here
@@ -15,10 +14,9 @@ trim_image-requires-clause-here c =
     let parts = c.args.parts.now in
     let v = c.args.vm in
     let before : vm_at parts v ≡ Some c.unwrap.result.now = sym (rw c.unwrap.ensures at c.vm.ensures) in
-    let same : vm_at parts v ≡ vm_at c.loop-i.parts v = ap (λ vms. slice_index_or vms v None) (sym c.loop-i.invariant.slots) in
-    let at : vm_at parts v ≡ Some c.unwrap-in-loop-i.result.now = same ∙ sym (rw c.unwrap-in-loop-i.ensures at c.vm-in-loop-i.ensures) in
+    let at : vm_at c.loop-i.parts v ≡ Some c.unwrap-in-loop-i.result.now = sym (rw c.unwrap-in-loop-i.ensures at c.vm-in-loop-i.ensures) in
     let counted = images-seen c.args.config.now parts v c.unwrap.result.now c.images-count.result.now c.requires.low before c.images-count.ensures.value in
-    let seen = images-seen c.args.config.now parts v c.unwrap-in-loop-i.result.now c.images.result.now c.requires.low at c.images.ensures.value in
+    let seen = images-kept c.args.config.now parts c.loop-i.parts v c.unwrap-in-loop-i.result.now c.images.result.now c.requires.low c.loop-i.invariant.slots at c.images.ensures.value in
     let low : c.loop-i.i < length c.images.result.now = subst (λ images. c.loop-i.i < length images) (sym counted ∙ seen) c.loop-i-test.true in
     image-still parts c.loop-i.parts v (get_or c.images.result.now c.loop-i.i (record { base = 0; len = 0; pages = 0 })) c.loop-i.invariant.room c.loop-i.invariant.slots
     (subst (λ images. All (IsImageHere parts (mapped_in (vm_at parts v))) images) seen c.requires.here c.loop-i.i (record { base = 0; len = 0; pages = 0 }) low)
@@ -32,10 +30,9 @@ loop-i-preserved c =
     let m = state_of c.args.config.now parts in
     let images = (slot_at m v).images in
     let before : vm_at parts v ≡ Some c.unwrap.result.now = sym (rw c.unwrap.ensures at c.vm.ensures) in
-    let same : vm_at parts v ≡ vm_at c.loop-i.parts v = ap (λ vms. slice_index_or vms v None) (sym c.loop-i.invariant.slots) in
-    let at : vm_at parts v ≡ Some c.unwrap-in-loop-i.result.now = same ∙ sym (rw c.unwrap-in-loop-i.ensures at c.vm-in-loop-i.ensures) in
+    let at : vm_at c.loop-i.parts v ≡ Some c.unwrap-in-loop-i.result.now = sym (rw c.unwrap-in-loop-i.ensures at c.vm-in-loop-i.ensures) in
     let counted = images-seen c.args.config.now parts v c.unwrap.result.now c.images-count.result.now c.requires.low before c.images-count.ensures.value in
-    let seen = images-seen c.args.config.now parts v c.unwrap-in-loop-i.result.now c.images.result.now c.requires.low at c.images.ensures.value in
+    let seen = images-kept c.args.config.now parts c.loop-i.parts v c.unwrap-in-loop-i.result.now c.images.result.now c.requires.low c.loop-i.invariant.slots at c.images.ensures.value in
     let low : i < length images = subst (λ is. i < length is) (sym counted) c.loop-i-test.true in
     record {
       state = c.trim_image.ensures.state

@@ -1,6 +1,5 @@
-use Rattle.std.proofs.Common.{◌≡◌, Some, None, All, refl, sym, ap, subst, ◌∙◌}
+use Rattle.std.proofs.Common.{◌≡◌, Some, None, All, sym, ap, subst, ◌∙◌}
 use Rattle.std.specs.Prelude.{slice_index_or}
-use Rattle.kc_types.specs.declared.call.Call.TheVariants.{Verify}
 use Rattle.kc_types.specs.declared.resource.Resource.TheVariants as resource
 use Rattle.kc_types.specs.declared.slot.Phase.TheVariants.{Active, Dead}
 use Rattle.kc_model.specs.State.{slot_at}
@@ -10,16 +9,14 @@ use Rattle.kc_parts.specs.Held.{vm_at}
 use Rattle.kc_parts.specs.States.{state_of}
 use Rattle.kc_calls.specs.Verifying.{mapped_in, IsImageHere}
 use Rattle.kc_calls.proofs.Frames.{some-lent}
-use Rattle.kc_calls.proofs.Needed.{slot-needed}
-use Rattle.kc_calls.proofs.Imaged.{images-needed}
+use Rattle.kc_calls.proofs.Imaged.{slot-verified, images-needed}
 use Rattle.kc_calls.proofs.Verifying.{booting-here, state-phase, linked-phase}
 use Rattle.kc_calls.proofs.verify.verify.Goals as goal
 
 pub first_unapproved-requires-clause-slot : goal.first_unapproved-requires-clause-slot
 first_unapproved-requires-clause-slot c =
     let is : c.unwrap-vm.result ≡ c.args.vm = rw c.unwrap-vm.ensures at c.vm.ensures.value in
-    let m = state_of c.args.config.now c.args.parts.now in
-    rw is (slot-needed c.args.config.now c.args.parts.now (Verify c.args.vm) c.requires.able c.args.vm refl (verify-served m c.args.vm c.requires.served).0)
+    rw is (slot-verified c.args.config.now c.args.parts.now c.args.vm c.requires.able c.requires.served)
 
 pub first_unapproved-requires-clause-here : goal.first_unapproved-requires-clause-here
 first_unapproved-requires-clause-here c =
@@ -30,8 +27,7 @@ first_unapproved-requires-clause-here c =
 pub unwrap-requires : goal.unwrap-requires
 unwrap-requires c =
     let is : c.unwrap-vm.result ≡ c.args.vm = rw c.unwrap-vm.ensures at c.vm.ensures.value in
-    let m = state_of c.args.config.now c.args.parts.now in
-    some-lent c.vm_mut.result _ c.vm_mut.ensures.value (rw is (slot-needed c.args.config.now c.args.parts.now (Verify c.args.vm) c.requires.able c.args.vm refl (verify-served m c.args.vm c.requires.served).0))
+    some-lent c.vm_mut.result _ c.vm_mut.ensures.value (rw is (slot-verified c.args.config.now c.args.parts.now c.args.vm c.requires.able c.requires.served))
 
 pub kill-requires : goal.kill-requires
 kill-requires c =
@@ -55,8 +51,7 @@ returns-in-Some-clause-linked c =
 pub trim_images-requires-clause-slot : goal.trim_images-requires-clause-slot
 trim_images-requires-clause-slot c =
     let is : c.unwrap-vm.result ≡ c.args.vm = rw c.unwrap-vm.ensures at c.vm.ensures.value in
-    let m = state_of c.args.config.now c.args.parts.now in
-    rw is (slot-needed c.args.config.now c.args.parts.now (Verify c.args.vm) c.requires.able c.args.vm refl (verify-served m c.args.vm c.requires.served).0)
+    rw is (slot-verified c.args.config.now c.args.parts.now c.args.vm c.requires.able c.requires.served)
 
 pub trim_images-requires-clause-here : goal.trim_images-requires-clause-here
 trim_images-requires-clause-here c =
@@ -67,9 +62,8 @@ trim_images-requires-clause-here c =
 pub unwrap-requires-2 : goal.unwrap-requires-2
 unwrap-requires-2 c =
     let is : c.unwrap-vm.result ≡ c.args.vm = rw c.unwrap-vm.ensures at c.vm.ensures.value in
-    let m = state_of c.args.config.now c.args.parts.now in
     some-lent c.vm_mut-2.result _ c.vm_mut-2.ensures.value (c.trim_images.ensures.room.here (resource.Vm c.unwrap-vm.result)
-    ∙ rw is (slot-needed c.args.config.now c.args.parts.now (Verify c.args.vm) c.requires.able c.args.vm refl (verify-served m c.args.vm c.requires.served).0))
+    ∙ rw is (slot-verified c.args.config.now c.args.parts.now c.args.vm c.requires.able c.requires.served))
 
 pub activate-requires : goal.activate-requires
 activate-requires c =

@@ -1,5 +1,4 @@
-use Rattle.std.proofs.Common.{◌≡◌, ◌<◌, Some, None, true, false, inl, inr, sym, ap, ◌∙◌, refl}
-use Rattle.kc_types.specs.Configuration.{slot_count}
+use Rattle.std.proofs.Common.{◌≡◌, Some, true, false, inl, inr, sym, ◌∙◌, refl}
 use Rattle.kc_types.specs.declared.slot.Phase.TheVariants.{Empty, Booting, Active, Dead}
 use Rattle.kc_parts.specs.Held.{vm_at}
 use Rattle.kc_calls.proofs.Verifying.{refusal-absent, refusal-here}
