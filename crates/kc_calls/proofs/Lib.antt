@@ -6,3 +6,4 @@ pub mod SlotCalls
 pub mod Hands
 pub mod Hosts
 pub mod Guests
+pub mod Drops

@@ -2,6 +2,7 @@
 #![tactic(auto)]
 
 mod dispatch;
+mod drop;
 mod guest;
 mod hand;
 mod host;
