@@ -7,3 +7,4 @@ pub mod Hands
 pub mod Hosts
 pub mod Guests
 pub mod Drops
+pub mod Clears

@@ -1,6 +1,7 @@
 //! One call on the parts that it needs.
 #![tactic(auto)]
 
+mod clear;
 mod dispatch;
 mod drop;
 mod guest;
