@@ -10,3 +10,5 @@ pub mod Verifying
 pub mod Measuring
 pub mod Imaged
 pub mod FirstFailing
+pub mod Drops
+pub mod Clears

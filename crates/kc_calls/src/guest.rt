@@ -2,7 +2,7 @@
 ghost use Rattle.std.specs.Prelude.{◌≡◌, ◌<◌, ◌≤◌, ◌+◌, ◌-◌, ◌==◌, Some, None, is_some, true, false, if◌then◌else◌, [], ◌∷◌, length, IfOk, OnOk, OnErr};
 ghost use Rattle.kc_types.specs.Configuration.{slot_count};
 ghost use Rattle.kc_types.specs.Limits.{page_size};
-ghost use Rattle.kc_types.specs.declared.call.Call.TheVariants.{GuestRead, GuestWrite, Grant, Revoke, Drop};
+ghost use Rattle.kc_types.specs.declared.call.Call.TheVariants.{GuestRead, GuestWrite, Grant, Revoke};
 ghost use Rattle.kc_model.specs.State.{slot_at, vcpu_at};
 ghost use Rattle.kc_model.specs.Refusals.{refusal, first_of_these, no_vm, not_active, no_vcpu};
 ghost use Rattle.kc_model.specs.Effects.{effect, with_fault, written};
@@ -171,7 +171,7 @@ pub fn guest_write(
 }
 
 /// The frame at the guest frame that a virtual processor's call names, or why the call is refused.
-fn mapped_frame(
+pub fn mapped_frame(
     parts: &Parts,
     config: &Config,
     vm: u32,
@@ -281,18 +281,4 @@ pub fn revoke(parts: &mut Parts, config: &Config, vm: u32, vcpu: u32, gfn: u32) 
     let page = parts.frame_mut(frame).unwrap();
     page.meta = revoked(page.meta);
     Reply::Done
-}
-
-/// Why a guest frame can't be given up.
-pub fn drop_refusal(parts: &Parts, config: &Config, vm: u32, vcpu: u32, gfn: u32) -> Option<Refusal>
-    ensures { result ≡ refusal (state_of config.now parts.now) (Drop vm vcpu gfn) }
-{
-    match mapped_frame(parts, config, vm, vcpu, gfn) {
-        Ok(frame) => if record_at(parts, config, frame.number()).share > 0 {
-            Some(Refusal::Shared)
-        } else {
-            None
-        },
-        Err(refusal) => Some(refusal),
-    }
 }

@@ -1,7 +1,9 @@
 //! One call on the parts that it needs.
 #![tactic(auto)]
 
+mod clear;
 mod dispatch;
+mod drop;
 mod guest;
 mod hand;
 mod host;

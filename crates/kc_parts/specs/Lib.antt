@@ -5,3 +5,4 @@ pub mod Booting
 pub mod Lending
 pub mod Cuts
 pub mod Moves
+pub mod Emptying

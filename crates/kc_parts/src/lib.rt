@@ -2,6 +2,7 @@
 #![tactic(auto)]
 
 mod boot;
+mod emptying;
 mod links;
 mod lists;
 mod parts;

@@ -1,14 +1,15 @@
 //! The free list and the lists of the slots, linked through the records of their frames.
-ghost use Rattle.std.specs.Prelude.{◌≡◌, ◌<◌, ◌++◌, [], ◌∷◌, IsSome, IfSome, MatchOption, Some};
+ghost use Rattle.std.specs.Prelude.{ℕ, ◌≡◌, ◌<◌, ◌++◌, [], ◌∷◌, IsSome, IfSome, MatchOption, Some};
 ghost use Rattle.kc_types.specs.declared.owner.Owner.TheVariants.{Free};
 ghost use Rattle.kc_types.specs.declared.owner.Owner.TheVariants as owner;
 ghost use Rattle.kc_model.specs.Lawful.{times_in};
 ghost use Rattle.kc_model.specs.Effects.{without};
+ghost use Rattle.kc_links.specs.Ending.{listed, IsList, AreApart};
 ghost use Rattle.kc_parts.specs.Held.{vm_at, links_of, ends_at, with_vm, with_ends};
 ghost use Rattle.kc_parts.specs.States.{AreLists, owner_at, free_of, frames_of, IsLoose, IsFreeMove, IsSlotMove};
 
 use crate::Parts;
-use kc_links::{append, pop_front, unlink};
+use kc_links::{append, pop_front, splice, unlink};
 use kc_types::{Ends, FrameNo, VmId};
 
 impl Parts {
@@ -46,9 +47,26 @@ impl Parts {
         ensures rest { IsFreeMove self.old self.new }
     {
         if let Some(ends) = self.free() {
-            let mut ends = *ends;
-            append(self, &mut ends, frame);
-            self.set_free(ends);
+            let mut free = *ends;
+            append(self, &mut free, frame);
+            self.set_free(free);
+        }
+    }
+
+    /// Puts a list of free frames, which are in no other list, at the end of the free list, which is here.
+    pub fn append_list(&mut self, mut list: Ends)
+        requires here { IsSome self.old.free }
+        requires lists { AreLists (links_of self.old) (ends_at self.old) (owner_at self.old) }
+        requires list { IsList (links_of self.old) list }
+        requires apart { AreApart (free_of self.old) (listed (links_of self.old) list) }
+        requires free { (f : ℕ) → 0 < times_in (listed (links_of self.old) list) f → owner_at self.old f ≡ Free }
+        ensures frames { free_of self.new ≡ free_of self.old ++ listed (links_of self.old) list }
+        ensures rest { IsFreeMove self.old self.new }
+    {
+        if let Some(ends) = self.free() {
+            let mut free = *ends;
+            splice(self, &mut free, &mut list);
+            self.set_free(free);
         }
     }
 

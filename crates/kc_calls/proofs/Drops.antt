@@ -1,0 +1,92 @@
+-- A frame that a slot gives up.
+use Rattle.std.proofs.Common.{ℕ, ◌≡◌, ◌<◌, false, List, [], ◌∷◌, ◌++◌, Option, Some, None, is_some, refl, sym, ap, ◌∙◌}
+use Rattle.std.specs.FinMap as map
+use Rattle.kc_types.specs.Configuration.{Configuration, slot_count}
+use Rattle.kc_types.specs.declared.owner.Owner.TheVariants.{Free}
+use Rattle.kc_types.specs.declared.resource.Resource.TheVariants as resource
+use Rattle.kc_types.specs.declared.call.Call.TheVariants.{Drop}
+use Rattle.kc_model.specs.State.{State, Slot, slot_at, mapped_at, with_frame, with_slot, frame_at, zero_page}
+use Rattle.kc_model.specs.Refusals.{refusal, backing}
+use Rattle.kc_model.specs.Effects.{without, dropped}
+use Rattle.kc_model.specs.Lawful.{times_in}
+use Rattle.kc_model.specs.Local.{IsOrderly}
+use Rattle.kc_model.proofs.Members.{times_in-held}
+use Rattle.kc_page.specs.declared.page.Page.{Page}
+use Rattle.kc_page.specs.Pages.{frame_of}
+use Rattle.kc_stage2.specs.Table.{Table}
+use Rattle.kc_vms.specs.Slots.{VmSlot, table_of, with_table}
+use Rattle.kc_links.specs.Ending.{listed}
+use Rattle.kc_parts.specs.Held.{Held, page_at, vm_at, with_page, with_vm, link_of, links_of}
+use Rattle.kc_parts.specs.States.{list_in, unlinked_slot, state_of, free_of, frames_of, IsLinked, IsFreeMove, IsSlotMove}
+use Rattle.kc_parts.proofs.Pages.{links-kept}
+use Rattle.kc_parts.proofs.SlotChanges.{vm-set, state-vm, linked-vm}
+use Rattle.kc_parts.proofs.SlotLists.{frames-here}
+use Rattle.kc_calls.specs.Applying.{IsSameRoom}
+use Rattle.kc_calls.specs.Freeing.{freed}
+use Rattle.kc_calls.proofs.Frames.{changed, room-vm, room-through}
+use Rattle.std.proofs.lemmas.List.{set-set}
+use Rattle.kc_calls.proofs.Needed.{slot-is}
+
+-- a page becomes free, and its frame the last of the free ones
+pub state-freed : (config : Configuration) (old new : Held) (f : ℕ) (page freed_page : Page) → f < config.frames → page_at old f ≡ Some page → link_of freed_page ≡ link_of page
+    → frame_of freed_page ≡ record (frame_of page) { owner = Free; gfn = None; present = false; bytes = zero_page }
+    → IsFreeMove (with_page old f freed_page) new → free_of new ≡ free_of (with_page old f freed_page) ++ f ∷ [] → state_of config new ≡ freed (state_of config old) f
+state-freed config old new f page freed_page low at same to move free =
+    let m : State = state_of config old in
+    let kept : free_of (with_page old f freed_page) ≡ free_of old = ap (λ links. list_in links old.free) (links-kept old f page freed_page at same) in
+    move.state config
+    ∙ ap (λ (s : State). record s { free = free_of new }) (changed config old f page freed_page (λ frame. record frame { owner = Free; gfn = None; present = false; bytes = zero_page }) low at same to)
+    ∙ ap (λ fs. record (with_frame m f (record (frame_at m f) { owner = Free; gfn = None; present = false; bytes = zero_page })) { free = fs }) (free ∙ ap (λ fs. fs ++ f ∷ []) kept)
+
+module _ (config : Configuration) (old : Held) (v g f : ℕ) (vm : VmSlot) (table : Table) (table_is : table ≡ record (table_of vm) { mapped = map.remove vm.slot.mapped g }) (linked : IsLinked config old) (low : v < slot_count config) (at_vm : vm_at old v ≡ Some vm) where
+  abbrev pub unmapped_vm : VmSlot
+  unmapped_vm = with_table vm table
+
+  -- the guest frame is not mapped any more
+  abbrev pub unmapped : Held
+  unmapped = with_vm old v unmapped_vm
+
+  pub linked-unmapped : IsLinked config unmapped
+  linked-unmapped = linked-vm config old v vm unmapped_vm linked at_vm refl (ap (λ (t : Table). t.room) table_is)
+
+  vm-unmapped : vm_at unmapped v ≡ Some unmapped_vm
+  vm-unmapped = vm-set old v vm unmapped_vm at_vm
+
+  frames-unmapped : frames_of unmapped v ≡ listed (links_of old) vm.slot.ends
+  frames-unmapped = frames-here unmapped v unmapped_vm vm-unmapped
+
+  -- its frame is in the slot's list
+  pub inside-unmapped : IsOrderly (state_of config old) → mapped_at (state_of config old) v g ≡ Some f → 0 < times_in (frames_of unmapped v) f
+  inside-unmapped orderly mapped =
+      let there : (slot_at (state_of config old) v).frames ≡ listed (links_of old) vm.slot.ends = ap (λ (slot : Slot). slot.frames) (slot-is config old v vm low at_vm) in
+      rw (frames-unmapped, ← there) (times_in-held (slot_at (state_of config old) v).frames f ((orderly.each_slot v low).listed g f mapped))
+
+  pub state-dropped : (mid new : Held) → mapped_at (state_of config old) v g ≡ Some f → IsSlotMove v unmapped mid → frames_of mid v ≡ without (frames_of unmapped v) f → state_of config new ≡ freed (state_of config mid) f
+      → state_of config new ≡ dropped (state_of config old) v g (backing (mapped_at (state_of config old) v g))
+  state-dropped mid new mapped move frames state =
+      state
+      ∙ ap (λ (s : State). freed s f) (
+      move.state config unmapped_vm vm-unmapped
+      ∙ ap (λ fs. with_slot (state_of config unmapped) v (unlinked_slot unmapped_vm.slot fs)) (frames ∙ ap (λ fs. without fs f) frames-unmapped)
+      ∙ ap (λ (s : State). with_slot s v after) (state-vm config old v vm unmapped_vm at_vm)
+      )
+      ∙ ap (λ slots. record (freed m f) { slots = slots }) (set-set m.slots v (unlinked_slot unmapped_vm.slot fs) after)
+      ∙ ap (λ (t : Table). with_slot (freed m f) v (unlinked_slot (with_table vm t).slot (without fs f))) table_is
+      ∙ ap (λ (slot : Slot). with_slot (freed m f) v (record slot { frames = without slot.frames f; mapped = map.remove slot.mapped g })) (sym (slot-is config old v vm low at_vm))
+      ∙ ap (λ at. dropped m v g (backing at)) (sym mapped)
+    where
+      m : State
+      m = state_of config old
+
+      fs : List ℕ
+      fs = listed (links_of old) vm.slot.ends
+
+      after : Slot
+      after = unlinked_slot unmapped_vm.slot (without fs f)
+
+  pub room-unlinked : (mid : Held) → IsSlotMove v unmapped mid → IsSameRoom old mid
+  room-unlinked mid move = room-through old unmapped mid (room-vm old v vm unmapped_vm at_vm) (record { numbers = move.numbers; filled = move.filled; here = move.here })
+
+-- the frame that the slot's table has is the state's
+pub mapped-is : (config : Configuration) (h : Held) (v g : ℕ) (vm : VmSlot) → v < slot_count config → vm_at h v ≡ Some vm → map.get vm.slot.mapped g ≡ mapped_at (state_of config h) v g
+mapped-is config h v g vm low at = ap (λ (slot : Slot). map.get slot.mapped g) (sym (slot-is config h v vm low at))

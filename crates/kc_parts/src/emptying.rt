@@ -1,0 +1,59 @@
+//! A slot is emptied: its frames become untouched and free.
+ghost use Rattle.std.specs.Prelude.{◌≡◌, IsSome, IfSome};
+ghost use Rattle.kc_links.specs.Chain.{next_of};
+ghost use Rattle.kc_links.specs.Ending.{listed};
+ghost use Rattle.kc_parts.specs.Held.{vm_at, links_of};
+ghost use Rattle.kc_parts.specs.Emptying.{with_scrubbed, all_scrubbed, IsEmptied};
+
+use crate::Parts;
+use kc_links::LinkStore;
+use kc_types::{Ends, FrameNo, Owner, VmId};
+
+impl Parts {
+    /// The frame after one in its list.
+    fn frame_after(&self, frame: FrameNo) -> Option<FrameNo>
+        ensures { result ≡ next_of (links_of self.now frame) }
+    {
+        self.link(frame)?.next
+    }
+
+    /// Lets a frame be untouched and free, if it is here. It keeps its links.
+    fn scrub_frame(&mut self, frame: FrameNo)
+        ensures { self.new ≡ with_scrubbed self.old frame }
+    {
+        if let Some(page) = self.frame_mut(frame) {
+            page.meta.owner = Owner::Free;
+            page.meta.share = 0;
+            page.meta.gfn = None;
+            page.meta.present = false;
+            page.bytes.scrub();
+        }
+    }
+
+    /// Lets each frame of a list be untouched and free. They stay linked.
+    fn scrub_list(&mut self, list: &Ends)
+        ensures { self.new ≡ all_scrubbed self.old (listed (links_of self.old) list.now) }
+    {
+        let mut at = list.head;
+        for _ in 0..list.count {
+            if let Some(frame) = at {
+                at = self.frame_after(frame);
+                self.scrub_frame(frame);
+            }
+        }
+    }
+
+    /// Lets a slot, which is here, be as at boot. Its frames become untouched and free, but are in no list: the
+    /// answer has the ends of the one in which they are still linked.
+    pub fn empty_slot(&mut self, vm: VmId) -> Ends
+        requires { IsSome (vm_at self.old vm) }
+        ensures list { IfSome (vm_at self.old vm) (λ slot. result ≡ slot.slot.ends) }
+        ensures rest { IsEmptied vm self.old self.new }
+    {
+        let slot = self.vm_mut(vm).unwrap();
+        let list = *slot.list();
+        slot.reset();
+        self.scrub_list(&list);
+        list
+    }
+}
