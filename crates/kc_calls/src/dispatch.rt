@@ -1,10 +1,12 @@
 //! A call, by its kind.
 ghost use Rattle.std.specs.Prelude.{◌≡◌, IfOk, OnOk, OnErr, IsOk};
-ghost use Rattle.kc_model.specs.Built.{IsBuilt, TakesNoMemory};
+ghost use Rattle.kc_model.specs.Memory.{TakesNoMemory};
 ghost use Rattle.kc_model.specs.Next.{next};
 ghost use Rattle.kc_parts.specs.States.{state_of, IsLinked};
 ghost use Rattle.kc_calls.specs.Applying.{looked_up, IsSameRoom, IsAble};
 
+use crate::clear::{clear, clear_refusal};
+use crate::drop::{drop_page, drop_refusal};
 use crate::guest::{
     grant, grant_refusal, guest_access_refusal, guest_read, guest_write, revoke, revoke_refusal,
 };
@@ -22,7 +24,6 @@ use std::alloc::Global;
 /// Why a call is refused: the first condition of its row that holds. The calls that change a slot alone are
 /// refused by the slot.
 fn refusal(parts: &Parts, config: &Config, call: &Call) -> Option<Refusal>
-    requires built { IsBuilt call.now }
     requires linked { IsLinked config.now parts.now }
     ensures { result ≡ looked_up (state_of config.now parts.now) call.now }
 {
@@ -66,7 +67,8 @@ fn refusal(parts: &Parts, config: &Config, call: &Call) -> Option<Refusal>
         ),
         Call::Grant { vm, vcpu, gfn } => grant_refusal(parts, config, *vm, *vcpu, *gfn),
         Call::Revoke { vm, vcpu, gfn } => revoke_refusal(parts, config, *vm, *vcpu, *gfn),
-        _ => unreachable!(),
+        Call::Drop { vm, vcpu, gfn } => drop_refusal(parts, config, *vm, *vcpu, *gfn),
+        Call::Clear { vm } => clear_refusal(parts, config, *vm),
     }
 }
 
@@ -80,7 +82,6 @@ pub fn apply(
     config: &Config,
     call: &Call,
 ) -> Result<Reply, Memory>
-    requires built { IsBuilt call.now }
     requires able { IsAble config.now parts.old call.now }
     ensures reply { IfOk result (λ reply. reply ≡ (next (state_of config.now parts.old) call.now).0) }
     ensures state { OnOk result (state_of config.now parts.new ≡ (next (state_of config.now parts.old) call.now).1) }
@@ -126,6 +127,7 @@ pub fn apply(
         } => Ok(guest_write(parts, config, *vm, *vcpu, *gfn, *offset, data)),
         Call::Grant { vm, vcpu, gfn } => Ok(grant(parts, config, *vm, *vcpu, *gfn)),
         Call::Revoke { vm, vcpu, gfn } => Ok(revoke(parts, config, *vm, *vcpu, *gfn)),
-        _ => unreachable!(),
+        Call::Drop { vm, vcpu, gfn } => Ok(drop_page(parts, config, *vm, *vcpu, *gfn)),
+        Call::Clear { vm } => Ok(clear(parts, config, *vm)),
     }
 }

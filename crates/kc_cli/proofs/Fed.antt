@@ -8,10 +8,8 @@ use Rattle.kc_types.specs.declared.call.Call.{Call}
 use Rattle.kc_trace.specs.declared.fault.TraceFault.{TraceFault}
 use Rattle.kc_trace.specs.declared.fault.TraceFault.TheVariants.{NoHeader, BadLine, NoNewline, TooManyCalls, Memory}
 use Rattle.std.specs.List.{AllByRecursion}
-use Rattle.kc_model.specs.Built.{IsBuilt}
 use Rattle.kc_trace.specs.Trace.{IsTrace, IsRefused}
 use Rattle.kc_trace.specs.Machine.{◌>>=◌, Progress, Reader, Fails, start, feed, fed, fed_after, ended, reading}
-use Rattle.kc_trace.proofs.BuiltCalls.{built-append}
 use Rattle.kc_trace.proofs.Traces.{feed-append, and_then_feed, added, Reads, reading_reads}
 
 -- what reading the bytes so far answers
@@ -24,7 +22,6 @@ pub record IsFed (bytes : List ℕ) (reader : Reader) (calls : List Call) (total
   pub so_far : feed start bytes ≡ Answer reader.fault reader.progress calls
   pub consumed : Consumes old new bytes
   pub many : length bytes ≡ total
-  pub built : AllByRecursion IsBuilt calls
 
 pub fed_ok : (fault : Option TraceFault) (p q : Progress) (bytes piece : List ℕ) (calls more : List Call) → feed start bytes ≡ Answer fault p calls → fed_after fault p piece ≡ Ok (q, more) → feed start (bytes ++ piece) ≡ Ok (q, calls ++ more)
 fed_ok None p q bytes piece calls more h e =
@@ -47,13 +44,12 @@ pub feed_nothing : (p : Progress) → feed p [] ≡ Ok (p, [])
 unfolding feed
 feed_nothing p = refl
 
-pub is_fed_ok : (bytes piece : List ℕ) (r q : Reader) (calls more all : List Call) (total n : ℕ) (old mid new : Option (List ℕ)) → IsFed bytes r calls total old mid → Consumes mid new piece → fed r piece ≡ Ok (q.progress, more) → q.fault ≡ None → all ≡ calls ++ more → length piece ≡ n → AllByRecursion IsBuilt more
+pub is_fed_ok : (bytes piece : List ℕ) (r q : Reader) (calls more all : List Call) (total n : ℕ) (old mid new : Option (List ℕ)) → IsFed bytes r calls total old mid → Consumes mid new piece → fed r piece ≡ Ok (q.progress, more) → q.fault ≡ None → all ≡ calls ++ more → length piece ≡ n
     → IsFed (bytes ++ piece) q all (total + n) old new
-is_fed_ok bytes piece r q calls more all total n old mid new h more_read answer none grown len more_built = record {
+is_fed_ok bytes piece r q calls more all total n old mid new h more_read answer none grown len = record {
   so_far = rw (none, grown) (fed_ok r.fault r.progress q.progress bytes piece calls more h.so_far answer);
   consumed = Consumes-trans old mid new bytes piece h.consumed more_read;
   many = omega (arith, length-append bytes piece, h.many, len);
-  built = rw grown (built-append calls more h.built more_built);
 }
 
 pub is_fed_err : (bytes piece : List ℕ) (r q : Reader) (calls : List Call) (f : TraceFault) (total n : ℕ) (old mid new : Option (List ℕ)) → IsFed bytes r calls total old mid → Consumes mid new piece → Fails f (fed r piece) → (f ≡ Memory → ⊥) → q.fault ≡ Some f → length piece ≡ n
@@ -62,7 +58,6 @@ is_fed_err bytes piece r q calls f total n old mid new h more_read answer other 
   so_far = rw some (fed_err r.fault r.progress bytes piece calls f h.so_far (fails_is f (fed r piece) other answer));
   consumed = Consumes-trans old mid new bytes piece h.consumed more_read;
   many = omega (arith, length-append bytes piece, h.many, len);
-  built = h.built;
 }
 
 all_read : (old mid new : Option (List ℕ)) (bytes piece : List ℕ) → Consumes old mid bytes → Consumes mid new piece → length piece ≡ 0 → IsAtEnd new → IfSome old (λ text. text ≡ bytes)

@@ -1,9 +1,7 @@
 //! The engine that replays a trace, over any ends.
 ghost use Rattle.std.specs.Prelude.{◌≡◌, ◌≢◌, ◌⊎◌, ◌↔◌, true, false, IfOk, IfSome, OnOk, OnErr, Err, IsErrOf};
-ghost use Rattle.std.specs.List.{AllByRecursion};
 ghost use Rattle.std.specs.Io.KnownBytes.{IsAtEnd};
 ghost use Rattle.kc_model.specs.Boot.{boot};
-ghost use Rattle.kc_model.specs.Built.{IsBuilt};
 ghost use Rattle.kc_model.specs.Next.{replies_from};
 ghost use Rattle.kc_trace.specs.declared.config_text.ConfigTextFault.{ConfigTextFault};
 ghost use Rattle.kc_trace.specs.declared.fault.TraceFault.{TraceFault};
@@ -22,7 +20,6 @@ use std::alloc::Global;
 
 /// The text of the replies to some calls. The core is wiped before it goes, whatever the outcome.
 fn reply_text(alloc: Global, config: Config, calls: &[Call]) -> Result<Vec<u8>, Memory>
-    requires { AllByRecursion IsBuilt calls.now }
     ensures { IfOk result (λ text. text.items ≡ reply_text_of (replies_from (boot config) calls.now)) }
 {
     let mut core = KCore::boot(alloc, config)?;

@@ -1,8 +1,6 @@
 //! The engine that runs a trace live, over any ends.
 ghost use Rattle.std.specs.Prelude.{◌≡◌, ◌≢◌, ◌⊎◌, ◌↔◌, ℕ, map, false, true, IfOk, IfErr, IfSome, OnOk, OnErr, Err, IsErrOf};
-ghost use Rattle.std.specs.List.{AllByRecursion};
 ghost use Rattle.std.specs.Io.KnownBytes.{IsAtEnd};
-ghost use Rattle.kc_model.specs.Built.{IsBuilt};
 ghost use Rattle.kc_live.specs.Logs.{calls_of};
 ghost use Rattle.kc_trace.specs.declared.config_text.ConfigTextFault.{ConfigTextFault};
 ghost use Rattle.kc_trace.specs.declared.fault.TraceFault.{TraceFault};
@@ -51,7 +49,6 @@ fn calls_in(alloc: Global, entries: Vec<Entry>) -> Result<Vec<Call>, Memory>
 
 /// Makes the calls on one thread, and wipes the core that they leave.
 fn replay(alloc: Global, config: Config, calls: &[Call]) -> Result<(), Memory>
-    requires { AllByRecursion IsBuilt calls.now }
 {
     let mut core = KCore::boot(alloc, config)?;
     let outcome = core.run(alloc, calls);
@@ -96,7 +93,6 @@ fn history_text<G: Gate + Sync, R: Threads + Wait + Sync>(
     calls: Vec<Call>,
     gate: &G,
 ) -> Result<Vec<u8>, TextFault>
-    requires { AllByRecursion IsBuilt calls.items }
     ensures text { IfOk result (λ text. IsRearranged calls.items text.items) }
     ensures fault { IfErr result (IsLiveFault config calls.items) }
 {

@@ -1,13 +1,12 @@
 //! The core, seen as a state that is lawful after every call.
 ghost use Rattle.std.specs.Prelude.{◌≡◌, ℕ, ◌+◌, ◌<◌, List, length, take, map, All, IsSome, IfSome, ◌↔◌, IfOk, IfErr, OnOk, OnErr, IsOk};
-ghost use Rattle.kc_model.specs.Built.{IsBuilt, TakesNoMemory};
+ghost use Rattle.kc_model.specs.Memory.{TakesNoMemory};
 ghost use Rattle.kc_model.specs.Boot.{boot};
 ghost use Rattle.kc_model.specs.Next.{next, replies_from, state_after};
 ghost use Rattle.kc_model.specs.Lawful.{IsLawful};
 ghost use Rattle.kc_core.specs.Runs.{StopsAfter};
 ghost use Rattle.kc_model.specs.Safety.{IsSafe};
 ghost use Rattle.kc_model.specs.Blind.{ShowsNothing};
-ghost use Rattle.std.specs.List.{AllByRecursion};
 ghost use Rattle.kc_model.specs.State.{frame_at};
 ghost use Rattle.kc_model.specs.Links.{frames_of};
 ghost use Rattle.kc_model.specs.Wiped.{wiped};
@@ -97,7 +96,6 @@ impl KCore {
     /// Answers a call: with the first refusal that applies, and then nothing has changed, or with its effect.
     /// `Memory` where a growth was refused, and then nothing has changed either.
     pub fn call(&mut self, call: &Call) -> Result<Reply, Memory>
-        requires { IsBuilt call.now }
         ensures reply { IfOk result (λ reply. reply ≡ (next self.old call.now).0) }
         ensures state { OnOk result (self.new ≡ (next self.old call.now).1) }
         ensures err { OnErr result (self.new ≡ self.old) }
@@ -110,7 +108,6 @@ impl KCore {
 
     /// Answers a trace, call by call, and gives the replies in order.
     pub fn run(&mut self, alloc: Global, calls: &[Call]) -> Result<Vec<Reply>, RunStop>
-        requires { AllByRecursion IsBuilt calls.now }
         ensures safe { IsSafe self.old calls.now }
         ensures blind { IfOk result (λ replies. ShowsNothing self.old calls.now replies.items self.new) }
         ensures replies { IfOk result (λ replies. replies.items ≡ replies_from self.old calls.now) }

@@ -7,7 +7,6 @@ use Rattle.kc_types.specs.declared.call.Call.{Call}
 use Rattle.kc_types.specs.declared.reply.Reply.{Reply}
 use Rattle.kc_types.specs.Room.{bytes_in, room_of}
 use Rattle.kc_model.specs.State.{State}
-use Rattle.kc_model.specs.Built.{IsBuilt}
 use Rattle.kc_model.specs.Boot.{boot}
 use Rattle.kc_model.specs.Next.{next}
 use Rattle.kc_model.proofs.Runs.{replies_from-append, state_after-append}
@@ -19,17 +18,12 @@ use Rattle.kc_live.specs.Logs.{IsKept, calls_of, entry}
 pub room_made : (m : State) (call : Call) (reply : Reply) (spare : ℕ) → reply ≡ (next m call).0 → room_of call ≤ spare → bytes_in reply ≤ spare
 room_made m call reply spare is_reply made = let room = room-next m call in rw is_reply (omega arith)
 
-built_more : (es : List Entry) (call : Call) (reply : Reply) → AllByRecursion IsBuilt (calls_of es) → IsBuilt call → AllByRecursion IsBuilt (calls_of (es ++ entry call reply ∷ []))
-built_more [] call reply each one = (one, tt)
-built_more (e ∷ es) call reply each one = (each.0, built_more es call reply each.1 one)
-
 pub kept_more : (config : Configuration) (es : List Entry) (m n : State) (call : Call) (reply : Reply)
-    → IsKept config es m → length es < 65536 → reply ≡ (next m call).0 → n ≡ (next m call).1 → IsBuilt call → IsKept config (es ++ entry call reply ∷ []) n
-kept_more config es m n call reply kept room is_reply is_after built = record {
+    → IsKept config es m → length es < 65536 → reply ≡ (next m call).0 → n ≡ (next m call).1 → IsKept config (es ++ entry call reply ∷ []) n
+kept_more config es m n call reply kept room is_reply is_after = record {
   legal =
       map-append (λ (e : Entry). e.reply) es (entry call reply ∷ [])
       ∙ rw (map-append (λ (e : Entry). e.call) es (entry call reply ∷ []), replies_from-append (boot config) (calls_of es) (call ∷ []), kept.legal, is_reply, kept.ends) refl;
   ends = rw (map-append (λ (e : Entry). e.call) es (entry call reply ∷ []), state_after-append (boot config) (calls_of es) (call ∷ []), is_after, kept.ends) refl;
   short = omega (arith, length-append es (entry call reply ∷ []));
-  built = built_more es call reply kept.built built;
 }

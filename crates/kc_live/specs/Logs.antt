@@ -8,7 +8,6 @@ use Rattle.kc_types.specs.declared.reply.Reply.{Reply}
 use Rattle.kc_model.specs.State.{State}
 use Rattle.kc_model.specs.Boot.{boot}
 use Rattle.kc_model.specs.Next.{next, state_after}
-use Rattle.kc_model.specs.Built.{IsBuilt}
 use Rattle.kc_model.specs.Histories.{IsLegalHistory}
 use Rattle.kc_live.specs.declared.receipt.Entry.{Entry}
 use Rattle.kc_live.specs.declared.receipt.Receipt.{Receipt}
@@ -36,7 +35,6 @@ pub record IsKept (config : Configuration) (entries : List Entry) (state : State
   pub legal : IsLegalHistory config (calls_of entries) (replies_of entries)
   pub ends : state ≡ state_after (boot config) (calls_of entries)
   pub short : length entries ≤ call_limit
-  pub built : AllByRecursion IsBuilt (calls_of entries)
 
 abbrev pub new_log : Configuration → Log
 new_log config = record { config = config; entries = [] }

@@ -1,8 +1,6 @@
 //! The core beside the history of its calls.
 ghost use Rattle.std.specs.Prelude.{◌≡◌, ◌≢◌, ◌≤◌, ◌↔◌, length, Err, IfOk, OnErr};
-ghost use Rattle.std.specs.List.{AllByRecursion};
 ghost use Rattle.kc_types.specs.Limits.{call_limit};
-ghost use Rattle.kc_model.specs.Built.{IsBuilt};
 
 use crate::fault::LiveFault;
 use crate::receipt::{Entry, Receipt};
@@ -55,7 +53,6 @@ impl Book {
     /// Makes one call, which the history then has with its reply. `HistoryFull` comes exactly where the history
     /// has 65,536 calls, else `Memory` where a growth was refused; all growth comes before any change.
     pub fn step(&mut self, call: Call) -> Result<Receipt, LiveFault>
-        requires { IsBuilt call }
         ensures receipt { IfOk result (λ r. r ≡ receipt_of self.old call) }
         ensures entry { IfOk result (λ r. self.new ≡ longer self.old r.call r.reply) }
         ensures full { (result ≡ Err LiveFault.HistoryFull) ↔ (length self.old.entries ≡ call_limit) }
@@ -147,7 +144,6 @@ impl History {
         ensures core { result.1 ≡ end_state self }
         ensures legal { IsLegal self }
         ensures short { length self.entries ≤ call_limit }
-        ensures built { AllByRecursion IsBuilt (calls_of self.entries) }
     {
         let History {
             config: _,

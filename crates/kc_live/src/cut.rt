@@ -1,8 +1,6 @@
 //! A trace that is cut into programs and run.
 ghost use Rattle.std.specs.Prelude.{◌≡◌, [], ◌∷◌, IfOk, IfErr, OnOk, MatchOption, IsTrue, ◌↔◌};
 ghost use Rattle.kc_types.specs.Actors.{actor as actor_made};
-ghost use Rattle.std.specs.List.{AllByRecursion};
-ghost use Rattle.kc_model.specs.Built.{IsBuilt};
 ghost use Rattle.kc_live.specs.Logs.{calls_of};
 ghost use Rattle.kc_live.specs.Programs.{NoneIs, actors_of};
 ghost use Rattle.kc_live.specs.Cuts.{IsCut, IsPlaceOf, KeepsOrders, StopsTrace, with_call};
@@ -39,7 +37,6 @@ fn place_of(programs: &[Program], actor: Actor) -> Option<usize>
 
 /// A program of one call.
 fn begun(alloc: Global, call: Call) -> Result<Program, Memory>
-    requires { IsBuilt call }
     ensures { IfOk result (λ program. program ≡ record { actor = actor_made call; calls = call ∷ [] }) }
 {
     let mut program = Program::new(actor_of(&call), Vec::new(alloc));
@@ -49,7 +46,6 @@ fn begun(alloc: Global, call: Call) -> Result<Program, Memory>
 
 /// Adds a call to the program of its actor, or to a new one.
 fn add_call(alloc: Global, programs: &mut Vec<Program>, call: Call) -> Result<(), Memory>
-    requires { IsBuilt call }
     ensures { OnOk result (programs.new.items ≡ with_call call programs.old.items) }
 {
     match place_of(programs.as_slice(), actor_of(&call)) {
@@ -61,7 +57,6 @@ fn add_call(alloc: Global, programs: &mut Vec<Program>, call: Call) -> Result<()
 
 /// Cuts a trace into one program for each actor, in the order in which the actors first appear.
 pub fn programs_of(alloc: Global, calls: Vec<Call>) -> Result<Vec<Program>, Memory>
-    requires { AllByRecursion IsBuilt calls.items }
     ensures { IfOk result (λ programs. IsCut calls.items programs.items) }
 {
     let mut programs = Vec::new(alloc);
@@ -86,7 +81,6 @@ pub fn run_trace<G: Gate + Sync, R: Threads + Wait + Sync>(
     calls: Vec<Call>,
     gate: &G,
 ) -> Result<History, LiveStop>
-    requires { AllByRecursion IsBuilt calls.items }
     ensures config { IfOk result (λ history. history.config ≡ config) }
     ensures order { IfOk result (λ history. KeepsOrders (calls_of history.entries) calls.items) }
     ensures stop { IfErr result (λ stop. StopsTrace config calls.items stop.cause) }

@@ -1,7 +1,6 @@
 //! The core under its one lock.
 ghost use Rattle.std.specs.Prelude.{◌≡◌, ◌≢◌, ◌↔◌, Err, OnOk, OnErr};
 ghost use Rattle.kc_types.specs.Actors.{actor as actor_made};
-ghost use Rattle.kc_model.specs.Built.{IsBuilt};
 ghost use Rattle.kc_live.specs.Seats.{GainsReceipt};
 
 use crate::book::{Book, History};
@@ -31,7 +30,6 @@ impl LiveCore {
     /// is answered: `NotYours`, `Memory` for the seat, `HistoryFull`, `Memory` for the history. Seat and history
     /// are then unchanged.
     pub fn call<R: Wait>(&self, rt: &R, seat: &mut Seat, call: Call) -> Result<(), LiveFault>
-        requires { IsBuilt call }
         ensures gains { OnOk result (GainsReceipt seat.old seat.new call) }
         ensures yours { (result ≡ Err LiveFault.NotYours) ↔ (actor_made call ≢ seat.old.actor) }
         ensures err { OnErr result (seat.new ≡ seat.old) }

@@ -1,7 +1,5 @@
 //! The calls of one actor, and the thread that makes them.
 ghost use Rattle.std.specs.Prelude.{◌≡◌, IfOk, OnOk, OnErr};
-ghost use Rattle.std.specs.List.{AllByRecursion};
-ghost use Rattle.kc_model.specs.Built.{IsBuilt};
 ghost use Rattle.kc_live.specs.Programs.{calls_in};
 ghost use Rattle.kc_live.specs.Cuts.{grown};
 
@@ -25,15 +23,11 @@ pub struct Program {
 }
 
 impl Model for Program {
-    ghost use Rattle.std.specs.List.{AllByRecursion};
-    ghost use Rattle.kc_model.specs.Built.{IsBuilt};
     ghost use Rattle.kc_live.specs.Programs.{ProgramView};
 
     ghost Value = { ProgramView };
 
     ghost view = { λ p. record { actor = p.actor; calls = p.calls.items } };
-
-    ghost invariant = { λ p. AllByRecursion IsBuilt p.calls.items };
 }
 
 /// A thread's receipts are those of these calls, in order.
@@ -53,7 +47,6 @@ pub type Running = PromisedHandle<Result<Vec<Receipt>, LiveFault>, MakesCalls>;
 impl Program {
     /// A program of an actor. Whether the calls are this actor's is judged when the program is to run.
     pub fn new(actor: Actor, calls: Vec<Call>) -> Program
-        requires { AllByRecursion IsBuilt calls.items }
         ensures { result ≡ record { actor = actor; calls = calls.items } }
     {
         Program { actor, calls }
@@ -75,7 +68,6 @@ impl Program {
 
     /// Adds a call behind the others. `Memory` where a growth was refused, and then nothing has changed.
     pub fn add(&mut self, call: Call) -> Result<(), Memory>
-        requires { IsBuilt call }
         ensures more { OnOk result (self.new ≡ grown self.old call) }
         ensures err { OnErr result (self.new ≡ self.old) }
     {

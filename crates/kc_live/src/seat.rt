@@ -2,7 +2,6 @@
 ghost use Rattle.std.specs.Prelude.{◌≡◌, ◌≢◌, ◌↔◌, ◌<◌, ◌-◌, length, slice_get, Err, OnOk, OnErr};
 ghost use Rattle.kc_types.specs.Limits.{call_limit};
 ghost use Rattle.kc_types.specs.Actors.{actor as actor_made};
-ghost use Rattle.kc_model.specs.Built.{IsBuilt};
 
 use crate::book::Book;
 use crate::fault::LiveFault;
@@ -68,7 +67,6 @@ impl Seat {
     /// Makes one call of a book, and keeps its receipt. The faults come in this order: `NotYours`, `Memory` for the
     /// seat, `HistoryFull`, `Memory` for the book.
     pub fn record(&mut self, book: &mut Book, call: Call) -> Result<(), LiveFault>
-        requires { IsBuilt call }
         ensures seat { OnOk result (self.new ≡ gaining self.old (receipt_of book.old call)) }
         ensures book { OnOk result (book.new ≡ longer book.old call (reply_to book.old call)) }
         ensures yours { (result ≡ Err LiveFault.NotYours) ↔ (actor_made call ≢ self.old.actor) }
@@ -97,7 +95,6 @@ impl Seat {
         core: &LiveCore,
         call: Call,
     ) -> Result<&Receipt, LiveFault>
-        requires { IsBuilt call }
         ensures* seat { sem 𝓛 (Rests self.entry (λ now. LendsNewest self.old now call result)) }
         ensures yours { (result ≡ Err LiveFault.NotYours) ↔ (actor_made call ≢ self.old.actor) }
     {
@@ -106,7 +103,6 @@ impl Seat {
     }
 
     fn gain<R: Wait>(&mut self, rt: &R, core: &LiveCore, call: Call) -> Result<(), LiveFault>
-        requires { IsBuilt call }
         ensures gains { OnOk result (GainsReceipt self.old self.new call) }
         ensures yours { (result ≡ Err LiveFault.NotYours) ↔ (actor_made call ≢ self.old.actor) }
         ensures err { OnErr result (self.new ≡ self.old) }

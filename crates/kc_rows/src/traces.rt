@@ -83,7 +83,6 @@ fn refused_traces_write_nothing(rt: HostRuntime) -> Result<(), Fail> {
             TraceFault::BadLine(3),
         ),
         ("kcore-trace 1\nhfault 1", TraceFault::NoNewline),
-        ("kcore-trace 1\nclear 0\n", TraceFault::BadLine(2)),
     ];
     for (trace, fault) in cases {
         let (outcome, written) = replayed(&rt, SMALL, trace.as_bytes())?;

@@ -6,4 +6,3 @@ pub mod Spelled
 pub mod Runs
 pub mod Traces
 pub mod ConfigMembers
-pub mod BuiltCalls

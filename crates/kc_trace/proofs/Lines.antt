@@ -11,11 +11,10 @@ use Rattle.kc_types.specs.Bytes.{IsData}
 use Rattle.kc_types.specs.declared.call.Call.{Call}
 use Rattle.kc_types.specs.declared.call.Call.TheVariants.{Take, Give, HostFault, HostRead, HostWrite, RegisterVm, RegisterVcpu, SetBoot, Remap, Verify, Map, GuestRead, GuestWrite, Grant, Revoke, Drop, Clear}
 use Rattle.kc_model.specs.Ranged.{IsWord, IsRanged}
-use Rattle.kc_model.specs.Built.{IsBuilt}
 use Rattle.kc_trace.specs.Spelling.{words_of, line_of}
-use Rattle.kc_trace.specs.Reading.{with_three_numbers, four_words, call_of_words, when_built, call_of}
+use Rattle.kc_trace.specs.Reading.{with_three_numbers, four_words, call_of_words, call_of}
 use Rattle.kc_trace.specs.Machine.{longest_line}
-use Rattle.kc_trace.specs.Trace.{IsOneLine, IsReadable}
+use Rattle.kc_trace.specs.Trace.{IsOneLine}
 use Rattle.kc_trace.proofs.Numbers.{number_of-decimal}
 use Rattle.kc_trace.proofs.Digits.{data_of-encode_lower}
 use Rattle.kc_trace.proofs.Words.{is_space, is_word, width, split_join, join_is_one_line, length-join, decimal_is_word, encoded_is_word}
@@ -168,12 +167,7 @@ joined_is_one (word ∷ words) some e = join_is_one_line word words e
 pub line_is_one : (call : Call) → IsRanged call → IsOneLine (line_of call)
 line_is_one call fits = joined_is_one (words_of call) (some_words call) (words_are_words call fits)
 
-when_built-built : (call : Call) → IsBuilt call → when_built (Some call) ≡ Some call
-when_built-built call built = rw built refl
-
 -- a call's line is read as the call
-pub call_of-line_of : (call : Call) → IsReadable call → call_of (line_of call) ≡ Some call
-call_of-line_of call readable =
-    ap (λ words. when_built (call_of_words words)) (joined_is_split (words_of call) (some_words call) (words_are_words call readable.0))
-    ∙ ap when_built (call_of_words-words_of call readable.0)
-    ∙ when_built-built call readable.1
+pub call_of-line_of : (call : Call) → IsRanged call → call_of (line_of call) ≡ Some call
+call_of-line_of call ranged =
+    ap call_of_words (joined_is_split (words_of call) (some_words call) (words_are_words call ranged)) ∙ call_of_words-words_of call ranged

@@ -11,10 +11,8 @@ use Rattle.kc_types.specs.Bytes.{IsData}
 use Rattle.kc_types.specs.declared.call.Call.{Call}
 use Rattle.kc_types.specs.declared.call.Call.TheVariants.{Take, Give, HostFault, HostRead, HostWrite, RegisterVm, RegisterVcpu, SetBoot, Remap, Verify, Map, GuestRead, GuestWrite, Grant, Revoke, Drop, Clear}
 use Rattle.kc_model.specs.Ranged.{IsWord, IsRanged}
-use Rattle.kc_model.specs.Built.{is_built, IsBuilt}
 use Rattle.kc_trace.specs.Spelling.{words_of, line_of}
-use Rattle.kc_trace.specs.Reading.{number_of, data_of, one_word, with_one_number, with_two_numbers, with_three_numbers, host_access, guest_access, two_words, three_words, four_words, six_words, call_of_words, when_built, call_of}
-use Rattle.kc_trace.specs.Trace.{IsReadable}
+use Rattle.kc_trace.specs.Reading.{number_of, data_of, one_word, with_one_number, with_two_numbers, with_three_numbers, host_access, guest_access, two_words, three_words, four_words, six_words, call_of_words, call_of}
 use Rattle.kc_trace.proofs.Numbers.{number_is_decimal}
 use Rattle.kc_trace.proofs.Digits.{data_is_spelled}
 use Rattle.kc_trace.proofs.Words.{is_space, chosen}
@@ -156,20 +154,11 @@ words_are_spelled (name ∷ first ∷ second ∷ third ∷ fourth ∷ []) call e
 words_are_spelled (name ∷ first ∷ second ∷ third ∷ fourth ∷ fifth ∷ []) call e = six_are name first second third fourth fifth call e
 words_are_spelled (name ∷ first ∷ second ∷ third ∷ fourth ∷ fifth ∷ sixth ∷ more) call e = absurd cc
 
-built_some : (found : Option Call) (call : Call) → when_built found ≡ Some call → (found ≡ Some call) × IsBuilt call
-built_some None call e = absurd cc
-built_some (Some other) call e =
-    elim (chosen (is_built other) (Some other) None (Some call) e) [
-      | inl h ↦ let same : other ≡ call = cc in (h.1, subst IsBuilt same h.0)
-      | inr h ↦ absurd cc
-    ]
-
 -- what is read as a call is the call's line
-pub line_is_spelled : (line : List ℕ) (call : Call) → call_of line ≡ Some call → (line ≡ line_of call) × IsReadable call
+pub line_is_spelled : (line : List ℕ) (call : Call) → call_of line ≡ Some call → (line ≡ line_of call) × IsRanged call
 line_is_spelled line call e =
-    let built = built_some (call_of_words (slice_split is_space line)) call e in
-    let words = words_are_spelled (slice_split is_space line) call built.0 in
-    (sym (join_with_byte-slice_split 32 line) ∙ ap (join_with_byte 32) words.words_are, (words.ranged, built.1))
+    let words = words_are_spelled (slice_split is_space line) call e in
+    (sym (join_with_byte-slice_split 32 line) ∙ ap (join_with_byte 32) words.words_are, words.ranged)
 
 -- ---- a word more than any call has
 

@@ -1,7 +1,6 @@
 -- What is read byte after byte is the trace.
 use Rattle.std.proofs.Common.{◌≡◌, ◌⊎◌, ◌≤◌, ◌<◌, ◌+◌, ℕ, Bool, true, false, cond, List, [], ◌∷◌, ◌++◌, length, Option, Some, None, Result, Ok, Err, refl, sym, ap, subst, ◌∙◌, append_assoc, arith, inl, inr, length-append, zero-add}
 use Rattle.std.specs.Global.{Vec}
-use Rattle.kc_model.specs.Built.{IsBuilt}
 use Rattle.std.specs.Prelude.{MatchResult, IfOk, ◌==◌, not, nat_le}
 use Rattle.std.specs.List.{concat, list_all, AllByRecursion}
 use Rattle.std.proofs.lemmas.Bool.{and_parts, and_from, eqb-true, not-true, le-leb, lt-leb, lt-ltb, le-ltb, cases_lt, cases_eq, cases_Bool, eq-eqb, ne_eqb}
@@ -13,7 +12,8 @@ use Rattle.kc_trace.specs.declared.fault.TraceFault.TheVariants.{NoHeader, BadLi
 use Rattle.kc_trace.specs.Spelling.{line_of, lines_of, header}
 use Rattle.kc_trace.specs.Reading.{call_of}
 use Rattle.kc_trace.specs.Machine.{◌>>=◌, Gives, Fails, Progress, longest_line, longer, call_in, after_line, step, feed, feed_each, line_ended, ended, reading}
-use Rattle.kc_trace.specs.Trace.{IsOneLine, IsReadable, AreCalls, StopsAt, IsTrace, IsRefused}
+use Rattle.kc_model.specs.Ranged.{IsRanged}
+use Rattle.kc_trace.specs.Trace.{IsOneLine, AreCalls, StopsAt, IsTrace, IsRefused}
 use Rattle.kc_trace.proofs.Lines.{line_fits, line_is_one, call_of-line_of}
 use Rattle.kc_trace.proofs.Spelled.{line_is_spelled}
 
@@ -36,16 +36,16 @@ longer-kept line byte =
       ]
     ]
 
-kept_is_call : (line : List ℕ) (call : Call) → call_in (kept line) ≡ Some call → (line ≡ line_of call) × IsReadable call
+kept_is_call : (line : List ℕ) (call : Call) → call_in (kept line) ≡ Some call → (line ≡ line_of call) × IsRanged call
 kept_is_call line call e =
     elim (cases_lt longest_line (length line)) [
       | inl past ↦ absurd (let none : None ≡ Some call = rw (lt-leb (length line) longest_line past) at e in cc)
       | inr le ↦ line_is_spelled line call (rw (le-leb (length line) longest_line le) at e)
     ]
 
-kept_is_none : (line : List ℕ) → call_in (kept line) ≡ None → (call : Call) → IsReadable call → line ≡ line_of call → ⊥
+kept_is_none : (line : List ℕ) → call_in (kept line) ≡ None → (call : Call) → IsRanged call → line ≡ line_of call → ⊥
 kept_is_none line e call fits same =
-    let short : length line ≤ longest_line = rw same (line_fits call fits.0) in
+    let short : length line ≤ longest_line = rw same (line_fits call fits) in
     let none : call_of line ≡ None = rw (le-leb (length line) longest_line short) at e in
     let some : call_of line ≡ Some call = rw same (call_of-line_of call fits) in
     cc
@@ -104,7 +104,7 @@ line_grows : (before : ℕ) (line : List ℕ) (byte : ℕ) → before < 65536 �
 unfolding step
 line_grows before line byte lt e = rw (lt-leb 65536 before lt, e, longer-kept line byte) refl
 
-lift_call : (before : ℕ) (line : List ℕ) (call : Call) (bytes : List ℕ) (read : Result (List Call) TraceFault) → line ≡ line_of call → IsReadable call
+lift_call : (before : ℕ) (line : List ℕ) (call : Call) (bytes : List ℕ) (read : Result (List Call) TraceFault) → line ≡ line_of call → IsRanged call
     → Answers (before + 1) bytes read → Answers before (line ++ 10 ∷ bytes) (onto (call ∷ []) read)
 lift_call before line call bytes (Ok calls) same fits h =
     (rw (same, h.0, flat_map-cons (λ (c : Call). line_of c ++ 10 ∷ []) call calls) (sym (append_assoc (line_of call) (10 ∷ []) (lines_of calls))), (fits, h.1), omega (arith, h.2))
@@ -272,14 +272,6 @@ pub given_reads : (text : List ℕ) (r : Result (Vec Call) TraceFault) → Gives
 given_reads text (Ok calls) h = let e : Reads text (Ok calls.items) = rw h at (reading_reads text) in e
 given_reads text (Err fault) h = fails_reads text fault (reading text) (reading_reads text) h
 
-are_built : (calls : List Call) → AreCalls calls → AllByRecursion IsBuilt calls
-are_built [] all = tt
-are_built (call ∷ calls) all = (all.0.1, are_built calls all.1)
-
-pub given_built : (text : List ℕ) (r : Result (Vec Call) TraceFault) → Gives (λ calls. calls.items) r (reading text) → IfOk r (λ calls. AllByRecursion IsBuilt calls.items)
-given_built text (Ok calls) h = let e : Reads text (Ok calls.items) = rw h at (reading_reads text) in are_built calls.items e.each
-given_built text (Err fault) h = tt
-
 -- ---- any cutting
 
 piece_then : (pieces : List (List ℕ)) (first : Result (Progress × List Call) TraceFault) → ((p : Progress) → feed_each p pieces ≡ feed p (concat pieces)) → (first >>= λ a. feed_each a.0 pieces >>= added a.1) ≡ and_then_feed (concat pieces) first
@@ -296,11 +288,11 @@ feed_each-concat p (piece ∷ pieces) = piece_then pieces (feed p piece) (λ q. 
 skip : (one two : List ℕ) (p q : Progress) → feed p one ≡ Ok (q, []) → outcome p (one ++ two) ≡ outcome q two
 skip one two p q h = ap (λ (read : Result (Progress × List Call) TraceFault). read >>= λ all. ended all.0.header_left all.0.line >>= λ end. Ok all.1) (feed-append one two p ∙ ap (and_then_feed two) h ∙ sym (added_nothing (feed q two)))
 
-call_again : (before : ℕ) (call : Call) (rest : List ℕ) → before < 65536 → IsReadable call → outcome (at_line before []) (line_of call ++ 10 ∷ rest) ≡ onto (call ∷ []) (outcome (at_line (before + 1) []) rest)
+call_again : (before : ℕ) (call : Call) (rest : List ℕ) → before < 65536 → IsRanged call → outcome (at_line before []) (line_of call ++ 10 ∷ rest) ≡ onto (call ∷ []) (outcome (at_line (before + 1) []) rest)
 call_again before call rest lt fits =
-    let short : call_in (kept (line_of call)) ≡ Some call = rw (le-leb (length (line_of call)) longest_line (line_fits call fits.0)) (call_of-line_of call fits) in
+    let short : call_in (kept (line_of call)) ≡ Some call = rw (le-leb (length (line_of call)) longest_line (line_fits call fits)) (call_of-line_of call fits) in
     let taken : step (at_line before (line_of call)) 10 ≡ Ok (at_line (before + 1) [], call ∷ []) = line_ends before (line_of call) 10 lt refl ∙ ap (after_line (at_line before (line_of call))) short in
-    skip (line_of call) (10 ∷ rest) (at_line before []) (at_line before (line_of call)) (grows_by (line_of call) before [] lt (line_is_one call fits.0))
+    skip (line_of call) (10 ∷ rest) (at_line before []) (at_line before (line_of call)) (grows_by (line_of call) before [] lt (line_is_one call fits))
     ∙ outcome-cons (at_line before (line_of call)) (at_line (before + 1) []) 10 rest (call ∷ []) taken
 
 lines_again : (calls : List Call) (before : ℕ) → AreCalls calls → before + length calls ≤ 65536 → outcome (at_line before []) (lines_of calls) ≡ Ok calls

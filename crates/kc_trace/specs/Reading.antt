@@ -8,7 +8,6 @@ use Rattle.std.specs.Str.Parse.{digits_value}
 use Rattle.hex.specs.Hex.{decode_of}
 use Rattle.kc_types.specs.declared.call.Call.{Call}
 use Rattle.kc_types.specs.declared.call.Call.TheVariants.{Take, Give, HostFault, HostRead, HostWrite, RegisterVm, RegisterVcpu, SetBoot, Remap, Verify, Map, GuestRead, GuestWrite, Grant, Revoke, Drop, Clear}
-use Rattle.kc_model.specs.Built.{is_built}
 
 -- digits with no leading zero
 abbrev pub is_numeral : List ℕ → Bool
@@ -101,11 +100,6 @@ call_of_words (name ∷ first ∷ second ∷ third ∷ []) = four_words name fir
 call_of_words (name ∷ first ∷ second ∷ third ∷ fourth ∷ fifth ∷ []) = six_words name first second third fourth fifth
 call_of_words _ = None
 
--- a call that is not built yet is none
-abbrev pub when_built : Option Call → Option Call
-when_built None = None
-when_built (Some call) = if is_built call then Some call else None
-
 -- the call that a line is, without its newline
 abbrev pub call_of : List ℕ → Option Call
-call_of line = when_built (call_of_words (slice_split (λ b. b == 32) line))
+call_of line = call_of_words (slice_split (λ b. b == 32) line)

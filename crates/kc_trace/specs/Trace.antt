@@ -4,7 +4,6 @@ use Rattle.std.specs.List.{list_all, AllByRecursion}
 use Rattle.kc_types.specs.Limits.{call_limit}
 use Rattle.kc_types.specs.declared.call.Call.{Call}
 use Rattle.kc_model.specs.Ranged.{IsRanged}
-use Rattle.kc_model.specs.Built.{IsBuilt}
 use Rattle.kc_trace.specs.declared.fault.TraceFault.{TraceFault}
 use Rattle.kc_trace.specs.declared.fault.TraceFault.TheVariants.{NoHeader, BadLine, NoNewline, TooManyCalls, Memory}
 use Rattle.kc_trace.specs.Spelling.{line_of, lines_of, header}
@@ -13,20 +12,16 @@ use Rattle.kc_trace.specs.Spelling.{line_of, lines_of, header}
 abbrev pub IsOneLine : List ℕ → Type 0
 IsOneLine bytes = list_all (λ b. not (b == 10)) bytes ≡ true
 
--- a call that a trace may have: its numbers and bytes are in range, and it is built
-abbrev pub IsReadable : Call → Type 0
-IsReadable call = IsRanged call × IsBuilt call
-
--- calls that a trace may have
+-- calls that a trace may have: their numbers and bytes are in range
 abbrev pub AreCalls : List Call → Type 0
-AreCalls calls = AllByRecursion IsReadable calls
+AreCalls calls = AllByRecursion IsRanged calls
 
 -- what stands behind so many calls is no further call, for this reason
 abbrev pub StopsAt : ℕ → List ℕ → TraceFault → Type 0
 StopsAt before rest TooManyCalls = (before ≡ call_limit) × (0 < length rest)
 StopsAt before rest NoNewline = (before < call_limit) × (0 < length rest) × IsOneLine rest
 StopsAt before rest (BadLine number) = (before < call_limit) × (number ≡ before + 2)
-    × ((line : List ℕ) × (after : List ℕ) × (rest ≡ line ++ 10 ∷ after) × IsOneLine line × ((call : Call) → IsReadable call → line ≡ line_of call → ⊥))
+    × ((line : List ℕ) × (after : List ℕ) × (rest ≡ line ++ 10 ∷ after) × IsOneLine line × ((call : Call) → IsRanged call → line ≡ line_of call → ⊥))
 StopsAt before rest NoHeader = ⊥
 StopsAt before rest Memory = ⊥
 

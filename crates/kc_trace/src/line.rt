@@ -1,7 +1,6 @@
 //! One line as a call.
 ghost use Rattle.std.specs.Prelude.{◌≡◌, ◌==◌, [], ◌∷◌, position, IfOk, MatchOption};
 ghost use Rattle.std.specs.List.{slice_split};
-ghost use Rattle.kc_model.specs.Built.{is_built};
 ghost use Rattle.kc_trace.specs.Reading.{one_word, with_one_number, with_two_numbers, with_three_numbers, two_words, three_words, host_access, four_words, guest_access, six_words, call_of_words, call_of};
 
 use crate::data_word::read_data;
@@ -218,10 +217,10 @@ fn split_word(line: &[u8]) -> Option<(&[u8], &[u8])>
     }
 }
 
-/// The call that the words of a line are, built or not.
+/// The call that a line is, without its newline.
 #[tactic(auto, unfolding(crate::specs::Reading::call_of_words))]
-fn read_words(alloc: Global, line: &[u8]) -> Result<Option<Call>, AllocError>
-    ensures { IfOk result (λ found. found ≡ call_of_words (slice_split (λ b. b == 32) line.now)) }
+pub fn call_of_line(alloc: Global, line: &[u8]) -> Result<Option<Call>, AllocError>
+    ensures { IfOk result (λ found. found ≡ call_of line.now) }
 {
     let Some((name, rest)) = split_word(line) else {
         return Ok(read_one_word(line));
@@ -242,44 +241,4 @@ fn read_words(alloc: Global, line: &[u8]) -> Result<Option<Call>, AllocError>
         return Ok(None);
     };
     read_six_words(alloc, name, first, second, third, fourth, rest)
-}
-
-/// Whether the core answers the call. A line of another call is no call yet.
-fn is_built(call: &Call) -> bool
-    ensures { result ≡ is_built call.now }
-{
-    matches!(
-        call,
-        Call::Take
-            | Call::Give { .. }
-            | Call::HostFault { .. }
-            | Call::HostRead { .. }
-            | Call::HostWrite { .. }
-            | Call::RegisterVm { .. }
-            | Call::RegisterVcpu { .. }
-            | Call::SetBoot { .. }
-            | Call::Remap { .. }
-            | Call::Verify { .. }
-            | Call::Map { .. }
-            | Call::GuestRead { .. }
-            | Call::GuestWrite { .. }
-            | Call::Grant { .. }
-            | Call::Revoke { .. }
-    )
-}
-
-/// The call that a line is, without its newline.
-pub fn call_of_line(alloc: Global, line: &[u8]) -> Result<Option<Call>, AllocError>
-    ensures { IfOk result (λ found. found ≡ call_of line.now) }
-{
-    match read_words(alloc, line)? {
-        Some(call) => {
-            if is_built(&call) {
-                Ok(Some(call))
-            } else {
-                Ok(None)
-            }
-        }
-        None => Ok(None),
-    }
 }

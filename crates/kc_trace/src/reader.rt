@@ -1,10 +1,8 @@
 //! Reading a trace, whole or in pieces.
 ghost use Rattle.std.specs.Prelude.{◌≡◌, ◌≢◌, ◌+◌, ◌<◌, ◌≤◌, ◌==◌, List, [], ◌∷◌, length, take, position, Some, None, Ok, Err, IfOk, IfErr, OnOk, MatchOption, MatchResult};
-ghost use Rattle.std.specs.List.{AllByRecursion};
 ghost use Rattle.std.specs.Option.{option_to_list};
 ghost use Rattle.kc_types.specs.Limits.{call_limit};
 ghost use Rattle.kc_types.specs.declared.call.Call.{Call};
-ghost use Rattle.kc_model.specs.Built.{IsBuilt};
 ghost use Rattle.kc_trace.specs.Trace.{IsOneLine, IsTrace, IsRefused};
 ghost use Rattle.kc_trace.specs.Machine.{Gives, start, step, feed, fed, ended, reading, call_in, longer, longer_each};
 
@@ -215,8 +213,6 @@ pub fn read_trace(alloc: Global, text: &[u8]) -> Result<Vec<Call>, TraceFault>
     // A trace is read as its calls, unless memory runs out.
     ensures only { (calls : List Call) → IsTrace text.now calls → Gives (λ calls. calls.items) result (Ok calls) }
 
-    // Each call that is read is one that is built.
-    ensures built { IfOk result (λ calls. AllByRecursion IsBuilt calls.items) }
 
     // What reading byte after byte answers.
     ensures exact { Gives (λ calls. calls.items) result (reading text.now) }
@@ -261,7 +257,6 @@ impl TraceReader {
     /// each.
     pub fn feed(&mut self, alloc: Global, piece: &[u8]) -> Result<Vec<Call>, TraceFault>
         ensures answer { Gives (λ calls. (self.new.progress, calls.items)) result (fed self.old piece.now) }
-        ensures built { IfOk result (λ calls. AllByRecursion IsBuilt calls.items) }
         ensures ok { OnOk result (self.new.fault ≡ None) }
         ensures fault { IfErr result (λ fault. fault ≢ TraceFault.Memory → self.new.fault ≡ Some fault) }
         ensures memory { result ≡ Err TraceFault.Memory → self.new ≡ self.old }

@@ -78,7 +78,6 @@ fn faults(rt: HostRuntime) -> Result<(), Fail> {
         "hwrite 1 0 ",
         "hfault 4294967296",
         "",
-        "clear 0",
         "take 0",
         "hread 1 0",
         "hfault +1",

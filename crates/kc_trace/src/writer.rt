@@ -79,7 +79,7 @@ fn push_call(alloc: Global, text: &mut String, call: &Call) -> Result<(), AllocE
     Ok(())
 }
 
-/// The text of at most 65,536 calls: the header, and a line for each call, built or not. Each line ends with a
+/// The text of at most 65,536 calls: the header, and a line for each call. Each line ends with a
 /// newline.
 pub fn write_trace(alloc: Global, calls: &[Call]) -> Result<Vec<u8>, Memory>
     requires { length calls.now ≤ call_limit }

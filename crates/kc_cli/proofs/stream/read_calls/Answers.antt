@@ -7,7 +7,7 @@ use Rattle.kc_cli.proofs.stream.read_calls.Goals as goal
 
 pub loop-n-init : goal.loop-n-init
 loop-n-init g c = record {
-  fed = ([], record { so_far = rw (c.new-reader.ensures, c.new-calls.ensures.items) (feed_nothing start); consumed = Consumes-nil _; many = refl; built = rw c.new-calls.ensures.items tt });
+  fed = ([], record { so_far = rw (c.new-reader.ensures, c.new-calls.ensures.items) (feed_nothing start); consumed = Consumes-nil _; many = refl });
   few = omega arith;
   whole = c.requires;
 }
@@ -31,7 +31,7 @@ loop-n-preserved-in-Ok-feed g c =
       fed = (
         before.0 ++ piece,
         is_fed_ok before.0 piece c.loop-n.reader c.feed.new.self c.loop-n.calls.items c.in-Ok-feed.more.items c.append.new.self.items c.loop-n.total c.in-Ok.n _ _ _ before.1
-            (rw c.split_at.ensures.front c.in-Ok.ensures.bytes.0) c.in-Ok-feed.ensures.answer c.in-Ok-feed.ensures.ok grown c.split_at.ensures.front_len c.in-Ok-feed.ensures.built,
+            (rw c.split_at.ensures.front c.in-Ok.ensures.bytes.0) c.in-Ok-feed.ensures.answer c.in-Ok-feed.ensures.ok grown c.split_at.ensures.front_len,
       );
       few = omega arith;
       whole = c.in-Ok.ensures.mark;
@@ -58,8 +58,6 @@ returns-in-Ok-finish-clause-ok g c =
     let none : length piece ≡ 0 = omega (arith, length-take c.in-Ok.n c.read.new.buffer, c.if-n-eq0.true) in
     read_is_trace _ c.loop-n.calls.items (rw c.in-Ok-finish.is at (finished _ _ _ before.0 piece c.loop-n.reader c.loop-n.calls.items c.loop-n.total c.finish.result before.1 c.in-Ok.ensures.bytes.0 none (c.in-Ok.ensures.bytes.1 c.if-n-eq0.true (search rules)) c.finish.ensures))
 
-pub returns-in-Ok-finish-clause-built : goal.returns-in-Ok-finish-clause-built
-returns-in-Ok-finish-clause-built g c = c.loop-n.invariant.fed.1.built
 
 pub returns-in-Err-finish-clause-trace : goal.returns-in-Err-finish-clause-trace
 returns-in-Err-finish-clause-trace g c =

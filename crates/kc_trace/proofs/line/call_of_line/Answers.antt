@@ -1,5 +1,5 @@
 use Rattle.kc_trace.proofs.Spelled.{too_many_words}
-use Rattle.kc_trace.proofs.line.read_words.Goals as goal
+use Rattle.kc_trace.proofs.line.call_of_line.Goals as goal
 
 pub returns-in_default-split_word-5 : goal.returns-in_default-split_word-5
 returns-in_default-split_word-5 c =
