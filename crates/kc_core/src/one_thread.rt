@@ -7,11 +7,13 @@ ghost use Rattle.kc_model.specs.Lawful.{IsLawful};
 ghost use Rattle.kc_core.specs.Runs.{StopsAfter};
 ghost use Rattle.kc_model.specs.Safety.{IsSafe};
 ghost use Rattle.kc_model.specs.Blind.{ShowsNothing};
-ghost use Rattle.kc_model.specs.State.{frame_at};
+ghost use Rattle.kc_types.specs.Configuration.{slot_count};
+ghost use Rattle.kc_types.specs.Limits.{vcpu_limit, gfn_limit};
+ghost use Rattle.kc_model.specs.State.{frame_at, slot_at, vcpu_at, mapped_at};
 ghost use Rattle.kc_model.specs.Links.{frames_of};
 ghost use Rattle.kc_model.specs.Wiped.{wiped};
 ghost use Rattle.kc_page.specs.Pages.{frame_of, IsRecordOf};
-ghost use Rattle.kc_parts.specs.States.{state_of};
+ghost use Rattle.kc_parts.specs.States.{state_of, unlinked_slot};
 ghost use Rattle.kc_core.specs.Cores.{IsCore};
 
 use crate::look_ups::{frames_of, page_record};
@@ -19,7 +21,8 @@ use crate::ranged::{read_all_numbers, read_numbers};
 use kc_calls::apply;
 use kc_page::{Page, PageBytes, PageRecord, scrub_each};
 use kc_parts::Parts;
-use kc_types::{Call, Config, FrameNo, Memory, Owner, Reply};
+use kc_types::{Call, Config, FrameNo, Gfn, Memory, Owner, Phase, Reply, VcpuId};
+use kc_vms::Vm;
 use std::alloc::Global;
 use std::marker::Model;
 
@@ -161,6 +164,52 @@ impl KCore {
         ensures { IfOk result (λ frames. frames.items ≡ frames_of self.now owner) }
     {
         frames_of(self.alloc, &self.parts, &self.config, owner)
+    }
+
+    /// The VM slot of this number, which is the state's but for the list of its frames; `None` where there is none.
+    fn slot(&self, vm: u32) -> Option<&Vm>
+        ensures exists { IsSome result ↔ (vm < slot_count self.now.config) }
+        ensures value { IfSome result (λ slot. slot_at self.now vm ≡ unlinked_slot slot.now.slot (slot_at self.now vm).frames) }
+        ensures lawful { IsLawful self.now }
+    {
+        self.parts.vm(self.config.vm(vm)?)
+    }
+
+    /// The phase of a VM slot, 0 to 15; `None` for a slot that does not exist.
+    pub fn phase(&self, vm: u32) -> Option<Phase>
+        ensures exists { IsSome result ↔ (vm < slot_count self.now.config) }
+        ensures value { IfSome result (λ phase. phase ≡ (slot_at self.now vm).phase) }
+    {
+        Some(self.slot(vm)?.phase())
+    }
+
+    /// The guest frame that a virtual processor, 0 to 7, of a VM slot, 0 to 15, waits for; `None` where the slot
+    /// or the virtual processor does not exist, or where it waits for nothing.
+    pub fn fault(&self, vm: u32, vcpu: u32) -> Option<Gfn>
+        ensures exists { IsSome result → (vm < slot_count self.now.config) × (vcpu < vcpu_limit) }
+        ensures value { result ≡ (vcpu_at self.now vm vcpu).fault }
+    {
+        let slot = self.slot(vm)?;
+        Gfn::try_new(slot.vcpu(VcpuId::try_new(vcpu)?).fault?)
+    }
+
+    /// The frame at a guest frame, 0 to 262,143, of a VM slot, 0 to 15; `None` where the slot or the guest frame
+    /// does not exist, or where nothing is mapped there.
+    pub fn lookup(&self, vm: u32, gfn: u32) -> Option<FrameNo>
+        ensures exists { IsSome result → (vm < slot_count self.now.config) × (gfn < gfn_limit) }
+        ensures value { result ≡ mapped_at self.now vm gfn }
+    {
+        let table = self.slot(vm)?.table();
+        table.get(Gfn::try_new(gfn)?)
+    }
+
+    /// The root slots, 0 to 511, that have leaves in the table of a VM slot, 0 to 15, in the order in which they
+    /// took them; `None` for a VM slot that does not exist.
+    pub fn leaves(&self, vm: u32) -> Option<&[u32]>
+        ensures exists { IsSome result ↔ (vm < slot_count self.now.config) }
+        ensures value { IfSome result (λ leaves. leaves.now ≡ (slot_at self.now vm).leaves) }
+    {
+        Some(self.slot(vm)?.table().leaves())
     }
 
     /// All pages, by frame number.

@@ -5,7 +5,7 @@ use Rattle.kc_core.proofs.Cored.{able, core-kept, err-then}
 use Rattle.kc_core.proofs.one_thread.KCore.call.Goals as goal
 
 pub apply-requires : goal.apply-requires
-apply-requires c = able c.self.inside.config c.self.inside.parts c.self.invariant c.args.call.now
+apply-requires c = record { able = able c.self.inside.config c.self.inside.parts c.self.invariant c.args.call.now }
 
 pub invariant_of-self : goal.invariant_of-self
 invariant_of-self c = core-kept c.self.inside.config c.self.inside.parts c.apply.new.parts c.self.invariant

@@ -1,0 +1,61 @@
+-- The slots of a core, and what a number that does not exist shows.
+use Rattle.std.proofs.Common.{ℕ, ◌≡◌, ◌<◌, ◌≤◌, inl, inr, true, false, Bor, Option, Some, None, IfSome, get_or, refl, sym, ap, ◌∙◌, arith}
+use Rattle.std.specs.Option.{option_copied}
+use Rattle.std.specs.Ordering.{nat_cmp}
+use Rattle.std.specs.FinMap as map
+use Rattle.std.proofs.lemmas.Bool.{cases_lt}
+use Rattle.std.proofs.lemmas.List.{get_or_past}
+use Rattle.kc_types.specs.Limits.{gfn_limit}
+use Rattle.kc_types.specs.Configuration.{Configuration, slot_count}
+use Rattle.kc_types.specs.declared.owner.Owner.TheVariants.{Core, Vm}
+use Rattle.kc_model.specs.State.{State, Slot, Vcpu, slot_at, vcpu_at, mapped_at, absent_vcpu, empty_slot}
+use Rattle.kc_model.specs.Lawful.{IsLawful}
+use Rattle.kc_model.proofs.Changes.{exists}
+use Rattle.kc_model.proofs.Slots.{at-no_vcpus}
+use Rattle.kc_vms.specs.Slots.{VmSlot}
+use Rattle.kc_parts.specs.Held.{Held, vm_at, links_of}
+use Rattle.kc_parts.specs.States.{slot_in, unlinked_slot, state_of}
+use Rattle.kc_parts.proofs.Seen.{slot-seen}
+
+-- a slot that is here is that of its number, but for its list
+pub slot-shown : (config : Configuration) (h : Held) (v : ℕ) → v < slot_count config → (there : Option (Bor VmSlot)) → option_copied there ≡ vm_at h v
+    → IfSome there (λ slot. slot_at (state_of config h) v ≡ unlinked_slot slot.now.slot (slot_at (state_of config h) v).frames)
+slot-shown config h v low None is = tt
+slot-shown config h v low (Some slot) is = same (slot_at (state_of config h) v) (slot-seen config h v low ∙ ap (slot_in (links_of h)) (sym is))
+  where
+    same : (there : Slot) → there ≡ slot_in (links_of h) (Some slot.now) → there ≡ unlinked_slot slot.now.slot there.frames
+    same there e = rw e refl
+
+-- a number that is refused is past the limit
+pub past_none : (n limit : ℕ) → (n < limit → false ≡ true) → limit ≤ n
+past_none n limit refused = elim (cases_lt n limit) [
+  | inl low ↦ let no = refused low in cc
+  | inr past ↦ past
+]
+
+module _ (m : State) (is : IsLawful m) where
+  slot-past : (v : ℕ) → slot_count m.config ≤ v → slot_at m v ≡ empty_slot
+  slot-past v past = get_or_past m.slots v empty_slot (rw is.slots past)
+
+  -- an empty slot has no virtual processor that waits, and no mapped guest frame
+  pub no_fault-past_slots : (v c : ℕ) → slot_count m.config ≤ v → (vcpu_at m v c).fault ≡ None
+  no_fault-past_slots v c past = ap (λ (there : Slot). (get_or there.vcpus c absent_vcpu).fault) (slot-past v past) ∙ ap (λ (vcpu : Vcpu). vcpu.fault) (at-no_vcpus c)
+
+  pub unmapped-past_slots : (v g : ℕ) → slot_count m.config ≤ v → mapped_at m v g ≡ None
+  unmapped-past_slots v g past = ap (λ (there : Slot). map.get there.mapped g) (slot-past v past) ∙ map.get-empty nat_cmp g
+
+  -- a mapped guest frame is that of a frame, which is below the limit
+  mapped-low : (v g f : ℕ) → v < slot_count m.config → mapped_at m v g ≡ Some f → g < gfn_limit
+  mapped-low v g f low at =
+      let frame = (is.mapped v g f low).0 at in
+      (is.each_frame f (exists m f (λ core. let no : Vm v ≡ Core = sym frame.0 ∙ core in cc))).gfn g frame.1
+
+  pub unmapped-past_gfns : (v g : ℕ) → gfn_limit ≤ g → mapped_at m v g ≡ None
+  unmapped-past_gfns v g past = elim (cases_lt v (slot_count m.config)) [
+    | inl low ↦ by_frame low (mapped_at m v g) refl
+    | inr high ↦ unmapped-past_slots v g high
+  ]
+    where
+      by_frame : v < slot_count m.config → (there : Option ℕ) → mapped_at m v g ≡ there → there ≡ None
+      by_frame low None at = refl
+      by_frame low (Some f) at = let under = mapped-low v g f low at in absurd (omega (arith, under, past))

@@ -1,0 +1,8 @@
+use Rattle.std.proofs.Common.{◌≡◌, refl}
+use Rattle.kc_core.proofs.Slots.{slot-shown}
+use Rattle.kc_core.proofs.one_thread.KCore.slot.Goals as goal
+
+pub returns-clause-value : goal.returns-clause-value
+returns-clause-value c =
+    let is : c.in_ok-vm.field-0 ≡ c.args.vm = c.in_ok-vm.ensures.value in
+    rw (← c.self.view_is, ← is) (slot-shown c.self.inside.config c.self.inside.parts c.in_ok-vm.field-0 (rw is (c.in_ok-vm.ensures.valid.0 refl)) c.vm-2.result c.vm-2.ensures)
