@@ -19,10 +19,10 @@ const BOOTS: [Example; 8] = [
         calls: "hfault 1\nhwrite 1 0 616263\nregvm 0\nregvcpu 0 0\nsetboot 0 0 3\nremap 0 0 1\nverify 0\n",
         replies: "done\ndone\ndone\ndone\nimage 0\ndone\ndone\n",
     },
-    // Another does not, and the VM is dead.
+    // Another does not, and the VM is dead; its frame is free last, with zero bytes, when the slot is cleared.
     Example {
-        calls: "hfault 1\nhwrite 1 0 616264\nregvm 0\nregvcpu 0 0\nsetboot 0 0 3\nremap 0 0 1\nverify 0\ngread 0 0 0 0 1\nverify 0\n",
-        replies: "done\ndone\ndone\ndone\nimage 0\ndone\nrejected 0\nrefused wrong-phase\nrefused wrong-phase\n",
+        calls: "hfault 1\nhwrite 1 0 616264\nregvm 0\nregvcpu 0 0\nsetboot 0 0 3\nremap 0 0 1\nverify 0\ngread 0 0 0 0 1\nverify 0\nclear 0\ntake\ntake\ntake\ntake\nhfault 1\nhread 1 0 3\n",
+        replies: "done\ndone\ndone\ndone\nimage 0\ndone\nrejected 0\nrefused wrong-phase\nrefused wrong-phase\ndone\nframe 5\nframe 6\nframe 7\nframe 1\ndone\ndata 000000\n",
     },
     // A page that was handed over is out of the host's reach.
     Example {
@@ -135,25 +135,77 @@ fn a_refused_map_takes_no_leaf(rt: HostRuntime) -> Result<(), Fail> {
     Ok(())
 }
 
+/// A VM that waits for guest frame 7, gets frame 2 there and writes a byte.
+const WRITE: &str = "gread 0 0 7 0 1\nmap 0 0 2\ngwrite 0 0 7 0 2a\ngread 0 0 7 0 1\n";
+
+const WRITTEN: &str = "fault 7\ndone\ndone\ndata 2a\n";
+
 /// A guest frame can be granted 100 times, and revoked as often.
 #[test]
 fn a_hundred_grants(rt: HostRuntime) -> Result<(), Fail> {
     let alloc = rt.alloc();
-    let mut trace = format!(in alloc; "kcore-trace 1\n{BOOT}")?;
-    let mut replies = format!(in alloc; "{BOOTED}")?;
+    let mut trace = format!(in alloc; "kcore-trace 1\n{BOOT}{WRITE}")?;
+    let mut replies = format!(in alloc; "{BOOTED}{WRITTEN}")?;
     for _ in 0..100 {
-        trace.push_str("grant 0 0 0\n")?;
+        trace.push_str("grant 0 0 7\n")?;
         replies.push_str("done\n")?;
     }
-    trace.push_str("grant 0 0 0\nhfault 1\nhread 1 0 1\n")?;
-    replies.push_str("refused share-full\ndone\ndata 61\n")?;
+    trace.push_str("grant 0 0 7\nhfault 2\nhread 2 0 1\n")?;
+    replies.push_str("refused share-full\ndone\ndata 2a\n")?;
     for _ in 0..100 {
-        trace.push_str("revoke 0 0 0\n")?;
+        trace.push_str("revoke 0 0 7\n")?;
         replies.push_str("done\n")?;
     }
-    trace.push_str("hread 1 0 1\nrevoke 0 0 0\n")?;
+    trace.push_str("hread 2 0 1\nrevoke 0 0 7\n")?;
     replies.push_str("refused not-present\nrefused not-shared\n")?;
     let (outcome, written) = replayed(&rt, SMALL, trace.as_bytes())?;
+    assert_eq!(rt; outcome, Ok(()));
+    assert_eq!(rt; written.as_slice(), replies.as_bytes());
+    Ok(())
+}
+
+/// What a booted VM gives back. Free frames are taken at the end, to see in which order they are free.
+const ENDS: [Example; 4] = [
+    // A guest frame is given up once; the VM's other frames stay.
+    Example {
+        calls: "gread 0 0 7 0 1\nmap 0 0 2\ngread 0 0 8 0 1\nmap 0 0 3\ngread 0 0 9 0 1\nmap 0 0 4\ndrop 0 0 8\ndrop 0 0 8\ntake\ntake\ntake\ntake\ntake\n",
+        replies: "fault 7\ndone\nfault 8\ndone\nfault 9\ndone\ndone\nrefused not-mapped\nframe 5\nframe 6\nframe 7\nframe 3\nrefused no-free\n",
+    },
+    // The first, the last and the only frame of the list.
+    Example {
+        calls: "gread 0 0 7 0 1\nmap 0 0 2\ngread 0 0 8 0 1\nmap 0 0 3\ngread 0 0 9 0 1\nmap 0 0 4\ndrop 0 0 8\ndrop 0 0 8\ndrop 0 0 0\ndrop 0 0 9\ndrop 0 0 7\ntake\ntake\ntake\ntake\ntake\ntake\ntake\ntake\n",
+        replies: "fault 7\ndone\nfault 8\ndone\nfault 9\ndone\ndone\nrefused not-mapped\ndone\ndone\ndone\nframe 5\nframe 6\nframe 7\nframe 3\nframe 1\nframe 4\nframe 2\nrefused no-free\n",
+    },
+    // A shared frame is not given up, but a cleared VM gives back all, shared or not, with zero bytes.
+    Example {
+        calls: "gread 0 0 7 0 1\nmap 0 0 2\ngwrite 0 0 7 0 2a\ngread 0 0 7 0 1\ngrant 0 0 7\nhfault 2\ndrop 0 0 7\nclear 0\nhread 2 0 1\ntake\ntake\ntake\ntake\ntake\nhfault 1\nhread 1 0 3\nhfault 2\nhread 2 0 1\n",
+        replies: "fault 7\ndone\ndone\ndata 2a\ndone\ndone\nrefused shared\ndone\nrefused not-present\nframe 5\nframe 6\nframe 7\nframe 1\nframe 2\ndone\ndata 000000\ndone\ndata 00\n",
+    },
+    // A cleared slot is empty, with no virtual processor, and serves another VM.
+    Example {
+        calls: "clear 0\nclear 0\ngread 0 0 0 0 1\nregvm 0\nregvcpu 0 0\nsetboot 0 0 1\n",
+        replies: "done\nrefused no-vm\nrefused no-vm\ndone\ndone\nimage 0\n",
+    },
+];
+
+#[test]
+fn ends(rt: HostRuntime) -> Result<(), Fail> {
+    for example in &ENDS {
+        let trace = format!(in rt.alloc(); "kcore-trace 1\n{BOOT}{}", example.calls)?;
+        let replies = format!(in rt.alloc(); "{BOOTED}{}", example.replies)?;
+        let (outcome, written) = replayed(&rt, SMALL, trace.as_bytes())?;
+        assert_eq!(rt; outcome, Ok(()));
+        assert_eq!(rt; written.as_slice(), replies.as_bytes(), "at {}", example.calls);
+    }
+    Ok(())
+}
+
+/// A leaf stays taken where its last guest frame was given up, and comes back when the slot is cleared.
+#[test]
+fn leaves_come_back_when_the_slot_is_cleared(rt: HostRuntime) -> Result<(), Fail> {
+    let trace = format!(in rt.alloc(); "kcore-trace 1\n{BOOT}gread 0 0 512 0 1\nmap 0 0 2\ndrop 0 0 512\ngread 0 0 1024 0 1\nmap 0 0 3\nclear 0\ntake\ntake\ntake\ntake\ntake\n")?;
+    let replies = format!(in rt.alloc(); "{BOOTED}fault 512\ndone\ndone\nfault 1024\nrefused tables-full\ndone\nframe 5\nframe 6\nframe 7\nframe 2\nframe 1\n")?;
+    let (outcome, written) = replayed(&rt, TWO_LEAVES, trace.as_bytes())?;
     assert_eq!(rt; outcome, Ok(()));
     assert_eq!(rt; written.as_slice(), replies.as_bytes());
     Ok(())
