@@ -96,7 +96,12 @@ fn boots(rt: HostRuntime) -> Result<(), Fail> {
         let trace = format!(in rt.alloc(); "kcore-trace 1\n{}", example.calls)?;
         let (outcome, written) = replayed(&rt, SMALL, trace.as_bytes())?;
         assert_eq!(rt; outcome, Ok(()));
-        assert_eq!(rt; written.as_slice(), example.replies.as_bytes(), "at {}", example.calls);
+        assert_eq!(rt;
+            written.as_slice(),
+            example.replies.as_bytes(),
+            "at {}",
+            example.calls
+        );
     }
     Ok(())
 }
@@ -108,7 +113,12 @@ fn guests(rt: HostRuntime) -> Result<(), Fail> {
         let replies = format!(in rt.alloc(); "{BOOTED}{}", example.replies)?;
         let (outcome, written) = replayed(&rt, SMALL, trace.as_bytes())?;
         assert_eq!(rt; outcome, Ok(()));
-        assert_eq!(rt; written.as_slice(), replies.as_bytes(), "at {}", example.calls);
+        assert_eq!(rt;
+            written.as_slice(),
+            replies.as_bytes(),
+            "at {}",
+            example.calls
+        );
     }
     Ok(())
 }
@@ -116,8 +126,10 @@ fn guests(rt: HostRuntime) -> Result<(), Fail> {
 /// Two virtual processors wait for one guest frame, and each for itself.
 #[test]
 fn two_wait_for_one_guest_frame(rt: HostRuntime) -> Result<(), Fail> {
-    let trace = b"kcore-trace 1\nhfault 1\nhwrite 1 0 616263\nregvm 0\nregvcpu 0 0\nregvcpu 0 1\nsetboot 0 0 3\nremap 0 0 1\nverify 0\ngread 0 0 7 0 1\ngread 0 1 7 0 1\nmap 0 0 2\nmap 0 1 3\ngread 0 1 7 0 1\nmap 0 1 3\ngive 3\n";
-    let replies = "done\ndone\ndone\ndone\ndone\nimage 0\ndone\ndone\nfault 7\nfault 7\ndone\nrefused mapped\ndata 00\nrefused no-fault\ndone\n";
+    let trace =
+        b"kcore-trace 1\nhfault 1\nhwrite 1 0 616263\nregvm 0\nregvcpu 0 0\nregvcpu 0 1\nsetboot 0 0 3\nremap 0 0 1\nverify 0\ngread 0 0 7 0 1\ngread 0 1 7 0 1\nmap 0 0 2\nmap 0 1 3\ngread 0 1 7 0 1\nmap 0 1 3\ngive 3\n";
+    let replies =
+        "done\ndone\ndone\ndone\ndone\nimage 0\ndone\ndone\nfault 7\nfault 7\ndone\nrefused mapped\ndata 00\nrefused no-fault\ndone\n";
     let (outcome, written) = replayed(&rt, SMALL, trace)?;
     assert_eq!(rt; outcome, Ok(()));
     assert_eq!(rt; written.as_slice(), replies.as_bytes());
@@ -127,8 +139,12 @@ fn two_wait_for_one_guest_frame(rt: HostRuntime) -> Result<(), Fail> {
 /// A refused `map` has taken no leaf, so the two leaves go to the two guest frames that are served.
 #[test]
 fn a_refused_map_takes_no_leaf(rt: HostRuntime) -> Result<(), Fail> {
-    let trace = format!(in rt.alloc(); "kcore-trace 1\n{BOOT}gread 0 0 512 0 1\nmap 0 0 0\nmap 0 0 5\ngread 0 0 1024 0 1\nmap 0 0 2\ngread 0 0 512 0 1\nmap 0 0 3\n")?;
-    let replies = format!(in rt.alloc(); "{BOOTED}fault 512\nrefused not-host\nrefused not-host\nfault 1024\ndone\nfault 512\nrefused tables-full\n")?;
+    let trace = format!(in rt.alloc();
+        "kcore-trace 1\n{BOOT}gread 0 0 512 0 1\nmap 0 0 0\nmap 0 0 5\ngread 0 0 1024 0 1\nmap 0 0 2\ngread 0 0 512 0 1\nmap 0 0 3\n"
+    )?;
+    let replies = format!(in rt.alloc();
+        "{BOOTED}fault 512\nrefused not-host\nrefused not-host\nfault 1024\ndone\nfault 512\nrefused tables-full\n"
+    )?;
     let (outcome, written) = replayed(&rt, TWO_LEAVES, trace.as_bytes())?;
     assert_eq!(rt; outcome, Ok(()));
     assert_eq!(rt; written.as_slice(), replies.as_bytes());

@@ -1,0 +1,102 @@
+//! What the core shows of its slots, after traces.
+use kc_core::KCore;
+use kc_trace::read_trace;
+use kc_types::{Config, FrameNo, Gfn, Owner, Phase, VmId};
+use std::alloc::Global;
+
+/// The SHA-256 digest of `abc`, from the examples of FIPS 180-4.
+const ABC: [u8; 32] = [
+    0xba, 0x78, 0x16, 0xbf, 0x8f, 0x01, 0xcf, 0xea, 0x41, 0x41, 0x40, 0xde, 0x5d, 0xae, 0x22, 0x23,
+    0xb0, 0x03, 0x61, 0xa3, 0x96, 0x17, 0x7a, 0x9c, 0xb4, 0x10, 0xff, 0x61, 0xf2, 0x00, 0x15, 0xad,
+];
+
+/// A core of 8 frames, of which 0 is the core's and 1 to 4 are the host's, with one leaf for each VM, and `abc`
+/// approved; after the calls of a trace.
+fn after(alloc: Global, trace: &[u8]) -> Option<KCore> {
+    let approved = Vec::from_slice(alloc, &[ABC]).ok()?;
+    let config = Config::try_new(8, 1, 4, 1, approved).ok()?;
+    let mut core = KCore::boot(alloc, config).ok()?;
+    let calls = read_trace(alloc, trace).ok()?;
+    core.run(alloc, calls.as_slice()).ok()?;
+    Some(core)
+}
+
+/// Whether these are the frames of the VM in slot 0.
+fn has_frames(core: &KCore, numbers: &[u32]) -> bool {
+    let Some(vm) = VmId::try_new(0) else {
+        return false;
+    };
+    let Ok(frames) = core.frames_of(Owner::Vm(vm)) else {
+        return false;
+    };
+    frames.len() == numbers.len()
+        && frames
+            .iter()
+            .zip(numbers)
+            .all(|(frame, number)| frame.number() == *number)
+}
+
+/// Whether the frame is the host's.
+fn is_host(core: &KCore, frame: u32) -> bool {
+    match core.page_record(frame) {
+        Some(record) => record.owner == Owner::Host,
+        None => false,
+    }
+}
+
+/// Pages that come out of order stand in the list in their order of arrival, and a VM that is not approved keeps
+/// them.
+#[test]
+fn a_rejected_vm_is_dead(rt: HostRuntime) {
+    let trace =
+        b"kcore-trace 1\nhfault 1\nhwrite 1 0 616263\nregvm 0\nsetboot 0 0 3\nsetboot 0 1 1\nremap 0 1 2\nremap 0 0 1\nverify 0\n";
+    let core = after(rt.alloc(), trace);
+    assert!(rt; core.is_some());
+    if let Some(core) = core {
+        assert_eq!(rt; core.phase(0), Some(Phase::Dead));
+        assert!(rt; has_frames(&core, &[2, 1]));
+        assert_eq!(rt; core.lookup(0, 0), FrameNo::try_new(1));
+        assert_eq!(rt; core.lookup(0, 1), FrameNo::try_new(2));
+    }
+}
+
+/// An image over two root slots needs two leaves: its second page is refused, and stays the host's.
+#[test]
+fn a_refused_page_stays_the_hosts(rt: HostRuntime) {
+    let trace = b"kcore-trace 1\nregvm 0\nsetboot 0 511 4097\nremap 0 0 1\nremap 0 0 2\n";
+    let core = after(rt.alloc(), trace);
+    assert!(rt; core.is_some());
+    if let Some(core) = core {
+        assert!(rt; is_host(&core, 2));
+        assert!(rt; has_frames(&core, &[1]));
+        assert_eq!(rt; core.leaves(0), Some([0].as_slice()));
+        assert_eq!(rt; core.phase(0), Some(Phase::Booting));
+    }
+}
+
+/// A guest frame that no leaf is left for is still waited for.
+#[test]
+fn a_refused_map_leaves_the_fault(rt: HostRuntime) {
+    let trace =
+        b"kcore-trace 1\nhfault 1\nhwrite 1 0 616263\nregvm 0\nregvcpu 0 0\nsetboot 0 0 3\nremap 0 0 1\nverify 0\ngread 0 0 512 0 1\nmap 0 0 2\n";
+    let core = after(rt.alloc(), trace);
+    assert!(rt; core.is_some());
+    if let Some(core) = core {
+        assert!(rt; is_host(&core, 2));
+        assert_eq!(rt; core.fault(0, 0), Gfn::try_new(512));
+        assert_eq!(rt; core.phase(0), Some(Phase::Active));
+        assert!(rt; has_frames(&core, &[1]));
+    }
+}
+
+#[test]
+fn what_does_not_exist(rt: HostRuntime) {
+    let core = after(rt.alloc(), b"kcore-trace 1\n");
+    assert!(rt; core.is_some());
+    if let Some(core) = core {
+        assert_eq!(rt; core.phase(15), Some(Phase::Empty));
+        assert!(rt; core.phase(16).is_none() && core.leaves(16).is_none());
+        assert!(rt; core.fault(16, 0).is_none() && core.fault(0, 8).is_none());
+        assert!(rt; core.lookup(0, 262_144).is_none() && core.lookup(16, 0).is_none());
+    }
+}
