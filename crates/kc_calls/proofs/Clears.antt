@@ -1,10 +1,10 @@
 -- A slot that is cleared.
-use Rattle.std.proofs.Common.{ℕ, zero, suc, ◌≡◌, ◌<◌, ◌++◌, true, List, [], Option, Some, None, is_some, IfSome, set, refl, sym, ap, ◌∙◌, arith}
+use Rattle.std.proofs.Common.{ℕ, zero, suc, ◌≡◌, ◌<◌, ◌++◌, true, List, Option, Some, None, is_some, IfSome, set, refl, sym, ap, ◌∙◌, arith}
 use Rattle.kc_types.specs.Configuration.{Configuration, slot_count}
 use Rattle.kc_types.specs.declared.link.Ends.{Ends}
 use Rattle.kc_types.specs.declared.owner.Owner.TheVariants.{Free, Vm}
 use Rattle.kc_types.specs.declared.call.Call.TheVariants.{Clear}
-use Rattle.kc_model.specs.State.{State, Slot, slot_at, empty_slot}
+use Rattle.kc_model.specs.State.{State, Slot, empty_slot}
 use Rattle.kc_model.specs.Refusals.{refusal, bad_vm}
 use Rattle.kc_model.specs.Effects.{cleared, scrubbed}
 use Rattle.kc_model.specs.Lawful.{times_in}

@@ -1,12 +1,10 @@
 -- A frame that a slot gives up.
-use Rattle.std.proofs.Common.{ℕ, ◌≡◌, ◌<◌, false, List, [], ◌∷◌, ◌++◌, Option, Some, None, is_some, refl, sym, ap, ◌∙◌}
+use Rattle.std.proofs.Common.{ℕ, ◌≡◌, ◌<◌, false, List, [], ◌∷◌, ◌++◌, Some, None, refl, sym, ap, ◌∙◌}
 use Rattle.std.specs.FinMap as map
 use Rattle.kc_types.specs.Configuration.{Configuration, slot_count}
 use Rattle.kc_types.specs.declared.owner.Owner.TheVariants.{Free}
-use Rattle.kc_types.specs.declared.resource.Resource.TheVariants as resource
-use Rattle.kc_types.specs.declared.call.Call.TheVariants.{Drop}
 use Rattle.kc_model.specs.State.{State, Slot, slot_at, mapped_at, with_frame, with_slot, frame_at, zero_page}
-use Rattle.kc_model.specs.Refusals.{refusal, backing}
+use Rattle.kc_model.specs.Refusals.{backing}
 use Rattle.kc_model.specs.Effects.{without, dropped}
 use Rattle.kc_model.specs.Lawful.{times_in}
 use Rattle.kc_model.specs.Local.{IsOrderly}

@@ -1,7 +1,5 @@
 -- A frame of the host's that is handed to a slot.
-use Rattle.std.proofs.Common.{ℕ, zero, suc, ◌≡◌, ◌<◌, ◌/◌, Bool, true, false, not, ◌&&◌, ◌||◌, ◌==◌, nat_le, nat_lt, List, [], ◌∷◌, ◌++◌, ◌+◌, length, get_or, set, Option, Some, None, Result, Ok, Err, IsOk, is_some, refl, sym, ap, ◌∙◌}
-use Rattle.std.specs.List.{list_any}
-use Rattle.std.proofs.lemmas.Grind.{common_steps}
+use Rattle.std.proofs.Common.{ℕ, zero, suc, ◌≡◌, ◌<◌, true, false, List, [], ◌∷◌, ◌++◌, ◌+◌, length, get_or, set, Option, Some, None, Result, Ok, Err, IsOk, refl, sym, ap, ◌∙◌}
 use Rattle.std.specs.FinMap as map
 use Rattle.kc_types.specs.Configuration.{Configuration, slot_count}
 use Rattle.kc_types.specs.declared.owner.Owner.TheVariants.{Host, Vm}
@@ -93,7 +91,7 @@ module _ (config : Configuration) (old : Held) (v g f : ℕ) (vm : VmSlot) (tabl
       ∙ ap (λ frame. with_slot (with_frame m f frame) v after) (to ∙ ap (λ (frame : Frame). record frame { owner = Vm v; gfn = Some g; present = false }) (sym (frame-is config old f page f_low at)))
       ∙ ap (λ (t : Table). with_slot (with_frame m f (record (frame_at m f) { owner = Vm v; gfn = Some g; present = false })) v (unlinked_slot (with_table vm t).slot (fs ++ f ∷ []))) table_is
       ∙ ap (λ (slot : Slot). with_slot (with_frame m f (record (frame_at m f) { owner = Vm v; gfn = Some g; present = false })) v (record slot { frames = slot.frames ++ f ∷ []; mapped = map.insert slot.mapped g f; leaves = with_leaf slot.leaves g }))
-        (sym (slot-is config old v vm low at_vm))
+      (sym (slot-is config old v vm low at_vm))
     where
       m : State
       m = state_of config old

@@ -1,9 +1,8 @@
 -- What a call needs is here.
-use Rattle.std.proofs.Common.{ℕ, ◌≡◌, ◌<◌, true, Some, is_some, sym, ap, ◌∙◌}
+use Rattle.std.proofs.Common.{ℕ, ◌≡◌, ◌<◌, true, Some, is_some, ap, ◌∙◌}
 use Rattle.kc_types.specs.Configuration.{Configuration, slot_count}
 use Rattle.kc_types.specs.declared.call.Call.{Call}
-use Rattle.kc_model.specs.State.{frame_at, slot_at, mapped_at, untouched}
-use Rattle.kc_model.specs.Refusals.{backing}
+use Rattle.kc_model.specs.State.{slot_at, mapped_at}
 use Rattle.kc_model.specs.Resources.{names_frame, slot_of}
 use Rattle.kc_model.proofs.Needs as needs
 use Rattle.kc_vms.specs.Slots.{VmSlot}

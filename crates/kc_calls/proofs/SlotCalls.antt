@@ -1,5 +1,5 @@
 -- The calls that change a slot alone.
-use Rattle.std.proofs.Common.{ℕ, ◌≡◌, ◌<◌, ◌≤◌, ◌+◌, ◌++◌, ◌∷◌, [], ◌⊎◌, inl, inr, true, ◌||◌, ◌==◌, nat_lt, None, Some, Option, List, length, refl, sym, ap, ◌∙◌, arith}
+use Rattle.std.proofs.Common.{ℕ, ◌≡◌, ◌<◌, ◌≤◌, ◌+◌, ◌++◌, ◌∷◌, [], ◌⊎◌, inl, inr, true, ◌||◌, ◌==◌, nat_lt, None, Some, Option, List, length, refl, ap, ◌∙◌, arith}
 use Rattle.std.proofs.lemmas.Grind.{common_steps}
 use Rattle.kc_types.specs.Configuration.{Configuration, slot_count}
 use Rattle.kc_types.specs.Limits.{vcpu_limit}
@@ -18,7 +18,7 @@ use Rattle.kc_parts.specs.Held.{Held, vm_at, with_vm}
 use Rattle.kc_parts.specs.States.{state_of, unlinked_slot, IsLinked}
 use Rattle.kc_calls.specs.Applying.{IsAnswer}
 use Rattle.kc_calls.proofs.Needed.{slot-is}
-use Rattle.kc_calls.proofs.Answered.{answer-slot, answer-slot_refused}
+use Rattle.kc_calls.proofs.Answered.{answer-slot}
 
 pub vm-fits : (m : State) (v : ℕ) → v < slot_count m.config → bad_vm m v ≡ None
 vm-fits m v low = grind (arith, common_steps, low)

@@ -51,7 +51,13 @@ fn hand_refusal(parts: &Parts, config: &Config, vm: u32, gfn: Gfn, frame: u32) -
     None
 }
 
-pub fn remap_refusal(parts: &Parts, config: &Config, vm: u32, image: u32, frame: u32) -> Option<Refusal>
+pub fn remap_refusal(
+    parts: &Parts,
+    config: &Config,
+    vm: u32,
+    image: u32,
+    frame: u32,
+) -> Option<Refusal>
     requires { IsLinked config.now parts.now }
     ensures { result ≡ refusal (state_of config.now parts.now) (Remap vm image frame) }
 {
@@ -84,7 +90,13 @@ pub fn remap(parts: &mut Parts, config: &Config, vm: u32, image: u32, frame: u32
     Reply::Done
 }
 
-pub fn map_refusal(parts: &Parts, config: &Config, vm: u32, vcpu: u32, frame: u32) -> Option<Refusal>
+pub fn map_refusal(
+    parts: &Parts,
+    config: &Config,
+    vm: u32,
+    vcpu: u32,
+    frame: u32,
+) -> Option<Refusal>
     requires { IsLinked config.now parts.now }
     ensures { result ≡ refusal (state_of config.now parts.now) (Map vm vcpu frame) }
 {

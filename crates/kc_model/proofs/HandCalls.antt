@@ -1,5 +1,5 @@
 -- The calls that hand a frame to a slot keep the state lawful.
-use Rattle.std.proofs.Common.{ℕ, zero, suc, ◌≡◌, ◌<◌, ◌≤◌, ◌+◌, ◌⊎◌, ◌||◌, inl, inr, true, false, not, Option, None, Some, is_some, List, [], ◌∷◌, ◌++◌, length, get_or, set, nat_eq, eq-eqb, refl, sym, ap, subst, ◌∙◌, arith, length-set, All}
+use Rattle.std.proofs.Common.{ℕ, zero, suc, ◌≡◌, ◌<◌, ◌≤◌, ◌+◌, ◌⊎◌, ◌||◌, inl, inr, true, false, not, None, Some, is_some, List, [], ◌∷◌, ◌++◌, length, get_or, set, nat_eq, eq-eqb, refl, sym, ap, subst, ◌∙◌, arith, length-set, All}
 use Rattle.std.specs.List.{list_any}
 use Rattle.std.proofs.lemmas.Bool.{cases_eq}
 use Rattle.std.proofs.lemmas.Grind.{common_steps}

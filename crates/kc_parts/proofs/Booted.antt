@@ -19,7 +19,6 @@ use Rattle.kc_model.specs.Boot.{boot, boot_owner, boot_frame, no_vms}
 use Rattle.kc_model.proofs.AtBoot.{times_in-range}
 use Rattle.kc_page.specs.declared.page.Page.{Page}
 use Rattle.kc_vms.specs.Slots.{VmSlot, empty_vm}
-use Rattle.kc_vms.proofs.Kept.{slot-empty}
 use Rattle.kc_links.specs.Chain.{Links, IsLinked as IsLinkedFrom, first_or, last_or, unlinked}
 use Rattle.kc_links.specs.Ending.{Chain, listed, IsList}
 use Rattle.kc_links.proofs.Chains.{chain-listed, chain-is_list}

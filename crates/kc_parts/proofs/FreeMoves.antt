@@ -1,5 +1,5 @@
 -- The free list takes a frame in, or gives one out.
-use Rattle.std.proofs.Common.{ℕ, zero, suc, ◌≡◌, ◌≢◌, ◌<◌, inl, inr, List, [], ◌∷◌, ◌++◌, Option, Some, None, is_some, slice_index_or, IfSome, MatchOption, refl, sym, ap, ◌∙◌, arith}
+use Rattle.std.proofs.Common.{ℕ, ◌≡◌, ◌≢◌, ◌<◌, inl, inr, List, [], ◌∷◌, ◌++◌, Option, Some, None, is_some, IfSome, MatchOption, refl, sym, ap, ◌∙◌, arith}
 use Rattle.std.specs.List.{range_with_len}
 use Rattle.std.specs.Option.{option_map}
 use Rattle.std.proofs.lemmas.Bool.{cases_eq}
@@ -10,9 +10,7 @@ use Rattle.kc_types.specs.declared.owner.Owner.TheVariants.{Core, Host, Free, Vm
 use Rattle.kc_types.specs.declared.resource.Resource.{Resource}
 use Rattle.kc_types.specs.declared.resource.Resource.TheVariants as resource
 use Rattle.kc_model.specs.Lawful.{times_in}
-use Rattle.kc_model.specs.State.{Frame, Slot}
-use Rattle.kc_page.specs.declared.page.Page.{Page}
-use Rattle.kc_page.specs.Pages.{frame_of}
+use Rattle.kc_model.specs.State.{Frame}
 use Rattle.kc_vms.specs.Slots.{VmSlot}
 use Rattle.kc_links.specs.Chain.{unlinked}
 use Rattle.kc_links.specs.Ending.{listed, IsList, KeepsOthers}
@@ -21,7 +19,7 @@ use Rattle.kc_links.proofs.Chains.{chain-once}
 use Rattle.kc_parts.specs.Held.{Held, page_at, vm_at, links_of, ends_at}
 use Rattle.kc_parts.specs.States.{frame_in, slot_in, owner_at, here_of, AreLists, IsLoose, IsFreeMove}
 use Rattle.kc_parts.specs.Linking.{IsSameRest}
-use Rattle.kc_parts.proofs.Moving.{list-kept, lists-moved, lists-same}
+use Rattle.kc_parts.proofs.Moving.{lists-moved, lists-same}
 use Rattle.kc_parts.proofs.Relinked.{frames-stay, vms-stay, here-stays, slot-stays, absent-others}
 use Rattle.kc_parts.proofs.Seen.{table-same}
 

@@ -1,11 +1,9 @@
 -- What parts are seen as where one slot changes.
-use Rattle.std.proofs.Common.{ℕ, zero, suc, ◌≡◌, ◌≢◌, inl, inr, cond, nat_eq, List, [], ◌∷◌, set, get_or, map, Option, Some, None, is_some, refl, sym, ap, ◌∙◌}
-use Rattle.std.specs.List.{range_with_len}
+use Rattle.std.proofs.Common.{ℕ, zero, suc, ◌≡◌, ◌≢◌, inl, inr, List, [], ◌∷◌, set, get_or, Option, Some, None, is_some, refl, sym, ap, ◌∙◌}
 use Rattle.std.specs.Option.{option_map}
 use Rattle.std.proofs.lemmas.Bool.{cases_eq}
 use Rattle.std.proofs.lemmas.List.{get_or-set_same, get_or-set_other}
 use Rattle.kc_types.specs.Configuration.{Configuration, slot_count}
-use Rattle.kc_types.specs.declared.link.Ends.{Ends}
 use Rattle.kc_types.specs.declared.owner.Owner.{Owner}
 use Rattle.kc_types.specs.declared.owner.Owner.TheVariants.{Core, Host, Free, Vm}
 use Rattle.kc_types.specs.declared.resource.Resource.{Resource}
@@ -14,7 +12,7 @@ use Rattle.kc_model.specs.State.{with_slot}
 use Rattle.kc_vms.specs.Slots.{VmSlot}
 use Rattle.kc_links.specs.Ending.{listed}
 use Rattle.kc_parts.specs.Held.{Held, vm_at, links_of, ends_at, with_vm}
-use Rattle.kc_parts.specs.States.{frame_in, slot_in, unlinked_slot, state_of, here_of, owner_at, IsLinked}
+use Rattle.kc_parts.specs.States.{slot_in, unlinked_slot, state_of, here_of, owner_at, IsLinked}
 use Rattle.kc_parts.proofs.SlotMoves.{slot-within}
 use Rattle.kc_parts.proofs.Moving.{lists-same}
 use Rattle.kc_parts.proofs.Seen.{table-set}
@@ -71,7 +69,7 @@ linked-vm config h v old new linked is same room = record {
   frames = linked.frames;
   vms = λ w vm there. elim (cases_eq w v) [
     | inl e ↦ let one : Some new ≡ Some vm = sym (vm-set h v old new is) ∙ ap (vm_at (with_vm h v new)) (sym e) ∙ there in
-      sym (ap (λ there. room-in there) one) ∙ room ∙ linked.vms v old is
+        sym (ap (λ there. room-in there) one) ∙ room ∙ linked.vms v old is
     | inr other ↦ linked.vms w vm (sym (vm-other h v w new other) ∙ there)
   ];
   lists = lists-same (links_of h) (links_of h) (ends_at h) (ends_at (with_vm h v new)) (owner_at h) (owner_at h) refl (ends-vm h v old new is same) (λ g. refl) linked.lists;

@@ -1,5 +1,5 @@
 -- The list of a slot takes a frame in, or gives one out.
-use Rattle.std.proofs.Common.{ℕ, zero, suc, ◌≡◌, ◌≢◌, ◌<◌, inl, inr, List, Option, Some, None, is_some, IfSome, slice_index_or, refl, sym, ap, ◌∙◌, arith}
+use Rattle.std.proofs.Common.{ℕ, ◌≡◌, ◌≢◌, ◌<◌, inl, inr, List, Option, Some, None, IfSome, slice_index_or, refl, sym, ap, ◌∙◌, arith}
 use Rattle.std.specs.List.{range_with_len}
 use Rattle.std.specs.Option.{option_map}
 use Rattle.std.proofs.lemmas.Bool.{cases_eq}
@@ -10,7 +10,7 @@ use Rattle.kc_types.specs.declared.owner.Owner.TheVariants.{Core, Host, Free, Vm
 use Rattle.kc_types.specs.declared.resource.Resource.{Resource}
 use Rattle.kc_types.specs.declared.resource.Resource.TheVariants as resource
 use Rattle.kc_model.specs.Lawful.{times_in}
-use Rattle.kc_model.specs.State.{Frame, Slot}
+use Rattle.kc_model.specs.State.{Frame}
 use Rattle.kc_vms.specs.Slots.{VmSlot}
 use Rattle.kc_model.specs.Effects.{without}
 use Rattle.kc_links.proofs.Others.{without-same, without-other}
@@ -92,7 +92,7 @@ module _ (old mid : Held) (v : ℕ) (vm : VmSlot) (e' : Ends) (frames : List ℕ
       here-all r = here-vm mid v vm (with_ends vm e') at-mid r ∙ here-stays old mid (Vm v) frames rest are keeps owned r
 
       here-slot : (was : VmSlot) → vm_at old v ≡ Some was → slot_in (links_of moved) (vm_at moved v) ≡ unlinked_slot was.slot (frames_of moved v)
-      here-slot was at_was = 
+      here-slot was at_was =
           ap (slot_in (links_of moved)) at-moved ∙ ap (unlinked_slot vm.slot) (sym frames-moved) ∙ ap (λ (there : VmSlot). unlinked_slot there.slot (frames_of moved v)) (ap vm-in (sym at ∙ at_was))
         where
           vm-in : Option VmSlot → VmSlot

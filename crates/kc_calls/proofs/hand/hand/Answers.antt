@@ -1,4 +1,4 @@
-use Rattle.std.proofs.Common.{◌≡◌, ◌<◌, Ok, Result, Some, None, IsOk, is_some, refl, sym, ap, ◌∙◌}
+use Rattle.std.proofs.Common.{◌≡◌, Some, is_some, refl, sym, ap}
 use Rattle.kc_stage2.specs.Table.{with_entry}
 use Rattle.kc_vms.specs.Slots.{table_of}
 use Rattle.kc_parts.specs.Held.{page_at, vm_at}

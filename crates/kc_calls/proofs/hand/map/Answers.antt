@@ -1,4 +1,4 @@
-use Rattle.std.proofs.Common.{◌≡◌, eq-eqb, refl, ap, ◌∙◌}
+use Rattle.std.proofs.Common.{◌≡◌, eq-eqb, refl, ◌∙◌}
 use Rattle.kc_types.specs.declared.call.Call.TheVariants.{Map}
 use Rattle.kc_types.specs.declared.resource.Resource.TheVariants as resource
 use Rattle.kc_model.proofs.HandCalls.{map-served}

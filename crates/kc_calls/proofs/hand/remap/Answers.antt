@@ -1,4 +1,4 @@
-use Rattle.std.proofs.Common.{◌≡◌, ◌<◌, eq-eqb, Some, None, is_some, refl, sym, ap, ◌∙◌}
+use Rattle.std.proofs.Common.{◌≡◌, eq-eqb, Some, None, refl, sym, ap, ◌∙◌}
 use Rattle.kc_types.specs.declared.call.Call.TheVariants.{Remap}
 use Rattle.kc_types.specs.declared.resource.Resource.TheVariants as resource
 use Rattle.kc_model.specs.State.{mapped_at}
@@ -149,4 +149,3 @@ returns-clause-room c =
     let seen = remap-served m c.unwrap-vm.result c.args.image c.unwrap-frame.result served in
     let at_new : vm_at c.hand.new.parts c.unwrap-vm.result ≡ Some c.unwrap-2.result.now = sym (rw c.unwrap-2.ensures at c.vm_mut.ensures.value) in
     room-through h c.hand.new.parts _ c.hand.ensures.room (room-vm c.hand.new.parts c.unwrap-vm.result c.unwrap-2.result.now c.add_page.new.self at_new)
-

@@ -1,4 +1,4 @@
-use Rattle.std.proofs.Common.{◌≡◌, ◌<◌, Some, sym, ap, ◌∙◌}
+use Rattle.std.proofs.Common.{◌≡◌, Some, sym, ap, ◌∙◌}
 use Rattle.kc_types.specs.declared.owner.Owner.TheVariants.{Vm}
 use Rattle.kc_model.specs.Lawful.{times_in}
 use Rattle.kc_model.specs.Effects.{without}
