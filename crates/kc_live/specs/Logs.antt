@@ -1,6 +1,5 @@
 -- What a book keeps: a configuration, and the calls that were made under it with their replies.
 use Rattle.std.specs.Prelude.{◌≡◌, ◌≤◌, List, [], ◌∷◌, ◌++◌, length, map}
-use Rattle.std.specs.List.{AllByRecursion}
 use Rattle.kc_types.specs.Configuration.{Configuration}
 use Rattle.kc_types.specs.Limits.{call_limit}
 use Rattle.kc_types.specs.declared.call.Call.{Call}

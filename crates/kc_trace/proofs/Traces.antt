@@ -1,8 +1,8 @@
 -- What is read byte after byte is the trace.
 use Rattle.std.proofs.Common.{◌≡◌, ◌⊎◌, ◌≤◌, ◌<◌, ◌+◌, ℕ, Bool, true, false, cond, List, [], ◌∷◌, ◌++◌, length, Option, Some, None, Result, Ok, Err, refl, sym, ap, subst, ◌∙◌, append_assoc, arith, inl, inr, length-append, zero-add}
 use Rattle.std.specs.Global.{Vec}
-use Rattle.std.specs.Prelude.{MatchResult, IfOk, ◌==◌, not, nat_le}
-use Rattle.std.specs.List.{concat, list_all, AllByRecursion}
+use Rattle.std.specs.Prelude.{MatchResult, ◌==◌, not, nat_le}
+use Rattle.std.specs.List.{concat, list_all}
 use Rattle.std.proofs.lemmas.Bool.{and_parts, and_from, eqb-true, not-true, le-leb, lt-leb, lt-ltb, le-ltb, cases_lt, cases_eq, cases_Bool, eq-eqb, ne_eqb}
 use Rattle.std.proofs.lemmas.List.{append-nil}
 use Rattle.std.proofs.lemmas.List.Concat.{flat_map-cons}

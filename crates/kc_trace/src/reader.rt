@@ -213,7 +213,6 @@ pub fn read_trace(alloc: Global, text: &[u8]) -> Result<Vec<Call>, TraceFault>
     // A trace is read as its calls, unless memory runs out.
     ensures only { (calls : List Call) → IsTrace text.now calls → Gives (λ calls. calls.items) result (Ok calls) }
 
-
     // What reading byte after byte answers.
     ensures exact { Gives (λ calls. calls.items) result (reading text.now) }
 {

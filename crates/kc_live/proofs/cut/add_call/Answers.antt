@@ -1,4 +1,4 @@
-use Rattle.std.proofs.Common.{◌≡◌, ◌∙◌, ap, sym, [], ◌∷◌, ◌++◌}
+use Rattle.std.proofs.Common.{◌∙◌, ap, sym, [], ◌∷◌, ◌++◌}
 use Rattle.kc_types.specs.Actors.{actor}
 use Rattle.kc_live.specs.Programs.{ProgramView, NoneIs, actors_of}
 use Rattle.kc_live.specs.Cuts.{IsPlaceOf}
