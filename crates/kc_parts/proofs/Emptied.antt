@@ -3,7 +3,7 @@ use Rattle.std.proofs.Common.{ℕ, zero, suc, ◌≡◌, ◌≢◌, ◌<◌, inl
 use Rattle.std.specs.Option.{option_map}
 use Rattle.std.proofs.lemmas.Bool.{cases_eq}
 use Rattle.kc_types.specs.Limits.{frame_limit}
-use Rattle.kc_types.specs.Configuration.{Configuration, slot_count}
+use Rattle.kc_types.specs.Configuration.{Configuration}
 use Rattle.kc_types.specs.declared.link.Ends.{Ends}
 use Rattle.kc_types.specs.declared.owner.Owner.{Owner}
 use Rattle.kc_types.specs.declared.owner.Owner.TheVariants.{Core, Host, Free, Vm}
@@ -19,7 +19,7 @@ use Rattle.kc_links.specs.Ending.{listed, IsList}
 use Rattle.kc_links.proofs.Times.{times-same, times-other, times-append}
 use Rattle.kc_links.proofs.Steps.{inside-held}
 use Rattle.kc_parts.specs.Held.{Held, page_at, vm_at, links_of, ends_at, with_page, with_vm, link_of}
-use Rattle.kc_parts.specs.States.{frame_in, slot_in, unlinked_slot, state_of, here_of, owner_at, frames_of, AreLists, IsLinked}
+use Rattle.kc_parts.specs.States.{frame_in, unlinked_slot, state_of, here_of, owner_at, frames_of, AreLists, IsLinked}
 use Rattle.kc_parts.specs.Emptying.{untouched_page, with_untouched, with_scrubbed, all_scrubbed, IsEmptied}
 use Rattle.kc_parts.proofs.Pages.{page-set, page-other, links-kept}
 use Rattle.kc_parts.proofs.Seen.{state-page, here-page, linked-moved}

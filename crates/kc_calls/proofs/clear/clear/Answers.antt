@@ -1,5 +1,4 @@
-use Rattle.std.proofs.Common.{◌≡◌, ◌<◌, None, is_some, refl, sym, ap, ◌∙◌}
-use Rattle.kc_types.specs.Configuration.{slot_count}
+use Rattle.std.proofs.Common.{◌≡◌, None, is_some, refl, ap, ◌∙◌}
 use Rattle.kc_types.specs.declared.resource.Resource.TheVariants as resource
 use Rattle.kc_types.specs.declared.call.Call.TheVariants.{Clear}
 use Rattle.kc_model.specs.Refusals.{refusal}

@@ -1,6 +1,5 @@
-use Rattle.std.proofs.Common.{ℕ, zero, ◌≡◌, ◌+◌, ◌-◌, Option, Some, None, refl, sym, ap, ◌∙◌, arith}
-use Rattle.kc_links.specs.Chain.{Links, spelled, next_of}
-use Rattle.kc_links.specs.Ending.{listed}
+use Rattle.std.proofs.Common.{◌+◌, ◌-◌, sym, ap, ◌∙◌, arith}
+use Rattle.kc_links.specs.Chain.{spelled}
 use Rattle.kc_parts.specs.Held.{Held, links_of}
 use Rattle.kc_parts.specs.Emptying.{with_scrubbed, all_scrubbed}
 use Rattle.kc_parts.proofs.Emptied.{walk-step, walk-none, walk-listed}
