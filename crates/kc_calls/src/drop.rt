@@ -1,5 +1,5 @@
 //! The call by which a slot gives up one of its frames.
-ghost use Rattle.std.specs.Prelude.{◌≡◌, ◌<◌, None, true, is_some};
+ghost use Rattle.std.specs.Prelude.{◌≡◌, None, true, is_some};
 ghost use Rattle.kc_types.specs.declared.call.Call.TheVariants.{Drop};
 ghost use Rattle.kc_model.specs.Refusals.{refusal};
 ghost use Rattle.kc_model.specs.Effects.{effect};

@@ -14,6 +14,7 @@ use Rattle.kc_parts.specs.States.{state_of, here_of, owner_at, frames_of, IsLink
 abbrev pub untouched_page : Page → Page
 untouched_page page = record { meta = record page.meta { owner = Free; share = 0; gfn = None; present = false }; bytes = zero_page }
 
+-- the parts with such a page of the frame, if it has one
 abbrev pub with_untouched : Held → ℕ → Option Page → Held
 with_untouched h f None = h
 with_untouched h f (Some page) = with_page h f (untouched_page page)
