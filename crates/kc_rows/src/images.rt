@@ -46,7 +46,13 @@ fn hand_over(alloc: Global, core: &mut KCore, image: u32, frame: u32) -> Option<
 }
 
 /// Hands over the frames from one on as the pages of an image.
-fn hand_over_pages(alloc: Global, core: &mut KCore, image: u32, first: u32, pages: u32) -> Option<()> {
+fn hand_over_pages(
+    alloc: Global,
+    core: &mut KCore,
+    image: u32,
+    first: u32,
+    pages: u32,
+) -> Option<()> {
     for page in 0..pages {
         hand_over(alloc, core, image, first.checked_add(page)?)?;
     }
@@ -177,6 +183,9 @@ fn a_leaf_for_each_of_64_root_slots(rt: HostRuntime) {
     assert!(rt; core.is_some());
     if let Some(mut core) = core {
         assert_eq!(rt; supplied(&mut core), Some(64));
-        assert_eq!(rt; supply(&mut core, 64, 66), Some(Reply::Refused(Refusal::TablesFull)));
+        assert_eq!(rt;
+            supply(&mut core, 64, 66),
+            Some(Reply::Refused(Refusal::TablesFull))
+        );
     }
 }

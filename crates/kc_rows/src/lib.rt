@@ -18,6 +18,8 @@ mod look_ups;
 #[cfg(test)]
 mod receipts;
 #[cfg(test)]
+mod refusals;
+#[cfg(test)]
 mod slots;
 #[cfg(test)]
 mod support;

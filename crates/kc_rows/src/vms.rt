@@ -211,7 +211,12 @@ fn ends(rt: HostRuntime) -> Result<(), Fail> {
         let replies = format!(in rt.alloc(); "{BOOTED}{}", example.replies)?;
         let (outcome, written) = replayed(&rt, SMALL, trace.as_bytes())?;
         assert_eq!(rt; outcome, Ok(()));
-        assert_eq!(rt; written.as_slice(), replies.as_bytes(), "at {}", example.calls);
+        assert_eq!(rt;
+            written.as_slice(),
+            replies.as_bytes(),
+            "at {}",
+            example.calls
+        );
     }
     Ok(())
 }
@@ -219,8 +224,12 @@ fn ends(rt: HostRuntime) -> Result<(), Fail> {
 /// A leaf stays taken where its last guest frame was given up, and comes back when the slot is cleared.
 #[test]
 fn leaves_come_back_when_the_slot_is_cleared(rt: HostRuntime) -> Result<(), Fail> {
-    let trace = format!(in rt.alloc(); "kcore-trace 1\n{BOOT}gread 0 0 512 0 1\nmap 0 0 2\ndrop 0 0 512\ngread 0 0 1024 0 1\nmap 0 0 3\nclear 0\ntake\ntake\ntake\ntake\ntake\n")?;
-    let replies = format!(in rt.alloc(); "{BOOTED}fault 512\ndone\ndone\nfault 1024\nrefused tables-full\ndone\nframe 5\nframe 6\nframe 7\nframe 2\nframe 1\n")?;
+    let trace = format!(in rt.alloc();
+        "kcore-trace 1\n{BOOT}gread 0 0 512 0 1\nmap 0 0 2\ndrop 0 0 512\ngread 0 0 1024 0 1\nmap 0 0 3\nclear 0\ntake\ntake\ntake\ntake\ntake\n"
+    )?;
+    let replies = format!(in rt.alloc();
+        "{BOOTED}fault 512\ndone\ndone\nfault 1024\nrefused tables-full\ndone\nframe 5\nframe 6\nframe 7\nframe 2\nframe 1\n"
+    )?;
     let (outcome, written) = replayed(&rt, TWO_LEAVES, trace.as_bytes())?;
     assert_eq!(rt; outcome, Ok(()));
     assert_eq!(rt; written.as_slice(), replies.as_bytes());
