@@ -48,8 +48,7 @@ fn calls_in(alloc: Global, entries: Vec<Entry>) -> Result<Vec<Call>, Memory>
 }
 
 /// Makes the calls on one thread, and wipes the core that they leave.
-fn replay(alloc: Global, config: Config, calls: &[Call]) -> Result<(), Memory>
-{
+fn replay(alloc: Global, config: Config, calls: &[Call]) -> Result<(), Memory> {
     let mut core = KCore::boot(alloc, config)?;
     let outcome = core.run(alloc, calls);
     core.wipe();
