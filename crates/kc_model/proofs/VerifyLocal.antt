@@ -23,7 +23,8 @@ abbrev pub HasImages : Resources → State → ℕ → List Image → Type 0
 HasImages here m v [] = Unit {0}
 HasImages here m v (image ∷ images) = HasImage here m v image × HasImages here m v images
 
-pages-same : (f g : ℕ → List ℕ) (base n : ℕ) → ((k : ℕ) → base ≤ k → k < base + n → f k ≡ g k) → flat_map f (range_with_len base n) ≡ flat_map g (range_with_len base n)
+-- the bytes of pages that are the same, joined
+pub pages-same : (f g : ℕ → List ℕ) (base n : ℕ) → ((k : ℕ) → base ≤ k → k < base + n → f k ≡ g k) → flat_map f (range_with_len base n) ≡ flat_map g (range_with_len base n)
 pages-same f g base zero same = refl
 pages-same f g base (suc n) same = rw (same base (omega arith) (omega arith), pages-same f g (base + 1) n (λ k from below. same k (omega arith) (omega arith))) refl
 
