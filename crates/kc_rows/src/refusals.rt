@@ -94,13 +94,13 @@ fn have_same_frames(one: &KCore, other: &KCore) -> bool {
     true
 }
 
-/// The frames of an owner: of a VM by its slot, of the core at 16, of the host at 17, else of nobody.
+/// The frames of an owner: the core at 0, the host at 1, nobody at 2, and the slots from 3 on.
 fn list(core: &KCore, number: u32) -> Option<Vec<FrameNo>> {
-    let owner = match (number, VmId::try_new(number)) {
-        (16, _) => Owner::Core,
-        (17, _) => Owner::Host,
-        (_, Some(vm)) => Owner::Vm(vm),
-        (_, None) => Owner::Free,
+    let owner = match number {
+        0 => Owner::Core,
+        1 => Owner::Host,
+        2 => Owner::Free,
+        _ => Owner::Vm(VmId::try_new(number.checked_sub(3)?)?),
     };
     core.frames_of(owner).ok()
 }
@@ -165,13 +165,34 @@ fn look_the_same(one: &KCore, other: &KCore) -> bool {
     have_same_frames(one, other) && have_same_lists(one, other) && have_same_slots(one, other)
 }
 
-/// What a core answers to a call after others, and whether it then shows the same as a core without that call.
+/// Calls whose replies tell what is not shown otherwise: which virtual processors are registered, how many images
+/// there are, and how many of their pages.
+const QUESTIONS: &str =
+    "gread 0 0 0 0 4\ngread 0 1 0 0 4\ngread 0 2 0 0 4\nregvcpu 0 0\nregvcpu 0 1\nregvcpu 0 2\nregvcpu 0 7\nregvcpu 15 0\nremap 0 0 2\nremap 0 1 3\nremap 0 0 4\nsetboot 0 9 1\nverify 0\n";
+
+/// What a core answers to the questions.
+fn answers(alloc: Global, core: &mut KCore) -> Option<Vec<Reply>> {
+    let calls = calls_of(alloc, QUESTIONS)?;
+    core.run(alloc, calls.as_slice()).ok()
+}
+
+/// Whether two cores answer the same to the questions.
+fn answer_the_same(alloc: Global, one: &mut KCore, other: &mut KCore) -> bool {
+    match (answers(alloc, one), answers(alloc, other)) {
+        (Some(replies), Some(others)) => replies.as_slice() == others.as_slice(),
+        _ => false,
+    }
+}
+
+/// What a core answers to a call after others, and whether it then shows and answers the same as a core without
+/// that call.
 fn outcome(alloc: Global, before: &str, call: &str) -> Option<(Reply, bool)> {
-    let still = after(alloc, before)?;
+    let mut still = after(alloc, before)?;
     let mut core = after(alloc, before)?;
     let calls = calls_of(alloc, call)?;
     let reply = core.call(calls.first()?).ok()?;
-    Some((reply, look_the_same(&still, &core)))
+    let is_same = look_the_same(&still, &core) && answer_the_same(alloc, &mut still, &mut core);
+    Some((reply, is_same))
 }
 
 /// Whether a call after others is refused so, and nothing is seen to change.
@@ -834,7 +855,7 @@ fn is_refused_after_them(alloc: Global, call: &str, refusal: Refusal) -> bool {
     }
 }
 
-/// One that is not registered and a guest frame that is not mapped grant nothing, whatever another guest frame has.
+/// A guest frame that was granted a hundred times, by either virtual processor; and what is refused before that.
 #[test]
 fn grants_after_a_hundred(rt: HostRuntime) {
     for (call, refusal) in [
@@ -847,5 +868,33 @@ fn grants_after_a_hundred(rt: HostRuntime) {
             is_refused_after_them(rt.alloc(), call, refusal),
             "at {call}"
         );
+    }
+}
+
+/// Whether a call after others is not refused, and something is seen to change.
+fn changes(alloc: Global, before: &str, call: &str) -> bool {
+    match outcome(alloc, before, call) {
+        Some((Reply::Refused(_), _)) => false,
+        Some((_, is_same)) => !is_same,
+        None => false,
+    }
+}
+
+/// A call that is not refused is seen to change something, each kind of change.
+#[test]
+fn changes_are_seen(rt: HostRuntime) {
+    for (before, call) in [
+        (BOOT, "take\n"),
+        (BOOT, "hfault 1\n"),
+        ("hfault 1\n", "hwrite 1 4095 01\n"),
+        (BOOT, "regvm 15\n"),
+        (BOOTING, "regvcpu 0 7\n"),
+        (BOOTING, "setboot 0 0 1\n"),
+        (HANDED, "verify 0\n"),
+        (ACTIVE, "gread 0 1 7 0 1\n"),
+        (ACTIVE, "grant 0 0 0\n"),
+        (ACTIVE, "clear 0\n"),
+    ] {
+        assert!(rt; changes(rt.alloc(), before, call), "at {call}");
     }
 }
