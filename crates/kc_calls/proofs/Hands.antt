@@ -1,6 +1,7 @@
 -- A frame of the host's that is handed to a slot.
-use Rattle.std.proofs.Common.{ℕ, zero, suc, ◌≡◌, ◌<◌, true, false, List, [], ◌∷◌, ◌++◌, ◌+◌, length, get_or, set, Option, Some, None, Result, Ok, Err, IsOk, refl, sym, ap, ◌∙◌}
+use Rattle.std.proofs.Common.{ℕ, ◌≡◌, ◌<◌, true, false, List, [], ◌∷◌, ◌++◌, ◌+◌, length, get_or, set, Option, Some, None, Result, Ok, Err, IsOk, refl, sym, ap, ◌∙◌}
 use Rattle.std.specs.FinMap as map
+use Rattle.std.proofs.lemmas.List.{set-set}
 use Rattle.kc_types.specs.Configuration.{Configuration, slot_count}
 use Rattle.kc_types.specs.declared.owner.Owner.TheVariants.{Host, Vm}
 use Rattle.kc_model.specs.State.{State, Frame, Slot, Image, frame_at, slot_at, mapped_at, with_frame, with_slot}
@@ -46,11 +47,6 @@ pub map-ok : (answer : Result Unit MapFault) (fault : Option MapFault) → fault
 map-ok (Ok x) fault none is = refl
 map-ok (Err e) fault none is = let no = rw none at is in cc
 
-set-twice : {X : Type 0} (xs : List X) (i : ℕ) (x y : X) → set (set xs i x) i y ≡ set xs i y
-set-twice [] i x y = refl
-set-twice (z ∷ zs) zero x y = refl
-set-twice (z ∷ zs) (suc i) x y = ap (λ ws. z ∷ ws) (set-twice zs i x y)
-
 module _ (config : Configuration) (old : Held) (v g f : ℕ) (vm : VmSlot) (table : Table) (page new_page : Page) (table_is : table ≡ with_entry (table_of vm) g f) (linked : IsLinked config old) (low : v < slot_count config) (at_vm : vm_at old v ≡ Some vm) (at : page_at old f ≡ Some page)
     (host : owner_at old f ≡ Host) (same : link_of new_page ≡ link_of page) (to : frame_of new_page ≡ record (frame_of page) { owner = Vm v; gfn = Some g; present = false }) where
   abbrev pub mapped_vm : VmSlot
@@ -87,7 +83,7 @@ module _ (config : Configuration) (old : Held) (v g f : ℕ) (vm : VmSlot) (tabl
       move.state config mapped_vm vm-owned
       ∙ ap (λ fs. with_slot (state_of config owned) v (unlinked_slot mapped_vm.slot fs)) (frames ∙ ap (λ fs. fs ++ f ∷ []) frames-owned)
       ∙ ap (λ (s : State). with_slot s v after) (state-page config mapped f page new_page at same ∙ ap (λ (s : State). with_frame s f (frame_of new_page)) (state-vm config old v vm mapped_vm at_vm))
-      ∙ ap (λ slots. record (with_frame m f (frame_of new_page)) { slots = slots }) (set-twice m.slots v (unlinked_slot mapped_vm.slot fs) after)
+      ∙ ap (λ slots. record (with_frame m f (frame_of new_page)) { slots = slots }) (set-set m.slots v (unlinked_slot mapped_vm.slot fs) after)
       ∙ ap (λ frame. with_slot (with_frame m f frame) v after) (to ∙ ap (λ (frame : Frame). record frame { owner = Vm v; gfn = Some g; present = false }) (sym (frame-is config old f page f_low at)))
       ∙ ap (λ (t : Table). with_slot (with_frame m f (record (frame_at m f) { owner = Vm v; gfn = Some g; present = false })) v (unlinked_slot (with_table vm t).slot (fs ++ f ∷ []))) table_is
       ∙ ap (λ (slot : Slot). with_slot (with_frame m f (record (frame_at m f) { owner = Vm v; gfn = Some g; present = false })) v (record slot { frames = slot.frames ++ f ∷ []; mapped = map.insert slot.mapped g f; leaves = with_leaf slot.leaves g }))

@@ -1,10 +1,10 @@
 -- The images of a slot that is here, as the state has them.
-use Rattle.std.proofs.Common.{ℕ, zero, suc, ◌≡◌, ◌≤◌, ◌<◌, ◌+◌, ◌-◌, ◌%◌, true, false, is_some, All, List, [], ◌∷◌, length, get_or, take, Option, Some, None, refl, sym, ap, subst, ◌∙◌, arith}
-use Rattle.std.specs.List.{flat_map, range_with_len}
+use Rattle.std.proofs.Common.{ℕ, zero, suc, ◌≡◌, ◌<◌, ◌+◌, ◌-◌, ◌%◌, true, false, is_some, All, List, [], ◌∷◌, length, get_or, take, Option, Some, None, refl, sym, ap, subst, ◌∙◌, arith}
 use Rattle.std.specs.Prelude.{slice_index_or}
 use Rattle.std.specs.Ordering.{nat_cmp}
 use Rattle.std.specs.FinMap as map
 use Rattle.std.proofs.lemmas.Grind.{common_steps}
+use Rattle.kc_model.proofs.VerifyLocal.{pages-same}
 use Rattle.kc_types.specs.Configuration.{Configuration, slot_count}
 use Rattle.kc_types.specs.declared.call.Call.TheVariants.{Verify}
 use Rattle.kc_types.specs.declared.resource.Resource.TheVariants as resource
@@ -30,10 +30,6 @@ use Rattle.kc_calls.proofs.Needed.{slot-needed, mapped-needed, slot-is}
 -- where a guest frame leads, in a slot that is here
 pub mapped-seen : (config : Configuration) (h : Held) (v : ℕ) (vm : VmSlot) (g : ℕ) → v < slot_count config → vm_at h v ≡ Some vm → mapped_at (state_of config h) v g ≡ map.get vm.slot.mapped g
 mapped-seen config h v vm g low at = ap (λ (there : Slot). map.get there.mapped g) (slot-is config h v vm low at)
-
-pages-same : (f g : ℕ → List ℕ) (base n : ℕ) → ((k : ℕ) → base ≤ k → k < base + n → f k ≡ g k) → flat_map f (range_with_len base n) ≡ flat_map g (range_with_len base n)
-pages-same f g base zero same = refl
-pages-same f g base (suc n) same = rw (same base (omega arith) (omega arith), pages-same f g (base + 1) n (λ k from below. same k (omega arith) (omega arith))) refl
 
 bytes-seen : (config : Configuration) (h : Held) (v : ℕ) (vm : VmSlot) (g : ℕ) → v < slot_count config → IsLinked config h → vm_at h v ≡ Some vm → is_some (page_under h (map.get vm.slot.mapped) g) ≡ true
     → bytes_under h (map.get vm.slot.mapped) g ≡ bytes_at (state_of config h) v g

@@ -1,10 +1,11 @@
 -- The calls that hand a frame to a slot keep the state lawful.
-use Rattle.std.proofs.Common.{ℕ, zero, suc, ◌≡◌, ◌<◌, ◌≤◌, ◌+◌, ◌⊎◌, ◌||◌, inl, inr, true, false, not, None, Some, is_some, List, [], ◌∷◌, ◌++◌, length, get_or, set, nat_eq, eq-eqb, refl, sym, ap, subst, ◌∙◌, arith, length-set, All}
+use Rattle.std.proofs.Common.{ℕ, ◌≡◌, ◌<◌, ◌≤◌, ◌+◌, ◌⊎◌, ◌||◌, inl, inr, true, false, not, None, Some, is_some, List, [], ◌∷◌, ◌++◌, length, get_or, set, nat_eq, eq-eqb, refl, sym, ap, subst, ◌∙◌, arith, length-set, All}
 use Rattle.std.specs.List.{list_any}
 use Rattle.std.proofs.lemmas.Bool.{cases_eq}
 use Rattle.std.proofs.lemmas.Grind.{common_steps}
 use Rattle.std.proofs.lemmas.List.Elements.{All-set}
 use Rattle.std.specs.FinMap as map
+use Rattle.std.proofs.lemmas.List.{set-set}
 use Rattle.kc_types.specs.Configuration.{Configuration, slot_count}
 use Rattle.kc_types.specs.declared.call.Call.TheVariants.{Remap, Map}
 use Rattle.kc_types.specs.declared.owner.Owner.{Owner}
@@ -87,14 +88,9 @@ lawful-hand m v g f slot is v_in g_in lt host unmapped frames mapped phase there
       | inr other ↦ rw (changed-other m f (handed_frame m v g f) k other) (λ owned some. phase ∙ is.shared v k v_in owned some)
     ])
 
-set-twice : {X : Type 0} (xs : List X) (i : ℕ) (x y : X) → set (set xs i x) i y ≡ set xs i y
-set-twice [] i x y = refl
-set-twice (z ∷ zs) zero x y = refl
-set-twice (z ∷ zs) (suc i) x y = ap (λ ws. z ∷ ws) (set-twice zs i x y)
-
 -- a slot that is written, and then changed
 pub written-twice : (m : State) (v : ℕ) (slot : Slot) (change : Slot → Slot) → v < length m.slots → with_slot (with_slot m v slot) v (change (slot_at (with_slot m v slot) v)) ≡ with_slot m v (change slot)
-written-twice m v slot change lt = ap (λ (s : Slot). with_slot (with_slot m v slot) v (change s)) (slot-here m v slot lt) ∙ ap (λ (slots : List Slot). record m { slots = slots }) (set-twice m.slots v slot (change slot))
+written-twice m v slot change lt = ap (λ (s : Slot). with_slot (with_slot m v slot) v (change s)) (slot-here m v slot lt) ∙ ap (λ (slots : List Slot). record m { slots = slots }) (set-set m.slots v slot (change slot))
 
 is_short-is : (image : Image) → not (is_short image) ≡ false → image.pages < pages_of image.len
 is_short-is image h = grind (arith, common_steps)
