@@ -103,6 +103,7 @@ pub fn guest_read(
 ) -> Result<Reply, Memory>
     requires served { refusal (state_of config.now parts.old) (GuestRead vm vcpu gfn offset len) ≡ None }
     requires able { IsAble config.now parts.old (GuestRead vm vcpu gfn offset len) }
+    // No clause can rule out want of memory: tests of VMs read bytes.
     ensures reply { IfOk result (λ reply. reply ≡ (effect (state_of config.now parts.old) (GuestRead vm vcpu gfn offset len)).0) }
     ensures state { OnOk result (state_of config.now parts.new ≡ (effect (state_of config.now parts.old) (GuestRead vm vcpu gfn offset len)).1) }
     ensures err { OnErr result (parts.new ≡ parts.old) }

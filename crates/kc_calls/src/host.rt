@@ -130,6 +130,7 @@ pub fn host_read(
     len: u32,
 ) -> Result<Reply, Memory>
     requires { refusal (state_of config.now parts.now) (HostRead frame offset len) ≡ None }
+    // No clause can rule out want of memory: tests of traces read bytes.
     ensures { IfOk result (λ reply. reply ≡ (effect (state_of config.now parts.now) (HostRead frame offset len)).0) }
 {
     let frame = config.frame(frame).unwrap();
