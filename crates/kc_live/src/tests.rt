@@ -13,6 +13,7 @@ use std::sync::atomic::{AtomicBool, AtomicU64, Ordering};
 use std::test::Fail;
 
 mod gates;
+mod stories;
 
 /// `frames` frames: 0 is the core's, 1 to 4 are the host's, the rest is free.
 fn config(alloc: Global, frames: u32) -> Result<Config, Fail> {
@@ -128,5 +129,42 @@ fn the_host_may_run_beside_others(rt: HostRuntime) -> Result<(), Fail> {
     let (entries, mut core) = history.into_parts();
     core.wipe();
     assert_eq!(rt; entries.len(), 3);
+    Ok(())
+}
+
+/// A VM boots, its two virtual processors touch memory before the host supplies it, and then use it.
+#[test]
+fn a_vm_boots_and_touches_memory(rt: HostRuntime) -> Result<(), Fail> {
+    let alloc = rt.alloc();
+    let gate = Script {
+        rt: &rt,
+        order: vec![in alloc; 0usize, 1, 2, 3, 4, 5, 6, 7, 10, 13, 8, 9, 11, 14, 12, 15]?,
+        turn: AtomicU64::new(0),
+        gave_up: AtomicBool::new(false),
+    };
+    let core = LiveCore::new(alloc, stories::config(alloc, 8, 4)?)?;
+    let Ok(rows) = make_calls(&rt, alloc, &core, &gate, stories::story(alloc)?) else {
+        return Err(Fail::from("no rows"));
+    };
+    assert!(rt; !gate.gave_up.load(Ordering::SeqCst));
+    let history = core.close();
+    assert!(rt; stories::has_replies(&history, &stories::replies(alloc)?));
+    assert!(rt; settle(alloc, &history, &rows)?);
+    Ok(())
+}
+
+/// 129 threads, ten times over: each run answers, and so is settled.
+#[test]
+fn many_virtual_processors(rt: HostRuntime) -> Result<(), Fail> {
+    let alloc = rt.alloc();
+    for _ in 0..10 {
+        let programs = stories::busy_vms(alloc)?;
+        let config = stories::config(alloc, 256, 200)?;
+        let Ok((history, rows)) = run_live(&rt, alloc, config, programs, &OpenGate) else {
+            return Err(Fail::from("no answer"));
+        };
+        assert_eq!(rt; rows.len(), 129);
+        assert_eq!(rt; history.entries().len(), 64_352);
+    }
     Ok(())
 }
