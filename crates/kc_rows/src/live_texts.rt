@@ -1,24 +1,60 @@
 //! Live runs from text to text.
 use crate::support::SMALL;
 use kc_cli::{Mem, TextFault, live_text};
-use kc_replay::OpenGate;
+use kc_replay::{Gate, OpenGate};
 use kc_trace::TraceFault;
 use kc_types::{Call, Reply};
 use std::alloc::{AllocError, Global};
+use std::rt::Clock;
 use std::sync::Wait;
+use std::sync::atomic::{AtomicBool, Ordering};
 use std::test::Fail;
-use std::thread::Threads;
+use std::thread::{self, Threads};
+use std::time::Duration;
+
+/// How often the gate looks before it gives up, each time after 1 ms.
+const TURNS: u32 = 10_000;
+
+/// Holds the first call until the second has been answered.
+#[derive(Drop)]
+struct HoldFirst<'a, R: Clock + Sync> {
+    rt: &'a R,
+    is_answered: AtomicBool,
+    gave_up: AtomicBool,
+}
+
+impl<'a, R: Clock + Sync> Gate for HoldFirst<'a, R> {
+    fn before(&self, number: usize) {
+        if number != 0 {
+            return;
+        }
+        for _turn in 0..TURNS {
+            if self.is_answered.load(Ordering::SeqCst) {
+                return;
+            }
+            let _ = thread::sleep(self.rt, Duration::from_millis(1));
+        }
+        self.gave_up.store(true, Ordering::SeqCst);
+    }
+
+    fn after(&self, number: usize) {
+        if number == 1 {
+            self.is_answered.store(true, Ordering::SeqCst);
+        }
+    }
+}
 
 /// What the engine answers to a trace, and what it wrote.
-fn run<R: Threads + Wait + Sync>(
+fn run<R: Threads + Wait + Sync, G: Gate + Sync>(
     rt: &R,
     alloc: Global,
     trace: &str,
+    gate: &G,
 ) -> Result<(Result<(), TextFault>, Vec<u8>), AllocError> {
     let mut config = Mem::with_bytes(Vec::from_slice(alloc, SMALL.as_bytes())?);
     let mut trace = Mem::with_bytes(Vec::from_slice(alloc, trace.as_bytes())?);
     let mut out = Mem::new(alloc);
-    let outcome = live_text(rt, alloc, &mut config, &mut trace, &mut out, 1, &OpenGate);
+    let outcome = live_text(rt, alloc, &mut config, &mut trace, &mut out, 1, gate);
     Ok((outcome, out.bytes))
 }
 
@@ -28,7 +64,7 @@ fn one_actor_keeps_its_order(rt: HostRuntime) -> Result<(), Fail> {
         "kcore-trace 1\n",
         "kcore-trace 1\nhfault 1\nhfault 2\nhwrite 1 0 aa\ntake\nhfault 5\nhfault 3\n",
     ] {
-        let (outcome, bytes) = run(&rt, rt.alloc(), trace)?;
+        let (outcome, bytes) = run(&rt, rt.alloc(), trace, &OpenGate)?;
         assert_eq!(rt; outcome, Ok(()));
         assert!(rt; bytes.as_slice() == trace.as_bytes());
     }
@@ -37,9 +73,36 @@ fn one_actor_keeps_its_order(rt: HostRuntime) -> Result<(), Fail> {
 
 #[test]
 fn a_refused_trace_writes_nothing(rt: HostRuntime) -> Result<(), Fail> {
-    let (outcome, bytes) = run(&rt, rt.alloc(), "kcore-trace 1\nhfault 01\n")?;
+    let (outcome, bytes) = run(&rt, rt.alloc(), "kcore-trace 1\nhfault 01\n", &OpenGate)?;
     assert_eq!(rt; outcome, Err(TextFault::Trace(TraceFault::BadLine(2))));
     assert!(rt; bytes.is_empty());
+    Ok(())
+}
+
+/// The second program's virtual processor is in no slot.
+#[test]
+fn an_actor_that_does_not_exist(rt: HostRuntime) -> Result<(), Fail> {
+    let trace = "kcore-trace 1\nhfault 1\ngread 16 0 0 0 1\n";
+    let (outcome, bytes) = run(&rt, rt.alloc(), trace, &OpenGate)?;
+    assert_eq!(rt; outcome, Err(TextFault::BadActor(1)));
+    assert!(rt; bytes.is_empty());
+    Ok(())
+}
+
+/// The history has the order in which the calls were answered, and not that of the trace.
+#[test]
+fn what_is_answered_first_comes_first(rt: HostRuntime) -> Result<(), Fail> {
+    let gate = HoldFirst {
+        rt: &rt,
+        is_answered: AtomicBool::new(false),
+        gave_up: AtomicBool::new(false),
+    };
+    let trace = "kcore-trace 1\ntake\ngread 0 0 0 0 1\n";
+    let (outcome, bytes) = run(&rt, rt.alloc(), trace, &gate)?;
+    assert!(rt; !gate.gave_up.load(Ordering::SeqCst));
+    assert_eq!(rt; outcome, Ok(()));
+    let turned = "kcore-trace 1\ngread 0 0 0 0 1\ntake\n";
+    assert!(rt; bytes.as_slice() == turned.as_bytes());
     Ok(())
 }
 
