@@ -60,6 +60,41 @@ fn a_rejected_vm_is_dead(rt: HostRuntime) {
     }
 }
 
+/// A VM whose four frames stand at guest frames 0, 7, 8 and 9.
+const FOUR_FRAMES: &str =
+    "kcore-trace 1\nhfault 1\nhwrite 1 0 616263\nregvm 0\nregvcpu 0 0\nsetboot 0 0 3\nremap 0 0 1\nverify 0\ngread 0 0 7 0 1\nmap 0 0 2\ngread 0 0 8 0 1\nmap 0 0 3\ngread 0 0 9 0 1\nmap 0 0 4\n";
+
+/// The same after some of them were given up.
+fn after_drops(alloc: Global, drops: &str) -> Option<KCore> {
+    let trace = format!(in alloc; "{FOUR_FRAMES}{drops}").ok()?;
+    after(alloc, trace.as_bytes())
+}
+
+/// Whether these are the VM's frames after some were given up, and root slot 0 still has its leaf.
+fn keeps(alloc: Global, drops: &str, numbers: &[u32]) -> bool {
+    match after_drops(alloc, drops) {
+        Some(core) => { has_frames(&core, numbers) && core.leaves(0) == Some([0].as_slice()) },
+        None => false,
+    }
+}
+
+/// A frame in the middle of the list, the first, the last and the only one leave it; the leaf stays taken.
+#[test]
+fn frames_leave_the_list(rt: HostRuntime) {
+    for (drops, numbers) in [
+        ("", [1, 2, 3, 4].as_slice()),
+        ("drop 0 0 8\ndrop 0 0 8\n", [1, 2, 4].as_slice()),
+        ("drop 0 0 8\ndrop 0 0 0\n", [2, 4].as_slice()),
+        ("drop 0 0 8\ndrop 0 0 0\ndrop 0 0 9\n", [2].as_slice()),
+        (
+            "drop 0 0 8\ndrop 0 0 0\ndrop 0 0 9\ndrop 0 0 7\n",
+            [].as_slice(),
+        ),
+    ] {
+        assert!(rt; keeps(rt.alloc(), drops, numbers), "at {drops}");
+    }
+}
+
 /// An image over two root slots needs two leaves: its second page is refused, and stays the host's.
 #[test]
 fn a_refused_page_stays_the_hosts(rt: HostRuntime) {
