@@ -1,6 +1,6 @@
 //! A call, by its kind.
-ghost use Rattle.std.specs.Prelude.{◌≡◌, IfOk, OnOk, OnErr, IsOk};
-ghost use Rattle.kc_model.specs.Memory.{TakesNoMemory};
+ghost use Rattle.std.specs.Prelude.{◌≡◌, ◌≤◌};
+ghost use Rattle.kc_types.specs.Room.{room_of};
 ghost use Rattle.kc_model.specs.Next.{next};
 ghost use Rattle.kc_parts.specs.States.{state_of, IsLinked};
 ghost use Rattle.kc_calls.specs.Applying.{looked_up, IsSameRoom, IsAble};
@@ -18,11 +18,10 @@ use crate::host::{
 use crate::slots::{register_vcpu, register_vm, set_boot};
 use crate::verify::{verify, verify_refusal};
 use kc_parts::Parts;
-use kc_types::{Call, Config, Memory, Refusal, Reply};
-use std::alloc::Global;
+use kc_types::{Call, Config, Refusal, Reply, Spare};
 
-/// Why a call is refused: the first condition of its row that holds. The calls that change a slot alone are
-/// refused by the slot.
+/// Why a call is refused, as far as that is looked up before the call is carried out: a call that changes a slot
+/// alone is refused by the slot.
 fn refusal(parts: &Parts, config: &Config, call: &Call) -> Option<Refusal>
     requires linked { IsLinked config.now parts.now }
     ensures { result ≡ looked_up (state_of config.now parts.now) call.now }
@@ -73,61 +72,55 @@ fn refusal(parts: &Parts, config: &Config, call: &Call) -> Option<Refusal>
 }
 
 /// Answers a call on parts that hold what it needs, and leaves all else as it was: with the first refusal that
-/// applies, and then nothing has changed, or with its effect. `Memory` where a growth was refused, and then
-/// nothing has changed either; only a call that answers data takes memory, after its refusals.
+/// applies, and then nothing has changed, or with its effect. The bytes of a reply lie in the room, and nothing
+/// takes memory.
 #[tactic(auto, unfolding(kc_model::specs::Next::next))]
-pub fn apply(
-    alloc: Global,
-    parts: &mut Parts,
-    config: &Config,
-    call: &Call,
-) -> Result<Reply, Memory>
+pub fn apply(parts: &mut Parts, config: &Config, call: &Call, room: Spare) -> Reply
     requires able { IsAble config.now parts.old call.now }
-    ensures reply { IfOk result (λ reply. reply ≡ (next (state_of config.now parts.old) call.now).0) }
-    ensures state { OnOk result (state_of config.now parts.new ≡ (next (state_of config.now parts.old) call.now).1) }
-    ensures err { OnErr result (parts.new ≡ parts.old) }
+    requires fits { room_of call.now ≤ room }
+    ensures reply { result ≡ (next (state_of config.now parts.old) call.now).0 }
+    ensures state { state_of config.now parts.new ≡ (next (state_of config.now parts.old) call.now).1 }
     ensures linked { IsLinked config.now parts.new }
     ensures room { IsSameRoom parts.old parts.new }
-    ensures steady { TakesNoMemory call.now → IsOk result }
 {
     if let Some(refusal) = refusal(parts, config, call) {
-        return Ok(Reply::Refused(refusal));
+        return Reply::Refused(refusal);
     }
     match call {
-        Call::Take => Ok(take(parts, config)),
-        Call::Give { frame } => Ok(give(parts, config, *frame)),
-        Call::HostFault { frame } => Ok(host_fault(parts, config, *frame)),
+        Call::Take => take(parts, config),
+        Call::Give { frame } => give(parts, config, *frame),
+        Call::HostFault { frame } => host_fault(parts, config, *frame),
         Call::HostRead { frame, offset, len } => {
-            host_read(alloc, parts, config, *frame, *offset, *len)
+            host_read(parts, config, *frame, *offset, *len, room)
         },
         Call::HostWrite {
             frame,
             offset,
             data,
-        } => Ok(host_write(parts, config, *frame, *offset, data)),
-        Call::RegisterVm { vm } => Ok(register_vm(parts, config, *vm)),
-        Call::RegisterVcpu { vm, vcpu } => Ok(register_vcpu(parts, config, *vm, *vcpu)),
-        Call::SetBoot { vm, base, len } => Ok(set_boot(parts, config, *vm, *base, *len)),
-        Call::Remap { vm, image, frame } => Ok(remap(parts, config, *vm, *image, *frame)),
-        Call::Verify { vm } => Ok(verify(parts, config, *vm)),
-        Call::Map { vm, vcpu, frame } => Ok(map(parts, config, *vm, *vcpu, *frame)),
+        } => host_write(parts, config, *frame, *offset, data),
+        Call::RegisterVm { vm } => register_vm(parts, config, *vm),
+        Call::RegisterVcpu { vm, vcpu } => register_vcpu(parts, config, *vm, *vcpu),
+        Call::SetBoot { vm, base, len } => set_boot(parts, config, *vm, *base, *len),
+        Call::Remap { vm, image, frame } => remap(parts, config, *vm, *image, *frame),
+        Call::Verify { vm } => verify(parts, config, *vm),
+        Call::Map { vm, vcpu, frame } => map(parts, config, *vm, *vcpu, *frame),
         Call::GuestRead {
             vm,
             vcpu,
             gfn,
             offset,
             len,
-        } => guest_read(alloc, parts, config, *vm, *vcpu, *gfn, *offset, *len),
+        } => guest_read(parts, config, *vm, *vcpu, *gfn, *offset, *len, room),
         Call::GuestWrite {
             vm,
             vcpu,
             gfn,
             offset,
             data,
-        } => Ok(guest_write(parts, config, *vm, *vcpu, *gfn, *offset, data)),
-        Call::Grant { vm, vcpu, gfn } => Ok(grant(parts, config, *vm, *vcpu, *gfn)),
-        Call::Revoke { vm, vcpu, gfn } => Ok(revoke(parts, config, *vm, *vcpu, *gfn)),
-        Call::Drop { vm, vcpu, gfn } => Ok(drop_page(parts, config, *vm, *vcpu, *gfn)),
-        Call::Clear { vm } => Ok(clear(parts, config, *vm)),
+        } => guest_write(parts, config, *vm, *vcpu, *gfn, *offset, data),
+        Call::Grant { vm, vcpu, gfn } => grant(parts, config, *vm, *vcpu, *gfn),
+        Call::Revoke { vm, vcpu, gfn } => revoke(parts, config, *vm, *vcpu, *gfn),
+        Call::Drop { vm, vcpu, gfn } => drop_page(parts, config, *vm, *vcpu, *gfn),
+        Call::Clear { vm } => clear(parts, config, *vm),
     }
 }

@@ -1,7 +1,8 @@
 //! The calls of a virtual processor: reading and writing its guest frames, granting and revoking access to them.
-ghost use Rattle.std.specs.Prelude.{◌≡◌, ◌<◌, ◌≤◌, ◌+◌, ◌-◌, ◌==◌, Some, None, is_some, true, false, if◌then◌else◌, [], ◌∷◌, length, IfOk, OnOk, OnErr};
+ghost use Rattle.std.specs.Prelude.{◌≡◌, ◌<◌, ◌≤◌, ◌+◌, ◌-◌, ◌==◌, Some, None, is_some, true, false, if◌then◌else◌, [], ◌∷◌, length};
 ghost use Rattle.kc_types.specs.Configuration.{slot_count};
 ghost use Rattle.kc_types.specs.Limits.{page_size};
+ghost use Rattle.kc_types.specs.Room.{readable};
 ghost use Rattle.kc_types.specs.declared.call.Call.TheVariants.{GuestRead, GuestWrite, Grant, Revoke};
 ghost use Rattle.kc_model.specs.State.{slot_at, vcpu_at};
 ghost use Rattle.kc_model.specs.Refusals.{refusal, first_of_these, no_vm, not_active, no_vcpu};
@@ -13,8 +14,7 @@ ghost use Rattle.kc_calls.specs.Applying.{AnswersMapped, IsAble, IsSameRoom};
 use crate::look_ups::{mapped_at, phase_at, record_at, vcpu_at};
 use kc_page::PageRecord;
 use kc_parts::Parts;
-use kc_types::{Config, Data, FrameNo, Gfn, Memory, Phase, Refusal, Reply, VcpuId};
-use std::alloc::Global;
+use kc_types::{Config, Data, FrameNo, Gfn, Phase, Refusal, Reply, Spare, VcpuId};
 
 /// Why a virtual processor can make no call: there is no VM in the slot, or it isn't active, or the virtual
 /// processor isn't registered.
@@ -89,10 +89,8 @@ pub fn spend_fault(parts: &mut Parts, config: &Config, vm: u32, vcpu: VcpuId)
     slot.spend_fault(vcpu);
 }
 
-/// Reads bytes of a guest frame that is mapped; where it is not, the virtual processor waits for it. `Memory`
-/// where a growth was refused, and then nothing has changed.
+/// Reads bytes of a guest frame that is mapped; where it is not, the virtual processor waits for it.
 pub fn guest_read(
-    alloc: Global,
     parts: &mut Parts,
     config: &Config,
     vm: u32,
@@ -100,13 +98,13 @@ pub fn guest_read(
     gfn: u32,
     offset: u32,
     len: u32,
-) -> Result<Reply, Memory>
+    room: Spare,
+) -> Reply
     requires served { refusal (state_of config.now parts.old) (GuestRead vm vcpu gfn offset len) ≡ None }
     requires able { IsAble config.now parts.old (GuestRead vm vcpu gfn offset len) }
-    // No clause can rule out want of memory: tests of VMs read bytes.
-    ensures reply { IfOk result (λ reply. reply ≡ (effect (state_of config.now parts.old) (GuestRead vm vcpu gfn offset len)).0) }
-    ensures state { OnOk result (state_of config.now parts.new ≡ (effect (state_of config.now parts.old) (GuestRead vm vcpu gfn offset len)).1) }
-    ensures err { OnErr result (parts.new ≡ parts.old) }
+    requires room { readable len ≤ room }
+    ensures reply { result ≡ (effect (state_of config.now parts.old) (GuestRead vm vcpu gfn offset len)).0 }
+    ensures state { state_of config.now parts.new ≡ (effect (state_of config.now parts.old) (GuestRead vm vcpu gfn offset len)).1 }
     ensures linked { IsLinked config.now parts.new }
     ensures room { IsSameRoom parts.old parts.new }
 {
@@ -115,13 +113,13 @@ pub fn guest_read(
     match mapped_at(parts, config, vm, gfn) {
         Some(frame) => {
             let page = parts.frame(frame).unwrap();
-            let bytes = page.bytes.read(alloc, offset as usize, len as usize)?;
+            let bytes = page.bytes.read(offset as usize, len as usize, room);
             spend_fault(parts, config, vm, vcpu);
-            Ok(Reply::Data(bytes))
+            Reply::Data(bytes)
         },
         None => {
             set_fault(parts, config, vm, vcpu, gfn);
-            Ok(Reply::Fault(gfn.number()))
+            Reply::Fault(gfn.number())
         },
     }
 }

@@ -1,5 +1,6 @@
 //! The host's calls on frames: taking and giving them, mapping, reading and writing.
-ghost use Rattle.std.specs.Prelude.{◌≡◌, ◌<◌, None, true, is_some, IfOk};
+ghost use Rattle.std.specs.Prelude.{◌≡◌, ◌<◌, ◌≤◌, None, true, is_some};
+ghost use Rattle.kc_types.specs.Room.{readable};
 ghost use Rattle.kc_types.specs.declared.call.Call.TheVariants.{Take, Give, HostFault, HostRead, HostWrite};
 ghost use Rattle.kc_model.specs.Refusals.{refusal};
 ghost use Rattle.kc_model.specs.Effects.{effect};
@@ -8,8 +9,7 @@ ghost use Rattle.kc_calls.specs.Applying.{IsSameRoom};
 
 use crate::look_ups::record_at;
 use kc_parts::Parts;
-use kc_types::{Config, Data, Memory, Owner, Refusal, Reply};
-use std::alloc::Global;
+use kc_types::{Config, Data, Owner, Refusal, Reply, Spare};
 
 pub fn take_refusal(parts: &Parts, config: &Config) -> Option<Refusal>
     requires { IsLinked config.now parts.now }
@@ -122,21 +122,20 @@ pub fn host_access_refusal(
 }
 
 pub fn host_read(
-    alloc: Global,
     parts: &Parts,
     config: &Config,
     frame: u32,
     offset: u32,
     len: u32,
-) -> Result<Reply, Memory>
-    requires { refusal (state_of config.now parts.now) (HostRead frame offset len) ≡ None }
-    // No clause can rule out want of memory: tests of traces read bytes.
-    ensures { IfOk result (λ reply. reply ≡ (effect (state_of config.now parts.now) (HostRead frame offset len)).0) }
+    room: Spare,
+) -> Reply
+    requires served { refusal (state_of config.now parts.now) (HostRead frame offset len) ≡ None }
+    requires room { readable len ≤ room }
+    ensures { result ≡ (effect (state_of config.now parts.now) (HostRead frame offset len)).0 }
 {
     let frame = config.frame(frame).unwrap();
     let page = parts.frame(frame).unwrap();
-    let bytes = page.bytes.read(alloc, offset as usize, len as usize)?;
-    Ok(Reply::Data(bytes))
+    Reply::Data(page.bytes.read(offset as usize, len as usize, room))
 }
 
 pub fn host_write(

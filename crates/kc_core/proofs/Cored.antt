@@ -84,7 +84,3 @@ core-kept config old new is lawful linked room = record {
     free = room.here resource.Free ∙ is.whole.free;
   };
 }
-
-pub err-then : {X E P Q : Type 0} (r : Result X E) → (P → Q) → OnErr r P → OnErr r Q
-err-then (Ok x) then_ e = tt
-err-then (Err x) then_ e = then_ e

@@ -1,6 +1,6 @@
 //! The core, seen as a state that is lawful after every call.
-ghost use Rattle.std.specs.Prelude.{◌≡◌, ℕ, ◌+◌, ◌<◌, List, length, take, map, All, IsSome, IfSome, ◌↔◌, IfOk, IfErr, OnOk, OnErr, IsOk};
-ghost use Rattle.kc_model.specs.Memory.{TakesNoMemory};
+ghost use Rattle.std.specs.Prelude.{◌≡◌, ℕ, ◌+◌, ◌<◌, ◌≤◌, List, length, take, map, All, IsSome, IfSome, ◌↔◌, IfOk, IfErr, OnOk, OnErr, IsOk};
+ghost use Rattle.kc_types.specs.Room.{room_of};
 ghost use Rattle.kc_model.specs.Boot.{boot};
 ghost use Rattle.kc_model.specs.Next.{next, replies_from, state_after};
 ghost use Rattle.kc_model.specs.Lawful.{IsLawful};
@@ -21,7 +21,7 @@ use crate::ranged::{read_all_numbers, read_numbers};
 use kc_calls::apply;
 use kc_page::{Page, PageBytes, PageRecord, scrub_each};
 use kc_parts::Parts;
-use kc_types::{Call, Config, FrameNo, Gfn, Memory, Owner, Phase, Reply, VcpuId};
+use kc_types::{Call, Config, FrameNo, Gfn, Memory, Owner, Phase, Reply, Spare, VcpuId};
 use kc_vms::Vm;
 use std::alloc::Global;
 use std::marker::Model;
@@ -96,17 +96,29 @@ impl KCore {
         (self.config, self.parts)
     }
 
-    /// Answers a call: with the first refusal that applies, and then nothing has changed, or with its effect.
-    /// `Memory` where a growth was refused, and then nothing has changed either.
+    /// Answers a call: with the first refusal that applies, and then nothing has changed, or with its effect. The
+    /// bytes of the reply lie in room made before by `Call::spare`, and nothing takes memory.
+    pub fn answer(&mut self, call: &Call, room: Spare) -> Reply
+        requires { room_of call.now ≤ room }
+        ensures reply { result ≡ (next self.old call.now).0 }
+        ensures state { self.new ≡ (next self.old call.now).1 }
+        ensures lawful { IsLawful self.new }
+    {
+        read_numbers(call);
+        apply(&mut self.parts, &self.config, call, room)
+    }
+
+    /// Makes room for the reply and answers a call. `Memory` where a growth was refused, which comes for reads
+    /// alone, and then nothing has changed.
     pub fn call(&mut self, call: &Call) -> Result<Reply, Memory>
         ensures reply { IfOk result (λ reply. reply ≡ (next self.old call.now).0) }
         ensures state { OnOk result (self.new ≡ (next self.old call.now).1) }
         ensures err { OnErr result (self.new ≡ self.old) }
         ensures lawful { IsLawful self.new }
-        ensures steady { TakesNoMemory call.now → IsOk result }
+        ensures steady { room_of call.now ≡ 0 → IsOk result }
     {
-        read_numbers(call);
-        apply(self.alloc, &mut self.parts, &self.config, call)
+        let room = call.spare(self.alloc)?;
+        Ok(self.answer(call, room))
     }
 
     /// Answers a trace, call by call, and gives the replies in order.

@@ -1,5 +1,5 @@
 -- Each call keeps a lawful state lawful.
-use Rattle.std.proofs.Common.{Result, Ok, Err, OnOk, OnErr, ◌≡◌, List, [], ◌∷◌, Option, None, Some, refl}
+use Rattle.std.proofs.Common.{◌≡◌, List, [], ◌∷◌, Option, None, Some, refl}
 use Rattle.std.specs.List.{AllByRecursion}
 use Rattle.kc_types.specs.declared.call.Call.{Call}
 use Rattle.kc_types.specs.declared.call.Call.TheVariants.{Take, Give, HostFault, HostRead, HostWrite, RegisterVm, RegisterVcpu, SetBoot, Remap, Verify, Map, GuestRead, GuestWrite, Grant, Revoke, Drop, Clear}
@@ -52,8 +52,3 @@ lawful-next m call ranged is = lawful-unless_refused (refusal m call) m call ran
 pub lawful-after : (m : State) (calls : List Call) → AllByRecursion IsRanged calls → IsLawful m → IsLawful (state_after m calls)
 lawful-after m [] ranged is = is
 lawful-after m (call ∷ calls) ranged is = lawful-after (next m call).1 calls ranged.1 (lawful-next m call ranged.0 is)
-
--- what a call leaves is lawful, whether it was answered or memory was refused
-pub lawful-called : {E : Type 0} (answer : Result Reply E) (m new : State) (call : Call) → IsRanged call → IsLawful m → OnOk answer (new ≡ (next m call).1) → OnErr answer (new ≡ m) → IsLawful new
-lawful-called (Ok reply) m new call ranged is ok err = rw ok (lawful-next m call ranged is)
-lawful-called (Err e) m new call ranged is ok err = rw err is

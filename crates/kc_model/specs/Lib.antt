@@ -6,7 +6,6 @@ pub mod Wiped
 pub mod Next
 pub mod Lawful
 pub mod Links
-pub mod Memory
 pub mod Safety
 pub mod Ranged
 pub mod Blind

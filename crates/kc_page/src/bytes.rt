@@ -4,7 +4,7 @@ ghost use Rattle.kc_types.specs.Limits.{page_size};
 ghost use Rattle.kc_model.specs.State.{zero_page, overwritten};
 ghost use Rattle.kc_page.specs.Bytes.{zeroed_from};
 
-use kc_types::{Data, Memory};
+use kc_types::{Data, Memory, Spare};
 use std::alloc::Global;
 use std::marker::Model;
 
@@ -42,15 +42,14 @@ impl PageBytes {
         self.bytes.as_slice()
     }
 
-    /// A copy of `len` bytes from `offset` on, or `Memory` where a growth was refused.
-    pub fn read(&self, alloc: Global, offset: usize, len: usize) -> Result<Data, Memory>
+    /// A copy of `len` bytes from `offset` on, in room made before, which takes no memory.
+    pub fn read(&self, offset: usize, len: usize, room: Spare) -> Data
         requires some { 0 < len }
         requires within { offset + len ≤ page_size }
-        // No clause can rule out want of memory: tests read bytes.
-        ensures { IfOk result (λ bytes. bytes ≡ slice_range self.now offset (offset + len)) }
+        requires room { len ≤ room }
+        ensures { result ≡ slice_range self.now offset (offset + len) }
     {
-        let bytes = self.bytes[offset..offset + len].to_vec(alloc)?;
-        Ok(Data::try_new(bytes).unwrap())
+        room.filled(&self.bytes[offset..offset + len])
     }
 
     /// Writes these bytes from `offset` on.

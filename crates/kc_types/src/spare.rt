@@ -1,5 +1,6 @@
 //! Room for a reply, made before its call.
-ghost use Rattle.std.specs.Prelude.{◌≡◌, ◌≤◌, length, IfOk};
+ghost use Rattle.std.specs.Prelude.{◌≡◌, ◌<◌, ◌≤◌, length, IfOk, IsOk};
+ghost use Rattle.kc_types.specs.Limits.{page_size};
 ghost use Rattle.kc_types.specs.Room.{bytes_in, readable, room_of};
 
 use crate::{Call, Data, Memory, Reply};
@@ -22,14 +23,35 @@ impl Model for Spare {
     ghost invariant = { λ s. s.room.items ≡ [] };
 }
 
-/// Room for this many bytes.
-fn with_room(alloc: Global, room: usize) -> Result<Spare, Memory>
-    // No clause can rule out want of memory, here and below: a test makes room.
-    ensures { IfOk result (λ spare. room ≤ spare) }
-{
-    Ok(Spare {
-        room: Vec::with_capacity(alloc, room)?,
-    })
+impl Spare {
+    /// Room for no bytes, which takes no memory.
+    fn none(alloc: Global) -> Spare {
+        Spare {
+            room: Vec::new(alloc),
+        }
+    }
+
+    /// Room for this many bytes.
+    fn with_room(alloc: Global, room: usize) -> Result<Spare, Memory>
+        // No clause can rule out want of memory: tests make room.
+        ensures { IfOk result (λ spare. room ≤ spare) }
+    {
+        Ok(Spare {
+            room: Vec::with_capacity(alloc, room)?,
+        })
+    }
+
+    /// These 1 to 4,096 bytes in the room, which takes no memory.
+    pub fn filled(self, bytes: &[u8]) -> Data
+        requires some { 0 < length bytes.now }
+        requires page { length bytes.now ≤ page_size }
+        requires room { length bytes.now ≤ self }
+        ensures { result ≡ bytes.now }
+    {
+        let Spare { mut room } = self;
+        room.extend_from_slice(bytes).unwrap();
+        Data::try_new(room).unwrap()
+    }
 }
 
 /// The bytes that a read of this length may answer.
@@ -39,26 +61,23 @@ fn readable(len: u32) -> usize
     if len <= 4_096 { len as usize } else { 0 }
 }
 
-/// A copy of the bytes, which takes no memory.
-fn filled(spare: Spare, bytes: &Data) -> Data
-    requires { length bytes.now ≤ spare }
-    ensures { result ≡ bytes.now }
-{
-    let Spare { mut room } = spare;
-    room.extend_from_slice(bytes.as_slice()).unwrap();
-    Data::try_new(room).unwrap()
-}
-
 impl Call {
-    /// Room for a copy of the call's reply, made before the call is; `Memory` where a growth was refused.
+    /// Room for the bytes of the call's reply, made before the call is; `Memory` where a growth was refused, which
+    /// comes for reads alone.
     pub fn spare(&self, alloc: Global) -> Result<Spare, Memory>
-        ensures { IfOk result (λ spare. room_of self.now ≤ spare) }
+        ensures room { IfOk result (λ spare. room_of self.now ≤ spare) }
+        ensures none { room_of self.now ≡ 0 → IsOk result }
     {
         match self {
             Call::HostRead { len, .. } | Call::GuestRead { len, .. } => {
-                with_room(alloc, readable(*len))
+                let room = readable(*len);
+                if room == 0 {
+                    Ok(Spare::none(alloc))
+                } else {
+                    Spare::with_room(alloc, room)
+                }
             },
-            _ => with_room(alloc, 0),
+            _ => Ok(Spare::none(alloc)),
         }
     }
 }
@@ -73,7 +92,7 @@ impl Reply {
             Reply::Done => Reply::Done,
             Reply::Frame(frame) => Reply::Frame(*frame),
             Reply::Image(image) => Reply::Image(*image),
-            Reply::Data(data) => Reply::Data(filled(spare, data)),
+            Reply::Data(data) => Reply::Data(spare.filled(data.as_slice())),
             Reply::Fault(gfn) => Reply::Fault(*gfn),
             Reply::Rejected(image) => Reply::Rejected(*image),
             Reply::Refused(refusal) => Reply::Refused(*refusal),

@@ -27,10 +27,10 @@ set_fault-requires-clause-here c =
     slot-needed c.args.config.now c.args.parts.now (GuestRead c.args.vm c.args.vcpu c.args.gfn c.args.offset c.args.len) c.requires.able c.args.vm refl
     (slot-named (state_of c.args.config.now c.args.parts.now) c.args.vm c.args.vcpu c.args.gfn c.args.offset c.args.len c.requires.served)
 
-pub returns-in_ok-bytes-in-Some-clause-reply : goal.returns-in_ok-bytes-in-Some-clause-reply
-returns-in_ok-bytes-in-Some-clause-reply c =
+pub returns-in-Some-clause-reply : goal.returns-in-Some-clause-reply
+returns-in-Some-clause-reply c =
     let is : c.unwrap-gfn.result ≡ c.args.gfn = rw c.unwrap-gfn.ensures at c.try_new-2.ensures.value in
     let m = state_of c.args.config.now c.args.parts.now in
     let mapped : mapped_at m c.args.vm c.args.gfn ≡ Some c.in-Some.frame = rw (← is) (sym c.in-Some.ensures) in
     let at : page_at c.args.parts.now c.in-Some.frame ≡ Some c.unwrap-page.result.now = sym (rw c.unwrap-page.ensures at c.frame.ensures) in
-    ap reply.Data c.in_ok-bytes-in-Some.ensures ∙ read-mapped c.args.config.now c.args.parts.now c.args.vm c.args.vcpu c.args.gfn c.args.offset c.args.len c.in-Some.frame c.unwrap-page.result.now c.requires.able.linked mapped at
+    ap reply.Data c.read-bytes.ensures ∙ read-mapped c.args.config.now c.args.parts.now c.args.vm c.args.vcpu c.args.gfn c.args.offset c.args.len c.in-Some.frame c.unwrap-page.result.now c.requires.able.linked mapped at

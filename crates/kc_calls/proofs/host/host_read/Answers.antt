@@ -12,11 +12,11 @@ pub unwrap-page-requires : goal.unwrap-page-requires
 unwrap-page-requires c =
     let is : c.unwrap-frame.result ≡ c.args.frame = rw c.unwrap-frame.ensures at c.frame.ensures.value in
     let m = state_of c.args.config.now c.args.parts.now in
-    some-shown c.frame-2.result _ c.frame-2.ensures (rw is (there c.args.config.now c.args.parts.now c.args.frame (host_access-served m c.args.frame c.args.offset c.args.len c.requires).frame (access-touched m c.args.frame c.args.offset c.args.len c.requires)))
+    some-shown c.frame-2.result _ c.frame-2.ensures (rw is (there c.args.config.now c.args.parts.now c.args.frame (host_access-served m c.args.frame c.args.offset c.args.len c.requires.served).frame (access-touched m c.args.frame c.args.offset c.args.len c.requires.served)))
 
 pub returns : goal.returns
 returns c =
     let is : c.unwrap-frame.result ≡ c.args.frame = rw c.unwrap-frame.ensures at c.frame.ensures.value in
     let at : page_at c.args.parts.now c.args.frame ≡ Some c.unwrap-page.result.now = rw is at (sym (rw c.unwrap-page.ensures at c.frame-2.ensures)) in
     let m = state_of c.args.config.now c.args.parts.now in
-    ap reply.Data (c.in_ok-bytes.ensures ∙ ap (λ (frame : Frame). slice_range frame.bytes c.args.offset (c.args.offset + c.args.len)) (sym (frame-is c.args.config.now c.args.parts.now c.args.frame c.unwrap-page.result.now (host_access-served m c.args.frame c.args.offset c.args.len c.requires).frame at)))
+    ap reply.Data (c.read.ensures ∙ ap (λ (frame : Frame). slice_range frame.bytes c.args.offset (c.args.offset + c.args.len)) (sym (frame-is c.args.config.now c.args.parts.now c.args.frame c.unwrap-page.result.now (host_access-served m c.args.frame c.args.offset c.args.len c.requires.served).frame at)))
