@@ -3,6 +3,7 @@ pub mod Seats
 pub mod Lending
 pub mod Settling
 pub mod Programs
+pub mod Ready
 pub mod Plans
 pub mod Stops
 pub mod Cuts

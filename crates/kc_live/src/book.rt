@@ -1,11 +1,12 @@
 //! The core beside the history of its calls.
-ghost use Rattle.std.specs.Prelude.{◌≡◌, ◌≢◌, ◌≤◌, ◌↔◌, length, Err, IfOk, OnErr};
+ghost use Rattle.std.specs.Prelude.{◌≡◌, ◌≤◌, ◌↔◌, length, IsErr, IfOk, IfErr, OnErr};
 ghost use Rattle.kc_types.specs.Limits.{call_limit};
 
 use crate::fault::LiveFault;
+use crate::ready::Ready;
 use crate::receipt::{Entry, Receipt};
 use kc_core::KCore;
-use kc_types::{Call, Config, Memory};
+use kc_types::{Config, Memory};
 use std::alloc::Global;
 use std::marker::Model;
 
@@ -17,63 +18,56 @@ pub const MOST_CALLS: usize = 65_536;
 /// stands at the history's end.
 #[derive(Drop)]
 pub struct Book {
-    alloc: Global,
     config: Config,
     core: KCore,
     entries: Vec<Entry>,
 }
 
 impl Model for Book {
+    ghost use Rattle.std.specs.Prelude.{◌≤◌, vec_capacity};
+    ghost use Rattle.kc_types.specs.Limits.{call_limit};
     ghost use Rattle.kc_live.specs.Logs.{Log, IsKept};
 
     ghost Value = { Log };
 
     ghost view = { λ b. record { config = b.config; entries = b.entries.items } };
 
-    ghost invariant = { λ b. IsKept b.config b.entries.items b.core };
+    ghost invariant = { λ b. IsKept b.config b.entries.items b.core × (call_limit ≤ vec_capacity b.entries) };
 }
 
 impl Book {
     ghost use Rattle.kc_live.specs.Logs.{longer, receipt_of, new_log};
 
-    /// The core in the boot state of its configuration, and no calls; `Memory` where a growth was refused.
+    /// The core in the boot state of its configuration, no calls, and room for as many as there can be; `Memory`
+    /// where a growth was refused.
     pub fn new(alloc: Global, config: Config) -> Result<Book, Memory>
-        // No clause can rule out want of memory, here and below: tests make books and calls.
+        // No clause can rule out want of memory: tests make books.
         ensures { IfOk result (λ book. book ≡ new_log config) }
     {
         let kept = config.copy()?;
         Ok(Book {
-            alloc,
             config: kept,
             core: KCore::boot(alloc, config)?,
-            entries: Vec::new(alloc),
+            entries: Vec::with_capacity(alloc, MOST_CALLS)?,
         })
     }
 
-    /// Makes one call, which the history then has with its reply. `HistoryFull` comes exactly where the history
-    /// has 65,536 calls, else `Memory` where a growth was refused; all growth comes before any change.
-    pub fn step(&mut self, call: Call) -> Result<Receipt, LiveFault>
-        ensures receipt { IfOk result (λ r. r ≡ receipt_of self.old call) }
+    /// Makes one call, which the history then has with its reply. Nothing here takes memory. The one fault is
+    /// `HistoryFull`, which comes exactly where the history has 65,536 calls.
+    pub fn step(&mut self, ready: Ready) -> Result<Receipt, LiveFault>
+        ensures receipt { IfOk result (λ r. r ≡ receipt_of self.old ready) }
         ensures entry { IfOk result (λ r. self.new ≡ longer self.old r.call r.reply) }
-        ensures full { (result ≡ Err LiveFault.HistoryFull) ↔ (length self.old.entries ≡ call_limit) }
-        ensures faults { result ≢ Err LiveFault.NotYours }
+        ensures full { IsErr result ↔ (length self.old.entries ≡ call_limit) }
+        ensures fault { IfErr result (λ fault. fault ≡ LiveFault.HistoryFull) }
         ensures err { OnErr result (self.new ≡ self.old) }
     {
         if self.entries.len() >= MOST_CALLS {
             return Err(LiveFault::HistoryFull);
         }
-        let kept = call.copy()?;
-        let spare = call.spare(self.alloc)?;
-        self.entries.reserve(1)?;
-        let reply = self.core.call(&call)?;
-        let told = reply.copy_into(spare);
         let number = self.entries.len() as u32;
-        self.entries.push_reserved(Entry { call: kept, reply });
-        Ok(Receipt {
-            number,
-            call,
-            reply: told,
-        })
+        let (entry, receipt) = ready.make(&mut self.core, number);
+        self.entries.push_reserved(entry);
+        Ok(receipt)
     }
 
     /// Ends the history.
@@ -81,7 +75,6 @@ impl Book {
         ensures { result ≡ self }
     {
         let Book {
-            alloc: _,
             config,
             core,
             entries,

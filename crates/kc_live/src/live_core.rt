@@ -14,6 +14,7 @@ use std::sync::{Mutex, Wait};
 /// that a single thread could have made, and the core stands at its end.
 #[derive(Drop)]
 pub struct LiveCore {
+    alloc: Global,
     book: Mutex<Book>,
 }
 
@@ -22,25 +23,27 @@ impl LiveCore {
     // No clause can name what is under the lock: tests call, close and settle.
     pub fn new(alloc: Global, config: Config) -> Result<LiveCore, Memory> {
         Ok(LiveCore {
+            alloc,
             book: Mutex::new(Book::new(alloc, config)?),
         })
     }
 
-    /// Makes one call from a seat, which gains its receipt; it may wait for the lock. The first fault that applies
-    /// is answered: `NotYours`, `Memory` for the seat, `HistoryFull`, `Memory` for the history. Seat and history
-    /// are then unchanged.
+    /// Makes one call from a seat, which gains its receipt; it may wait for the lock, before which all is made that
+    /// the call takes of memory. The first fault that applies is answered: `NotYours`, `Memory`, `HistoryFull`.
+    /// Seat and history are then unchanged.
     pub fn call<R: Wait>(&self, rt: &R, seat: &mut Seat, call: Call) -> Result<(), LiveFault>
         ensures gains { OnOk result (GainsReceipt seat.old seat.new call) }
         ensures yours { (result ≡ Err LiveFault.NotYours) ↔ (actor_made call ≢ seat.old.actor) }
         ensures err { OnErr result (seat.new ≡ seat.old) }
     {
-        seat.record(&mut self.book.lock(rt), call)
+        let ready = seat.ready(self.alloc, call)?;
+        seat.record(&mut self.book.lock(rt), ready)
     }
 
     /// Ends the history and hands it out. It waits for nobody.
     // A fresh history is as good to any clause: tests settle what is handed out.
     pub fn close(self) -> History {
-        let LiveCore { book } = self;
+        let LiveCore { alloc: _, book } = self;
         book.into_inner().close()
     }
 }

@@ -1,11 +1,12 @@
 //! The seats from which actors call.
-ghost use Rattle.std.specs.Prelude.{◌≡◌, ◌≢◌, ◌↔◌, ◌<◌, ◌-◌, length, slice_get, Err, OnOk, OnErr};
+ghost use Rattle.std.specs.Prelude.{◌≡◌, ◌≢◌, ◌↔◌, ◌<◌, ◌-◌, length, slice_get, Err, IfOk, OnOk, OnErr};
 ghost use Rattle.kc_types.specs.Limits.{call_limit};
 ghost use Rattle.kc_types.specs.Actors.{actor as actor_made};
 
 use crate::book::Book;
 use crate::fault::LiveFault;
 use crate::live_core::LiveCore;
+use crate::ready::Ready;
 use crate::receipt::Receipt;
 use kc_types::{Actor, Call, actor_of};
 use std::alloc::Global;
@@ -64,20 +65,35 @@ impl Seat {
         receipts
     }
 
-    /// Makes one call of a book, and keeps its receipt. The faults come in this order: `NotYours`, `Memory` for the
-    /// seat, `HistoryFull`, `Memory` for the book.
-    pub fn record(&mut self, book: &mut Book, call: Call) -> Result<(), LiveFault>
-        ensures seat { OnOk result (self.new ≡ gaining self.old (receipt_of book.old call)) }
-        ensures book { OnOk result (book.new ≡ longer book.old call (reply_to book.old call)) }
+    /// Makes a call of this seat's actor ready, with room for its receipt: then `record` takes no memory for it.
+    /// `NotYours` where the call is another's, else `Memory` where a growth was refused.
+    pub fn ready(&mut self, alloc: Global, call: Call) -> Result<Ready, LiveFault>
+        ensures ready { IfOk result (λ ready. ready ≡ call) }
         ensures yours { (result ≡ Err LiveFault.NotYours) ↔ (actor_made call ≢ self.old.actor) }
-        ensures full { result ≡ Err LiveFault.HistoryFull → length book.old.entries ≡ call_limit }
-        ensures err { OnErr result ((self.new ≡ self.old) × (book.new ≡ book.old)) }
+        ensures faults { result ≢ Err LiveFault.HistoryFull }
+        ensures same { self.new ≡ self.old }
     {
         if actor_of(&call) != self.actor {
             return Err(LiveFault::NotYours);
         }
         self.receipts.reserve(1)?;
-        let receipt = book.step(call)?;
+        Ok(Ready::new(alloc, call)?)
+    }
+
+    /// Makes one call of a book, and keeps its receipt. The faults come in this order: `NotYours`, `Memory` for the
+    /// receipt, `HistoryFull`.
+    pub fn record(&mut self, book: &mut Book, ready: Ready) -> Result<(), LiveFault>
+        ensures seat { OnOk result (self.new ≡ gaining self.old (receipt_of book.old ready)) }
+        ensures book { OnOk result (book.new ≡ longer book.old ready (reply_to book.old ready)) }
+        ensures yours { (result ≡ Err LiveFault.NotYours) ↔ (actor_made ready ≢ self.old.actor) }
+        ensures full { result ≡ Err LiveFault.HistoryFull → length book.old.entries ≡ call_limit }
+        ensures err { OnErr result ((self.new ≡ self.old) × (book.new ≡ book.old)) }
+    {
+        if actor_of(ready.call()) != self.actor {
+            return Err(LiveFault::NotYours);
+        }
+        self.receipts.reserve(1)?;
+        let receipt = book.step(ready)?;
         self.receipts.push_reserved(receipt);
         Ok(())
     }
