@@ -1,5 +1,5 @@
 //! Receipts against a history, forged ones too.
-use kc_live::{Book, History, Receipt, settle};
+use kc_live::{Book, History, Ready, Receipt, settle};
 use kc_types::{Call, Config, Data, Reply};
 use std::alloc::{AllocError, Global};
 use std::test::Fail;
@@ -23,12 +23,9 @@ fn book(alloc: Global) -> Result<Book, Fail> {
 /// The history of a mapping and a reading of frame 1.
 fn history(alloc: Global) -> Result<History, Fail> {
     let mut book = book(alloc)?;
-    let reading = Call::HostRead {
-        frame: 1,
-        offset: 0,
-        len: 1,
-    };
-    if book.step(Call::HostFault { frame: 1 }).is_err() || book.step(reading).is_err() {
+    let mapping = Ready::new(alloc, Call::HostFault { frame: 1 })?;
+    let reading = Ready::new(alloc, read(1))?;
+    if book.step(mapping).is_err() || book.step(reading).is_err() {
         return Err(Fail::from("no step"));
     }
     Ok(book.close())
