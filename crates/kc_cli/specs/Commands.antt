@@ -4,7 +4,7 @@ use Rattle.clap.specs.Words.{App, Rule, new_app, new_rule, with_rule, with_subco
 use Rattle.clap.specs.Simple.{on_top}
 
 abbrev pub config_rule : Rule
-config_rule = record (new_rule (codes "config")) { long = Some (codes "config") }
+config_rule = record (new_rule (codes "config")) { long = Some (codes "config"); value_names = 1 }
 
 abbrev pub replay : App
 replay = with_rule (new_app (codes "replay")) config_rule

@@ -41,17 +41,29 @@ fn config_arg<'a>(alloc: Global) -> Arg<'a>
     ensures rule { rule_of result ≡ config_rule }
     ensures local { result.global ≡ false }
 {
-    Arg::new(alloc, "config").long("config")
+    Arg::new(alloc, "config")
+        .long("config")
+        .value_name("PATH")
+        .help("A JSON text: frames, core, host, leaves and approved")
 }
 
 /// The whole command.
 fn command<'a>(alloc: Global) -> Result<Command<'a>, AllocError>
     ensures app { IfOk result (λ c. app_of c ≡ kcore) }
 {
-    let replay = Command::new(alloc, "replay").arg(config_arg(alloc))?;
-    let live = Command::new(alloc, "live").arg(config_arg(alloc))?;
+    let replay = Command::new(alloc, "replay")
+        .about(
+            "Replay the trace on standard input and write the replies (what no words at all ask for)",
+        )
+        .arg(config_arg(alloc))?;
+    let live = Command::new(alloc, "live")
+        .about(
+            "Run the trace's actors in a thread each, and write their calls as they were answered",
+        )
+        .arg(config_arg(alloc))?;
     let base = Command::new(alloc, "kcore")
         .no_binary_name(true)
+        .about("Replay calls on the trusted core of a hypervisor")
         .subcommand(replay)?;
     base.subcommand(live)
 }
