@@ -7,6 +7,7 @@ use Rattle.std.proofs.lemmas.Bool.{cases_eq, ne_eqb, lt-ltb}
 use Rattle.std.proofs.lemmas.List.{map-id, append-nil, get_or_past}
 use Rattle.std.proofs.lemmas.List.Elements.{filter-append}
 use Rattle.std.proofs.lemmas.List.FromFn.{map-range_with_len_more, length-map-range_with_len}
+use Rattle.std.proofs.lemmas.Option.{same_Some}
 use Rattle.kc_types.specs.Limits.{frame_limit}
 use Rattle.kc_types.specs.Configuration.{Configuration, slot_count}
 use Rattle.kc_types.specs.declared.link.Ends.{Ends}
@@ -27,13 +28,6 @@ use Rattle.kc_parts.specs.Held.{Held, page_at, vm_at, link_of, links_of}
 use Rattle.kc_parts.specs.States.{frame_in, slot_in, list_in, state_of}
 use Rattle.kc_parts.proofs.Seen.{frame-seen, slot-seen}
 use Rattle.kc_core.specs.Cores.{IsCore, shown, ShowsRecord}
-
-some-same : {X : Type 0} (a b : X) → Some a ≡ Some b → a ≡ b
-some-same {X = X} a b e = ap inner e
-  where
-    inner : Option X → X
-    inner (Some x) = x
-    inner None = a
 
 -- a frame's link in a list is its link in the store
 link_in-linked : (links : Links) (before : Option ℕ) (fs : List ℕ) (f : ℕ) → IsLinkedFrom links before fs None → 0 < times_in fs f → links f ≡ Some (link_after before fs f)
@@ -63,7 +57,7 @@ module _ (config : Configuration) (h : Held) (is : IsCore config h) where
 
   -- the link of a frame that its owner's list holds
   link-listed : (f : ℕ) (page : Page) (ends : Ends) → f < config.frames → page_at h f ≡ Some page → IsList (links_of h) ends → 0 < times_in (listed (links_of h) ends) f → link_in (listed (links_of h) ends) f ≡ link_of page
-  link-listed f page ends low at list some = sym (some-same (link_of page) (link_in (listed (links_of h) ends) f) (sym (link-here f page low at) ∙ link_in-linked (links_of h) None (listed (links_of h) ends) f list.linked some))
+  link-listed f page ends low at list some = sym (same_Some (link_of page) (link_in (listed (links_of h) ends) f) (sym (link-here f page low at) ∙ link_in-linked (links_of h) None (listed (links_of h) ends) f list.linked some))
 
   shown-link : PageRecord → Link
   shown-link meta = record { prev = (shown meta).prev; next = (shown meta).next }
@@ -104,7 +98,7 @@ module _ (config : Configuration) (h : Held) (is : IsCore config h) where
       by_page : (there : Option Page) → page_at h f ≡ there → Some meta ≡ option_map (λ (page : Page). shown page.meta) there → IsRecordOf (state_of config h) f meta
       by_page None e s = cc
       by_page (Some page) e s =
-          let is_shown : meta ≡ shown page.meta = some-same meta (shown page.meta) s in
+          let is_shown : meta ≡ shown page.meta = same_Some meta (shown page.meta) s in
           let frame = frame-shown f page low e in
           let link : link_at (state_of config h) f ≡ shown-link page.meta = ap (λ (x : Frame). link_in (list_of (state_of config h) x.owner) f) frame ∙ link-shown f page low e page.meta.owner refl in
           rw is_shown (record {

@@ -1,12 +1,10 @@
 -- Links and ends leave no choice of the list.
 use Rattle.std.proofs.Common.{ℕ, ◌≡◌, ◌<◌, ◌≤◌, ◌+◌, Bool, true, false, cond, Option, Some, None, nat_eq, List, [], ◌∷◌, refl, sym, ap, subst, ◌∙◌, arith}
+use Rattle.std.proofs.lemmas.Option.{same_Some}
 use Rattle.kc_model.specs.Lawful.{times_in}
 use Rattle.kc_model.specs.Resources.{is_in}
 use Rattle.kc_model.specs.Links.{Link, link_after, link_in, first_of}
 use Rattle.kc_model.proofs.Members.{is_in-first, is_in-later, same_number, times_in-held}
-
-some-same : (x y : ℕ) → Some x ≡ Some y → x ≡ y
-some-same x y e = cc
 
 -- each number stands once at most
 abbrev pub IsOnce : List ℕ → Type 0
@@ -32,7 +30,7 @@ spelled-after before [] [] once first links = refl
 spelled-after before [] (y ∷ ys) once first links = cc
 spelled-after before (x ∷ xs) [] once first links = cc
 spelled-after before (x ∷ xs) (y ∷ ys) once first links =
-    let same : x ≡ y = some-same x y first in
+    let same : x ≡ y = same_Some x y first in
     let next : first_of xs ≡ first_of ys =
     sym (ap (λ b. (cond b (record { prev = before; next = first_of xs }) (link_after (Some x) xs x)).next) (same_number x))
     ∙ ap (λ (l : Link). l.next) (links x (is_in-first x xs))

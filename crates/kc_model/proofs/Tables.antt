@@ -5,6 +5,7 @@ use Rattle.std.proofs.lemmas.Grind.{common_steps}
 use Rattle.std.specs.Ordering.{nat_cmp, eq_by_cmp}
 use Rattle.std.specs.Cmp.{nat_cmp_total}
 use Rattle.std.specs.FinMap as map
+use Rattle.std.proofs.lemmas.Option.{same_Some}
 use Rattle.kc_types.specs.declared.owner.Owner.{Owner}
 use Rattle.kc_types.specs.declared.owner.Owner.TheVariants.{Vm}
 use Rattle.kc_model.specs.State.{State, Frame, frame_at, slot_at, mapped_at, with_frame}
@@ -12,9 +13,6 @@ use Rattle.kc_model.specs.Effects.{without}
 use Rattle.kc_model.specs.Lawful.{IsLawful, ListsOnce, same_owner, times_in}
 use Rattle.kc_model.proofs.Lists.{changed-same, changed-other}
 use Rattle.kc_types.specs.Configuration.{slot_count}
-
-pub some-same : (v w : ℕ) → Some v ≡ Some w → v ≡ w
-some-same v w e = cc
 
 same_key : (g : ℕ) → eq_by_cmp nat_cmp g g ≡ true
 same_key g = grind (arith, common_steps)
@@ -56,10 +54,10 @@ pub table-gained : (m : State) (f : ℕ) (frame : Frame) (v g : ℕ) → IsLawfu
 table-gained m f frame v g is v_in lt was unmapped owner gfn h k = elim (cases_eq k f) [
   | inl same ↦ rw (same, changed-same m f frame lt) (elim (cases_eq h g) [
     | inl at ↦ rw (at, got-here (slot_at m v).mapped g f) (λ e. (owner, gfn), λ e. refl)
-    | inr apart ↦ rw (got-elsewhere (slot_at m v).mapped g f h apart) (λ e. absurd (was ((is.mapped v h f v_in).0 e).0), λ e. absurd (apart (some-same h g (sym e.1 ∙ gfn))))
+    | inr apart ↦ rw (got-elsewhere (slot_at m v).mapped g f h apart) (λ e. absurd (was ((is.mapped v h f v_in).0 e).0), λ e. absurd (apart (same_Some h g (sym e.1 ∙ gfn))))
   ])
   | inr other ↦ rw (changed-other m f frame k other) (elim (cases_eq h g) [
-    | inl at ↦ rw (at, got-here (slot_at m v).mapped g f) (λ e. absurd (other (sym (some-same f k e))), λ e. let mapped = (is.mapped v g k v_in).1 e in absurd cc)
+    | inl at ↦ rw (at, got-here (slot_at m v).mapped g f) (λ e. absurd (other (sym (same_Some f k e))), λ e. let mapped = (is.mapped v g k v_in).1 e in absurd cc)
     | inr apart ↦ rw (got-elsewhere (slot_at m v).mapped g f h apart) (is.mapped v h k v_in)
   ])
 ]
@@ -71,12 +69,12 @@ table-lost m f frame v g is v_in lt mapped gone h k = elim (cases_eq k f) [
   | inl same ↦ rw (same, changed-same m f frame lt) (elim (cases_eq h g) [
     | inl at ↦ rw (at, gone-here (slot_at m v).mapped g) (λ e. absurd cc, λ e. absurd (gone e.0))
     | inr apart ↦ rw (gone-elsewhere (slot_at m v).mapped g h apart) (
-      λ e. absurd (apart (some-same h g (sym ((is.mapped v h f v_in).0 e).1 ∙ ((is.mapped v g f v_in).0 mapped).1))),
+      λ e. absurd (apart (same_Some h g (sym ((is.mapped v h f v_in).0 e).1 ∙ ((is.mapped v g f v_in).0 mapped).1))),
       λ e. absurd (gone e.0),
     )
   ])
   | inr other ↦ rw (changed-other m f frame k other) (elim (cases_eq h g) [
-    | inl at ↦ rw (at, gone-here (slot_at m v).mapped g) (λ e. absurd cc, λ e. absurd (other (some-same k f (sym ((is.mapped v g k v_in).1 e) ∙ mapped))))
+    | inl at ↦ rw (at, gone-here (slot_at m v).mapped g) (λ e. absurd cc, λ e. absurd (other (same_Some k f (sym ((is.mapped v g k v_in).1 e) ∙ mapped))))
     | inr apart ↦ rw (gone-elsewhere (slot_at m v).mapped g h apart) (is.mapped v h k v_in)
   ])
 ]

@@ -6,7 +6,7 @@ use Rattle.std.proofs.lemmas.Bool.{cases_lt, lt-ltb, ltb-true, ne_eqb}
 use Rattle.std.proofs.lemmas.Grind.{common_steps}
 use Rattle.std.proofs.lemmas.List.{get_or_past}
 use Rattle.std.proofs.lemmas.List.FromFn.{length-map-range_with_len, get_or-map-range_with_len, get_or-range_with_len}
-use Rattle.std.proofs.lemmas.Option.{slice_get-get_or}
+use Rattle.std.proofs.lemmas.Option.{slice_get-get_or, same_Some}
 use Rattle.kc_types.specs.Limits.{frame_limit}
 use Rattle.kc_types.specs.Configuration.{Configuration, IsConfiguration, slot_count}
 use Rattle.kc_types.specs.declared.link.Ends.{Ends}
@@ -91,13 +91,6 @@ get_or-one zero v x = inr refl
 get_or-one (suc n) zero x = inl refl
 get_or-one (suc n) (suc v) x = get_or-one n v x
 
-some-same : {X : Type 0} (a b : X) → Some a ≡ Some b → a ≡ b
-some-same {X = X} a b e = ap inner e
-  where
-    inner : Option X → X
-    inner (Some x) = x
-    inner None = a
-
 module _ (config : Configuration) (is : IsConfiguration config) where
   abbrev pub booted : Held
   booted = record {
@@ -171,20 +164,20 @@ module _ (config : Configuration) (is : IsConfiguration config) where
 
   vm-boot : (v : ℕ) (vm : VmSlot) → vm_at booted v ≡ Some vm → vm ≡ empty_vm config.leaves
   vm-boot v vm at = elim (get_or-one (slot_count config) v (empty_vm config.leaves)) [
-    | inl there ↦ some-same vm (empty_vm config.leaves) (sym at ∙ there)
+    | inl there ↦ same_Some vm (empty_vm config.leaves) (sym at ∙ there)
     | inr none ↦ let no : Some vm ≡ None = sym at ∙ none in cc
   ]
 
   list-boot : (owner : Owner) (ends : Ends) → ends_at booted owner ≡ Some ends → ((owner ≡ Free) × (ends ≡ boot_ends config)) ⊎ ((listed (links_of booted) ends ≡ []) × IsList (links_of booted) ends)
   list-boot Core ends at = cc
   list-boot Host ends at = cc
-  list-boot Free ends at = inl (refl, sym (some-same (boot_ends config) ends at))
+  list-boot Free ends at = inl (refl, sym (same_Some (boot_ends config) ends at))
   list-boot (Vm v) ends at = inr (by_vm (vm_at booted v) refl at)
     where
       by_vm : (there : Option VmSlot) → vm_at booted v ≡ there → option_map (λ (vm : VmSlot). vm.slot.ends) there ≡ Some ends → (listed (links_of booted) ends ≡ []) × IsList (links_of booted) ends
       by_vm None e is = cc
       by_vm (Some vm) e is =
-          let same : ends ≡ (empty_vm config.leaves).slot.ends = sym (some-same vm.slot.ends ends is) ∙ ap (λ (vm : VmSlot). vm.slot.ends) (vm-boot v vm e) in
+          let same : ends ≡ (empty_vm config.leaves).slot.ends = sym (same_Some vm.slot.ends ends is) ∙ ap (λ (vm : VmSlot). vm.slot.ends) (vm-boot v vm e) in
           rw same (chain-listed (links_of booted) (empty_vm config.leaves).slot.ends [] chain-empty, chain-is_list (links_of booted) (empty_vm config.leaves).slot.ends [] chain-empty)
 
   free-boot : listed (links_of booted) (boot_ends config) ≡ range_with_len (first_free config) (config.frames - first_free config)

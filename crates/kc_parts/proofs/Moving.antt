@@ -1,6 +1,7 @@
 -- Lists of several owners over one store of links, where one of them changes.
 use Rattle.std.proofs.Common.{ℕ, zero, suc, ◌≡◌, ◌≢◌, ◌<◌, ◌⊎◌, inl, inr, List, Option, Some, None, refl, sym, ap, ◌∙◌, arith}
 use Rattle.std.proofs.lemmas.Bool.{cases_eq}
+use Rattle.std.proofs.lemmas.Option.{same_Some}
 use Rattle.kc_types.specs.declared.link.Ends.{Ends}
 use Rattle.kc_types.specs.declared.owner.Owner.{Owner}
 use Rattle.kc_types.specs.declared.owner.Owner.TheVariants.{Core, Host, Free, Vm}
@@ -53,11 +54,11 @@ module _ (links links' : Links) (ends ends' : Owner → Option Ends) (owner_at :
       → IsList links' e' → ((f : ℕ) → 0 < times_in (listed links' e') f → 0 < times_in frames f) → AreLists links' ends' owner_at
   lists-moved e' mine_is others not_host list within = record {
     spelled = λ p e is. elim (same_or_other p mine) [
-      | inl same ↦ let one : Some e ≡ Some e' = sym is ∙ ap ends' same ∙ mine_is in rw (some-same e e' one) list
+      | inl same ↦ let one : Some e ≡ Some e' = sym is ∙ ap ends' same ∙ mine_is in rw (same_Some e e' one) list
       | inr other ↦ let was = sym (others p other) ∙ is in others-list links links' e frames keeps (are.spelled p e was) (apart p e other was)
     ];
     owned = λ p e f is some. elim (same_or_other p mine) [
-      | inl same ↦ let one : Some e ≡ Some e' = sym is ∙ ap ends' same ∙ mine_is in owned f (within f (rw (some-same e e' one) at some)) ∙ sym same
+      | inl same ↦ let one : Some e ≡ Some e' = sym is ∙ ap ends' same ∙ mine_is in owned f (within f (rw (same_Some e e' one) at some)) ∙ sym same
       | inr other ↦ let was = sym (others p other) ∙ is in are.owned p e f was (rw (list-kept p e other was) at some)
     ];
     alone = λ f host. keeps f (elim (none-or-some (times_in frames f)) [
@@ -65,13 +66,6 @@ module _ (links links' : Links) (ends ends' : Owner → Option Ends) (owner_at :
       | inr there ↦ absurd (not_host (sym (owned f there) ∙ host))
     ]) ∙ are.alone f host;
   }
-    where
-      some-same : (a b : Ends) → Some a ≡ Some b → a ≡ b
-      some-same a b e = ap (λ o. inner o) e
-        where
-          inner : Option Ends → Ends
-          inner (Some x) = x
-          inner None = a
 
 -- a frame in no list changes its owner
 pub lists-owner : (links : Links) (ends : Owner → Option Ends) (owner_at owner_at' : ℕ → Owner) (f : ℕ) → AreLists links ends owner_at
