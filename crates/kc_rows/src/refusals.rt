@@ -1,5 +1,6 @@
 //! Each condition that refuses a call: alone where it can be alone, and with the next one of its call where both can
 //! hold, so that the first is answered; and that the core shows the same before and after.
+use crate::support::ABC;
 use kc_core::KCore;
 use kc_trace::read_trace;
 use kc_types::{Call, Config, FrameNo, Owner, Refusal, Reply, VmId};
@@ -16,12 +17,6 @@ pub struct Case(
     pub &'static str,
     pub Refusal,
 );
-
-/// The SHA-256 digest of `abc`, from the examples of FIPS 180-4.
-const ABC: [u8; 32] = [
-    0xba, 0x78, 0x16, 0xbf, 0x8f, 0x01, 0xcf, 0xea, 0x41, 0x41, 0x40, 0xde, 0x5d, 0xae, 0x22, 0x23,
-    0xb0, 0x03, 0x61, 0xa3, 0x96, 0x17, 0x7a, 0x9c, 0xb4, 0x10, 0xff, 0x61, 0xf2, 0x00, 0x15, 0xad,
-];
 
 /// All slots are empty.
 pub const BOOT: &str = "";

@@ -1,14 +1,9 @@
 //! What the core shows of its slots, after traces.
+use crate::support::ABC;
 use kc_core::KCore;
 use kc_trace::read_trace;
 use kc_types::{Config, FrameNo, Gfn, Owner, Phase, VmId};
 use std::alloc::Global;
-
-/// The SHA-256 digest of `abc`, from the examples of FIPS 180-4.
-const ABC: [u8; 32] = [
-    0xba, 0x78, 0x16, 0xbf, 0x8f, 0x01, 0xcf, 0xea, 0x41, 0x41, 0x40, 0xde, 0x5d, 0xae, 0x22, 0x23,
-    0xb0, 0x03, 0x61, 0xa3, 0x96, 0x17, 0x7a, 0x9c, 0xb4, 0x10, 0xff, 0x61, 0xf2, 0x00, 0x15, 0xad,
-];
 
 /// A core of 8 frames, of which 0 is the core's and 1 to 4 are the host's, with one leaf for each VM, and `abc`
 /// approved; after the calls of a trace.
