@@ -12,8 +12,6 @@ mod receipt;
 mod run;
 mod seat;
 mod settling;
-#[cfg(test)]
-mod tests;
 mod threads;
 
 pub use book::{Book, History};

@@ -7,8 +7,12 @@ use std::sync::Wait;
 use std::test::Fail;
 use std::thread::Threads;
 
+mod gated;
+mod gates;
+mod stories;
+
 /// 8 frames, of which 0 is the core's, 1 to 4 are the host's and the rest is free.
-fn config(alloc: Global) -> Result<Config, Fail> {
+pub fn config(alloc: Global) -> Result<Config, Fail> {
     Ok(
         Config::try_new(8, 1, 4, 1, Vec::new(alloc))
             .ok()

@@ -1,54 +1,51 @@
-//! Live runs, through gates.
-use crate::live_core::LiveCore;
-use crate::program::Program;
-use crate::run::run_live;
-use crate::settling::settle;
-use crate::threads::make_calls;
-use gates::{Count, Hold, Script};
-use kc_replay::OpenGate;
-use kc_types::{Actor, Call, Config, Data, Reply};
-use std::alloc::{AllocError, Global};
-use std::sync::Mutex;
+//! Live runs through gates, which hold calls and watch them.
+use crate::live::gates::{Count, Hold, Script};
+use crate::live::{config, stories};
+use kc_live::{History, Program, Receipt, run_live, settle};
+use kc_replay::{Gate, OpenGate};
+use kc_types::{Actor, Call, Refusal, Reply};
+use std::alloc::Global;
 use std::sync::atomic::{AtomicBool, AtomicU64, Ordering};
+use std::sync::{Mutex, Wait};
 use std::test::Fail;
+use std::thread::Threads;
 
-mod gates;
-mod stories;
-
-/// `frames` frames: 0 is the core's, 1 to 4 are the host's, the rest is free.
-fn config(alloc: Global, frames: u32) -> Result<Config, Fail> {
-    Ok(
-        Config::try_new(frames, 1, 4, 1, Vec::new(alloc))
-            .ok()
-            .ok_or("no configuration")?,
-    )
+/// Two reads of a VM that there is not.
+fn reads(alloc: Global) -> Result<Program, Fail> {
+    let mut program = Program::new(Actor::Vcpu(0, 0), Vec::new(alloc));
+    for gfn in 0..2 {
+        program.add(Call::GuestRead {
+            vm: 0,
+            vcpu: 0,
+            gfn,
+            offset: 0,
+            len: 1,
+        })?;
+    }
+    Ok(program)
 }
 
-fn reads(alloc: Global) -> Result<Program, AllocError> {
-    let mut calls = Vec::new(alloc);
-    calls.push(Call::HostFault { frame: 1 })?;
-    calls.push(Call::HostRead {
-        frame: 1,
-        offset: 0,
-        len: 1,
-    })?;
-    Ok(Program::new(Actor::Host, calls))
+fn takes(alloc: Global) -> Result<Program, Fail> {
+    let mut program = Program::new(Actor::Host, Vec::new(alloc));
+    program.add(Call::Take)?;
+    program.add(Call::HostFault { frame: 5 })?;
+    program.add(Call::Give { frame: 2 })?;
+    Ok(program)
 }
 
-fn takes(alloc: Global) -> Result<Program, AllocError> {
-    let mut calls = Vec::new(alloc);
-    calls.push(Call::Take)?;
-    calls.push(Call::HostFault { frame: 5 })?;
-    calls.push(Call::Give { frame: 2 })?;
-    Ok(Program::new(Actor::Host, calls))
-}
-
-/// Calls 0 and 1 read, calls 2 to 4 take and give.
-fn both(alloc: Global) -> Result<Vec<Program>, AllocError> {
+/// Runs calls 0 and 1, which read, beside calls 2 to 4, which take and give.
+fn run_both<G: Gate + Sync, R: Threads + Wait + Sync>(
+    rt: &R,
+    alloc: Global,
+    gate: &G,
+) -> Result<(History, Vec<Vec<Receipt>>), Fail> {
     let mut programs = Vec::new(alloc);
     programs.push(reads(alloc)?)?;
     programs.push(takes(alloc)?)?;
-    Ok(programs)
+    match run_live(rt, alloc, config(alloc)?, programs, gate) {
+        Ok(answer) => Ok(answer),
+        Err(_) => Err(Fail::from("no answer")),
+    }
 }
 
 #[test]
@@ -60,19 +57,14 @@ fn threads_follow_a_script(rt: HostRuntime) -> Result<(), Fail> {
         turn: AtomicU64::new(0),
         gave_up: AtomicBool::new(false),
     };
-    let core = LiveCore::new(alloc, config(alloc, 8)?)?;
-    let Ok(rows) = make_calls(&rt, alloc, &core, &gate, both(alloc)?) else {
-        return Err(Fail::from("no rows"));
-    };
+    let (history, rows) = run_both(&rt, alloc, &gate)?;
     assert!(rt; !gate.gave_up.load(Ordering::SeqCst));
-    let history = core.close();
     let entries = history.entries();
     assert_eq!(rt; entries.len(), 5);
     assert_eq!(rt; entries[0].reply, Reply::Frame(5));
-    assert_eq!(rt; entries[1].call, Call::HostFault { frame: 1 });
+    assert_eq!(rt; entries[1].reply, Reply::Refused(Refusal::NoVm));
     assert_eq!(rt; entries[2].call, Call::HostFault { frame: 5 });
-    let zero = Data::try_new(vec![in alloc; 0u8]?).ok_or("no data")?;
-    assert_eq!(rt; entries[3].reply, Reply::Data(zero));
+    assert_eq!(rt; entries[3].reply, Reply::Refused(Refusal::NoVm));
     assert_eq!(rt; entries[4].call, Call::Give { frame: 2 });
     assert!(rt; settle(alloc, &history, &rows)?);
     Ok(())
@@ -88,10 +80,8 @@ fn threads_overlap(rt: HostRuntime) -> Result<(), Fail> {
         is_answered: AtomicBool::new(false),
         gave_up: AtomicBool::new(false),
     };
-    let core = LiveCore::new(alloc, config(alloc, 8)?)?;
-    assert!(rt; make_calls(&rt, alloc, &core, &gate, both(alloc)?).is_ok());
+    let (history, _rows) = run_both(&rt, alloc, &gate)?;
     assert!(rt; !gate.gave_up.load(Ordering::SeqCst));
-    let history = core.close();
     assert_eq!(rt; history.entries().len(), 5);
     assert_eq!(rt; history.entries()[0].call, Call::Take);
     Ok(())
@@ -104,20 +94,19 @@ fn each_call_is_told_once(rt: HostRuntime) -> Result<(), Fail> {
         rt: &rt,
         counts: Mutex::new(vec![in alloc; (0u32, 0u32); 5]?),
     };
-    let core = LiveCore::new(alloc, config(alloc, 8)?)?;
-    assert!(rt; make_calls(&rt, alloc, &core, &gate, both(alloc)?).is_ok());
+    let (_history, _rows) = run_both(&rt, alloc, &gate)?;
     let Count { rt: _, counts } = gate;
     assert_eq!(rt; counts.into_inner(), vec![in alloc; (1u32, 1u32); 5]?);
     Ok(())
 }
 
 #[test]
-fn the_host_may_run_beside_others(rt: HostRuntime) -> Result<(), Fail> {
+fn a_program_may_make_no_calls(rt: HostRuntime) -> Result<(), Fail> {
     let alloc = rt.alloc();
     let mut programs = Vec::new(alloc);
     programs.push(Program::new(Actor::Vcpu(15, 7), Vec::new(alloc)))?;
     programs.push(takes(alloc)?)?;
-    let Ok((history, rows)) = run_live(&rt, alloc, config(alloc, 8)?, programs, &OpenGate) else {
+    let Ok((history, rows)) = run_live(&rt, alloc, config(alloc)?, programs, &OpenGate) else {
         return Err(Fail::from("no answer"));
     };
     assert_eq!(rt; history.entries().len(), 3);
@@ -142,12 +131,11 @@ fn a_vm_boots_and_touches_memory(rt: HostRuntime) -> Result<(), Fail> {
         turn: AtomicU64::new(0),
         gave_up: AtomicBool::new(false),
     };
-    let core = LiveCore::new(alloc, stories::config(alloc, 8, 4)?)?;
-    let Ok(rows) = make_calls(&rt, alloc, &core, &gate, stories::story(alloc)?) else {
-        return Err(Fail::from("no rows"));
+    let config = stories::config(alloc, 8, 4)?;
+    let Ok((history, rows)) = run_live(&rt, alloc, config, stories::story(alloc)?, &gate) else {
+        return Err(Fail::from("no answer"));
     };
     assert!(rt; !gate.gave_up.load(Ordering::SeqCst));
-    let history = core.close();
     assert!(rt; stories::has_replies(&history, &stories::replies(alloc)?));
     assert!(rt; settle(alloc, &history, &rows)?);
     Ok(())

@@ -1,15 +1,9 @@
 //! VMs that run live.
-use crate::book::History;
-use crate::program::Program;
+use crate::support::ABC;
+use kc_live::{History, Program};
 use kc_types::{Actor, Call, Config, Data, Reply};
 use std::alloc::Global;
 use std::test::Fail;
-
-/// The SHA-256 digest of `abc`, from the examples of FIPS 180-4.
-const ABC: [u8; 32] = [
-    0xba, 0x78, 0x16, 0xbf, 0x8f, 0x01, 0xcf, 0xea, 0x41, 0x41, 0x40, 0xde, 0x5d, 0xae, 0x22, 0x23,
-    0xb0, 0x03, 0x61, 0xa3, 0x96, 0x17, 0x7a, 0x9c, 0xb4, 0x10, 0xff, 0x61, 0xf2, 0x00, 0x15, 0xad,
-];
 
 /// Frame 0 is the core's, the next `host` are the host's; images of `abc` may run.
 pub fn config(alloc: Global, frames: u32, host: u32) -> Result<Config, Fail> {
