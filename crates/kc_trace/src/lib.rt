@@ -9,6 +9,7 @@ mod line;
 mod number;
 mod reader;
 mod reply_writer;
+mod search;
 #[cfg(test)]
 mod tests;
 mod writer;
