@@ -17,5 +17,5 @@ mod writer;
 pub use config_text::{ConfigTextFault, read_config};
 pub use fault::TraceFault;
 pub use reader::{TraceReader, read_trace};
-pub use reply_writer::write_replies;
+pub use reply_writer::{LONGEST_REPLY, push_reply, write_replies};
 pub use writer::write_trace;
