@@ -6,6 +6,7 @@ mod engine;
 mod fault;
 mod live;
 mod mem;
+mod replies;
 mod standard;
 mod stream;
 mod telling;
