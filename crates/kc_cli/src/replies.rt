@@ -30,3 +30,6 @@ pub(crate) fn give_replies<K: Sink>(
     }
     write_whole(out, &piece)
 }
+
+#[cfg(test)]
+mod tests;
