@@ -272,7 +272,7 @@ fn long_line_in_pieces(rt: HostRuntime) -> Result<(), Fail> {
             line.push(b'7')?;
         }
         line.push(b'\n')?;
-        let (front, back) = line.split_at(at);
+        let (front, back) = line.split_at_checked(at).ok_or("the place")?;
         let mut reader = TraceReader::new();
         assert_eq!(rt; reader.feed(alloc, b"kcore-trace 1\n")?.len(), 0);
         assert_eq!(rt; reader.feed(alloc, front)?.len(), 0);
