@@ -1,39 +1,17 @@
 //! Replies as text.
-ghost use Rattle.std.specs.Prelude.{◌≡◌, ◌≤◌, ◌+◌, ◌*◌, ◌++◌, ◌∷◌, [], codes, length, vec_len, vec_capacity, IfOk};
+ghost use Rattle.std.specs.Prelude.{◌≡◌, ◌≤◌, ◌+◌, ◌++◌, ◌∷◌, [], codes, length, vec_len, vec_capacity, IfOk};
 ghost use Rattle.std.specs.List.{join_with_byte};
 ghost use Rattle.std.specs.Fmt.{decimal};
 ghost use Rattle.hex.specs.Hex.{encode_lower};
 ghost use Rattle.kc_trace.specs.ReplyText.{longest_reply, reply_line_of, reply_text_of};
 
+use crate::room::{push_bytes, push_digits};
 use itoa::Buffer;
 use kc_types::{Data, Memory, Reply};
 use std::alloc::Global;
 
 /// The bytes of the longest line of a reply, with its newline: `data`, and 4,096 bytes.
 pub const LONGEST_REPLY: usize = 8_198;
-
-/// Appends bytes for which there is room.
-fn push_bytes(text: &mut Vec<u8>, bytes: &[u8])
-    requires { vec_len text.old + length bytes.now ≤ vec_capacity text.old }
-    ensures items { text.new.items ≡ text.old.items ++ bytes.now }
-    ensures len { vec_len text.new ≡ vec_len text.old + length bytes.now }
-    ensures capacity { vec_capacity text.old ≤ vec_capacity text.new }
-{
-    text.extend_from_slice(bytes).unwrap();
-}
-
-/// Appends the digits of bytes for which there is room, each written where it is to stay.
-fn push_digits(text: &mut Vec<u8>, bytes: &[u8])
-    requires { vec_len text.old + 2 * length bytes.now ≤ vec_capacity text.old }
-    ensures items { text.new.items ≡ text.old.items ++ encode_lower bytes.now }
-    ensures len { vec_len text.new ≡ vec_len text.old + 2 * length bytes.now }
-    ensures capacity { vec_capacity text.old ≤ vec_capacity text.new }
-{
-    let start = text.len();
-    text.resize(start + 2 * bytes.len(), b'0').unwrap();
-    let (_, digits) = text.as_mut_slice().split_at_mut(start);
-    hex::encode_to_slice(bytes, digits).unwrap();
-}
 
 /// Appends the line of a name and a word.
 fn push_word(text: &mut Vec<u8>, name: &str, word: &str)
