@@ -13,14 +13,12 @@ ghost use Rattle.kc_cli.specs.Engine.{Replays, BeginsReplay};
 
 use crate::replies::give_replies;
 use crate::stream::read_calls;
+use crate::whole::PIECE;
 use crate::{Sink, Source, TextFault, read_whole};
 use kc_core::KCore;
 use kc_trace::read_config;
 use kc_types::{Call, Config, Memory, Reply};
 use std::alloc::Global;
-
-/// The bytes of a piece of text.
-const PIECE: usize = 65_536;
 
 /// Answers some calls in order. Each is let go once it is answered, so that a reply takes the memory of a call.
 #[tactic(auto, using(crate::proofs::Answered::replies_more, crate::proofs::Answered::state_more))]

@@ -10,6 +10,7 @@ mod replies;
 mod standard;
 mod stream;
 mod telling;
+mod traces;
 mod whole;
 mod words;
 
