@@ -3,3 +3,5 @@ pub mod Asking
 pub mod Fed
 pub mod Faulted
 pub mod LiveFaults
+pub mod Pieces
+pub mod Answered

@@ -11,24 +11,35 @@ ghost use Rattle.kc_trace.specs.ReplyText.{reply_text_of};
 ghost use Rattle.kc_cli.specs.Ends.{ReadFailed};
 ghost use Rattle.kc_cli.specs.Engine.{Replays, BeginsReplay};
 
+use crate::replies::give_replies;
 use crate::stream::read_calls;
-use crate::{Sink, Source, TextFault, read_whole, write_whole};
+use crate::whole::PIECE;
+use crate::{Sink, Source, TextFault, read_whole};
 use kc_core::KCore;
-use kc_trace::{read_config, write_replies};
-use kc_types::{Call, Config, Memory};
+use kc_trace::read_config;
+use kc_types::{Call, Config, Memory, Reply};
 use std::alloc::Global;
 
-/// The text of the replies to some calls. The core is wiped before it goes, whatever the outcome.
-fn reply_text(alloc: Global, config: Config, calls: &[Call]) -> Result<Vec<u8>, Memory>
-    ensures { IfOk result (λ text. text.items ≡ reply_text_of (replies_from (boot config) calls.now)) }
+/// Answers some calls in order. Each is let go once it is answered, so that a reply takes the memory of a call.
+#[tactic(auto, using(crate::proofs::Answered::replies_more, crate::proofs::Answered::state_more))]
+fn answer_each(alloc: Global, core: &mut KCore, calls: Vec<Call>) -> Result<Vec<Reply>, Memory>
+    ensures { IfOk result (λ replies. replies.items ≡ replies_from core.old calls.items) }
+{
+    let mut replies = Vec::with_capacity(alloc, calls.len())?;
+    for call in calls {
+        replies.push(core.call(&call)?)?;
+    }
+    Ok(replies)
+}
+
+/// The replies to some calls. The core is wiped before it goes, whatever the outcome.
+fn replies_to(alloc: Global, config: Config, calls: Vec<Call>) -> Result<Vec<Reply>, Memory>
+    ensures { IfOk result (λ replies. replies.items ≡ replies_from (boot config) calls.items) }
 {
     let mut core = KCore::boot(alloc, config)?;
-    let outcome = core.run(alloc, calls);
+    let outcome = answer_each(alloc, &mut core, calls);
     core.wipe();
-    match outcome {
-        Ok(replies) => write_replies(alloc, &replies),
-        Err(_) => Err(Memory),
-    }
+    outcome
 }
 
 /// Reads a configuration and a trace, each to its end, and writes the reply text of the trace. The number of
@@ -67,8 +78,12 @@ pub fn replay_text<C: Source, T: Source, K: Sink>(
     let config = read_whole(alloc, config)?;
     let config = read_config(alloc, &config)?;
     let calls = read_calls(alloc, trace)?;
-    let Ok(text) = reply_text(alloc, config, &calls) else {
+    let Ok(replies) = replies_to(alloc, config, calls) else {
         return Err(TextFault::Memory);
     };
-    write_whole(out, &text).map_err(|_| TextFault::Write)
+    // All memory that writing takes is there before the first byte is written.
+    let Ok(piece) = Vec::with_capacity(alloc, PIECE) else {
+        return Err(TextFault::Memory);
+    };
+    give_replies(out, piece, &replies).map_err(|_| TextFault::Write)
 }

@@ -6,9 +6,11 @@ mod engine;
 mod fault;
 mod live;
 mod mem;
+mod replies;
 mod standard;
 mod stream;
 mod telling;
+mod traces;
 mod whole;
 mod words;
 

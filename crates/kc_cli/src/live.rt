@@ -1,22 +1,24 @@
 //! The engine that runs a trace live, over any ends.
 ghost use Rattle.std.specs.Prelude.{◌≡◌, ◌≢◌, ◌⊎◌, ◌↔◌, ℕ, map, false, true, IfOk, IfErr, IfSome, OnOk, OnErr, Err, IsErrOf};
 ghost use Rattle.std.specs.Io.KnownBytes.{IsAtEnd};
+ghost use Rattle.kc_live.specs.Cuts.{KeepsOrders};
 ghost use Rattle.kc_live.specs.Logs.{calls_of};
 ghost use Rattle.kc_trace.specs.declared.config_text.ConfigTextFault.{ConfigTextFault};
 ghost use Rattle.kc_trace.specs.declared.fault.TraceFault.{TraceFault};
 ghost use Rattle.kc_trace.specs.ConfigText.{config_in};
-ghost use Rattle.kc_trace.specs.Spelling.{trace_of};
 ghost use Rattle.kc_trace.specs.Trace.{IsRefused};
 ghost use Rattle.kc_cli.specs.Ends.{ReadFailed};
 ghost use Rattle.kc_cli.specs.Faults.{live_fault};
-ghost use Rattle.kc_cli.specs.Live.{IsRearranged, IsLiveFault, RunsLive, BeginsLive, HasBadActor};
+ghost use Rattle.kc_cli.specs.Live.{IsLiveFault, RunsLive, BeginsLive, HasBadActor};
 
 use crate::stream::read_calls;
-use crate::{Sink, Source, TextFault, read_whole, write_whole};
+use crate::traces::give_trace;
+use crate::whole::PIECE;
+use crate::{Sink, Source, TextFault, read_whole};
 use kc_core::KCore;
 use kc_live::{Entry, History, LiveCause, LiveStop, run_trace};
 use kc_replay::Gate;
-use kc_trace::{TraceFault, read_config, write_trace};
+use kc_trace::{TraceFault, read_config};
 use kc_types::{Call, Config, Memory};
 use std::alloc::Global;
 use std::sync::Wait;
@@ -47,15 +49,20 @@ fn calls_in(alloc: Global, entries: Vec<Entry>) -> Result<Vec<Call>, Memory>
     Ok(calls)
 }
 
+/// Makes the calls in order, and lets each reply go.
+fn make_each(core: &mut KCore, calls: &[Call]) -> Result<(), Memory> {
+    for call in calls {
+        core.call(call)?;
+    }
+    Ok(())
+}
+
 /// Makes the calls on one thread, and wipes the core that they leave.
 fn replay(alloc: Global, config: Config, calls: &[Call]) -> Result<(), Memory> {
     let mut core = KCore::boot(alloc, config)?;
-    let outcome = core.run(alloc, calls);
+    let outcome = make_each(&mut core, calls);
     core.wipe();
-    match outcome {
-        Ok(_) => Ok(()),
-        Err(_) => Err(Memory),
-    }
+    outcome
 }
 
 /// The cause of a run that gave no answer. The core that it left, if any, is wiped.
@@ -73,26 +80,33 @@ fn wiped(stop: LiveStop) -> LiveCause
     cause
 }
 
-/// The text of a history, which is replayed first. Both cores are wiped.
-fn text_of(alloc: Global, config: Config, history: History) -> Result<Vec<u8>, Memory>
-    ensures { IfOk result (λ text. text.items ≡ trace_of (calls_of history.entries)) }
+/// The entries of a history, whose core is wiped.
+fn entries_of(history: History) -> Vec<Entry>
+    ensures { result.items ≡ history.entries }
 {
     let (entries, mut core) = history.into_parts();
     core.wipe();
-    let calls = calls_in(alloc, entries)?;
-    replay(alloc, config, &calls)?;
-    write_trace(alloc, &calls)
+    entries
 }
 
-/// The text of the history of a live run of some calls. The cores are wiped before they go, whatever the outcome.
-fn history_text<G: Gate + Sync, R: Threads + Wait + Sync>(
+/// The calls of a history, which is replayed first. Both cores are wiped.
+fn replayed(alloc: Global, config: Config, history: History) -> Result<Vec<Call>, Memory>
+    ensures { IfOk result (λ calls. calls.items ≡ calls_of history.entries) }
+{
+    let calls = calls_in(alloc, entries_of(history))?;
+    replay(alloc, config, &calls)?;
+    Ok(calls)
+}
+
+/// The calls of the history of a live run of some calls. The cores are wiped before they go, whatever the outcome.
+fn made_live<G: Gate + Sync, R: Threads + Wait + Sync>(
     rt: &R,
     alloc: Global,
     config: Config,
     calls: Vec<Call>,
     gate: &G,
-) -> Result<Vec<u8>, TextFault>
-    ensures text { IfOk result (λ text. IsRearranged calls.items text.items) }
+) -> Result<Vec<Call>, TextFault>
+    ensures made { IfOk result (λ made. KeepsOrders made.items calls.items) }
     ensures fault { IfErr result (IsLiveFault config calls.items) }
 {
     let Ok(kept) = config.copy() else {
@@ -102,8 +116,8 @@ fn history_text<G: Gate + Sync, R: Threads + Wait + Sync>(
         Ok(history) => history,
         Err(stop) => return Err(fault_of(wiped(stop))),
     };
-    match text_of(alloc, kept, history) {
-        Ok(text) => Ok(text),
+    match replayed(alloc, kept, history) {
+        Ok(made) => Ok(made),
         Err(_) => Err(fault_of(LiveCause::Memory)),
     }
 }
@@ -147,8 +161,13 @@ pub fn live_text<C: Source, T: Source, K: Sink, G: Gate + Sync, R: Threads + Wai
     let config = read_whole(alloc, config)?;
     let config = read_config(alloc, &config)?;
     let calls = read_calls(alloc, trace)?;
-    match history_text(rt, alloc, config, calls, gate) {
-        Ok(text) => write_whole(out, &text).map_err(|_| TextFault::Write),
-        Err(fault) => Err(fault),
-    }
+    let made = match made_live(rt, alloc, config, calls, gate) {
+        Ok(made) => made,
+        Err(fault) => return Err(fault),
+    };
+    // All memory that writing takes is there before the first byte is written.
+    let Ok(piece) = Vec::with_capacity(alloc, PIECE) else {
+        return Err(TextFault::Memory);
+    };
+    give_trace(out, piece, &made).map_err(|_| TextFault::Write)
 }

@@ -10,6 +10,9 @@ use thiserror::Error;
 /// The most bytes that are read from one source.
 pub(crate) const MOST: usize = 1_073_741_824;
 
+/// The bytes of a piece of text, which is given to a sink at once.
+pub(crate) const PIECE: usize = 65_536;
+
 /// Why the bytes of a source are not all read.
 #[derive(Clone, Copy, Debug, PartialEq, Eq, Error)]
 pub enum ReadFault {

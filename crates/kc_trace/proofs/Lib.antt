@@ -1,3 +1,4 @@
+pub mod Searches
 pub mod Numbers
 pub mod Digits
 pub mod Words

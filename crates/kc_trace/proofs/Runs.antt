@@ -1,52 +1,19 @@
 -- Reading byte after byte, as a loop does.
 use Rattle.std.proofs.Common.{◌≡◌, ℕ, zero, suc, ◌+◌, ◌<◌, ◌≤◌, Bool, true, false, cond, List, [], ◌∷◌, ◌++◌, length, get_or, take, drop, Option, Some, None, Result, Ok, Err, refl, sym, ap, ◌∙◌, append_assoc, arith, length-append, length-drop, inl, inr, ◌-◌}
 use Rattle.std.specs.Prelude.{◌==◌, not, nat_lt, position}
-use Rattle.std.specs.Option.{option_to_list}
 use Rattle.std.specs.List.{list_all, prefix_len, position_or_len}
-use Rattle.std.proofs.lemmas.Bool.{and_parts, and_from, not-true, eqb-true, cases_Bool, cases_lt, lt-ltb, le-ltb, ltb-false, lt-leb}
-use Rattle.std.proofs.lemmas.List.{append-nil, take_all}
+use Rattle.std.proofs.lemmas.Bool.{and_parts, and_from, not-true, eqb-true, cases_Bool, cases_lt, lt-ltb, le-ltb, ltb-true, ltb-false, lt-leb, le-leb, eq-eqb, ne_eqb}
+use Rattle.std.proofs.lemmas.List.{append-nil, take_all, drop_all}
+use Rattle.std.proofs.lemmas.List.Sums.{passes_at_first, split_at_first}
 use Rattle.kc_types.specs.Limits.{call_limit}
 use Rattle.kc_types.specs.declared.call.Call.{Call}
 use Rattle.kc_trace.specs.declared.fault.TraceFault.{TraceFault}
-use Rattle.kc_trace.specs.declared.fault.TraceFault.TheVariants.{NoHeader, BadLine, NoNewline, TooManyCalls, Memory}
-use Rattle.kc_trace.specs.Machine.{◌>>=◌, Progress, Fails, longest_line, longer, longer_each, step, feed}
+use Rattle.kc_trace.specs.declared.fault.TraceFault.TheVariants.{NoHeader, BadLine, TooManyCalls}
+use Rattle.kc_trace.specs.Machine.{◌>>=◌, Progress, longest_line, longer, longer_each, call_in, after_line, with_front, step, feed}
 use Rattle.kc_trace.specs.Trace.{IsOneLine}
 use Rattle.kc_trace.proofs.Words.{chosen}
 
--- what was read before, and what is still read
-abbrev pub with_front : List Call → Result (Progress × List Call) TraceFault → Result (Progress × List Call) TraceFault
-with_front front read = read >>= λ x. Ok (x.0, front ++ x.1)
-
-regroup : (front new : List Call) (read : Result (Progress × List Call) TraceFault) → with_front front (read >>= λ x. Ok (x.0, new ++ x.1)) ≡ with_front (front ++ new) read
-regroup front new (Ok x) = ap (λ (cs : List Call). Ok (x.0, cs)) (sym (append_assoc front new x.1))
-regroup front new (Err f) = refl
-
-pub goes_on : (front after : List Call) (p q r : Progress) (rest next : List ℕ) (new : Option Call) (total : Result (Progress × List Call) TraceFault) → 0 < length rest
-    → step p (get_or rest 0 0) ≡ Ok (q, option_to_list new) → after ≡ front ++ option_to_list new → feed q (drop 1 rest) ≡ feed r next → with_front front (feed p rest) ≡ total → with_front after (feed r next) ≡ total
-unfolding feed
-goes_on front after p q r [] next new total some h grown same so_far = absurd (omega arith)
-goes_on front after p q r (byte ∷ left) next new total some h grown same so_far =
-    let one : with_front front (feed p (byte ∷ left)) ≡ with_front (front ++ option_to_list new) (feed q left) = rw h (regroup front (option_to_list new) (feed q left)) in
-    rw (grown, ← same) (sym one ∙ so_far)
-
-fails_through : (e : TraceFault) (front : List Call) (p : Progress) (byte : ℕ) (bytes : List ℕ) → Fails e (step p byte) → Fails e (with_front front (feed p (byte ∷ bytes)))
-unfolding feed
-fails_through Memory front p byte bytes h = tt
-fails_through NoHeader front p byte bytes h = rw h refl
-fails_through (BadLine n) front p byte bytes h = rw h refl
-fails_through NoNewline front p byte bytes h = rw h refl
-fails_through TooManyCalls front p byte bytes h = rw h refl
-
-pub ends : (e : TraceFault) (front : List Call) (p : Progress) (rest : List ℕ) (total : Result (Progress × List Call) TraceFault) → 0 < length rest
-    → Fails e (step p (get_or rest 0 0)) → with_front front (feed p rest) ≡ total → Fails e total
-ends e front p [] total some h so_far = absurd (omega arith)
-ends e front p (byte ∷ left) total some h so_far = rw (← so_far) (fails_through e front p byte left h)
-
--- what stands behind the first of some bytes
-pub tail_is : (rest : List ℕ) → take (length rest - 1) (drop 1 rest) ≡ drop 1 rest
-tail_is rest = take_all (length rest - 1) (drop 1 rest) (omega (arith, length-drop 1 rest))
-
-pub is_done : (front : List Call) (p : Progress) (rest : List ℕ) (total : Result (Progress × List Call) TraceFault) → length rest < 1 → with_front front (feed p rest) ≡ total → total ≡ Ok (p, front)
+pub is_done : (front : List Call) (p : Progress) (rest : List ℕ) (total : Result (Progress × List Call) TraceFault) → length rest ≡ 0 → with_front front (feed p rest) ≡ total → total ≡ Ok (p, front)
 unfolding feed
 is_done front p [] total none so_far = sym so_far ∙ ap (λ (cs : List Call). Ok (p, cs)) (append-nil front)
 is_done front p (byte ∷ left) total none so_far = absurd (omega arith)
@@ -62,18 +29,26 @@ prefix_holds q (suc n) (x ∷ xs) le =
       | inr h ↦ let none : suc n ≤ 0 = rw h at le in absurd (omega arith)
     ]
 
-pub line_ends_at : (xs : List ℕ) (at : ℕ) → position (λ b. b == 10) xs ≡ Some at → IsOneLine (take at xs)
+abbrev is_newline : ℕ → Bool
+is_newline b = b == 10
+
+-- a line, and what stands behind its newline
+pub line_ends_at : (xs : List ℕ) (at : ℕ) → position is_newline xs ≡ Some at → IsOneLine (take at xs) × (xs ≡ take at xs ++ 10 ∷ drop (at + 1) xs)
 line_ends_at xs at e =
-    elim (chosen (nat_lt (position_or_len (λ b. b == 10) xs) (length xs)) (Some (position_or_len (λ b. b == 10) xs)) None (Some at) e) [
-      | inl h ↦ let same : position_or_len (λ b. b == 10) xs ≡ at = cc in prefix_holds (λ b. not (b == 10)) at xs (omega arith)
+    elim (chosen (nat_lt (position_or_len is_newline xs) (length xs)) (Some (position_or_len is_newline xs)) None (Some at) e) [
+      | inl h ↦
+          let same : position_or_len is_newline xs ≡ at = cc in
+          let within = ltb-true _ _ h.0 in
+          let newline : get_or xs at 0 ≡ 10 = rw same at (eqb-true _ _ (passes_at_first is_newline xs 0 within)) in
+          (prefix_holds (λ b. not (b == 10)) at xs (omega arith), rw newline at (rw same at (split_at_first is_newline xs 0 within)))
       | inr h ↦ absurd cc
     ]
 
-pub no_newline : (xs : List ℕ) → position (λ b. b == 10) xs ≡ None → IsOneLine (take (length xs) xs)
+pub no_newline : (xs : List ℕ) → position is_newline xs ≡ None → IsOneLine xs
 no_newline xs e =
-    elim (chosen (nat_lt (position_or_len (λ b. b == 10) xs) (length xs)) (Some (position_or_len (λ b. b == 10) xs)) None None e) [
+    elim (chosen (nat_lt (position_or_len is_newline xs) (length xs)) (Some (position_or_len is_newline xs)) None None e) [
       | inl h ↦ absurd cc
-      | inr h ↦ prefix_holds (λ b. not (b == 10)) (length xs) xs (ltb-false _ _ h.0)
+      | inr h ↦ rw (take_all (length xs) xs (omega arith)) at (prefix_holds (λ b. not (b == 10)) (length xs) xs (ltb-false _ _ h.0))
     ]
 
 -- a line that is longer than any call stays so
@@ -99,7 +74,7 @@ over_longer line (byte ∷ run) few over =
 abbrev with_more : Progress → List ℕ → Progress
 with_more p run = record p { line = longer_each p.line run }
 
-onto_none : (read : Result (Progress × List Call) TraceFault) → (read >>= λ x. Ok (x.0, [] ++ x.1)) ≡ read
+onto_none : (read : Result (Progress × List Call) TraceFault) → with_front [] read ≡ read
 onto_none (Ok x) = refl
 onto_none (Err f) = refl
 
@@ -115,6 +90,77 @@ feed_run (byte ∷ run) p rest behind few h =
     let q : Progress = record p { line = longer p.line byte } in
     rw (grows p byte behind few (not-true (byte == 10) parts.0)) (onto_none (feed q (run ++ rest)) ∙ feed_run run q rest behind few parts.1)
 
+-- the same where no more is there
+pub feed_all : (p : Progress) (run : List ℕ) → p.header_left ≡ [] → p.calls < call_limit → IsOneLine run → feed p run ≡ with_front [] (feed (with_more p run) [])
+feed_all p run behind few h = ap (feed p) (sym (append-nil run)) ∙ feed_run run p [] behind few h ∙ sym (onto_none (feed (with_more p run) []))
+
+line_ends : (p : Progress) → p.header_left ≡ [] → p.calls < call_limit → step p 10 ≡ after_line p (call_in p.line)
+unfolding step
+line_ends p behind few = rw (behind, lt-leb call_limit p.calls few) refl
+
+after_longer : (p : Progress) (run : List ℕ) (found : Option Call) → after_line (with_more p run) found ≡ after_line p found
+after_longer p run None = refl
+after_longer p run (Some call) = refl
+
+-- the last bytes of a line and its newline
+feed_line : (p : Progress) (run rest : List ℕ) → p.header_left ≡ [] → p.calls < call_limit → IsOneLine run → feed p (run ++ 10 ∷ rest) ≡ (after_line p (call_in (longer_each p.line run)) >>= λ first. with_front first.1 (feed first.0 rest))
+unfolding feed
+feed_line p run rest behind few h =
+    feed_run run p (10 ∷ rest) behind few h ∙ ap (λ (first : Result (Progress × List Call) TraceFault). first >>= λ x. with_front x.1 (feed x.0 rest)) (line_ends (with_more p run) behind few ∙ after_longer p run (call_in (longer_each p.line run)))
+
+-- behind a line that is this call
+pub feed_call : (p q : Progress) (run rest : List ℕ) (call : Call) → p.header_left ≡ [] → p.calls < call_limit → IsOneLine run → Some call ≡ call_in (longer_each p.line run) → q ≡ record p { calls = p.calls + 1; line = Some [] } → feed p (run ++ 10 ∷ rest) ≡ with_front (call ∷ []) (feed q rest)
+feed_call p q run rest call behind few h is next = rw next (feed_line p run rest behind few h ∙ ap (λ (found : Option Call). after_line p found >>= λ first. with_front first.1 (feed first.0 rest)) (sym is))
+
+-- a line that is none
+pub feed_none : (p : Progress) (run rest : List ℕ) → p.header_left ≡ [] → p.calls < call_limit → IsOneLine run → None ≡ call_in (longer_each p.line run) → feed p (run ++ 10 ∷ rest) ≡ Err (BadLine (p.calls + 2))
+feed_none p run rest behind few h is = feed_line p run rest behind few h ∙ ap (λ (found : Option Call). after_line p found >>= λ first. with_front first.1 (feed first.0 rest)) (sym is)
+
+pub whole_fits : (line : List ℕ) → length line ≤ longest_line → longer_each (Some []) line ≡ Some line
+whole_fits line fits = fits_longer [] line (omega arith)
+
+pub whole_over : (line : List ℕ) → longest_line < length line → longer_each (Some []) line ≡ None
+whole_over line over = over_longer [] line (omega arith) (omega arith)
+
+-- what stands behind the first so many bytes
+pub tail_is : (n : ℕ) (xs : List ℕ) → take (length xs - n) (drop n xs) ≡ drop n xs
+tail_is n xs = take_all (length xs - n) (drop n xs) (omega (arith, length-drop n xs))
+
+pub nothing_behind : (xs : List ℕ) → take (length xs - length xs) (drop (length xs) xs) ≡ []
+nothing_behind xs = tail_is (length xs) xs ∙ drop_all (length xs) xs (omega arith)
+
+-- ---- a byte of the header, and one too many
+
+abbrev pub progress_at : List ℕ → ℕ → Option (List ℕ) → Progress
+progress_at header_left calls line = record { header_left = header_left; calls = calls; line = line }
+
+pub next_of_header : (p : Progress) (bytes : List ℕ) → 1 ≤ length p.header_left → 0 < length bytes → get_or bytes 0 0 ≡ get_or p.header_left 0 0 → feed p bytes ≡ with_front [] (feed (progress_at (drop 1 p.header_left) p.calls p.line) (drop 1 bytes))
+unfolding feed step
+next_of_header p bytes more some same = go p.header_left bytes more some same
+  where
+    go : (left bytes : List ℕ) → 1 ≤ length left → 0 < length bytes → get_or bytes 0 0 ≡ get_or left 0 0 → feed (progress_at left p.calls p.line) bytes ≡ with_front [] (feed (progress_at (drop 1 left) p.calls p.line) (drop 1 bytes))
+    go [] bytes more some same = absurd (omega arith)
+    go (next ∷ left) [] more some same = absurd (omega arith)
+    go (next ∷ left) (byte ∷ bytes) more some same = rw (eq-eqb byte next same) refl
+
+pub not_of_header : (p : Progress) (bytes : List ℕ) → 1 ≤ length p.header_left → 0 < length bytes → (get_or bytes 0 0 ≡ get_or p.header_left 0 0 → ⊥) → feed p bytes ≡ Err NoHeader
+unfolding feed step
+not_of_header p bytes more some other = go p.header_left bytes more some other
+  where
+    go : (left bytes : List ℕ) → 1 ≤ length left → 0 < length bytes → (get_or bytes 0 0 ≡ get_or left 0 0 → ⊥) → feed (progress_at left p.calls p.line) bytes ≡ Err NoHeader
+    go [] bytes more some other = absurd (omega arith)
+    go (next ∷ left) [] more some other = absurd (omega arith)
+    go (next ∷ left) (byte ∷ bytes) more some other = rw (ne_eqb byte next other) refl
+
+pub one_too_many : (p : Progress) (bytes : List ℕ) → length p.header_left < 1 → call_limit ≤ p.calls → 0 < length bytes → feed p bytes ≡ Err TooManyCalls
+unfolding feed step
+one_too_many p bytes behind full some = go p.header_left bytes behind some
+  where
+    go : (left bytes : List ℕ) → length left < 1 → 0 < length bytes → feed (progress_at left p.calls p.line) bytes ≡ Err TooManyCalls
+    go (next ∷ left) bytes behind some = absurd (omega arith)
+    go [] [] behind some = absurd (omega arith)
+    go [] (byte ∷ bytes) behind some = rw (le-leb call_limit p.calls full) refl
+
 -- what a run makes of a line, or of one that is longer than any call
 pub longer_fits : (is_too_long : Bool) (line run new : List ℕ) → new ≡ line ++ run → length line + length run ≤ longest_line → cond is_too_long None (Some new) ≡ longer_each (cond is_too_long None (Some line)) run
 longer_fits true line run new e fits = sym (none_longer run)
@@ -124,12 +170,5 @@ pub longer_over : (is_too_long : Bool) (line run : List ℕ) → length line ≤
 longer_over true line run few over = sym (none_longer run)
 longer_over false line run few over = sym (over_longer line run few over)
 
-abbrev pub progress_at : List ℕ → ℕ → Option (List ℕ) → Progress
-progress_at header_left calls line = record { header_left = header_left; calls = calls; line = line }
-
 pub with_line : (header_left : List ℕ) (calls : ℕ) (line other : Option (List ℕ)) → line ≡ other → progress_at header_left calls line ≡ progress_at header_left calls other
 with_line header_left calls line other e = ap (progress_at header_left calls) e
-
-pub nothing_left : (xs : List ℕ) → (length xs == 0) ≡ true → xs ≡ []
-nothing_left [] e = refl
-nothing_left (x ∷ xs) e = let none : length (x ∷ xs) ≡ 0 = eqb-true _ _ e in absurd (omega arith)

@@ -85,6 +85,12 @@ feed progress (byte ∷ bytes) = do
   others ← feed first.0 bytes
   Ok (others.0, first.1 ++ others.1)
 
+-- what is read behind some calls, with them
+abbrev pub with_front : List Call → Result (Progress × List Call) TraceFault → Result (Progress × List Call) TraceFault
+with_front front read = do
+  others ← read
+  Ok (others.0, front ++ others.1)
+
 abbrev pub line_ended : Option (List ℕ) → Result (Unit {0}) TraceFault
 line_ended None = Err NoNewline
 line_ended (Some []) = Ok tt

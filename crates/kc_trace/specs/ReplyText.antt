@@ -21,6 +21,10 @@ reply_words_of (Refused refusal) = codes "refused" ∷ name_of refusal ∷ []
 abbrev pub reply_line_of : Reply → List ℕ
 reply_line_of reply = join_with_byte 32 (reply_words_of reply)
 
+-- the length of the longest line of a reply, with its newline: `data`, and 4,096 bytes
+abbrev pub longest_reply : ℕ
+longest_reply = 8198
+
 -- the one spelling of a list of replies: a line for each, with no header
 abbrev pub reply_text_of : List Reply → List ℕ
 reply_text_of replies = flat_map (λ reply. reply_line_of reply ++ 10 ∷ []) replies

@@ -30,6 +30,10 @@ words_of (Clear vm) = codes "clear" ∷ decimal vm ∷ []
 abbrev pub line_of : Call → List ℕ
 line_of call = join_with_byte 32 (words_of call)
 
+-- the length of the longest line of a call, with its newline: `gwrite`, four numbers and 4,096 bytes
+abbrev pub longest_call : ℕ
+longest_call = 8244
+
 -- the lines of some calls, each with its newline
 abbrev pub lines_of : List Call → List ℕ
 lines_of calls = flat_map (λ call. line_of call ++ 10 ∷ []) calls

@@ -9,6 +9,8 @@ mod line;
 mod number;
 mod reader;
 mod reply_writer;
+mod room;
+mod search;
 #[cfg(test)]
 mod tests;
 mod writer;
@@ -16,5 +18,5 @@ mod writer;
 pub use config_text::{ConfigTextFault, read_config};
 pub use fault::TraceFault;
 pub use reader::{TraceReader, read_trace};
-pub use reply_writer::write_replies;
-pub use writer::write_trace;
+pub use reply_writer::{LONGEST_REPLY, push_reply, write_replies};
+pub use writer::{LONGEST_CALL, push_call, push_header, write_trace};

@@ -1,10 +1,11 @@
 //! One line as a call.
-ghost use Rattle.std.specs.Prelude.{◌≡◌, ◌==◌, [], ◌∷◌, position, IfOk, MatchOption};
+ghost use Rattle.std.specs.Prelude.{◌≡◌, ◌==◌, [], ◌∷◌, IfOk, MatchOption};
 ghost use Rattle.std.specs.List.{slice_split};
 ghost use Rattle.kc_trace.specs.Reading.{one_word, with_one_number, with_two_numbers, with_three_numbers, two_words, three_words, host_access, four_words, guest_access, six_words, call_of_words, call_of};
 
 use crate::data_word::read_data;
 use crate::number::read_number;
+use crate::search::first_at;
 use kc_types::Call;
 use std::alloc::{AllocError, Global};
 
@@ -200,18 +201,12 @@ fn read_six_words(
     read_guest_access(alloc, name, (first, second, third, fourth), fifth)
 }
 
-fn space_at(line: &[u8]) -> Option<usize>
-    ensures { result ≡ position (λ b. b == 32) line.now }
-{
-    line.iter().position(|byte| *byte == b' ')
-}
-
 /// The first word of a line and what stands behind the space after it, or nothing where the line is one word.
 fn split_word(line: &[u8]) -> Option<(&[u8], &[u8])>
     ensures { MatchOption result (slice_split (λ b. b == 32) line.now ≡ line.now ∷ [])
         (λ cut. slice_split (λ b. b == 32) line.now ≡ cut.0.now ∷ slice_split (λ b. b == 32) cut.1.now) }
 {
-    match space_at(line) {
+    match first_at(b' ', line) {
         Some(at) => Some((&line[..at], &line[at + 1..])),
         None => None,
     }

@@ -1,13 +1,14 @@
 //! Reading a trace, whole or in pieces.
-ghost use Rattle.std.specs.Prelude.{◌≡◌, ◌≢◌, ◌+◌, ◌<◌, ◌≤◌, ◌==◌, List, [], ◌∷◌, length, take, position, Some, None, Ok, Err, IfOk, IfErr, OnOk, MatchOption, MatchResult};
+ghost use Rattle.std.specs.Prelude.{◌≡◌, ◌≢◌, ◌+◌, ◌<◌, List, [], ◌∷◌, ◌++◌, length, Some, None, Ok, Err, IfOk, IfErr, OnOk, MatchOption, MatchResult};
 ghost use Rattle.std.specs.Option.{option_to_list};
 ghost use Rattle.kc_types.specs.Limits.{call_limit};
 ghost use Rattle.kc_types.specs.declared.call.Call.{Call};
 ghost use Rattle.kc_trace.specs.Trace.{IsOneLine, IsTrace, IsRefused};
-ghost use Rattle.kc_trace.specs.Machine.{Gives, start, step, feed, fed, ended, reading, call_in, longer, longer_each};
+ghost use Rattle.kc_trace.specs.Machine.{Gives, Fails, start, with_front, feed, fed, ended, reading, call_in, longer_each};
 
 use crate::fault::TraceFault;
 use crate::line::call_of_line;
+use crate::search::first_at;
 use arrayvec::ArrayVec;
 use kc_types::Call;
 use std::alloc::{AllocError, Global};
@@ -20,21 +21,24 @@ const LONGEST_LINE: usize = 8_243;
 
 const CALL_LIMIT: u32 = 65_536;
 
-fn newline_at(bytes: &[u8]) -> Option<usize>
-    ensures { result ≡ position (λ b. b == 10) bytes.now }
+/// What stands in front of the first newline and what behind it, where there is one.
+fn split_line(bytes: &[u8]) -> Option<(&[u8], &[u8])>
+    ensures { MatchOption result (IsOneLine bytes.now) (λ cut. IsOneLine cut.0.now × (bytes.now ≡ cut.0.now ++ 10 ∷ cut.1.now)) }
 {
-    bytes.iter().position(|byte| *byte == b'\n')
+    match first_at(b'\n', bytes) {
+        Some(at) => Some((&bytes[..at], &bytes[at + 1..])),
+        None => None,
+    }
 }
 
-/// How many bytes stand in front of the first newline, or in all where there is none.
-fn line_length(bytes: &[u8]) -> usize
-    ensures within { result ≤ length bytes.now }
-    ensures one_line { IsOneLine (take result bytes.now) }
+/// The call that a line is, if it is one.
+fn call_of_whole(alloc: Global, line: &[u8]) -> Result<Option<Call>, AllocError>
+    ensures { IfOk result (λ call. call ≡ call_in (longer_each (Some []) line.now)) }
 {
-    match newline_at(bytes) {
-        Some(at) => at,
-        None => bytes.len(),
+    if line.len() > LONGEST_LINE {
+        return Ok(None);
     }
+    call_of_line(alloc, line)
 }
 
 /// How far a trace has been read: what is still to come of the header, how many calls came, and the line begun.
@@ -84,26 +88,31 @@ impl Progress {
         }
     }
 
-    /// One more byte of a line.
-    fn push(&mut self, byte: u8)
-        ensures { self.new ≡ record self.old { line = longer self.old.line byte } }
+    /// More bytes of a line.
+    fn push_each(&mut self, run: &[u8])
+        ensures { self.new ≡ record self.old { line = longer_each self.old.line run.now } }
     {
-        if self.line.is_full() {
+        if self.line.remaining_capacity() < run.len() {
             self.is_too_long = true;
         } else {
-            self.line.push(byte);
+            self.line.try_extend_from_slice(run).unwrap();
         }
     }
 
-    /// The call that the line is, now that its newline came.
-    fn call(&self, alloc: Global) -> Result<Option<Call>, AllocError>
-        ensures { IfOk result (λ call. call ≡ call_in self.now.line) }
+    /// The call that the line is, whose last bytes these are. It is read where it lies, unless it began in an
+    /// earlier piece.
+    fn call(&mut self, alloc: Global, last: &[u8]) -> Result<Option<Call>, AllocError>
+        ensures call { IfOk result (λ call. call ≡ call_in (longer_each self.old.line last.now)) }
+        ensures others { self.new ≡ record self.old { line = self.new.line } }
     {
-        if self.is_too_long {
-            Ok(None)
-        } else {
-            call_of_line(alloc, self.line.as_slice())
+        if self.line.is_empty() && !self.is_too_long {
+            return call_of_whole(alloc, last);
         }
+        self.push_each(last);
+        if self.is_too_long {
+            return Ok(None);
+        }
+        call_of_line(alloc, self.line.as_slice())
     }
 
     /// The next line begins.
@@ -116,55 +125,50 @@ impl Progress {
         self.is_too_long = false;
     }
 
-    /// Takes one byte, and gives the call that it ends.
-    #[tactic(auto, unfolding(crate::specs::Machine::step))]
-    fn step(&mut self, alloc: Global, byte: u8) -> Result<Option<Call>, TraceFault>
-        ensures { Gives (λ call. (self.new, option_to_list call)) result (step self.old byte) }
+    /// Takes a line up to its newline, with the call that it is, or what there is of it.
+    fn take_line<'a>(
+        &mut self,
+        alloc: Global,
+        bytes: &'a [u8],
+    ) -> Result<(Option<Call>, &'a [u8]), TraceFault>
+        requires behind { self.old.header_left ≡ [] }
+        requires few { self.old.calls < call_limit }
+        requires some { 0 < length bytes.now }
+        ensures less { IfOk result (λ taken. length taken.1.now < length bytes.now) }
+        ensures same { MatchResult result (λ taken. feed self.old bytes.now ≡ with_front (option_to_list taken.0) (feed self.new taken.1.now)) (λ fault. Fails fault (feed self.old bytes.now)) }
+    {
+        let Some((line, rest)) = split_line(bytes) else {
+            self.push_each(bytes);
+            return Ok((None, &bytes[bytes.len()..]));
+        };
+        let Some(call) = self.call(alloc, line)? else {
+            return Err(TraceFault::BadLine(self.calls + 2));
+        };
+        self.end_line();
+        Ok((Some(call), rest))
+    }
+
+    /// Takes some bytes from the front: one of the header, or those of a line.
+    fn take_some<'a>(
+        &mut self,
+        alloc: Global,
+        bytes: &'a [u8],
+    ) -> Result<(Option<Call>, &'a [u8]), TraceFault>
+        requires some { 0 < length bytes.now }
+        ensures less { IfOk result (λ taken. length taken.1.now < length bytes.now) }
+        ensures same { MatchResult result (λ taken. feed self.old bytes.now ≡ with_front (option_to_list taken.0) (feed self.new taken.1.now)) (λ fault. Fails fault (feed self.old bytes.now)) }
     {
         if let [next, left @ ..] = self.header_left {
-            if byte != *next {
+            if bytes[0] != *next {
                 return Err(TraceFault::NoHeader);
             }
             self.header_left = left;
-            return Ok(None);
+            return Ok((None, &bytes[1..]));
         }
         if self.calls >= CALL_LIMIT {
             return Err(TraceFault::TooManyCalls);
         }
-        if byte != b'\n' {
-            self.push(byte);
-            return Ok(None);
-        }
-        let Some(call) = self.call(alloc)? else {
-            return Err(TraceFault::BadLine(self.calls + 2));
-        };
-        self.end_line();
-        Ok(Some(call))
-    }
-
-    /// More bytes of a line.
-    fn push_each(&mut self, run: &[u8])
-        ensures { self.new ≡ record self.old { line = longer_each self.old.line run.now } }
-    {
-        if self.line.remaining_capacity() < run.len() {
-            self.is_too_long = true;
-        } else {
-            self.line.try_extend_from_slice(run).unwrap();
-        }
-    }
-
-    /// Takes the bytes in front of a newline in one go, where a line is being read. What is left begins with a
-    /// byte for `step`, or is empty.
-    fn push_run<'a>(&mut self, bytes: &'a [u8]) -> &'a [u8]
-        ensures less { length result.now ≤ length bytes.now }
-        ensures same { feed self.old bytes.now ≡ feed self.new result.now }
-    {
-        if !self.header_left.is_empty() || self.calls >= CALL_LIMIT {
-            return bytes;
-        }
-        let (run, left) = bytes.split_at(line_length(bytes));
-        self.push_each(run);
-        left
+        self.take_line(alloc, bytes)
     }
 
     /// Takes some bytes, and gives the calls that they end.
@@ -172,12 +176,13 @@ impl Progress {
         ensures { Gives (λ fed. (fed.0, fed.1.items)) result (feed self bytes.now) }
     {
         let mut calls = Vec::new(alloc);
-        let mut rest = self.push_run(bytes);
-        while let [byte, left @ ..] = rest {
-            if let Some(call) = self.step(alloc, *byte)? {
+        let mut rest = bytes;
+        while !rest.is_empty() {
+            let (call, left) = self.take_some(alloc, rest)?;
+            if let Some(call) = call {
                 calls.push(call)?;
             }
-            rest = self.push_run(left);
+            rest = left;
         }
         Ok((self, calls))
     }

@@ -1,44 +1,61 @@
 //! Replies as text.
-ghost use Rattle.std.specs.Prelude.{◌≡◌, ◌++◌, ◌∷◌, [], IfOk, OnOk};
-ghost use Rattle.std.specs.String.{string_bytes};
+ghost use Rattle.std.specs.Prelude.{◌≡◌, ◌≤◌, ◌+◌, ◌++◌, ◌∷◌, [], codes, length, vec_len, vec_capacity, IfOk};
 ghost use Rattle.std.specs.List.{join_with_byte};
 ghost use Rattle.std.specs.Fmt.{decimal};
-ghost use Rattle.kc_trace.specs.ReplyText.{reply_line_of, reply_text_of};
+ghost use Rattle.hex.specs.Hex.{encode_lower};
+ghost use Rattle.kc_trace.specs.ReplyText.{longest_reply, reply_line_of, reply_text_of};
 
-use kc_types::{Memory, Reply};
-use std::alloc::{AllocError, Global};
+use crate::room::{push_bytes, push_digits};
+use itoa::Buffer;
+use kc_types::{Data, Memory, Reply};
+use std::alloc::Global;
 
-/// Appends the line of a name and a number.
-fn push_number(text: &mut String, name: &str, number: u32) -> Result<(), AllocError>
-    ensures { OnOk result (string_bytes text.new ≡ string_bytes text.old ++ (join_with_byte 32 (name.now ∷ decimal number ∷ []) ++ 10 ∷ [])) }
-{
-    writeln!(text, "{name} {number}")?;
-    Ok(())
-}
+/// The bytes of the longest line of a reply, with its newline: `data`, and 4,096 bytes.
+pub const LONGEST_REPLY: usize = 8_198;
 
 /// Appends the line of a name and a word.
-fn push_word(text: &mut String, name: &str, word: &str) -> Result<(), AllocError>
-    ensures { OnOk result (string_bytes text.new ≡ string_bytes text.old ++ (join_with_byte 32 (name.now ∷ word.now ∷ []) ++ 10 ∷ [])) }
+fn push_word(text: &mut Vec<u8>, name: &str, word: &str)
+    requires { vec_len text.old + (length name.now + (length word.now + 2)) ≤ vec_capacity text.old }
+    ensures line { text.new.items ≡ text.old.items ++ (join_with_byte 32 (name.now ∷ word.now ∷ []) ++ 10 ∷ []) }
+    ensures capacity { vec_capacity text.old ≤ vec_capacity text.new }
 {
-    writeln!(text, "{name} {word}")?;
-    Ok(())
+    push_bytes(text, name.as_bytes());
+    push_bytes(text, b" ");
+    push_bytes(text, word.as_bytes());
+    push_bytes(text, b"\n");
 }
 
-/// Appends the line of a reply and its newline.
-fn push_reply(alloc: Global, text: &mut String, reply: &Reply) -> Result<(), AllocError>
-    ensures { OnOk result (string_bytes text.new ≡ string_bytes text.old ++ (reply_line_of reply.now ++ 10 ∷ [])) }
+/// Appends the line of a name and a number.
+fn push_number(text: &mut Vec<u8>, name: &str, number: u32)
+    requires { vec_len text.old + (length name.now + 12) ≤ vec_capacity text.old }
+    ensures line { text.new.items ≡ text.old.items ++ (join_with_byte 32 (name.now ∷ decimal number ∷ []) ++ 10 ∷ []) }
+    ensures capacity { vec_capacity text.old ≤ vec_capacity text.new }
+{
+    push_word(text, name, Buffer::new().format(number));
+}
+
+/// Appends the line of some bytes.
+fn push_data(text: &mut Vec<u8>, bytes: &Data)
+    requires { vec_len text.old + longest_reply ≤ vec_capacity text.old }
+    ensures line { text.new.items ≡ text.old.items ++ (join_with_byte 32 (codes "data" ∷ encode_lower bytes.now ∷ []) ++ 10 ∷ []) }
+    ensures capacity { vec_capacity text.old ≤ vec_capacity text.new }
+{
+    push_bytes(text, b"data ");
+    push_digits(text, bytes.as_slice());
+    push_bytes(text, b"\n");
+}
+
+/// Appends the line of a reply and its newline, for which there is room: memory does not grow.
+pub fn push_reply(text: &mut Vec<u8>, reply: &Reply)
+    requires { vec_len text.old + longest_reply ≤ vec_capacity text.old }
+    ensures line { text.new.items ≡ text.old.items ++ (reply_line_of reply.now ++ 10 ∷ []) }
+    ensures capacity { vec_capacity text.old ≤ vec_capacity text.new }
 {
     match reply {
-        Reply::Done => {
-            writeln!(text, "done")?;
-            Ok(())
-        }
+        Reply::Done => push_bytes(text, b"done\n"),
         Reply::Frame(frame) => push_number(text, "frame", *frame),
         Reply::Image(image) => push_number(text, "image", *image),
-        Reply::Data(bytes) => {
-            let digits = hex::encode(alloc, bytes.as_slice())?;
-            push_word(text, "data", digits.as_str())
-        }
+        Reply::Data(bytes) => push_data(text, bytes),
         Reply::Fault(gfn) => push_number(text, "fault", *gfn),
         Reply::Rejected(image) => push_number(text, "rejected", *image),
         Reply::Refused(refusal) => push_word(text, "refused", refusal.name()),
@@ -50,9 +67,10 @@ pub fn write_replies(alloc: Global, replies: &[Reply]) -> Result<Vec<u8>, Memory
     // No clause can rule out want of memory: tests write replies.
     ensures { IfOk result (λ text. text.items ≡ reply_text_of replies.now) }
 {
-    let mut text = String::new(alloc);
+    let mut text = Vec::new(alloc);
     for reply in replies {
-        push_reply(alloc, &mut text, reply)?;
+        text.reserve(LONGEST_REPLY)?;
+        push_reply(&mut text, reply);
     }
-    Ok(text.into_bytes())
+    Ok(text)
 }

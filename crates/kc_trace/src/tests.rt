@@ -1,4 +1,4 @@
-use crate::{TraceFault, TraceReader, read_trace, write_replies, write_trace};
+use crate::{LONGEST_REPLY, TraceFault, TraceReader, read_trace, write_replies, write_trace};
 use kc_types::{Call, Data, Refusal, Reply};
 use std::alloc::Global;
 use std::test::Fail;
@@ -242,5 +242,64 @@ fn pieces(rt: HostRuntime) -> Result<(), Fail> {
     let found = refusal(reader.feed(alloc, b"take\n"))?;
     assert_eq!(rt; found, Some(TraceFault::BadLine(3)));
     assert_eq!(rt; reader.finish(), Err(TraceFault::BadLine(3)));
+    Ok(())
+}
+
+/// A text cut in two at any place is answered as in one piece, whichever line the cut is in.
+#[test]
+fn two_pieces(rt: HostRuntime) -> Result<(), Fail> {
+    let alloc = rt.alloc();
+    let text = b"kcore-trace 1\nhwrite 1 0 00ff2a\ntake\nhread 1 0 1\n";
+    let whole = read_trace(alloc, text)?;
+    for at in 0..text.len() + 1 {
+        let (front, back) = text.split_at(at);
+        let mut reader = TraceReader::new();
+        let mut calls = reader.feed(alloc, front)?;
+        calls.append(&mut reader.feed(alloc, back)?)?;
+        assert_eq!(rt; reader.finish(), Ok(()));
+        assert_eq!(rt; calls, whole, "{at}");
+    }
+    Ok(())
+}
+
+/// A line that is too long is refused wherever it is cut.
+#[test]
+fn long_line_in_pieces(rt: HostRuntime) -> Result<(), Fail> {
+    let alloc = rt.alloc();
+    for at in [1, 13, 8_205, 8_207, 8_208] {
+        let mut line = b"hwrite 1 0 ".to_vec(alloc)?;
+        for _ in 0..8_197 {
+            line.push(b'7')?;
+        }
+        line.push(b'\n')?;
+        let (front, back) = line.split_at_checked(at).ok_or("the place")?;
+        let mut reader = TraceReader::new();
+        assert_eq!(rt; reader.feed(alloc, b"kcore-trace 1\n")?.len(), 0);
+        assert_eq!(rt; reader.feed(alloc, front)?.len(), 0);
+        assert_eq!(rt;
+            refusal(reader.feed(alloc, back))?,
+            Some(TraceFault::BadLine(2)),
+            "{at}"
+        );
+    }
+    Ok(())
+}
+
+/// A page of bytes makes the longest line of a reply.
+#[test]
+fn longest_reply(rt: HostRuntime) -> Result<(), Fail> {
+    let alloc = rt.alloc();
+    let mut bytes = Vec::new(alloc);
+    bytes.resize(4_096, 165)?;
+    let mut wanted = b"data ".to_vec(alloc)?;
+    for _ in 0..4_096 {
+        wanted.extend_from_slice(b"a5")?;
+    }
+    wanted.push(b'\n')?;
+    let mut replies = Vec::new(alloc);
+    replies.push(Reply::Data(data(alloc, &bytes)?))?;
+    let text = write_replies(alloc, &replies)?;
+    assert_eq!(rt; text.len(), LONGEST_REPLY);
+    assert_eq!(rt; text, wanted);
     Ok(())
 }

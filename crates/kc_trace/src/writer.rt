@@ -1,66 +1,99 @@
 //! Calls as text.
-ghost use Rattle.std.specs.Prelude.{◌≡◌, ◌≤◌, ◌++◌, ◌∷◌, [], length, IfOk, OnOk};
-ghost use Rattle.std.specs.String.{string_bytes};
+ghost use Rattle.std.specs.Prelude.{◌≡◌, ◌≤◌, ◌+◌, ◌++◌, ◌∷◌, [], codes, length, vec_len, vec_capacity, IfOk};
 ghost use Rattle.std.specs.List.{join_with_byte};
 ghost use Rattle.std.specs.Fmt.{decimal};
+ghost use Rattle.hex.specs.Hex.{encode_lower};
 ghost use Rattle.kc_types.specs.Limits.{call_limit};
-ghost use Rattle.kc_trace.specs.Spelling.{line_of, trace_of};
+ghost use Rattle.kc_trace.specs.Spelling.{header, line_of, longest_call, trace_of};
 
-use kc_types::{Call, Memory};
-use std::alloc::{AllocError, Global};
+use crate::room::{push_bytes, push_digits, push_number};
+use kc_types::{Call, Data, Memory};
+use std::alloc::Global;
 
-/// Appends the line of a name and a number.
-fn push_one(text: &mut String, name: &str, number: u32) -> Result<(), AllocError>
-    ensures { OnOk result (string_bytes text.new ≡ string_bytes text.old ++ (join_with_byte 32 (name.now ∷ decimal number ∷ []) ++ 10 ∷ [])) }
+/// The bytes of the longest line of a call, with its newline: `gwrite`, four numbers and 4,096 bytes.
+pub const LONGEST_CALL: usize = 8_244;
+
+/// Appends a space, and the digits of some bytes.
+fn push_data(text: &mut Vec<u8>, bytes: &Data)
+    requires { vec_len text.old + 8193 ≤ vec_capacity text.old }
+    ensures items { text.new.items ≡ text.old.items ++ (32 ∷ encode_lower bytes.now) }
+    ensures len { vec_len text.new ≤ vec_len text.old + 8193 }
+    ensures capacity { vec_capacity text.old ≤ vec_capacity text.new }
 {
-    writeln!(text, "{name} {number}")?;
-    Ok(())
+    push_bytes(text, b" ");
+    push_digits(text, bytes.as_slice());
 }
 
-/// Appends the line of a name and three numbers.
-fn push_three(
-    text: &mut String,
-    name: &str,
-    first: u32,
-    second: u32,
-    third: u32,
-) -> Result<(), AllocError>
-    ensures { OnOk result (string_bytes text.new ≡ string_bytes text.old ++ (join_with_byte 32 (name.now ∷ decimal first ∷ decimal second ∷ decimal third ∷ []) ++ 10 ∷ [])) }
+/// Appends a name and a number.
+fn push_one(text: &mut Vec<u8>, name: &str, number: u32)
+    requires { vec_len text.old + (length name.now + 11) ≤ vec_capacity text.old }
+    ensures items { text.new.items ≡ text.old.items ++ join_with_byte 32 (name.now ∷ decimal number ∷ []) }
+    ensures len { vec_len text.new ≤ vec_len text.old + (length name.now + 11) }
+    ensures capacity { vec_capacity text.old ≤ vec_capacity text.new }
 {
-    writeln!(text, "{name} {first} {second} {third}")?;
-    Ok(())
+    push_bytes(text, name.as_bytes());
+    push_number(text, number);
 }
 
-/// Appends the line of a call and its newline.
-fn push_call(alloc: Global, text: &mut String, call: &Call) -> Result<(), AllocError>
-    ensures { OnOk result (string_bytes text.new ≡ string_bytes text.old ++ (line_of call.now ++ 10 ∷ [])) }
+/// Appends a name and two numbers.
+fn push_two(text: &mut Vec<u8>, name: &str, first: u32, second: u32)
+    requires { vec_len text.old + (length name.now + 22) ≤ vec_capacity text.old }
+    ensures items { text.new.items ≡ text.old.items ++ join_with_byte 32 (name.now ∷ decimal first ∷ decimal second ∷ []) }
+    ensures len { vec_len text.new ≤ vec_len text.old + (length name.now + 22) }
+    ensures capacity { vec_capacity text.old ≤ vec_capacity text.new }
+{
+    push_one(text, name, first);
+    push_number(text, second);
+}
+
+/// Appends a name and three numbers.
+fn push_three(text: &mut Vec<u8>, name: &str, first: u32, second: u32, third: u32)
+    requires { vec_len text.old + (length name.now + 33) ≤ vec_capacity text.old }
+    ensures items { text.new.items ≡ text.old.items ++ join_with_byte 32 (name.now ∷ decimal first ∷ decimal second ∷ decimal third ∷ []) }
+    ensures len { vec_len text.new ≤ vec_len text.old + (length name.now + 33) }
+    ensures capacity { vec_capacity text.old ≤ vec_capacity text.new }
+{
+    push_two(text, name, first, second);
+    push_number(text, third);
+}
+
+/// Appends the line of a call.
+fn push_line(text: &mut Vec<u8>, call: &Call)
+    requires { vec_len text.old + 8243 ≤ vec_capacity text.old }
+    ensures items { text.new.items ≡ text.old.items ++ line_of call.now }
+    ensures len { vec_len text.new ≤ vec_len text.old + 8243 }
+    ensures capacity { vec_capacity text.old ≤ vec_capacity text.new }
 {
     match call {
-        Call::Take => writeln!(text, "take")?,
-        Call::Give { frame } => push_one(text, "give", *frame)?,
-        Call::HostFault { frame } => push_one(text, "hfault", *frame)?,
-        Call::HostRead { frame, offset, len } => push_three(text, "hread", *frame, *offset, *len)?,
+        Call::Take => push_bytes(text, b"take"),
+        Call::Give { frame } => push_one(text, "give", *frame),
+        Call::HostFault { frame } => push_one(text, "hfault", *frame),
+        Call::HostRead { frame, offset, len } => push_three(text, "hread", *frame, *offset, *len),
         Call::HostWrite {
             frame,
             offset,
             data,
         } => {
-            let digits = hex::encode(alloc, data.as_slice())?;
-            writeln!(text, "hwrite {frame} {offset} {digits}")?;
+            push_two(text, "hwrite", *frame, *offset);
+            push_data(text, data);
         }
-        Call::RegisterVm { vm } => push_one(text, "regvm", *vm)?,
-        Call::RegisterVcpu { vm, vcpu } => writeln!(text, "regvcpu {vm} {vcpu}")?,
-        Call::SetBoot { vm, base, len } => push_three(text, "setboot", *vm, *base, *len)?,
-        Call::Remap { vm, image, frame } => push_three(text, "remap", *vm, *image, *frame)?,
-        Call::Verify { vm } => push_one(text, "verify", *vm)?,
-        Call::Map { vm, vcpu, frame } => push_three(text, "map", *vm, *vcpu, *frame)?,
+        Call::RegisterVm { vm } => push_one(text, "regvm", *vm),
+        Call::RegisterVcpu { vm, vcpu } => push_two(text, "regvcpu", *vm, *vcpu),
+        Call::SetBoot { vm, base, len } => push_three(text, "setboot", *vm, *base, *len),
+        Call::Remap { vm, image, frame } => push_three(text, "remap", *vm, *image, *frame),
+        Call::Verify { vm } => push_one(text, "verify", *vm),
+        Call::Map { vm, vcpu, frame } => push_three(text, "map", *vm, *vcpu, *frame),
         Call::GuestRead {
             vm,
             vcpu,
             gfn,
             offset,
             len,
-        } => writeln!(text, "gread {vm} {vcpu} {gfn} {offset} {len}")?,
+        } => {
+            push_three(text, "gread", *vm, *vcpu, *gfn);
+            push_number(text, *offset);
+            push_number(text, *len);
+        }
         Call::GuestWrite {
             vm,
             vcpu,
@@ -68,15 +101,34 @@ fn push_call(alloc: Global, text: &mut String, call: &Call) -> Result<(), AllocE
             offset,
             data,
         } => {
-            let digits = hex::encode(alloc, data.as_slice())?;
-            writeln!(text, "gwrite {vm} {vcpu} {gfn} {offset} {digits}")?;
+            push_three(text, "gwrite", *vm, *vcpu, *gfn);
+            push_number(text, *offset);
+            push_data(text, data);
         }
-        Call::Grant { vm, vcpu, gfn } => push_three(text, "grant", *vm, *vcpu, *gfn)?,
-        Call::Revoke { vm, vcpu, gfn } => push_three(text, "revoke", *vm, *vcpu, *gfn)?,
-        Call::Drop { vm, vcpu, gfn } => push_three(text, "drop", *vm, *vcpu, *gfn)?,
-        Call::Clear { vm } => push_one(text, "clear", *vm)?,
+        Call::Grant { vm, vcpu, gfn } => push_three(text, "grant", *vm, *vcpu, *gfn),
+        Call::Revoke { vm, vcpu, gfn } => push_three(text, "revoke", *vm, *vcpu, *gfn),
+        Call::Drop { vm, vcpu, gfn } => push_three(text, "drop", *vm, *vcpu, *gfn),
+        Call::Clear { vm } => push_one(text, "clear", *vm),
     }
-    Ok(())
+}
+
+/// Appends the line of a call and its newline, for which there is room: memory does not grow.
+pub fn push_call(text: &mut Vec<u8>, call: &Call)
+    requires { vec_len text.old + longest_call ≤ vec_capacity text.old }
+    ensures line { text.new.items ≡ text.old.items ++ (line_of call.now ++ 10 ∷ []) }
+    ensures capacity { vec_capacity text.old ≤ vec_capacity text.new }
+{
+    push_line(text, call);
+    push_bytes(text, b"\n");
+}
+
+/// Appends the first line of a trace and its newline, for which there is room.
+pub fn push_header(text: &mut Vec<u8>)
+    requires { vec_len text.old + length header ≤ vec_capacity text.old }
+    ensures line { text.new.items ≡ text.old.items ++ header }
+    ensures capacity { vec_capacity text.old ≤ vec_capacity text.new }
+{
+    push_bytes(text, b"kcore-trace 1\n");
 }
 
 /// The text of at most 65,536 calls: the header, and a line for each call. Each line ends with a
@@ -86,9 +138,11 @@ pub fn write_trace(alloc: Global, calls: &[Call]) -> Result<Vec<u8>, Memory>
     // No clause can rule out want of memory: tests write traces.
     ensures { IfOk result (λ text. text.items ≡ trace_of calls.now) }
 {
-    let mut text = String::from_str(alloc, "kcore-trace 1\n")?;
+    let mut text = Vec::with_capacity(alloc, LONGEST_CALL)?;
+    push_header(&mut text);
     for call in calls {
-        push_call(alloc, &mut text, call)?;
+        text.reserve(LONGEST_CALL)?;
+        push_call(&mut text, call);
     }
-    Ok(text.into_bytes())
+    Ok(text)
 }

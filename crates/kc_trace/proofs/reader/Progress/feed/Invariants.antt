@@ -1,6 +1,5 @@
 use Rattle.std.proofs.Common.{◌≡◌, length}
-use Rattle.kc_trace.specs.Machine.{feed}
-use Rattle.kc_trace.proofs.Runs.{with_front}
+use Rattle.kc_trace.specs.Machine.{feed, with_front}
 use Rattle.kc_trace.proofs.reader.Progress.feed.Given as goal
 
 -- the calls so far, and those of the bytes that are left

@@ -1,0 +1,88 @@
+-- A text that is given in pieces.
+use Rattle.std.proofs.Common.{◌≡◌, ◌<◌, ◌+◌, ℕ, List, [], ◌∷◌, ◌++◌, length, take, drop, get_or, Option, refl, sym, ap, ◌∙◌, append_assoc, arith, inl, inr}
+use Rattle.std.proofs.lemmas.Bool.{cases_lt}
+use Rattle.std.proofs.lemmas.List.{take_all, take_more, take-append-drop, append-nil}
+use Rattle.std.proofs.lemmas.Grind.{flat_map-append}
+use Rattle.std.proofs.lemmas.List.Concat.{flat_map-cons}
+use Rattle.std.proofs.Math.Seq.{take-append-add, take-append-le}
+use Rattle.std.specs.Io.KnownBytes.{Appends}
+use Rattle.std.proofs.KnownBytes.{Appends-trans}
+use Rattle.kc_types.specs.declared.reply.Reply.{Reply}
+use Rattle.kc_types.specs.declared.call.Call.{Call}
+use Rattle.kc_trace.specs.ReplyText.{reply_line_of, reply_text_of}
+use Rattle.kc_trace.specs.Spelling.{header, line_of, trace_of}
+use Rattle.std.specs.List.{flat_map}
+
+-- of this text the sink took a beginning, and what is left of it stands in the buffer
+pub record IsGiven (text piece : List ℕ) (old new : Option (List ℕ)) : Type 0 where
+  pub sent : List ℕ
+  pub taken : Appends old new sent
+  pub joined : text ≡ sent ++ piece
+
+pub given_whole : (text piece : List ℕ) (old mid new : Option (List ℕ)) → IsGiven text piece old mid → Appends mid new piece → IsGiven text [] old new
+given_whole text piece old mid new given more = record {
+  sent = given.sent ++ piece;
+  taken = Appends-trans old mid new given.sent piece given.taken more;
+  joined = given.joined ∙ sym (append-nil (given.sent ++ piece));
+}
+
+pub given_all : (text : List ℕ) (old new : Option (List ℕ)) → IsGiven text [] old new → Appends old new text
+given_all text old new given = rw (given.joined, append-nil given.sent) given.taken
+
+abbrev text_of_first : {X : Type 0} → (X → List ℕ) → List ℕ → ℕ → List X → List ℕ
+text_of_first line front n xs = front ++ flat_map line (take n xs)
+
+-- one line more, which the buffer took
+given_more : {X : Type 0} (line : X → List ℕ) (front : List ℕ) (n : ℕ) (xs : List X) (x : X) (piece more : List ℕ) (old new : Option (List ℕ)) → n < length xs → x ≡ get_or xs n x → IsGiven (text_of_first line front n xs) piece old new → more ≡ piece ++ line x
+    → IsGiven (text_of_first line front (n + 1) xs) more old new
+given_more {X} line front n xs x piece more old new lt is given grown =
+    let one = get_or xs n x in
+    let lines : flat_map line (take (n + 1) xs) ≡ flat_map line (take n xs) ++ line x =
+    ap (flat_map line) (take_more xs n x lt) ∙ flat_map-append line (take n xs) (one ∷ []) ∙ ap (λ (t : List ℕ). flat_map line (take n xs) ++ t) (flat_map-cons line one [] ∙ append-nil (line one))
+    ∙ ap (λ (y : X). flat_map line (take n xs) ++ line y) (sym is) in
+    record {
+      sent = given.sent;
+      taken = given.taken;
+      joined = ap (λ (t : List ℕ). front ++ t) lines ∙ sym (append_assoc front (flat_map line (take n xs)) (line x)) ∙ ap (λ (t : List ℕ). t ++ line x) given.joined ∙ append_assoc given.sent piece (line x) ∙ ap (λ (t : List ℕ). given.sent ++ t) (sym grown);
+    }
+
+cut_short : (sent piece rest : List ℕ) (n : ℕ) → (m : ℕ) × (sent ++ take n piece ≡ take m ((sent ++ piece) ++ rest))
+cut_short sent piece rest n =
+    elim (cases_lt (length piece) n) [
+      | inl past ↦ (length sent + length piece, rw (take_all n piece (omega arith), append_assoc sent piece rest, take-append-add sent (piece ++ rest) (length piece), take-append-le (length piece) piece rest (omega arith), take_all (length piece) piece (omega arith)) refl)
+      | inr le ↦ (length sent + n, rw (append_assoc sent piece rest, take-append-add sent (piece ++ rest) n, take-append-le n piece rest le) refl)
+    ]
+
+-- where a piece is cut short, a beginning of the whole text was taken
+begun : {X : Type 0} (line : X → List ℕ) (front : List ℕ) (n : ℕ) (xs : List X) (piece : List ℕ) (old mid new : Option (List ℕ)) → IsGiven (text_of_first line front n xs) piece old mid → ((k : ℕ) × Appends mid new (take k piece)) → (m : ℕ) × Appends old new (take m (front ++ flat_map line xs))
+begun line front n xs piece old mid new given cut =
+    let rest = flat_map line (drop n xs) in
+    let whole : front ++ flat_map line xs ≡ (given.sent ++ piece) ++ rest =
+    ap (λ ys. front ++ flat_map line ys) (sym (take-append-drop n xs)) ∙ ap (λ (t : List ℕ). front ++ t) (flat_map-append line (take n xs) (drop n xs))
+    ∙ sym (append_assoc front (flat_map line (take n xs)) rest) ∙ ap (λ (t : List ℕ). t ++ rest) given.joined in
+    let begins = cut_short given.sent piece rest cut.0 in
+    (begins.0, rw (whole, ← begins.1) (Appends-trans old mid new given.sent (take cut.0 piece) given.taken cut.1))
+
+-- ---- replies
+
+abbrev reply_line : Reply → List ℕ
+reply_line reply = reply_line_of reply ++ 10 ∷ []
+
+pub given_reply : (n : ℕ) (replies : List Reply) (reply : Reply) (piece more : List ℕ) (old new : Option (List ℕ)) → n < length replies → reply ≡ get_or replies n reply → IsGiven (reply_text_of (take n replies)) piece old new → more ≡ piece ++ (reply_line_of reply ++ 10 ∷ [])
+    → IsGiven (reply_text_of (take (n + 1) replies)) more old new
+given_reply = given_more reply_line []
+
+pub replies_begun : (n : ℕ) (replies : List Reply) (piece : List ℕ) (old mid new : Option (List ℕ)) → IsGiven (reply_text_of (take n replies)) piece old mid → ((k : ℕ) × Appends mid new (take k piece)) → (m : ℕ) × Appends old new (take m (reply_text_of replies))
+replies_begun = begun reply_line []
+
+-- ---- calls, behind the header
+
+abbrev call_line : Call → List ℕ
+call_line call = line_of call ++ 10 ∷ []
+
+pub given_call : (n : ℕ) (calls : List Call) (call : Call) (piece more : List ℕ) (old new : Option (List ℕ)) → n < length calls → call ≡ get_or calls n call → IsGiven (trace_of (take n calls)) piece old new → more ≡ piece ++ (line_of call ++ 10 ∷ [])
+    → IsGiven (trace_of (take (n + 1) calls)) more old new
+given_call = given_more call_line header
+
+pub calls_begun : (n : ℕ) (calls : List Call) (piece : List ℕ) (old mid new : Option (List ℕ)) → IsGiven (trace_of (take n calls)) piece old mid → ((k : ℕ) × Appends mid new (take k piece)) → (m : ℕ) × Appends old new (take m (trace_of calls))
+calls_begun = begun call_line header

@@ -1,0 +1,40 @@
+//! Bytes appended where there is room for them, so that memory does not grow.
+ghost use Rattle.std.specs.Prelude.{◌≡◌, ◌≤◌, ◌+◌, ◌*◌, ◌++◌, ◌∷◌, length, vec_len, vec_capacity};
+ghost use Rattle.std.specs.Fmt.{decimal};
+ghost use Rattle.hex.specs.Hex.{encode_lower};
+
+use itoa::Buffer;
+
+/// Appends bytes for which there is room.
+pub fn push_bytes(text: &mut Vec<u8>, bytes: &[u8])
+    requires { vec_len text.old + length bytes.now ≤ vec_capacity text.old }
+    ensures items { text.new.items ≡ text.old.items ++ bytes.now }
+    ensures len { vec_len text.new ≡ vec_len text.old + length bytes.now }
+    ensures capacity { vec_capacity text.old ≤ vec_capacity text.new }
+{
+    text.extend_from_slice(bytes).unwrap();
+}
+
+/// Appends the digits of bytes for which there is room, each written where it is to stay.
+pub fn push_digits(text: &mut Vec<u8>, bytes: &[u8])
+    requires { vec_len text.old + 2 * length bytes.now ≤ vec_capacity text.old }
+    ensures items { text.new.items ≡ text.old.items ++ encode_lower bytes.now }
+    ensures len { vec_len text.new ≡ vec_len text.old + 2 * length bytes.now }
+    ensures capacity { vec_capacity text.old ≤ vec_capacity text.new }
+{
+    let start = text.len();
+    text.resize(start + 2 * bytes.len(), b'0').unwrap();
+    let (_, digits) = text.as_mut_slice().split_at_mut(start);
+    hex::encode_to_slice(bytes, digits).unwrap();
+}
+
+/// Appends a space and a number.
+pub fn push_number(text: &mut Vec<u8>, number: u32)
+    requires { vec_len text.old + 11 ≤ vec_capacity text.old }
+    ensures items { text.new.items ≡ text.old.items ++ (32 ∷ decimal number) }
+    ensures len { vec_len text.new ≤ vec_len text.old + 11 }
+    ensures capacity { vec_capacity text.old ≤ vec_capacity text.new }
+{
+    push_bytes(text, b" ");
+    push_bytes(text, Buffer::new().format(number).as_bytes());
+}
