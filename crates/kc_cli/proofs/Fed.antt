@@ -7,7 +7,6 @@ use Rattle.std.specs.Io.KnownBytes.{Consumes, IsAtEnd}
 use Rattle.kc_types.specs.declared.call.Call.{Call}
 use Rattle.kc_trace.specs.declared.fault.TraceFault.{TraceFault}
 use Rattle.kc_trace.specs.declared.fault.TraceFault.TheVariants.{NoHeader, BadLine, NoNewline, TooManyCalls, Memory}
-use Rattle.std.specs.List.{AllByRecursion}
 use Rattle.kc_trace.specs.Trace.{IsTrace, IsRefused}
 use Rattle.kc_trace.specs.Machine.{◌>>=◌, Progress, Reader, Fails, start, feed, fed, fed_after, ended, reading}
 use Rattle.kc_trace.proofs.Traces.{feed-append, and_then_feed, added, Reads, reading_reads}

@@ -1,12 +1,11 @@
 -- What a live run may be refused for.
-use Rattle.std.proofs.Common.{◌≡◌, ◌<◌, ℕ, List, length, Ok, arith}
+use Rattle.std.proofs.Common.{◌≡◌, ◌<◌, ℕ, List, length, arith}
 use Rattle.kc_types.specs.Configuration.{Configuration}
 use Rattle.kc_types.specs.declared.call.Call.{Call}
 use Rattle.kc_live.specs.declared.fault.LiveCause.{LiveCause}
 use Rattle.kc_live.specs.declared.fault.LiveCause.TheVariants.{NotYours, HistoryFull, Memory, Start, Unsettled, BadActor}
 use Rattle.kc_live.specs.Cuts.{StopsTrace}
-use Rattle.kc_trace.specs.declared.fault.TraceFault.{TraceFault}
-use Rattle.kc_trace.specs.Trace.{IsTrace, IsRefused}
+use Rattle.kc_trace.specs.Trace.{IsTrace}
 use Rattle.kc_cli.specs.Faults.{live_fault}
 use Rattle.kc_cli.specs.Live.{IsLiveFault}
 
