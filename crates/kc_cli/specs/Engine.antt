@@ -9,6 +9,11 @@ use Rattle.kc_trace.specs.ConfigText.{config_in}
 use Rattle.kc_trace.specs.Trace.{IsTrace}
 use Rattle.kc_trace.specs.ReplyText.{reply_text_of}
 
+-- the text is that of a configuration, where the source tells it
+abbrev pub IsConfigured : Option (List ℕ) → Type 0
+IsConfigured None = Unit {0}
+IsConfigured (Some text) = (config : Configuration) × (config_in text ≡ Ok config)
+
 -- the text is that of the replies of one thread, which takes the trace's calls in order from the boot state of the configuration
 pub record IsReplyText (config_text trace_text text : List ℕ) : Type 0 where
   pub config : Configuration

@@ -23,6 +23,12 @@ pub record AreRead (config_text trace_text : List ℕ) (config : Configuration) 
   pub configured : config_in config_text ≡ Ok config
   pub traced : IsTrace trace_text calls
 
+-- both texts were read, where the sources tell them
+abbrev pub WereRead : Option (List ℕ) → Option (List ℕ) → Type 0
+WereRead None trace = Unit {0}
+WereRead (Some config) None = Unit {0}
+WereRead (Some config_text) (Some trace_text) = (config : Configuration) × (calls : List Call) × AreRead config_text trace_text config calls
+
 -- the text is the trace read, rearranged
 abbrev pub IsLiveText : List ℕ → List ℕ → List ℕ → Type 0
 IsLiveText config_text trace_text text = (config : Configuration) × (calls : List Call) × AreRead config_text trace_text config calls × IsRearranged calls text

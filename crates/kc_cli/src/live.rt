@@ -8,8 +8,9 @@ ghost use Rattle.kc_trace.specs.declared.fault.TraceFault.{TraceFault};
 ghost use Rattle.kc_trace.specs.ConfigText.{config_in};
 ghost use Rattle.kc_trace.specs.Trace.{IsRefused};
 ghost use Rattle.kc_cli.specs.Ends.{ReadFailed};
+ghost use Rattle.kc_cli.specs.Engine.{IsConfigured};
 ghost use Rattle.kc_cli.specs.Faults.{live_fault};
-ghost use Rattle.kc_cli.specs.Live.{IsLiveFault, RunsLive, BeginsLive, HasBadActor};
+ghost use Rattle.kc_cli.specs.Live.{IsLiveFault, WereRead, RunsLive, BeginsLive, HasBadActor};
 
 use crate::stream::read_calls;
 use crate::traces::give_trace;
@@ -151,6 +152,15 @@ pub fn live_text<C: Source, T: Source, K: Sink, G: Gate + Sync, R: Threads + Wai
     ensures actor { (program : ℕ) → result ≡ Err (TextFault.BadActor program) → HasBadActor (C.left config.old) (T.left trace.old) program }
     ensures read { result ≡ Err TextFault.Read → ReadFailed (C.failed config.new) (C.left config.old) (C.left config.new) ⊎ ReadFailed (T.failed trace.new) (T.left trace.old) (T.left trace.new) }
     ensures write { result ≡ Err TextFault.Write → (K.failed out.new ≡ true) × BeginsLive (C.left config.old) (T.left trace.old) (K.taken out.old) (K.taken out.new) }
+
+    // An end that failed is reported as that and as nothing else.
+    ensures source { (C.failed config.new ≡ true) ⊎ (T.failed trace.new ≡ true) → result ≡ Err TextFault.Read }
+    ensures sink { K.failed out.new ≡ true → result ≡ Err TextFault.Write }
+
+    // The trace is judged only behind a configuration, and the run only behind both.
+    ensures configured { (fault : TraceFault) → result ≡ Err (TextFault.Trace fault) → IsConfigured (C.left config.old) }
+    ensures started { result ≡ Err TextFault.Start → WereRead (C.left config.old) (T.left trace.old) }
+    ensures unsettled { result ≡ Err TextFault.Unsettled → WereRead (C.left config.old) (T.left trace.old) }
 
     // Every fault but that of a write leaves the sink as it was.
     ensures untouched { OnErr result ((out.new ≡ out.old) ⊎ (result ≡ Err TextFault.Write)) }

@@ -1,5 +1,5 @@
 //! Ends in memory, and ends that fail.
-ghost use Rattle.std.specs.Prelude.{◌≡◌, ◌||◌, ◌+◌, ◌≤◌, ◌<◌, [], drop, length, Some, false, IfOk, IsErr, is_err};
+ghost use Rattle.std.specs.Prelude.{◌≡◌, ◌||◌, ◌+◌, ◌≤◌, ◌<◌, [], drop, length, Some, false, true, IfOk, IsOk, IsErr, is_err};
 ghost use Rattle.std.specs.Io.KnownBytes.{ReadConsumes, WriteAppends};
 
 use crate::{Failed, Sink, Source};
@@ -43,7 +43,14 @@ impl Source for Mem {
 
     ghost failed = { λ m. m.failed };
 
-    fn read(&mut self, buffer: &mut [u8]) -> Result<usize, Failed> {
+    fn read(&mut self, buffer: &mut [u8]) -> Result<usize, Failed>
+        requires { self.old.failed ≡ false }
+        ensures bytes { ReadConsumes (Some (drop self.old.position self.old.bytes.items)) (Some (drop self.new.position self.new.bytes.items)) result buffer.new }
+        ensures bound { IfOk result (λ n. n ≤ length buffer.new) }
+        ensures mark { self.new.failed ≡ is_err result }
+        // Bytes in memory can always be read.
+        ensures steady { IsOk result }
+    {
         if self.position >= self.bytes.len() {
             return Ok(0);
         }
@@ -104,8 +111,9 @@ impl<S: Source + Drop> Source for FailAt<S> {
         ensures bytes { ReadConsumes (S.left self.old.inner) (S.left self.new.inner) result buffer.new }
         ensures bound { IfOk result (λ n. n ≤ length buffer.new) }
         ensures mark { (self.new.failed || S.failed self.new.inner) ≡ is_err result }
-        // It fails in time.
+        // It fails in time, and by itself no earlier.
         ensures fails { self.old.left ≡ 0 → IsErr result }
+        ensures early { self.new.failed ≡ true → self.old.left ≡ 0 }
         ensures counted { IfOk result (λ n. self.new.left + n ≡ self.old.left) }
     {
         if self.left == 0 {
@@ -130,8 +138,9 @@ impl<S: Sink + Drop> Sink for FailAt<S> {
         ensures bound { IfOk result (λ n. n ≤ length bytes.now) }
         ensures some { IfOk result (λ n. 0 < length bytes.now → 0 < n) }
         ensures mark { (self.new.failed || S.failed self.new.inner) ≡ is_err result }
-        // It fails in time.
+        // It fails in time, and by itself no earlier.
         ensures fails { self.old.left ≡ 0 → IsErr result }
+        ensures early { self.new.failed ≡ true → self.old.left ≡ 0 }
         ensures counted { IfOk result (λ n. self.new.left + n ≡ self.old.left) }
     {
         if self.left == 0 {

@@ -71,3 +71,6 @@ impl<W: Write + Drop> Sink for Std<W> {
         Err(Failed)
     }
 }
+
+#[cfg(test)]
+mod tests;

@@ -1,9 +1,9 @@
 //! A trace, read from a source in pieces.
-ghost use Rattle.std.specs.Prelude.{◌≡◌, false, IfOk, OnOk, IfSome, Err};
+ghost use Rattle.std.specs.Prelude.{◌≡◌, ◌≢◌, ◌≤◌, false, true, length, IfOk, OnOk, IfSome, Err};
 ghost use Rattle.std.specs.Io.KnownBytes.{IsAtEnd};
 ghost use Rattle.kc_trace.specs.declared.fault.TraceFault.{TraceFault};
 ghost use Rattle.kc_trace.specs.Trace.{IsTrace, IsRefused};
-ghost use Rattle.kc_cli.specs.Ends.{ReadFailed};
+ghost use Rattle.kc_cli.specs.Ends.{ReadFailed, byte_limit};
 
 use crate::whole::MOST;
 use crate::{Failed, Source};
@@ -34,6 +34,9 @@ pub fn read_calls<T: Source>(alloc: Global, source: &mut T) -> Result<Vec<Call>,
     ensures ended { OnOk result (IsAtEnd (T.left source.new)) }
     ensures trace { (fault : TraceFault) → result ≡ Err (StreamFault.Trace fault) → IfSome (T.left source.old) (λ text. IsRefused text fault) × IsAtEnd (T.left source.new) }
     ensures read { result ≡ Err StreamFault.Read → ReadFailed (T.failed source.new) (T.left source.old) (T.left source.new) }
+    // A read that failed is reported as nothing else, and more bytes than are read as nothing else but want of memory.
+    ensures failure { T.failed source.new ≡ true → result ≡ Err StreamFault.Read }
+    ensures few { result ≢ Err StreamFault.Read → result ≢ Err StreamFault.Memory → IfSome (T.left source.old) (λ text. length text ≤ byte_limit) }
 {
     let mut buffer = [0u8; 65536];
     let mut reader = TraceReader::new();

@@ -1,5 +1,5 @@
 -- Parts taken out of parts, and parts put back.
-use Rattle.std.specs.Prelude.{ℕ, ◌≡◌, ◌<◌, ◌==◌, Bool, true, false, cond, List, length, get_or, Option, Some, None, IsSome}
+use Rattle.std.specs.Prelude.{ℕ, suc, ◌≡◌, ◌<◌, ◌==◌, Bool, true, false, cond, List, length, get_or, Option, Some, None, IsSome}
 use Rattle.std.specs.Option.{option_map}
 use Rattle.std.specs.List.{list_any}
 use Rattle.kc_types.specs.declared.link.Ends.{Ends}
@@ -47,6 +47,11 @@ pub record IsSplit (before : Held) (test : Resource → Bool) (rest taken : Held
   pub rest_is : (r : Resource) → held_at rest r ≡ cond (test r) None (held_at before r)
   pub places : rest.numbers ≡ before.numbers
   pub slots : length rest.vms ≡ length before.vms
+
+-- so many slots reach up to the highest that passes the test, and no further
+pub record AreSlotsFor (test : Resource → Bool) (slots : ℕ) : Type 0 where
+  pub all : (v : ℕ) → test (resource.Vm v) ≡ true → v < slots
+  pub least : (v : ℕ) → slots ≡ suc v → test (resource.Vm v) ≡ true
 
 -- for whatever other has, h has a place, and nothing in it
 pub record FitsInto (h other : Held) : Type 0 where

@@ -67,7 +67,7 @@ impl Parts {
     ghost use Rattle.kc_parts.specs.States.{state_of, IsLinked};
     ghost use Rattle.kc_parts.specs.Booting.{IsWhole};
     ghost use Rattle.kc_parts.specs.Lending.{LendsPage, LendsVm, LendsFree, LendsPages};
-    ghost use Rattle.kc_parts.specs.Cuts.{AreHere, IsSplit, FitsInto, IsJoin, IsFull, held_at, is_wanted};
+    ghost use Rattle.kc_parts.specs.Cuts.{AreHere, IsSplit, AreSlotsFor, FitsInto, IsJoin, IsFull, held_at, is_wanted};
     ghost use Rattle.kc_parts.specs.Moves.{IsWrite, IsLifted, IsLaid, IsEmptyPlace, WithSlots, only_at, page_among, slot_of};
 
     /// All parts of the boot state: every frame of the configuration, zeroed, every slot, empty, and the free
@@ -220,6 +220,7 @@ impl Parts {
         // No clause can rule out want of memory: tests take parts out.
         ensures ok { IfOk result (λ taken. IsSplit self.old (is_wanted wanted.now) self.new taken) }
         ensures full { IfOk result IsFull }
+        ensures room { IfOk result (λ taken. AreSlotsFor (is_wanted wanted.now) (length taken.vms)) }
         ensures err { OnErr result (self.new ≡ self.old) }
     {
         let numbers = wanted_frames(alloc, wanted)?;
@@ -305,6 +306,7 @@ impl Parts {
         ensures taken { (v : ℕ) → slot_of vms.new.items v ≡ cond (is_wanted wanted.now (resource.Vm v)) (vm_at self.old v) None }
         ensures left { (v : ℕ) → vm_at self.new v ≡ cond (is_wanted wanted.now (resource.Vm v)) None (vm_at self.old v) }
         ensures length { length self.new.vms ≡ length self.old.vms }
+        ensures places { length vms.new.items ≡ length vms.old.items }
         ensures rest { WithSlots self.old self.new }
     {
         move_slots(&mut self.vms, vms, wanted);

@@ -15,6 +15,7 @@ pub(crate) fn move_slots(from: &mut Vec<Option<Vm>>, to: &mut Vec<Option<Vm>>, w
     ensures moved { (v : ℕ) → slot_of to.new.items v ≡ cond (is_wanted wanted.now (resource.Vm v)) (slot_of from.old.items v) None }
     ensures left { (v : ℕ) → slot_of from.new.items v ≡ cond (is_wanted wanted.now (resource.Vm v)) None (slot_of from.old.items v) }
     ensures length { length from.new.items ≡ length from.old.items }
+    ensures places { length to.new.items ≡ length to.old.items }
 {
     for resource in wanted {
         if let Resource::Vm(vm) = *resource {

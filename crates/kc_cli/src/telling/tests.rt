@@ -138,6 +138,27 @@ fn tells_other_faults(rt: HostRuntime) {
         "kcore: out of memory\n",
         3,
     );
+    tells(
+        &rt,
+        rt.alloc(),
+        TextFault::Start,
+        "kcore: a worker could not be started\n",
+        3,
+    );
+    tells(
+        &rt,
+        rt.alloc(),
+        TextFault::Unsettled,
+        "kcore: history not settled\n",
+        3,
+    );
+    tells(
+        &rt,
+        rt.alloc(),
+        TextFault::BadActor(12),
+        "kcore: bad actor of program 12\n",
+        2,
+    );
     tells(&rt, rt.alloc(), TextFault::Read, "kcore: read failed\n", 3);
     tells(
         &rt,
