@@ -31,22 +31,22 @@ loop-call-preserved g c =
     let old = g.K.Sink.taken c.args.out.now in
     let left = c.if-capacity-len-lt-LONGEST_CALL in
     let given : IsGiven (trace_of (take at calls)) left.piece.items old (g.K.Sink.taken left.out) =
-        elim left.branch [
-          | then-capacity-len-lt-LONGEST_CALL+in_ok-write_whole w ↦
-              rw (w.out-is, w.piece-is, w.clear.ensures.items)
-              (given_whole (trace_of (take at calls)) c.loop-call.piece.items old (g.K.Sink.taken c.loop-call.out) (g.K.Sink.taken w.write_whole.new.sink) before.given (rw w.deref.ensures.value at w.in_ok-write_whole.ensures.ok))
-          | else-capacity-len-lt-LONGEST_CALL w ↦ rw (w.out-is, w.piece-is) before.given
-        ] in
+    elim left.branch [
+      | then-capacity-len-lt-LONGEST_CALL+in_ok-write_whole w ↦
+          rw (w.out-is, w.piece-is, w.clear.ensures.items)
+          (given_whole (trace_of (take at calls)) c.loop-call.piece.items old (g.K.Sink.taken c.loop-call.out) (g.K.Sink.taken w.write_whole.new.sink) before.given (rw w.deref.ensures.value at w.in_ok-write_whole.ensures.ok))
+      | else-capacity-len-lt-LONGEST_CALL w ↦ rw (w.out-is, w.piece-is) before.given
+    ] in
     let whole : g.K.Sink.failed left.out ≡ false =
-        elim left.branch [
-          | then-capacity-len-lt-LONGEST_CALL+in_ok-write_whole w ↦ rw w.out-is w.in_ok-write_whole.ensures.mark
-          | else-capacity-len-lt-LONGEST_CALL w ↦ rw w.out-is before.whole
-        ] in
+    elim left.branch [
+      | then-capacity-len-lt-LONGEST_CALL+in_ok-write_whole w ↦ rw w.out-is w.in_ok-write_whole.ensures.mark
+      | else-capacity-len-lt-LONGEST_CALL w ↦ rw w.out-is before.whole
+    ] in
     let room : 8244 ≤ vec_capacity left.piece =
-        elim left.branch [
-          | then-capacity-len-lt-LONGEST_CALL+in_ok-write_whole w ↦ rw (w.piece-is, w.clear.ensures.capacity) before.room
-          | else-capacity-len-lt-LONGEST_CALL w ↦ rw w.piece-is before.room
-        ] in
+    elim left.branch [
+      | then-capacity-len-lt-LONGEST_CALL+in_ok-write_whole w ↦ rw (w.piece-is, w.clear.ensures.capacity) before.room
+      | else-capacity-len-lt-LONGEST_CALL w ↦ rw w.piece-is before.room
+    ] in
     record {
       given = given_call at calls c.call-item.result left.piece.items c.push_call.new.text.items old (g.K.Sink.taken left.out) c.loop-call-test.true c.call-item.is given c.push_call.ensures.line;
       whole = whole;
