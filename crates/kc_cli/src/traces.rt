@@ -31,3 +31,6 @@ pub(crate) fn give_trace<K: Sink>(
     }
     write_whole(out, &piece)
 }
+
+#[cfg(test)]
+mod tests;
