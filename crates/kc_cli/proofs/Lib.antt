@@ -4,4 +4,3 @@ pub mod Fed
 pub mod Faulted
 pub mod LiveFaults
 pub mod Pieces
-pub mod Answered

@@ -1,5 +1,5 @@
 //! The engine that replays a trace, over any ends.
-ghost use Rattle.std.specs.Prelude.{◌≡◌, ◌≢◌, ◌⊎◌, ◌↔◌, true, false, IfOk, IfSome, OnOk, OnErr, Err, IsErrOf};
+ghost use Rattle.std.specs.Prelude.{◌≡◌, ◌≢◌, ◌⊎◌, ◌↔◌, ℕ, true, false, IfOk, IfSome, OnOk, OnErr, Err, IsErrOf};
 ghost use Rattle.std.specs.Io.KnownBytes.{IsAtEnd};
 ghost use Rattle.kc_model.specs.Boot.{boot};
 ghost use Rattle.kc_model.specs.Next.{replies_from};
@@ -9,7 +9,7 @@ ghost use Rattle.kc_trace.specs.ConfigText.{config_in};
 ghost use Rattle.kc_trace.specs.Trace.{IsRefused};
 ghost use Rattle.kc_trace.specs.ReplyText.{reply_text_of};
 ghost use Rattle.kc_cli.specs.Ends.{ReadFailed};
-ghost use Rattle.kc_cli.specs.Engine.{Replays, BeginsReplay};
+ghost use Rattle.kc_cli.specs.Engine.{IsConfigured, Replays, BeginsReplay};
 
 use crate::replies::give_replies;
 use crate::stream::read_calls;
@@ -20,24 +20,12 @@ use kc_trace::read_config;
 use kc_types::{Call, Config, Memory, Reply};
 use std::alloc::Global;
 
-/// Answers some calls in order. Each is let go once it is answered, so that a reply takes the memory of a call.
-#[tactic(auto, using(crate::proofs::Answered::replies_more, crate::proofs::Answered::state_more))]
-fn answer_each(alloc: Global, core: &mut KCore, calls: Vec<Call>) -> Result<Vec<Reply>, Memory>
-    ensures { IfOk result (λ replies. replies.items ≡ replies_from core.old calls.items) }
-{
-    let mut replies = Vec::with_capacity(alloc, calls.len())?;
-    for call in calls {
-        replies.push(core.call(&call)?)?;
-    }
-    Ok(replies)
-}
-
 /// The replies to some calls. The core is wiped before it goes, whatever the outcome.
 fn replies_to(alloc: Global, config: Config, calls: Vec<Call>) -> Result<Vec<Reply>, Memory>
     ensures { IfOk result (λ replies. replies.items ≡ replies_from (boot config) calls.items) }
 {
     let mut core = KCore::boot(alloc, config)?;
-    let outcome = answer_each(alloc, &mut core, calls);
+    let outcome = core.answer_all(alloc, calls);
     core.wipe();
     outcome
 }
@@ -68,6 +56,14 @@ pub fn replay_text<C: Source, T: Source, K: Sink>(
     ensures trace { (fault : TraceFault) → result ≡ Err (TextFault.Trace fault) → IfSome (T.left trace.old) (λ text. IsRefused text fault) × IsAtEnd (T.left trace.new) }
     ensures read { result ≡ Err TextFault.Read → ReadFailed (C.failed config.new) (C.left config.old) (C.left config.new) ⊎ ReadFailed (T.failed trace.new) (T.left trace.old) (T.left trace.new) }
     ensures write { result ≡ Err TextFault.Write → (K.failed out.new ≡ true) × BeginsReplay (C.left config.old) (T.left trace.old) (K.taken out.old) (K.taken out.new) }
+
+    // An end that failed is reported as that and as nothing else.
+    ensures source { (C.failed config.new ≡ true) ⊎ (T.failed trace.new ≡ true) → result ≡ Err TextFault.Read }
+    ensures sink { K.failed out.new ≡ true → result ≡ Err TextFault.Write }
+
+    // The trace is judged only behind a configuration, and no fault of a live run comes.
+    ensures configured { (fault : TraceFault) → result ≡ Err (TextFault.Trace fault) → IsConfigured (C.left config.old) }
+    ensures others { OnErr result ((result ≢ Err TextFault.Start) × (result ≢ Err TextFault.Unsettled) × ((program : ℕ) → result ≢ Err (TextFault.BadActor program))) }
 
     // Every fault but that of a write leaves the sink as it was.
     ensures untouched { OnErr result ((out.new ≡ out.old) ⊎ (result ≡ Err TextFault.Write)) }

@@ -150,6 +150,31 @@ impl KCore {
         Ok(replies)
     }
 
+    /// Answers a trace and gives the replies in order. Each call is let go once it is answered, so that the replies
+    /// take the memory of the calls. After `Memory`, where a growth was refused, some calls are done.
+    pub fn answer_all(&mut self, alloc: Global, calls: Vec<Call>) -> Result<Vec<Reply>, Memory>
+        ensures safe { IsSafe self.old calls.items }
+        ensures blind { IfOk result (λ replies. ShowsNothing self.old calls.items replies.items self.new) }
+        ensures replies { IfOk result (λ replies. replies.items ≡ replies_from self.old calls.items) }
+        ensures state { OnOk result (self.new ≡ state_after self.old calls.items) }
+    {
+        let _parts = &self.parts;
+        read_all_numbers(&calls);
+        self.answer_each(alloc, calls)
+    }
+
+    #[tactic(auto, using(crate::proofs::Answered::replies_more, crate::proofs::Answered::state_more))]
+    fn answer_each(&mut self, alloc: Global, calls: Vec<Call>) -> Result<Vec<Reply>, Memory>
+        ensures replies { IfOk result (λ replies. replies.items ≡ replies_from self.old calls.items) }
+        ensures state { OnOk result (self.new ≡ state_after self.old calls.items) }
+    {
+        let mut replies = Vec::with_capacity(alloc, calls.len())?;
+        for call in calls {
+            replies.push(self.call(&call)?)?;
+        }
+        Ok(replies)
+    }
+
     /// The record of a frame, with its neighbours in the list of its owner; `None` for a frame that does not
     /// exist.
     pub fn page_record(&self, frame: u32) -> Option<PageRecord>

@@ -1,4 +1,4 @@
-use Rattle.std.proofs.Common.{arith, refl, ap, ◌≤◌}
+use Rattle.std.proofs.Common.{arith, refl}
 use Rattle.kc_live.proofs.Logs.{kept_more}
 use Rattle.kc_live.proofs.book.Book.step.Goals as goal
 
