@@ -18,7 +18,7 @@ use Rattle.kc_live.specs.Plans.{count_of, stranger_in, stranger_from}
 use Rattle.kc_live.specs.declared.fault.LiveCause.{LiveCause}
 use Rattle.kc_live.specs.declared.fault.LiveCause.TheVariants.{NotYours, HistoryFull, Memory, Start, Unsettled, BadActor}
 use Rattle.kc_live.specs.Stops.{StopsFor}
-use Rattle.kc_live.specs.Cuts.{StopsTrace, program_of, AreOf, OwnCalls, IsCut, IsPlaceOf, grown, with_call, KeepsOrders}
+use Rattle.kc_live.specs.Cuts.{StopsTrace, program_of, AreOf, OwnCalls, IsCut, IsPlaceOf, grown, noted, appearing, with_call, KeepsOrders}
 use Rattle.kc_live.proofs.Actors.{same_actor-refl, same_actor-true, same_actor-false}
 
 -- the call, where it is this actor's
@@ -95,9 +95,22 @@ by-append a (c ∷ calls) call =
     ]
 
 -- a trace that is cut, one call longer
+order-with : (call : Call) (ps : List ProgramView) → actors_of (with_call call ps) ≡ noted (actors_of ps) (actor call)
+order-with call [] = refl
+order-with call (p ∷ ps) =
+    elim (cases_Bool (same_actor p.actor (actor call))) [
+      | inl same ↦ rw same refl
+      | inr other ↦ rw other (ap (λ others. p.actor ∷ others) (order-with call ps))
+    ]
+
+appearing-more : (seen : List Actor) (calls : List Call) (call : Call) → appearing seen (calls ++ call ∷ []) ≡ noted (appearing seen calls) (actor call)
+appearing-more seen [] call = refl
+appearing-more seen (first ∷ calls) call = appearing-more (noted seen (actor first)) calls call
+
 pub cut-more : (calls : List Call) (ps : List ProgramView) (call : Call) → IsCut calls ps → IsCut (calls ++ call ∷ []) (with_call call ps)
 cut-more calls ps call cut = record {
   apart = apart-with call ps cut.apart;
+  order = order-with call ps ∙ (ap (λ seen. noted seen (actor call)) cut.order ∙ sym (appearing-more [] calls call));
   own = own-with call ps cut.own;
   count = (let more = count-with call ps in let before = cut.count in omega (arith, length-append calls (call ∷ [])));
   each = λ a. each-with a call ps ∙ (ap (λ cs. cs ++ mine a call) (cut.each a) ∙ sym (by-append a calls call));

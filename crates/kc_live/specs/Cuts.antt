@@ -26,9 +26,20 @@ abbrev pub OwnCalls : List ProgramView → Type 0
 OwnCalls [] = Unit {0}
 OwnCalls (p ∷ ps) = AreOf p.actor p.calls × OwnCalls ps
 
--- one program for each actor, which has the actor's calls in order
+-- an actor noted behind others, where it isn't among them
+abbrev pub noted : List Actor → Actor → List Actor
+noted [] a = a ∷ []
+noted (b ∷ bs) a = if same_actor b a then b ∷ bs else b ∷ noted bs a
+
+-- these actors, and behind them the others of the calls in the order in which they first appear
+abbrev pub appearing : List Actor → List Call → List Actor
+appearing seen [] = seen
+appearing seen (call ∷ calls) = appearing (noted seen (actor call)) calls
+
+-- one program for each actor, in the order in which the actors first appear, which has the actor's calls in order
 pub record IsCut (calls : List Call) (ps : List ProgramView) : Type 0 where
   pub apart : Apart (actors_of ps)
+  pub order : actors_of ps ≡ appearing [] calls
   pub own : OwnCalls ps
   pub count : count_of ps ≡ length calls
   pub each : (a : Actor) → program_of a ps ≡ calls_by a calls
