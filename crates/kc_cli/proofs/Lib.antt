@@ -1,5 +1,3 @@
-pub mod Bytes
-pub mod Asking
 pub mod Fed
 pub mod Faulted
 pub mod LiveFaults

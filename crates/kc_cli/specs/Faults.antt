@@ -7,8 +7,8 @@ use Rattle.kc_trace.specs.declared.fault.TraceFault.{TraceFault}
 use Rattle.kc_trace.specs.declared.fault.TraceFault.TheVariants as traces
 use Rattle.kc_live.specs.declared.fault.LiveCause.{LiveCause}
 use Rattle.kc_live.specs.declared.fault.LiveCause.TheVariants as causes
-use Rattle.kc_cli.specs.declared.whole.ReadFault.{ReadFault}
-use Rattle.kc_cli.specs.declared.whole.ReadFault.TheVariants as reads
+use Rattle.kc_ends.specs.declared.whole.ReadFault.{ReadFault}
+use Rattle.kc_ends.specs.declared.whole.ReadFault.TheVariants as reads
 use Rattle.kc_cli.specs.declared.stream.StreamFault.{StreamFault}
 use Rattle.kc_cli.specs.declared.stream.StreamFault.TheVariants as streams
 use Rattle.kc_cli.specs.declared.fault.TextFault.{TextFault}

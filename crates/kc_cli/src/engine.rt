@@ -8,14 +8,14 @@ ghost use Rattle.kc_trace.specs.declared.fault.TraceFault.{TraceFault};
 ghost use Rattle.kc_trace.specs.ConfigText.{config_in};
 ghost use Rattle.kc_trace.specs.Trace.{IsRefused};
 ghost use Rattle.kc_trace.specs.ReplyText.{reply_text_of};
-ghost use Rattle.kc_cli.specs.Ends.{ReadFailed};
+ghost use Rattle.kc_ends.specs.Ends.{ReadFailed};
 ghost use Rattle.kc_cli.specs.Engine.{IsConfigured, Replays, BeginsReplay};
 
-use crate::replies::give_replies;
+use crate::TextFault;
+use crate::replies::{PIECE, give_replies};
 use crate::stream::read_calls;
-use crate::whole::PIECE;
-use crate::{Sink, Source, TextFault, read_whole};
 use kc_core::KCore;
+use kc_ends::{Sink, Source, read_whole};
 use kc_trace::read_config;
 use kc_types::{Call, Config, Memory, Reply};
 use std::alloc::Global;

@@ -7,16 +7,17 @@ ghost use Rattle.kc_trace.specs.declared.config_text.ConfigTextFault.{ConfigText
 ghost use Rattle.kc_trace.specs.declared.fault.TraceFault.{TraceFault};
 ghost use Rattle.kc_trace.specs.ConfigText.{config_in};
 ghost use Rattle.kc_trace.specs.Trace.{IsRefused};
-ghost use Rattle.kc_cli.specs.Ends.{ReadFailed};
+ghost use Rattle.kc_ends.specs.Ends.{ReadFailed};
 ghost use Rattle.kc_cli.specs.Engine.{IsConfigured};
 ghost use Rattle.kc_cli.specs.Faults.{live_fault};
 ghost use Rattle.kc_cli.specs.Live.{IsLiveFault, WereRead, RunsLive, BeginsLive, HasBadActor};
 
+use crate::TextFault;
+use crate::replies::PIECE;
 use crate::stream::read_calls;
 use crate::traces::give_trace;
-use crate::whole::PIECE;
-use crate::{Sink, Source, TextFault, read_whole};
 use kc_core::KCore;
+use kc_ends::{Sink, Source, read_whole};
 use kc_live::{Entry, History, LiveCause, LiveStop, run_trace};
 use kc_replay::Gate;
 use kc_trace::{TraceFault, read_config};

@@ -3,10 +3,9 @@ ghost use Rattle.std.specs.Prelude.{◌≡◌, ◌≢◌, ◌≤◌, false, true
 ghost use Rattle.std.specs.Io.KnownBytes.{IsAtEnd};
 ghost use Rattle.kc_trace.specs.declared.fault.TraceFault.{TraceFault};
 ghost use Rattle.kc_trace.specs.Trace.{IsTrace, IsRefused};
-ghost use Rattle.kc_cli.specs.Ends.{ReadFailed, byte_limit};
+ghost use Rattle.kc_ends.specs.Ends.{ReadFailed, byte_limit};
 
-use crate::whole::MOST;
-use crate::{Failed, Source};
+use kc_ends::{Failed, MOST_BYTES, Source};
 use kc_trace::{TraceFault, TraceReader};
 use kc_types::Call;
 use std::alloc::Global;
@@ -50,7 +49,7 @@ pub fn read_calls<T: Source>(alloc: Global, source: &mut T) -> Result<Vec<Call>,
         if n == 0 {
             break;
         }
-        if n > MOST - total {
+        if n > MOST_BYTES - total {
             return Err(StreamFault::Read);
         }
         total += n;

@@ -3,9 +3,10 @@ ghost use Rattle.std.specs.Prelude.{◌≡◌, ℕ, take, false};
 ghost use Rattle.std.specs.Io.KnownBytes.{Appends};
 ghost use Rattle.kc_cli.specs.Faults.{status_of, line_of};
 
-use crate::{Sink, TextFault, write_whole};
+use crate::TextFault;
 use arrayvec::ArrayString;
 use itoa::Buffer;
+use kc_ends::{Sink, write_whole};
 
 /// The line of a fault, with its line feed.
 fn line(fault: &TextFault) -> ArrayString<96>

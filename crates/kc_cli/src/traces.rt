@@ -3,7 +3,7 @@ ghost use Rattle.std.specs.Prelude.{◌≡◌, ◌≤◌, false, ℕ, [], take, 
 ghost use Rattle.std.specs.Io.KnownBytes.{Appends};
 ghost use Rattle.kc_trace.specs.Spelling.{longest_call, trace_of};
 
-use crate::{Failed, Sink, write_whole};
+use kc_ends::{Failed, Sink, write_whole};
 use kc_trace::{LONGEST_CALL, push_call, push_header};
 use kc_types::Call;
 

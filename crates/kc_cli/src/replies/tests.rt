@@ -1,7 +1,7 @@
 ghost use Rattle.std.specs.Prelude.{Some};
 
 use super::*;
-use crate::{FailAt, Mem};
+use kc_ends::{FailAt, Mem};
 use kc_types::{Data, Refusal};
 use std::alloc::Global;
 use std::test::Fail;

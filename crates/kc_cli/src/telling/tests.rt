@@ -1,5 +1,5 @@
 use super::*;
-use crate::{FailAt, Mem};
+use kc_ends::{FailAt, Mem};
 use kc_trace::{ConfigTextFault, TraceFault};
 use kc_types::ConfigFault;
 use std::alloc::Global;

@@ -1,5 +1,5 @@
 use super::*;
-use crate::{FailAt, Mem};
+use kc_ends::{FailAt, Mem};
 use kc_types::Data;
 use std::test::Fail;
 

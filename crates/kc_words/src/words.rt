@@ -1,0 +1,127 @@
+//! What the program is asked to do.
+ghost use Rattle.std.specs.Prelude.{◌≡◌, ◌↔◌, IfOk, IfErr, IsTrue, map, false, option_map, codes};
+ghost use Rattle.clap.specs.Words.{app_of, rule_of, found_of, rows_of, first_of};
+ghost use Rattle.clap.specs.Values.{kind_of};
+ghost use Rattle.kc_words.specs.Commands.{kcore, config_rule};
+ghost use Rattle.kc_words.specs.Jobs.{IsJob, IsJobIn, IsRefusal, HasStatus};
+
+use clap::error::ErrorKind;
+use clap::{Arg, ArgMatches, Command, Error};
+use std::alloc::{AllocError, Global};
+
+/// What the program is asked to do.
+#[derive(Clone, Copy, Debug, PartialEq, Eq)]
+pub enum Job<'a> {
+    /// Replay the trace on standard input, with the configuration in a file where a path is given.
+    Replay { config: Option<&'a str> },
+    /// Run the trace on standard input live, with the configuration in a file where a path is given.
+    Live { config: Option<&'a str> },
+}
+
+/// Why there is no job.
+#[derive(Debug, Drop)]
+pub enum ArgFault {
+    /// A growth of memory was refused.
+    Memory,
+    /// What is to be printed, and the exit status: 0 for help, which was asked for, and 2 for wrong words.
+    Words(String, u8),
+}
+
+impl From<AllocError> for ArgFault {
+    ghost use Rattle.kc_words.specs.declared.words.ArgFault.TheVariants.{Memory};
+
+    ghost from_gives = { λ _ made. made ≡ Memory };
+
+    fn from(_refused: AllocError) -> ArgFault {
+        ArgFault::Memory
+    }
+}
+
+fn config_arg<'a>(alloc: Global) -> Arg<'a>
+    ensures rule { rule_of result ≡ config_rule }
+    ensures local { result.global ≡ false }
+{
+    Arg::new(alloc, "config")
+        .long("config")
+        .value_name("PATH")
+        .help("A JSON text: frames, core, host, leaves and approved")
+}
+
+/// The whole command.
+fn command<'a>(alloc: Global) -> Result<Command<'a>, AllocError>
+    ensures app { IfOk result (λ c. app_of c ≡ kcore) }
+{
+    let replay = Command::new(alloc, "replay")
+        .about(
+            "Replay the trace on standard input and write the replies (what no words at all ask for)",
+        )
+        .arg(config_arg(alloc))?;
+    let live = Command::new(alloc, "live")
+        .about(
+            "Run the trace's actors in a thread each, and write their calls as they were answered",
+        )
+        .arg(config_arg(alloc))?;
+    let base = Command::new(alloc, "kcore")
+        .no_binary_name(true)
+        .about("Replay calls on the trusted core of a hypervisor")
+        .subcommand(replay)?;
+    base.subcommand(live)
+}
+
+/// What is printed in place of a job.
+fn refused(alloc: Global, error: &Error) -> ArgFault
+    ensures { HasStatus (kind_of error.now) result }
+{
+    if error.kind() == ErrorKind::OutOfMemory {
+        return ArgFault::Memory;
+    }
+    let status = if error.use_stderr() { 2 } else { 0 };
+    match error.to_string(alloc) {
+        Ok(text) => ArgFault::Words(text, status),
+        Err(_) => ArgFault::Memory,
+    }
+}
+
+fn config_in<'a>(matches: &ArgMatches<'a>) -> Option<&'a str>
+    ensures { option_map (λ s. s.now) result ≡ first_of (codes "config") (rows_of (found_of matches.now)) }
+{
+    matches.get_str("config")
+}
+
+fn is_live(name: &str) -> bool
+    ensures { IsTrue result ↔ (name.now ≡ codes "live") }
+{
+    name == "live"
+}
+
+/// What the subcommand of this name asks for.
+fn job_in<'a>(name: &str, found: &ArgMatches<'a>) -> Job<'a>
+    ensures { IsJobIn name.now (rows_of (found_of found.now)) result }
+{
+    let config = config_in(found);
+    if is_live(name) {
+        Job::Live { config }
+    } else {
+        Job::Replay { config }
+    }
+}
+
+/// What the words, without the program's name, ask for: `replay` or `live`, with `--config PATH` or without, and
+/// `replay` for no words at all.
+pub fn job_of<'a>(alloc: Global, words: &'a [&'a str]) -> Result<Job<'a>, ArgFault>
+    // The job is what the words say by the command's rules, and only words that break them are refused.
+    ensures job { IfOk result (IsJob (map (λ w. w.now) words.entry.now)) }
+    ensures refused { IfErr result (IsRefusal (map (λ w. w.now) words.entry.now)) }
+{
+    let matches = match command(alloc)?.try_get_matches_from(words) {
+        Ok(matches) => matches,
+        Err(error) => return Err(refused(alloc, &error)),
+    };
+    match matches.subcommand() {
+        Some((name, found)) => Ok(job_in(name, found)),
+        None => Ok(Job::Replay { config: None }),
+    }
+}
+
+#[cfg(test)]
+mod tests;
