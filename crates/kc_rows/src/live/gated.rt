@@ -10,18 +10,21 @@ use std::sync::{Mutex, Wait};
 use std::test::Fail;
 use std::thread::Threads;
 
-/// Two reads of a VM that there is not.
+/// A read of a VM that there is not.
+fn read_at(gfn: u32) -> Call {
+    Call::GuestRead {
+        vm: 0,
+        vcpu: 0,
+        gfn,
+        offset: 0,
+        len: 1,
+    }
+}
+
 fn reads(alloc: Global) -> Result<Program, Fail> {
     let mut program = Program::new(Actor::Vcpu(0, 0), Vec::new(alloc));
-    for gfn in 0..2 {
-        program.add(Call::GuestRead {
-            vm: 0,
-            vcpu: 0,
-            gfn,
-            offset: 0,
-            len: 1,
-        })?;
-    }
+    program.add(read_at(0))?;
+    program.add(read_at(1))?;
     Ok(program)
 }
 
@@ -62,8 +65,9 @@ fn threads_follow_a_script(rt: HostRuntime) -> Result<(), Fail> {
     let entries = history.entries();
     assert_eq!(rt; entries.len(), 5);
     assert_eq!(rt; entries[0].reply, Reply::Frame(5));
-    assert_eq!(rt; entries[1].reply, Reply::Refused(Refusal::NoVm));
+    assert_eq!(rt; entries[1].call, read_at(0));
     assert_eq!(rt; entries[2].call, Call::HostFault { frame: 5 });
+    assert_eq!(rt; entries[3].call, read_at(1));
     assert_eq!(rt; entries[3].reply, Reply::Refused(Refusal::NoVm));
     assert_eq!(rt; entries[4].call, Call::Give { frame: 2 });
     assert!(rt; settle(alloc, &history, &rows)?);
