@@ -33,6 +33,3 @@ pub(crate) fn give_replies<K: Sink>(
     }
     write_whole(out, &piece)
 }
-
-#[cfg(test)]
-mod tests;

@@ -32,6 +32,3 @@ pub fn tell<K: Sink>(fault: &TextFault, sink: &mut K) -> u8
     let _ = write_whole(sink, line(fault).as_bytes());
     fault.status()
 }
-
-#[cfg(test)]
-mod tests;

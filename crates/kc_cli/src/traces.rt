@@ -31,6 +31,3 @@ pub(crate) fn give_trace<K: Sink>(
     }
     write_whole(out, &piece)
 }
-
-#[cfg(test)]
-mod tests;

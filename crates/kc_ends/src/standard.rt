@@ -71,6 +71,3 @@ impl<W: Write + Drop> Sink for Std<W> {
         Err(Failed)
     }
 }
-
-#[cfg(test)]
-mod tests;

@@ -16,6 +16,8 @@ mod live_texts;
 #[cfg(test)]
 mod look_ups;
 #[cfg(test)]
+mod pieces;
+#[cfg(test)]
 mod receipts;
 #[cfg(test)]
 mod refusals;
@@ -23,6 +25,8 @@ mod refusals;
 mod slots;
 #[cfg(test)]
 mod support;
+#[cfg(test)]
+mod telling;
 #[cfg(test)]
 mod traces;
 #[cfg(test)]

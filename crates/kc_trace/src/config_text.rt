@@ -176,6 +176,3 @@ pub fn read_config(alloc: Global, bytes: &[u8]) -> Result<Config, ConfigTextFaul
     };
     fields.into_config()
 }
-
-#[cfg(test)]
-mod tests;

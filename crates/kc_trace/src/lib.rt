@@ -11,8 +11,6 @@ mod reader;
 mod reply_writer;
 mod room;
 mod search;
-#[cfg(test)]
-mod tests;
 mod writer;
 
 pub use config_text::{ConfigTextFault, read_config};

@@ -276,6 +276,3 @@ fn overlaps_any(base: u32, len: u32, images: &[Image]) -> bool
 {
     images.iter().any(|image| overlaps(base, len, image))
 }
-
-#[cfg(test)]
-mod tests;

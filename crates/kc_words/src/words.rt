@@ -122,6 +122,3 @@ pub fn job_of<'a>(alloc: Global, words: &'a [&'a str]) -> Result<Job<'a>, ArgFau
         None => Ok(Job::Replay { config: None }),
     }
 }
-
-#[cfg(test)]
-mod tests;

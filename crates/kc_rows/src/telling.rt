@@ -1,5 +1,5 @@
-use super::*;
-use kc_ends::{FailAt, Mem};
+//! The line and the exit status of each fault.
+use kc_cli::{FailAt, Mem, TextFault, tell};
 use kc_trace::{ConfigTextFault, TraceFault};
 use kc_types::ConfigFault;
 use std::alloc::Global;

@@ -1,4 +1,5 @@
-use crate::{LONGEST_REPLY, TraceFault, TraceReader, read_trace, write_replies, write_trace};
+//! Texts of traces and replies, whole and in pieces.
+use kc_trace::{LONGEST_REPLY, TraceFault, TraceReader, read_trace, write_replies, write_trace};
 use kc_types::{Call, Data, Refusal, Reply};
 use std::alloc::Global;
 use std::test::Fail;

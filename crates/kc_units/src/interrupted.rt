@@ -1,8 +1,9 @@
 //! A reader and a writer of std that are interrupted before each answer, and fail after the first.
 ghost use Rattle.std.specs.Prelude.{◌≤◌, IfOk};
 
-use super::*;
+use kc_ends::{Failed, Sink, Source, Std};
 use std::io;
+use std::io::{ErrorKind, Read, Write};
 
 /// How often it was called.
 #[derive(Drop)]

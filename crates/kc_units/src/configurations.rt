@@ -1,4 +1,6 @@
-use super::*;
+//! Texts of configurations.
+use kc_trace::{ConfigTextFault, read_config};
+use kc_types::ConfigFault;
 
 const GOOD: &str =
     r#"{"frames":8,"core":1,"host":4,"leaves":1,"approved":["ba7816bf8f01cfea414140de5dae2223b00361a396177a9cb410ff61f20015ad"]}"#;

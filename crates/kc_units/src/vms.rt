@@ -1,6 +1,7 @@
 //! Each public call of a slot once and more, with values from worked examples.
-use super::*;
-use kc_types::FrameNo;
+use kc_types::{Ends, FrameNo, Gfn, Phase, Refusal, VcpuId};
+use kc_vms::Vm;
+use std::alloc::Global;
 use std::test::Fail;
 
 fn booting(alloc: Global) -> Result<Vm, Fail> {

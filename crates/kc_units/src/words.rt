@@ -1,4 +1,6 @@
-use super::*;
+//! The words after the program's name.
+use kc_words::{ArgFault, Job, job_of};
+use std::alloc::Global;
 
 /// The job, or the exit status of the fault, where 3 stands for memory.
 fn answer<'a>(alloc: Global, words: &'a [&'a str]) -> Result<Job<'a>, u8> {

@@ -1,0 +1,110 @@
+//! Texts that go out in more than one piece.
+ghost use Rattle.std.specs.Prelude.{Some};
+
+use crate::support::SMALL;
+use kc_cli::{FailAt, Failed, Mem, Sink, live_text, replay_text};
+use kc_replay::OpenGate;
+use std::alloc::Global;
+use std::test::Fail;
+
+/// How many pages are written, or read: enough for a text of more than two pieces of 65,536 bytes.
+const PAGES: usize = 17;
+
+/// A sink that takes at most 7 bytes at a time.
+#[derive(Debug, Drop)]
+struct Few {
+    inner: Mem,
+}
+
+impl Sink for Few {
+    ghost taken = { λ f. Some f.inner.bytes.items };
+
+    ghost failed = { λ f. f.inner.failed };
+
+    fn write(&mut self, bytes: &[u8]) -> Result<usize, Failed> {
+        let most = bytes.len().min(7);
+        self.inner.write(&bytes[..most])
+    }
+}
+
+/// Appends a page of one byte, as a text has it.
+fn push_page(text: &mut Vec<u8>) -> Result<(), Fail> {
+    for _ in 0..4_096 {
+        text.extend_from_slice(b"a5")?;
+    }
+    text.push(b'\n')?;
+    Ok(())
+}
+
+/// A trace that writes a page and reads it again and again.
+fn reads(alloc: Global) -> Result<Vec<u8>, Fail> {
+    let mut text = b"kcore-trace 1\nhfault 1\nhwrite 1 0 ".to_vec(alloc)?;
+    push_page(&mut text)?;
+    for _ in 0..PAGES {
+        text.extend_from_slice(b"hread 1 0 4096\n")?;
+    }
+    Ok(text)
+}
+
+fn replies(alloc: Global) -> Result<Vec<u8>, Fail> {
+    let mut text = b"done\ndone\n".to_vec(alloc)?;
+    for _ in 0..PAGES {
+        text.extend_from_slice(b"data ")?;
+        push_page(&mut text)?;
+    }
+    Ok(text)
+}
+
+/// A trace that writes a page again and again.
+fn writes(alloc: Global) -> Result<Vec<u8>, Fail> {
+    let mut text = b"kcore-trace 1\nhfault 1\n".to_vec(alloc)?;
+    for _ in 0..PAGES {
+        text.extend_from_slice(b"hwrite 1 0 ")?;
+        push_page(&mut text)?;
+    }
+    Ok(text)
+}
+
+/// A sink that takes few bytes at a time is given all replies, and one that fails has taken a beginning of them,
+/// wherever it fails.
+#[test]
+fn replies_go_out_whole_or_to_where_the_sink_fails(rt: HostRuntime) -> Result<(), Fail> {
+    let alloc = rt.alloc();
+    let wanted = replies(alloc)?;
+    let whole = wanted.len();
+    assert_eq!(rt; whole, 139_376);
+    for left in [
+        0, 1, 9, 10, 8_207, 65_535, 65_537, 131_073, 139_375, 139_376, 139_377,
+    ] {
+        let mut config = Mem::with_bytes(SMALL.as_bytes().to_vec(alloc)?);
+        let mut trace = Mem::with_bytes(reads(alloc)?);
+        let inner = Few {
+            inner: Mem::new(alloc),
+        };
+        let mut out = FailAt::new(inner, left);
+        let outcome = replay_text(alloc, &mut config, &mut trace, &mut out, 1);
+        assert_eq!(rt; outcome.is_ok(), left >= whole, "{left}");
+        let taken = out.inner.inner.bytes;
+        assert!(rt; taken.as_slice() == &wanted[..left.min(whole)], "{left}");
+    }
+    Ok(())
+}
+
+/// So does the trace that a live run writes.
+#[test]
+fn a_trace_goes_out_whole_or_to_where_the_sink_fails(rt: HostRuntime) -> Result<(), Fail> {
+    let alloc = rt.alloc();
+    let wanted = writes(alloc)?;
+    let whole = wanted.len();
+    assert_eq!(rt; whole, 139_491);
+    for left in [0, 13, 22, 8_227, 65_535, 65_537, 131_073, 139_490, 139_491] {
+        let mut config = Mem::with_bytes(SMALL.as_bytes().to_vec(alloc)?);
+        let mut trace = Mem::with_bytes(writes(alloc)?);
+        let mut out = FailAt::new(Mem::new(alloc), left);
+        let outcome = live_text(&rt, alloc, &mut config, &mut trace, &mut out, 1, &OpenGate);
+        assert_eq!(rt; outcome.is_ok(), left >= whole, "{left}");
+        let taken = out.inner.bytes;
+        assert!(rt; taken.as_slice() == &wanted[..left.min(whole)], "{left}");
+    }
+    Ok(())
+}

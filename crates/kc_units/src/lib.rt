@@ -1,0 +1,18 @@
+//! Unit tests: each library alone, by its public calls. They stand apart, since a library with tests of its own is
+//! proved once more for them.
+#![tactic(auto)]
+
+#[cfg(test)]
+mod configurations;
+#[cfg(test)]
+mod ends;
+#[cfg(test)]
+mod images;
+#[cfg(test)]
+mod interrupted;
+#[cfg(test)]
+mod traces;
+#[cfg(test)]
+mod vms;
+#[cfg(test)]
+mod words;
