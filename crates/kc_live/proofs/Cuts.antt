@@ -11,8 +11,8 @@ use Rattle.kc_types.specs.Configuration.{Configuration}
 use Rattle.kc_types.specs.declared.call.Call.{Call}
 use Rattle.kc_types.specs.declared.call.Actor.{Actor}
 use Rattle.kc_model.specs.Histories.{same_actor, calls_by}
-use Rattle.kc_live.specs.declared.receipt.Entry.{Entry}
-use Rattle.kc_live.specs.Logs.{calls_of}
+use Rattle.kc_history.specs.declared.receipt.Entry.{Entry}
+use Rattle.kc_history.specs.Logs.{calls_of}
 use Rattle.kc_live.specs.Programs.{ProgramView, NoneIs, Apart, actors_of, HasCalls}
 use Rattle.kc_live.specs.Plans.{count_of, stranger_in, stranger_from}
 use Rattle.kc_live.specs.declared.fault.LiveCause.{LiveCause}

@@ -6,14 +6,14 @@ use Rattle.std.proofs.lemmas.Iterator.Adapters.{position_from-zero}
 use Rattle.kc_types.specs.declared.call.Call.{Call}
 use Rattle.kc_types.specs.declared.call.Actor.{Actor}
 use Rattle.kc_types.specs.Actors.{actor}
-use Rattle.kc_live.specs.declared.receipt.Entry.{Entry}
-use Rattle.kc_live.specs.declared.receipt.Receipt.{Receipt}
+use Rattle.kc_history.specs.declared.receipt.Entry.{Entry}
+use Rattle.kc_history.specs.declared.receipt.Receipt.{Receipt}
 use Rattle.kc_live.specs.Programs.{ProgramView}
-use Rattle.kc_live.specs.Settling.{IsSettled}
+use Rattle.kc_history.specs.Settling.{IsSettled}
 use Rattle.kc_live.specs.Programs.{calls_in, NoneIs, Apart, actors_of, HasCalls}
 use Rattle.kc_model.specs.Histories.{same_actor, calls_by}
 use Rattle.kc_live.specs.Plans.{stranger_in, stranger_from}
-use Rattle.kc_live.specs.Logs.{calls_of}
+use Rattle.kc_history.specs.Logs.{calls_of}
 use Rattle.kc_live.proofs.Actors.{OwnedBy, OwnedRows, AllBy, same_actor-true, settled_by_actors}
 
 none_first : (b : Bool) (i : ℕ) (rest : Option ℕ) → cond (not b) (Some i) rest ≡ None → (b ≡ true) × (rest ≡ None)

@@ -1,9 +1,4 @@
-pub mod Logs
-pub mod Seats
-pub mod Lending
-pub mod Settling
 pub mod Programs
-pub mod Ready
 pub mod Plans
 pub mod Stops
 pub mod Cuts

@@ -1,15 +1,14 @@
 //! A trace that is cut into programs and run.
 ghost use Rattle.std.specs.Prelude.{◌≡◌, [], ◌∷◌, IfOk, IfErr, OnOk, MatchOption, IsTrue, ◌↔◌};
 ghost use Rattle.kc_types.specs.Actors.{actor as actor_made};
-ghost use Rattle.kc_live.specs.Logs.{calls_of};
+ghost use Rattle.kc_history.specs.Logs.{calls_of};
 ghost use Rattle.kc_live.specs.Programs.{NoneIs, actors_of};
 ghost use Rattle.kc_live.specs.Cuts.{IsCut, IsPlaceOf, KeepsOrders, StopsTrace, with_call};
 
-use crate::book::History;
 use crate::fault::{LiveCause, LiveStop};
 use crate::program::Program;
-use crate::receipt::Receipt;
 use crate::run::{refused, run_live};
+use kc_history::{History, Receipt};
 use kc_replay::Gate;
 use kc_types::{Actor, Call, Config, Memory, actor_of};
 use std::alloc::Global;

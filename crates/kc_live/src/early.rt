@@ -6,8 +6,8 @@ ghost use Rattle.kc_model.specs.Histories.{same_actor};
 ghost use Rattle.kc_live.specs.Programs.{NoneIs, actors_of};
 ghost use Rattle.kc_live.specs.Plans.{IsActor, HaveActors, MayJoin, IsFirstBad, stranger_from, stranger_in, count_of};
 
-use crate::book::MOST_CALLS;
 use crate::program::Program;
+use kc_history::MOST_CALLS;
 use kc_types::{Actor, Call, Config, VcpuId, VmId, actor_of};
 
 /// Whether none of the programs has this actor.

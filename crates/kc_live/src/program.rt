@@ -3,10 +3,7 @@ ghost use Rattle.std.specs.Prelude.{◌≡◌, IfOk, OnOk, OnErr};
 ghost use Rattle.kc_live.specs.Programs.{calls_in};
 ghost use Rattle.kc_live.specs.Cuts.{grown};
 
-use crate::fault::LiveFault;
-use crate::live_core::LiveCore;
-use crate::receipt::Receipt;
-use crate::seat::Seat;
+use kc_history::{LiveCore, LiveFault, Receipt, Seat};
 use kc_replay::Gate;
 use kc_types::{Actor, Call, Memory};
 use std::alloc::Global;

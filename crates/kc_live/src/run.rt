@@ -1,18 +1,15 @@
 //! A whole live run: from programs to a closed history with its receipts.
 ghost use Rattle.std.specs.Prelude.{◌≡◌, ◌↔◌, map, true, false, is_some, IfOk, IfErr, OnOk, IfSome, MatchOption, IsTrue};
 ghost use Rattle.kc_live.specs.Programs.{calls_in, HasCalls, HasNoOthers};
-ghost use Rattle.kc_live.specs.Settling.{IsSettled};
+ghost use Rattle.kc_history.specs.Settling.{IsSettled};
 ghost use Rattle.kc_live.specs.Plans.{IsSound};
 ghost use Rattle.kc_live.specs.Stops.{StopsFor, IsLate, FitsHistory};
 
-use crate::book::History;
 use crate::early::{first_bad, first_stranger, has_too_many};
-use crate::fault::{LiveCause, LiveFault, LiveStop};
-use crate::live_core::LiveCore;
+use crate::fault::{LiveCause, LiveStop};
 use crate::program::Program;
-use crate::receipt::Receipt;
-use crate::settling::settle;
 use crate::threads::{ThreadStop, make_calls};
+use kc_history::{History, LiveCore, LiveFault, Receipt, settle};
 use kc_replay::Gate;
 use kc_types::{Config, Memory};
 use std::alloc::Global;

@@ -2,10 +2,8 @@
 ghost use Rattle.std.specs.Prelude.{◌≡◌, ◌≤◌, [], map, vec_len, vec_capacity, IfOk};
 ghost use Rattle.kc_live.specs.Programs.{calls_in};
 
-use crate::fault::LiveFault;
-use crate::live_core::LiveCore;
 use crate::program::{Program, Running, run_program};
-use crate::receipt::Receipt;
+use kc_history::{LiveCore, LiveFault, Receipt};
 use kc_replay::Gate;
 use std::alloc::Global;
 use std::sync::Wait;

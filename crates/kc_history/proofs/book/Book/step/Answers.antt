@@ -1,6 +1,6 @@
 use Rattle.std.proofs.Common.{arith, refl}
-use Rattle.kc_live.proofs.Logs.{kept_more}
-use Rattle.kc_live.proofs.book.Book.step.Goals as goal
+use Rattle.kc_history.proofs.Logs.{kept_more}
+use Rattle.kc_history.proofs.book.Book.step.Goals as goal
 
 pub invariant_of-self : goal.invariant_of-self
 invariant_of-self c = (

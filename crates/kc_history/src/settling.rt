@@ -1,8 +1,8 @@
 //! Whether the receipts of all callers are the history's, each once.
 ghost use Rattle.std.specs.Prelude.{◌≡◌, ◌↔◌, length, map, replicate, false, IsTrue, IfOk};
 ghost use Rattle.std.specs.Bool.{OnTrue};
-ghost use Rattle.kc_live.specs.Logs.{entry as entry_of};
-ghost use Rattle.kc_live.specs.Settling.{Fits, RowFits, RowsFit, IsSettled, marked};
+ghost use Rattle.kc_history.specs.Logs.{entry as entry_of};
+ghost use Rattle.kc_history.specs.Settling.{Fits, RowFits, RowsFit, IsSettled, marked};
 
 use crate::book::History;
 use crate::receipt::{Entry, Receipt};

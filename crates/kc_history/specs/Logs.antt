@@ -8,8 +8,8 @@ use Rattle.kc_model.specs.State.{State}
 use Rattle.kc_model.specs.Boot.{boot}
 use Rattle.kc_model.specs.Next.{next, state_after}
 use Rattle.kc_model.specs.Histories.{IsLegalHistory}
-use Rattle.kc_live.specs.declared.receipt.Entry.{Entry}
-use Rattle.kc_live.specs.declared.receipt.Receipt.{Receipt}
+use Rattle.kc_history.specs.declared.receipt.Entry.{Entry}
+use Rattle.kc_history.specs.declared.receipt.Receipt.{Receipt}
 
 pub record Log : Type 0 where
   pub config : Configuration

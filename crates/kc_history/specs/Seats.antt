@@ -3,8 +3,8 @@ use Rattle.std.specs.Prelude.{◌≡◌, List, [], ◌∷◌, ◌++◌, Result, 
 use Rattle.std.specs.Borrow.{Bor}
 use Rattle.kc_types.specs.declared.call.Call.{Call}
 use Rattle.kc_types.specs.declared.call.Actor.{Actor}
-use Rattle.kc_live.specs.declared.fault.LiveFault.{LiveFault}
-use Rattle.kc_live.specs.declared.receipt.Receipt.{Receipt}
+use Rattle.kc_history.specs.declared.fault.LiveFault.{LiveFault}
+use Rattle.kc_history.specs.declared.receipt.Receipt.{Receipt}
 
 -- an actor, and the receipts of the calls that it made from here, in order
 pub record SeatView : Type 0 where

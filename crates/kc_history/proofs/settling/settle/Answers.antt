@@ -1,6 +1,6 @@
 use Rattle.std.proofs.Common.{ap, ◌∙◌, replicate, false, length}
-use Rattle.kc_live.proofs.Settlement.{settled_by}
-use Rattle.kc_live.proofs.settling.settle.Goals as goal
+use Rattle.kc_history.proofs.Settlement.{settled_by}
+use Rattle.kc_history.proofs.settling.settle.Goals as goal
 
 pub returns : goal.returns
 returns c =

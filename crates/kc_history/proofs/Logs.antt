@@ -10,8 +10,8 @@ use Rattle.kc_model.specs.Boot.{boot}
 use Rattle.kc_model.specs.Next.{next}
 use Rattle.kc_model.proofs.Runs.{replies_from-append, state_after-append}
 use Rattle.kc_model.proofs.Rooms.{room-next}
-use Rattle.kc_live.specs.declared.receipt.Entry.{Entry}
-use Rattle.kc_live.specs.Logs.{IsKept, calls_of, entry}
+use Rattle.kc_history.specs.declared.receipt.Entry.{Entry}
+use Rattle.kc_history.specs.Logs.{IsKept, calls_of, entry}
 
 -- room made for the call is room for its reply
 pub room_made : (m : State) (call : Call) (reply : Reply) (spare : ℕ) → reply ≡ (next m call).0 → room_of call ≤ spare → bytes_in reply ≤ spare

@@ -1,8 +1,8 @@
 -- When receipts, in rows, are just those of a history.
 use Rattle.std.specs.Prelude.{◌≡◌, ℕ, ◌+◌, ◌<◌, ◌≤◌, ◌==◌, Bool, true, false, Some, List, [], ◌∷◌, ◌++◌, length, All, slice_get, slice_index_or, slice_set, if◌then◌else◌}
-use Rattle.kc_live.specs.declared.receipt.Entry.{Entry}
-use Rattle.kc_live.specs.declared.receipt.Receipt.{Receipt}
-use Rattle.kc_live.specs.Logs.{entry}
+use Rattle.kc_history.specs.declared.receipt.Entry.{Entry}
+use Rattle.kc_history.specs.declared.receipt.Receipt.{Receipt}
+use Rattle.kc_history.specs.Logs.{entry}
 
 -- how often a number stands in a list
 abbrev pub times : ℕ → List ℕ → ℕ

@@ -21,7 +21,7 @@ pub struct Seat {
 }
 
 impl Model for Seat {
-    ghost use Rattle.kc_live.specs.Seats.{SeatView};
+    ghost use Rattle.kc_history.specs.Seats.{SeatView};
 
     ghost Value = { SeatView };
 
@@ -29,8 +29,8 @@ impl Model for Seat {
 }
 
 impl Seat {
-    ghost use Rattle.kc_live.specs.Seats.{new_seat, gaining};
-    ghost use Rattle.kc_live.specs.Logs.{longer, receipt_of, reply_to};
+    ghost use Rattle.kc_history.specs.Seats.{new_seat, gaining};
+    ghost use Rattle.kc_history.specs.Logs.{longer, receipt_of, reply_to};
 
     /// A seat with no receipts.
     pub fn new(alloc: Global, actor: Actor) -> Seat
@@ -101,8 +101,8 @@ impl Seat {
 
 impl Seat {
     ghost use Rattle.std.specs.Borrow.{sem};
-    ghost use Rattle.kc_live.specs.Seats.{LendsNewest, GainsReceipt};
-    ghost use Rattle.kc_live.specs.Lending.{Rests};
+    ghost use Rattle.kc_history.specs.Seats.{LendsNewest, GainsReceipt};
+    ghost use Rattle.kc_history.specs.Lending.{Rests};
 
     /// Makes one call of the core from this seat, and lends its receipt. The faults are those of `LiveCore::call`.
     pub fn call<R: Wait>(

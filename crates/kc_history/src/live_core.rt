@@ -1,7 +1,7 @@
 //! The core under its one lock.
 ghost use Rattle.std.specs.Prelude.{◌≡◌, ◌≢◌, ◌↔◌, Err, OnOk, OnErr};
 ghost use Rattle.kc_types.specs.Actors.{actor as actor_made};
-ghost use Rattle.kc_live.specs.Seats.{GainsReceipt};
+ghost use Rattle.kc_history.specs.Seats.{GainsReceipt};
 
 use crate::book::{Book, History};
 use crate::fault::LiveFault;

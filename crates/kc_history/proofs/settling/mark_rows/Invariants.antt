@@ -1,7 +1,7 @@
 use Rattle.std.proofs.Common.{drop, map}
 use Rattle.std.specs.Prelude.{◌↔◌}
-use Rattle.kc_live.specs.Settling.{RowsFit}
-use Rattle.kc_live.proofs.settling.mark_rows.Given as goal
+use Rattle.kc_history.specs.Settling.{RowsFit}
+use Rattle.kc_history.proofs.settling.mark_rows.Given as goal
 
 abbrev pub invariant-loop-row : goal.invariant-loop-row
 invariant-loop-row l =

@@ -7,9 +7,9 @@ use Rattle.std.proofs.lemmas.Bool.{eq-eqb}
 use Rattle.std.proofs.lemmas.Bool.Decides.{eqb_tells}
 use Rattle.std.proofs.lemmas.Option.{slice_get_within}
 use Rattle.std.proofs.lemmas.List.Elements.{All-get_or, All-from_get_or}
-use Rattle.kc_live.specs.declared.receipt.Entry.{Entry}
-use Rattle.kc_live.specs.declared.receipt.Receipt.{Receipt}
-use Rattle.kc_live.specs.Settling.{times, numbers_of, all_numbers, RisesFrom, RowMatches, RowsMatch, IsSettled, RowFits, marked, RowsFit}
+use Rattle.kc_history.specs.declared.receipt.Entry.{Entry}
+use Rattle.kc_history.specs.declared.receipt.Receipt.{Receipt}
+use Rattle.kc_history.specs.Settling.{times, numbers_of, all_numbers, RisesFrom, RowMatches, RowsMatch, IsSettled, RowFits, marked, RowsFit}
 
 abbrev pub mark_at : List Bool → ℕ → ℕ
 mark_at seen n = cond (get_or seen n false) 1 0

@@ -1,7 +1,7 @@
 //! A call, made ready before the lock is taken.
 ghost use Rattle.std.specs.Prelude.{◌≡◌, IfOk};
 ghost use Rattle.kc_model.specs.Next.{next};
-ghost use Rattle.kc_live.specs.Logs.{entry};
+ghost use Rattle.kc_history.specs.Logs.{entry};
 
 use crate::receipt::{Entry, Receipt};
 use kc_core::KCore;
@@ -21,7 +21,7 @@ pub struct Ready {
 
 impl Model for Ready {
     ghost use Rattle.kc_types.specs.declared.call.Call.{Call as Made};
-    ghost use Rattle.kc_live.specs.Ready.{IsReady};
+    ghost use Rattle.kc_history.specs.Ready.{IsReady};
 
     ghost Value = { Made };
 

@@ -1,7 +1,7 @@
 use Rattle.std.proofs.Common.{◌≡◌, drop}
 use Rattle.std.specs.Prelude.{◌↔◌}
-use Rattle.kc_live.specs.Settling.{RowFits, marked}
-use Rattle.kc_live.proofs.settling.mark_row.Given as goal
+use Rattle.kc_history.specs.Settling.{RowFits, marked}
+use Rattle.kc_history.proofs.settling.mark_row.Given as goal
 
 abbrev pub invariant-loop-receipt : goal.invariant-loop-receipt
 invariant-loop-receipt l = record {
