@@ -6,6 +6,6 @@ use Rattle.kc_parts.proofs.parts.Parts.lift_page.Goals as goal
 pub returns-clause-rest : goal.returns-clause-rest
 returns-clause-rest c =
     let p = c.self.inside in
-    let low = place-here p.numbers.items p.here.items p.pages.items c.args.number (rw (← c.self.view_is) at c.requires) in
+    let low = place-here p.numbers.items p.here.items p.pages.items c.args.number (rw (← c.self.view_is) at c.requires.here) in
     let is = c.place_of-at.ensures ∙ ap (λ ns. place_of ns c.args.number) c.as_slice.ensures.value in
     rw (← c.self.view_is) (write-place p.numbers.items p.here.items p.pages.items p.vms.items p.free c.args.number c.place_of-at.result false c.swap.new.x c.self.invariant is low)
