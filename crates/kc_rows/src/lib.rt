@@ -16,6 +16,8 @@ mod live_texts;
 #[cfg(test)]
 mod look_ups;
 #[cfg(test)]
+mod parts;
+#[cfg(test)]
 mod receipts;
 #[cfg(test)]
 mod refusals;
