@@ -63,6 +63,25 @@ held-page ns hs ps f p held = record {
     flag true e = filled-flag ns hs f e
     flag false e = get_or_past hs (length ps) true (omega (arith, held.here, held.pages))
 
+-- a page and its flag change together
+blanks-set : (hs : List Bool) (ps : List Page) (i : ℕ) (b : Bool) (p : Page) → (b ≡ false → p ≡ blank_page) → AreBlanks hs ps → AreBlanks (set hs i b) (set ps i p)
+blanks-set [] ps i b p ok are k e = cc
+blanks-set (h ∷ hs) [] i b p ok are k e = refl
+blanks-set (h ∷ hs) (q ∷ ps) zero b p ok are zero e = ok e
+blanks-set (h ∷ hs) (q ∷ ps) zero b p ok are (suc k) e = are (suc k) e
+blanks-set (h ∷ hs) (q ∷ ps) (suc i) b p ok are zero e = are zero e
+blanks-set (h ∷ hs) (q ∷ ps) (suc i) b p ok are (suc k) e = blanks-set hs ps i b p ok (λ j. are (suc j)) k e
+
+-- a place is filled, or becomes empty with a blank
+pub held-set : (ns : List ℕ) (hs : List Bool) (ps : List Page) (i : ℕ) (b : Bool) (p : Page) → (b ≡ false → p ≡ blank_page) → IsHeld ns hs ps → IsHeld ns (set hs i b) (set ps i p)
+held-set ns hs ps i b p ok held = record {
+  rising = held.rising;
+  frames = held.frames;
+  here = length-set hs i b ∙ held.here;
+  pages = length-set ps i p ∙ held.pages;
+  blanks = blanks-set hs ps i b p ok held.blanks;
+}
+
 -- what stands at a frame's place that is empty is a blank
 pub blank-there : (ns : List ℕ) (hs : List Bool) (ps : List Page) (f : ℕ) (d : Page) → IsHeld ns hs ps → place_of ns f < length ns → page_among ns hs ps f ≡ None → get_or ps (place_of ns f) d ≡ blank_page
 blank-there ns hs ps f d held low none = by_flag (get_or hs (place_of ns f) true) refl

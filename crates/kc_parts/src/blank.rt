@@ -1,5 +1,5 @@
 //! Blank pages, which stand where no page is.
-ghost use Rattle.std.specs.Prelude.{◌≡◌};
+ghost use Rattle.std.specs.Prelude.{◌≡◌, IfOk};
 ghost use Rattle.kc_parts.specs.Held.{blank_page};
 
 use kc_page::{Page, PageBytes, PageRecord};
@@ -27,7 +27,10 @@ impl Model for Blank {
 
 impl Blank {
     /// A new blank, or `Memory` where a growth was refused.
-    pub(crate) fn make(alloc: Global) -> Result<Blank, Memory> {
+    pub(crate) fn make(alloc: Global) -> Result<Blank, Memory>
+        // No clause can rule out want of memory: tests take parts out.
+        ensures { IfOk result (λ blank. blank ≡ blank_page) }
+    {
         let meta = PageRecord {
             owner: Owner::Core,
             share: 0,
@@ -45,6 +48,7 @@ impl Blank {
     /// The page as the blank that it is.
     pub(crate) fn from_page(page: Page) -> Blank
         requires { page ≡ blank_page }
+        ensures { result ≡ page }
     {
         Blank { page }
     }

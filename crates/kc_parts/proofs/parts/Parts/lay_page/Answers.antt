@@ -1,7 +1,7 @@
 use Rattle.std.proofs.Common.{◌∙◌, ap, true}
 use Rattle.kc_parts.specs.Held.{place_of}
 use Rattle.kc_parts.proofs.Writing.{write-place}
-use Rattle.kc_parts.proofs.Blanks.{blank-there}
+use Rattle.kc_parts.proofs.Blanks.{held-set, blank-there}
 use Rattle.kc_parts.proofs.parts.Parts.lay_page.Goals as goal
 
 pub from_page-blank-requires : goal.from_page-blank-requires
@@ -10,6 +10,11 @@ from_page-blank-requires c =
     let is = c.place_of-at.ensures ∙ ap (λ ns. place_of ns c.args.number) c.as_slice.ensures.value in
     let empty = rw (← c.self.view_is) at c.requires in
     c.replace.ensures.value ∙ c.index_mut.ensures.value ∙ rw is (blank-there p.numbers.items p.here.items p.pages.items c.args.number c.index_mut.result.now c.self.invariant empty.0 empty.1)
+
+pub invariant_of-self : goal.invariant_of-self
+invariant_of-self c =
+    let p = c.self.inside in
+    held-set p.numbers.items p.here.items p.pages.items c.place_of-at.result true c.replace.new.dest (λ no. cc) c.self.invariant
 
 pub returns : goal.returns
 returns c =

@@ -1,7 +1,13 @@
 use Rattle.std.proofs.Common.{◌∙◌, ap, false}
 use Rattle.kc_parts.specs.Held.{place_of}
 use Rattle.kc_parts.proofs.Writing.{write-place, place-here}
+use Rattle.kc_parts.proofs.Blanks.{held-set}
 use Rattle.kc_parts.proofs.parts.Parts.lift_page.Goals as goal
+
+pub invariant_of-self : goal.invariant_of-self
+invariant_of-self c =
+    let p = c.self.inside in
+    held-set p.numbers.items p.here.items p.pages.items c.place_of-at.result false c.swap.new.x (λ _. c.swap.ensures.x_after ∙ c.requires.blank) c.self.invariant
 
 pub returns-clause-rest : goal.returns-clause-rest
 returns-clause-rest c =
