@@ -25,6 +25,7 @@ use Rattle.kc_links.proofs.Chains.{chain-listed, chain-is_list}
 use Rattle.kc_parts.specs.Held.{Held, IsHeld, page_at, vm_at, links_of, ends_at}
 use Rattle.kc_parts.specs.States.{frame_in, slot_in, state_of, owner_at, IsLinked}
 use Rattle.kc_parts.specs.Booting.{first_free, boot_prev, boot_next, boot_page, boot_ends, IsWhole}
+use Rattle.kc_parts.proofs.Blanks.{blanks-filled}
 use Rattle.kc_parts.proofs.Boots.{page-whole, page-past}
 
 abbrev by_zero : {X : Type 0} → ℕ → X → X → X
@@ -285,4 +286,5 @@ module _ (config : Configuration) (is : IsConfiguration config) where
     ];
     here = length-replicate config.frames true ∙ sym (length-range 0 config.frames);
     pages = length-map-range_with_len (boot_page config) 0 config.frames ∙ sym (length-range 0 config.frames);
+    blanks = blanks-filled config.frames (map (boot_page config) (range_with_len 0 config.frames));
   }

@@ -1,15 +1,17 @@
 -- What is kept while pages are put back.
-use Rattle.std.proofs.Common.{ℕ, suc, ◌≡◌, ◌≢◌, ◌<◌, Bool, true, false, cond, nat_eq, List, [], ◌∷◌, ◌++◌, length, get_or, refl, sym, ◌∙◌, ap, arith}
+use Rattle.std.proofs.Common.{ℕ, suc, ◌≡◌, ◌≢◌, ◌<◌, Bool, true, false, cond, nat_eq, List, [], ◌∷◌, ◌++◌, length, get_or, inl, inr, refl, sym, ◌∙◌, ap, arith}
 use Rattle.std.specs.Prelude.{Option, Some, None}
-use Rattle.std.proofs.lemmas.List.{get_or_append_left}
+use Rattle.std.proofs.lemmas.Bool.{cases_lt}
+use Rattle.std.proofs.lemmas.List.{get_or_append_left, get_or_past}
 use Rattle.std.proofs.Math.Seq.{get_or-append_seam}
 use Rattle.std.proofs.Math.ListN.{length-append}
 use Rattle.kc_page.specs.declared.page.Page.{Page}
-use Rattle.kc_parts.specs.Held.{Held, IsRising, page_at}
+use Rattle.kc_parts.specs.Held.{Held, IsHeld, IsRising, blank_page, page_at}
 use Rattle.kc_parts.specs.Cuts.{either}
-use Rattle.kc_parts.specs.Moves.{IsEmptyPlace, IsLaid, only_at}
+use Rattle.kc_parts.specs.Moves.{AreFrames, IsEmptyPlace, IsLaid, only_at}
 use Rattle.kc_parts.proofs.Filled.{cells, cell_in, cells-append, length-cells, cell-no_place, eqb-yes, eqb-no, same-number}
 use Rattle.kc_parts.proofs.SlotMoves.{either-none}
+use Rattle.kc_parts.proofs.Blanks.{blanks-front, blank-last}
 
 -- one more place at the end
 cell-last : (ns : List ℕ) (cs : List (Option Page)) (n : ℕ) (c : Option Page) (g : ℕ) → length cs ≡ length ns → ((k : ℕ) → k < length ns → get_or ns k 0 ≢ n)
@@ -33,6 +35,12 @@ front-rising ns n up i j l h =
     let f : get_or (ns ++ n ∷ []) j 0 ≡ get_or ns j 0 = get_or_append_left ns (n ∷ []) 0 j h in
     let less : get_or (ns ++ n ∷ []) i 0 < get_or (ns ++ n ∷ []) j 0 = up i j l (omega (arith, h, length-append ns (n ∷ []))) in omega (arith, e, f, less)
 
+front-frames : (ns : List ℕ) (n : ℕ) → AreFrames (ns ++ n ∷ []) → AreFrames ns
+front-frames ns n all i = elim (cases_lt i (length ns)) [
+  | inl within ↦ let e : get_or (ns ++ n ∷ []) i 0 ≡ get_or ns i 0 = get_or_append_left ns (n ∷ []) 0 i within in rw (← e) (all i)
+  | inr past ↦ rw (get_or_past ns i 0 past) (omega arith)
+]
+
 below-last : (ns : List ℕ) (n : ℕ) → IsRising (ns ++ n ∷ []) → (k : ℕ) → k < length ns → get_or ns k 0 ≢ n
 below-last ns n up k h is =
     let e : get_or (ns ++ n ∷ []) k 0 ≡ get_or ns k 0 = get_or_append_left ns (n ∷ []) 0 k h in
@@ -47,7 +55,6 @@ empty-at_last ns cs n c h l up fits page e =
     fits n page (cell-last ns cs n c n l (below-last ns n up) ∙ rw (gone, eqb-yes n n refl) e)
 
 pub record Steps (all_ns : List ℕ) (all_cs : List (Option Page)) (ns : List ℕ) (cs : List (Option Page)) (before after : Held) : Type 0 where
-  pub rising : IsRising ns
   pub fits : (f : ℕ) (page : Page) → cell_in ns cs f ≡ Some page → IsEmptyPlace after f
   pub joined : (f : ℕ) → either (page_at after f) (cell_in ns cs f) ≡ either (page_at before f) (cell_in all_ns all_cs f)
 
@@ -56,7 +63,6 @@ put-step : (ns : List ℕ) (cs : List (Option Page)) (n : ℕ) (c : Option Page)
     → IsLaid (only_at n c) before after → Steps (ns ++ n ∷ []) (cs ++ c ∷ []) ns cs before after
 put-step ns cs n c before after l up fits laid =
     record {
-      rising = front-rising ns n up;
       fits = λ f page e. fits_at f page e (nat_eq f n) refl;
       joined = λ f. joined_at f (nat_eq f n) refl;
     }
@@ -81,37 +87,52 @@ cells-all : (hs all_hs : List Bool) (ps all_ps : List Page) (b : Bool) (p : Page
     → cells all_hs all_ps ≡ cells hs ps ++ cond b (Some p) None ∷ []
 cells-all hs all_hs ps all_ps b p e f same = rw (e, f) (cells-append hs ps b p same)
 
+-- the last place, and those before it
 pub record IsLast (all_ns ns : List ℕ) (all_hs hs : List Bool) (all_ps ps : List Page) (n : ℕ) (b : Bool) (p : Page) : Type 0 where
+  pub held : IsHeld all_ns all_hs all_ps
   pub numbers : all_ns ≡ ns ++ n ∷ []
   pub here : all_hs ≡ hs ++ b ∷ []
   pub pages : all_ps ≡ ps ++ p ∷ []
-  pub same_here : length all_hs ≡ length all_ns
-  pub same_pages : length all_ps ≡ length all_ns
 
-pub rest-lengths : (all_ns ns : List ℕ) (all_hs hs : List Bool) (all_ps ps : List Page) (n : ℕ) (b : Bool) (p : Page) → IsLast all_ns ns all_hs hs all_ps ps n b p
-    → (length hs ≡ length ns) × (length ps ≡ length ns)
-rest-lengths all_ns ns all_hs hs all_ps ps n b p last =
+rest-lengths : {all_ns ns : List ℕ} {all_hs hs : List Bool} {all_ps ps : List Page} {n : ℕ} {b : Bool} {p : Page} → IsLast all_ns ns all_hs hs all_ps ps n b p → (length hs ≡ length ns) × (length ps ≡ length ns) × (length hs ≡ length ps)
+rest-lengths {ns = ns} {hs = hs} {ps = ps} {n = n} {b = b} {p = p} last =
     let a = ap length last.numbers ∙ length-append ns (n ∷ []) in
     let d = ap length last.here ∙ length-append hs (b ∷ []) in
     let e = ap length last.pages ∙ length-append ps (p ∷ []) in
-    (omega (arith, a, d, last.same_here), omega (arith, a, e, last.same_pages))
+    let h = last.held.here in
+    let k = last.held.pages in
+    (omega (arith, a, d, h), omega (arith, a, e, k), omega (arith, a, d, e, h, k))
 
-pub last-empty : (all_ns ns : List ℕ) (all_hs hs : List Bool) (all_ps ps : List Page) (n : ℕ) (b : Bool) (p : Page) (h : Held) → IsLast all_ns ns all_hs hs all_ps ps n b p → IsRising all_ns
+pub front-held : {all_ns ns : List ℕ} {all_hs hs : List Bool} {all_ps ps : List Page} {n : ℕ} {b : Bool} {p : Page} → IsLast all_ns ns all_hs hs all_ps ps n b p → IsHeld ns hs ps
+front-held {ns = ns} {hs = hs} {ps = ps} {n = n} {b = b} {p = p} last =
+    let lengths = rest-lengths last in
+    record {
+      rising = front-rising ns n (rw (← last.numbers) last.held.rising);
+      frames = front-frames ns n (rw (← last.numbers) last.held.frames);
+      here = lengths.0;
+      pages = lengths.1;
+      blanks = blanks-front hs ps b p lengths.2 (rw (← last.here, ← last.pages) last.held.blanks);
+    }
+
+pub last-blank : {all_ns ns : List ℕ} {all_hs hs : List Bool} {all_ps ps : List Page} {n : ℕ} {b : Bool} {p : Page} → IsLast all_ns ns all_hs hs all_ps ps n b p → b ≡ false → p ≡ blank_page
+last-blank {hs = hs} {ps = ps} {b = b} {p = p} last = let lengths = rest-lengths last in blank-last hs ps b p lengths.2 (rw (← last.here, ← last.pages) last.held.blanks)
+
+pub last-empty : {all_ns ns : List ℕ} {all_hs hs : List Bool} {all_ps ps : List Page} {n : ℕ} {b : Bool} {p : Page} → IsLast all_ns ns all_hs hs all_ps ps n b p → (h : Held)
     → ((f : ℕ) (page : Page) → cell_in all_ns (cells all_hs all_ps) f ≡ Some page → IsEmptyPlace h f) → b ≡ true → IsEmptyPlace h n
-last-empty all_ns ns all_hs hs all_ps ps n b p h last up fits e =
-    let lengths = rest-lengths all_ns ns all_hs hs all_ps ps n b p last in
-    let all = cells-all hs all_hs ps all_ps b p last.here last.pages (lengths.0 ∙ sym lengths.1) in
-    empty-at_last ns (cells hs ps) n (cond b (Some p) None) h (length-cells hs ps (lengths.0 ∙ sym lengths.1) ∙ lengths.0) (rw (← last.numbers) up)
+last-empty {ns = ns} {all_hs = all_hs} {hs = hs} {all_ps = all_ps} {ps = ps} {n = n} {b = b} {p = p} last h fits e =
+    let lengths = rest-lengths last in
+    let all = cells-all hs all_hs ps all_ps b p last.here last.pages lengths.2 in
+    empty-at_last ns (cells hs ps) n (cond b (Some p) None) h (length-cells hs ps lengths.2 ∙ lengths.0) (rw (← last.numbers) last.held.rising)
     (λ f page is. fits f page (rw (last.numbers, all) is)) p (rw e refl)
 
-pub put-last : (all_ns ns : List ℕ) (all_hs hs : List Bool) (all_ps ps : List Page) (n : ℕ) (b : Bool) (p : Page) (before after : Held) → IsLast all_ns ns all_hs hs all_ps ps n b p → IsRising all_ns
+pub put-last : {all_ns ns : List ℕ} {all_hs hs : List Bool} {all_ps ps : List Page} {n : ℕ} {b : Bool} {p : Page} → IsLast all_ns ns all_hs hs all_ps ps n b p → (before after : Held)
     → ((f : ℕ) (page : Page) → cell_in all_ns (cells all_hs all_ps) f ≡ Some page → IsEmptyPlace before f) → IsLaid (only_at n (cond b (Some p) None)) before after
     → Steps all_ns (cells all_hs all_ps) ns (cells hs ps) before after
-put-last all_ns ns all_hs hs all_ps ps n b p before after last up fits laid =
-    let lengths = rest-lengths all_ns ns all_hs hs all_ps ps n b p last in
-    let all = cells-all hs all_hs ps all_ps b p last.here last.pages (lengths.0 ∙ sym lengths.1) in
+put-last {ns = ns} {all_hs = all_hs} {hs = hs} {all_ps = all_ps} {ps = ps} {n = n} {b = b} {p = p} last before after fits laid =
+    let lengths = rest-lengths last in
+    let all = cells-all hs all_hs ps all_ps b p last.here last.pages lengths.2 in
     rw (last.numbers, all)
-    (put-step ns (cells hs ps) n (cond b (Some p) None) before after (length-cells hs ps (lengths.0 ∙ sym lengths.1) ∙ lengths.0) (rw (← last.numbers) up)
+    (put-step ns (cells hs ps) n (cond b (Some p) None) before after (length-cells hs ps lengths.2 ∙ lengths.0) (rw (← last.numbers) last.held.rising)
     (λ f page is. fits f page (rw (last.numbers, all) is)) laid)
 
 pub cells-end : (ns : List ℕ) (cs : List (Option Page)) (f : ℕ) → length ns ≡ 0 → cell_in ns cs f ≡ None

@@ -15,6 +15,7 @@ use Rattle.kc_parts.specs.Cuts.HeldPart.{page_part, slot_part, ends_part}
 use Rattle.kc_parts.specs.Moves.{is_among, AreAmong, AreFramesOf, IsLifted, WithSlots, page_among, slot_of}
 use Rattle.kc_parts.proofs.Filled.{cells, cell_in, page_at-cells, cell-by_numbers, eqb-no}
 use Rattle.kc_parts.proofs.Named.{among-at}
+use Rattle.kc_parts.proofs.Blanks.{blanks-filled}
 
 pub not-before : (ns : List ℕ) (i n : ℕ) → i ≤ length ns → ((j : ℕ) → j < i → get_or ns j 0 < n) → is_among (take i ns) n ≡ false
 not-before ns zero n h low = refl
@@ -96,7 +97,13 @@ pub split-end : (wanted : List Resource) (ns : List ℕ) (hs : List Bool) (ps : 
     → IsSplit start (is_wanted wanted) rest (record { numbers = ns; here = hs; pages = ps; vms = vms; free = ends })
 split-end wanted ns hs ps vms ends start mid freed rest asked n are filled count pages lifted slots left room slots_only took kept is =
     let same : length ps ≡ length ns = sym (length-map ps Some) ∙ ap length pages ∙ length-map ns (page_at freed) in
-    let held : IsHeld ns hs ps = record { rising = are.rising; frames = are.frames; here = ap length filled ∙ length-replicate n true ∙ count; pages = same } in
+    let held : IsHeld ns hs ps = record {
+      rising = are.rising;
+      frames = are.frames;
+      here = ap length filled ∙ length-replicate n true ∙ count;
+      pages = same;
+      blanks = rw filled (blanks-filled n ps);
+    } in
     let unmoved = same-pages start mid freed (cond asked None mid.free) slots_only kept in
     split-whole wanted ns start rest (record { numbers = ns; here = hs; pages = ps; vms = vms; free = ends }) are.members
     (λ f. pages-taken ns hs ps freed held (filled ∙ ap (λ k. replicate k true) (count ∙ sym same)) pages f ∙ ap (λ o. cond (is_among ns f) o None) (unmoved f))

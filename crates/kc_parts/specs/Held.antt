@@ -1,16 +1,17 @@
 -- Parts as contracts see them: places for frames, each filled or empty, slots, and the ends of the free list.
-use Rattle.std.specs.Prelude.{ℕ, suc, ◌<◌, ◌≡◌, ◌==◌, nat_lt, Bool, false, cond, List, [], ◌∷◌, length, get_or, Option, Some, None, slice_get, slice_set, slice_index_or}
+use Rattle.std.specs.Prelude.{ℕ, suc, ◌<◌, ◌≡◌, ◌==◌, nat_lt, Bool, true, false, cond, List, [], ◌∷◌, length, get_or, Option, Some, None, slice_get, slice_set, slice_index_or}
 use Rattle.std.specs.Option.{option_map}
 use Rattle.kc_types.specs.Limits.{frame_limit}
 use Rattle.kc_types.specs.declared.link.Link.{Link}
 use Rattle.kc_types.specs.declared.link.Ends.{Ends}
 use Rattle.kc_types.specs.declared.owner.Owner.{Owner}
 use Rattle.kc_types.specs.declared.owner.Owner.TheVariants.{Core, Host, Free, Vm}
+use Rattle.kc_model.specs.State.{zero_page}
 use Rattle.kc_page.specs.declared.page.Page.{Page}
 use Rattle.kc_vms.specs.Slots.{VmSlot}
 use Rattle.kc_links.specs.Chain.{Links}
 
--- `numbers` are the frames that there are places for, rising; `here` says which places are filled; `pages` has a page at each place, and means nothing at an empty one
+-- `numbers` are the frames that there are places for, rising; `here` says which places are filled; `pages` has a page at each place, a blank at an empty one
 pub record Held : Type 0 where
   pub numbers : List ℕ
   pub here : List Bool
@@ -21,12 +22,24 @@ pub record Held : Type 0 where
 abbrev pub IsRising : List ℕ → Type 0
 IsRising numbers = (i j : ℕ) → i < j → j < length numbers → get_or numbers i 0 < get_or numbers j 0
 
+-- the page that stands where none is: its record says nothing, and its bytes are zero
+abbrev pub blank_page : Page
+blank_page = record {
+  meta = record { owner = Core; share = 0; gfn = None; present = false; prev = None; next = None };
+  bytes = zero_page;
+}
+
+-- each place that is not filled has a blank
+abbrev pub AreBlanks : List Bool → List Page → Type 0
+AreBlanks filled held = (i : ℕ) → get_or filled i true ≡ false → get_or held i blank_page ≡ blank_page
+
 -- what the representation keeps
 pub record IsHeld (numbers : List ℕ) (filled : List Bool) (held : List Page) : Type 0 where
   pub rising : IsRising numbers
   pub frames : (i : ℕ) → get_or numbers i 0 < frame_limit
   pub here : length filled ≡ length numbers
   pub pages : length held ≡ length numbers
+  pub blanks : AreBlanks filled held
 
 -- the place of a frame, and the number of places where it has none
 abbrev pub place_of : List ℕ → ℕ → ℕ

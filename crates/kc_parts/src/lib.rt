@@ -1,6 +1,7 @@
 //! Parts of the core: the frames, VM slots and the free list that are in one hand.
 #![tactic(auto)]
 
+mod blank;
 mod boot;
 mod emptying;
 mod links;

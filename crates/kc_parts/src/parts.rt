@@ -1,16 +1,17 @@
 //! Pages, slots and the ends of the free list, taken out and put back.
-ghost use Rattle.std.specs.Prelude.{◌≡◌, ◌↔◌, ℕ, ◌<◌, IsTrue, is_some, length, get_or, slice_get, IsSome, IfSome, IfOk, OnOk, OnErr, Option, Some, None, map, cond, true};
+ghost use Rattle.std.specs.Prelude.{◌≡◌, ◌↔◌, ℕ, ◌<◌, IsTrue, is_some, length, get_or, slice_get, IsSome, IfSome, IfOk, OnOk, OnErr, Option, Some, None, map, cond, true, false, replicate};
 ghost use Rattle.std.specs.Option.{option_copied, option_copied_mut};
 ghost use Rattle.std.specs.Borrow.{sem};
 ghost use Rattle.kc_types.specs.declared.resource.Resource.TheVariants as resource;
 ghost use Rattle.kc_parts.specs.Held.{IsRising, place_of};
 
 use crate::Room;
+use crate::blank::Blank;
 use crate::boot::{all_filled, all_numbers, boot_ends, boot_pages, boot_vms};
 use crate::slots::{lay_slots, move_slots};
 use crate::wanted::{empty_slots, slots_up_to, wanted_frames, wants_free};
-use kc_page::{Page, PageBytes, PageRecord};
-use kc_types::{Config, Ends, FrameNo, Memory, Owner, Resource, VmId};
+use kc_page::Page;
+use kc_types::{Config, Ends, FrameNo, Memory, Resource, VmId};
 use kc_vms::Vm;
 use std::alloc::Global;
 use std::marker::Model;
@@ -24,7 +25,7 @@ pub struct Parts {
     numbers: Vec<u32>,
     here: Vec<bool>,
     pages: Vec<Page>,
-    blanks: Vec<Page>,
+    blanks: Vec<Blank>,
     vms: Vec<Option<Vm>>,
     free: Option<Ends>,
 }
@@ -63,7 +64,7 @@ fn place_of(numbers: &[u32], frame: u32) -> usize
 impl Parts {
     ghost use Rattle.kc_types.specs.Configuration.{IsConfiguration};
     ghost use Rattle.kc_model.specs.Boot.{boot};
-    ghost use Rattle.kc_parts.specs.Held.{IsHeld, place_in, page_at, vm_at};
+    ghost use Rattle.kc_parts.specs.Held.{IsHeld, blank_page, place_in, page_at, vm_at};
     ghost use Rattle.kc_parts.specs.States.{state_of, IsLinked};
     ghost use Rattle.kc_parts.specs.Booting.{IsWhole};
     ghost use Rattle.kc_parts.specs.Lending.{LendsPage, LendsVm, LendsFree, LendsPages};
@@ -77,6 +78,7 @@ impl Parts {
         ensures state { IfOk result (λ parts. state_of config.now parts ≡ boot config.now) }
         ensures linked { IfOk result (IsLinked config.now) }
         ensures whole { IfOk result (IsWhole config.now) }
+        ensures full { IfOk result IsFull }
         ensures config { OnOk result (IsConfiguration config.now) }
     {
         Ok(Parts {
@@ -220,6 +222,7 @@ impl Parts {
         // No clause can rule out want of memory: tests take parts out.
         ensures ok { IfOk result (λ taken. IsSplit self.old (is_wanted wanted.now) self.new taken) }
         ensures full { IfOk result IsFull }
+        ensures fits { IfOk result (FitsInto self.new) }
         ensures room { IfOk result (λ taken. AreSlotsFor (is_wanted wanted.now) (length taken.vms)) }
         ensures err { OnErr result (self.new ≡ self.old) }
     {
@@ -263,36 +266,36 @@ impl Parts {
         self.lay_pages(numbers, here, pages);
     }
 
-    /// A blank page, from the stock if it has one. Where it has none, the stock first takes the room for a blank of
-    /// each place, so blanks that come back need no memory.
-    fn blank_page(&mut self, alloc: Global) -> Result<Page, Memory>
+    /// A blank, from the stock if it has one. Where it has none, the stock first takes the room for a blank of each
+    /// place, so blanks that come back need no memory.
+    fn blank(&mut self, alloc: Global) -> Result<Blank, Memory>
         ensures { self.new ≡ self.old }
     {
-        if let Some(page) = self.blanks.pop() {
-            return Ok(page);
+        if let Some(blank) = self.blanks.pop() {
+            return Ok(blank);
         }
         self.blanks.reserve(self.numbers.len())?;
-        blank_page(alloc)
+        Blank::make(alloc)
     }
 
     /// This many blank pages.
     fn blank_pages(&mut self, alloc: Global, count: usize) -> Result<Vec<Page>, Memory>
         ensures kept { self.new ≡ self.old }
-        ensures count { IfOk result (λ pages. length pages.items ≡ count) }
+        ensures blank { IfOk result (λ pages. pages.items ≡ replicate count blank_page) }
     {
         let mut pages = Vec::with_capacity(alloc, count)?;
         for _ in 0..count {
-            pages.push(self.blank_page(alloc)?)?;
+            pages.push(self.blank(alloc)?.into_page())?;
         }
         Ok(pages)
     }
 
-    /// Keeps a blank page in the stock, where that has room.
-    fn keep_blank(&mut self, page: Page)
+    /// Keeps a blank in the stock, where that has room.
+    fn keep_blank(&mut self, blank: Blank)
         ensures { self.new ≡ self.old }
     {
         if self.blanks.len() < self.blanks.capacity() {
-            let Ok(()) = self.blanks.push(page) else {
+            let Ok(()) = self.blanks.push(blank) else {
                 unreachable!()
             };
         }
@@ -320,10 +323,10 @@ impl Parts {
         if asked { self.free.take() } else { None }
     }
 
-    /// Takes the pages of these frames, which are here, and leaves the blanks in their places.
+    /// Takes the pages of these frames, which are here, in exchange for as many blanks.
     fn lift_pages(&mut self, numbers: &[u32], pages: &mut Vec<Page>)
         requires rising { IsRising numbers.now }
-        requires count { length pages.old.items ≡ length numbers.now }
+        requires blank { pages.old.items ≡ replicate (length numbers.now) blank_page }
         requires here { (i : ℕ) → i < length numbers.now → IsSome (page_at self.old (get_or numbers.now i 0)) }
         ensures taken { map Some pages.new.items ≡ map (page_at self.old) numbers.now }
         ensures rest { IsLifted numbers.now self.old self.new }
@@ -333,9 +336,10 @@ impl Parts {
         }
     }
 
-    /// Takes the page of a frame, which is here, and leaves the blank in its place.
+    /// Takes the page of a frame, which is here, in exchange for a blank.
     fn lift_page(&mut self, number: u32, page: &mut Page)
-        requires { IsSome (page_at self.old number) }
+        requires here { IsSome (page_at self.old number) }
+        requires blank { page.old ≡ blank_page }
         ensures taken { Some page.new ≡ page_at self.old number }
         ensures rest { IsWrite number None self.old self.new }
     {
@@ -360,42 +364,25 @@ impl Parts {
 
     /// Lays a page into its place, which is empty, if it means something; else it is a blank to be kept.
     fn lay_back(&mut self, number: u32, filled: bool, page: Page)
-        requires { filled ≡ true → IsEmptyPlace self.old number }
+        requires empty { filled ≡ true → IsEmptyPlace self.old number }
+        requires blank { filled ≡ false → page ≡ blank_page }
         ensures { IsLaid (only_at number (cond filled (Some page) None)) self.old self.new }
     {
         if filled {
             self.lay_page(number, page);
         } else {
-            self.keep_blank(page);
+            self.keep_blank(Blank::from_page(page));
         }
     }
 
-    /// Lays a page into its place, and keeps the blank that was there.
+    /// Lays a page into its place, which is empty, and keeps the blank that was there.
     fn lay_page(&mut self, number: u32, page: Page)
-        requires { place_of self.old.numbers number < length self.old.numbers }
+        requires { IsEmptyPlace self.old number }
         ensures { IsWrite number (Some page) self.old self.new }
     {
         let at = place_of(self.numbers.as_slice(), number);
-        let blank = replace(&mut self.pages[at], page);
+        let blank = Blank::from_page(replace(&mut self.pages[at], page));
         self.here[at] = true;
         self.keep_blank(blank);
     }
 }
-
-/// A page that means nothing.
-fn blank_page(alloc: Global) -> Result<Page, Memory> {
-    Ok(Page {
-        meta: PageRecord {
-            owner: Owner::Core,
-            share: 0,
-            gfn: None,
-            present: false,
-            prev: None,
-            next: None,
-        },
-        bytes: PageBytes::zeroed(alloc)?,
-    })
-}
-
-#[cfg(test)]
-mod tests;

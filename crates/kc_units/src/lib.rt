@@ -11,6 +11,8 @@ mod images;
 #[cfg(test)]
 mod interrupted;
 #[cfg(test)]
+mod parts;
+#[cfg(test)]
 mod traces;
 #[cfg(test)]
 mod vms;

@@ -1,6 +1,7 @@
 use Rattle.std.proofs.Common.{Some, sym, ap, ◌∙◌, subst}
 use Rattle.kc_parts.specs.States.{state_of, IsLinked}
 use Rattle.kc_parts.specs.Booting.{IsWhole}
+use Rattle.kc_parts.proofs.Full.{full_from_whole}
 use Rattle.kc_parts.proofs.Booted.{made, is_held-boot, linked-boot, whole-boot, state-boot}
 use Rattle.kc_parts.proofs.parts.Parts.boot.Goals as goal
 
@@ -26,3 +27,6 @@ returns-clause-whole c =
     let config = c.args.config.now in
     subst (IsWhole config) (sym (made config c.frames.ensures.kept _ _ _ _ _ (rw (← c.frames.ensures.value) c.in_ok-all_numbers.ensures) (rw (← c.frames-2.ensures.value) c.in_ok-all_filled.ensures) c.in_ok-boot_pages.ensures c.in_ok-boot_vms.ensures (ap Some c.boot_ends.ensures)))
     (whole-boot config c.frames.ensures.kept)
+
+pub returns-clause-full : goal.returns-clause-full
+returns-clause-full c = full_from_whole c.args.config.now _ (returns-clause-whole c)

@@ -3,46 +3,37 @@ use Rattle.kc_parts.specs.Held.{page_at}
 use Rattle.kc_parts.specs.Cuts.{either}
 use Rattle.kc_parts.proofs.Filled.{cells, page_at-cells}
 use Rattle.kc_parts.proofs.SlotMoves.{either-none}
-use Rattle.kc_parts.proofs.Putting.{IsLast, rest-lengths, last-empty, put-last, cells-end}
+use Rattle.kc_parts.proofs.Putting.{IsLast, front-held, last-blank, last-empty, put-last, cells-end}
 use Rattle.kc_parts.proofs.parts.Parts.lay_pages.Goals as goal
 
 pub loop-number-init : goal.loop-number-init
 loop-number-init c =
-    let ns = c.args.numbers.items in
-    let hs = c.args.here.items in
-    let ps = c.args.pages.items in
     let held = c.requires.held in
     record {
-      rising = held.rising;
-      same_here = held.here;
-      same_pages = held.pages;
+      held = held;
       places = refl;
       vms = refl;
       free = refl;
-      fits = λ f page e. c.requires.fits f page (page_at-cells ns hs ps f held.here held.pages ∙ e);
+      fits = λ f page e. c.requires.fits f page (page_at-cells c.args.numbers.items c.args.here.items c.args.pages.items f held.here held.pages ∙ e);
       joined = λ f. refl;
     }
 
 pub lay_back-requires : goal.lay_back-requires
 lay_back-requires c =
     let l = c.loop-number in
-    let was = l.invariant in
     let last : IsLast l.numbers.items c.pop.new.self.items l.here.items c.pop-in-Some.new.self.items l.pages.items c.pop-in-Some-2.new.self.items c.in-Some.number c.in-Some-Some.filled c.in-Some-Some.page =
-    record { numbers = c.in-Some.ensures.items; here = c.in-Some-Some.ensures.items; pages = c.in-Some-Some.ensures'.items; same_here = was.same_here; same_pages = was.same_pages } in
-    last-empty _ _ _ _ _ _ c.in-Some.number c.in-Some-Some.filled c.in-Some-Some.page l.self last was.rising was.fits
+    record { held = l.invariant.held; numbers = c.in-Some.ensures.items; here = c.in-Some-Some.ensures.items; pages = c.in-Some-Some.ensures'.items } in
+    record { empty = last-empty last l.self l.invariant.fits; blank = last-blank last }
 
 pub loop-number-preserved : goal.loop-number-preserved
 loop-number-preserved c =
     let l = c.loop-number in
     let was = l.invariant in
     let last : IsLast l.numbers.items c.pop.new.self.items l.here.items c.pop-in-Some.new.self.items l.pages.items c.pop-in-Some-2.new.self.items c.in-Some.number c.in-Some-Some.filled c.in-Some-Some.page =
-    record { numbers = c.in-Some.ensures.items; here = c.in-Some-Some.ensures.items; pages = c.in-Some-Some.ensures'.items; same_here = was.same_here; same_pages = was.same_pages } in
-    let lengths = rest-lengths _ _ _ _ _ _ c.in-Some.number c.in-Some-Some.filled c.in-Some-Some.page last in
-    let step = put-last _ _ _ _ _ _ c.in-Some.number c.in-Some-Some.filled c.in-Some-Some.page l.self c.lay_back.new.self last was.rising was.fits c.lay_back.ensures in
+    record { held = was.held; numbers = c.in-Some.ensures.items; here = c.in-Some-Some.ensures.items; pages = c.in-Some-Some.ensures'.items } in
+    let step = put-last last l.self c.lay_back.new.self was.fits c.lay_back.ensures in
     record {
-      rising = step.rising;
-      same_here = lengths.0;
-      same_pages = lengths.1;
+      held = front-held last;
       places = c.lay_back.ensures.numbers ∙ was.places;
       vms = c.lay_back.ensures.vms ∙ was.vms;
       free = c.lay_back.ensures.free ∙ was.free;

@@ -1,8 +1,8 @@
-use Rattle.std.proofs.Common.{ℕ, ◌≡◌, length}
+use Rattle.std.proofs.Common.{ℕ, ◌≡◌}
 use Rattle.std.specs.Prelude.{Some}
 use Rattle.std.specs.Vec.{vec_len}
 use Rattle.kc_page.specs.declared.page.Page.{Page}
-use Rattle.kc_parts.specs.Held.{IsRising, page_at}
+use Rattle.kc_parts.specs.Held.{IsHeld, page_at}
 use Rattle.kc_parts.specs.Cuts.{either}
 use Rattle.kc_parts.specs.Moves.{IsEmptyPlace}
 use Rattle.kc_parts.proofs.Filled.{cells, cell_in}
@@ -10,9 +10,7 @@ use Rattle.kc_parts.proofs.parts.Parts.lay_pages.Given as goal
 
 abbrev pub invariant-loop-number : goal.invariant-loop-number
 invariant-loop-number l = record {
-  rising : IsRising l.numbers.items;
-  same_here : length l.here.items ≡ length l.numbers.items;
-  same_pages : length l.pages.items ≡ length l.numbers.items;
+  held : IsHeld l.numbers.items l.here.items l.pages.items;
   places : l.self.numbers ≡ l.initial.self.numbers;
   vms : l.self.vms ≡ l.initial.self.vms;
   free : l.self.free ≡ l.initial.self.free;

@@ -3,7 +3,14 @@ use Rattle.std.specs.Prelude.{slice_get}
 use Rattle.kc_page.specs.declared.page.Page.{Page}
 use Rattle.kc_parts.specs.Held.{Held, IsRising}
 use Rattle.kc_parts.proofs.Writing.{full-page}
+use Rattle.kc_parts.proofs.Blanks.{held-refilled}
 use Rattle.kc_parts.proofs.parts.Parts.pages_mut.Goals as goal
+
+pub invariant_of-self-lent : goal.invariant_of-self-lent
+invariant_of-self-lent c = λ w.
+    let p = c.self.inside in
+    let h : Held = record { numbers = p.numbers.items; here = p.here.items; pages = p.pages.items; vms = p.vms.items; free = p.free } in
+    held-refilled h p.pages.len w c.self.invariant (rw (← c.self.view_is) at c.requires) p.pages.ok.0
 
 pub returns : goal.returns
 returns c =

@@ -1,5 +1,6 @@
 use Rattle.std.proofs.Common.{get_or, ◌∙◌}
 use Rattle.kc_parts.proofs.Taking.{pages-here, same-pages, split-end, taken-full}
+use Rattle.kc_parts.proofs.Splits.{split_fits}
 use Rattle.kc_parts.proofs.parts.Parts.take_out.Goals as goal
 
 pub lift_pages-requires-clause-here : goal.lift_pages-requires-clause-here
@@ -22,3 +23,6 @@ returns-clause-ok c =
 
 pub returns-clause-full : goal.returns-clause-full
 returns-clause-full c = taken-full c.args.wanted.now c.args.self.now c.lift_pages.new.self _ c.requires (returns-clause-ok c) c.in_ok-numbers.ensures.members
+
+pub returns-clause-fits : goal.returns-clause-fits
+returns-clause-fits c = split_fits _ _ _ _ (returns-clause-ok c)

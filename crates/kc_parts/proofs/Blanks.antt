@@ -1,0 +1,118 @@
+-- Blanks at the places that are not filled.
+use Rattle.std.proofs.Common.{ℕ, zero, suc, ◌≡◌, ◌<◌, inl, inr, Bool, true, false, cond, nat_eq, List, take, drop, [], ◌∷◌, ◌++◌, length, get_or, set, replicate, refl, sym, ◌∙◌, ap, arith, length-set, length-append, length-take, length-drop}
+use Rattle.std.specs.Prelude.{Some, None}
+use Rattle.std.proofs.lemmas.Bool.{cases_lt}
+use Rattle.std.proofs.lemmas.List.{get_or_past, get_or_default}
+use Rattle.std.proofs.lemmas.Option.{slice_get-get_or}
+use Rattle.kc_page.specs.declared.page.Page.{Page}
+use Rattle.kc_parts.specs.Held.{Held, IsHeld, AreBlanks, blank_page, place_of, is_filled}
+use Rattle.kc_parts.specs.Cuts.{IsFull}
+use Rattle.kc_parts.specs.Moves.{page_among}
+use Rattle.kc_parts.proofs.Places.{place-found, filled-at}
+use Rattle.kc_parts.proofs.Writing.{filled-here}
+
+-- where all places are filled there is no blank
+pub blanks-filled : (n : ℕ) (ps : List Page) → AreBlanks (replicate n true) ps
+blanks-filled zero ps i e = cc
+blanks-filled (suc n) ps zero e = cc
+blanks-filled (suc n) [] (suc i) e = refl
+blanks-filled (suc n) (p ∷ ps) (suc i) e = blanks-filled n ps i e
+
+-- a page changes where a place is filled, or past the places
+blanks-page : (hs : List Bool) (ps : List Page) (i : ℕ) (p : Page) → get_or hs i true ≡ true → AreBlanks hs ps → AreBlanks hs (set ps i p)
+blanks-page [] ps i p at are k e = cc
+blanks-page (h ∷ hs) [] i p at are k e = refl
+blanks-page (h ∷ hs) (q ∷ ps) zero p at are zero e = cc
+blanks-page (h ∷ hs) (q ∷ ps) zero p at are (suc k) e = are (suc k) e
+blanks-page (h ∷ hs) (q ∷ ps) (suc i) p at are zero e = are zero e
+blanks-page (h ∷ hs) (q ∷ ps) (suc i) p at are (suc k) e = blanks-page hs ps i p at (λ j. are (suc j)) k e
+
+pub blanks-front : (hs : List Bool) (ps : List Page) (b : Bool) (p : Page) → length hs ≡ length ps → AreBlanks (hs ++ b ∷ []) (ps ++ p ∷ []) → AreBlanks hs ps
+blanks-front [] ps b p same are k e = cc
+blanks-front (h ∷ hs) [] b p same are k e = refl
+blanks-front (h ∷ hs) (q ∷ ps) b p same are zero e = are zero e
+blanks-front (h ∷ hs) (q ∷ ps) b p same are (suc k) e = blanks-front hs ps b p (omega (arith, same)) (λ j. are (suc j)) k e
+
+pub blank-last : (hs : List Bool) (ps : List Page) (b : Bool) (p : Page) → length hs ≡ length ps → AreBlanks (hs ++ b ∷ []) (ps ++ p ∷ []) → b ≡ false → p ≡ blank_page
+blank-last [] [] b p same are e = are zero e
+blank-last [] (q ∷ ps) b p same are e = absurd (omega (arith, same))
+blank-last (h ∷ hs) [] b p same are e = absurd (omega (arith, same))
+blank-last (h ∷ hs) (q ∷ ps) b p same are e = blank-last hs ps b p (omega (arith, same)) (λ j. are (suc j)) e
+
+-- the flag at the place of a frame that is here
+filled-flag : (ns : List ℕ) (hs : List Bool) (f : ℕ) → is_filled ns hs f ≡ true → get_or hs (place_of ns f) true ≡ true
+filled-flag [] hs f e = cc
+filled-flag (n ∷ ns) [] f e = refl
+filled-flag (n ∷ ns) (h ∷ hs) f e = by_first (nat_eq n f) e (filled-flag ns hs f)
+  where
+    by_first : (first : Bool) → cond first h (is_filled ns hs f) ≡ true → (is_filled ns hs f ≡ true → get_or hs (place_of ns f) true ≡ true) → get_or (h ∷ hs) (cond first 0 (suc (place_of ns f))) true ≡ true
+    by_first true e rest = e
+    by_first false e rest = rest e
+
+-- a page that is here may become any page
+pub held-page : (ns : List ℕ) (hs : List Bool) (ps : List Page) (f : ℕ) (p : Page) → IsHeld ns hs ps → IsHeld ns hs (set ps (cond (is_filled ns hs f) (place_of ns f) (length ps)) p)
+held-page ns hs ps f p held = record {
+  rising = held.rising;
+  frames = held.frames;
+  here = held.here;
+  pages = length-set ps (cond (is_filled ns hs f) (place_of ns f) (length ps)) p ∙ held.pages;
+  blanks = blanks-page hs ps (cond (is_filled ns hs f) (place_of ns f) (length ps)) p (flag (is_filled ns hs f) refl) held.blanks;
+}
+  where
+    flag : (b : Bool) → is_filled ns hs f ≡ b → get_or hs (cond b (place_of ns f) (length ps)) true ≡ true
+    flag true e = filled-flag ns hs f e
+    flag false e = get_or_past hs (length ps) true (omega (arith, held.here, held.pages))
+
+-- a page and its flag change together
+blanks-set : (hs : List Bool) (ps : List Page) (i : ℕ) (b : Bool) (p : Page) → (b ≡ false → p ≡ blank_page) → AreBlanks hs ps → AreBlanks (set hs i b) (set ps i p)
+blanks-set [] ps i b p ok are k e = cc
+blanks-set (h ∷ hs) [] i b p ok are k e = refl
+blanks-set (h ∷ hs) (q ∷ ps) zero b p ok are zero e = ok e
+blanks-set (h ∷ hs) (q ∷ ps) zero b p ok are (suc k) e = are (suc k) e
+blanks-set (h ∷ hs) (q ∷ ps) (suc i) b p ok are zero e = are zero e
+blanks-set (h ∷ hs) (q ∷ ps) (suc i) b p ok are (suc k) e = blanks-set hs ps i b p ok (λ j. are (suc j)) k e
+
+-- a place is filled, or becomes empty with a blank
+pub held-set : (ns : List ℕ) (hs : List Bool) (ps : List Page) (i : ℕ) (b : Bool) (p : Page) → (b ≡ false → p ≡ blank_page) → IsHeld ns hs ps → IsHeld ns (set hs i b) (set ps i p)
+held-set ns hs ps i b p ok held = record {
+  rising = held.rising;
+  frames = held.frames;
+  here = length-set hs i b ∙ held.here;
+  pages = length-set ps i p ∙ held.pages;
+  blanks = blanks-set hs ps i b p ok held.blanks;
+}
+
+-- what stands at a frame's place that is empty is a blank
+pub blank-there : (ns : List ℕ) (hs : List Bool) (ps : List Page) (f : ℕ) (d : Page) → IsHeld ns hs ps → place_of ns f < length ns → page_among ns hs ps f ≡ None → get_or ps (place_of ns f) d ≡ blank_page
+blank-there ns hs ps f d held low none = by_flag (get_or hs (place_of ns f) true) refl
+  where
+    by_flag : (b : Bool) → get_or hs (place_of ns f) true ≡ b → get_or ps (place_of ns f) d ≡ blank_page
+    by_flag false e = get_or_default ps (place_of ns f) d blank_page (omega (arith, low, held.pages)) ∙ held.blanks (place_of ns f) e
+    by_flag true e =
+        let filled : is_filled ns hs f ≡ true = filled-at ns hs f true true (omega (arith, low, held.here)) held.here e in
+        let some : page_among ns hs ps f ≡ Some (get_or ps (place_of ns f) d) = rw filled (slice_get-get_or ps (place_of ns f) d (omega (arith, low, held.pages))) in
+        let no : Some (get_or ps (place_of ns f) d) ≡ None = sym some ∙ none in
+        cc
+
+-- where no page is taken out there is no blank
+full-blanks : (h : Held) (ps : List Page) → IsHeld h.numbers h.here h.pages → IsFull h → AreBlanks h.here ps
+full-blanks h ps held full i e = elim (cases_lt i (length h.here)) [
+  | inl low ↦
+      let n = get_or h.numbers i 0 in
+      let within : i < length h.numbers = omega (arith, low, held.here) in
+      let place = place-found h.numbers i n held.rising within refl in
+      let flag : get_or h.here i true ≡ true = ap (λ k. get_or h.here k true) (sym place) ∙ filled-flag h.numbers h.here n (filled-here h.numbers h.here h.pages n (full i within)) in
+      let no : true ≡ false = sym flag ∙ e in
+      cc
+  | inr past ↦ let no : true ≡ false = sym (get_or_past h.here i true past) ∙ e in cc
+]
+
+-- and all pages may become any pages
+pub held-refilled : (h : Held) (n : ℕ) (ps : List Page) → IsHeld h.numbers h.here h.pages → IsFull h → n ≡ length h.pages → IsHeld h.numbers h.here (take n (ps ++ drop (length ps) h.pages))
+held-refilled h n ps held full is = record {
+  rising = held.rising;
+  frames = held.frames;
+  here = held.here;
+  pages = simp (length-take, length-append, length-drop) (omega (arith, is, held.pages));
+  blanks = full-blanks h (take n (ps ++ drop (length ps) h.pages)) held full;
+}

@@ -1,0 +1,62 @@
+//! Blank pages, which stand where no page is.
+ghost use Rattle.std.specs.Prelude.{◌≡◌, IfOk};
+ghost use Rattle.kc_parts.specs.Held.{blank_page};
+
+use kc_page::{Page, PageBytes, PageRecord};
+use kc_types::{Memory, Owner};
+use std::alloc::Global;
+use std::marker::Model;
+
+/// A blank page: its record says nothing, and its bytes are zero.
+#[derive(Drop)]
+pub(crate) struct Blank {
+    page: Page,
+}
+
+impl Model for Blank {
+    ghost use Rattle.std.specs.Prelude.{◌≡◌};
+    ghost use Rattle.kc_page.specs.declared.page.Page.{Page};
+    ghost use Rattle.kc_parts.specs.Held.{blank_page};
+
+    ghost Value = { Page };
+
+    ghost view = { λ b. b.page };
+
+    ghost invariant = { λ b. b.page ≡ blank_page };
+}
+
+impl Blank {
+    /// A new blank, or `Memory` where a growth was refused.
+    pub(crate) fn make(alloc: Global) -> Result<Blank, Memory>
+        // No clause can rule out want of memory: tests take parts out.
+        ensures { IfOk result (λ blank. blank ≡ blank_page) }
+    {
+        let meta = PageRecord {
+            owner: Owner::Core,
+            share: 0,
+            gfn: None,
+            present: false,
+            prev: None,
+            next: None,
+        };
+        let bytes = PageBytes::zeroed(alloc)?;
+        Ok(Blank {
+            page: Page { meta, bytes },
+        })
+    }
+
+    /// The page as the blank that it is.
+    pub(crate) fn from_page(page: Page) -> Blank
+        requires { page ≡ blank_page }
+        ensures { result ≡ page }
+    {
+        Blank { page }
+    }
+
+    /// The blank as a page.
+    pub(crate) fn into_page(self) -> Page
+        ensures { result ≡ blank_page }
+    {
+        self.page
+    }
+}
