@@ -168,5 +168,5 @@ stops-trace config calls ps (BadActor i) cut stops = (ps, cut, stops)
 stops-trace config calls ps (NotYours i call) cut stops = some-none i call (stranger_from 0 ps) (strangers-none 0 ps cut.own) stops.1
 stops-trace config calls ps HistoryFull cut stops = let count = cut.count in let many = stops.1 in omega arith
 stops-trace config calls ps Memory cut stops = tt
-stops-trace config calls ps Start cut stops = tt
-stops-trace config calls ps Unsettled cut stops = tt
+stops-trace config calls ps Start cut stops = (ps, cut, stops)
+stops-trace config calls ps Unsettled cut stops = (ps, cut, stops)

@@ -9,7 +9,7 @@ use Rattle.kc_model.specs.Histories.{same_actor, calls_by}
 use Rattle.kc_live.specs.declared.fault.LiveCause.{LiveCause}
 use Rattle.kc_live.specs.declared.fault.LiveCause.TheVariants.{NotYours, HistoryFull, Memory, Start, Unsettled, BadActor}
 use Rattle.kc_live.specs.Programs.{ProgramView, NoneIs, Apart, actors_of}
-use Rattle.kc_live.specs.Plans.{IsFirstBad, count_of}
+use Rattle.kc_live.specs.Plans.{IsFirstBad, IsSound, count_of}
 
 -- the calls of the actor's program; none where it has no program
 abbrev pub program_of : Actor → List ProgramView → List Call
@@ -64,11 +64,15 @@ with_call call (p ∷ ps) = if same_actor p.actor (actor call) then grown p call
 abbrev pub KeepsOrders : List Call → List Call → Type 0
 KeepsOrders made calls = (a : Actor) → calls_by a made ≡ calls_by a calls
 
--- why a trace is not run: one of its actors is none of the core's, it has more calls than a history, or a cause that shows only in a run
+-- the trace may run: nothing is wrong with the programs that it is cut into
+abbrev pub MayRun : Configuration → List Call → Type 0
+MayRun config calls = (ps : List ProgramView) × IsCut calls ps × IsSound config ps
+
+-- why a trace gives no answer: one of its actors is none of the core's, it has more calls than a history, or it may run, and the cause shows only in a run; memory may run out before
 abbrev pub StopsTrace : Configuration → List Call → LiveCause → Type 0
 StopsTrace config calls (BadActor i) = (ps : List ProgramView) × IsCut calls ps × IsFirstBad config ps i
 StopsTrace config calls (NotYours i call) = ⊥
 StopsTrace config calls HistoryFull = call_limit < length calls
 StopsTrace config calls Memory = Unit {0}
-StopsTrace config calls Start = Unit {0}
-StopsTrace config calls Unsettled = Unit {0}
+StopsTrace config calls Start = MayRun config calls
+StopsTrace config calls Unsettled = MayRun config calls

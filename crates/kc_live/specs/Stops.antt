@@ -2,8 +2,12 @@
 use Rattle.std.specs.Prelude.{Bool, true, false, ◌≡◌, ◌<◌, Some, None, List}
 use Rattle.kc_types.specs.Configuration.{Configuration}
 use Rattle.kc_types.specs.Limits.{call_limit}
+use Rattle.kc_live.specs.declared.fault.LiveFault.{LiveFault}
+use Rattle.kc_live.specs.declared.fault.LiveFault.TheVariants as faults
 use Rattle.kc_live.specs.declared.fault.LiveCause.{LiveCause}
 use Rattle.kc_live.specs.declared.fault.LiveCause.TheVariants.{NotYours, HistoryFull, Memory, Start, Unsettled, BadActor}
+use Rattle.kc_live.specs.declared.threads.ThreadStop.{ThreadStop}
+use Rattle.kc_live.specs.declared.threads.ThreadStop.TheVariants as stops
 use Rattle.kc_live.specs.Programs.{ProgramView}
 use Rattle.kc_live.specs.Plans.{HaveActors, IsFirstBad, stranger_from, count_of, IsSound}
 
@@ -33,3 +37,14 @@ FitsHistory HistoryFull is_there = is_there ≡ false
 FitsHistory Memory is_there = Unit {0}
 FitsHistory Start is_there = is_there ≡ true
 FitsHistory Unsettled is_there = is_there ≡ true
+
+-- the cause that a call which a thread did not make is: want of memory is told as that, and with programs that were judged any other fault settles nothing
+abbrev pub fault_cause : LiveFault → LiveCause
+fault_cause faults.Memory = Memory
+fault_cause faults.NotYours = Unsettled
+fault_cause faults.HistoryFull = Unsettled
+
+-- the cause of a run whose threads did not make all calls
+abbrev pub thread_cause : ThreadStop → LiveCause
+thread_cause stops.Start = Start
+thread_cause (stops.Fault fault) = fault_cause fault

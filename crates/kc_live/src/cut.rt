@@ -1,9 +1,10 @@
 //! A trace that is cut into programs and run.
-ghost use Rattle.std.specs.Prelude.{◌≡◌, [], ◌∷◌, IfOk, IfErr, OnOk, MatchOption, IsTrue, ◌↔◌};
+ghost use Rattle.std.specs.Prelude.{◌≡◌, [], ◌∷◌, is_some, IfOk, IfErr, OnOk, MatchOption, IsTrue, ◌↔◌};
 ghost use Rattle.kc_types.specs.Actors.{actor as actor_made};
 ghost use Rattle.kc_history.specs.Logs.{calls_of};
 ghost use Rattle.kc_live.specs.Programs.{NoneIs, actors_of};
 ghost use Rattle.kc_live.specs.Cuts.{IsCut, IsPlaceOf, KeepsOrders, StopsTrace, with_call};
+ghost use Rattle.kc_live.specs.Stops.{FitsHistory};
 
 use crate::fault::{LiveCause, LiveStop};
 use crate::program::Program;
@@ -72,7 +73,8 @@ fn history_of(answer: (History, Vec<Vec<Receipt>>)) -> History
 }
 
 /// Cuts a trace into one program for each actor, in the order in which the actors first appear, and runs them live.
-/// The history has each actor's calls in the trace's order.
+/// The history has each actor's calls in the trace's order. A run that began and gave no answer hands back the
+/// history that it left.
 pub fn run_trace<G: Gate + Sync, R: Threads + Wait + Sync>(
     rt: &R,
     alloc: Global,
@@ -83,6 +85,7 @@ pub fn run_trace<G: Gate + Sync, R: Threads + Wait + Sync>(
     ensures config { IfOk result (λ history. history.config ≡ config) }
     ensures order { IfOk result (λ history. KeepsOrders (calls_of history.entries) calls.items) }
     ensures stop { IfErr result (λ stop. StopsTrace config calls.items stop.cause) }
+    ensures history { IfErr result (λ stop. FitsHistory stop.cause (is_some stop.history)) }
 {
     let Ok(programs) = programs_of(alloc, calls) else {
         return Err(refused(LiveCause::Memory));

@@ -3,7 +3,7 @@ ghost use Rattle.std.specs.Prelude.{◌≡◌, ◌↔◌, map, true, false, is_s
 ghost use Rattle.kc_live.specs.Programs.{calls_in, HasCalls, HasNoOthers};
 ghost use Rattle.kc_history.specs.Settling.{IsSettled};
 ghost use Rattle.kc_live.specs.Plans.{IsSound};
-ghost use Rattle.kc_live.specs.Stops.{StopsFor, IsLate, FitsHistory};
+ghost use Rattle.kc_live.specs.Stops.{StopsFor, IsLate, FitsHistory, thread_cause};
 
 use crate::early::{first_bad, first_stranger, has_too_many};
 use crate::fault::{LiveCause, LiveStop};
@@ -64,6 +64,7 @@ fn early_stop(config: &Config, programs: &[Program]) -> Option<LiveCause>
 
 /// The cause of a run whose threads did not make all calls.
 fn cause_of(stop: ThreadStop) -> LiveCause
+    ensures cause { result ≡ thread_cause stop }
     ensures late { IsLate result }
     ensures begun { FitsHistory result true }
 {

@@ -1,5 +1,5 @@
 //! One thread for each program.
-ghost use Rattle.std.specs.Prelude.{◌≡◌, ◌≤◌, [], map, vec_len, vec_capacity, IfOk};
+ghost use Rattle.std.specs.Prelude.{◌≡◌, ◌≢◌, ◌≤◌, [], map, vec_len, vec_capacity, Some, IfOk};
 ghost use Rattle.kc_live.specs.Programs.{calls_in};
 
 use crate::program::{Program, Running, run_program};
@@ -20,7 +20,10 @@ pub enum ThreadStop {
 }
 
 /// The fault that is told of two threads': want of memory goes first.
-fn graver(met: Option<LiveFault>, fault: LiveFault) -> LiveFault {
+fn graver(met: Option<LiveFault>, fault: LiveFault) -> LiveFault
+    ensures memory { met ≡ Some LiveFault.Memory → result ≡ LiveFault.Memory }
+    ensures other { met ≢ Some LiveFault.Memory → result ≡ fault }
+{
     if met == Some(LiveFault::Memory) {
         LiveFault::Memory
     } else {
