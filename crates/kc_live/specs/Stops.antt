@@ -2,8 +2,8 @@
 use Rattle.std.specs.Prelude.{Bool, true, false, ◌≡◌, ◌<◌, Some, None, List}
 use Rattle.kc_types.specs.Configuration.{Configuration}
 use Rattle.kc_types.specs.Limits.{call_limit}
-use Rattle.kc_live.specs.declared.fault.LiveFault.{LiveFault}
-use Rattle.kc_live.specs.declared.fault.LiveFault.TheVariants as faults
+use Rattle.kc_history.specs.declared.fault.LiveFault.{LiveFault}
+use Rattle.kc_history.specs.declared.fault.LiveFault.TheVariants as faults
 use Rattle.kc_live.specs.declared.fault.LiveCause.{LiveCause}
 use Rattle.kc_live.specs.declared.fault.LiveCause.TheVariants.{NotYours, HistoryFull, Memory, Start, Unsettled, BadActor}
 use Rattle.kc_live.specs.declared.threads.ThreadStop.{ThreadStop}
