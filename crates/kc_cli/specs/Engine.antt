@@ -1,5 +1,5 @@
 -- What an engine leaves of what its sources held.
-use Rattle.std.specs.Prelude.{◌≡◌, ℕ, List, take, Option, Some, None, Ok}
+use Rattle.std.specs.Prelude.{◌≡◌, ◌≢◌, ℕ, List, take, Option, Some, None, IfSome, Ok}
 use Rattle.std.specs.Io.KnownBytes.{Appends}
 use Rattle.kc_types.specs.Configuration.{Configuration}
 use Rattle.kc_types.specs.declared.call.Call.{Call}
@@ -8,19 +8,42 @@ use Rattle.kc_model.specs.Next.{replies_from}
 use Rattle.kc_trace.specs.ConfigText.{config_in}
 use Rattle.kc_trace.specs.Trace.{IsTrace}
 use Rattle.kc_trace.specs.ReplyText.{reply_text_of}
+use Rattle.kc_cli.specs.declared.fault.TextFault.{TextFault}
+use Rattle.kc_cli.specs.declared.fault.TextFault.TheVariants as texts
 
 -- the text is that of a configuration, where the source tells it
 abbrev pub IsConfigured : Option (List ℕ) → Type 0
 IsConfigured None = Unit {0}
 IsConfigured (Some text) = (config : Configuration) × (config_in text ≡ Ok config)
 
--- the text is that of the replies of one thread, which takes the trace's calls in order from the boot state of the configuration
-pub record IsReplyText (config_text trace_text text : List ℕ) : Type 0 where
-  pub config : Configuration
-  pub calls : List Call
+-- the configuration and the trace that the texts hold
+pub record AreRead (config_text trace_text : List ℕ) (config : Configuration) (calls : List Call) : Type 0 where
   pub configured : config_in config_text ≡ Ok config
   pub traced : IsTrace trace_text calls
-  pub replied : text ≡ reply_text_of (replies_from (boot config) calls)
+
+-- both texts were read, where the sources tell them
+abbrev pub WereRead : Option (List ℕ) → Option (List ℕ) → Type 0
+WereRead None trace = Unit {0}
+WereRead (Some config) None = Unit {0}
+WereRead (Some config_text) (Some trace_text) = (config : Configuration) × (calls : List Call) × AreRead config_text trace_text config calls
+
+-- they are what was read, each where its source tells the text
+pub record HaveRead (config_source trace_source : Option (List ℕ)) (config : Configuration) (calls : List Call) : Type 0 where
+  pub configured : IfSome config_source (λ text. config_in text ≡ Ok config)
+  pub traced : IfSome trace_source (λ text. IsTrace text calls)
+
+-- reading ends in a fault of an end, of a text or of memory
+pub record IsReadingFault (fault : TextFault) : Type 0 where
+  pub workers : fault ≢ texts.Workers
+  pub start : fault ≢ texts.Start
+  pub unsettled : fault ≢ texts.Unsettled
+  pub actor : (program : ℕ) → fault ≢ texts.BadActor program
+  pub write : fault ≢ texts.Write
+
+-- the text is that of the replies of one thread, which takes the trace's calls in order from the boot state of the configuration
+abbrev pub IsReplyText : List ℕ → List ℕ → List ℕ → Type 0
+IsReplyText config_text trace_text text =
+    (config : Configuration) × (calls : List Call) × AreRead config_text trace_text config calls × (text ≡ reply_text_of (replies_from (boot config) calls))
 
 -- the sink took the reply text of what the sources held, where all of them tell
 abbrev pub Replays : Option (List ℕ) → Option (List ℕ) → Option (List ℕ) → Option (List ℕ) → Type 0

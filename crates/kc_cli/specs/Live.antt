@@ -1,5 +1,5 @@
 -- What the live engine leaves of what its sources held.
-use Rattle.std.specs.Prelude.{◌≡◌, ◌≢◌, ◌<◌, ℕ, List, length, take, Option, Some, None, Ok}
+use Rattle.std.specs.Prelude.{◌≡◌, ◌≢◌, ◌<◌, ℕ, List, length, take, Option, Some, None}
 use Rattle.std.specs.Io.KnownBytes.{Appends}
 use Rattle.kc_types.specs.Configuration.{Configuration}
 use Rattle.kc_types.specs.Limits.{call_limit}
@@ -8,26 +8,14 @@ use Rattle.kc_live.specs.declared.fault.LiveCause.TheVariants.{BadActor}
 use Rattle.kc_live.specs.Cuts.{KeepsOrders, StopsTrace}
 use Rattle.kc_trace.specs.declared.config_text.ConfigTextFault.{ConfigTextFault}
 use Rattle.kc_trace.specs.declared.fault.TraceFault.{TraceFault}
-use Rattle.kc_trace.specs.ConfigText.{config_in}
-use Rattle.kc_trace.specs.Trace.{IsTrace}
 use Rattle.kc_trace.specs.Spelling.{trace_of}
+use Rattle.kc_cli.specs.Engine.{AreRead}
 use Rattle.kc_cli.specs.declared.fault.TextFault.{TextFault}
 use Rattle.kc_cli.specs.declared.fault.TextFault.TheVariants as texts
 
 -- the text is the trace of these calls in an order in which each actor's calls keep theirs
 abbrev pub IsRearranged : List Call → List ℕ → Type 0
 IsRearranged calls text = (made : List Call) × KeepsOrders made calls × (text ≡ trace_of made)
-
--- the configuration and the trace that the texts hold
-pub record AreRead (config_text trace_text : List ℕ) (config : Configuration) (calls : List Call) : Type 0 where
-  pub configured : config_in config_text ≡ Ok config
-  pub traced : IsTrace trace_text calls
-
--- both texts were read, where the sources tell them
-abbrev pub WereRead : Option (List ℕ) → Option (List ℕ) → Type 0
-WereRead None trace = Unit {0}
-WereRead (Some config) None = Unit {0}
-WereRead (Some config_text) (Some trace_text) = (config : Configuration) × (calls : List Call) × AreRead config_text trace_text config calls
 
 -- the text is the trace read, rearranged
 abbrev pub IsLiveText : List ℕ → List ℕ → List ℕ → Type 0

@@ -12,11 +12,10 @@ ghost use Rattle.kc_ends.specs.Ends.{ReadFailed};
 ghost use Rattle.kc_cli.specs.Engine.{IsConfigured, Replays, BeginsReplay};
 
 use crate::TextFault;
+use crate::reading::read_both;
 use crate::replies::{PIECE, give_replies};
-use crate::stream::read_calls;
 use kc_core::KCore;
-use kc_ends::{Sink, Source, read_whole};
-use kc_trace::read_config;
+use kc_ends::{Sink, Source};
 use kc_types::{Call, Config, Memory, Reply};
 use std::alloc::Global;
 
@@ -71,9 +70,10 @@ pub fn replay_text<C: Source, T: Source, K: Sink>(
     if workers != 1 {
         return Err(TextFault::Workers);
     }
-    let config = read_whole(alloc, config)?;
-    let config = read_config(alloc, &config)?;
-    let calls = read_calls(alloc, trace)?;
+    let (config, calls) = match read_both(alloc, config, trace) {
+        Ok(read) => read,
+        Err(fault) => return Err(fault),
+    };
     let Ok(replies) = replies_to(alloc, config, calls) else {
         return Err(TextFault::Memory);
     };

@@ -4,6 +4,7 @@
 mod engine;
 mod fault;
 mod live;
+mod reading;
 mod replies;
 mod stream;
 mod telling;

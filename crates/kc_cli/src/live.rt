@@ -8,19 +8,19 @@ ghost use Rattle.kc_trace.specs.declared.fault.TraceFault.{TraceFault};
 ghost use Rattle.kc_trace.specs.ConfigText.{config_in};
 ghost use Rattle.kc_trace.specs.Trace.{IsRefused};
 ghost use Rattle.kc_ends.specs.Ends.{ReadFailed};
-ghost use Rattle.kc_cli.specs.Engine.{IsConfigured};
+ghost use Rattle.kc_cli.specs.Engine.{IsConfigured, WereRead};
 ghost use Rattle.kc_cli.specs.Faults.{live_fault};
-ghost use Rattle.kc_cli.specs.Live.{IsLiveFault, WereRead, RunsLive, BeginsLive, HasBadActor};
+ghost use Rattle.kc_cli.specs.Live.{IsLiveFault, RunsLive, BeginsLive, HasBadActor};
 
 use crate::TextFault;
+use crate::reading::read_both;
 use crate::replies::PIECE;
-use crate::stream::read_calls;
 use crate::traces::give_trace;
 use kc_core::KCore;
-use kc_ends::{Sink, Source, read_whole};
+use kc_ends::{Sink, Source};
 use kc_live::{Entry, History, LiveCause, LiveStop, run_trace};
 use kc_replay::Gate;
-use kc_trace::{TraceFault, read_config};
+use kc_trace::TraceFault;
 use kc_types::{Call, Config, Memory};
 use std::alloc::Global;
 use std::sync::Wait;
@@ -169,9 +169,10 @@ pub fn live_text<C: Source, T: Source, K: Sink, G: Gate + Sync, R: Threads + Wai
     if workers != 1 {
         return Err(TextFault::Workers);
     }
-    let config = read_whole(alloc, config)?;
-    let config = read_config(alloc, &config)?;
-    let calls = read_calls(alloc, trace)?;
+    let (config, calls) = match read_both(alloc, config, trace) {
+        Ok(read) => read,
+        Err(fault) => return Err(fault),
+    };
     let made = match made_live(rt, alloc, config, calls, gate) {
         Ok(made) => made,
         Err(fault) => return Err(fault),

@@ -1,13 +1,9 @@
-use Rattle.std.proofs.Common.{◌≡◌, ◌∙◌, Err, ap, sym}
-use Rattle.std.proofs.lemmas.Result.{err_from_is_err_and}
+use Rattle.std.proofs.Common.{◌≡◌, ◌∙◌, Err, ap}
 use Rattle.kc_cli.specs.declared.fault.TextFault.TheVariants as texts
-use Rattle.kc_cli.proofs.Faulted.{trace_said}
 use Rattle.kc_cli.proofs.live.live_text.Goals as goal
 
-pub returns-in_err-calls-clause-trace : goal.returns-in_err-calls-clause-trace
-returns-in_err-calls-clause-trace g c =
-    let made = err_from_is_err_and c.from_residual-in_err-calls.result c.from_residual-in_err-calls.ensures.1 in
-    λ fault e.
-    let answer = made.1 in
-    let told : made.0 ≡ texts.Trace fault = cc in
-    c.in_err-calls.ensures.trace fault (ap Err (trace_said c.in_err-calls.field-0.0 fault (sym made.2 ∙ told)))
+pub returns-in-Err-clause-config : goal.returns-in-Err-clause-config
+returns-in-Err-clause-config g c = λ fault e. let same : c.in-Err.fault ≡ texts.Config fault = cc in c.read_both.ensures.config fault (c.in-Err.is ∙ ap Err same)
+
+pub returns-in-Err-clause-trace : goal.returns-in-Err-clause-trace
+returns-in-Err-clause-trace g c = λ fault e. let same : c.in-Err.fault ≡ texts.Trace fault = cc in c.read_both.ensures.trace fault (c.in-Err.is ∙ ap Err same)
