@@ -10,12 +10,12 @@ use Rattle.kc_cli.specs.Faults.{live_fault}
 use Rattle.kc_cli.specs.Live.{IsLiveFault}
 
 pub live_is : (config : Configuration) (calls : List Call) (cause : LiveCause) → StopsTrace config calls cause → IsLiveFault config calls (live_fault cause)
-live_is config calls (BadActor i) stops = record { workers = λ e. cc; read = λ e. cc; write = λ e. cc; config = λ said e. cc; trace = λ said e. cc; actor = λ program e. (let same : i ≡ program = cc in rw (← same) stops) }
+live_is config calls (BadActor i) stops = record { workers = λ e. cc; read = λ e. cc; write = λ e. cc; config = λ said e. cc; trace = λ said e. cc; actor = λ program e. (let same : i ≡ program = cc in rw (← same) stops); started = λ e. cc; unsettled = λ e. cc }
 live_is config calls (NotYours i call) stops = absurd stops
-live_is config calls HistoryFull stops = record { workers = λ e. cc; read = λ e. cc; write = λ e. cc; config = λ said e. cc; trace = λ said e. stops; actor = λ program e. cc }
-live_is config calls Memory stops = record { workers = λ e. cc; read = λ e. cc; write = λ e. cc; config = λ said e. cc; trace = λ said e. cc; actor = λ program e. cc }
-live_is config calls Start stops = record { workers = λ e. cc; read = λ e. cc; write = λ e. cc; config = λ said e. cc; trace = λ said e. cc; actor = λ program e. cc }
-live_is config calls Unsettled stops = record { workers = λ e. cc; read = λ e. cc; write = λ e. cc; config = λ said e. cc; trace = λ said e. cc; actor = λ program e. cc }
+live_is config calls HistoryFull stops = record { workers = λ e. cc; read = λ e. cc; write = λ e. cc; config = λ said e. cc; trace = λ said e. stops; actor = λ program e. cc; started = λ e. cc; unsettled = λ e. cc }
+live_is config calls Memory stops = record { workers = λ e. cc; read = λ e. cc; write = λ e. cc; config = λ said e. cc; trace = λ said e. cc; actor = λ program e. cc; started = λ e. cc; unsettled = λ e. cc }
+live_is config calls Start stops = record { workers = λ e. cc; read = λ e. cc; write = λ e. cc; config = λ said e. cc; trace = λ said e. cc; actor = λ program e. cc; started = λ e. stops; unsettled = λ e. cc }
+live_is config calls Unsettled stops = record { workers = λ e. cc; read = λ e. cc; write = λ e. cc; config = λ said e. cc; trace = λ said e. cc; actor = λ program e. cc; started = λ e. cc; unsettled = λ e. stops }
 
 -- a trace that was read is not refused for its length
 pub not_long : {X : Type 0} (text : List ℕ) (calls : List Call) → IsTrace text calls → 65536 < length calls → X

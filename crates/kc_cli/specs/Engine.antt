@@ -21,12 +21,6 @@ pub record AreRead (config_text trace_text : List ℕ) (config : Configuration) 
   pub configured : config_in config_text ≡ Ok config
   pub traced : IsTrace trace_text calls
 
--- both texts were read, where the sources tell them
-abbrev pub WereRead : Option (List ℕ) → Option (List ℕ) → Type 0
-WereRead None trace = Unit {0}
-WereRead (Some config) None = Unit {0}
-WereRead (Some config_text) (Some trace_text) = (config : Configuration) × (calls : List Call) × AreRead config_text trace_text config calls
-
 -- they are what was read, each where its source tells the text
 pub record HaveRead (config_source trace_source : Option (List ℕ)) (config : Configuration) (calls : List Call) : Type 0 where
   pub configured : IfSome config_source (λ text. config_in text ≡ Ok config)

@@ -5,7 +5,7 @@ use Rattle.kc_types.specs.Configuration.{Configuration}
 use Rattle.kc_types.specs.Limits.{call_limit}
 use Rattle.kc_types.specs.declared.call.Call.{Call}
 use Rattle.kc_live.specs.declared.fault.LiveCause.TheVariants.{BadActor}
-use Rattle.kc_live.specs.Cuts.{KeepsOrders, StopsTrace}
+use Rattle.kc_live.specs.Cuts.{KeepsOrders, MayRun, StopsTrace}
 use Rattle.kc_trace.specs.declared.config_text.ConfigTextFault.{ConfigTextFault}
 use Rattle.kc_trace.specs.declared.fault.TraceFault.{TraceFault}
 use Rattle.kc_trace.specs.Spelling.{trace_of}
@@ -16,6 +16,13 @@ use Rattle.kc_cli.specs.declared.fault.TextFault.TheVariants as texts
 -- the text is the trace of these calls in an order in which each actor's calls keep theirs
 abbrev pub IsRearranged : List Call → List ℕ → Type 0
 IsRearranged calls text = (made : List Call) × KeepsOrders made calls × (text ≡ trace_of made)
+
+-- both texts were read, where the sources tell them, and the trace may run
+abbrev pub CouldRun : Option (List ℕ) → Option (List ℕ) → Type 0
+CouldRun None trace = Unit {0}
+CouldRun (Some config) None = Unit {0}
+CouldRun (Some config_text) (Some trace_text) =
+    (config : Configuration) × (calls : List Call) × AreRead config_text trace_text config calls × MayRun config calls
 
 -- the text is the trace read, rearranged
 abbrev pub IsLiveText : List ℕ → List ℕ → List ℕ → Type 0
@@ -48,3 +55,5 @@ pub record IsLiveFault (machine : Configuration) (calls : List Call) (fault : Te
   pub config : (said : ConfigTextFault) → fault ≢ texts.Config said
   pub trace : (said : TraceFault) → fault ≡ texts.Trace said → call_limit < length calls
   pub actor : (program : ℕ) → fault ≡ texts.BadActor program → StopsTrace machine calls (BadActor program)
+  pub started : fault ≡ texts.Start → MayRun machine calls
+  pub unsettled : fault ≡ texts.Unsettled → MayRun machine calls

@@ -1,6 +1,7 @@
 //! The engine that runs a trace live, over any ends.
 ghost use Rattle.std.specs.Prelude.{◌≡◌, ◌≢◌, ◌⊎◌, ◌↔◌, ℕ, map, false, true, IfOk, IfErr, IfSome, OnOk, OnErr, Err, IsErrOf};
 ghost use Rattle.std.specs.Io.KnownBytes.{IsAtEnd};
+ghost use Rattle.kc_model.specs.Next.{state_after};
 ghost use Rattle.kc_live.specs.Cuts.{KeepsOrders};
 ghost use Rattle.kc_history.specs.Logs.{calls_of};
 ghost use Rattle.kc_trace.specs.declared.config_text.ConfigTextFault.{ConfigTextFault};
@@ -8,9 +9,9 @@ ghost use Rattle.kc_trace.specs.declared.fault.TraceFault.{TraceFault};
 ghost use Rattle.kc_trace.specs.ConfigText.{config_in};
 ghost use Rattle.kc_trace.specs.Trace.{IsRefused};
 ghost use Rattle.kc_ends.specs.Ends.{ReadFailed};
-ghost use Rattle.kc_cli.specs.Engine.{IsConfigured, WereRead};
+ghost use Rattle.kc_cli.specs.Engine.{IsConfigured};
 ghost use Rattle.kc_cli.specs.Faults.{live_fault};
-ghost use Rattle.kc_cli.specs.Live.{IsLiveFault, RunsLive, BeginsLive, HasBadActor};
+ghost use Rattle.kc_cli.specs.Live.{IsLiveFault, CouldRun, RunsLive, BeginsLive, HasBadActor};
 
 use crate::TextFault;
 use crate::reading::read_both;
@@ -52,7 +53,9 @@ fn calls_in(alloc: Global, entries: Vec<Entry>) -> Result<Vec<Call>, Memory>
 }
 
 /// Makes the calls in order, and lets each reply go.
-fn make_each(core: &mut KCore, calls: &[Call]) -> Result<(), Memory> {
+fn make_each(core: &mut KCore, calls: &[Call]) -> Result<(), Memory>
+    ensures { OnOk result (core.new ≡ state_after core.old calls.now) }
+{
     for call in calls {
         core.call(call)?;
     }
@@ -158,10 +161,10 @@ pub fn live_text<C: Source, T: Source, K: Sink, G: Gate + Sync, R: Threads + Wai
     ensures source { (C.failed config.new ≡ true) ⊎ (T.failed trace.new ≡ true) → result ≡ Err TextFault.Read }
     ensures sink { K.failed out.new ≡ true → result ≡ Err TextFault.Write }
 
-    // The trace is judged only behind a configuration, and the run only behind both.
+    // The trace is judged only behind a configuration, the run only behind both, and only of a trace that may run.
     ensures configured { (fault : TraceFault) → result ≡ Err (TextFault.Trace fault) → IsConfigured (C.left config.old) }
-    ensures started { result ≡ Err TextFault.Start → WereRead (C.left config.old) (T.left trace.old) }
-    ensures unsettled { result ≡ Err TextFault.Unsettled → WereRead (C.left config.old) (T.left trace.old) }
+    ensures started { result ≡ Err TextFault.Start → CouldRun (C.left config.old) (T.left trace.old) }
+    ensures unsettled { result ≡ Err TextFault.Unsettled → CouldRun (C.left config.old) (T.left trace.old) }
 
     // Every fault but that of a write leaves the sink as it was.
     ensures untouched { OnErr result ((out.new ≡ out.old) ⊎ (result ≡ Err TextFault.Write)) }
