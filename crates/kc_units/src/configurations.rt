@@ -1,30 +1,22 @@
 //! Texts of configurations.
+use crate::images::ABC;
 use kc_trace::{ConfigTextFault, read_config};
-use kc_types::ConfigFault;
+use kc_types::{Config, ConfigFault};
+use std::test::Fail;
 
 const GOOD: &str =
     r#"{"frames":8,"core":1,"host":4,"leaves":1,"approved":["ba7816bf8f01cfea414140de5dae2223b00361a396177a9cb410ff61f20015ad"]}"#;
 
 #[test]
-fn reads_a_configuration(rt: HostRuntime) {
-    let config = match read_config(rt.alloc(), GOOD.as_bytes()) {
-        Ok(config) => config,
-        Err(fault) => {
-            assert_eq!(rt; Some(fault), None);
-            return;
-        }
-    };
-    assert_eq!(rt; config.frames(), 8);
-    assert_eq!(rt; config.core(), 1);
-    assert_eq!(rt; config.host(), 4);
-    assert_eq!(rt; config.leaves(), 1);
-    assert_eq!(rt; config.approved().len(), 1);
-    for digest in config.approved() {
-        assert_eq!(rt; digest[0], 0xba);
-        assert_eq!(rt; digest[1], 0x78);
-        assert_eq!(rt; digest[2], 0x16);
-        assert_eq!(rt; digest[31], 0xad);
-    }
+fn reads_a_configuration(rt: HostRuntime) -> Result<(), Fail> {
+    let mut approved = Vec::new(rt.alloc());
+    approved.push(ABC)?;
+    let wanted = Config::try_new(8, 1, 4, 1, approved)
+        .ok()
+        .ok_or("no configuration")?;
+    let read = read_config(rt.alloc(), GOOD.as_bytes())?;
+    assert!(rt; read == wanted);
+    Ok(())
 }
 
 #[test]

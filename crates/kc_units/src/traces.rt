@@ -23,31 +23,29 @@ fn refusal(answer: Result<Vec<Call>, TraceFault>) -> Result<Option<TraceFault>, 
 fn first_run(rt: HostRuntime) -> Result<(), Fail> {
     let alloc = rt.alloc();
     let calls = read_trace(alloc, FIRST_RUN)?;
-    assert_eq!(rt; calls.len(), 3);
-    assert_eq!(rt; calls[0], Call::HostFault { frame: 1 });
-    assert_eq!(rt;
-        calls[1],
+    let wanted = [
+        Call::HostFault { frame: 1 },
         Call::HostWrite {
             frame: 1,
             offset: 0,
-            data: data(alloc, &[170])?
-        }
-    );
-    assert_eq!(rt;
-        calls[2],
+            data: data(alloc, &[170])?,
+        },
         Call::HostRead {
             frame: 1,
             offset: 0,
-            len: 1
-        }
-    );
-    let text = write_trace(alloc, &calls)?;
+            len: 1,
+        },
+    ];
+    assert_eq!(rt; calls.as_slice(), wanted.as_slice());
+    let text = write_trace(alloc, &wanted)?;
     assert_eq!(rt; text.as_slice(), FIRST_RUN.as_slice());
+    Ok(())
+}
 
-    let mut replies = Vec::new(alloc);
-    replies.push(Reply::Done)?;
-    replies.push(Reply::Done)?;
-    replies.push(Reply::Data(data(alloc, &[170])?))?;
+#[test]
+fn replies_to_the_first_run(rt: HostRuntime) -> Result<(), Fail> {
+    let alloc = rt.alloc();
+    let replies = [Reply::Done, Reply::Done, Reply::Data(data(alloc, &[170])?)];
     let text = write_replies(alloc, &replies)?;
     assert_eq!(rt; text.as_slice(), b"done\ndone\ndata aa\n".as_slice());
     Ok(())
@@ -147,74 +145,75 @@ fn replies(rt: HostRuntime) -> Result<(), Fail> {
     Ok(())
 }
 
-/// A line of each of the 17 calls, though most are not read yet.
+/// A line of each of the 17 calls.
 #[test]
 fn spellings(rt: HostRuntime) -> Result<(), Fail> {
     let alloc = rt.alloc();
-    let mut calls = Vec::new(alloc);
-    calls.push(Call::Take)?;
-    calls.push(Call::Give { frame: 1 })?;
-    calls.push(Call::HostFault {
-        frame: 4_294_967_295,
-    })?;
-    calls.push(Call::HostRead {
-        frame: 1,
-        offset: 2,
-        len: 3,
-    })?;
-    calls.push(Call::HostWrite {
-        frame: 1,
-        offset: 2,
-        data: data(alloc, &[1, 171])?,
-    })?;
-    calls.push(Call::RegisterVm { vm: 0 })?;
-    calls.push(Call::RegisterVcpu { vm: 1, vcpu: 2 })?;
-    calls.push(Call::SetBoot {
-        vm: 1,
-        base: 2,
-        len: 3,
-    })?;
-    calls.push(Call::Remap {
-        vm: 1,
-        image: 2,
-        frame: 3,
-    })?;
-    calls.push(Call::Verify { vm: 1 })?;
-    calls.push(Call::Map {
-        vm: 1,
-        vcpu: 2,
-        frame: 3,
-    })?;
-    calls.push(Call::GuestRead {
-        vm: 1,
-        vcpu: 2,
-        gfn: 3,
-        offset: 4,
-        len: 5,
-    })?;
-    calls.push(Call::GuestWrite {
-        vm: 1,
-        vcpu: 2,
-        gfn: 3,
-        offset: 4,
-        data: data(alloc, &[10])?,
-    })?;
-    calls.push(Call::Grant {
-        vm: 1,
-        vcpu: 2,
-        gfn: 3,
-    })?;
-    calls.push(Call::Revoke {
-        vm: 1,
-        vcpu: 2,
-        gfn: 3,
-    })?;
-    calls.push(Call::Drop {
-        vm: 1,
-        vcpu: 2,
-        gfn: 3,
-    })?;
-    calls.push(Call::Clear { vm: 1 })?;
+    let calls = [
+        Call::Take,
+        Call::Give { frame: 1 },
+        Call::HostFault {
+            frame: 4_294_967_295,
+        },
+        Call::HostRead {
+            frame: 1,
+            offset: 2,
+            len: 3,
+        },
+        Call::HostWrite {
+            frame: 1,
+            offset: 2,
+            data: data(alloc, &[1, 171])?,
+        },
+        Call::RegisterVm { vm: 0 },
+        Call::RegisterVcpu { vm: 1, vcpu: 2 },
+        Call::SetBoot {
+            vm: 1,
+            base: 2,
+            len: 3,
+        },
+        Call::Remap {
+            vm: 1,
+            image: 2,
+            frame: 3,
+        },
+        Call::Verify { vm: 1 },
+        Call::Map {
+            vm: 1,
+            vcpu: 2,
+            frame: 3,
+        },
+        Call::GuestRead {
+            vm: 1,
+            vcpu: 2,
+            gfn: 3,
+            offset: 4,
+            len: 5,
+        },
+        Call::GuestWrite {
+            vm: 1,
+            vcpu: 2,
+            gfn: 3,
+            offset: 4,
+            data: data(alloc, &[10])?,
+        },
+        Call::Grant {
+            vm: 1,
+            vcpu: 2,
+            gfn: 3,
+        },
+        Call::Revoke {
+            vm: 1,
+            vcpu: 2,
+            gfn: 3,
+        },
+        Call::Drop {
+            vm: 1,
+            vcpu: 2,
+            gfn: 3,
+        },
+        Call::Clear { vm: 1 },
+    ];
     let text = write_trace(alloc, &calls)?;
     let host = "take\ngive 1\nhfault 4294967295\nhread 1 2 3\nhwrite 1 2 01ab\n";
     let boot = "regvm 0\nregvcpu 1 2\nsetboot 1 2 3\nremap 1 2 3\nverify 1\nmap 1 2 3\n";

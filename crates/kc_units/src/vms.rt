@@ -52,18 +52,32 @@ fn images_lie_apart_and_are_four(rt: HostRuntime) -> Result<(), Fail> {
 }
 
 #[test]
-fn a_slot_from_empty_to_empty(rt: HostRuntime) -> Result<(), Fail> {
+fn an_empty_slot_has_no_vm(rt: HostRuntime) -> Result<(), Fail> {
     let mut vm = Vm::try_new(rt.alloc(), 1)?;
-    let first = vcpu(0)?;
     assert_eq!(rt; vm.phase(), Phase::Empty);
-    assert_eq!(rt; vm.add_vcpu(first), Err(Refusal::NoVm));
+    assert_eq!(rt; vm.add_vcpu(vcpu(0)?), Err(Refusal::NoVm));
     assert_eq!(rt; vm.add_image(0, 1), Err(Refusal::NoVm));
     assert_eq!(rt; vm.next_page(0).err(), Some(Refusal::NoVm));
     assert_eq!(rt; vm.register(), Ok(()));
+    Ok(())
+}
+
+#[test]
+fn a_virtual_processor_is_registered_once(rt: HostRuntime) -> Result<(), Fail> {
+    let mut vm = booting(rt.alloc())?;
+    let first = vcpu(0)?;
     assert_eq!(rt; vm.add_vcpu(first), Ok(()));
     assert_eq!(rt; vm.add_vcpu(first), Err(Refusal::VcpuUsed));
     assert!(rt; vm.vcpu(first).registered);
     assert!(rt; !vm.vcpu(vcpu(7)?).registered);
+    Ok(())
+}
+
+#[test]
+fn a_dead_slot_is_empty_again(rt: HostRuntime) -> Result<(), Fail> {
+    let mut vm = booting(rt.alloc())?;
+    let first = vcpu(0)?;
+    vm.add_vcpu(first).ok().ok_or("refused")?;
     if vm.phase() == Phase::Booting {
         vm.kill();
     }
