@@ -1,8 +1,8 @@
 -- Which fault of reading a fault of the engine is.
 use Rattle.std.proofs.Common.{◌≡◌, ap}
 use Rattle.kc_trace.specs.declared.fault.TraceFault.{TraceFault}
-use Rattle.kc_cli.specs.declared.stream.StreamFault.{StreamFault}
-use Rattle.kc_cli.specs.declared.stream.StreamFault.TheVariants as streams
+use Rattle.kc_streams.specs.declared.stream.StreamFault.{StreamFault}
+use Rattle.kc_streams.specs.declared.stream.StreamFault.TheVariants as streams
 use Rattle.kc_cli.specs.declared.fault.TextFault.TheVariants as texts
 use Rattle.kc_cli.specs.Faults.{stream_fault}
 

@@ -1,4 +1,2 @@
-pub mod Fed
 pub mod Faulted
 pub mod LiveFaults
-pub mod Pieces

@@ -9,8 +9,8 @@ use Rattle.kc_live.specs.declared.fault.LiveCause.{LiveCause}
 use Rattle.kc_live.specs.declared.fault.LiveCause.TheVariants as causes
 use Rattle.kc_ends.specs.declared.whole.ReadFault.{ReadFault}
 use Rattle.kc_ends.specs.declared.whole.ReadFault.TheVariants as reads
-use Rattle.kc_cli.specs.declared.stream.StreamFault.{StreamFault}
-use Rattle.kc_cli.specs.declared.stream.StreamFault.TheVariants as streams
+use Rattle.kc_streams.specs.declared.stream.StreamFault.{StreamFault}
+use Rattle.kc_streams.specs.declared.stream.StreamFault.TheVariants as streams
 use Rattle.kc_cli.specs.declared.fault.TextFault.{TextFault}
 use Rattle.kc_cli.specs.declared.fault.TextFault.TheVariants as texts
 

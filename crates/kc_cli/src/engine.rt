@@ -13,9 +13,9 @@ ghost use Rattle.kc_cli.specs.Engine.{IsConfigured, Replays, BeginsReplay};
 
 use crate::TextFault;
 use crate::reading::read_both;
-use crate::replies::{PIECE, give_replies};
 use kc_core::KCore;
 use kc_ends::{Sink, Source};
+use kc_streams::{empty_piece, give_replies};
 use kc_types::{Call, Config, Memory, Reply};
 use std::alloc::Global;
 
@@ -78,7 +78,7 @@ pub fn replay_text<C: Source, T: Source, K: Sink>(
         return Err(TextFault::Memory);
     };
     // All memory that writing takes is there before the first byte is written.
-    let Ok(piece) = Vec::with_capacity(alloc, PIECE) else {
+    let Ok(piece) = empty_piece(alloc) else {
         return Err(TextFault::Memory);
     };
     give_replies(out, piece, &replies).map_err(|_| TextFault::Write)

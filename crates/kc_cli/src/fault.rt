@@ -2,8 +2,8 @@
 ghost use Rattle.std.specs.Prelude.{◌≡◌, ◌≤◌, length};
 ghost use Rattle.kc_cli.specs.Faults.{read_fault, stream_fault, config_fault, status_of, words_of, config_words_of, trace_words_of, line_number_of};
 
-use crate::stream::StreamFault;
 use kc_ends::ReadFault;
+use kc_streams::StreamFault;
 use kc_trace::{ConfigTextFault, TraceFault};
 use kc_types::ConfigFault;
 use thiserror::Error;

@@ -5,10 +5,7 @@ mod engine;
 mod fault;
 mod live;
 mod reading;
-mod replies;
-mod stream;
 mod telling;
-mod traces;
 
 pub use engine::replay_text;
 pub use fault::TextFault;

@@ -15,12 +15,11 @@ ghost use Rattle.kc_cli.specs.Live.{IsLiveFault, CouldRun, RunsLive, BeginsLive,
 
 use crate::TextFault;
 use crate::reading::read_both;
-use crate::replies::PIECE;
-use crate::traces::give_trace;
 use kc_core::KCore;
 use kc_ends::{Sink, Source};
 use kc_live::{Entry, History, LiveCause, LiveStop, run_trace};
 use kc_replay::Gate;
+use kc_streams::{empty_piece, give_trace};
 use kc_trace::TraceFault;
 use kc_types::{Call, Config, Memory};
 use std::alloc::Global;
@@ -181,7 +180,7 @@ pub fn live_text<C: Source, T: Source, K: Sink, G: Gate + Sync, R: Threads + Wai
         Err(fault) => return Err(fault),
     };
     // All memory that writing takes is there before the first byte is written.
-    let Ok(piece) = Vec::with_capacity(alloc, PIECE) else {
+    let Ok(piece) = empty_piece(alloc) else {
         return Err(TextFault::Memory);
     };
     give_trace(out, piece, &made).map_err(|_| TextFault::Write)

@@ -9,8 +9,8 @@ ghost use Rattle.kc_ends.specs.Ends.{ReadFailed};
 ghost use Rattle.kc_cli.specs.Engine.{IsConfigured, HaveRead, IsReadingFault};
 
 use crate::TextFault;
-use crate::stream::read_calls;
 use kc_ends::{Source, read_whole};
+use kc_streams::read_calls;
 use kc_trace::read_config;
 use kc_types::{Call, Config};
 use std::alloc::Global;

@@ -1,6 +1,6 @@
 use Rattle.std.proofs.Common.{◌≡◌, ◌≤◌, ◌-◌, ℕ, List, false}
-use Rattle.kc_cli.proofs.Fed.{IsFed}
-use Rattle.kc_cli.proofs.stream.read_calls.Given as goal
+use Rattle.kc_streams.proofs.Fed.{IsFed}
+use Rattle.kc_streams.proofs.stream.read_calls.Given as goal
 
 abbrev pub invariant-loop-n : goal.invariant-loop-n
 invariant-loop-n g l = record {

@@ -5,9 +5,9 @@ use Rattle.std.specs.Vec.{vec_capacity}
 use Rattle.std.proofs.lemmas.List.{take_all}
 use Rattle.std.proofs.lemmas.Result.{on_ok_weaker, on_err_weaker}
 use Rattle.kc_trace.specs.Spelling.{trace_of}
-use Rattle.kc_cli.proofs.Pieces.{IsGiven, given_whole, given_all, given_call, calls_begun}
-use Rattle.kc_cli.proofs.traces.give_trace.Goals as goal
-use Rattle.kc_cli.proofs.traces.give_trace.Goals.{then-capacity-len-lt-LONGEST_CALL+in_ok-write_whole, else-capacity-len-lt-LONGEST_CALL}
+use Rattle.kc_streams.proofs.Pieces.{IsGiven, given_whole, given_all, given_call, calls_begun}
+use Rattle.kc_streams.proofs.traces.give_trace.Goals as goal
+use Rattle.kc_streams.proofs.traces.give_trace.Goals.{then-capacity-len-lt-LONGEST_CALL+in_ok-write_whole, else-capacity-len-lt-LONGEST_CALL}
 
 on_err : {T E P : Type 0} (r : Result T E) → P → OnErr r P
 on_err (Ok x) h = tt

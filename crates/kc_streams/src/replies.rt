@@ -7,12 +7,9 @@ use kc_ends::{Failed, Sink, write_whole};
 use kc_trace::{LONGEST_REPLY, push_reply};
 use kc_types::Reply;
 
-/// The bytes of a piece of text, which is given to a sink at once.
-pub(crate) const PIECE: usize = 65_536;
-
 /// Gives the text of some replies to a sink, in pieces as large as the empty buffer has room for: memory does not
 /// grow. After an `Err` the sink has taken a beginning of the text.
-pub(crate) fn give_replies<K: Sink>(
+pub fn give_replies<K: Sink>(
     out: &mut K,
     mut piece: Vec<u8>,
     replies: &[Reply],

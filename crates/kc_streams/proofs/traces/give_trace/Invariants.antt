@@ -1,8 +1,8 @@
 use Rattle.std.proofs.Common.{◌≡◌, ◌≤◌, false, take}
 use Rattle.std.specs.Vec.{vec_capacity}
 use Rattle.kc_trace.specs.Spelling.{trace_of}
-use Rattle.kc_cli.proofs.Pieces.{IsGiven}
-use Rattle.kc_cli.proofs.traces.give_trace.Given as goal
+use Rattle.kc_streams.proofs.Pieces.{IsGiven}
+use Rattle.kc_streams.proofs.traces.give_trace.Given as goal
 
 abbrev pub invariant-loop-call : goal.invariant-loop-call
 invariant-loop-call g l = record {

@@ -2,8 +2,8 @@ use Rattle.std.proofs.Common.{◌≡◌, ◌++◌, length, take, refl, arith, in
 use Rattle.std.proofs.lemmas.List.{length-take}
 use Rattle.std.proofs.KnownBytes.{Consumes-nil, Consumes-trans}
 use Rattle.kc_trace.specs.Machine.{start}
-use Rattle.kc_cli.proofs.Fed.{feed_nothing, is_fed_ok, is_fed_err, finished, read_is_trace, read_is_refused}
-use Rattle.kc_cli.proofs.stream.read_calls.Goals as goal
+use Rattle.kc_streams.proofs.Fed.{feed_nothing, is_fed_ok, is_fed_err, finished, read_is_trace, read_is_refused}
+use Rattle.kc_streams.proofs.stream.read_calls.Goals as goal
 
 pub loop-n-init : goal.loop-n-init
 loop-n-init g c = record {

@@ -1,8 +1,8 @@
 use Rattle.std.proofs.Common.{Result, Ok, Err}
 use Rattle.std.specs.Prelude.{OnErr}
 use Rattle.std.proofs.lemmas.Result.{on_err_weaker}
-use Rattle.kc_cli.proofs.Pieces.{replies_begun}
-use Rattle.kc_cli.proofs.replies.give_replies.Goals as goal
+use Rattle.kc_streams.proofs.Pieces.{replies_begun}
+use Rattle.kc_streams.proofs.replies.give_replies.Goals as goal
 
 on_err : {T E P : Type 0} (r : Result T E) → P → OnErr r P
 on_err (Ok x) h = tt

@@ -1,8 +1,8 @@
 use Rattle.std.proofs.Common.{◌≡◌, ◌≤◌, false, take}
 use Rattle.std.specs.Vec.{vec_capacity}
 use Rattle.kc_trace.specs.ReplyText.{reply_text_of}
-use Rattle.kc_cli.proofs.Pieces.{IsGiven}
-use Rattle.kc_cli.proofs.replies.give_replies.Given as goal
+use Rattle.kc_streams.proofs.Pieces.{IsGiven}
+use Rattle.kc_streams.proofs.replies.give_replies.Given as goal
 
 abbrev pub invariant-loop-reply : goal.invariant-loop-reply
 invariant-loop-reply g l = record {
