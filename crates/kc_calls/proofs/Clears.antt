@@ -17,7 +17,7 @@ use Rattle.kc_parts.specs.Held.{Held, vm_at, links_of}
 use Rattle.kc_parts.specs.States.{list_in, state_of, owner_at, free_of, frames_of, IsLinked, IsFreeMove}
 use Rattle.kc_parts.specs.Emptying.{IsEmptied}
 use Rattle.kc_parts.proofs.SlotLists.{frames-here, ends-here, slot-owned}
-use Rattle.kc_calls.proofs.Needed.{slot-is}
+use Rattle.kc_refusals.proofs.Looked.{slot-is}
 
 pub clear-served : (m : State) (v : ℕ) → refusal m (Clear v) ≡ None → v < slot_count m.config
 clear-served m v served = vm-in m v (or_else-none (bad_vm m v) _ served).0

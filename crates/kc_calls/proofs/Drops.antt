@@ -23,7 +23,7 @@ use Rattle.kc_calls.specs.Applying.{IsSameRoom}
 use Rattle.kc_calls.specs.Freeing.{freed}
 use Rattle.kc_calls.proofs.Frames.{changed, room-vm, room-through}
 use Rattle.std.proofs.lemmas.List.{set-set}
-use Rattle.kc_calls.proofs.Needed.{slot-is}
+use Rattle.kc_refusals.proofs.Looked.{slot-is}
 
 -- a page becomes free, and its frame the last of the free ones
 pub state-freed : (config : Configuration) (old new : Held) (f : ℕ) (page freed_page : Page) → f < config.frames → page_at old f ≡ Some page → link_of freed_page ≡ link_of page

@@ -16,7 +16,7 @@ use Rattle.kc_parts.specs.Held.{Held, page_at, vm_at, with_page, with_vm, link_o
 use Rattle.kc_parts.specs.States.{state_of, IsLinked}
 use Rattle.kc_parts.proofs.SlotChanges.{state-vm}
 use Rattle.kc_calls.proofs.Frames.{changed, frame-is}
-use Rattle.kc_calls.proofs.Needed.{slot-is}
+use Rattle.kc_refusals.proofs.Looked.{slot-is}
 
 -- the state where the page at a guest frame is changed as its frame is changed
 pub state-mapped : (config : Configuration) (h : Held) (v g f : ℕ) (page new : Page) (change : Frame → Frame) → IsLinked config h → mapped_at (state_of config h) v g ≡ Some f → page_at h f ≡ Some page → link_of new ≡ link_of page

@@ -33,8 +33,7 @@ use Rattle.kc_parts.proofs.SlotLists.{frames-here}
 use Rattle.kc_calls.specs.Applying.{IsSameRoom}
 use Rattle.kc_calls.proofs.Frames.{frame-is, room-page, room-vm, room-through}
 use Rattle.kc_calls.proofs.Hosts.{loose-host, loose-page}
-use Rattle.kc_calls.proofs.Looked.{fits-seen}
-use Rattle.kc_calls.proofs.Needed.{slot-is}
+use Rattle.kc_refusals.proofs.Looked.{fits-seen, slot-is}
 
 -- the table takes the guest frame
 pub map-fits : (m : State) (v g : ℕ) (vm : VmSlot) (frames : List ℕ) → slot_at m v ≡ unlinked_slot vm.slot frames → vm.room ≡ m.config.leaves → mapped_at m v g ≡ None → tables_full m v g ≡ None → fault_of (table_of vm) g ≡ None

@@ -1,5 +1,5 @@
 -- The host's calls on parts.
-use Rattle.std.proofs.Common.{ℕ, zero, suc, ◌≡◌, ◌<◌, inl, inr, true, false, not, [], ◌∷◌, ◌++◌, length, Some, None, refl, sym, ap, ◌∙◌, arith}
+use Rattle.std.proofs.Common.{ℕ, zero, suc, ◌≡◌, ◌<◌, inl, inr, true, false, not, [], ◌∷◌, ◌++◌, Some, None, refl, sym, ap, ◌∙◌, arith}
 use Rattle.kc_types.specs.Configuration.{Configuration}
 use Rattle.kc_types.specs.declared.link.Ends.{Ends}
 use Rattle.kc_types.specs.declared.owner.Owner.{Owner}
@@ -44,10 +44,6 @@ fault-touched m f served is = elim (host_fault-served m f served).1 [
 
 pub access-touched : (m : State) (f off len : ℕ) → refusal m (HostRead f off len) ≡ None → frame_at m f ≡ untouched Core → ⊥
 access-touched m f off len served is = let absent = sym (host_access-served m f off len served).present ∙ ap (λ (frame : Frame). frame.present) is in cc
-
--- the list whose ends are here is as long as they say
-pub free-count : (config : Configuration) (h : Held) (ends : Ends) → IsLinked config h → h.free ≡ Some ends → length (free_of h) ≡ ends.count
-free-count config h ends linked is = ap (λ free. length (list_in (links_of h) free)) is ∙ sym (linked.lists.spelled Free ends is).count
 
 -- the host's frames are in no list
 pub loose-host : (config : Configuration) (h : Held) (f : ℕ) → IsLinked config h → owner_at h f ≡ Host → IsLoose h f

@@ -25,7 +25,8 @@ use Rattle.kc_links.specs.Chain.{Links}
 use Rattle.kc_calls.specs.Applying.{IsSameRoom, IsAble}
 use Rattle.kc_calls.specs.Verifying.{mapped_in, page_under, bytes_under, bytes_of_image, IsImageHere}
 use Rattle.kc_calls.proofs.Frames.{changed}
-use Rattle.kc_calls.proofs.Needed.{slot-needed, mapped-needed, slot-is}
+use Rattle.kc_refusals.proofs.Looked.{slot-is}
+use Rattle.kc_calls.proofs.Needed.{slot-needed, mapped-needed}
 
 -- where a guest frame leads, in a slot that is here
 pub mapped-seen : (config : Configuration) (h : Held) (v : ℕ) (vm : VmSlot) (g : ℕ) → v < slot_count config → vm_at h v ≡ Some vm → mapped_at (state_of config h) v g ≡ map.get vm.slot.mapped g

@@ -1,4 +1,3 @@
-pub mod Looked
 pub mod Frames
 pub mod Needed
 pub mod Answered

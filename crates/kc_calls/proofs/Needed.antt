@@ -1,15 +1,12 @@
 -- What a call needs is here.
-use Rattle.std.proofs.Common.{ℕ, ◌≡◌, ◌<◌, true, Some, is_some, ap, ◌∙◌}
+use Rattle.std.proofs.Common.{ℕ, ◌≡◌, ◌<◌, true, Some, is_some}
 use Rattle.kc_types.specs.Configuration.{Configuration, slot_count}
 use Rattle.kc_types.specs.declared.call.Call.{Call}
-use Rattle.kc_model.specs.State.{slot_at, mapped_at}
+use Rattle.kc_model.specs.State.{mapped_at}
 use Rattle.kc_model.specs.Resources.{names_frame, slot_of}
 use Rattle.kc_model.proofs.Needs as needs
-use Rattle.kc_vms.specs.Slots.{VmSlot}
-use Rattle.kc_links.specs.Ending.{listed}
-use Rattle.kc_parts.specs.Held.{Held, page_at, vm_at, links_of}
-use Rattle.kc_parts.specs.States.{slot_in, unlinked_slot, state_of, here_of}
-use Rattle.kc_parts.proofs.Seen.{slot-seen}
+use Rattle.kc_parts.specs.Held.{Held, page_at, vm_at}
+use Rattle.kc_parts.specs.States.{state_of, here_of}
 use Rattle.kc_calls.specs.Applying.{IsAble}
 
 module _ (config : Configuration) (h : Held) (call : Call) (able : IsAble config h call) where
@@ -24,7 +21,3 @@ module _ (config : Configuration) (h : Held) (call : Call) (able : IsAble config
   -- the frame at a guest frame of the slot that the call names
   pub mapped-needed : (v g f : ℕ) → slot_of call ≡ Some v → v < slot_count config → mapped_at (state_of config h) v g ≡ Some f → is_some (page_at h f) ≡ true
   mapped-needed v g f names low is = needs.has_listed (here_of h) (state_of config h) call able.orderly able.here v f names low ((able.orderly.each_slot v low).listed g f is)
-
--- the slot of a number that is here
-pub slot-is : (config : Configuration) (h : Held) (v : ℕ) (vm : VmSlot) → v < slot_count config → vm_at h v ≡ Some vm → slot_at (state_of config h) v ≡ unlinked_slot vm.slot (listed (links_of h) vm.slot.ends)
-slot-is config h v vm low at = slot-seen config h v low ∙ ap (slot_in (links_of h)) at

@@ -6,22 +6,8 @@ ghost use Rattle.kc_model.specs.Effects.{effect};
 ghost use Rattle.kc_parts.specs.States.{state_of, IsLinked};
 ghost use Rattle.kc_calls.specs.Applying.{IsSameRoom, IsAble};
 
-use crate::look_ups::phase_at;
 use kc_parts::Parts;
-use kc_types::{Config, Phase, Refusal, Reply};
-
-/// Why a slot can't be cleared.
-pub fn clear_refusal(parts: &Parts, config: &Config, vm: u32) -> Option<Refusal>
-    ensures { result ≡ refusal (state_of config.now parts.now) (Clear vm) }
-{
-    if vm >= config.slots() {
-        return Some(Refusal::BadVm);
-    }
-    match phase_at(parts, config, vm) {
-        Phase::Empty => Some(Refusal::NoVm),
-        Phase::Booting | Phase::Active | Phase::Dead => None,
-    }
-}
+use kc_types::{Config, Reply};
 
 /// A slot is empty again, and its frames, with zero bytes, go to the end of the free list in the order in which
 /// they came.

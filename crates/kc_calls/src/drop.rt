@@ -8,24 +8,8 @@ ghost use Rattle.kc_parts.specs.States.{state_of, IsLinked, IsLoose};
 ghost use Rattle.kc_calls.specs.Applying.{IsSameRoom, IsAble};
 ghost use Rattle.kc_calls.specs.Freeing.{freed};
 
-use crate::guest::mapped_frame;
-use crate::look_ups::record_at;
 use kc_parts::Parts;
-use kc_types::{Config, FrameNo, Gfn, Owner, Refusal, Reply};
-
-/// Why a guest frame can't be given up.
-pub fn drop_refusal(parts: &Parts, config: &Config, vm: u32, vcpu: u32, gfn: u32) -> Option<Refusal>
-    ensures { result ≡ refusal (state_of config.now parts.now) (Drop vm vcpu gfn) }
-{
-    match mapped_frame(parts, config, vm, vcpu, gfn) {
-        Ok(frame) => if record_at(parts, config, frame.number()).share > 0 {
-            Some(Refusal::Shared)
-        } else {
-            None
-        },
-        Err(refusal) => Some(refusal),
-    }
-}
+use kc_types::{Config, FrameNo, Gfn, Owner, Reply};
 
 /// A frame that is in no list becomes the last of the free ones, with zero bytes.
 fn free_frame(parts: &mut Parts, config: &Config, frame: FrameNo)

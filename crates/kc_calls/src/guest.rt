@@ -1,63 +1,20 @@
 //! The calls of a virtual processor: reading and writing its guest frames, granting and revoking access to them.
-ghost use Rattle.std.specs.Prelude.{◌≡◌, ◌<◌, ◌≤◌, ◌+◌, ◌-◌, ◌==◌, Some, None, is_some, true, false, if◌then◌else◌, [], ◌∷◌, length};
+ghost use Rattle.std.specs.Prelude.{◌≡◌, ◌<◌, ◌≤◌, ◌+◌, ◌-◌, ◌==◌, Some, None, is_some, true, false, if◌then◌else◌, length};
 ghost use Rattle.kc_types.specs.Configuration.{slot_count};
 ghost use Rattle.kc_types.specs.Limits.{page_size};
 ghost use Rattle.kc_types.specs.Room.{readable};
 ghost use Rattle.kc_types.specs.declared.call.Call.TheVariants.{GuestRead, GuestWrite, Grant, Revoke};
 ghost use Rattle.kc_model.specs.State.{slot_at, vcpu_at};
-ghost use Rattle.kc_model.specs.Refusals.{refusal, first_of_these, no_vm, not_active, no_vcpu};
+ghost use Rattle.kc_model.specs.Refusals.{refusal};
 ghost use Rattle.kc_model.specs.Effects.{effect, with_fault, written};
 ghost use Rattle.kc_parts.specs.Held.{page_at, vm_at};
 ghost use Rattle.kc_parts.specs.States.{state_of, IsLinked};
-ghost use Rattle.kc_calls.specs.Applying.{AnswersMapped, IsAble, IsSameRoom};
+ghost use Rattle.kc_calls.specs.Applying.{IsAble, IsSameRoom};
 
-use crate::look_ups::{mapped_at, phase_at, record_at, vcpu_at};
 use kc_page::PageRecord;
 use kc_parts::Parts;
-use kc_types::{Config, Data, FrameNo, Gfn, Phase, Refusal, Reply, Spare, VcpuId};
-
-/// Why a virtual processor can make no call: there is no VM in the slot, or it isn't active, or the virtual
-/// processor isn't registered.
-pub fn vcpu_refusal(parts: &Parts, config: &Config, vm: u32, vcpu: VcpuId) -> Option<Refusal>
-    ensures { result ≡ first_of_these (no_vm (state_of config.now parts.now) vm ∷ not_active (state_of config.now parts.now) vm ∷ no_vcpu (state_of config.now parts.now) vm vcpu ∷ []) }
-{
-    match phase_at(parts, config, vm) {
-        Phase::Empty => Some(Refusal::NoVm),
-        Phase::Booting | Phase::Dead => Some(Refusal::WrongPhase),
-        Phase::Active => if vcpu_at(parts, config, vm, vcpu).registered {
-            None
-        } else {
-            Some(Refusal::NoVcpu)
-        },
-    }
-}
-
-/// Why `len` bytes of a guest frame from `offset` on can't be read, or written.
-pub fn guest_access_refusal(
-    parts: &Parts,
-    config: &Config,
-    vm: u32,
-    vcpu: u32,
-    gfn: u32,
-    offset: u32,
-    len: u32,
-) -> Option<Refusal>
-    ensures { result ≡ refusal (state_of config.now parts.now) (GuestRead vm vcpu gfn offset len) }
-{
-    if vm >= config.slots() {
-        return Some(Refusal::BadVm);
-    }
-    let Some(vcpu) = VcpuId::try_new(vcpu) else {
-        return Some(Refusal::BadVcpu);
-    };
-    if Gfn::try_new(gfn).is_none() {
-        return Some(Refusal::BadGfn);
-    }
-    if len == 0 || len > 4096 || offset > 4096 - len {
-        return Some(Refusal::BadRange);
-    }
-    vcpu_refusal(parts, config, vm, vcpu)
-}
+use kc_refusals::mapped_at;
+use kc_types::{Config, Data, FrameNo, Gfn, Phase, Reply, Spare, VcpuId};
 
 /// A registered virtual processor of an active slot waits for a guest frame.
 fn set_fault(parts: &mut Parts, config: &Config, vm: u32, vcpu: VcpuId, gfn: Gfn)
@@ -169,54 +126,6 @@ pub fn guest_write(
     }
 }
 
-/// The frame at the guest frame that a virtual processor's call names, or why the call is refused.
-pub fn mapped_frame(
-    parts: &Parts,
-    config: &Config,
-    vm: u32,
-    vcpu: u32,
-    gfn: u32,
-) -> Result<FrameNo, Refusal>
-    ensures { AnswersMapped (state_of config.now parts.now) vm vcpu gfn result }
-{
-    if vm >= config.slots() {
-        return Err(Refusal::BadVm);
-    }
-    let Some(vcpu) = VcpuId::try_new(vcpu) else {
-        return Err(Refusal::BadVcpu);
-    };
-    let Some(gfn) = Gfn::try_new(gfn) else {
-        return Err(Refusal::BadGfn);
-    };
-    if let Some(refusal) = vcpu_refusal(parts, config, vm, vcpu) {
-        return Err(refusal);
-    }
-    match mapped_at(parts, config, vm, gfn) {
-        Some(frame) => Ok(frame),
-        None => Err(Refusal::NotMapped),
-    }
-}
-
-/// Why the host can't be granted access to a guest frame once more.
-pub fn grant_refusal(
-    parts: &Parts,
-    config: &Config,
-    vm: u32,
-    vcpu: u32,
-    gfn: u32,
-) -> Option<Refusal>
-    ensures { result ≡ refusal (state_of config.now parts.now) (Grant vm vcpu gfn) }
-{
-    match mapped_frame(parts, config, vm, vcpu, gfn) {
-        Ok(frame) => if record_at(parts, config, frame.number()).share >= 100 {
-            Some(Refusal::ShareFull)
-        } else {
-            None
-        },
-        Err(refusal) => Some(refusal),
-    }
-}
-
 /// The host is granted access to a guest frame once more.
 pub fn grant(parts: &mut Parts, config: &Config, vm: u32, vcpu: u32, gfn: u32) -> Reply
     requires served { refusal (state_of config.now parts.old) (Grant vm vcpu gfn) ≡ None }
@@ -231,26 +140,6 @@ pub fn grant(parts: &mut Parts, config: &Config, vm: u32, vcpu: u32, gfn: u32) -
     let page = parts.frame_mut(frame).unwrap();
     page.meta.share += 1;
     Reply::Done
-}
-
-/// Why no grant of the host's to a guest frame can be taken back.
-pub fn revoke_refusal(
-    parts: &Parts,
-    config: &Config,
-    vm: u32,
-    vcpu: u32,
-    gfn: u32,
-) -> Option<Refusal>
-    ensures { result ≡ refusal (state_of config.now parts.now) (Revoke vm vcpu gfn) }
-{
-    match mapped_frame(parts, config, vm, vcpu, gfn) {
-        Ok(frame) => if record_at(parts, config, frame.number()).share == 0 {
-            Some(Refusal::NotShared)
-        } else {
-            None
-        },
-        Err(refusal) => Some(refusal),
-    }
 }
 
 /// The record of a frame to which the host has one grant less, and which it no longer reaches where that was

@@ -1,5 +1,5 @@
 //! The host's calls on frames: taking and giving them, mapping, reading and writing.
-ghost use Rattle.std.specs.Prelude.{◌≡◌, ◌<◌, ◌≤◌, None, true, is_some};
+ghost use Rattle.std.specs.Prelude.{◌≡◌, ◌≤◌, None, true, is_some};
 ghost use Rattle.kc_types.specs.Room.{readable};
 ghost use Rattle.kc_types.specs.declared.call.Call.TheVariants.{Take, Give, HostFault, HostRead, HostWrite};
 ghost use Rattle.kc_model.specs.Refusals.{refusal};
@@ -7,23 +7,8 @@ ghost use Rattle.kc_model.specs.Effects.{effect};
 ghost use Rattle.kc_parts.specs.States.{state_of, IsLinked};
 ghost use Rattle.kc_calls.specs.Applying.{IsSameRoom};
 
-use crate::look_ups::record_at;
 use kc_parts::Parts;
-use kc_types::{Config, Data, Owner, Refusal, Reply, Spare};
-
-pub fn take_refusal(parts: &Parts, config: &Config) -> Option<Refusal>
-    requires { IsLinked config.now parts.now }
-    ensures { result ≡ refusal (state_of config.now parts.now) Take }
-{
-    match parts.free() {
-        Some(free) => if free.count == 0 {
-            Some(Refusal::NoFree)
-        } else {
-            None
-        },
-        None => Some(Refusal::NoFree),
-    }
-}
+use kc_types::{Config, Data, Owner, Reply, Spare};
 
 /// The first free frame becomes the host's.
 pub fn take(parts: &mut Parts, config: &Config) -> Reply
@@ -39,18 +24,6 @@ pub fn take(parts: &mut Parts, config: &Config) -> Reply
     page.meta.owner = Owner::Host;
     page.meta.present = false;
     Reply::Frame(frame.number())
-}
-
-pub fn give_refusal(parts: &Parts, config: &Config, frame: u32) -> Option<Refusal>
-    ensures { result ≡ refusal (state_of config.now parts.now) (Give frame) }
-{
-    if frame >= config.frames() {
-        return Some(Refusal::BadFrame);
-    }
-    if record_at(parts, config, frame).owner != Owner::Host {
-        return Some(Refusal::NotHost);
-    }
-    None
 }
 
 /// A frame of the host's becomes free.
@@ -72,19 +45,6 @@ pub fn give(parts: &mut Parts, config: &Config, frame: u32) -> Reply
     Reply::Done
 }
 
-pub fn host_fault_refusal(parts: &Parts, config: &Config, frame: u32) -> Option<Refusal>
-    ensures { result ≡ refusal (state_of config.now parts.now) (HostFault frame) }
-{
-    if frame >= config.frames() {
-        return Some(Refusal::BadFrame);
-    }
-    let record = record_at(parts, config, frame);
-    if record.owner != Owner::Host && record.share == 0 {
-        return Some(Refusal::Protected);
-    }
-    None
-}
-
 /// Marks a frame as present.
 pub fn host_fault(parts: &mut Parts, config: &Config, frame: u32) -> Reply
     requires served { refusal (state_of config.now parts.old) (HostFault frame) ≡ None }
@@ -98,27 +58,6 @@ pub fn host_fault(parts: &mut Parts, config: &Config, frame: u32) -> Reply
     let page = parts.frame_mut(frame).unwrap();
     page.meta.present = true;
     Reply::Done
-}
-
-pub fn host_access_refusal(
-    parts: &Parts,
-    config: &Config,
-    frame: u32,
-    offset: u32,
-    len: u32,
-) -> Option<Refusal>
-    ensures { result ≡ refusal (state_of config.now parts.now) (HostRead frame offset len) }
-{
-    if frame >= config.frames() {
-        return Some(Refusal::BadFrame);
-    }
-    if len == 0 || len > 4096 || offset > 4096 - len {
-        return Some(Refusal::BadRange);
-    }
-    if !record_at(parts, config, frame).present {
-        return Some(Refusal::NotPresent);
-    }
-    None
 }
 
 pub fn host_read(

@@ -8,7 +8,6 @@ mod guest;
 mod hand;
 mod host;
 pub mod laws;
-mod look_ups;
 mod slots;
 mod verify;
 

@@ -1,6 +1,5 @@
 //! Verifying a VM: its boot images are measured, and it becomes active or dead.
-ghost use Rattle.std.specs.Prelude.{◌≡◌, ◌<◌, ◌||◌, ◌==◌, All, Some, None, true, is_some, length};
-ghost use Rattle.std.specs.List.{list_any};
+ghost use Rattle.std.specs.Prelude.{◌≡◌, ◌<◌, All, Some, None, true, is_some};
 ghost use Rattle.std.specs.FinMap as map;
 ghost use Rattle.sha2.specs.Sha256.{sha256};
 ghost use Rattle.kc_types.specs.Limits.{gfn_limit};
@@ -8,7 +7,7 @@ ghost use Rattle.kc_types.specs.Configuration.{slot_count};
 ghost use Rattle.kc_types.specs.declared.call.Call.TheVariants.{Verify};
 ghost use Rattle.kc_model.specs.State.{slot_at};
 ghost use Rattle.kc_model.specs.Lawful.{IsLawfulImage};
-ghost use Rattle.kc_model.specs.Refusals.{refusal, backing, is_short};
+ghost use Rattle.kc_model.specs.Refusals.{refusal, backing};
 ghost use Rattle.kc_model.specs.Effects.{effect, is_approved, first_failing, trimmed, all_trimmed};
 ghost use Rattle.kc_parts.specs.Held.{vm_at};
 ghost use Rattle.kc_parts.specs.States.{state_of, IsLinked};
@@ -19,51 +18,7 @@ use kc_image::{Approved, Measure, pages_of};
 use kc_page::Page;
 use kc_parts::Parts;
 use kc_stage2::Stage2;
-use kc_types::{Config, FrameNo, Gfn, Image, Phase, Refusal, Reply, VmId};
-use kc_vms::Vm;
-
-/// Whether the image lacks a page.
-fn is_short(image: &Image) -> bool
-    ensures { result ≡ is_short image.now }
-{
-    image.pages < pages_of(image.len)
-}
-
-/// Whether one of the images lacks a page.
-fn any_is_short(images: &[Image]) -> bool
-    ensures { result ≡ list_any is_short images.now }
-{
-    images.iter().any(|image| is_short(image))
-}
-
-/// Whether a slot has no image, or one that lacks a page.
-fn lacks_pages(slot: &Vm) -> bool
-    ensures { result ≡ (length slot.now.slot.images == 0 || list_any is_short slot.now.slot.images) }
-{
-    let images = slot.images();
-    images.is_empty() || any_is_short(images)
-}
-
-/// Why a slot is not verified: the first condition that holds. A slot that is not here counts as empty.
-pub fn verify_refusal(parts: &Parts, config: &Config, vm: u32) -> Option<Refusal>
-    ensures { result ≡ refusal (state_of config.now parts.now) (Verify vm) }
-{
-    let Some(vm) = config.vm(vm) else {
-        return Some(Refusal::BadVm);
-    };
-    let Some(slot) = parts.vm(vm) else {
-        return Some(Refusal::NoVm);
-    };
-    match slot.phase() {
-        Phase::Empty => Some(Refusal::NoVm),
-        Phase::Booting => if lacks_pages(slot) {
-            Some(Refusal::ImageShort)
-        } else {
-            None
-        },
-        Phase::Active | Phase::Dead => Some(Refusal::WrongPhase),
-    }
-}
+use kc_types::{Config, FrameNo, Gfn, Image, Reply, VmId};
 
 /// The frame at a mapped guest frame.
 fn frame_under(table: &Stage2, gfn: u32) -> FrameNo

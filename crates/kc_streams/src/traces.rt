@@ -9,11 +9,7 @@ use kc_types::Call;
 
 /// Gives the trace of some calls to a sink, in pieces as large as the empty buffer has room for: memory does not
 /// grow. After an `Err` the sink has taken a beginning of it.
-pub fn give_trace<K: Sink>(
-    out: &mut K,
-    mut piece: Vec<u8>,
-    calls: &[Call],
-) -> Result<(), Failed>
+pub fn give_trace<K: Sink>(out: &mut K, mut piece: Vec<u8>, calls: &[Call]) -> Result<(), Failed>
     requires out { K.failed out.old ≡ false }
     requires empty { piece.items ≡ [] }
     requires room { longest_call ≤ vec_capacity piece }

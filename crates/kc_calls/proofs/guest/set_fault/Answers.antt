@@ -2,7 +2,7 @@ use Rattle.std.proofs.Common.{◌≡◌, Some, get_or, refl, sym, ap, ◌∙◌}
 use Rattle.kc_model.specs.State.{Slot, absent_vcpu}
 use Rattle.kc_parts.specs.Held.{vm_at}
 use Rattle.kc_parts.proofs.SlotChanges.{linked-vm}
-use Rattle.kc_calls.proofs.Needed.{slot-is}
+use Rattle.kc_refusals.proofs.Looked.{slot-is}
 use Rattle.kc_calls.proofs.Guests.{state-faulted}
 use Rattle.kc_calls.proofs.guest.set_fault.Goals as goal
 

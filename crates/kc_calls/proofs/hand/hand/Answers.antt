@@ -3,7 +3,7 @@ use Rattle.kc_stage2.specs.Table.{with_entry}
 use Rattle.kc_vms.specs.Slots.{table_of}
 use Rattle.kc_parts.specs.Held.{page_at, vm_at}
 use Rattle.kc_parts.specs.States.{state_of}
-use Rattle.kc_calls.proofs.Needed.{slot-is}
+use Rattle.kc_refusals.proofs.Looked.{slot-is}
 use Rattle.kc_calls.proofs.Hands.{map-fits, map-ok, loose-owned, owner-owned, linked-owned, state-handed, room-handed}
 use Rattle.kc_calls.proofs.hand.hand.Goals as goal
 

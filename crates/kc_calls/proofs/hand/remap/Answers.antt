@@ -10,7 +10,8 @@ use Rattle.kc_parts.specs.States.{state_of}
 use Rattle.kc_parts.proofs.SlotChanges.{linked-vm}
 use Rattle.kc_calls.specs.Applying.{IsAble}
 use Rattle.kc_calls.proofs.Frames.{some-lent, some-shown, room-vm, room-through}
-use Rattle.kc_calls.proofs.Needed.{slot-needed, frame-needed, slot-is}
+use Rattle.kc_refusals.proofs.Looked.{slot-is}
+use Rattle.kc_calls.proofs.Needed.{slot-needed, frame-needed}
 use Rattle.kc_calls.proofs.Hands.{answers-ok, remap-fits, remap-page, host-owner, next_page-slot, next_gfn-slot, page-after, state-paged}
 use Rattle.kc_calls.proofs.hand.remap.Goals as goal
 

@@ -6,7 +6,8 @@ use Rattle.kc_model.specs.Refusals.{pages_of}
 use Rattle.kc_parts.specs.Held.{vm_at}
 use Rattle.kc_parts.specs.States.{state_of}
 use Rattle.kc_calls.proofs.Frames.{some-lent}
-use Rattle.kc_calls.proofs.Needed.{slot-needed, slot-is}
+use Rattle.kc_refusals.proofs.Looked.{slot-is}
+use Rattle.kc_calls.proofs.Needed.{slot-needed}
 use Rattle.kc_calls.proofs.Answered.{answer-refused, answer-slot_refused, past-limit}
 use Rattle.kc_calls.proofs.SlotCalls.{vm-past, refusal-bad_gfn, refusal-bad_range, refusal-set_boot, answer-set_boot}
 use Rattle.kc_calls.proofs.slots.set_boot.Goals as goal

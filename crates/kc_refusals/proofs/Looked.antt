@@ -5,7 +5,7 @@ use Rattle.std.proofs.lemmas.List.FromFn.{length-map-range_with_len}
 use Rattle.std.specs.Ordering.{nat_cmp}
 use Rattle.std.specs.FinMap as map
 use Rattle.kc_types.specs.Configuration.{Configuration, slot_count}
-use Rattle.kc_types.specs.declared.owner.Owner.TheVariants.{Core}
+use Rattle.kc_types.specs.declared.owner.Owner.TheVariants.{Core, Free}
 use Rattle.std.specs.List.{list_any}
 use Rattle.std.proofs.lemmas.Bool.{cases_lt}
 use Rattle.std.proofs.lemmas.Grind.{common_steps}
@@ -19,9 +19,11 @@ use Rattle.kc_page.specs.declared.page.Page.{Page}
 use Rattle.kc_page.specs.declared.page.PageRecord.{PageRecord}
 use Rattle.kc_page.specs.Pages.{frame_of}
 use Rattle.kc_parts.specs.Held.{Held, page_at, vm_at, links_of}
-use Rattle.kc_parts.specs.States.{frame_in, slot_in, unlinked_slot, state_of}
-use Rattle.kc_parts.proofs.Seen.{frame-seen}
-use Rattle.kc_calls.specs.Applying.{IsMetaOf}
+use Rattle.kc_parts.specs.States.{frame_in, slot_in, unlinked_slot, state_of, IsLinked, free_of, list_in}
+use Rattle.kc_types.specs.declared.link.Ends.{Ends}
+use Rattle.kc_links.specs.Ending.{listed}
+use Rattle.kc_parts.proofs.Seen.{frame-seen, slot-seen}
+use Rattle.kc_refusals.specs.LookUps.{IsMetaOf}
 
 -- the record of an untouched frame of the core's
 abbrev pub no_record : PageRecord
@@ -65,3 +67,11 @@ fits-seen m v g vm frames is room = rw is (ap (λ full. when full TablesFull) (r
     turned : (a : Bool) (n k : ℕ) → (not a && nat_le n k) ≡ not (a || nat_lt k n)
     turned true n k = refl
     turned false n k = past n k
+
+-- the slot of a number that is here
+pub slot-is : (config : Configuration) (h : Held) (v : ℕ) (vm : VmSlot) → v < slot_count config → vm_at h v ≡ Some vm → slot_at (state_of config h) v ≡ unlinked_slot vm.slot (listed (links_of h) vm.slot.ends)
+slot-is config h v vm low at = slot-seen config h v low ∙ ap (slot_in (links_of h)) at
+
+-- the list whose ends are here is as long as they say
+pub free-count : (config : Configuration) (h : Held) (ends : Ends) → IsLinked config h → h.free ≡ Some ends → length (free_of h) ≡ ends.count
+free-count config h ends linked is = ap (λ free. length (list_in (links_of h) free)) is ∙ sym (linked.lists.spelled Free ends is).count

@@ -1,8 +1,8 @@
 use Rattle.std.proofs.Common.{◌≡◌, Some, true, false, inl, inr, sym, ◌∙◌, refl}
 use Rattle.kc_types.specs.declared.slot.Phase.TheVariants.{Empty, Booting, Active, Dead}
 use Rattle.kc_parts.specs.Held.{vm_at}
-use Rattle.kc_calls.proofs.Verifying.{refusal-absent, refusal-here}
-use Rattle.kc_calls.proofs.verify.verify_refusal.Goals as goal
+use Rattle.kc_refusals.proofs.Verifying.{refusal-absent, refusal-here}
+use Rattle.kc_refusals.proofs.slots.verify_refusal.Goals as goal
 
 pub returns-in_default-vm : goal.returns-in_default-vm
 returns-in_default-vm c = sym (refusal-absent c.args.config.now c.args.parts.now c.args.vm (c.in-Some.ensures.valid.0 refl) (rw c.in-Some.ensures.value at (sym c.in_default-vm.ensures)))

@@ -1,7 +1,7 @@
 use Rattle.std.proofs.Common.{refl, sym}
 use Rattle.std.proofs.lemmas.Bool.{ne_eqb}
-use Rattle.kc_calls.proofs.Hosts.{free-count}
-use Rattle.kc_calls.proofs.host.take_refusal.Goals as goal
+use Rattle.kc_refusals.proofs.Looked.{free-count}
+use Rattle.kc_refusals.proofs.host.take_refusal.Goals as goal
 
 pub returns-then-free-eq0 : goal.returns-then-free-eq0
 returns-then-free-eq0 c =

@@ -9,7 +9,7 @@ ghost use Rattle.kc_vms.specs.Slots.{VmSlot};
 ghost use Rattle.kc_vms.specs.Refusals.{Answers, next_page_refusal};
 ghost use Rattle.kc_parts.specs.Held.{vm_at, links_of};
 ghost use Rattle.kc_parts.specs.States.{state_of, slot_in, IsLinked};
-ghost use Rattle.kc_calls.specs.Applying.{IsMetaOf};
+ghost use Rattle.kc_refusals.specs.LookUps.{IsMetaOf};
 
 use kc_page::PageRecord;
 use kc_parts::Parts;

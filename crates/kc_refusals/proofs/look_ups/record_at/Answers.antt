@@ -1,7 +1,7 @@
 use Rattle.std.proofs.Common.{inl, inr, refl, sym}
 use Rattle.std.proofs.lemmas.Bool.{cases_lt}
-use Rattle.kc_calls.proofs.Looked.{meta-here, meta-absent, meta-past}
-use Rattle.kc_calls.proofs.look_ups.record_at.Goals as goal
+use Rattle.kc_refusals.proofs.Looked.{meta-here, meta-absent, meta-past}
+use Rattle.kc_refusals.proofs.look_ups.record_at.Goals as goal
 
 pub returns-in-Some-frame : goal.returns-in-Some-frame
 returns-in-Some-frame c = rw (← c.in-Some.ensures.value) (meta-here c.args.config.now c.args.parts.now c.in-Some.frame c.in-Some-frame.page.now (rw c.in-Some.ensures.value (c.in-Some.ensures.valid.0 refl)) (sym c.in-Some-frame.ensures))

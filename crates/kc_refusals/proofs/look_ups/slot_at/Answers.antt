@@ -4,8 +4,8 @@ use Rattle.kc_types.specs.Configuration.{slot_count}
 use Rattle.kc_parts.specs.Held.{links_of}
 use Rattle.kc_parts.specs.States.{slot_in}
 use Rattle.kc_parts.proofs.Seen.{slot-seen}
-use Rattle.kc_calls.proofs.Looked.{slot-past}
-use Rattle.kc_calls.proofs.look_ups.slot_at.Goals as goal
+use Rattle.kc_refusals.proofs.Looked.{slot-past}
+use Rattle.kc_refusals.proofs.look_ups.slot_at.Goals as goal
 
 pub returns-in-Some-clause-value : goal.returns-in-Some-clause-value
 returns-in-Some-clause-value c = rw (← c.in-Some.ensures.value) (slot-seen c.args.config.now c.args.parts.now c.in-Some.vm (rw c.in-Some.ensures.value (c.in-Some.ensures.valid.0 refl)) ∙ ap (slot_in (links_of c.args.parts.now)) (sym c.vm-in-Some.ensures))

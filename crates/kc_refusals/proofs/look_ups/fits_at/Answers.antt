@@ -3,8 +3,8 @@ use Rattle.kc_types.specs.declared.refusal.Refusal.TheVariants.{TablesFull}
 use Rattle.kc_model.specs.Refusals.{when}
 use Rattle.kc_stage2.specs.Table.{Table, fits}
 use Rattle.kc_parts.specs.States.{state_of}
-use Rattle.kc_calls.proofs.Looked.{fits-seen}
-use Rattle.kc_calls.proofs.look_ups.fits_at.Goals as goal
+use Rattle.kc_refusals.proofs.Looked.{fits-seen}
+use Rattle.kc_refusals.proofs.look_ups.fits_at.Goals as goal
 
 pub returns-in-Some : goal.returns-in-Some
 returns-in-Some c =
