@@ -3,6 +3,7 @@ use Rattle.std.proofs.Common.{ℕ, ◌≡◌, ◌↔◌, ◌<◌, ◌≤◌, inl
 use Rattle.std.proofs.lemmas.Bool.{cases_lt}
 use Rattle.kc_types.specs.Configuration.{Configuration}
 use Rattle.kc_types.specs.declared.call.Call.{Call}
+use Rattle.kc_types.specs.declared.call.Call.TheVariants.{Take, Give, HostFault, HostRead, HostWrite, RegisterVm, RegisterVcpu, SetBoot, Remap, Verify, Map, GuestRead, GuestWrite, Grant, Revoke, Drop, Clear}
 use Rattle.kc_types.specs.declared.refusal.Refusal.{Refusal}
 use Rattle.kc_types.specs.declared.reply.Reply.{Reply}
 use Rattle.kc_types.specs.declared.reply.Reply.TheVariants as reply
@@ -15,6 +16,7 @@ use Rattle.kc_links.specs.Ending.{listed}
 use Rattle.kc_parts.specs.Held.{Held, vm_at, with_vm, links_of}
 use Rattle.kc_parts.specs.States.{state_of, unlinked_slot, IsLinked}
 use Rattle.kc_parts.proofs.SlotChanges.{vm-same, state-vm, linked-vm}
+use Rattle.kc_refusals.specs.LookUps.{looked_up}
 use Rattle.kc_calls.specs.Applying.{IsAnswer}
 use Rattle.kc_calls.proofs.Frames.{room-vm}
 
@@ -22,6 +24,26 @@ use Rattle.kc_calls.proofs.Frames.{room-vm}
 next-by : (m : State) (call : Call) (why : Option Refusal) → refusal m call ≡ why → next m call ≡ unless_refused why m call
 unfolding next
 next-by m call why is = ap (λ why. unless_refused why m call) is
+
+-- a refusal that is looked up is the call's
+looked-refusal : (m : State) (call : Call) (why : Refusal) → looked_up m call ≡ Some why → refusal m call ≡ Some why
+looked-refusal m Take why is = is
+looked-refusal m (Give a) why is = is
+looked-refusal m (HostFault a) why is = is
+looked-refusal m (HostRead a b d) why is = is
+looked-refusal m (HostWrite a b d) why is = is
+looked-refusal m (RegisterVm a) why is = cc
+looked-refusal m (RegisterVcpu a b) why is = cc
+looked-refusal m (SetBoot a b d) why is = cc
+looked-refusal m (Remap a b d) why is = is
+looked-refusal m (Verify a) why is = is
+looked-refusal m (Map a b d) why is = is
+looked-refusal m (GuestRead a b d e f) why is = is
+looked-refusal m (GuestWrite a b d e f) why is = is
+looked-refusal m (Grant a b d) why is = is
+looked-refusal m (Revoke a b d) why is = is
+looked-refusal m (Drop a b d) why is = is
+looked-refusal m (Clear a) why is = is
 
 pub answer-refused : (config : Configuration) (h : Held) (call : Call) (why : Refusal) → IsLinked config h → refusal (state_of config h) call ≡ Some why → IsAnswer config h h call (reply.Refused why)
 answer-refused config h call why linked is =
@@ -32,6 +54,9 @@ answer-refused config h call why linked is =
       linked = linked;
       room = record { numbers = refl; filled = refl; here = λ r. refl };
     }
+
+pub answer-looked_up : (config : Configuration) (h : Held) (call : Call) (why : Refusal) → IsLinked config h → looked_up (state_of config h) call ≡ Some why → IsAnswer config h h call (reply.Refused why)
+answer-looked_up config h call why linked is = answer-refused config h call why linked (looked-refusal (state_of config h) call why is)
 
 -- a call that changes a slot alone, and not the ends of its list
 pub answer-slot : (config : Configuration) (h : Held) (v : ℕ) (vm new : VmSlot) (call : Call) (reply : Reply) → IsLinked config h → vm_at h v ≡ Some vm → new.slot.ends ≡ vm.slot.ends → new.room ≡ vm.room

@@ -1,8 +1,9 @@
 //! A call, by its kind.
-ghost use Rattle.std.specs.Prelude.{◌≡◌, ◌≤◌};
+ghost use Rattle.std.specs.Prelude.{◌≡◌, ◌≤◌, None};
 ghost use Rattle.kc_types.specs.Room.{room_of};
 ghost use Rattle.kc_model.specs.Next.{next};
 ghost use Rattle.kc_parts.specs.States.{state_of, IsLinked};
+ghost use Rattle.kc_refusals.specs.LookUps.{looked_up};
 ghost use Rattle.kc_calls.specs.Applying.{IsSameRoom, IsAble};
 
 use crate::clear::clear;
@@ -16,11 +17,10 @@ use kc_parts::Parts;
 use kc_refusals::refusal;
 use kc_types::{Call, Config, Reply, Spare};
 
-/// Answers a call on parts that hold what it needs, and leaves all else as it was: with the first refusal that
-/// applies, and then nothing has changed, or with its effect. The bytes of a reply lie in the room, and nothing
-/// takes memory.
+/// Carries out a call that no look-up refuses, on parts that hold what it needs, and leaves all else as it was.
 #[tactic(auto, unfolding(kc_model::specs::Next::next))]
-pub fn apply(parts: &mut Parts, config: &Config, call: &Call, room: Spare) -> Reply
+fn carry_out(parts: &mut Parts, config: &Config, call: &Call, room: Spare) -> Reply
+    requires served { looked_up (state_of config.now parts.old) call.now ≡ None }
     requires able { IsAble config.now parts.old call.now }
     requires fits { room_of call.now ≤ room }
     ensures reply { result ≡ (next (state_of config.now parts.old) call.now).0 }
@@ -28,9 +28,6 @@ pub fn apply(parts: &mut Parts, config: &Config, call: &Call, room: Spare) -> Re
     ensures linked { IsLinked config.now parts.new }
     ensures room { IsSameRoom parts.old parts.new }
 {
-    if let Some(refusal) = refusal(parts, config, call) {
-        return Reply::Refused(refusal);
-    }
     match call {
         Call::Take => take(parts, config),
         Call::Give { frame } => give(parts, config, *frame),
@@ -67,5 +64,22 @@ pub fn apply(parts: &mut Parts, config: &Config, call: &Call, room: Spare) -> Re
         Call::Revoke { vm, vcpu, gfn } => revoke(parts, config, *vm, *vcpu, *gfn),
         Call::Drop { vm, vcpu, gfn } => drop_page(parts, config, *vm, *vcpu, *gfn),
         Call::Clear { vm } => clear(parts, config, *vm),
+    }
+}
+
+/// Answers a call on parts that hold what it needs, and leaves all else as it was: with the first refusal that
+/// applies, and then nothing has changed, or with its effect. The bytes of a reply lie in the room, and nothing
+/// takes memory.
+pub fn apply(parts: &mut Parts, config: &Config, call: &Call, room: Spare) -> Reply
+    requires able { IsAble config.now parts.old call.now }
+    requires fits { room_of call.now ≤ room }
+    ensures reply { result ≡ (next (state_of config.now parts.old) call.now).0 }
+    ensures state { state_of config.now parts.new ≡ (next (state_of config.now parts.old) call.now).1 }
+    ensures linked { IsLinked config.now parts.new }
+    ensures room { IsSameRoom parts.old parts.new }
+{
+    match refusal(parts, config, call) {
+        Some(refusal) => Reply::Refused(refusal),
+        None => carry_out(parts, config, call, room),
     }
 }

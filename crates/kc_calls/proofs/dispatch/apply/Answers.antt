@@ -1,7 +1,9 @@
-use Rattle.std.proofs.Common.{ap}
-use Rattle.kc_model.specs.Resources.{uses_free}
-use Rattle.kc_types.specs.declared.resource.Resource.TheVariants as resource
+use Rattle.std.proofs.Common.{sym, ◌∙◌}
+use Rattle.kc_calls.proofs.Answered.{answer-looked_up}
 use Rattle.kc_calls.proofs.dispatch.apply.Goals as goal
 
-pub give-requires-clause-free : goal.give-requires-clause-free
-give-requires-clause-free c = c.requires.able.here resource.Free (ap uses_free c.in-Give.is)
+pub returns-in-Some-clause-reply : goal.returns-in-Some-clause-reply
+returns-in-Some-clause-reply c = (answer-looked_up c.args.config.now c.args.parts.now c.args.call.now c.in-Some.refusal c.requires.able.linked (sym c.refusal.ensures ∙ c.in-Some.is)).reply
+
+pub returns-in-Some-clause-state : goal.returns-in-Some-clause-state
+returns-in-Some-clause-state c = (answer-looked_up c.args.config.now c.args.parts.now c.args.call.now c.in-Some.refusal c.requires.able.linked (sym c.refusal.ensures ∙ c.in-Some.is)).state
