@@ -23,6 +23,7 @@ fn hand_refusal(parts: &Parts, config: &Config, vm: u32, gfn: Gfn, frame: u32) -
     None
 }
 
+/// Why a frame can't become the next page of a boot image.
 pub fn remap_refusal(
     parts: &Parts,
     config: &Config,
@@ -45,6 +46,7 @@ pub fn remap_refusal(
     }
 }
 
+/// Why a frame can't go where a virtual processor waits for one.
 pub fn map_refusal(
     parts: &Parts,
     config: &Config,

@@ -8,6 +8,7 @@ use crate::look_ups::record_at;
 use kc_parts::Parts;
 use kc_types::{Config, Owner, Refusal};
 
+/// Why no frame can be taken.
 pub fn take_refusal(parts: &Parts, config: &Config) -> Option<Refusal>
     requires { IsLinked config.now parts.now }
     ensures { result ≡ refusal (state_of config.now parts.now) Take }
@@ -22,6 +23,7 @@ pub fn take_refusal(parts: &Parts, config: &Config) -> Option<Refusal>
     }
 }
 
+/// Why a frame can't be given.
 pub fn give_refusal(parts: &Parts, config: &Config, frame: u32) -> Option<Refusal>
     ensures { result ≡ refusal (state_of config.now parts.now) (Give frame) }
 {
@@ -34,6 +36,7 @@ pub fn give_refusal(parts: &Parts, config: &Config, frame: u32) -> Option<Refusa
     None
 }
 
+/// Why a frame can't be mapped for the host.
 pub fn host_fault_refusal(parts: &Parts, config: &Config, frame: u32) -> Option<Refusal>
     ensures { result ≡ refusal (state_of config.now parts.now) (HostFault frame) }
 {
@@ -47,6 +50,7 @@ pub fn host_fault_refusal(parts: &Parts, config: &Config, frame: u32) -> Option<
     None
 }
 
+/// Why `len` bytes of a frame from `offset` on can't be read, or written, by the host.
 pub fn host_access_refusal(
     parts: &Parts,
     config: &Config,

@@ -36,21 +36,32 @@ fn push_page(text: &mut Vec<u8>) -> Result<(), Fail> {
     Ok(())
 }
 
-/// A trace that writes a page and reads it again and again.
+/// A trace that writes a page, and again and again reads it and takes a frame: three are free.
 fn reads(alloc: Global) -> Result<Vec<u8>, Fail> {
     let mut text = b"kcore-trace 1\nhfault 1\nhwrite 1 0 ".to_vec(alloc)?;
     push_page(&mut text)?;
     for _ in 0..PAGES {
-        text.extend_from_slice(b"hread 1 0 4096\n")?;
+        text.extend_from_slice(b"hread 1 0 4096\ntake\n")?;
     }
     Ok(text)
 }
 
+/// What a call that takes a frame is answered after so many others.
+fn taken_after(others: usize) -> &'static [u8] {
+    match others {
+        0 => b"frame 5\n",
+        1 => b"frame 6\n",
+        2 => b"frame 7\n",
+        _ => b"refused no-free\n",
+    }
+}
+
 fn replies(alloc: Global) -> Result<Vec<u8>, Fail> {
     let mut text = b"done\ndone\n".to_vec(alloc)?;
-    for _ in 0..PAGES {
+    for page in 0..PAGES {
         text.extend_from_slice(b"data ")?;
         push_page(&mut text)?;
+        text.extend_from_slice(taken_after(page))?;
     }
     Ok(text)
 }
@@ -72,9 +83,9 @@ fn replies_go_out_whole_or_to_where_the_sink_fails(rt: HostRuntime) -> Result<()
     let alloc = rt.alloc();
     let wanted = replies(alloc)?;
     let whole = wanted.len();
-    assert_eq!(rt; whole, 139_376);
+    assert_eq!(rt; whole, 139_624);
     for left in [
-        0, 1, 9, 10, 8_207, 65_535, 65_537, 131_073, 139_375, 139_376, 139_377,
+        0, 1, 9, 10, 8_207, 8_212, 32_830, 65_535, 65_537, 131_073, 139_623, 139_624, 139_625,
     ] {
         let mut config = Mem::with_bytes(SMALL.as_bytes().to_vec(alloc)?);
         let mut trace = Mem::with_bytes(reads(alloc)?);

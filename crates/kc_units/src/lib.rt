@@ -13,6 +13,8 @@ mod interrupted;
 #[cfg(test)]
 mod parts;
 #[cfg(test)]
+mod streams;
+#[cfg(test)]
 mod traces;
 #[cfg(test)]
 mod vms;

@@ -118,6 +118,16 @@ pub fn replies(alloc: Global) -> Result<Vec<Reply>, Fail> {
     Ok(replies)
 }
 
+/// Whether these are the calls of the history, in its order.
+pub fn has_calls(history: &History, calls: &[Call]) -> bool {
+    history.entries().len() == calls.len()
+        && history
+            .entries()
+            .iter()
+            .zip(calls)
+            .all(|(entry, call)| entry.call == *call)
+}
+
 /// Whether these are the replies of the history, in its order.
 pub fn has_replies(history: &History, replies: &[Reply]) -> bool {
     history.entries().len() == replies.len()
