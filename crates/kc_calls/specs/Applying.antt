@@ -25,6 +25,7 @@ pub record IsSameRoom (old new : Held) : Type 0 where
 pub record IsMetaOf (frame : Frame) (meta : PageRecord) : Type 0 where
   pub owner : meta.owner ≡ frame.owner
   pub share : meta.share ≡ frame.share
+  pub gfn : meta.gfn ≡ frame.gfn
   pub present : meta.present ≡ frame.present
 
 -- parts on which a call can be made: as orderly as those of a lawful state, with all that the call needs here
