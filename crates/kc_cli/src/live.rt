@@ -168,7 +168,9 @@ pub fn live_text<C: Source, T: Source, K: Sink, G: Gate + Sync, R: Threads + Wai
     ensures source { (C.failed config.new ≡ true) ⊎ (T.failed trace.new ≡ true) → result ≡ Err TextFault.Read }
     ensures sink { K.failed out.new ≡ true → result ≡ Err TextFault.Write }
 
-    // The trace is judged only behind a configuration, the run only behind both, and only of a trace that may run.
+    // The trace is read and judged only behind a configuration, the run only behind both, and only of a trace that may
+    // run.
+    ensures behind { (trace.new ≡ trace.old) ⊎ IsConfigured (C.left config.old) }
     ensures configured { (fault : TraceFault) → result ≡ Err (TextFault.Trace fault) → IsConfigured (C.left config.old) }
     ensures started { result ≡ Err TextFault.Start → CouldRun (C.left config.old) (T.left trace.old) }
     ensures unsettled { result ≡ Err TextFault.Unsettled → CouldRun (C.left config.old) (T.left trace.old) }
