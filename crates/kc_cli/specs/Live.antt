@@ -24,9 +24,9 @@ CouldRun (Some config) None = Unit {0}
 CouldRun (Some config_text) (Some trace_text) =
     (config : Configuration) × (calls : List Call) × AreRead config_text trace_text config calls × MayRun config calls
 
--- the text is the trace read, rearranged
+-- the text is the trace read, which may run, rearranged
 abbrev pub IsLiveText : List ℕ → List ℕ → List ℕ → Type 0
-IsLiveText config_text trace_text text = (config : Configuration) × (calls : List Call) × AreRead config_text trace_text config calls × IsRearranged calls text
+IsLiveText config_text trace_text text = (config : Configuration) × (calls : List Call) × AreRead config_text trace_text config calls × MayRun config calls × IsRearranged calls text
 
 -- the sink took such a text of what the sources held, where all of them tell
 abbrev pub RunsLive : Option (List ℕ) → Option (List ℕ) → Option (List ℕ) → Option (List ℕ) → Type 0

@@ -60,7 +60,8 @@ pub fn replay_text<C: Source, T: Source, K: Sink>(
     ensures source { (C.failed config.new ≡ true) ⊎ (T.failed trace.new ≡ true) → result ≡ Err TextFault.Read }
     ensures sink { K.failed out.new ≡ true → result ≡ Err TextFault.Write }
 
-    // The trace is judged only behind a configuration, and no fault of a live run comes.
+    // The trace is read and judged only behind a configuration, and no fault of a live run comes.
+    ensures behind { (trace.new ≡ trace.old) ⊎ IsConfigured (C.left config.old) }
     ensures configured { (fault : TraceFault) → result ≡ Err (TextFault.Trace fault) → IsConfigured (C.left config.old) }
     ensures others { OnErr result ((result ≢ Err TextFault.Start) × (result ≢ Err TextFault.Unsettled) × ((program : ℕ) → result ≢ Err (TextFault.BadActor program))) }
 

@@ -1,8 +1,10 @@
 //! The engine that runs a trace live, over any ends.
 ghost use Rattle.std.specs.Prelude.{◌≡◌, ◌≢◌, ◌⊎◌, ◌↔◌, ℕ, map, false, true, IfOk, IfErr, IfSome, OnOk, OnErr, Err, IsErrOf};
 ghost use Rattle.std.specs.Io.KnownBytes.{IsAtEnd};
+ghost use Rattle.kc_model.specs.Boot.{boot};
 ghost use Rattle.kc_model.specs.Next.{state_after};
-ghost use Rattle.kc_live.specs.Cuts.{KeepsOrders};
+ghost use Rattle.kc_model.specs.Wiped.{wiped};
+ghost use Rattle.kc_live.specs.Cuts.{KeepsOrders, MayRun};
 ghost use Rattle.kc_history.specs.Logs.{calls_of};
 ghost use Rattle.kc_trace.specs.declared.config_text.ConfigTextFault.{ConfigTextFault};
 ghost use Rattle.kc_trace.specs.declared.fault.TraceFault.{TraceFault};
@@ -61,12 +63,15 @@ fn make_each(core: &mut KCore, calls: &[Call]) -> Result<(), Memory>
     Ok(())
 }
 
-/// Makes the calls on one thread, and wipes the core that they leave.
-fn replay(alloc: Global, config: Config, calls: &[Call]) -> Result<(), Memory> {
+/// Makes the calls on one thread, and gives the core that they leave, wiped.
+fn replay(alloc: Global, config: Config, calls: &[Call]) -> Result<KCore, Memory>
+    ensures { IfOk result (λ core. core ≡ wiped (state_after (boot config) calls.now)) }
+{
     let mut core = KCore::boot(alloc, config)?;
     let outcome = make_each(&mut core, calls);
     core.wipe();
-    outcome
+    outcome?;
+    Ok(core)
 }
 
 /// The cause of a run that gave no answer. The core that it left, if any, is wiped.
@@ -98,7 +103,7 @@ fn replayed(alloc: Global, config: Config, history: History) -> Result<Vec<Call>
     ensures { IfOk result (λ calls. calls.items ≡ calls_of history.entries) }
 {
     let calls = calls_in(alloc, entries_of(history))?;
-    replay(alloc, config, &calls)?;
+    let _core = replay(alloc, config, &calls)?;
     Ok(calls)
 }
 
@@ -110,6 +115,7 @@ fn made_live<G: Gate + Sync, R: Threads + Wait + Sync>(
     calls: Vec<Call>,
     gate: &G,
 ) -> Result<Vec<Call>, TextFault>
+    ensures sound { OnOk result (MayRun config calls.items) }
     ensures made { IfOk result (λ made. KeepsOrders made.items calls.items) }
     ensures fault { IfErr result (IsLiveFault config calls.items) }
 {
@@ -144,7 +150,8 @@ pub fn live_text<C: Source, T: Source, K: Sink, G: Gate + Sync, R: Threads + Wai
     requires trace { T.failed trace.old ≡ false }
     requires out { K.failed out.old ≡ false }
 
-    // What is written is the trace read, in an order that keeps each actor's, and nothing of the sources is left.
+    // What is written is the trace read, which may run, in an order that keeps each actor's, and nothing of the sources
+    // is left.
     ensures ok { OnOk result (RunsLive (C.left config.old) (T.left trace.old) (K.taken out.old) (K.taken out.new)) }
     ensures ended { OnOk result (IsAtEnd (C.left config.new) × IsAtEnd (T.left trace.new)) }
 
@@ -160,7 +167,9 @@ pub fn live_text<C: Source, T: Source, K: Sink, G: Gate + Sync, R: Threads + Wai
     ensures source { (C.failed config.new ≡ true) ⊎ (T.failed trace.new ≡ true) → result ≡ Err TextFault.Read }
     ensures sink { K.failed out.new ≡ true → result ≡ Err TextFault.Write }
 
-    // The trace is judged only behind a configuration, the run only behind both, and only of a trace that may run.
+    // The trace is read and judged only behind a configuration, the run only behind both, and only of a trace that may
+    // run.
+    ensures behind { (trace.new ≡ trace.old) ⊎ IsConfigured (C.left config.old) }
     ensures configured { (fault : TraceFault) → result ≡ Err (TextFault.Trace fault) → IsConfigured (C.left config.old) }
     ensures started { result ≡ Err TextFault.Start → CouldRun (C.left config.old) (T.left trace.old) }
     ensures unsettled { result ≡ Err TextFault.Unsettled → CouldRun (C.left config.old) (T.left trace.old) }

@@ -30,6 +30,7 @@ pub(crate) fn read_both<C: Source, T: Source>(
     ensures trace { (fault : TraceFault) → result ≡ Err (TextFault.Trace fault) → IfSome (T.left trace.old) (λ text. IsRefused text fault) × IsAtEnd (T.left trace.new) }
     ensures read { result ≡ Err TextFault.Read → ReadFailed (C.failed config.new) (C.left config.old) (C.left config.new) ⊎ ReadFailed (T.failed trace.new) (T.left trace.old) (T.left trace.new) }
     ensures source { (C.failed config.new ≡ true) ⊎ (T.failed trace.new ≡ true) → result ≡ Err TextFault.Read }
+    ensures behind { (trace.new ≡ trace.old) ⊎ IsConfigured (C.left config.old) }
     ensures configured { (fault : TraceFault) → result ≡ Err (TextFault.Trace fault) → IsConfigured (C.left config.old) }
 {
     let config = read_whole(alloc, config)?;

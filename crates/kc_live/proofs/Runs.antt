@@ -1,5 +1,5 @@
 -- The calls of each program stand in the history.
-use Rattle.std.proofs.Common.{◌≡◌, ℕ, ◌+◌, Bool, true, false, cond, Option, Some, None, List, [], ◌∷◌, map, refl, ap, sym, ◌∙◌, not}
+use Rattle.std.proofs.Common.{◌≡◌, ℕ, zero, suc, ◌+◌, ◌<◌, Bool, true, false, cond, Option, Some, None, List, [], ◌∷◌, length, get_or, map, refl, ap, sym, ◌∙◌, not, arith}
 use Rattle.std.specs.List.{position_from}
 use Rattle.std.specs.Option.{option_map_or}
 use Rattle.std.proofs.lemmas.Iterator.Adapters.{position_from-zero}
@@ -48,6 +48,17 @@ has_calls h (p ∷ ps) [] same all = cc
 has_calls h (p ∷ ps) (row ∷ rows) same all =
     let first : calls_in row ≡ p.calls = cc in
     let rest : map calls_in rows ≡ map (λ p. p.calls) ps = cc in (all.0 ∙ first, has_calls h ps rows rest all.1)
+
+own_from : (a : Actor) (i : ℕ) (calls : List Call) (n : ℕ) (call : Call) → position_from (λ c. not (same_actor a (actor c))) i calls ≡ None → n < length calls → call ≡ get_or calls n call → same_actor a (actor call) ≡ true
+own_from a i [] n call none lt is = absurd (omega arith)
+own_from a i (c ∷ cs) zero call none lt is = rw is (none_first (same_actor a (actor c)) i (position_from (λ c. not (same_actor a (actor c))) (i + 1) cs) none).0
+own_from a i (c ∷ cs) (suc n) call none lt is = own_from a (i + 1) cs n call (none_first (same_actor a (actor c)) i (position_from (λ c. not (same_actor a (actor c))) (i + 1) cs) none).1 (omega arith) is
+
+-- a program with no call of another actor has calls of its own alone
+pub own_call : (p : ProgramView) (n : ℕ) (call : Call) → stranger_in p ≡ None → n < length p.calls → call ≡ get_or p.calls n call → actor call ≡ p.actor
+own_call p n call none lt is =
+    let test = λ (c : Call). not (same_actor p.actor (actor c)) in
+    sym (same_actor-true p.actor (actor call) (own_from p.actor 0 p.calls n call (sym (position_from-zero test p.calls) ∙ none) lt is))
 
 -- in a settled history with a row for each program, each actor's calls are those of its program
 pub settled_calls : (h : List Entry) (ps : List ProgramView) (rows : List (List Receipt)) → IsSettled h rows → map calls_in rows ≡ map (λ p. p.calls) ps → stranger_from 0 ps ≡ None → Apart (actors_of ps) → HasCalls h ps

@@ -3,7 +3,7 @@ ghost use Rattle.std.specs.Prelude.{◌≡◌, [], ◌∷◌, is_some, IfOk, IfE
 ghost use Rattle.kc_types.specs.Actors.{actor as actor_made};
 ghost use Rattle.kc_history.specs.Logs.{calls_of};
 ghost use Rattle.kc_live.specs.Programs.{NoneIs, actors_of};
-ghost use Rattle.kc_live.specs.Cuts.{IsCut, IsPlaceOf, KeepsOrders, StopsTrace, with_call};
+ghost use Rattle.kc_live.specs.Cuts.{IsCut, IsPlaceOf, KeepsOrders, MayRun, StopsTrace, with_call};
 ghost use Rattle.kc_live.specs.Stops.{FitsHistory};
 
 use crate::fault::{LiveCause, LiveStop};
@@ -82,10 +82,14 @@ pub fn run_trace<G: Gate + Sync, R: Threads + Wait + Sync>(
     calls: Vec<Call>,
     gate: &G,
 ) -> Result<History, LiveStop>
-    ensures config { IfOk result (λ history. history.config ≡ config) }
-    ensures order { IfOk result (λ history. KeepsOrders (calls_of history.entries) calls.items) }
+    // The trace may run, or the cause is what is wrong with it, or shows only in a run.
+    ensures sound { OnOk result (MayRun config calls.items) }
     ensures stop { IfErr result (λ stop. StopsTrace config calls.items stop.cause) }
     ensures history { IfErr result (λ stop. FitsHistory stop.cause (is_some stop.history)) }
+
+    // The history is of the configuration handed in, and has each actor's calls in order.
+    ensures config { IfOk result (λ history. history.config ≡ config) }
+    ensures order { IfOk result (λ history. KeepsOrders (calls_of history.entries) calls.items) }
 {
     let Ok(programs) = programs_of(alloc, calls) else {
         return Err(refused(LiveCause::Memory));

@@ -1,6 +1,7 @@
 //! The calls of one actor, and the thread that makes them.
-ghost use Rattle.std.specs.Prelude.{◌≡◌, IfOk, OnOk, OnErr};
+ghost use Rattle.std.specs.Prelude.{◌≡◌, ◌≢◌, None, Err, IfOk, OnOk, OnErr};
 ghost use Rattle.kc_live.specs.Programs.{calls_in};
+ghost use Rattle.kc_live.specs.Plans.{stranger_in};
 ghost use Rattle.kc_live.specs.Cuts.{grown};
 
 use kc_history::{LiveCore, LiveFault, Receipt, Seat};
@@ -91,7 +92,8 @@ pub fn run_program<G: Gate, R: Wait>(
     first: usize,
     program: Program,
 ) -> Result<Vec<Receipt>, LiveFault>
-    ensures { IfOk result (λ v. calls_in v.items ≡ program.calls) }
+    ensures made { IfOk result (λ v. calls_in v.items ≡ program.calls) }
+    ensures yours { stranger_in program ≡ None → result ≢ Err LiveFault.NotYours }
 {
     let Program { actor, calls } = program;
     let mut seat = Seat::new(alloc, actor);

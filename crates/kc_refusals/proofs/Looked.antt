@@ -30,10 +30,10 @@ abbrev pub no_record : PageRecord
 no_record = record { owner = Core; share = 0; gfn = None; present = false; prev = None; next = None }
 
 meta-of : (frame : Frame) (page : Page) → frame ≡ frame_of page → IsMetaOf frame page.meta
-meta-of frame page is = rw is (record { owner = refl; share = refl; present = refl })
+meta-of frame page is = rw is (record { owner = refl; share = refl; gfn = refl; present = refl })
 
 meta-none : (frame : Frame) → frame ≡ untouched Core → IsMetaOf frame no_record
-meta-none frame is = rw is (record { owner = refl; share = refl; present = refl })
+meta-none frame is = rw is (record { owner = refl; share = refl; gfn = refl; present = refl })
 
 pub meta-here : (config : Configuration) (h : Held) (f : ℕ) (page : Page) → f < config.frames → page_at h f ≡ Some page → IsMetaOf (frame_at (state_of config h) f) page.meta
 meta-here config h f page low at = meta-of (frame_at (state_of config h) f) page (frame-seen config h f low ∙ ap frame_in at)

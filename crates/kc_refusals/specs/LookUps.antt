@@ -11,6 +11,7 @@ use Rattle.kc_model.specs.Refusals.{refusal, guest_frame}
 pub record IsMetaOf (frame : Frame) (meta : PageRecord) : Type 0 where
   pub owner : meta.owner ≡ frame.owner
   pub share : meta.share ≡ frame.share
+  pub gfn : meta.gfn ≡ frame.gfn
   pub present : meta.present ≡ frame.present
 
 -- the refusal that is looked up before a call is carried out. The calls that change a slot alone are refused by the slot

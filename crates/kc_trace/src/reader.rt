@@ -1,5 +1,5 @@
 //! Reading a trace, whole or in pieces.
-ghost use Rattle.std.specs.Prelude.{◌≡◌, ◌≢◌, ◌+◌, ◌<◌, List, [], ◌∷◌, ◌++◌, length, Some, None, Ok, Err, IfOk, IfErr, OnOk, MatchOption, MatchResult};
+ghost use Rattle.std.specs.Prelude.{◌≡◌, ◌≢◌, ◌⊎◌, ◌+◌, ◌<◌, List, [], ◌∷◌, ◌++◌, length, Some, None, Ok, Err, IfOk, IfErr, OnOk, MatchOption, MatchResult};
 ghost use Rattle.std.specs.Option.{option_to_list};
 ghost use Rattle.kc_types.specs.Limits.{call_limit};
 ghost use Rattle.kc_types.specs.declared.call.Call.{Call};
@@ -104,6 +104,7 @@ impl Progress {
     fn call(&mut self, alloc: Global, last: &[u8]) -> Result<Option<Call>, AllocError>
         ensures call { IfOk result (λ call. call ≡ call_in (longer_each self.old.line last.now)) }
         ensures others { self.new ≡ record self.old { line = self.new.line } }
+        ensures line { (self.new.line ≡ self.old.line) ⊎ (self.new.line ≡ longer_each self.old.line last.now) }
     {
         if self.line.is_empty() && !self.is_too_long {
             return call_of_whole(alloc, last);

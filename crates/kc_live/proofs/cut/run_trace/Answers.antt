@@ -7,3 +7,6 @@ returns-in-Err-clause-stop g c = stops-trace c.args.config c.args.calls.items c.
 pub returns-in-Ok-run_live-clause-order : goal.returns-in-Ok-run_live-clause-order
 returns-in-Ok-run_live-clause-order g c =
     rw c.history_of.ensures (keeps-orders c.in-Ok-run_live.answer.0.entries c.in-Ok.programs.items c.args.calls.items c.in-Ok.ensures c.in-Ok-run_live.ensures.calls c.in-Ok-run_live.ensures.others)
+
+pub returns-in-Ok-run_live-clause-sound : goal.returns-in-Ok-run_live-clause-sound
+returns-in-Ok-run_live-clause-sound g c = (c.in-Ok.programs.items, c.in-Ok.ensures, c.in-Ok-run_live.ensures.sound)

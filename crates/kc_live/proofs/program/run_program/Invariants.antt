@@ -3,4 +3,7 @@ use Rattle.kc_live.specs.Programs.{calls_in}
 use Rattle.kc_live.proofs.program.run_program.Given as goal
 
 abbrev pub invariant-loop-call : goal.invariant-loop-call
-invariant-loop-call g l = calls_in l.seat.receipts ≡ l.yielded
+invariant-loop-call g l = record {
+  made : calls_in l.seat.receipts ≡ l.yielded;
+  actor : l.seat.actor ≡ l.initial.seat.actor;
+}
