@@ -5,7 +5,7 @@ use Rattle.kc_types.specs.Configuration.{Configuration, slot_count}
 use Rattle.kc_types.specs.declared.owner.Owner.TheVariants.{Free}
 use Rattle.kc_model.specs.State.{State, Slot, slot_at, mapped_at, with_frame, with_slot, frame_at, zero_page}
 use Rattle.kc_model.specs.Refusals.{backing}
-use Rattle.kc_model.specs.Effects.{without, dropped}
+use Rattle.kc_model.specs.Effects.{freed, without, dropped}
 use Rattle.kc_model.specs.Lawful.{times_in}
 use Rattle.kc_model.specs.Local.{IsOrderly}
 use Rattle.kc_model.proofs.Members.{times_in-held}
@@ -20,7 +20,6 @@ use Rattle.kc_parts.proofs.Pages.{links-kept}
 use Rattle.kc_parts.proofs.SlotChanges.{vm-set, state-vm, linked-vm}
 use Rattle.kc_parts.proofs.SlotLists.{frames-here}
 use Rattle.kc_calls.specs.Applying.{IsSameRoom}
-use Rattle.kc_calls.specs.Freeing.{freed}
 use Rattle.kc_calls.proofs.Frames.{changed, room-vm, room-through}
 use Rattle.std.proofs.lemmas.List.{set-set}
 use Rattle.kc_refusals.proofs.Looked.{slot-is}

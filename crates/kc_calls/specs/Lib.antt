@@ -1,3 +1,2 @@
 pub mod Applying
 pub mod Verifying
-pub mod Freeing

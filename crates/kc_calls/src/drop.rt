@@ -2,11 +2,10 @@
 ghost use Rattle.std.specs.Prelude.{◌≡◌, None, true, is_some};
 ghost use Rattle.kc_types.specs.declared.call.Call.TheVariants.{Drop};
 ghost use Rattle.kc_model.specs.Refusals.{refusal};
-ghost use Rattle.kc_model.specs.Effects.{effect};
+ghost use Rattle.kc_model.specs.Effects.{effect, freed};
 ghost use Rattle.kc_parts.specs.Held.{page_at};
 ghost use Rattle.kc_parts.specs.States.{state_of, IsLinked, IsLoose};
 ghost use Rattle.kc_calls.specs.Applying.{IsSameRoom, IsAble};
-ghost use Rattle.kc_calls.specs.Freeing.{freed};
 
 use kc_parts::Parts;
 use kc_types::{Config, FrameNo, Gfn, Owner, Reply};

@@ -84,8 +84,8 @@ kept-frame m v k is lt other = elim (after m v k is lt) [
   | inr kept ↦ kept.1
 ]
 
-freed : (config : Configuration) (k v : ℕ) (frame : Frame) → IsLawfulFrame config k frame → frame.owner ≡ Vm v → IsLawfulFrame config k (untouched Free)
-freed config k v frame is owned = record {
+lawful-untouched : (config : Configuration) (k v : ℕ) (frame : Frame) → IsLawfulFrame config k frame → frame.owner ≡ Vm v → IsLawfulFrame config k (untouched Free)
+lawful-untouched config k v frame is owned = record {
   core = (λ h. cc, λ h. let core = is.core.1 h in cc);
   mapped = refl;
   shared = omega arith;
@@ -137,7 +137,7 @@ lawful-cleared m v is v_in = record {
   frames = length-scrubbed m.frames (slot_at m v).frames ∙ is.frames;
   slots = length-set m.slots v empty_slot ∙ is.slots;
   each_frame = λ k lt. let within : k < length m.frames = rw length-scrubbed at lt in elim (after m v k is v_in) [
-    | inl mine ↦ rw mine.1 (freed m.config k v (frame_at m k) (is.each_frame k within) mine.0)
+    | inl mine ↦ rw mine.1 (lawful-untouched m.config k v (frame_at m k) (is.each_frame k within) mine.0)
     | inr other ↦ rw other.1 (is.each_frame k within)
   ];
   each_slot = λ w within. elim (cases_eq w v) [

@@ -107,11 +107,13 @@ revoked m f = with_frame m f (record (frame_at m f) { share = (frame_at m f).sha
 abbrev pub without : List ℕ → ℕ → List ℕ
 without frames f = filter (λ other. not (other == f)) frames
 
--- the frame goes back to the free list with zero bytes
+-- the frame is the last of the free ones, at no guest frame and with zero bytes
+abbrev pub freed : State → ℕ → State
+freed m f = record (with_frame m f (record (frame_at m f) { owner = Free; gfn = None; present = false; bytes = zero_page })) { free = m.free ++ f ∷ [] }
+
+-- the frame goes back to the free list, out of the slot's list and table
 abbrev pub dropped : State → ℕ → ℕ → ℕ → State
-dropped m v g f = with_slot
-    (record (with_frame m f (record (frame_at m f) { owner = Free; gfn = None; present = false; bytes = zero_page })) { free = m.free ++ f ∷ [] })
-    v (record (slot_at m v) { frames = without (slot_at m v).frames f; mapped = map.remove (slot_at m v).mapped g })
+dropped m v g f = with_slot (freed m f) v (record (slot_at m v) { frames = without (slot_at m v).frames f; mapped = map.remove (slot_at m v).mapped g })
 
 -- each frame of the list is as at boot
 abbrev pub scrubbed : List Frame → List ℕ → List Frame
