@@ -35,7 +35,16 @@ state-freed config old new f page freed_page low at same to move free =
     ∙ ap (λ (s : State). record s { free = free_of new }) (changed config old f page freed_page (λ frame. record frame { owner = Free; gfn = None; present = false; bytes = zero_page }) low at same to)
     ∙ ap (λ fs. record (with_frame m f (record (frame_at m f) { owner = Free; gfn = None; present = false; bytes = zero_page })) { free = fs }) (free ∙ ap (λ fs. fs ++ f ∷ []) kept)
 
-module _ (config : Configuration) (old : Held) (v g f : ℕ) (vm : VmSlot) (table : Table) (table_is : table ≡ record (table_of vm) { mapped = map.remove vm.slot.mapped g }) (linked : IsLinked config old) (low : v < slot_count config) (at_vm : vm_at old v ≡ Some vm) where
+-- a slot's table has lost a guest frame that was this frame
+pub record IsUnmapping (config : Configuration) (old : Held) (v g f : ℕ) (vm : VmSlot) (table : Table) : Type 0 where
+  pub orderly : IsOrderly (state_of config old)
+  pub linked : IsLinked config old
+  pub low : v < slot_count config
+  pub at : vm_at old v ≡ Some vm
+  pub mapped : mapped_at (state_of config old) v g ≡ Some f
+  pub is_left : table ≡ record (table_of vm) { mapped = map.remove vm.slot.mapped g }
+
+module _ (config : Configuration) (old : Held) (v g f : ℕ) (vm : VmSlot) (table : Table) (is : IsUnmapping config old v g f vm table) where
   abbrev pub unmapped_vm : VmSlot
   unmapped_vm = with_table vm table
 
@@ -44,33 +53,33 @@ module _ (config : Configuration) (old : Held) (v g f : ℕ) (vm : VmSlot) (tabl
   unmapped = with_vm old v unmapped_vm
 
   pub linked-unmapped : IsLinked config unmapped
-  linked-unmapped = linked-vm config old v vm unmapped_vm linked at_vm refl (ap (λ (t : Table). t.room) table_is)
+  linked-unmapped = linked-vm config old v vm unmapped_vm is.linked is.at refl (ap (λ (t : Table). t.room) is.is_left)
 
   vm-unmapped : vm_at unmapped v ≡ Some unmapped_vm
-  vm-unmapped = vm-set old v vm unmapped_vm at_vm
+  vm-unmapped = vm-set old v vm unmapped_vm is.at
 
   frames-unmapped : frames_of unmapped v ≡ listed (links_of old) vm.slot.ends
   frames-unmapped = frames-here unmapped v unmapped_vm vm-unmapped
 
   -- its frame is in the slot's list
-  pub inside-unmapped : IsOrderly (state_of config old) → mapped_at (state_of config old) v g ≡ Some f → 0 < times_in (frames_of unmapped v) f
-  inside-unmapped orderly mapped =
-      let there : (slot_at (state_of config old) v).frames ≡ listed (links_of old) vm.slot.ends = ap (λ (slot : Slot). slot.frames) (slot-is config old v vm low at_vm) in
-      rw (frames-unmapped, ← there) (times_in-held (slot_at (state_of config old) v).frames f ((orderly.each_slot v low).listed g f mapped))
+  pub inside-unmapped : 0 < times_in (frames_of unmapped v) f
+  inside-unmapped =
+      let there : (slot_at (state_of config old) v).frames ≡ listed (links_of old) vm.slot.ends = ap (λ (slot : Slot). slot.frames) (slot-is config old v vm is.low is.at) in
+      rw (frames-unmapped, ← there) (times_in-held (slot_at (state_of config old) v).frames f ((is.orderly.each_slot v is.low).listed g f is.mapped))
 
-  pub state-dropped : (mid new : Held) → mapped_at (state_of config old) v g ≡ Some f → IsSlotMove v unmapped mid → frames_of mid v ≡ without (frames_of unmapped v) f → state_of config new ≡ freed (state_of config mid) f
+  pub state-dropped : (mid new : Held) → IsSlotMove v unmapped mid → frames_of mid v ≡ without (frames_of unmapped v) f → state_of config new ≡ freed (state_of config mid) f
       → state_of config new ≡ dropped (state_of config old) v g (backing (mapped_at (state_of config old) v g))
-  state-dropped mid new mapped move frames state =
+  state-dropped mid new move frames state =
       state
       ∙ ap (λ (s : State). freed s f) (
       move.state config unmapped_vm vm-unmapped
       ∙ ap (λ fs. with_slot (state_of config unmapped) v (unlinked_slot unmapped_vm.slot fs)) (frames ∙ ap (λ fs. without fs f) frames-unmapped)
-      ∙ ap (λ (s : State). with_slot s v after) (state-vm config old v vm unmapped_vm at_vm)
+      ∙ ap (λ (s : State). with_slot s v after) (state-vm config old v vm unmapped_vm is.at)
       )
       ∙ ap (λ slots. record (freed m f) { slots = slots }) (set-set m.slots v (unlinked_slot unmapped_vm.slot fs) after)
-      ∙ ap (λ (t : Table). with_slot (freed m f) v (unlinked_slot (with_table vm t).slot (without fs f))) table_is
-      ∙ ap (λ (slot : Slot). with_slot (freed m f) v (record slot { frames = without slot.frames f; mapped = map.remove slot.mapped g })) (sym (slot-is config old v vm low at_vm))
-      ∙ ap (λ at. dropped m v g (backing at)) (sym mapped)
+      ∙ ap (λ (t : Table). with_slot (freed m f) v (unlinked_slot (with_table vm t).slot (without fs f))) is.is_left
+      ∙ ap (λ (slot : Slot). with_slot (freed m f) v (record slot { frames = without slot.frames f; mapped = map.remove slot.mapped g })) (sym (slot-is config old v vm is.low is.at))
+      ∙ ap (λ at. dropped m v g (backing at)) (sym is.mapped)
     where
       m : State
       m = state_of config old
@@ -82,7 +91,7 @@ module _ (config : Configuration) (old : Held) (v g f : ℕ) (vm : VmSlot) (tabl
       after = unlinked_slot unmapped_vm.slot (without fs f)
 
   pub room-unlinked : (mid : Held) → IsSlotMove v unmapped mid → IsSameRoom old mid
-  room-unlinked mid move = room-through old unmapped mid (room-vm old v vm unmapped_vm at_vm) (record { numbers = move.numbers; filled = move.filled; here = move.here })
+  room-unlinked mid move = room-through old unmapped mid (room-vm old v vm unmapped_vm is.at) (record { numbers = move.numbers; filled = move.filled; here = move.here })
 
 -- the frame that the slot's table has is the state's
 pub mapped-is : (config : Configuration) (h : Held) (v g : ℕ) (vm : VmSlot) → v < slot_count config → vm_at h v ≡ Some vm → map.get vm.slot.mapped g ≡ mapped_at (state_of config h) v g
