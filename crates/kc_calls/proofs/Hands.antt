@@ -46,8 +46,18 @@ pub map-ok : (answer : Result Unit MapFault) (fault : Option MapFault) → fault
 map-ok (Ok x) fault none is = refl
 map-ok (Err e) fault none is = let no = rw none at is in cc
 
-module _ (config : Configuration) (old : Held) (v g f : ℕ) (vm : VmSlot) (table : Table) (page new_page : Page) (table_is : table ≡ with_entry (table_of vm) g f) (linked : IsLinked config old) (low : v < slot_count config) (at_vm : vm_at old v ≡ Some vm) (at : page_at old f ≡ Some page)
-    (host : owner_at old f ≡ Host) (same : link_of new_page ≡ link_of page) (to : frame_of new_page ≡ record (frame_of page) { owner = Vm v; gfn = Some g; present = false }) where
+-- a slot's table has got a guest frame, and its frame, the host's, a new record
+pub record IsHanding (config : Configuration) (old : Held) (v g f : ℕ) (vm : VmSlot) (table : Table) (page new_page : Page) : Type 0 where
+  pub linked : IsLinked config old
+  pub low : v < slot_count config
+  pub at_vm : vm_at old v ≡ Some vm
+  pub at : page_at old f ≡ Some page
+  pub host : owner_at old f ≡ Host
+  pub maps : table ≡ with_entry (table_of vm) g f
+  pub same : link_of new_page ≡ link_of page
+  pub to : frame_of new_page ≡ record (frame_of page) { owner = Vm v; gfn = Some g; present = false }
+
+module _ (config : Configuration) (old : Held) (v g f : ℕ) (vm : VmSlot) (table : Table) (page new_page : Page) (is : IsHanding config old v g f vm table page new_page) where
   abbrev pub mapped_vm : VmSlot
   mapped_vm = with_table vm table
 
@@ -60,33 +70,33 @@ module _ (config : Configuration) (old : Held) (v g f : ℕ) (vm : VmSlot) (tabl
   owned = held.with_page mapped f new_page
 
   linked-mapped : IsLinked config mapped
-  linked-mapped = linked-vm config old v vm mapped_vm linked at_vm refl (ap (λ (t : Table). t.room) table_is)
+  linked-mapped = linked-vm config old v vm mapped_vm is.linked is.at_vm refl (ap (λ (t : Table). t.room) is.maps)
 
   loose-mapped : IsLoose mapped f
-  loose-mapped = loose-host config mapped f linked-mapped host
+  loose-mapped = loose-host config mapped f linked-mapped is.host
 
   pub loose-owned : IsLoose owned f
-  loose-owned = loose-page mapped f page new_page at same loose-mapped
+  loose-owned = loose-page mapped f page new_page is.at is.same loose-mapped
 
   pub linked-owned : IsLinked config owned
-  linked-owned = linked-moved config mapped f page new_page linked-mapped at same loose-mapped.absent (λ host. loose-mapped.alone)
+  linked-owned = linked-moved config mapped f page new_page linked-mapped is.at is.same loose-mapped.absent (λ host. loose-mapped.alone)
 
   pub owner-owned : owner_at owned f ≡ Vm v
-  owner-owned = ap (λ there. (frame_in there).owner) (page-set mapped f page new_page at) ∙ ap (λ (frame : Frame). frame.owner) to
+  owner-owned = ap (λ there. (frame_in there).owner) (page-set mapped f page new_page is.at) ∙ ap (λ (frame : Frame). frame.owner) is.to
 
   vm-owned : vm_at owned v ≡ Some mapped_vm
-  vm-owned = vm-set old v vm mapped_vm at_vm
+  vm-owned = vm-set old v vm mapped_vm is.at_vm
 
   pub state-handed : (new : Held) → IsSlotMove v owned new → frames_of new v ≡ frames_of owned v ++ f ∷ [] → f < config.frames → state_of config new ≡ hand (state_of config old) v g f
   state-handed new move frames f_low =
       move.state config mapped_vm vm-owned
       ∙ ap (λ fs. with_slot (state_of config owned) v (unlinked_slot mapped_vm.slot fs)) (frames ∙ ap (λ fs. fs ++ f ∷ []) frames-owned)
-      ∙ ap (λ (s : State). with_slot s v after) (state-page config mapped f page new_page at same ∙ ap (λ (s : State). with_frame s f (frame_of new_page)) (state-vm config old v vm mapped_vm at_vm))
+      ∙ ap (λ (s : State). with_slot s v after) (state-page config mapped f page new_page is.at is.same ∙ ap (λ (s : State). with_frame s f (frame_of new_page)) (state-vm config old v vm mapped_vm is.at_vm))
       ∙ ap (λ slots. record (with_frame m f (frame_of new_page)) { slots = slots }) (set-set m.slots v (unlinked_slot mapped_vm.slot fs) after)
-      ∙ ap (λ frame. with_slot (with_frame m f frame) v after) (to ∙ ap (λ (frame : Frame). record frame { owner = Vm v; gfn = Some g; present = false }) (sym (frame-is config old f page f_low at)))
-      ∙ ap (λ (t : Table). with_slot (with_frame m f (record (frame_at m f) { owner = Vm v; gfn = Some g; present = false })) v (unlinked_slot (with_table vm t).slot (fs ++ f ∷ []))) table_is
+      ∙ ap (λ frame. with_slot (with_frame m f frame) v after) (is.to ∙ ap (λ (frame : Frame). record frame { owner = Vm v; gfn = Some g; present = false }) (sym (frame-is config old f page f_low is.at)))
+      ∙ ap (λ (t : Table). with_slot (with_frame m f (record (frame_at m f) { owner = Vm v; gfn = Some g; present = false })) v (unlinked_slot (with_table vm t).slot (fs ++ f ∷ []))) is.maps
       ∙ ap (λ (slot : Slot). with_slot (with_frame m f (record (frame_at m f) { owner = Vm v; gfn = Some g; present = false })) v (record slot { frames = slot.frames ++ f ∷ []; mapped = map.insert slot.mapped g f; leaves = with_leaf slot.leaves g }))
-      (sym (slot-is config old v vm low at_vm))
+      (sym (slot-is config old v vm is.low is.at_vm))
     where
       m : State
       m = state_of config old
@@ -98,10 +108,10 @@ module _ (config : Configuration) (old : Held) (v g f : ℕ) (vm : VmSlot) (tabl
       after = unlinked_slot mapped_vm.slot (fs ++ f ∷ [])
 
       frames-owned : frames_of owned v ≡ fs
-      frames-owned = frames-here owned v mapped_vm vm-owned ∙ ap (λ links. listed links vm.slot.ends) (links-kept mapped f page new_page at same)
+      frames-owned = frames-here owned v mapped_vm vm-owned ∙ ap (λ links. listed links vm.slot.ends) (links-kept mapped f page new_page is.at is.same)
 
   pub room-handed : (new : Held) → IsSlotMove v owned new → IsSameRoom old new
-  room-handed new move = room-through old owned new (room-through old mapped owned (room-vm old v vm mapped_vm at_vm) (room-page mapped f page new_page at)) (record { numbers = move.numbers; filled = move.filled; here = move.here })
+  room-handed new move = room-through old owned new (room-through old mapped owned (room-vm old v vm mapped_vm is.at_vm) (room-page mapped f page new_page is.at)) (record { numbers = move.numbers; filled = move.filled; here = move.here })
 
 -- an answer without a refusal
 pub answers-ok : {X : Type 0} (answer : Result X Refusal) (why : Option Refusal) → why ≡ None → refusals.Answers answer why → IsOk answer

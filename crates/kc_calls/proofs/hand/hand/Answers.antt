@@ -1,77 +1,50 @@
-use Rattle.std.proofs.Common.{◌≡◌, Some, is_some, refl, sym, ap}
-use Rattle.kc_stage2.specs.Table.{with_entry}
-use Rattle.kc_vms.specs.Slots.{table_of}
-use Rattle.kc_parts.specs.Held.{page_at, vm_at}
+use Rattle.std.proofs.Common.{◌≡◌, false, Some, is_some, refl, sym, ap}
+use Rattle.kc_types.specs.declared.owner.Owner.TheVariants.{Vm}
+use Rattle.kc_parts.specs.Held.{vm_at}
 use Rattle.kc_parts.specs.States.{state_of}
 use Rattle.kc_refusals.proofs.Looked.{slot-is}
-use Rattle.kc_calls.proofs.Hands.{map-fits, map-ok, loose-owned, owner-owned, linked-owned, state-handed, room-handed}
+use Rattle.kc_calls.proofs.Hands.{IsHanding, map-fits, map-ok, loose-owned, owner-owned, linked-owned, state-handed, room-handed}
 use Rattle.kc_calls.proofs.hand.hand.Goals as goal
+use Rattle.kc_calls.proofs.hand.hand.Goals.{After-unwrap-slot, After-unwrap-page}
+
+at_vm : (c : After-unwrap-slot) → vm_at c.args.parts.now c.args.vm ≡ Some c.unwrap-slot.result.now
+at_vm c = sym (rw c.unwrap-slot.ensures at c.vm_mut.ensures.value)
+
+handing : (c : After-unwrap-page) → IsHanding c.args.config.now c.args.parts.now c.args.vm c.args.gfn c.args.frame c.unwrap-slot.result.now c.map.new.self c.unwrap-page.result.now
+    (record c.unwrap-page.result.now { meta = record c.unwrap-page.result.now.meta { owner = Vm c.args.vm; gfn = Some c.args.gfn; present = false } })
+handing c = record {
+  linked = c.requires.linked;
+  low = c.requires.exists;
+  at_vm = at_vm (goal.at.After-unwrap-page c).After-unwrap-slot;
+  at = sym (rw c.unwrap-page.ensures at c.frame_mut.ensures.value);
+  host = c.requires.host;
+  maps = rw (c.unwrap.ensures, c.table_mut.ensures.value) at c.map.ensures.ok;
+  same = refl;
+  to = refl;
+}
 
 pub unwrap-requires : goal.unwrap-requires
 unwrap-requires c =
-    let old = c.args.parts.now in
-    let vm = c.unwrap-slot.result.now in
-    let at_vm : vm_at old c.args.vm ≡ Some vm = sym (rw c.unwrap-slot.ensures at c.vm_mut.ensures.value) in
-    let m = state_of c.args.config.now old in
-    map-ok c.map.result _ (map-fits m c.args.vm c.args.gfn vm _ (slot-is c.args.config.now old c.args.vm vm c.requires.exists at_vm) (c.requires.linked.vms c.args.vm vm at_vm) c.requires.unmapped c.requires.fits)
+    let at = at_vm (goal.at.unwrap-requires c).After-unwrap-slot in
+    map-ok _ _ (map-fits (state_of c.args.config.now c.args.parts.now) c.args.vm c.args.gfn c.unwrap-slot.result.now _ (slot-is c.args.config.now c.args.parts.now _ c.unwrap-slot.result.now c.requires.exists at) (c.requires.linked.vms _ _ at) c.requires.unmapped c.requires.fits)
     (rw c.table_mut.ensures.value at c.map.ensures.answer)
 
 pub append_vm-requires-clause-lists : goal.append_vm-requires-clause-lists
-append_vm-requires-clause-lists c =
-    let old = c.args.parts.now in
-    let vm = c.unwrap-slot.result.now in
-    let page = c.unwrap-page.result.now in
-    let at_vm : vm_at old c.args.vm ≡ Some vm = sym (rw c.unwrap-slot.ensures at c.vm_mut.ensures.value) in
-    let at : page_at old c.args.frame ≡ Some page = sym (rw c.unwrap-page.ensures at c.frame_mut.ensures.value) in
-    let table : c.map.new.self ≡ with_entry (table_of vm) c.args.gfn c.args.frame = rw (c.unwrap.ensures, c.table_mut.ensures.value) at c.map.ensures.ok in
-    (linked-owned c.args.config.now old c.args.vm c.args.gfn c.args.frame vm c.map.new.self page _ table c.requires.linked c.requires.exists at_vm at c.requires.host refl refl).lists
+append_vm-requires-clause-lists c = (linked-owned _ _ _ _ _ _ _ _ _ (handing (goal.at.append_vm-requires-clause-lists c).After-unwrap-page)).lists
 
 pub append_vm-requires-clause-loose : goal.append_vm-requires-clause-loose
-append_vm-requires-clause-loose c =
-    let old = c.args.parts.now in
-    let vm = c.unwrap-slot.result.now in
-    let page = c.unwrap-page.result.now in
-    let at_vm : vm_at old c.args.vm ≡ Some vm = sym (rw c.unwrap-slot.ensures at c.vm_mut.ensures.value) in
-    let at : page_at old c.args.frame ≡ Some page = sym (rw c.unwrap-page.ensures at c.frame_mut.ensures.value) in
-    let table : c.map.new.self ≡ with_entry (table_of vm) c.args.gfn c.args.frame = rw (c.unwrap.ensures, c.table_mut.ensures.value) at c.map.ensures.ok in
-    loose-owned c.args.config.now old c.args.vm c.args.gfn c.args.frame vm c.map.new.self page _ table c.requires.linked c.requires.exists at_vm at c.requires.host refl refl
+append_vm-requires-clause-loose c = loose-owned _ _ _ _ _ _ _ _ _ (handing (goal.at.append_vm-requires-clause-loose c).After-unwrap-page)
 
 pub append_vm-requires-clause-mine : goal.append_vm-requires-clause-mine
-append_vm-requires-clause-mine c =
-    let old = c.args.parts.now in
-    let vm = c.unwrap-slot.result.now in
-    let page = c.unwrap-page.result.now in
-    let at_vm : vm_at old c.args.vm ≡ Some vm = sym (rw c.unwrap-slot.ensures at c.vm_mut.ensures.value) in
-    let at : page_at old c.args.frame ≡ Some page = sym (rw c.unwrap-page.ensures at c.frame_mut.ensures.value) in
-    let table : c.map.new.self ≡ with_entry (table_of vm) c.args.gfn c.args.frame = rw (c.unwrap.ensures, c.table_mut.ensures.value) at c.map.ensures.ok in
-    owner-owned c.args.config.now old c.args.vm c.args.gfn c.args.frame vm c.map.new.self page _ table c.requires.linked c.requires.exists at_vm at c.requires.host refl refl
+append_vm-requires-clause-mine c = owner-owned _ _ _ _ _ _ _ _ _ (handing (goal.at.append_vm-requires-clause-mine c).After-unwrap-page)
 
 pub returns-clause-state : goal.returns-clause-state
 returns-clause-state c =
-    let old = c.args.parts.now in
-    let vm = c.unwrap-slot.result.now in
-    let page = c.unwrap-page.result.now in
-    let at_vm : vm_at old c.args.vm ≡ Some vm = sym (rw c.unwrap-slot.ensures at c.vm_mut.ensures.value) in
-    let at : page_at old c.args.frame ≡ Some page = sym (rw c.unwrap-page.ensures at c.frame_mut.ensures.value) in
-    let table : c.map.new.self ≡ with_entry (table_of vm) c.args.gfn c.args.frame = rw (c.unwrap.ensures, c.table_mut.ensures.value) at c.map.ensures.ok in
-    state-handed c.args.config.now old c.args.vm c.args.gfn c.args.frame vm c.map.new.self page _ table c.requires.linked c.requires.exists at_vm at c.requires.host refl refl c.append_vm.new.self c.append_vm.ensures.rest c.append_vm.ensures.frames (c.requires.linked.frames c.args.frame (ap is_some at))
+    let is = handing (goal.at.returns-clause-state c).After-unwrap-page in
+    state-handed _ _ _ _ _ _ _ _ _ is c.append_vm.new.self c.append_vm.ensures.rest c.append_vm.ensures.frames (c.requires.linked.frames c.args.frame (ap is_some is.at))
 
 pub returns-clause-linked : goal.returns-clause-linked
-returns-clause-linked c =
-    let old = c.args.parts.now in
-    let vm = c.unwrap-slot.result.now in
-    let page = c.unwrap-page.result.now in
-    let at_vm : vm_at old c.args.vm ≡ Some vm = sym (rw c.unwrap-slot.ensures at c.vm_mut.ensures.value) in
-    let at : page_at old c.args.frame ≡ Some page = sym (rw c.unwrap-page.ensures at c.frame_mut.ensures.value) in
-    let table : c.map.new.self ≡ with_entry (table_of vm) c.args.gfn c.args.frame = rw (c.unwrap.ensures, c.table_mut.ensures.value) at c.map.ensures.ok in
-    c.append_vm.ensures.rest.linked c.args.config.now (linked-owned c.args.config.now old c.args.vm c.args.gfn c.args.frame vm c.map.new.self page _ table c.requires.linked c.requires.exists at_vm at c.requires.host refl refl)
+returns-clause-linked c = c.append_vm.ensures.rest.linked _ (linked-owned _ _ _ _ _ _ _ _ _ (handing (goal.at.returns-clause-linked c).After-unwrap-page))
 
 pub returns-clause-room : goal.returns-clause-room
-returns-clause-room c =
-    let old = c.args.parts.now in
-    let vm = c.unwrap-slot.result.now in
-    let page = c.unwrap-page.result.now in
-    let at_vm : vm_at old c.args.vm ≡ Some vm = sym (rw c.unwrap-slot.ensures at c.vm_mut.ensures.value) in
-    let at : page_at old c.args.frame ≡ Some page = sym (rw c.unwrap-page.ensures at c.frame_mut.ensures.value) in
-    let table : c.map.new.self ≡ with_entry (table_of vm) c.args.gfn c.args.frame = rw (c.unwrap.ensures, c.table_mut.ensures.value) at c.map.ensures.ok in
-    room-handed c.args.config.now old c.args.vm c.args.gfn c.args.frame vm c.map.new.self page _ table c.requires.linked c.requires.exists at_vm at c.requires.host refl refl c.append_vm.new.self c.append_vm.ensures.rest
+returns-clause-room c = room-handed _ _ _ _ _ _ _ _ _ (handing (goal.at.returns-clause-room c).After-unwrap-page) c.append_vm.new.self c.append_vm.ensures.rest
