@@ -1,59 +1,58 @@
-use Rattle.std.proofs.Common.{◌≡◌, Some, refl, sym, ap, ◌∙◌}
-use Rattle.kc_model.specs.State.{Frame}
+use Rattle.std.proofs.Common.{◌≡◌, ◌<◌, Some, refl, sym, ap, ◌∙◌}
+use Rattle.kc_model.specs.State.{Frame, frame_at}
 use Rattle.kc_types.specs.declared.owner.Owner.TheVariants.{Host}
 use Rattle.kc_parts.specs.Held.{page_at}
-use Rattle.kc_parts.specs.States.{state_of, frame_in, owner_at}
+use Rattle.kc_parts.specs.States.{state_of, frame_in, IsLoose}
 use Rattle.kc_parts.proofs.Pages.{page-set}
 use Rattle.kc_parts.proofs.Seen.{linked-moved, frame-seen}
 use Rattle.kc_calls.proofs.Frames.{some-lent, there, room-page, room-move, room-through}
 use Rattle.kc_calls.proofs.Hosts.{give-served, give-touched, loose-host, loose-page, state-given}
 use Rattle.kc_calls.proofs.host.give.Goals as goal
+use Rattle.kc_calls.proofs.host.give.Goals.{After-unwrap-frame, After-unwrap-page}
+
+is_frame : (c : After-unwrap-frame) → c.unwrap-frame.result ≡ c.args.frame
+is_frame c = rw c.unwrap-frame.ensures at c.frame.ensures.value
+
+-- the frame exists, and is the host's
+seen : (c : After-unwrap-frame) → (c.unwrap-frame.result < c.args.config.now.frames) × ((frame_at (state_of c.args.config.now c.args.parts.now) c.unwrap-frame.result).owner ≡ Host)
+seen c = rw (is_frame c) (give-served (state_of c.args.config.now c.args.parts.now) _ c.requires.served)
+
+loose : (c : After-unwrap-frame) → IsLoose c.args.parts.now c.unwrap-frame.result
+loose c = loose-host _ _ _ c.requires.linked (sym (ap (λ (frame : Frame). frame.owner) (frame-seen c.args.config.now c.args.parts.now _ (seen c).0)) ∙ (seen c).1)
+
+at : (c : After-unwrap-page) → page_at c.args.parts.now c.unwrap-frame.result ≡ Some c.unwrap-page.result.now
+at c = sym (rw c.unwrap-page.ensures at c.frame_mut.ensures.value)
 
 pub unwrap-page-requires : goal.unwrap-page-requires
 unwrap-page-requires c =
-    let is : c.unwrap-frame.result ≡ c.args.frame = rw c.unwrap-frame.ensures at c.frame.ensures.value in
-    let m = state_of c.args.config.now c.args.parts.now in
-    some-lent c.frame_mut.result _ c.frame_mut.ensures.value (rw is (there c.args.config.now c.args.parts.now c.args.frame (give-served m c.args.frame c.requires.served).0 (give-touched m c.args.frame c.requires.served)))
+    let k = (goal.at.unwrap-page-requires c).After-unwrap-frame in
+    some-lent _ _ c.frame_mut.ensures.value (there c.args.config.now c.args.parts.now _ (seen k).0 (rw (is_frame k) (give-touched (state_of c.args.config.now c.args.parts.now) _ c.requires.served)))
 
 pub append_free-requires-clause-lists : goal.append_free-requires-clause-lists
 append_free-requires-clause-lists c =
-    let is : c.unwrap-frame.result ≡ c.args.frame = rw c.unwrap-frame.ensures at c.frame.ensures.value in
-    let at : page_at c.args.parts.now c.unwrap-frame.result ≡ Some c.unwrap-page.result.now = sym (rw c.unwrap-page.ensures at c.frame_mut.ensures.value) in
-    let m = state_of c.args.config.now c.args.parts.now in
-    let host : owner_at c.args.parts.now c.unwrap-frame.result ≡ Host = rw is (sym (ap (λ (frame : Frame). frame.owner) (frame-seen c.args.config.now c.args.parts.now c.args.frame (give-served m c.args.frame c.requires.served).0)) ∙ (give-served m c.args.frame c.requires.served).1) in
-    let loose = loose-host c.args.config.now c.args.parts.now c.unwrap-frame.result c.requires.linked host in
-    (linked-moved c.args.config.now c.args.parts.now c.unwrap-frame.result c.unwrap-page.result.now _ c.requires.linked at refl loose.absent (λ host. loose.alone)).lists
+    let k = goal.at.append_free-requires-clause-lists c in
+    let is = loose k.After-unwrap-frame in
+    (linked-moved c.args.config.now _ _ _ _ c.requires.linked (at k.After-unwrap-page) refl is.absent (λ host. is.alone)).lists
 
 pub append_free-requires-clause-loose : goal.append_free-requires-clause-loose
 append_free-requires-clause-loose c =
-    let is : c.unwrap-frame.result ≡ c.args.frame = rw c.unwrap-frame.ensures at c.frame.ensures.value in
-    let at : page_at c.args.parts.now c.unwrap-frame.result ≡ Some c.unwrap-page.result.now = sym (rw c.unwrap-page.ensures at c.frame_mut.ensures.value) in
-    let m = state_of c.args.config.now c.args.parts.now in
-    let host : owner_at c.args.parts.now c.unwrap-frame.result ≡ Host = rw is (sym (ap (λ (frame : Frame). frame.owner) (frame-seen c.args.config.now c.args.parts.now c.args.frame (give-served m c.args.frame c.requires.served).0)) ∙ (give-served m c.args.frame c.requires.served).1) in
-    loose-page c.args.parts.now c.unwrap-frame.result c.unwrap-page.result.now _ at refl (loose-host c.args.config.now c.args.parts.now c.unwrap-frame.result c.requires.linked host)
+    let k = goal.at.append_free-requires-clause-loose c in
+    loose-page _ _ _ _ (at k.After-unwrap-page) refl (loose k.After-unwrap-frame)
 
 pub append_free-requires-clause-free : goal.append_free-requires-clause-free
-append_free-requires-clause-free c =
-    let at : page_at c.args.parts.now c.unwrap-frame.result ≡ Some c.unwrap-page.result.now = sym (rw c.unwrap-page.ensures at c.frame_mut.ensures.value) in
-    ap (λ there. (frame_in there).owner) (page-set c.args.parts.now c.unwrap-frame.result c.unwrap-page.result.now _ at)
+append_free-requires-clause-free c = ap (λ there. (frame_in there).owner) (page-set c.args.parts.now c.unwrap-frame.result c.unwrap-page.result.now _ (at (goal.at.append_free-requires-clause-free c).After-unwrap-page))
 
 pub returns-clause-state : goal.returns-clause-state
 returns-clause-state c =
-    let is : c.unwrap-frame.result ≡ c.args.frame = rw c.unwrap-frame.ensures at c.frame.ensures.value in
-    let at : page_at c.args.parts.now c.unwrap-frame.result ≡ Some c.unwrap-page.result.now = sym (rw c.unwrap-page.ensures at c.frame_mut.ensures.value) in
-    let m = state_of c.args.config.now c.args.parts.now in
-    rw (← is) (state-given c.args.config.now c.args.parts.now c.append_free.new.self c.unwrap-frame.result c.unwrap-page.result.now _ (rw is (give-served m c.args.frame c.requires.served).0) at refl (rw c.scrub.ensures refl) c.append_free.ensures.rest c.append_free.ensures.frames)
+    let k = goal.at.returns-clause-state c in
+    rw (← is_frame k.After-unwrap-frame)
+    (state-given _ c.args.parts.now c.append_free.new.self _ _ _ (seen k.After-unwrap-frame).0 (at k.After-unwrap-page) refl (rw c.scrub.ensures refl) c.append_free.ensures.rest c.append_free.ensures.frames)
 
 pub returns-clause-linked : goal.returns-clause-linked
 returns-clause-linked c =
-    let is : c.unwrap-frame.result ≡ c.args.frame = rw c.unwrap-frame.ensures at c.frame.ensures.value in
-    let at : page_at c.args.parts.now c.unwrap-frame.result ≡ Some c.unwrap-page.result.now = sym (rw c.unwrap-page.ensures at c.frame_mut.ensures.value) in
-    let m = state_of c.args.config.now c.args.parts.now in
-    let host : owner_at c.args.parts.now c.unwrap-frame.result ≡ Host = rw is (sym (ap (λ (frame : Frame). frame.owner) (frame-seen c.args.config.now c.args.parts.now c.args.frame (give-served m c.args.frame c.requires.served).0)) ∙ (give-served m c.args.frame c.requires.served).1) in
-    let loose = loose-host c.args.config.now c.args.parts.now c.unwrap-frame.result c.requires.linked host in
-    c.append_free.ensures.rest.linked c.args.config.now (linked-moved c.args.config.now c.args.parts.now c.unwrap-frame.result c.unwrap-page.result.now _ c.requires.linked at refl loose.absent (λ host. loose.alone))
+    let k = goal.at.returns-clause-linked c in
+    let is = loose k.After-unwrap-frame in
+    c.append_free.ensures.rest.linked _ (linked-moved _ _ _ _ _ c.requires.linked (at k.After-unwrap-page) refl is.absent (λ host. is.alone))
 
 pub returns-clause-room : goal.returns-clause-room
-returns-clause-room c =
-    let at : page_at c.args.parts.now c.unwrap-frame.result ≡ Some c.unwrap-page.result.now = sym (rw c.unwrap-page.ensures at c.frame_mut.ensures.value) in
-    room-through c.args.parts.now _ c.append_free.new.self (room-page c.args.parts.now c.unwrap-frame.result c.unwrap-page.result.now _ at) (room-move _ c.append_free.new.self c.append_free.ensures.rest)
+returns-clause-room c = room-through _ _ _ (room-page _ _ _ _ (at (goal.at.returns-clause-room c).After-unwrap-page)) (room-move _ _ c.append_free.ensures.rest)
