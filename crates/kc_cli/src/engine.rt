@@ -71,10 +71,7 @@ pub fn replay_text<C: Source, T: Source, K: Sink>(
     if workers != 1 {
         return Err(TextFault::Workers);
     }
-    let (config, calls) = match read_both(alloc, config, trace) {
-        Ok(read) => read,
-        Err(fault) => return Err(fault),
-    };
+    let (config, calls) = read_both(alloc, config, trace)?;
     let Ok(replies) = replies_to(alloc, config, calls) else {
         return Err(TextFault::Memory);
     };

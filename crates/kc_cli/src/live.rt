@@ -180,14 +180,8 @@ pub fn live_text<C: Source, T: Source, K: Sink, G: Gate + Sync, R: Threads + Wai
     if workers != 1 {
         return Err(TextFault::Workers);
     }
-    let (config, calls) = match read_both(alloc, config, trace) {
-        Ok(read) => read,
-        Err(fault) => return Err(fault),
-    };
-    let made = match made_live(rt, alloc, config, calls, gate) {
-        Ok(made) => made,
-        Err(fault) => return Err(fault),
-    };
+    let (config, calls) = read_both(alloc, config, trace)?;
+    let made = made_live(rt, alloc, config, calls, gate)?;
     // All memory that writing takes is there before the first byte is written.
     let Ok(piece) = empty_piece(alloc) else {
         return Err(TextFault::Memory);

@@ -24,3 +24,15 @@ fn copies_are_equal(rt: HostRuntime) -> Result<(), Fail> {
     assert_eq!(rt; config.copy()?, config);
     Ok(())
 }
+
+#[test]
+fn room_holds_a_reply(rt: HostRuntime) -> Result<(), Fail> {
+    let call = Call::HostRead {
+        frame: 1,
+        offset: 0,
+        len: 4_096,
+    };
+    let spare = call.spare(rt.alloc())?;
+    assert_eq!(rt; Reply::Fault(7).copy_into(spare), Reply::Fault(7));
+    Ok(())
+}

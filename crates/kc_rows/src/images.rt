@@ -1,5 +1,5 @@
 //! Boot images of whole pages and of a byte more, the largest images, and the largest table.
-
+use crate::support::answers;
 use kc_core::KCore;
 use kc_types::{Call, Config, Data, Refusal, Reply};
 use sha2::{Digest, Sha256};
@@ -59,16 +59,11 @@ fn hand_over_pages(
     Some(())
 }
 
-/// A VM whose one image fills two frames, 1 and 2, with this many bytes of `ff`, and what verifying it answers.
+/// A VM whose one image fills these frames from 1 on with this many bytes of `ff`, and what verifying it answers.
 fn booted(alloc: Global, len: u32, pages: u32) -> Option<(KCore, Reply)> {
     let mut core = core_of(alloc, 4, 3, 1, len as usize)?;
-    core.call(&Call::RegisterVm { vm: 0 }).ok()?;
-    core.call(&Call::SetBoot {
-        vm: 0,
-        base: 0,
-        len,
-    })
-    .ok()?;
+    let lines = format!(in alloc; "regvm 0\nsetboot 0 0 {len}\n").ok()?;
+    answers(alloc, &mut core, lines.as_str())?;
     hand_over_pages(alloc, &mut core, 0, 1, pages)?;
     let reply = core.call(&Call::Verify { vm: 0 }).ok()?;
     Some((core, reply))
@@ -106,24 +101,14 @@ fn a_byte_more_leaves_a_byte_of_the_second_page(rt: HostRuntime) {
     }
 }
 
-/// Describes an image of the greatest length, and hands over its pages.
-fn largest_image(alloc: Global, core: &mut KCore, image: u32) -> Option<()> {
-    let base = image.checked_mul(256)?;
-    core.call(&Call::SetBoot {
-        vm: 0,
-        base,
-        len: 1_048_576,
-    })
-    .ok()?;
-    hand_over_pages(alloc, core, image, base.checked_add(1)?, 256)
-}
-
 /// What verifying four images of the greatest length answers.
 fn four_largest_images(alloc: Global) -> Option<Reply> {
     let mut core = core_of(alloc, 1_025, 1_024, 2, 1_048_576)?;
-    core.call(&Call::RegisterVm { vm: 0 }).ok()?;
+    let lines =
+        "regvm 0\nsetboot 0 0 1048576\nsetboot 0 256 1048576\nsetboot 0 512 1048576\nsetboot 0 768 1048576\n";
+    answers(alloc, &mut core, lines)?;
     for image in 0..4 {
-        largest_image(alloc, &mut core, image)?;
+        hand_over_pages(alloc, &mut core, image, image * 256 + 1, 256)?;
     }
     core.call(&Call::Verify { vm: 0 }).ok()
 }
@@ -136,41 +121,23 @@ fn four_images_of_the_greatest_length(rt: HostRuntime) {
 /// An active VM with an image of one byte at guest frame 0, and its first virtual processor.
 fn active(alloc: Global) -> Option<KCore> {
     let mut core = core_of(alloc, 67, 66, 64, 1)?;
-    core.call(&Call::RegisterVm { vm: 0 }).ok()?;
-    core.call(&Call::RegisterVcpu { vm: 0, vcpu: 0 }).ok()?;
-    core.call(&Call::SetBoot {
-        vm: 0,
-        base: 0,
-        len: 1,
-    })
-    .ok()?;
+    answers(alloc, &mut core, "regvm 0\nregvcpu 0 0\nsetboot 0 0 1\n")?;
     hand_over(alloc, &mut core, 0, 1)?;
-    core.call(&Call::Verify { vm: 0 }).ok()?;
+    answers(alloc, &mut core, "verify 0\n")?;
     Some(core)
 }
 
 /// Touches the second guest frame of a root slot, and supplies a frame there.
-fn supply(core: &mut KCore, root: u32, frame: u32) -> Option<Reply> {
-    core.call(&Call::GuestRead {
-        vm: 0,
-        vcpu: 0,
-        gfn: root.checked_mul(512)?.checked_add(1)?,
-        offset: 0,
-        len: 1,
-    })
-    .ok()?;
-    core.call(&Call::Map {
-        vm: 0,
-        vcpu: 0,
-        frame,
-    })
-    .ok()
+fn supply(alloc: Global, core: &mut KCore, root: u32, frame: u32) -> Option<Reply> {
+    let gfn = root.checked_mul(512)?.checked_add(1)?;
+    let lines = format!(in alloc; "gread 0 0 {gfn} 0 1\nmap 0 0 {frame}\n").ok()?;
+    answers(alloc, core, lines.as_str())?.pop()
 }
 
 /// How many root slots from the first on were supplied, one frame each.
-fn supplied(core: &mut KCore) -> Option<u32> {
+fn supplied(alloc: Global, core: &mut KCore) -> Option<u32> {
     for root in 0..65 {
-        if supply(core, root, root.checked_add(2)?)? != Reply::Done {
+        if supply(alloc, core, root, root.checked_add(2)?)? != Reply::Done {
             return Some(root);
         }
     }
@@ -179,12 +146,13 @@ fn supplied(core: &mut KCore) -> Option<u32> {
 
 #[test]
 fn a_leaf_for_each_of_64_root_slots(rt: HostRuntime) {
-    let core = active(rt.alloc());
+    let alloc = rt.alloc();
+    let core = active(alloc);
     assert!(rt; core.is_some());
     if let Some(mut core) = core {
-        assert_eq!(rt; supplied(&mut core), Some(64));
+        assert_eq!(rt; supplied(alloc, &mut core), Some(64));
         assert_eq!(rt;
-            supply(&mut core, 64, 66),
+            supply(alloc, &mut core, 64, 66),
             Some(Reply::Refused(Refusal::TablesFull))
         );
     }

@@ -8,6 +8,8 @@ mod copies;
 #[cfg(test)]
 mod ends;
 #[cfg(test)]
+mod gates;
+#[cfg(test)]
 mod images;
 #[cfg(test)]
 mod live;

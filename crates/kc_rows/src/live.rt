@@ -1,4 +1,5 @@
 //! Which programs run live, and which are refused before.
+use crate::support::{calls_of, config};
 use kc_live::{LiveCause, LiveCore, LiveFault, LiveStop, Program, Seat, run_live};
 use kc_replay::OpenGate;
 use kc_types::{Actor, Call, Config};
@@ -8,96 +9,74 @@ use std::test::Fail;
 use std::thread::Threads;
 
 mod gated;
-mod gates;
 mod stories;
 
 /// 8 frames, of which 0 is the core's, 1 to 4 are the host's and the rest is free.
-pub fn config(alloc: Global) -> Result<Config, Fail> {
-    Ok(
-        Config::try_new(8, 1, 4, 1, Vec::new(alloc))
-            .ok()
-            .ok_or("no configuration")?,
-    )
+fn small(alloc: Global) -> Option<Config> {
+    config(alloc, 8, 4)
 }
 
-/// A program of an actor that takes a frame so often.
-fn takes(alloc: Global, actor: Actor, count: u32) -> Result<Program, Fail> {
-    let mut program = Program::new(actor, Vec::new(alloc));
-    for _ in 0..count {
-        program.add(Call::Take)?;
+/// A program of each actor, which makes the calls of a trace whose header is left out.
+fn programs(alloc: Global, actors: &[(Actor, &str)]) -> Option<Vec<Program>> {
+    let mut programs = Vec::new(alloc);
+    for (actor, lines) in actors {
+        let program = Program::new(*actor, calls_of(alloc, lines)?);
+        programs.push(program).ok()?;
     }
-    Ok(program)
+    Some(programs)
 }
 
-/// Why the second program does not run beside the first, which takes one frame.
-fn cause_beside<R: Threads + Wait + Sync>(
+/// Programs of which the second takes a frame so often more.
+fn with_takes(alloc: Global, actors: &[(Actor, &str); 2], takes: u32) -> Option<Vec<Program>> {
+    let mut programs = programs(alloc, actors)?;
+    let second = programs.last_mut()?;
+    for _ in 0..takes {
+        second.add(Call::Take).ok()?;
+    }
+    Some(programs)
+}
+
+/// Why programs do not run, of which the second takes a frame so often more.
+fn cause<R: Threads + Wait + Sync>(
     rt: &R,
     alloc: Global,
-    other: Program,
-) -> Result<LiveCause, Fail> {
-    let mut programs = Vec::new(alloc);
-    programs.push(takes(alloc, Actor::Host, 1)?)?;
-    programs.push(other)?;
-    match run_live(rt, alloc, config(alloc)?, programs, &OpenGate) {
-        Ok(_) => Err(Fail::from("it ran")),
+    actors: &[(Actor, &str); 2],
+    takes: u32,
+) -> Option<LiveCause> {
+    let programs = with_takes(alloc, actors, takes)?;
+    match run_live(rt, alloc, small(alloc)?, programs, &OpenGate) {
         Err(
             LiveStop {
                 cause,
                 history: None,
             },
-        ) => Ok(cause),
-        Err(_) => Err(Fail::from("it left a history")),
+        ) => Some(cause),
+        _ => None,
     }
 }
 
+/// An actor runs once, its slot and its virtual processor exist, its calls are its own, and a history has no more than
+/// 65,536 calls.
 #[test]
-fn an_actor_runs_once(rt: HostRuntime) -> Result<(), Fail> {
-    let alloc = rt.alloc();
-    let again = takes(alloc, Actor::Host, 1)?;
-    assert_eq!(rt; cause_beside(&rt, alloc, again)?, LiveCause::BadActor(1));
-    Ok(())
-}
-
-#[test]
-fn a_slot_exists(rt: HostRuntime) -> Result<(), Fail> {
-    let alloc = rt.alloc();
-    let no_slot = takes(alloc, Actor::Vcpu(16, 0), 0)?;
-    assert_eq!(rt; cause_beside(&rt, alloc, no_slot)?, LiveCause::BadActor(1));
-    Ok(())
-}
-
-#[test]
-fn a_virtual_processor_exists(rt: HostRuntime) -> Result<(), Fail> {
-    let alloc = rt.alloc();
-    let no_vcpu = takes(alloc, Actor::Vcpu(0, 8), 0)?;
-    assert_eq!(rt; cause_beside(&rt, alloc, no_vcpu)?, LiveCause::BadActor(1));
-    Ok(())
-}
-
-#[test]
-fn calls_are_the_actors_own(rt: HostRuntime) -> Result<(), Fail> {
-    let alloc = rt.alloc();
-    let not_its_own = takes(alloc, Actor::Vcpu(0, 0), 65_537)?;
-    assert_eq!(rt;
-        cause_beside(&rt, alloc, not_its_own)?,
-        LiveCause::NotYours(1, 0)
-    );
-    Ok(())
-}
-
-#[test]
-fn a_history_has_no_more_than_65_536_calls(rt: HostRuntime) -> Result<(), Fail> {
-    let alloc = rt.alloc();
-    let too_many = takes(alloc, Actor::Vcpu(0, 0), 0)?;
-    let mut programs = Vec::new(alloc);
-    programs.push(too_many)?;
-    programs.push(takes(alloc, Actor::Host, 65_537)?)?;
-    match run_live(&rt, alloc, config(alloc)?, programs, &OpenGate) {
-        Ok(_) => Err(Fail::from("it ran")),
-        Err(stop) => {
-            assert_eq!(rt; stop.cause, LiveCause::HistoryFull);
-            Ok(())
-        }
+fn programs_that_do_not_run(rt: HostRuntime) {
+    let takes = (Actor::Host, "take\n");
+    let cases = [
+        ([takes, takes], 0, LiveCause::BadActor(1)),
+        ([takes, (Actor::Vcpu(16, 0), "")], 0, LiveCause::BadActor(1)),
+        ([takes, (Actor::Vcpu(0, 8), "")], 0, LiveCause::BadActor(1)),
+        (
+            [takes, (Actor::Vcpu(0, 0), "")],
+            65_537,
+            LiveCause::NotYours(1, 0),
+        ),
+        (
+            [(Actor::Vcpu(0, 0), ""), takes],
+            65_536,
+            LiveCause::HistoryFull,
+        ),
+    ];
+    for (actors, takes, wanted) in cases {
+        assert_eq!(rt; cause(&rt, rt.alloc(), &actors, takes), Some(wanted));
     }
 }
 
@@ -114,7 +93,7 @@ fn call_often<R: Wait>(rt: &R, core: &LiveCore, seat: &mut Seat, count: u32) -> 
 #[test]
 fn a_seat_has_no_more_than_65_536_calls(rt: HostRuntime) -> Result<(), Fail> {
     let alloc = rt.alloc();
-    let core = LiveCore::new(alloc, config(alloc)?)?;
+    let core = LiveCore::new(alloc, small(alloc).ok_or("no configuration")?)?;
     let mut seat = Seat::new(alloc, Actor::Host);
     assert!(rt; call_often(&rt, &core, &mut seat, 65_536));
     let once_more = core.call(&rt, &mut seat, Call::HostFault { frame: 0 });
@@ -126,7 +105,7 @@ fn a_seat_has_no_more_than_65_536_calls(rt: HostRuntime) -> Result<(), Fail> {
 #[test]
 fn a_seat_makes_its_own_calls(rt: HostRuntime) -> Result<(), Fail> {
     let alloc = rt.alloc();
-    let core = LiveCore::new(alloc, config(alloc)?)?;
+    let core = LiveCore::new(alloc, small(alloc).ok_or("no configuration")?)?;
     let mut other = Seat::new(alloc, Actor::Vcpu(0, 0));
     let not_its_own = core.call(&rt, &mut other, Call::Take);
     assert_eq!(rt; not_its_own, Err(LiveFault::NotYours));

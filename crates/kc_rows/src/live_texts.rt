@@ -1,48 +1,14 @@
 //! Live runs from text to text.
+use crate::gates::Hold;
 use crate::support::SMALL;
 use kc_cli::{Mem, TextFault, live_text};
 use kc_replay::{Gate, OpenGate};
 use kc_trace::TraceFault;
-use kc_types::{Call, Reply};
 use std::alloc::{AllocError, Global};
-use std::rt::Clock;
 use std::sync::Wait;
 use std::sync::atomic::{AtomicBool, Ordering};
 use std::test::Fail;
-use std::thread::{self, Threads};
-use std::time::Duration;
-
-/// How often the gate looks before it gives up, each time after 1 ms.
-const TURNS: u32 = 10_000;
-
-/// Holds the first call until the second has been answered.
-#[derive(Drop)]
-struct HoldFirst<'a, R: Clock + Sync> {
-    rt: &'a R,
-    is_answered: AtomicBool,
-    gave_up: AtomicBool,
-}
-
-impl<'a, R: Clock + Sync> Gate for HoldFirst<'a, R> {
-    fn before(&self, number: usize) {
-        if number != 0 {
-            return;
-        }
-        for _turn in 0..TURNS {
-            if self.is_answered.load(Ordering::SeqCst) {
-                return;
-            }
-            let _ = thread::sleep(self.rt, Duration::from_millis(1));
-        }
-        self.gave_up.store(true, Ordering::SeqCst);
-    }
-
-    fn after(&self, number: usize) {
-        if number == 1 {
-            self.is_answered.store(true, Ordering::SeqCst);
-        }
-    }
-}
+use std::thread::Threads;
 
 /// What the engine answers to a trace, and what it wrote.
 fn run<R: Threads + Wait + Sync, G: Gate + Sync>(
@@ -92,8 +58,10 @@ fn an_actor_that_does_not_exist(rt: HostRuntime) -> Result<(), Fail> {
 /// The history has the order in which the calls were answered, and not that of the trace.
 #[test]
 fn what_is_answered_first_comes_first(rt: HostRuntime) -> Result<(), Fail> {
-    let gate = HoldFirst {
+    let gate = Hold {
         rt: &rt,
+        held: 0,
+        until: 1,
         is_answered: AtomicBool::new(false),
         gave_up: AtomicBool::new(false),
     };
@@ -103,17 +71,5 @@ fn what_is_answered_first_comes_first(rt: HostRuntime) -> Result<(), Fail> {
     assert_eq!(rt; outcome, Ok(()));
     let turned = "kcore-trace 1\ngread 0 0 0 0 1\ntake\n";
     assert!(rt; bytes.as_slice() == turned.as_bytes());
-    Ok(())
-}
-
-#[test]
-fn room_holds_a_reply(rt: HostRuntime) -> Result<(), Fail> {
-    let call = Call::HostRead {
-        frame: 1,
-        offset: 0,
-        len: 4_096,
-    };
-    let spare = call.spare(rt.alloc())?;
-    assert_eq!(rt; Reply::Fault(7).copy_into(spare), Reply::Fault(7));
     Ok(())
 }

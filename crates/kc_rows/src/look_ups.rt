@@ -1,22 +1,11 @@
 //! What the core shows of its state.
 
+use crate::support::after;
 use kc_core::KCore;
-use kc_types::{Call, Config, Data, FrameNo, Owner};
-use std::alloc::Global;
+use kc_types::{FrameNo, Owner};
 
-/// A core of 8 frames: 0 is the core's, 1 to 4 are the host's, 5 to 7 are free.
-fn small(alloc: Global) -> Option<KCore> {
-    let config = Config::try_new(8, 1, 4, 1, Vec::new(alloc)).ok()?;
-    KCore::boot(alloc, config).ok()
-}
-
-/// The same after a free frame was taken and frame 2 was given.
-fn moved(alloc: Global) -> Option<KCore> {
-    let mut core = small(alloc)?;
-    core.call(&Call::Take).ok()?;
-    core.call(&Call::Give { frame: 2 }).ok()?;
-    Some(core)
-}
+/// A free frame is taken, and frame 2 given.
+const MOVES: &str = "take\ngive 2\n";
 
 /// Whether this is the frame's number, if there is one.
 fn is_number(frame: Option<FrameNo>, number: Option<u32>) -> bool {
@@ -37,7 +26,7 @@ fn has_neighbours(core: &KCore, frame: u32, prev: Option<u32>, next: Option<u32>
 
 #[test]
 fn records_have_neighbours(rt: HostRuntime) {
-    let core = moved(rt.alloc());
+    let core = after(rt.alloc(), MOVES);
     assert!(rt; core.is_some());
     if let Some(core) = core {
         assert!(rt; has_neighbours(&core, 6, None, Some(7)));
@@ -62,7 +51,7 @@ fn has_frames(core: &KCore, owner: Owner, numbers: &[u32]) -> bool {
 
 #[test]
 fn owners_have_frames(rt: HostRuntime) {
-    let core = moved(rt.alloc());
+    let core = after(rt.alloc(), MOVES);
     assert!(rt; core.is_some());
     if let Some(core) = core {
         assert!(rt; has_frames(&core, Owner::Free, &[6, 7, 2]));
@@ -88,23 +77,10 @@ fn is_present(core: &KCore, frame: u32) -> bool {
     }
 }
 
-/// A core whose frame 1 is mapped and begins with `abc`.
-fn written(alloc: Global) -> Option<KCore> {
-    let mut core = small(alloc)?;
-    let data = Data::try_new(Vec::from_slice(alloc, b"abc").ok()?)?;
-    core.call(&Call::HostFault { frame: 1 }).ok()?;
-    let call = Call::HostWrite {
-        frame: 1,
-        offset: 0,
-        data,
-    };
-    core.call(&call).ok()?;
-    Some(core)
-}
-
+/// Frame 1 is mapped and begins with `abc`.
 #[test]
 fn wiping_leaves_records(rt: HostRuntime) {
-    let core = written(rt.alloc());
+    let core = after(rt.alloc(), "hfault 1\nhwrite 1 0 616263\n");
     assert!(rt; core.is_some());
     if let Some(mut core) = core {
         assert!(rt; begins_with(&core, 1, b"abc\0"));

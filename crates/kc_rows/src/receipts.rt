@@ -1,6 +1,7 @@
 //! Receipts against a history, forged ones too.
+use crate::support::config;
 use kc_live::{Book, History, Ready, Receipt, settle};
-use kc_types::{Call, Config, Data, Reply};
+use kc_types::{Call, Data, Reply};
 use std::alloc::{AllocError, Global};
 use std::test::Fail;
 
@@ -12,17 +13,9 @@ fn read(frame: u32) -> Call {
     }
 }
 
-/// A book of 8 frames, of which 0 is the core's and 1 to 4 are the host's.
-fn book(alloc: Global) -> Result<Book, Fail> {
-    let config = Config::try_new(8, 1, 4, 1, Vec::new(alloc))
-        .ok()
-        .ok_or("no configuration")?;
-    Ok(Book::new(alloc, config)?)
-}
-
 /// The history of a mapping and a reading of frame 1.
 fn history(alloc: Global) -> Result<History, Fail> {
-    let mut book = book(alloc)?;
+    let mut book = Book::new(alloc, config(alloc, 8, 4).ok_or("no configuration")?)?;
     let mapping = Ready::new(alloc, Call::HostFault { frame: 1 })?;
     let reading = Ready::new(alloc, read(1))?;
     if book.step(mapping).is_err() || book.step(reading).is_err() {

@@ -1,9 +1,8 @@
 //! Each condition that refuses a call: alone where it can be alone, and with the next one of its call where both can
 //! hold, so that the first is answered; and that the core shows the same before and after.
-use crate::support::ABC;
+use crate::support::{answers, calls_of, small};
 use kc_core::KCore;
-use kc_trace::read_trace;
-use kc_types::{Call, Config, FrameNo, Owner, Refusal, Reply, VmId};
+use kc_types::{FrameNo, Owner, Refusal, Reply, VmId};
 use std::alloc::Global;
 
 mod guests;
@@ -46,12 +45,6 @@ pub const ACTIVE: &str =
 pub const DEAD: &str =
     "hfault 1\nhwrite 1 0 616264\nregvm 0\nregvcpu 0 0\nregvcpu 0 1\nsetboot 0 0 3\nremap 0 0 1\nverify 0\n";
 
-/// The calls of a trace, whose header is left out.
-fn calls_of(alloc: Global, lines: &str) -> Option<Vec<Call>> {
-    let trace = format!(in alloc; "kcore-trace 1\n{lines}").ok()?;
-    read_trace(alloc, trace.as_bytes()).ok()
-}
-
 /// Whether none of the replies is a refusal.
 fn is_unrefused(replies: &[Reply]) -> bool {
     for reply in replies {
@@ -62,14 +55,10 @@ fn is_unrefused(replies: &[Reply]) -> bool {
     true
 }
 
-/// A core of 8 frames, of which 0 is the core's, 1 to 4 are the host's and the rest is free, with one leaf for each
-/// VM, and `abc` approved; after calls of which none is refused.
+/// The small core after calls of which none is refused.
 fn after(alloc: Global, lines: &str) -> Option<KCore> {
-    let approved = Vec::from_slice(alloc, &[ABC]).ok()?;
-    let config = Config::try_new(8, 1, 4, 1, approved).ok()?;
-    let mut core = KCore::boot(alloc, config).ok()?;
-    let calls = calls_of(alloc, lines)?;
-    let replies = core.run(alloc, calls.as_slice()).ok()?;
+    let mut core = small(alloc)?;
+    let replies = answers(alloc, &mut core, lines)?;
     if is_unrefused(replies.as_slice()) {
         Some(core)
     } else {
@@ -174,15 +163,12 @@ fn look_the_same(one: &KCore, other: &KCore) -> bool {
 const QUESTIONS: &str =
     "gread 0 0 0 0 4\ngread 0 1 0 0 4\ngread 0 2 0 0 4\nregvcpu 0 0\nregvcpu 0 1\nregvcpu 0 2\nregvcpu 0 7\nregvcpu 15 0\nremap 0 0 2\nremap 0 1 3\nremap 0 0 4\nsetboot 0 9 1\nverify 0\n";
 
-/// What a core answers to the questions.
-fn answers(alloc: Global, core: &mut KCore) -> Option<Vec<Reply>> {
-    let calls = calls_of(alloc, QUESTIONS)?;
-    core.run(alloc, calls.as_slice()).ok()
-}
-
 /// Whether two cores answer the same to the questions.
 fn answer_the_same(alloc: Global, one: &mut KCore, other: &mut KCore) -> bool {
-    match (answers(alloc, one), answers(alloc, other)) {
+    match (
+        answers(alloc, one, QUESTIONS),
+        answers(alloc, other, QUESTIONS),
+    ) {
         (Some(replies), Some(others)) => replies.as_slice() == others.as_slice(),
         _ => false,
     }

@@ -1,20 +1,8 @@
 //! What the core shows of its slots, after traces.
-use crate::support::ABC;
+use crate::support::after;
 use kc_core::KCore;
-use kc_trace::read_trace;
-use kc_types::{Config, FrameNo, Gfn, Owner, Phase, VmId};
+use kc_types::{FrameNo, Gfn, Owner, Phase, VmId};
 use std::alloc::Global;
-
-/// A core of 8 frames, of which 0 is the core's and 1 to 4 are the host's, with one leaf for each VM, and `abc`
-/// approved; after the calls of a trace.
-fn after(alloc: Global, trace: &[u8]) -> Option<KCore> {
-    let approved = Vec::from_slice(alloc, &[ABC]).ok()?;
-    let config = Config::try_new(8, 1, 4, 1, approved).ok()?;
-    let mut core = KCore::boot(alloc, config).ok()?;
-    let calls = read_trace(alloc, trace).ok()?;
-    core.run(alloc, calls.as_slice()).ok()?;
-    Some(core)
-}
 
 /// Whether these are the frames of the VM in slot 0.
 fn has_frames(core: &KCore, numbers: &[u32]) -> bool {
@@ -43,9 +31,9 @@ fn is_host(core: &KCore, frame: u32) -> bool {
 /// them.
 #[test]
 fn a_rejected_vm_is_dead(rt: HostRuntime) {
-    let trace =
-        b"kcore-trace 1\nhfault 1\nhwrite 1 0 616263\nregvm 0\nsetboot 0 0 3\nsetboot 0 1 1\nremap 0 1 2\nremap 0 0 1\nverify 0\n";
-    let core = after(rt.alloc(), trace);
+    let lines =
+        "hfault 1\nhwrite 1 0 616263\nregvm 0\nsetboot 0 0 3\nsetboot 0 1 1\nremap 0 1 2\nremap 0 0 1\nverify 0\n";
+    let core = after(rt.alloc(), lines);
     assert!(rt; core.is_some());
     if let Some(core) = core {
         assert_eq!(rt; core.phase(0), Some(Phase::Dead));
@@ -57,12 +45,12 @@ fn a_rejected_vm_is_dead(rt: HostRuntime) {
 
 /// A VM whose four frames stand at guest frames 0, 7, 8 and 9.
 const FOUR_FRAMES: &str =
-    "kcore-trace 1\nhfault 1\nhwrite 1 0 616263\nregvm 0\nregvcpu 0 0\nsetboot 0 0 3\nremap 0 0 1\nverify 0\ngread 0 0 7 0 1\nmap 0 0 2\ngread 0 0 8 0 1\nmap 0 0 3\ngread 0 0 9 0 1\nmap 0 0 4\n";
+    "hfault 1\nhwrite 1 0 616263\nregvm 0\nregvcpu 0 0\nsetboot 0 0 3\nremap 0 0 1\nverify 0\ngread 0 0 7 0 1\nmap 0 0 2\ngread 0 0 8 0 1\nmap 0 0 3\ngread 0 0 9 0 1\nmap 0 0 4\n";
 
 /// The same after some of them were given up.
 fn after_drops(alloc: Global, drops: &str) -> Option<KCore> {
-    let trace = format!(in alloc; "{FOUR_FRAMES}{drops}").ok()?;
-    after(alloc, trace.as_bytes())
+    let lines = format!(in alloc; "{FOUR_FRAMES}{drops}").ok()?;
+    after(alloc, lines.as_str())
 }
 
 /// Whether these are the VM's frames after some were given up, and root slot 0 still has its leaf.
@@ -93,8 +81,8 @@ fn frames_leave_the_list(rt: HostRuntime) {
 /// An image over two root slots needs two leaves: its second page is refused, and stays the host's.
 #[test]
 fn a_refused_page_stays_the_hosts(rt: HostRuntime) {
-    let trace = b"kcore-trace 1\nregvm 0\nsetboot 0 511 4097\nremap 0 0 1\nremap 0 0 2\n";
-    let core = after(rt.alloc(), trace);
+    let lines = "regvm 0\nsetboot 0 511 4097\nremap 0 0 1\nremap 0 0 2\n";
+    let core = after(rt.alloc(), lines);
     assert!(rt; core.is_some());
     if let Some(core) = core {
         assert!(rt; is_host(&core, 2));
@@ -107,9 +95,9 @@ fn a_refused_page_stays_the_hosts(rt: HostRuntime) {
 /// A guest frame that no leaf is left for is still waited for.
 #[test]
 fn a_refused_map_leaves_the_fault(rt: HostRuntime) {
-    let trace =
-        b"kcore-trace 1\nhfault 1\nhwrite 1 0 616263\nregvm 0\nregvcpu 0 0\nsetboot 0 0 3\nremap 0 0 1\nverify 0\ngread 0 0 512 0 1\nmap 0 0 2\n";
-    let core = after(rt.alloc(), trace);
+    let lines =
+        "hfault 1\nhwrite 1 0 616263\nregvm 0\nregvcpu 0 0\nsetboot 0 0 3\nremap 0 0 1\nverify 0\ngread 0 0 512 0 1\nmap 0 0 2\n";
+    let core = after(rt.alloc(), lines);
     assert!(rt; core.is_some());
     if let Some(core) = core {
         assert!(rt; is_host(&core, 2));
@@ -121,7 +109,7 @@ fn a_refused_map_leaves_the_fault(rt: HostRuntime) {
 
 #[test]
 fn what_does_not_exist(rt: HostRuntime) {
-    let core = after(rt.alloc(), b"kcore-trace 1\n");
+    let core = after(rt.alloc(), "");
     assert!(rt; core.is_some());
     if let Some(core) = core {
         assert_eq!(rt; core.phase(15), Some(Phase::Empty));

@@ -1,6 +1,9 @@
 //! What the tests share.
 use kc_cli::{Mem, TextFault, replay_text};
-use std::alloc::AllocError;
+use kc_core::KCore;
+use kc_trace::read_trace;
+use kc_types::{Call, Config, Reply};
+use std::alloc::{AllocError, Global};
 
 /// The calls of a trace, and the replies that they get.
 pub struct Example {
@@ -17,6 +20,37 @@ pub const ABC: [u8; 32] = [
     0xba, 0x78, 0x16, 0xbf, 0x8f, 0x01, 0xcf, 0xea, 0x41, 0x41, 0x40, 0xde, 0x5d, 0xae, 0x22, 0x23,
     0xb0, 0x03, 0x61, 0xa3, 0x96, 0x17, 0x7a, 0x9c, 0xb4, 0x10, 0xff, 0x61, 0xf2, 0x00, 0x15, 0xad,
 ];
+
+/// So many frames, of which 0 is the core's and the next are the host's, and one leaf for each VM; images of `abc` may
+/// run.
+pub fn config(alloc: Global, frames: u32, host: u32) -> Option<Config> {
+    let approved = Vec::from_slice(alloc, &[ABC]).ok()?;
+    Config::try_new(frames, 1, host, 1, approved).ok()
+}
+
+/// A core of 8 frames: 0 is the core's, 1 to 4 are the host's, 5 to 7 are free.
+pub fn small(alloc: Global) -> Option<KCore> {
+    KCore::boot(alloc, config(alloc, 8, 4)?).ok()
+}
+
+/// The calls of a trace, whose header is left out.
+pub fn calls_of(alloc: Global, lines: &str) -> Option<Vec<Call>> {
+    let trace = format!(in alloc; "kcore-trace 1\n{lines}").ok()?;
+    read_trace(alloc, trace.as_bytes()).ok()
+}
+
+/// What a core answers to the calls of a trace, whose header is left out.
+pub fn answers(alloc: Global, core: &mut KCore, lines: &str) -> Option<Vec<Reply>> {
+    let calls = calls_of(alloc, lines)?;
+    core.run(alloc, calls.as_slice()).ok()
+}
+
+/// The small core after the calls of a trace, whose header is left out.
+pub fn after(alloc: Global, lines: &str) -> Option<KCore> {
+    let mut core = small(alloc)?;
+    answers(alloc, &mut core, lines)?;
+    Some(core)
+}
 
 /// What the engine answers to a configuration and a trace, and what it wrote.
 pub fn replayed(

@@ -21,152 +21,86 @@ fn tells(rt: &impl Abort, alloc: Global, fault: TextFault, line: &str, status: u
 
 #[test]
 fn tells_faults_of_traces(rt: HostRuntime) {
-    tells(
-        &rt,
-        rt.alloc(),
-        TextFault::Trace(TraceFault::NoHeader),
-        "kcore: no trace header\n",
-        2,
-    );
-    tells(
-        &rt,
-        rt.alloc(),
-        TextFault::Trace(TraceFault::BadLine(2)),
-        "kcore: bad trace line 2\n",
-        2,
-    );
-    tells(
-        &rt,
-        rt.alloc(),
-        TextFault::Trace(TraceFault::BadLine(65537)),
-        "kcore: bad trace line 65537\n",
-        2,
-    );
-    tells(
-        &rt,
-        rt.alloc(),
-        TextFault::Trace(TraceFault::NoNewline),
-        "kcore: last trace line has no newline\n",
-        2,
-    );
-    tells(
-        &rt,
-        rt.alloc(),
-        TextFault::Trace(TraceFault::TooManyCalls),
-        "kcore: too many calls\n",
-        2,
-    );
-    tells(
-        &rt,
-        rt.alloc(),
-        TextFault::Trace(TraceFault::Memory),
-        "kcore: out of memory\n",
-        3,
-    );
+    for (fault, line, status) in [
+        (TraceFault::NoHeader, "kcore: no trace header\n", 2),
+        (TraceFault::BadLine(2), "kcore: bad trace line 2\n", 2),
+        (
+            TraceFault::BadLine(65537),
+            "kcore: bad trace line 65537\n",
+            2,
+        ),
+        (
+            TraceFault::NoNewline,
+            "kcore: last trace line has no newline\n",
+            2,
+        ),
+        (TraceFault::TooManyCalls, "kcore: too many calls\n", 2),
+        (TraceFault::Memory, "kcore: out of memory\n", 3),
+    ] {
+        tells(&rt, rt.alloc(), TextFault::Trace(fault), line, status);
+    }
 }
 
 #[test]
 fn tells_faults_of_configurations(rt: HostRuntime) {
-    tells(
-        &rt,
-        rt.alloc(),
-        TextFault::Config(ConfigTextFault::NotJson),
-        "kcore: configuration is not JSON\n",
-        2,
-    );
-    tells(
-        &rt,
-        rt.alloc(),
-        TextFault::Config(ConfigTextFault::BadShape),
-        "kcore: configuration has a wrong shape\n",
-        2,
-    );
-    let refused = ConfigTextFault::Config(ConfigFault::Frames);
-    tells(
-        &rt,
-        rt.alloc(),
-        TextFault::Config(refused),
-        "kcore: configuration refused: frames\n",
-        2,
-    );
-    let refused = ConfigTextFault::Config(ConfigFault::CoreHost);
-    tells(
-        &rt,
-        rt.alloc(),
-        TextFault::Config(refused),
-        "kcore: configuration refused: core and host\n",
-        2,
-    );
-    let refused = ConfigTextFault::Config(ConfigFault::Leaves);
-    tells(
-        &rt,
-        rt.alloc(),
-        TextFault::Config(refused),
-        "kcore: configuration refused: leaves\n",
-        2,
-    );
-    let refused = ConfigTextFault::Config(ConfigFault::TooManyDigests);
-    tells(
-        &rt,
-        rt.alloc(),
-        TextFault::Config(refused),
-        "kcore: configuration refused: approved\n",
-        2,
-    );
-    tells(
-        &rt,
-        rt.alloc(),
-        TextFault::Config(ConfigTextFault::Memory),
-        "kcore: out of memory\n",
-        3,
-    );
+    for (fault, line, status) in [
+        (
+            ConfigTextFault::NotJson,
+            "kcore: configuration is not JSON\n",
+            2,
+        ),
+        (
+            ConfigTextFault::BadShape,
+            "kcore: configuration has a wrong shape\n",
+            2,
+        ),
+        (
+            ConfigTextFault::Config(ConfigFault::Frames),
+            "kcore: configuration refused: frames\n",
+            2,
+        ),
+        (
+            ConfigTextFault::Config(ConfigFault::CoreHost),
+            "kcore: configuration refused: core and host\n",
+            2,
+        ),
+        (
+            ConfigTextFault::Config(ConfigFault::Leaves),
+            "kcore: configuration refused: leaves\n",
+            2,
+        ),
+        (
+            ConfigTextFault::Config(ConfigFault::TooManyDigests),
+            "kcore: configuration refused: approved\n",
+            2,
+        ),
+        (ConfigTextFault::Memory, "kcore: out of memory\n", 3),
+    ] {
+        tells(&rt, rt.alloc(), TextFault::Config(fault), line, status);
+    }
 }
 
 #[test]
 fn tells_other_faults(rt: HostRuntime) {
-    tells(
-        &rt,
-        rt.alloc(),
-        TextFault::Workers,
-        "kcore: bad number of workers\n",
-        2,
-    );
-    tells(
-        &rt,
-        rt.alloc(),
-        TextFault::Memory,
-        "kcore: out of memory\n",
-        3,
-    );
-    tells(
-        &rt,
-        rt.alloc(),
-        TextFault::Start,
-        "kcore: a worker could not be started\n",
-        3,
-    );
-    tells(
-        &rt,
-        rt.alloc(),
-        TextFault::Unsettled,
-        "kcore: history not settled\n",
-        3,
-    );
-    tells(
-        &rt,
-        rt.alloc(),
-        TextFault::BadActor(12),
-        "kcore: bad actor of program 12\n",
-        2,
-    );
-    tells(&rt, rt.alloc(), TextFault::Read, "kcore: read failed\n", 3);
-    tells(
-        &rt,
-        rt.alloc(),
-        TextFault::Write,
-        "kcore: write failed\n",
-        3,
-    );
+    for (fault, line, status) in [
+        (TextFault::Workers, "kcore: bad number of workers\n", 2),
+        (TextFault::Memory, "kcore: out of memory\n", 3),
+        (
+            TextFault::Start,
+            "kcore: a worker could not be started\n",
+            3,
+        ),
+        (TextFault::Unsettled, "kcore: history not settled\n", 3),
+        (
+            TextFault::BadActor(12),
+            "kcore: bad actor of program 12\n",
+            2,
+        ),
+        (TextFault::Read, "kcore: read failed\n", 3),
+        (TextFault::Write, "kcore: write failed\n", 3),
+    ] {
+        tells(&rt, rt.alloc(), fault, line, status);
+    }
 }
 
 #[test]

@@ -1,7 +1,8 @@
 //! Live runs through gates, which hold calls and watch them.
-use crate::live::gates::{Count, Hold, Script};
-use crate::live::{config, stories};
-use kc_live::{History, Program, Receipt, run_live, settle};
+use crate::gates::{Count, Hold, Script};
+use crate::live::{programs, small, stories};
+use crate::support::config;
+use kc_live::{History, Receipt, run_live, settle};
 use kc_replay::{Gate, OpenGate};
 use kc_types::{Actor, Call, Refusal, Reply};
 use std::alloc::Global;
@@ -10,68 +11,34 @@ use std::sync::{Mutex, Wait};
 use std::test::Fail;
 use std::thread::Threads;
 
-/// A read of a VM that there is not.
-fn read_at(gfn: u32) -> Call {
-    Call::GuestRead {
-        vm: 0,
-        vcpu: 0,
-        gfn,
-        offset: 0,
-        len: 1,
-    }
-}
+/// Calls 0 and 1: reads of a VM that there is not.
+const READS: &str = "gread 0 0 0 0 1\ngread 0 0 1 0 1\n";
 
-fn reads(alloc: Global) -> Result<Program, Fail> {
-    let mut program = Program::new(Actor::Vcpu(0, 0), Vec::new(alloc));
-    program.add(read_at(0))?;
-    program.add(read_at(1))?;
-    Ok(program)
-}
+/// Calls 2 to 4.
+const TAKES: &str = "take\nhfault 5\ngive 2\n";
 
-fn takes(alloc: Global) -> Result<Program, Fail> {
-    let mut program = Program::new(Actor::Host, Vec::new(alloc));
-    program.add(Call::Take)?;
-    program.add(Call::HostFault { frame: 5 })?;
-    program.add(Call::Give { frame: 2 })?;
-    Ok(program)
-}
-
-/// Runs calls 0 and 1, which read, beside calls 2 to 4, which take and give.
+/// Runs the calls that read beside those that take and give.
 fn run_both<G: Gate + Sync, R: Threads + Wait + Sync>(
     rt: &R,
     alloc: Global,
     gate: &G,
-) -> Result<(History, Vec<Vec<Receipt>>), Fail> {
-    let mut programs = Vec::new(alloc);
-    programs.push(reads(alloc)?)?;
-    programs.push(takes(alloc)?)?;
-    match run_live(rt, alloc, config(alloc)?, programs, gate) {
-        Ok(answer) => Ok(answer),
-        Err(_) => Err(Fail::from("no answer")),
-    }
+) -> Option<(History, Vec<Vec<Receipt>>)> {
+    let actors = [(Actor::Vcpu(0, 0), READS), (Actor::Host, TAKES)];
+    let programs = programs(alloc, &actors)?;
+    run_live(rt, alloc, small(alloc)?, programs, gate).ok()
 }
 
-/// The calls of `run_both` in the order of a script that lets in 2, 0, 3, 1 and 4.
-fn calls_by_script(alloc: Global) -> Result<Vec<Call>, Fail> {
-    let mut calls = Vec::new(alloc);
-    calls.push(Call::Take)?;
-    calls.push(read_at(0))?;
-    calls.push(Call::HostFault { frame: 5 })?;
-    calls.push(read_at(1))?;
-    calls.push(Call::Give { frame: 2 })?;
-    Ok(calls)
-}
+/// The same calls in the order 2, 0, 3, 1, 4.
+const MIXED: &str = "take\ngread 0 0 0 0 1\nhfault 5\ngread 0 0 1 0 1\ngive 2\n";
 
 /// What they are answered.
-fn replies_by_script(alloc: Global) -> Result<Vec<Reply>, Fail> {
-    let mut replies = Vec::new(alloc);
-    replies.push(Reply::Frame(5))?;
-    replies.push(Reply::Refused(Refusal::NoVm))?;
-    replies.push(Reply::Done)?;
-    replies.push(Reply::Refused(Refusal::NoVm))?;
-    replies.push(Reply::Done)?;
-    Ok(replies)
-}
+const REPLIES: [Reply; 5] = [
+    Reply::Frame(5),
+    Reply::Refused(Refusal::NoVm),
+    Reply::Done,
+    Reply::Refused(Refusal::NoVm),
+    Reply::Done,
+];
 
 #[test]
 fn threads_follow_a_script(rt: HostRuntime) -> Result<(), Fail> {
@@ -82,10 +49,10 @@ fn threads_follow_a_script(rt: HostRuntime) -> Result<(), Fail> {
         turn: AtomicU64::new(0),
         gave_up: AtomicBool::new(false),
     };
-    let (history, rows) = run_both(&rt, alloc, &gate)?;
+    let (history, rows) = run_both(&rt, alloc, &gate).ok_or("no answer")?;
     assert!(rt; !gate.gave_up.load(Ordering::SeqCst));
-    assert!(rt; stories::has_calls(&history, &calls_by_script(alloc)?));
-    assert!(rt; stories::has_replies(&history, &replies_by_script(alloc)?));
+    assert!(rt; stories::has_calls(alloc, &history, MIXED));
+    assert!(rt; stories::has_replies(&history, &REPLIES));
     assert!(rt; settle(alloc, &history, &rows)?);
     Ok(())
 }
@@ -100,7 +67,7 @@ fn threads_overlap(rt: HostRuntime) -> Result<(), Fail> {
         is_answered: AtomicBool::new(false),
         gave_up: AtomicBool::new(false),
     };
-    let (history, _rows) = run_both(&rt, alloc, &gate)?;
+    let (history, _rows) = run_both(&rt, alloc, &gate).ok_or("no answer")?;
     assert!(rt; !gate.gave_up.load(Ordering::SeqCst));
     assert_eq!(rt; history.entries().len(), 5);
     assert_eq!(rt; history.entries()[0].call, Call::Take);
@@ -114,7 +81,7 @@ fn each_call_is_told_once(rt: HostRuntime) -> Result<(), Fail> {
         rt: &rt,
         counts: Mutex::new(vec![in alloc; (0u32, 0u32); 5]?),
     };
-    let (_history, _rows) = run_both(&rt, alloc, &gate)?;
+    let (_history, _rows) = run_both(&rt, alloc, &gate).ok_or("no answer")?;
     let Count { rt: _, counts } = gate;
     assert_eq!(rt; counts.into_inner(), vec![in alloc; (1u32, 1u32); 5]?);
     Ok(())
@@ -123,10 +90,10 @@ fn each_call_is_told_once(rt: HostRuntime) -> Result<(), Fail> {
 #[test]
 fn a_program_may_make_no_calls(rt: HostRuntime) -> Result<(), Fail> {
     let alloc = rt.alloc();
-    let mut programs = Vec::new(alloc);
-    programs.push(Program::new(Actor::Vcpu(15, 7), Vec::new(alloc)))?;
-    programs.push(takes(alloc)?)?;
-    let Ok((history, rows)) = run_live(&rt, alloc, config(alloc)?, programs, &OpenGate) else {
+    let actors = [(Actor::Vcpu(15, 7), ""), (Actor::Host, TAKES)];
+    let programs = programs(alloc, &actors).ok_or("no programs")?;
+    let config = small(alloc).ok_or("no configuration")?;
+    let Ok((history, rows)) = run_live(&rt, alloc, config, programs, &OpenGate) else {
         return Err(Fail::from("no answer"));
     };
     assert_eq!(rt; history.entries().len(), 3);
@@ -151,12 +118,13 @@ fn a_vm_boots_and_touches_memory(rt: HostRuntime) -> Result<(), Fail> {
         turn: AtomicU64::new(0),
         gave_up: AtomicBool::new(false),
     };
-    let config = stories::config(alloc, 8, 4)?;
-    let Ok((history, rows)) = run_live(&rt, alloc, config, stories::story(alloc)?, &gate) else {
+    let programs = programs(alloc, &stories::STORY).ok_or("no programs")?;
+    let config = small(alloc).ok_or("no configuration")?;
+    let Ok((history, rows)) = run_live(&rt, alloc, config, programs, &gate) else {
         return Err(Fail::from("no answer"));
     };
     assert!(rt; !gate.gave_up.load(Ordering::SeqCst));
-    assert!(rt; stories::has_replies(&history, &stories::replies(alloc)?));
+    assert!(rt; stories::has_replies(&history, &stories::replies(alloc).ok_or("no replies")?));
     assert!(rt; settle(alloc, &history, &rows)?);
     Ok(())
 }
@@ -166,8 +134,8 @@ fn a_vm_boots_and_touches_memory(rt: HostRuntime) -> Result<(), Fail> {
 fn many_virtual_processors(rt: HostRuntime) -> Result<(), Fail> {
     let alloc = rt.alloc();
     for _ in 0..10 {
-        let programs = stories::busy_vms(alloc)?;
-        let config = stories::config(alloc, 256, 200)?;
+        let programs = stories::busy_vms(alloc).ok_or("no programs")?;
+        let config = config(alloc, 256, 200).ok_or("no configuration")?;
         let Ok((history, rows)) = run_live(&rt, alloc, config, programs, &OpenGate) else {
             return Err(Fail::from("no answer"));
         };

@@ -1,130 +1,63 @@
 //! VMs that run live.
-use crate::support::ABC;
+use crate::live::programs;
+use crate::support::calls_of;
 use kc_live::{History, Program};
-use kc_types::{Actor, Call, Config, Data, Reply};
+use kc_types::{Actor, Call, Data, Reply};
 use std::alloc::Global;
-use std::test::Fail;
-
-/// Frame 0 is the core's, the next `host` are the host's; images of `abc` may run.
-pub fn config(alloc: Global, frames: u32, host: u32) -> Result<Config, Fail> {
-    let approved = Vec::from_slice(alloc, &[ABC])?;
-    Ok(
-        Config::try_new(frames, 1, host, 1, approved)
-            .ok()
-            .ok_or("no configuration")?,
-    )
-}
-
-fn bytes(alloc: Global, bytes: &[u8]) -> Result<Data, Fail> {
-    Ok(Data::try_new(Vec::from_slice(alloc, bytes)?).ok_or("no data")?)
-}
-
-/// The host boots a VM from a frame.
-pub fn boot(
-    alloc: Global,
-    host: &mut Program,
-    vm: u32,
-    vcpus: u32,
-    frame: u32,
-) -> Result<(), Fail> {
-    host.add(Call::HostFault { frame })?;
-    host.add(Call::HostWrite {
-        frame,
-        offset: 0,
-        data: bytes(alloc, b"abc")?,
-    })?;
-    host.add(Call::RegisterVm { vm })?;
-    for vcpu in 0..vcpus {
-        host.add(Call::RegisterVcpu { vm, vcpu })?;
-    }
-    host.add(Call::SetBoot {
-        vm,
-        base: 0,
-        len: 3,
-    })?;
-    host.add(Call::Remap {
-        vm,
-        image: 0,
-        frame,
-    })?;
-    host.add(Call::Verify { vm })?;
-    Ok(())
-}
 
 /// Calls 0 to 9: a VM of two virtual processors boots, and each is supplied with a frame.
-fn host(alloc: Global) -> Result<Program, Fail> {
-    let mut host = Program::new(Actor::Host, Vec::new(alloc));
-    boot(alloc, &mut host, 0, 2, 1)?;
-    host.add(Call::Map {
-        vm: 0,
-        vcpu: 0,
-        frame: 2,
-    })?;
-    host.add(Call::Map {
-        vm: 0,
-        vcpu: 1,
-        frame: 3,
-    })?;
-    Ok(host)
-}
+const HOST: &str =
+    "hfault 1\nhwrite 1 0 616263\nregvm 0\nregvcpu 0 0\nregvcpu 0 1\nsetboot 0 0 3\nremap 0 0 1\nverify 0\nmap 0 0 2\nmap 0 1 3\n";
 
 /// Two writes of a byte to a guest frame, and a read.
-fn guest(alloc: Global, vcpu: u32, gfn: u32, byte: u8) -> Result<Program, Fail> {
-    let mut guest = Program::new(Actor::Vcpu(0, vcpu), Vec::new(alloc));
-    for _ in 0..2 {
-        guest.add(Call::GuestWrite {
-            vm: 0,
-            vcpu,
-            gfn,
-            offset: 0,
-            data: bytes(alloc, &[byte])?,
-        })?;
-    }
-    guest.add(Call::GuestRead {
-        vm: 0,
-        vcpu,
-        gfn,
-        offset: 0,
-        len: 1,
-    })?;
-    Ok(guest)
-}
+const GUEST: &str = "gwrite 0 0 7 0 2a\ngwrite 0 0 7 0 2a\ngread 0 0 7 0 1\n";
+
+/// The same of another virtual processor.
+const OTHER: &str = "gwrite 0 1 8 0 2b\ngwrite 0 1 8 0 2b\ngread 0 1 8 0 1\n";
 
 /// Calls 0 to 9 are the host's, 10 to 12 and 13 to 15 those of two virtual processors.
-pub fn story(alloc: Global) -> Result<Vec<Program>, Fail> {
-    let mut programs = Vec::new(alloc);
-    programs.push(host(alloc)?)?;
-    programs.push(guest(alloc, 0, 7, 0x2a)?)?;
-    programs.push(guest(alloc, 1, 8, 0x2b)?)?;
-    Ok(programs)
+pub const STORY: [(Actor, &str); 3] = [
+    (Actor::Host, HOST),
+    (Actor::Vcpu(0, 0), GUEST),
+    (Actor::Vcpu(0, 1), OTHER),
+];
+
+fn byte(alloc: Global, byte: u8) -> Option<Reply> {
+    Some(Reply::Data(Data::try_new(vec![in alloc; byte].ok()?)?))
 }
 
 /// What the story's calls are answered where the guests first touch memory before the host supplies it.
-pub fn replies(alloc: Global) -> Result<Vec<Reply>, Fail> {
-    let mut replies = Vec::new(alloc);
-    for _ in 0..5 {
-        replies.push(Reply::Done)?;
-    }
-    replies.push(Reply::Image(0))?;
-    replies.push(Reply::Done)?;
-    replies.push(Reply::Done)?;
-    replies.push(Reply::Fault(7))?;
-    replies.push(Reply::Fault(8))?;
-    for _ in 0..4 {
-        replies.push(Reply::Done)?;
-    }
-    replies.push(Reply::Data(bytes(alloc, &[0x2a])?))?;
-    replies.push(Reply::Data(bytes(alloc, &[0x2b])?))?;
-    Ok(replies)
+pub fn replies(alloc: Global) -> Option<[Reply; 16]> {
+    Some([
+        Reply::Done,
+        Reply::Done,
+        Reply::Done,
+        Reply::Done,
+        Reply::Done,
+        Reply::Image(0),
+        Reply::Done,
+        Reply::Done,
+        Reply::Fault(7),
+        Reply::Fault(8),
+        Reply::Done,
+        Reply::Done,
+        Reply::Done,
+        Reply::Done,
+        byte(alloc, 0x2a)?,
+        byte(alloc, 0x2b)?,
+    ])
 }
 
-/// Whether these are the calls of the history, in its order.
-pub fn has_calls(history: &History, calls: &[Call]) -> bool {
+/// Whether the calls of a trace, whose header is left out, are those of the history, in its order.
+pub fn has_calls(alloc: Global, history: &History, lines: &str) -> bool {
+    let Some(calls) = calls_of(alloc, lines) else {
+        return false;
+    };
     history.entries().len() == calls.len()
         && history
             .entries()
             .iter()
-            .zip(calls)
+            .zip(&calls)
             .all(|(entry, call)| entry.call == *call)
 }
 
@@ -139,46 +72,64 @@ pub fn has_replies(history: &History, replies: &[Reply]) -> bool {
 }
 
 /// 500 calls of a virtual processor, at 50 guest frames of its own.
-fn busy(alloc: Global, vm: u32, vcpu: u32) -> Result<Program, Fail> {
+fn busy(alloc: Global, vm: u32, vcpu: u32) -> Option<Program> {
     let mut guest = Program::new(Actor::Vcpu(vm, vcpu), Vec::new(alloc));
     for n in 0..500 {
-        guest.add(Call::GuestRead {
+        let read = Call::GuestRead {
             vm,
             vcpu,
             gfn: vcpu % 8 * 50 + n % 50,
             offset: 0,
             len: 1,
-        })?;
+        };
+        guest.add(read).ok()?;
     }
-    Ok(guest)
+    Some(guest)
+}
+
+/// A VM of eight virtual processors boots from the frame after its number.
+fn push_boot(lines: &mut String, alloc: Global, vm: u32) -> Option<()> {
+    let frame = vm.checked_add(1)?;
+    let boot = format!(in alloc; "hfault {frame}\nhwrite {frame} 0 616263\nregvm {vm}\n").ok()?;
+    lines.push_str(&boot).ok()?;
+    for vcpu in 0..8 {
+        let vcpu = format!(in alloc; "regvcpu {vm} {vcpu}\n").ok()?;
+        lines.push_str(&vcpu).ok()?;
+    }
+    let image = format!(in alloc; "setboot {vm} 0 3\nremap {vm} 0 {frame}\nverify {vm}\n").ok()?;
+    lines.push_str(&image).ok()
+}
+
+/// Each of the eight virtual processors of a VM is supplied with a frame.
+fn push_maps(lines: &mut String, alloc: Global, vm: u32) -> Option<()> {
+    for vcpu in 0..8u32 {
+        let frame = vm.checked_mul(8)?.checked_add(vcpu)?.checked_add(17)?;
+        let map = format!(in alloc; "map {vm} {vcpu} {frame}\n").ok()?;
+        lines.push_str(&map).ok()?;
+    }
+    Some(())
 }
 
 /// The host boots 16 VMs and supplies each of their virtual processors once.
-fn busy_host(alloc: Global) -> Result<Program, Fail> {
-    let mut host = Program::new(Actor::Host, Vec::new(alloc));
+fn busy_host(alloc: Global) -> Option<String> {
+    let mut lines = String::new(alloc);
     for vm in 0..16 {
-        boot(alloc, &mut host, vm, 8, vm + 1)?;
+        push_boot(&mut lines, alloc, vm)?;
     }
     for vm in 0..16 {
-        for vcpu in 0..8 {
-            host.add(Call::Map {
-                vm,
-                vcpu,
-                frame: vm * 8 + vcpu + 17,
-            })?;
-        }
+        push_maps(&mut lines, alloc, vm)?;
     }
-    Ok(host)
+    Some(lines)
 }
 
 /// 16 VMs of 8 virtual processors, each of which makes 500 calls.
-pub fn busy_vms(alloc: Global) -> Result<Vec<Program>, Fail> {
-    let mut programs = Vec::new(alloc);
-    programs.push(busy_host(alloc)?)?;
+pub fn busy_vms(alloc: Global) -> Option<Vec<Program>> {
+    let lines = busy_host(alloc)?;
+    let mut programs = programs(alloc, &[(Actor::Host, &lines)])?;
     for vm in 0..16 {
         for vcpu in 0..8 {
-            programs.push(busy(alloc, vm, vcpu)?)?;
+            programs.push(busy(alloc, vm, vcpu)?).ok()?;
         }
     }
-    Ok(programs)
+    Some(programs)
 }

@@ -2,11 +2,11 @@ use Rattle.std.proofs.Common.{◌≡◌, ◌∙◌, Err, ap}
 use Rattle.kc_cli.specs.declared.fault.TextFault.TheVariants as texts
 use Rattle.kc_cli.proofs.live.live_text.Goals as goal
 
-pub returns-in-Err-clause-config : goal.returns-in-Err-clause-config
-returns-in-Err-clause-config g c = λ fault e. let same : c.in-Err.fault ≡ texts.Config fault = cc in c.read_both.ensures.config fault (c.in-Err.is ∙ ap Err same)
+pub returns-in_err-config-clause-config : goal.returns-in_err-config-clause-config
+returns-in_err-config-clause-config g c = λ fault e. let known = rw e at c.from_residual.ensures.1 in let same : c.in_err-config.field-0.0 ≡ texts.Config fault = cc in c.read_both.ensures.config fault (c.in_err-config.was ∙ ap Err same)
 
-pub returns-in-Err-clause-trace : goal.returns-in-Err-clause-trace
-returns-in-Err-clause-trace g c = λ fault e. let same : c.in-Err.fault ≡ texts.Trace fault = cc in c.read_both.ensures.trace fault (c.in-Err.is ∙ ap Err same)
+pub returns-in_err-config-clause-trace : goal.returns-in_err-config-clause-trace
+returns-in_err-config-clause-trace g c = λ fault e. let known = rw e at c.from_residual.ensures.1 in let same : c.in_err-config.field-0.0 ≡ texts.Trace fault = cc in c.read_both.ensures.trace fault (c.in_err-config.was ∙ ap Err same)
 
-pub returns-in-Err-clause-read : goal.returns-in-Err-clause-read
-returns-in-Err-clause-read g c = λ e. let same : c.in-Err.fault ≡ texts.Read = cc in c.read_both.ensures.read (c.in-Err.is ∙ ap Err same)
+pub returns-in_err-config-clause-read : goal.returns-in_err-config-clause-read
+returns-in_err-config-clause-read g c = λ e. let known = rw e at c.from_residual.ensures.1 in let same : c.in_err-config.field-0.0 ≡ texts.Read = cc in c.read_both.ensures.read (c.in_err-config.was ∙ ap Err same)
