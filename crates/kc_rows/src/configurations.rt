@@ -24,11 +24,11 @@ fn refused_configurations(rt: HostRuntime) -> Result<(), Fail> {
         ("{", ConfigTextFault::NotJson),
     ];
     for (config, fault) in cases {
-        let (outcome, written) = replayed(&rt, config, b"kcore-trace 1\n")?;
+        let (outcome, written) = replayed(rt.alloc(), config, b"kcore-trace 1\n")?;
         assert_eq!(rt; outcome, Err(TextFault::Config(fault)), "at {config}");
         assert!(rt; written.is_empty());
     }
-    let (outcome, _) = replayed(&rt, SMALL, b"kcore-trace 1\n")?;
+    let (outcome, _) = replayed(rt.alloc(), SMALL, b"kcore-trace 1\n")?;
     assert_eq!(rt; outcome, Ok(()));
     Ok(())
 }

@@ -4,12 +4,21 @@ use kc_core::KCore;
 use kc_trace::read_trace;
 use kc_types::{Call, Config, Reply};
 use std::alloc::{AllocError, Global};
+use std::process::Abort;
+use std::test::Fail;
 
 /// The calls of a trace, and the replies that they get.
+#[derive(Drop)]
 pub struct Example {
     pub calls: &'static str,
     pub replies: &'static str,
 }
+
+/// No calls.
+pub const NOTHING: Example = Example {
+    calls: "",
+    replies: "",
+};
 
 /// 8 frames: 0 is the core's, 1 to 4 are the host's, 5 to 7 are free.
 pub const SMALL: &str =
@@ -54,14 +63,36 @@ pub fn after(alloc: Global, lines: &str) -> Option<KCore> {
 
 /// What the engine answers to a configuration and a trace, and what it wrote.
 pub fn replayed(
-    rt: &HostRuntime,
+    alloc: Global,
     config: &str,
     trace: &[u8],
 ) -> Result<(Result<(), TextFault>, Vec<u8>), AllocError> {
-    let alloc = rt.alloc();
     let mut config = Mem::with_bytes(Vec::from_slice(alloc, config.as_bytes())?);
     let mut trace = Mem::with_bytes(Vec::from_slice(alloc, trace)?);
     let mut out = Mem::new(alloc);
     let outcome = replay_text(alloc, &mut config, &mut trace, &mut out, 1);
     Ok((outcome, out.bytes))
+}
+
+/// Each example's calls, after others, get its replies after theirs.
+pub fn hold(
+    rt: &impl Abort,
+    alloc: Global,
+    config: &str,
+    before: &Example,
+    examples: &[Example],
+) -> Result<(), Fail> {
+    for example in examples {
+        let trace = format!(in alloc; "kcore-trace 1\n{}{}", before.calls, example.calls)?;
+        let replies = format!(in alloc; "{}{}", before.replies, example.replies)?;
+        let (outcome, written) = replayed(alloc, config, trace.as_bytes())?;
+        assert_eq!(rt; outcome, Ok(()));
+        assert_eq!(rt;
+            written.as_slice(),
+            replies.as_bytes(),
+            "at {}",
+            example.calls
+        );
+    }
+    Ok(())
 }

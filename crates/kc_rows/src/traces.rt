@@ -1,14 +1,11 @@
 //! Traces and their replies.
-use crate::support::{Example, SMALL, replayed};
+use crate::support::{Example, NOTHING, SMALL, hold, replayed};
 use kc_cli::TextFault;
 use kc_trace::TraceFault;
 use std::test::Fail;
 
 const EXAMPLES: [Example; 10] = [
-    Example {
-        calls: "",
-        replies: "",
-    },
+    NOTHING,
     // The first run.
     Example {
         calls: "hfault 1\nhwrite 1 0 aa\nhread 1 0 1\n",
@@ -58,18 +55,7 @@ const EXAMPLES: [Example; 10] = [
 
 #[test]
 fn replies_to_traces(rt: HostRuntime) -> Result<(), Fail> {
-    for example in &EXAMPLES {
-        let trace = format!(in rt.alloc(); "kcore-trace 1\n{}", example.calls)?;
-        let (outcome, written) = replayed(&rt, SMALL, trace.as_bytes())?;
-        assert_eq!(rt; outcome, Ok(()));
-        assert_eq!(rt;
-            written.as_slice(),
-            example.replies.as_bytes(),
-            "at {}",
-            example.calls
-        );
-    }
-    Ok(())
+    hold(&rt, rt.alloc(), SMALL, &NOTHING, &EXAMPLES)
 }
 
 #[test]
@@ -85,7 +71,7 @@ fn refused_traces_write_nothing(rt: HostRuntime) -> Result<(), Fail> {
         ("kcore-trace 1\nhfault 1", TraceFault::NoNewline),
     ];
     for (trace, fault) in cases {
-        let (outcome, written) = replayed(&rt, SMALL, trace.as_bytes())?;
+        let (outcome, written) = replayed(rt.alloc(), SMALL, trace.as_bytes())?;
         assert_eq!(rt; outcome, Err(TextFault::Trace(fault)), "at {trace:?}");
         assert!(rt; written.is_empty());
     }
@@ -105,7 +91,7 @@ fn a_cut_trace(rt: HostRuntime) -> Result<(), Fail> {
         } else {
             Err(TextFault::Trace(TraceFault::NoNewline))
         };
-        let (outcome, _) = replayed(&rt, SMALL, part)?;
+        let (outcome, _) = replayed(rt.alloc(), SMALL, part)?;
         assert_eq!(rt; outcome, wanted, "at {end}");
     }
     Ok(())

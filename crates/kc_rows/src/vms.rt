@@ -1,5 +1,5 @@
 //! Stories of VMs: their images, their faults, what they share.
-use crate::support::{Example, SMALL, replayed};
+use crate::support::{Example, NOTHING, SMALL, hold, replayed};
 use std::test::Fail;
 
 /// Two leaves in the place of one.
@@ -7,18 +7,15 @@ const TWO_LEAVES: &str =
     "{\"frames\":8,\"core\":1,\"host\":4,\"leaves\":2,\"approved\":[\"ba7816bf8f01cfea414140de5dae2223b00361a396177a9cb410ff61f20015ad\"]}";
 
 /// A VM whose one image is the approved `abc`, in frame 1, at guest frame 0.
-const BOOT: &str =
-    "hfault 1\nhwrite 1 0 616263\nregvm 0\nregvcpu 0 0\nsetboot 0 0 3\nremap 0 0 1\nverify 0\n";
-
-const BOOTED: &str = "done\ndone\ndone\ndone\nimage 0\ndone\ndone\n";
+const BOOTED: Example = Example {
+    calls: "hfault 1\nhwrite 1 0 616263\nregvm 0\nregvcpu 0 0\nsetboot 0 0 3\nremap 0 0 1\nverify 0\n",
+    replies: "done\ndone\ndone\ndone\nimage 0\ndone\ndone\n",
+};
 
 /// Calls before the VM boots, or without it.
 const BOOTS: [Example; 8] = [
     // The approved image runs.
-    Example {
-        calls: "hfault 1\nhwrite 1 0 616263\nregvm 0\nregvcpu 0 0\nsetboot 0 0 3\nremap 0 0 1\nverify 0\n",
-        replies: "done\ndone\ndone\ndone\nimage 0\ndone\ndone\n",
-    },
+    BOOTED,
     // Another does not, and the VM is dead; its frame is free last, with zero bytes, when the slot is cleared.
     Example {
         calls: "hfault 1\nhwrite 1 0 616264\nregvm 0\nregvcpu 0 0\nsetboot 0 0 3\nremap 0 0 1\nverify 0\ngread 0 0 0 0 1\nverify 0\nclear 0\ntake\ntake\ntake\ntake\nhfault 1\nhread 1 0 3\n",
@@ -92,63 +89,32 @@ const GUESTS: [Example; 6] = [
 
 #[test]
 fn boots(rt: HostRuntime) -> Result<(), Fail> {
-    for example in &BOOTS {
-        let trace = format!(in rt.alloc(); "kcore-trace 1\n{}", example.calls)?;
-        let (outcome, written) = replayed(&rt, SMALL, trace.as_bytes())?;
-        assert_eq!(rt; outcome, Ok(()));
-        assert_eq!(rt;
-            written.as_slice(),
-            example.replies.as_bytes(),
-            "at {}",
-            example.calls
-        );
-    }
-    Ok(())
+    hold(&rt, rt.alloc(), SMALL, &NOTHING, &BOOTS)
 }
 
 #[test]
 fn guests(rt: HostRuntime) -> Result<(), Fail> {
-    for example in &GUESTS {
-        let trace = format!(in rt.alloc(); "kcore-trace 1\n{BOOT}{}", example.calls)?;
-        let replies = format!(in rt.alloc(); "{BOOTED}{}", example.replies)?;
-        let (outcome, written) = replayed(&rt, SMALL, trace.as_bytes())?;
-        assert_eq!(rt; outcome, Ok(()));
-        assert_eq!(rt;
-            written.as_slice(),
-            replies.as_bytes(),
-            "at {}",
-            example.calls
-        );
-    }
-    Ok(())
+    hold(&rt, rt.alloc(), SMALL, &BOOTED, &GUESTS)
 }
 
 /// Two virtual processors wait for one guest frame, and each for itself.
 #[test]
 fn two_wait_for_one_guest_frame(rt: HostRuntime) -> Result<(), Fail> {
-    let trace =
-        b"kcore-trace 1\nhfault 1\nhwrite 1 0 616263\nregvm 0\nregvcpu 0 0\nregvcpu 0 1\nsetboot 0 0 3\nremap 0 0 1\nverify 0\ngread 0 0 7 0 1\ngread 0 1 7 0 1\nmap 0 0 2\nmap 0 1 3\ngread 0 1 7 0 1\nmap 0 1 3\ngive 3\n";
-    let replies =
-        "done\ndone\ndone\ndone\ndone\nimage 0\ndone\ndone\nfault 7\nfault 7\ndone\nrefused mapped\ndata 00\nrefused no-fault\ndone\n";
-    let (outcome, written) = replayed(&rt, SMALL, trace)?;
-    assert_eq!(rt; outcome, Ok(()));
-    assert_eq!(rt; written.as_slice(), replies.as_bytes());
-    Ok(())
+    let example = Example {
+        calls: "hfault 1\nhwrite 1 0 616263\nregvm 0\nregvcpu 0 0\nregvcpu 0 1\nsetboot 0 0 3\nremap 0 0 1\nverify 0\ngread 0 0 7 0 1\ngread 0 1 7 0 1\nmap 0 0 2\nmap 0 1 3\ngread 0 1 7 0 1\nmap 0 1 3\ngive 3\n",
+        replies: "done\ndone\ndone\ndone\ndone\nimage 0\ndone\ndone\nfault 7\nfault 7\ndone\nrefused mapped\ndata 00\nrefused no-fault\ndone\n",
+    };
+    hold(&rt, rt.alloc(), SMALL, &NOTHING, &[example])
 }
 
 /// A refused `map` has taken no leaf, so the two leaves go to the two guest frames that are served.
 #[test]
 fn a_refused_map_takes_no_leaf(rt: HostRuntime) -> Result<(), Fail> {
-    let trace = format!(in rt.alloc();
-        "kcore-trace 1\n{BOOT}gread 0 0 512 0 1\nmap 0 0 0\nmap 0 0 5\ngread 0 0 1024 0 1\nmap 0 0 2\ngread 0 0 512 0 1\nmap 0 0 3\n"
-    )?;
-    let replies = format!(in rt.alloc();
-        "{BOOTED}fault 512\nrefused not-host\nrefused not-host\nfault 1024\ndone\nfault 512\nrefused tables-full\n"
-    )?;
-    let (outcome, written) = replayed(&rt, TWO_LEAVES, trace.as_bytes())?;
-    assert_eq!(rt; outcome, Ok(()));
-    assert_eq!(rt; written.as_slice(), replies.as_bytes());
-    Ok(())
+    let example = Example {
+        calls: "gread 0 0 512 0 1\nmap 0 0 0\nmap 0 0 5\ngread 0 0 1024 0 1\nmap 0 0 2\ngread 0 0 512 0 1\nmap 0 0 3\n",
+        replies: "fault 512\nrefused not-host\nrefused not-host\nfault 1024\ndone\nfault 512\nrefused tables-full\n",
+    };
+    hold(&rt, rt.alloc(), TWO_LEAVES, &BOOTED, &[example])
 }
 
 /// A VM that waits for guest frame 7, gets frame 2 there and writes a byte.
@@ -160,8 +126,8 @@ const WRITTEN: &str = "fault 7\ndone\ndone\ndata 2a\n";
 #[test]
 fn a_hundred_grants(rt: HostRuntime) -> Result<(), Fail> {
     let alloc = rt.alloc();
-    let mut trace = format!(in alloc; "kcore-trace 1\n{BOOT}{WRITE}")?;
-    let mut replies = format!(in alloc; "{BOOTED}{WRITTEN}")?;
+    let mut trace = format!(in alloc; "kcore-trace 1\n{}{WRITE}", BOOTED.calls)?;
+    let mut replies = format!(in alloc; "{}{WRITTEN}", BOOTED.replies)?;
     for _ in 0..100 {
         trace.push_str("grant 0 0 7\n")?;
         replies.push_str("done\n")?;
@@ -174,7 +140,7 @@ fn a_hundred_grants(rt: HostRuntime) -> Result<(), Fail> {
     }
     trace.push_str("hread 2 0 1\nrevoke 0 0 7\n")?;
     replies.push_str("refused not-present\nrefused not-shared\n")?;
-    let (outcome, written) = replayed(&rt, SMALL, trace.as_bytes())?;
+    let (outcome, written) = replayed(rt.alloc(), SMALL, trace.as_bytes())?;
     assert_eq!(rt; outcome, Ok(()));
     assert_eq!(rt; written.as_slice(), replies.as_bytes());
     Ok(())
@@ -206,32 +172,15 @@ const ENDS: [Example; 4] = [
 
 #[test]
 fn ends(rt: HostRuntime) -> Result<(), Fail> {
-    for example in &ENDS {
-        let trace = format!(in rt.alloc(); "kcore-trace 1\n{BOOT}{}", example.calls)?;
-        let replies = format!(in rt.alloc(); "{BOOTED}{}", example.replies)?;
-        let (outcome, written) = replayed(&rt, SMALL, trace.as_bytes())?;
-        assert_eq!(rt; outcome, Ok(()));
-        assert_eq!(rt;
-            written.as_slice(),
-            replies.as_bytes(),
-            "at {}",
-            example.calls
-        );
-    }
-    Ok(())
+    hold(&rt, rt.alloc(), SMALL, &BOOTED, &ENDS)
 }
 
 /// A leaf stays taken where its last guest frame was given up, and comes back when the slot is cleared.
 #[test]
 fn leaves_come_back_when_the_slot_is_cleared(rt: HostRuntime) -> Result<(), Fail> {
-    let trace = format!(in rt.alloc();
-        "kcore-trace 1\n{BOOT}gread 0 0 512 0 1\nmap 0 0 2\ndrop 0 0 512\ngread 0 0 1024 0 1\nmap 0 0 3\nclear 0\ntake\ntake\ntake\ntake\ntake\n"
-    )?;
-    let replies = format!(in rt.alloc();
-        "{BOOTED}fault 512\ndone\ndone\nfault 1024\nrefused tables-full\ndone\nframe 5\nframe 6\nframe 7\nframe 2\nframe 1\n"
-    )?;
-    let (outcome, written) = replayed(&rt, TWO_LEAVES, trace.as_bytes())?;
-    assert_eq!(rt; outcome, Ok(()));
-    assert_eq!(rt; written.as_slice(), replies.as_bytes());
-    Ok(())
+    let example = Example {
+        calls: "gread 0 0 512 0 1\nmap 0 0 2\ndrop 0 0 512\ngread 0 0 1024 0 1\nmap 0 0 3\nclear 0\ntake\ntake\ntake\ntake\ntake\n",
+        replies: "fault 512\ndone\ndone\nfault 1024\nrefused tables-full\ndone\nframe 5\nframe 6\nframe 7\nframe 2\nframe 1\n",
+    };
+    hold(&rt, rt.alloc(), TWO_LEAVES, &BOOTED, &[example])
 }
