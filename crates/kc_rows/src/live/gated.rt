@@ -4,7 +4,7 @@ use crate::live::{programs, small, stories};
 use crate::support::config;
 use kc_live::{History, Receipt, run_live, settle};
 use kc_replay::{Gate, OpenGate};
-use kc_types::{Actor, Call, Refusal, Reply};
+use kc_types::{Actor, Call, Reply};
 use std::alloc::Global;
 use std::sync::atomic::{AtomicBool, AtomicU64, Ordering};
 use std::sync::{Mutex, Wait};
@@ -32,13 +32,7 @@ fn run_both<G: Gate + Sync, R: Threads + Wait + Sync>(
 const MIXED: &str = "take\ngread 0 0 0 0 1\nhfault 5\ngread 0 0 1 0 1\ngive 2\n";
 
 /// What they are answered.
-const REPLIES: [Reply; 5] = [
-    Reply::Frame(5),
-    Reply::Refused(Refusal::NoVm),
-    Reply::Done,
-    Reply::Refused(Refusal::NoVm),
-    Reply::Done,
-];
+const REPLIES: &str = "frame 5\nrefused no-vm\ndone\nrefused no-vm\ndone\n";
 
 #[test]
 fn threads_follow_a_script(rt: HostRuntime) -> Result<(), Fail> {
@@ -52,7 +46,7 @@ fn threads_follow_a_script(rt: HostRuntime) -> Result<(), Fail> {
     let (history, rows) = run_both(&rt, alloc, &gate).ok_or("no answer")?;
     assert!(rt; !gate.gave_up.load(Ordering::SeqCst));
     assert!(rt; stories::has_calls(alloc, &history, MIXED));
-    assert!(rt; stories::has_replies(&history, &REPLIES));
+    assert!(rt; stories::has_replies(alloc, &history, REPLIES));
     assert!(rt; settle(alloc, &history, &rows)?);
     Ok(())
 }
@@ -124,7 +118,7 @@ fn a_vm_boots_and_touches_memory(rt: HostRuntime) -> Result<(), Fail> {
         return Err(Fail::from("no answer"));
     };
     assert!(rt; !gate.gave_up.load(Ordering::SeqCst));
-    assert!(rt; stories::has_replies(&history, &stories::replies(alloc).ok_or("no replies")?));
+    assert!(rt; stories::has_replies(alloc, &history, stories::STORY_REPLIES));
     assert!(rt; settle(alloc, &history, &rows)?);
     Ok(())
 }

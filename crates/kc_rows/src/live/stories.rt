@@ -1,8 +1,8 @@
 //! VMs that run live.
 use crate::live::programs;
-use crate::support::calls_of;
 use kc_live::{History, Program};
-use kc_types::{Actor, Call, Data, Reply};
+use kc_trace::{LONGEST_CALL, LONGEST_REPLY, push_call, push_reply};
+use kc_types::{Actor, Call};
 use std::alloc::Global;
 
 /// Calls 0 to 9: a VM of two virtual processors boots, and each is supplied with a frame.
@@ -22,53 +22,44 @@ pub const STORY: [(Actor, &str); 3] = [
     (Actor::Vcpu(0, 1), OTHER),
 ];
 
-fn byte(alloc: Global, byte: u8) -> Option<Reply> {
-    Some(Reply::Data(Data::try_new(vec![in alloc; byte].ok()?)?))
-}
-
 /// What the story's calls are answered where the guests first touch memory before the host supplies it.
-pub fn replies(alloc: Global) -> Option<[Reply; 16]> {
-    Some([
-        Reply::Done,
-        Reply::Done,
-        Reply::Done,
-        Reply::Done,
-        Reply::Done,
-        Reply::Image(0),
-        Reply::Done,
-        Reply::Done,
-        Reply::Fault(7),
-        Reply::Fault(8),
-        Reply::Done,
-        Reply::Done,
-        Reply::Done,
-        Reply::Done,
-        byte(alloc, 0x2a)?,
-        byte(alloc, 0x2b)?,
-    ])
+pub const STORY_REPLIES: &str =
+    "done\ndone\ndone\ndone\ndone\nimage 0\ndone\ndone\nfault 7\nfault 8\ndone\ndone\ndone\ndone\ndata 2a\ndata 2b\n";
+
+/// The calls of a history, as they are written in a trace.
+fn calls_in(alloc: Global, history: &History) -> Option<Vec<u8>> {
+    let mut text = Vec::new(alloc);
+    for entry in history.entries() {
+        text.reserve(LONGEST_CALL).ok()?;
+        push_call(&mut text, &entry.call);
+    }
+    Some(text)
 }
 
-/// Whether the calls of a trace, whose header is left out, are those of the history, in its order.
+/// Whether these are the calls of a history, in its order.
 pub fn has_calls(alloc: Global, history: &History, lines: &str) -> bool {
-    let Some(calls) = calls_of(alloc, lines) else {
-        return false;
-    };
-    history.entries().len() == calls.len()
-        && history
-            .entries()
-            .iter()
-            .zip(&calls)
-            .all(|(entry, call)| entry.call == *call)
+    match calls_in(alloc, history) {
+        Some(text) => text.as_slice() == lines.as_bytes(),
+        None => false,
+    }
 }
 
-/// Whether these are the replies of the history, in its order.
-pub fn has_replies(history: &History, replies: &[Reply]) -> bool {
-    history.entries().len() == replies.len()
-        && history
-            .entries()
-            .iter()
-            .zip(replies)
-            .all(|(entry, reply)| entry.reply == *reply)
+/// The replies of a history, as they are written.
+fn replies_in(alloc: Global, history: &History) -> Option<Vec<u8>> {
+    let mut text = Vec::new(alloc);
+    for entry in history.entries() {
+        text.reserve(LONGEST_REPLY).ok()?;
+        push_reply(&mut text, &entry.reply);
+    }
+    Some(text)
+}
+
+/// Whether these are the replies of a history, in its order.
+pub fn has_replies(alloc: Global, history: &History, lines: &str) -> bool {
+    match replies_in(alloc, history) {
+        Some(text) => text.as_slice() == lines.as_bytes(),
+        None => false,
+    }
 }
 
 /// 500 calls of a virtual processor, at 50 guest frames of its own.
