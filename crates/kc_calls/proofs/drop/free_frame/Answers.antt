@@ -1,39 +1,38 @@
 use Rattle.std.proofs.Common.{◌≡◌, Some, is_some, refl, sym, ap}
-use Rattle.kc_parts.specs.Held.{page_at}
-use Rattle.kc_parts.specs.States.{frame_in}
+use Rattle.kc_page.specs.declared.page.Page.{Page}
+use Rattle.kc_parts.specs.Held.{page_at, with_page, link_of}
+use Rattle.kc_parts.specs.States.{frame_in, IsLinked}
 use Rattle.kc_parts.proofs.Pages.{page-set}
 use Rattle.kc_parts.proofs.Seen.{linked-moved}
 use Rattle.kc_calls.proofs.Frames.{room-page, room-move, room-through}
 use Rattle.kc_calls.proofs.Hosts.{loose-page}
 use Rattle.kc_calls.proofs.Drops.{state-freed}
 use Rattle.kc_calls.proofs.drop.free_frame.Goals as goal
+use Rattle.kc_calls.proofs.drop.free_frame.Goals.{After-unwrap-page}
+
+at : (c : After-unwrap-page) → page_at c.args.parts.now c.args.frame ≡ Some c.unwrap-page.result.now
+at c = sym (rw c.unwrap-page.ensures at c.frame_mut.ensures.value)
+
+-- the frame's page may change in all but its links
+linked : (c : After-unwrap-page) (new : Page) → link_of new ≡ link_of c.unwrap-page.result.now → IsLinked c.args.config.now (with_page c.args.parts.now c.args.frame new)
+linked c new same = linked-moved _ c.args.parts.now _ _ new c.requires.linked (at c) same c.requires.loose.absent (λ host. c.requires.loose.alone)
 
 pub append_free-requires-clause-lists : goal.append_free-requires-clause-lists
-append_free-requires-clause-lists c =
-    let at : page_at c.args.parts.now c.args.frame ≡ Some c.unwrap-page.result.now = sym (rw c.unwrap-page.ensures at c.frame_mut.ensures.value) in
-    (linked-moved c.args.config.now c.args.parts.now c.args.frame c.unwrap-page.result.now _ c.requires.linked at refl c.requires.loose.absent (λ host. c.requires.loose.alone)).lists
+append_free-requires-clause-lists c = (linked (goal.at.append_free-requires-clause-lists c).After-unwrap-page _ refl).lists
 
 pub append_free-requires-clause-loose : goal.append_free-requires-clause-loose
-append_free-requires-clause-loose c =
-    let at : page_at c.args.parts.now c.args.frame ≡ Some c.unwrap-page.result.now = sym (rw c.unwrap-page.ensures at c.frame_mut.ensures.value) in
-    loose-page c.args.parts.now c.args.frame c.unwrap-page.result.now _ at refl c.requires.loose
+append_free-requires-clause-loose c = loose-page c.args.parts.now _ _ _ (at (goal.at.append_free-requires-clause-loose c).After-unwrap-page) refl c.requires.loose
 
 pub append_free-requires-clause-free : goal.append_free-requires-clause-free
-append_free-requires-clause-free c =
-    let at : page_at c.args.parts.now c.args.frame ≡ Some c.unwrap-page.result.now = sym (rw c.unwrap-page.ensures at c.frame_mut.ensures.value) in
-    ap (λ there. (frame_in there).owner) (page-set c.args.parts.now c.args.frame c.unwrap-page.result.now _ at)
+append_free-requires-clause-free c = ap (λ there. (frame_in there).owner) (page-set c.args.parts.now _ _ _ (at (goal.at.append_free-requires-clause-free c).After-unwrap-page))
 
 pub returns-clause-state : goal.returns-clause-state
 returns-clause-state c =
-    let at : page_at c.args.parts.now c.args.frame ≡ Some c.unwrap-page.result.now = sym (rw c.unwrap-page.ensures at c.frame_mut.ensures.value) in
-    state-freed c.args.config.now c.args.parts.now c.append_free.new.self c.args.frame c.unwrap-page.result.now _ (c.requires.linked.frames c.args.frame (ap is_some at)) at refl (rw c.scrub.ensures refl) c.append_free.ensures.rest c.append_free.ensures.frames
+    let is = at (goal.at.returns-clause-state c).After-unwrap-page in
+    state-freed _ c.args.parts.now c.append_free.new.self _ _ _ (c.requires.linked.frames c.args.frame (ap is_some is)) is refl (rw c.scrub.ensures refl) c.append_free.ensures.rest c.append_free.ensures.frames
 
 pub returns-clause-linked : goal.returns-clause-linked
-returns-clause-linked c =
-    let at : page_at c.args.parts.now c.args.frame ≡ Some c.unwrap-page.result.now = sym (rw c.unwrap-page.ensures at c.frame_mut.ensures.value) in
-    c.append_free.ensures.rest.linked c.args.config.now (linked-moved c.args.config.now c.args.parts.now c.args.frame c.unwrap-page.result.now _ c.requires.linked at refl c.requires.loose.absent (λ host. c.requires.loose.alone))
+returns-clause-linked c = c.append_free.ensures.rest.linked _ (linked (goal.at.returns-clause-linked c).After-unwrap-page _ refl)
 
 pub returns-clause-room : goal.returns-clause-room
-returns-clause-room c =
-    let at : page_at c.args.parts.now c.args.frame ≡ Some c.unwrap-page.result.now = sym (rw c.unwrap-page.ensures at c.frame_mut.ensures.value) in
-    room-through c.args.parts.now _ c.append_free.new.self (room-page c.args.parts.now c.args.frame c.unwrap-page.result.now _ at) (room-move _ c.append_free.new.self c.append_free.ensures.rest)
+returns-clause-room c = room-through _ _ c.append_free.new.self (room-page c.args.parts.now _ _ _ (at (goal.at.returns-clause-room c).After-unwrap-page)) (room-move _ _ c.append_free.ensures.rest)
