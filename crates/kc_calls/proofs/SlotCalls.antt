@@ -42,15 +42,22 @@ refusal-register_vm m v slot frames low is = rw (vm-fits m v low, is) (or_else-l
 pub refusal-register_vcpu : (m : State) (v c : ℕ) (slot : LinkedSlot) (frames : List ℕ) → v < slot_count m.config → c < vcpu_limit → slot_at m v ≡ unlinked_slot slot frames → refusal m (RegisterVcpu v c) ≡ add_vcpu_refusal slot c
 refusal-register_vcpu m v c slot frames low vcpu_low is = rw (vm-fits m v low, vcpu-fits c vcpu_low, is) refl
 
-pub refusal-set_boot : (m : State) (v base len : ℕ) (slot : LinkedSlot) (frames : List ℕ) → v < slot_count m.config → base ≤ 262143 → base + pages_of len ≤ 262144 → 0 < len → len ≤ 1048576 → slot_at m v ≡ unlinked_slot slot frames
-    → refusal m (SetBoot v base len) ≡ add_image_refusal slot base len
-refusal-set_boot m v base len slot frames low base_low within some small is = rw (vm-fits m v low, gfn-fits, range-fits, is) refl
-  where
-    gfn-fits : when (nat_lt 262143 base || nat_lt 262144 (base + pages_of len)) BadGfn ≡ None
-    gfn-fits = grind (arith, common_steps, base_low, within)
+gfn-fits : (base len : ℕ) → base ≤ 262143 → base + pages_of len ≤ 262144 → when (nat_lt 262143 base || nat_lt 262144 (base + pages_of len)) BadGfn ≡ None
+gfn-fits base len base_low within = grind (arith, common_steps, base_low, within)
 
+-- an image within the guest frames, of a length that a boot image may have
+pub record IsFitting (base len : ℕ) : Type 0 where
+  pub base_low : base ≤ 262143
+  pub within : base + pages_of len ≤ 262144
+  pub some : 0 < len
+  pub small : len ≤ 1048576
+
+pub refusal-set_boot : (m : State) (v base len : ℕ) (slot : LinkedSlot) (frames : List ℕ) → v < slot_count m.config → IsFitting base len → slot_at m v ≡ unlinked_slot slot frames
+    → refusal m (SetBoot v base len) ≡ add_image_refusal slot base len
+refusal-set_boot m v base len slot frames low fits is = rw (vm-fits m v low, gfn-fits base len fits.base_low fits.within, range-fits, is) refl
+  where
     range-fits : when ((len == 0) || nat_lt 1048576 len) BadRange ≡ None
-    range-fits = grind (arith, common_steps, some, small)
+    range-fits = let some = fits.some in let small = fits.small in grind (arith, common_steps, some, small)
 
 -- the slot registers
 pub answer-register_vm : (config : Configuration) (h : Held) (v : ℕ) (vm new : VmSlot) → IsLinked config h → v < slot_count config → vm_at h v ≡ Some vm → register_refusal vm.slot ≡ None
@@ -73,13 +80,13 @@ answer-register_vcpu config h v c vm new linked low vcpu_low at served is =
     (ap (λ (slot : Slot). (reply.Done, with_slot m v (state.with_vcpu slot c (record { registered = true; fault = None })))) there))
 
 -- the slot gets an image
-pub answer-set_boot : (config : Configuration) (h : Held) (v base len number : ℕ) (vm new : VmSlot) → IsLinked config h → v < slot_count config → base ≤ 262143 → base + pages_of len ≤ 262144 → 0 < len → len ≤ 1048576
+pub answer-set_boot : (config : Configuration) (h : Held) (v base len number : ℕ) (vm new : VmSlot) → IsLinked config h → v < slot_count config → IsFitting base len
     → vm_at h v ≡ Some vm → add_image_refusal vm.slot base len ≡ None → number ≡ length vm.slot.images → new ≡ record vm { slot = with_image vm.slot base len } → IsAnswer config h (with_vm h v new) (SetBoot v base len) (reply.Image number)
-answer-set_boot config h v base len number vm new linked low base_low within some small at served count is =
+answer-set_boot config h v base len number vm new linked low fits at served count is =
     let m = state_of config h in
     let there = slot-is config h v vm low at in
     rw (is, count) (answer-slot config h v vm (record vm { slot = with_image vm.slot base len }) (SetBoot v base len) (reply.Image (length vm.slot.images)) linked at refl refl
-    (refusal-set_boot m v base len vm.slot _ low base_low within some small there ∙ served)
+    (refusal-set_boot m v base len vm.slot _ low fits there ∙ served)
     (ap (λ (slot : Slot). (reply.Image (length slot.images), with_slot m v (record slot { images = slot.images ++ record { base = base; len = len; pages = 0 } ∷ [] }))) there))
 
 -- an image that is refused before its slot is looked at
@@ -90,10 +97,7 @@ refusal-bad_gfn m v base len low past = rw (vm-fits m v low, bad) refl
     bad = elim past [ inl high ↦ grind (arith, common_steps, high) | inr long ↦ grind (arith, common_steps, long) ]
 
 pub refusal-bad_range : (m : State) (v base len : ℕ) → v < slot_count m.config → base ≤ 262143 → base + pages_of len ≤ 262144 → (len ≡ 0) ⊎ (1048576 < len) → refusal m (SetBoot v base len) ≡ Some BadRange
-refusal-bad_range m v base len low base_low within past = rw (vm-fits m v low, gfn-fits, bad) refl
+refusal-bad_range m v base len low base_low within past = rw (vm-fits m v low, gfn-fits base len base_low within, bad) refl
   where
-    gfn-fits : when (nat_lt 262143 base || nat_lt 262144 (base + pages_of len)) BadGfn ≡ None
-    gfn-fits = grind (arith, common_steps, base_low, within)
-
     bad : when ((len == 0) || nat_lt 1048576 len) BadRange ≡ Some BadRange
     bad = elim past [ inl none ↦ rw none refl | inr long ↦ grind (arith, common_steps, long) ]

@@ -9,39 +9,35 @@ use Rattle.kc_calls.proofs.Frames.{some-lent, room-page}
 use Rattle.kc_calls.proofs.Needed.{mapped-needed}
 use Rattle.kc_calls.proofs.Guests.{state-mapped, share-mapped, few-granted}
 use Rattle.kc_calls.proofs.guest.grant.Goals as goal
+use Rattle.kc_calls.proofs.guest.grant.Goals.{After-unwrap-frame, After-unwrap-page}
+
+mapped : (c : After-unwrap-frame) → mapped_at (state_of c.args.config.now c.args.parts.now) c.args.vm c.args.gfn ≡ Some c.unwrap-frame.result
+mapped c =
+    let is : c.unwrap-gfn.result ≡ c.args.gfn = rw c.unwrap-gfn.ensures at c.try_new.ensures.value in
+    rw (← is) (sym c.mapped_at.ensures ∙ c.unwrap-frame.ensures)
+
+at : (c : After-unwrap-page) → page_at c.args.parts.now c.unwrap-frame.result ≡ Some c.unwrap-page.result.now
+at c = sym (rw c.unwrap-page.ensures at c.frame_mut.ensures.value)
 
 pub unwrap-page-requires : goal.unwrap-page-requires
 unwrap-page-requires c =
-    let is : c.unwrap-gfn.result ≡ c.args.gfn = rw c.unwrap-gfn.ensures at c.try_new.ensures.value in
-    let m = state_of c.args.config.now c.args.parts.now in
-    let mapped : mapped_at m c.args.vm c.args.gfn ≡ Some c.unwrap-frame.result = rw (← is) (sym c.mapped_at.ensures ∙ c.unwrap-frame.ensures) in
-    some-lent c.frame_mut.result _ c.frame_mut.ensures.value (mapped-needed c.args.config.now c.args.parts.now (Grant c.args.vm c.args.vcpu c.args.gfn) c.requires.able c.args.vm c.args.gfn c.unwrap-frame.result refl
-    (guest_frame-served m c.args.vm c.args.vcpu c.args.gfn _ c.requires.served).0.call.vm mapped)
+    some-lent _ _ c.frame_mut.ensures.value (mapped-needed _ _ _ c.requires.able c.args.vm c.args.gfn _ refl (guest_frame-served (state_of c.args.config.now c.args.parts.now) c.args.vm c.args.vcpu c.args.gfn _ c.requires.served).0.call.vm
+    (mapped (goal.at.unwrap-page-requires c).After-unwrap-frame))
 
 pub overflow_add-page : goal.overflow_add-page
 overflow_add-page c =
-    let is : c.unwrap-gfn.result ≡ c.args.gfn = rw c.unwrap-gfn.ensures at c.try_new.ensures.value in
-    let m = state_of c.args.config.now c.args.parts.now in
-    let mapped : mapped_at m c.args.vm c.args.gfn ≡ Some c.unwrap-frame.result = rw (← is) (sym c.mapped_at.ensures ∙ c.unwrap-frame.ensures) in
-    let at : page_at c.args.parts.now c.unwrap-frame.result ≡ Some c.unwrap-page.result.now = sym (rw c.unwrap-page.ensures at c.frame_mut.ensures.value) in
-    let same = share-mapped c.args.config.now c.args.parts.now c.args.vm c.args.gfn c.unwrap-frame.result c.unwrap-page.result.now c.requires.able.linked mapped at in
-    let bound = few-granted m c.args.vm c.args.vcpu c.args.gfn c.requires.served in
+    let k = goal.at.overflow_add-page c in
+    let same = share-mapped _ _ _ _ _ _ c.requires.able.linked (mapped k.After-unwrap-frame) (at k.After-unwrap-page) in
+    let bound = few-granted (state_of c.args.config.now c.args.parts.now) c.args.vm c.args.vcpu c.args.gfn c.requires.served in
     omega (arith, same, bound)
 
 pub returns-clause-state : goal.returns-clause-state
 returns-clause-state c =
-    let is : c.unwrap-gfn.result ≡ c.args.gfn = rw c.unwrap-gfn.ensures at c.try_new.ensures.value in
-    let m = state_of c.args.config.now c.args.parts.now in
-    let mapped : mapped_at m c.args.vm c.args.gfn ≡ Some c.unwrap-frame.result = rw (← is) (sym c.mapped_at.ensures ∙ c.unwrap-frame.ensures) in
-    let at : page_at c.args.parts.now c.unwrap-frame.result ≡ Some c.unwrap-page.result.now = sym (rw c.unwrap-page.ensures at c.frame_mut.ensures.value) in
-    state-mapped c.args.config.now c.args.parts.now c.args.vm c.args.gfn c.unwrap-frame.result c.unwrap-page.result.now _ (λ frame. record frame { share = frame.share + 1 }) c.requires.able.linked mapped at refl refl
+    let k = goal.at.returns-clause-state c in
+    state-mapped _ _ _ _ _ _ _ (λ frame. record frame { share = frame.share + 1 }) c.requires.able.linked (mapped k.After-unwrap-frame) (at k.After-unwrap-page) refl refl
 
 pub returns-clause-linked : goal.returns-clause-linked
-returns-clause-linked c =
-    let at : page_at c.args.parts.now c.unwrap-frame.result ≡ Some c.unwrap-page.result.now = sym (rw c.unwrap-page.ensures at c.frame_mut.ensures.value) in
-    linked-kept c.args.config.now c.args.parts.now c.unwrap-frame.result c.unwrap-page.result.now _ c.requires.able.linked at refl refl
+returns-clause-linked c = linked-kept _ _ _ _ _ c.requires.able.linked (at (goal.at.returns-clause-linked c).After-unwrap-page) refl refl
 
 pub returns-clause-room : goal.returns-clause-room
-returns-clause-room c =
-    let at : page_at c.args.parts.now c.unwrap-frame.result ≡ Some c.unwrap-page.result.now = sym (rw c.unwrap-page.ensures at c.frame_mut.ensures.value) in
-    room-page c.args.parts.now c.unwrap-frame.result c.unwrap-page.result.now _ at
+returns-clause-room c = room-page _ _ _ _ (at (goal.at.returns-clause-room c).After-unwrap-page)

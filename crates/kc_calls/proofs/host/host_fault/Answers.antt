@@ -1,4 +1,6 @@
-use Rattle.std.proofs.Common.{◌≡◌, Some, true, refl, sym}
+use Rattle.std.proofs.Common.{◌≡◌, ◌<◌, Some, None, true, refl, sym}
+use Rattle.kc_types.specs.declared.call.Call.TheVariants.{HostFault}
+use Rattle.kc_model.specs.Refusals.{refusal}
 use Rattle.kc_parts.specs.Held.{page_at}
 use Rattle.kc_parts.specs.States.{state_of}
 use Rattle.kc_parts.proofs.Seen.{linked-kept}
@@ -6,26 +8,32 @@ use Rattle.kc_model.proofs.Served.{host_fault-served}
 use Rattle.kc_calls.proofs.Frames.{some-lent, there, changed, room-page}
 use Rattle.kc_calls.proofs.Hosts.{fault-touched}
 use Rattle.kc_calls.proofs.host.host_fault.Goals as goal
+use Rattle.kc_calls.proofs.host.host_fault.Goals.{After-unwrap-frame, After-unwrap-page}
+
+is_frame : (c : After-unwrap-frame) → c.unwrap-frame.result ≡ c.args.frame
+is_frame c = rw c.unwrap-frame.ensures at c.frame.ensures.value
+
+served : (c : After-unwrap-frame) → refusal (state_of c.args.config.now c.args.parts.now) (HostFault c.unwrap-frame.result) ≡ None
+served c = rw (is_frame c) c.requires.served
+
+low : (c : After-unwrap-frame) → c.unwrap-frame.result < c.args.config.now.frames
+low c = (host_fault-served (state_of c.args.config.now c.args.parts.now) _ (served c)).0
+
+at : (c : After-unwrap-page) → page_at c.args.parts.now c.unwrap-frame.result ≡ Some c.unwrap-page.result.now
+at c = sym (rw c.unwrap-page.ensures at c.frame_mut.ensures.value)
 
 pub unwrap-page-requires : goal.unwrap-page-requires
 unwrap-page-requires c =
-    let is : c.unwrap-frame.result ≡ c.args.frame = rw c.unwrap-frame.ensures at c.frame.ensures.value in
-    let m = state_of c.args.config.now c.args.parts.now in
-    some-lent c.frame_mut.result _ c.frame_mut.ensures.value (rw is (there c.args.config.now c.args.parts.now c.args.frame (host_fault-served m c.args.frame c.requires.served).0 (fault-touched m c.args.frame c.requires.served)))
+    let k = (goal.at.unwrap-page-requires c).After-unwrap-frame in
+    some-lent _ _ c.frame_mut.ensures.value (there c.args.config.now c.args.parts.now _ (low k) (fault-touched (state_of c.args.config.now c.args.parts.now) c.unwrap-frame.result (served k)))
 
 pub returns-clause-state : goal.returns-clause-state
 returns-clause-state c =
-    let is : c.unwrap-frame.result ≡ c.args.frame = rw c.unwrap-frame.ensures at c.frame.ensures.value in
-    let at : page_at c.args.parts.now c.unwrap-frame.result ≡ Some c.unwrap-page.result.now = sym (rw c.unwrap-page.ensures at c.frame_mut.ensures.value) in
-    let m = state_of c.args.config.now c.args.parts.now in
-    rw (← is) (changed c.args.config.now c.args.parts.now c.unwrap-frame.result c.unwrap-page.result.now _ (λ frame. record frame { present = true }) (rw is (host_fault-served m c.args.frame c.requires.served).0) at refl refl)
+    let k = goal.at.returns-clause-state c in
+    rw (← is_frame k.After-unwrap-frame) (changed c.args.config.now c.args.parts.now _ _ _ (λ frame. record frame { present = true }) (low k.After-unwrap-frame) (at k.After-unwrap-page) refl refl)
 
 pub returns-clause-linked : goal.returns-clause-linked
-returns-clause-linked c =
-    let at : page_at c.args.parts.now c.unwrap-frame.result ≡ Some c.unwrap-page.result.now = sym (rw c.unwrap-page.ensures at c.frame_mut.ensures.value) in
-    linked-kept c.args.config.now c.args.parts.now c.unwrap-frame.result c.unwrap-page.result.now _ c.requires.linked at refl refl
+returns-clause-linked c = linked-kept _ _ _ _ _ c.requires.linked (at (goal.at.returns-clause-linked c).After-unwrap-page) refl refl
 
 pub returns-clause-room : goal.returns-clause-room
-returns-clause-room c =
-    let at : page_at c.args.parts.now c.unwrap-frame.result ≡ Some c.unwrap-page.result.now = sym (rw c.unwrap-page.ensures at c.frame_mut.ensures.value) in
-    room-page c.args.parts.now c.unwrap-frame.result c.unwrap-page.result.now _ at
+returns-clause-room c = room-page _ _ _ _ (at (goal.at.returns-clause-room c).After-unwrap-page)

@@ -11,36 +11,38 @@ use Rattle.kc_calls.proofs.Needed.{slot-needed}
 use Rattle.kc_calls.proofs.Answered.{answer-refused, answer-slot_refused, past-limit}
 use Rattle.kc_calls.proofs.SlotCalls.{vm-past, vm-fits, vcpu-past, refusal-register_vcpu, answer-register_vcpu}
 use Rattle.kc_calls.proofs.slots.register_vcpu.Goals as goal
+use Rattle.kc_calls.proofs.slots.register_vcpu.Goals.{In-Some, In-Some-try_new, After-unwrap-slot}
+
+low : (c : In-Some) → c.args.vm < slot_count c.args.config.now
+low c = c.in-Some.ensures.valid.0 refl
+
+vcpu_low : (c : In-Some-try_new) → c.args.vcpu < vcpu_limit
+vcpu_low c = c.in-Some-try_new.ensures.valid.0 refl
+
+at : (c : After-unwrap-slot) → vm_at c.args.parts.now c.args.vm ≡ Some c.unwrap-slot.result.now
+at c = rw c.in-Some.ensures.value at (sym (rw c.unwrap-slot.ensures at c.vm_mut.ensures.value))
 
 pub returns-in_default : goal.returns-in_default
-returns-in_default c =
-    let m = state_of c.args.config.now c.args.parts.now in
-    answer-refused c.args.config.now c.args.parts.now (RegisterVcpu c.args.vm c.args.vcpu) BadVm c.requires.linked (rw (vm-past m c.args.vm (past-limit c.vm.result c.args.vm (slot_count c.args.config.now) c.in_default.is c.vm.ensures.valid)) refl)
+returns-in_default c = answer-refused _ _ _ BadVm c.requires.linked (rw (vm-past (state_of c.args.config.now c.args.parts.now) c.args.vm (past-limit _ _ _ c.in_default.is c.vm.ensures.valid)) refl)
 
 pub returns-in_default-try_new : goal.returns-in_default-try_new
 returns-in_default-try_new c =
-    let low : c.args.vm < slot_count c.args.config.now = c.in-Some.ensures.valid.0 refl in
-    let m = state_of c.args.config.now c.args.parts.now in
-    answer-refused c.args.config.now c.args.parts.now (RegisterVcpu c.args.vm c.args.vcpu) BadVcpu c.requires.linked
-    (rw (vm-fits m c.args.vm low, vcpu-past c.args.vcpu (past-limit c.try_new.result c.args.vcpu vcpu_limit c.in_default-try_new.is c.try_new.ensures.valid)) refl)
+    answer-refused _ _ _ BadVcpu c.requires.linked
+    (rw (vm-fits (state_of c.args.config.now c.args.parts.now) c.args.vm (low (goal.at.returns-in_default-try_new c).In-Some), vcpu-past c.args.vcpu (past-limit _ _ _ c.in_default-try_new.is c.try_new.ensures.valid)) refl)
 
 pub unwrap-slot-requires : goal.unwrap-slot-requires
 unwrap-slot-requires c =
-    let low : c.args.vm < slot_count c.args.config.now = c.in-Some.ensures.valid.0 refl in
-    some-lent c.vm_mut.result _ c.vm_mut.ensures.value (rw c.in-Some.ensures.value (slot-needed c.args.config.now c.args.parts.now (RegisterVcpu c.args.vm c.args.vcpu) c.requires c.args.vm refl low))
+    some-lent _ _ c.vm_mut.ensures.value (rw c.in-Some.ensures.value (slot-needed _ _ _ c.requires c.args.vm refl (low (goal.at.unwrap-slot-requires c).In-Some)))
 
 pub returns-in-Ok : goal.returns-in-Ok
 returns-in-Ok c =
-    let low : c.args.vm < slot_count c.args.config.now = c.in-Some.ensures.valid.0 refl in
-    let vcpu_low : c.args.vcpu < vcpu_limit = c.in-Some-try_new.ensures.valid.0 refl in
-    let at : vm_at c.args.parts.now c.args.vm ≡ Some c.unwrap-slot.result.now = rw c.in-Some.ensures.value at (sym (rw c.unwrap-slot.ensures at c.vm_mut.ensures.value)) in
-    rw c.in-Some.ensures.value (answer-register_vcpu c.args.config.now c.args.parts.now c.args.vm c.args.vcpu c.unwrap-slot.result.now _ c.requires.linked low vcpu_low at (rw c.in-Some-try_new.ensures.value at c.in-Ok.ensures.answer) (rw c.in-Some-try_new.ensures.value at c.in-Ok.ensures.ok))
+    let k = goal.at.returns-in-Ok c in
+    rw c.in-Some.ensures.value (answer-register_vcpu _ _ _ _ _ _ c.requires.linked (low k.In-Some) (vcpu_low k.In-Some-try_new) (at k.After-unwrap-slot)
+    (rw c.in-Some-try_new.ensures.value at c.in-Ok.ensures.answer) (rw c.in-Some-try_new.ensures.value at c.in-Ok.ensures.ok))
 
 pub returns-in-Err : goal.returns-in-Err
 returns-in-Err c =
-    let low : c.args.vm < slot_count c.args.config.now = c.in-Some.ensures.valid.0 refl in
-    let vcpu_low : c.args.vcpu < vcpu_limit = c.in-Some-try_new.ensures.valid.0 refl in
-    let at : vm_at c.args.parts.now c.args.vm ≡ Some c.unwrap-slot.result.now = rw c.in-Some.ensures.value at (sym (rw c.unwrap-slot.ensures at c.vm_mut.ensures.value)) in
-    let m = state_of c.args.config.now c.args.parts.now in
-    rw c.in-Some.ensures.value (answer-slot_refused c.args.config.now c.args.parts.now c.args.vm c.unwrap-slot.result.now _ (RegisterVcpu c.args.vm c.args.vcpu) c.in-Err.refusal c.requires.linked at c.in-Err.ensures.err
-    (refusal-register_vcpu m c.args.vm c.args.vcpu c.unwrap-slot.result.now.slot _ low vcpu_low (slot-is c.args.config.now c.args.parts.now c.args.vm c.unwrap-slot.result.now low at) ∙ rw c.in-Some-try_new.ensures.value at c.in-Err.ensures.answer))
+    let k = goal.at.returns-in-Err c in
+    rw c.in-Some.ensures.value (answer-slot_refused _ _ _ _ _ _ c.in-Err.refusal c.requires.linked (at k.After-unwrap-slot) c.in-Err.ensures.err
+    (refusal-register_vcpu (state_of c.args.config.now c.args.parts.now) _ _ c.unwrap-slot.result.now.slot _ (low k.In-Some) (vcpu_low k.In-Some-try_new)
+    (slot-is c.args.config.now c.args.parts.now _ _ (low k.In-Some) (at k.After-unwrap-slot)) ∙ rw c.in-Some-try_new.ensures.value at c.in-Err.ensures.answer))
