@@ -1,7 +1,6 @@
 use Rattle.std.proofs.Common.{◌≡◌, Some, is_some, refl, sym, ap}
-use Rattle.kc_page.specs.declared.page.Page.{Page}
-use Rattle.kc_parts.specs.Held.{page_at, with_page, link_of}
-use Rattle.kc_parts.specs.States.{frame_in, IsLinked}
+use Rattle.kc_parts.specs.Held.{page_at}
+use Rattle.kc_parts.specs.States.{frame_in}
 use Rattle.kc_parts.proofs.Pages.{page-set}
 use Rattle.kc_parts.proofs.Seen.{linked-moved}
 use Rattle.kc_calls.proofs.Frames.{room-page, room-move, room-through}

@@ -1,5 +1,4 @@
 use Rattle.std.proofs.Common.{◌≡◌, eq-eqb, true, is_some, refl, ◌∙◌}
-use Rattle.kc_types.specs.declared.call.Call.TheVariants.{Map}
 use Rattle.kc_types.specs.declared.resource.Resource.TheVariants as resource
 use Rattle.kc_model.proofs.HandCalls.{IsMap, map-served}
 use Rattle.kc_parts.specs.Held.{vm_at}

@@ -1,6 +1,5 @@
 use Rattle.std.proofs.Common.{◌≡◌, ◌<◌, ◌≤◌, ◌+◌, inl, inr, arith, Some, refl, sym, ◌∙◌}
 use Rattle.kc_types.specs.Configuration.{slot_count}
-use Rattle.kc_types.specs.declared.call.Call.TheVariants.{SetBoot}
 use Rattle.kc_types.specs.declared.refusal.Refusal.TheVariants.{BadVm, BadGfn, BadRange}
 use Rattle.kc_model.specs.Refusals.{pages_of}
 use Rattle.kc_parts.specs.Held.{vm_at}
