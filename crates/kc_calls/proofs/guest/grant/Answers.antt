@@ -1,5 +1,4 @@
 use Rattle.std.proofs.Common.{◌≡◌, ◌+◌, Some, refl, sym, ◌∙◌, arith}
-use Rattle.kc_types.specs.declared.call.Call.TheVariants.{Grant}
 use Rattle.kc_model.specs.State.{mapped_at}
 use Rattle.kc_model.proofs.GuestCalls.{guest_frame-served}
 use Rattle.kc_parts.specs.Held.{page_at}

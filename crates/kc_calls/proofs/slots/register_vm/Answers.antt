@@ -1,6 +1,5 @@
 use Rattle.std.proofs.Common.{◌≡◌, ◌<◌, Some, refl, sym, ◌∙◌}
 use Rattle.kc_types.specs.Configuration.{slot_count}
-use Rattle.kc_types.specs.declared.call.Call.TheVariants.{RegisterVm}
 use Rattle.kc_types.specs.declared.refusal.Refusal.TheVariants.{BadVm}
 use Rattle.kc_parts.specs.Held.{vm_at}
 use Rattle.kc_parts.specs.States.{state_of}
