@@ -14,6 +14,7 @@ is_vm c = rw c.unwrap-slot.ensures at c.vm.ensures.value
 is_frame : (c : After-unwrap-frame) → c.unwrap-frame.result ≡ c.args.frame
 is_frame c = rw c.unwrap-frame.ensures at c.frame.ensures.value
 
+-- what a served call has
 seen : (c : Start) → IsMap (state_of c.args.config.now c.args.parts.now) c.args.vm c.args.vcpu c.args.frame
 seen c = map-served _ _ _ _ c.requires.served
 
