@@ -34,7 +34,8 @@ revoked-page-requires c =
 pub returns-clause-state : goal.returns-clause-state
 returns-clause-state c =
     let k = goal.at.returns-clause-state c in
-    state-mapped _ _ _ _ _ _ _ (λ frame. record frame { share = frame.share - 1; present = if frame.share == 1 then false else frame.present }) c.requires.able.linked (mapped k.After-unwrap-frame) (at k.After-unwrap-page) (rw c.revoked-page.ensures refl) (rw c.revoked-page.ensures refl)
+    state-mapped _ _ _ _ _ _ _ (λ frame. record frame { share = frame.share - 1; present = if frame.share == 1 then false else frame.present }) c.requires.able.linked
+    (mapped k.After-unwrap-frame) (at k.After-unwrap-page) (rw c.revoked-page.ensures refl) (rw c.revoked-page.ensures refl)
 
 pub returns-clause-linked : goal.returns-clause-linked
 returns-clause-linked c = linked-kept _ _ _ _ _ c.requires.able.linked (at (goal.at.returns-clause-linked c).After-unwrap-page) (rw c.revoked-page.ensures refl) (rw c.revoked-page.ensures refl)

@@ -1,6 +1,4 @@
-use Rattle.std.proofs.Common.{◌≡◌, ◌<◌, Some, None, true, refl, sym}
-use Rattle.kc_types.specs.declared.call.Call.TheVariants.{HostFault}
-use Rattle.kc_model.specs.Refusals.{refusal}
+use Rattle.std.proofs.Common.{◌≡◌, ◌<◌, Some, true, refl, sym}
 use Rattle.kc_parts.specs.Held.{page_at}
 use Rattle.kc_parts.specs.States.{state_of}
 use Rattle.kc_parts.proofs.Seen.{linked-kept}
@@ -13,11 +11,8 @@ use Rattle.kc_calls.proofs.host.host_fault.Goals.{After-unwrap-frame, After-unwr
 is_frame : (c : After-unwrap-frame) → c.unwrap-frame.result ≡ c.args.frame
 is_frame c = rw c.unwrap-frame.ensures at c.frame.ensures.value
 
-served : (c : After-unwrap-frame) → refusal (state_of c.args.config.now c.args.parts.now) (HostFault c.unwrap-frame.result) ≡ None
-served c = rw (is_frame c) c.requires.served
-
 low : (c : After-unwrap-frame) → c.unwrap-frame.result < c.args.config.now.frames
-low c = (host_fault-served (state_of c.args.config.now c.args.parts.now) _ (served c)).0
+low c = rw (is_frame c) (host_fault-served (state_of c.args.config.now c.args.parts.now) c.args.frame c.requires.served).0
 
 at : (c : After-unwrap-page) → page_at c.args.parts.now c.unwrap-frame.result ≡ Some c.unwrap-page.result.now
 at c = sym (rw c.unwrap-page.ensures at c.frame_mut.ensures.value)
@@ -25,7 +20,7 @@ at c = sym (rw c.unwrap-page.ensures at c.frame_mut.ensures.value)
 pub unwrap-page-requires : goal.unwrap-page-requires
 unwrap-page-requires c =
     let k = (goal.at.unwrap-page-requires c).After-unwrap-frame in
-    some-lent _ _ c.frame_mut.ensures.value (there c.args.config.now c.args.parts.now _ (low k) (fault-touched (state_of c.args.config.now c.args.parts.now) c.unwrap-frame.result (served k)))
+    some-lent _ _ c.frame_mut.ensures.value (there c.args.config.now c.args.parts.now _ (low k) (rw (is_frame k) (fault-touched (state_of c.args.config.now c.args.parts.now) c.args.frame c.requires.served)))
 
 pub returns-clause-state : goal.returns-clause-state
 returns-clause-state c =

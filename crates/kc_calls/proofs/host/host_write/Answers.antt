@@ -1,6 +1,4 @@
-use Rattle.std.proofs.Common.{◌≡◌, ◌<◌, length, Some, None, refl, sym}
-use Rattle.kc_types.specs.declared.call.Call.TheVariants.{HostRead}
-use Rattle.kc_model.specs.Refusals.{refusal}
+use Rattle.std.proofs.Common.{◌≡◌, ◌<◌, length, Some, refl, sym}
 use Rattle.kc_parts.specs.Held.{page_at}
 use Rattle.kc_parts.specs.States.{state_of}
 use Rattle.kc_parts.proofs.Seen.{linked-kept}
@@ -14,12 +12,8 @@ use Rattle.kc_calls.proofs.host.host_write.Goals.{After-unwrap-frame, After-unwr
 is_frame : (c : After-unwrap-frame) → c.unwrap-frame.result ≡ c.args.frame
 is_frame c = rw c.unwrap-frame.ensures at c.frame.ensures.value
 
--- writing is refused where reading is
-served : (c : After-unwrap-frame) → refusal (state_of c.args.config.now c.args.parts.now) (HostRead c.unwrap-frame.result c.args.offset (length c.args.bytes.now)) ≡ None
-served c = rw (is_frame c) c.requires.served
-
 low : (c : After-unwrap-frame) → c.unwrap-frame.result < c.args.config.now.frames
-low c = (host_access-served (state_of c.args.config.now c.args.parts.now) _ c.args.offset (length c.args.bytes.now) (served c)).frame
+low c = rw (is_frame c) (host_access-served (state_of c.args.config.now c.args.parts.now) c.args.frame c.args.offset (length c.args.bytes.now) c.requires.served).frame
 
 at : (c : After-unwrap-page) → page_at c.args.parts.now c.unwrap-frame.result ≡ Some c.unwrap-page.result.now
 at c = sym (rw c.unwrap-page.ensures at c.frame_mut.ensures.value)
@@ -27,7 +21,8 @@ at c = sym (rw c.unwrap-page.ensures at c.frame_mut.ensures.value)
 pub unwrap-page-requires : goal.unwrap-page-requires
 unwrap-page-requires c =
     let k = (goal.at.unwrap-page-requires c).After-unwrap-frame in
-    some-lent _ _ c.frame_mut.ensures.value (there c.args.config.now c.args.parts.now _ (low k) (access-touched (state_of c.args.config.now c.args.parts.now) _ c.args.offset (length c.args.bytes.now) (served k)))
+    some-lent _ _ c.frame_mut.ensures.value (there c.args.config.now c.args.parts.now _ (low k)
+    (rw (is_frame k) (access-touched (state_of c.args.config.now c.args.parts.now) c.args.frame c.args.offset (length c.args.bytes.now) c.requires.served)))
 
 pub returns-clause-state : goal.returns-clause-state
 returns-clause-state c =

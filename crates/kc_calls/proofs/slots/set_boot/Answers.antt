@@ -66,4 +66,5 @@ pub returns-in-Err : goal.returns-in-Err
 returns-in-Err c =
     let k = goal.at.returns-in-Err c in
     rw c.in-Some.ensures.value (answer-slot_refused _ _ _ _ _ _ c.in-Err.refusal c.requires.linked (at k.After-unwrap-slot) c.in-Err.ensures.err
-    (refusal-set_boot (state_of c.args.config.now c.args.parts.now) _ _ _ c.unwrap-slot.result.now.slot _ (low k.In-Some) (fits k.Else-len-gt1048576) (slot-is c.args.config.now c.args.parts.now _ _ (low k.In-Some) (at k.After-unwrap-slot)) ∙ c.in-Err.ensures.answer))
+    (refusal-set_boot (state_of c.args.config.now c.args.parts.now) _ _ _ c.unwrap-slot.result.now.slot _ (low k.In-Some) (fits k.Else-len-gt1048576)
+    (slot-is c.args.config.now c.args.parts.now _ _ (low k.In-Some) (at k.After-unwrap-slot)) ∙ c.in-Err.ensures.answer))

@@ -1,15 +1,17 @@
-use Rattle.std.proofs.Common.{◌≡◌, ◌<◌, true, is_some, Some, None, sym, ap, ◌∙◌}
+use Rattle.std.proofs.Common.{◌≡◌, ◌<◌, true, is_some, Some, None, All, sym, ap, ◌∙◌}
 use Rattle.std.specs.Prelude.{slice_index_or}
 use Rattle.kc_types.specs.Configuration.{slot_count}
 use Rattle.kc_types.specs.declared.call.Call.TheVariants.{Verify}
 use Rattle.kc_types.specs.declared.resource.Resource.TheVariants as resource
 use Rattle.kc_types.specs.declared.slot.Phase.TheVariants.{Active, Dead}
+use Rattle.kc_model.specs.State.{slot_at}
 use Rattle.kc_model.specs.Refusals.{refusal}
 use Rattle.kc_model.specs.Effects.{verified, with_phase}
 use Rattle.kc_model.proofs.Verifies.{verify-served}
 use Rattle.kc_parts.specs.Held.{vm_at}
 use Rattle.kc_parts.specs.States.{state_of}
 use Rattle.kc_calls.specs.Applying.{IsAble}
+use Rattle.kc_calls.specs.Verifying.{mapped_in, IsImageHere}
 use Rattle.kc_calls.proofs.Frames.{some-lent}
 use Rattle.kc_calls.proofs.Imaged.{slot-verified, images-needed}
 use Rattle.kc_calls.proofs.Verifying.{booting-here, state-phase, linked-phase}
@@ -31,6 +33,9 @@ low c = (verify-served (state_of c.args.config.now c.args.parts.now) _ (served c
 here : (c : After-unwrap-vm) → is_some (vm_at c.args.parts.now c.unwrap-vm.result) ≡ true
 here c = slot-verified _ _ _ (able c) (served c)
 
+images : (c : After-unwrap-vm) → All (IsImageHere c.args.parts.now (mapped_in (vm_at c.args.parts.now c.unwrap-vm.result))) (slot_at (state_of c.args.config.now c.args.parts.now) c.unwrap-vm.result).images
+images c = images-needed _ _ _ (able c) (served c)
+
 at : (c : After-unwrap) → vm_at c.args.parts.now c.unwrap-vm.result ≡ Some c.unwrap.result.now
 at c = sym (rw c.unwrap.ensures at c.vm_mut.ensures.value)
 
@@ -42,9 +47,7 @@ pub first_unapproved-requires-clause-slot : goal.first_unapproved-requires-claus
 first_unapproved-requires-clause-slot c = here (goal.at.first_unapproved-requires-clause-slot c).After-unwrap-vm
 
 pub first_unapproved-requires-clause-here : goal.first_unapproved-requires-clause-here
-first_unapproved-requires-clause-here c =
-    let k = (goal.at.first_unapproved-requires-clause-here c).After-unwrap-vm in
-    images-needed _ _ _ (able k) (served k)
+first_unapproved-requires-clause-here c = images (goal.at.first_unapproved-requires-clause-here c).After-unwrap-vm
 
 pub unwrap-requires : goal.unwrap-requires
 unwrap-requires c = some-lent _ _ c.vm_mut.ensures.value (here (goal.at.unwrap-requires c).After-unwrap-vm)
@@ -67,9 +70,7 @@ pub trim_images-requires-clause-slot : goal.trim_images-requires-clause-slot
 trim_images-requires-clause-slot c = here (goal.at.trim_images-requires-clause-slot c).After-unwrap-vm
 
 pub trim_images-requires-clause-here : goal.trim_images-requires-clause-here
-trim_images-requires-clause-here c =
-    let k = (goal.at.trim_images-requires-clause-here c).After-unwrap-vm in
-    images-needed _ _ _ (able k) (served k)
+trim_images-requires-clause-here c = images (goal.at.trim_images-requires-clause-here c).After-unwrap-vm
 
 pub unwrap-requires-2 : goal.unwrap-requires-2
 unwrap-requires-2 c = some-lent _ _ c.vm_mut-2.ensures.value (c.trim_images.ensures.room.here (resource.Vm c.unwrap-vm.result) ∙ here (goal.at.unwrap-requires-2 c).After-unwrap-vm)
