@@ -5,10 +5,9 @@ use Rattle.kc_types.specs.declared.link.Ends.{Ends}
 use Rattle.kc_types.specs.declared.owner.Owner.TheVariants.{Free, Vm}
 use Rattle.kc_types.specs.declared.call.Call.TheVariants.{Clear}
 use Rattle.kc_model.specs.State.{State, Slot, empty_slot}
-use Rattle.kc_model.specs.Refusals.{refusal, bad_vm}
+use Rattle.kc_model.specs.Refusals.{refusal, conditions}
 use Rattle.kc_model.specs.Effects.{cleared, scrubbed}
 use Rattle.kc_model.specs.Lawful.{times_in}
-use Rattle.kc_model.proofs.Served.{or_else-none}
 use Rattle.kc_model.proofs.Answered.{vm-in}
 use Rattle.kc_vms.specs.Slots.{VmSlot}
 use Rattle.kc_links.specs.Chain.{Links}
@@ -18,9 +17,10 @@ use Rattle.kc_parts.specs.States.{list_in, state_of, owner_at, free_of, frames_o
 use Rattle.kc_parts.specs.Emptying.{IsEmptied}
 use Rattle.kc_parts.proofs.SlotLists.{frames-here, ends-here, slot-owned}
 use Rattle.kc_refusals.proofs.Looked.{slot-is}
+use Rattle.kc_model.proofs.Served.{none-of}
 
 pub clear-served : (m : State) (v : ℕ) → refusal m (Clear v) ≡ None → v < slot_count m.config
-clear-served m v served = vm-in m v (or_else-none (bad_vm m v) _ served).0
+clear-served m v served = vm-in m v (none-of (conditions m (Clear v)) served 0)
 
 -- a slot that is here
 pub record IsThere (at : Option VmSlot) : Type 0 where

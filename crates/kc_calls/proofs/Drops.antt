@@ -1,6 +1,7 @@
 -- A frame that a slot gives up.
 use Rattle.std.proofs.Common.{ℕ, ◌≡◌, ◌<◌, false, List, [], ◌∷◌, ◌++◌, Some, None, refl, sym, ap, ◌∙◌}
 use Rattle.std.specs.FinMap as map
+use Rattle.std.proofs.lemmas.List.{set-set}
 use Rattle.kc_types.specs.Configuration.{Configuration, slot_count}
 use Rattle.kc_types.specs.declared.owner.Owner.TheVariants.{Free}
 use Rattle.kc_model.specs.State.{State, Slot, slot_at, mapped_at, with_frame, with_slot, frame_at, zero_page}
@@ -21,7 +22,6 @@ use Rattle.kc_parts.proofs.SlotChanges.{vm-set, state-vm, linked-vm}
 use Rattle.kc_parts.proofs.SlotLists.{frames-here}
 use Rattle.kc_calls.specs.Applying.{IsSameRoom}
 use Rattle.kc_calls.proofs.Frames.{changed, room-vm, room-through}
-use Rattle.std.proofs.lemmas.List.{set-set}
 use Rattle.kc_refusals.proofs.Looked.{slot-is}
 
 -- a page becomes free, and its frame the last of the free ones

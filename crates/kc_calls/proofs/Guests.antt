@@ -1,12 +1,13 @@
 -- A virtual processor's calls on parts.
-use Rattle.std.proofs.Common.{ℕ, zero, suc, arith, ◌≡◌, ◌<◌, ◌+◌, false, nat_eq, Option, Some, None, is_some, get_or, slice_range, sym, ap, ◌∙◌}
+use Rattle.std.proofs.Common.{ℕ, ◌≡◌, ◌<◌, ◌+◌, Option, Some, None, is_some, get_or, slice_range, sym, ap, ◌∙◌}
+use Rattle.std.proofs.lemmas.Bool.{leb-false}
 use Rattle.kc_types.specs.Configuration.{Configuration, slot_count}
 use Rattle.kc_types.specs.declared.reply.Reply.TheVariants as reply
 use Rattle.kc_types.specs.declared.call.Call.TheVariants.{GuestRead, Grant, Revoke}
 use Rattle.kc_model.specs.State.{State, Frame, Slot, frame_at, mapped_at, absent_vcpu, with_frame, with_slot, with_vcpu}
 use Rattle.kc_model.specs.Refusals.{refusal, backing, share_at}
 use Rattle.kc_model.specs.Effects.{effect, guest_read, with_fault}
-use Rattle.kc_model.proofs.Served.{when-none, nat_le-is_false}
+use Rattle.kc_model.proofs.Served.{when-none, positive}
 use Rattle.kc_model.proofs.GuestCalls.{guest_access-served, guest_frame-served}
 use Rattle.kc_page.specs.declared.page.Page.{Page}
 use Rattle.kc_page.specs.Pages.{frame_of}
@@ -34,14 +35,10 @@ share-mapped config h v g f page linked mapped at =
 
 -- a frame that is granted once more has fewer than 100 grants, and one that is granted once less has some
 pub few-granted : (m : State) (v c g : ℕ) → refusal m (Grant v c g) ≡ None → share_at m v g < 100
-few-granted m v c g served = nat_le-is_false 100 _ (when-none _ _ (guest_frame-served m v c g _ served).1)
+few-granted m v c g served = leb-false 100 _ (when-none _ _ (guest_frame-served m v c g _ served).1)
 
 pub some-granted : (m : State) (v c g : ℕ) → refusal m (Revoke v c g) ≡ None → 0 < share_at m v g
-some-granted m v c g served = by_count (share_at m v g) (when-none _ _ (guest_frame-served m v c g _ served).1)
-  where
-    by_count : (n : ℕ) → nat_eq n 0 ≡ false → 0 < n
-    by_count zero e = cc
-    by_count (suc n) e = omega arith
+some-granted m v c g served = positive _ (when-none _ _ (guest_frame-served m v c g _ served).1)
 
 -- the state where a virtual processor of a slot that is here waits for another guest frame, or for none
 pub state-faulted : (config : Configuration) (h : Held) (v c : ℕ) (fault : Option ℕ) (vm new : VmSlot) → v < slot_count config → vm_at h v ≡ Some vm → new ≡ record vm { slot = slots.with_fault vm.slot c fault }

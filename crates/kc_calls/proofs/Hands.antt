@@ -2,14 +2,15 @@
 use Rattle.std.proofs.Common.{ℕ, ◌≡◌, ◌<◌, true, false, List, [], ◌∷◌, ◌++◌, ◌+◌, length, get_or, set, Option, Some, None, Result, Ok, Err, IsOk, refl, sym, ap, ◌∙◌}
 use Rattle.std.specs.FinMap as map
 use Rattle.std.proofs.lemmas.List.{set-set}
+use Rattle.std.proofs.lemmas.Bool.{not-false}
 use Rattle.kc_types.specs.Configuration.{Configuration, slot_count}
 use Rattle.kc_types.specs.declared.owner.Owner.TheVariants.{Host, Vm}
 use Rattle.kc_model.specs.State.{State, Frame, Slot, Image, frame_at, slot_at, mapped_at, with_frame, with_slot}
-use Rattle.kc_model.specs.Refusals.{refusal, bad_vm, bad_frame, not_host, tables_full, next_gfn}
+use Rattle.kc_model.specs.Refusals.{refusal, bad_vm, bad_frame, not_host, tables_full, next_gfn, conditions}
 use Rattle.kc_types.specs.declared.refusal.Refusal.TheVariants.{TablesFull}
 use Rattle.kc_types.specs.declared.call.Call.TheVariants.{Remap}
 use Rattle.kc_model.specs.Linked.{LinkedSlot, linked_slot}
-use Rattle.kc_model.proofs.Served.{or_else-none, when-none, not-is_false}
+use Rattle.kc_model.proofs.Served.{when-none, none-of}
 use Rattle.kc_model.proofs.Changes.{slot-here}
 use Rattle.kc_model.specs.Effects.{effect, hand, with_leaf}
 use Rattle.kc_page.specs.declared.page.Page.{Page}
@@ -39,7 +40,7 @@ use Rattle.kc_refusals.proofs.Looked.{fits-seen, slot-is}
 pub map-fits : (m : State) (v g : ℕ) (vm : VmSlot) (frames : List ℕ) → slot_at m v ≡ unlinked_slot vm.slot frames → vm.room ≡ m.config.leaves → mapped_at m v g ≡ None → tables_full m v g ≡ None → fault_of (table_of vm) g ≡ None
 map-fits m v g vm frames is room unmapped room_left =
     let free : map.get vm.slot.mapped g ≡ None = ap (λ (slot : Slot). map.get slot.mapped g) (sym is) ∙ unmapped in
-    let left : fits (table_of vm) g ≡ true = not-is_false (fits (table_of vm) g) (when-none _ TablesFull (sym (fits-seen m v g vm frames is room) ∙ room_left)) in
+    let left : fits (table_of vm) g ≡ true = not-false (fits (table_of vm) g) (when-none _ TablesFull (sym (fits-seen m v g vm frames is room) ∙ room_left)) in
     rw (free, left) refl
 
 pub map-ok : (answer : Result Unit MapFault) (fault : Option MapFault) → fault ≡ None → Answers answer fault → IsOk answer
@@ -120,19 +121,12 @@ answers-ok (Err e) why none is = let no = rw none at is in cc
 
 -- the frame of a served `remap` may become the slot's
 pub remap-fits : (m : State) (v i f : ℕ) → refusal m (Remap v i f) ≡ None → tables_full m v (next_gfn m v i) ≡ None
-remap-fits m v i f served =
-    let s0 = or_else-none (bad_vm m v) _ (sym (refusal-remap m v i f) ∙ served) in
-    let s1 = or_else-none (bad_frame m f) _ s0.1 in
-    let s2 = or_else-none (next_page_refusal (linked_slot (slot_at m v)) i) _ s1.1 in
-    let s3 = or_else-none (not_host m f) _ s2.1 in
-    (or_else-none (tables_full m v (next_gfn m v i)) None s3.1).0
+remap-fits m v i f served = none-of (conditions m (Remap v i f)) served 7
 
 -- and the image has a next page
 pub remap-page : (m : State) (v i f : ℕ) → refusal m (Remap v i f) ≡ None → next_page_refusal (linked_slot (slot_at m v)) i ≡ None
 remap-page m v i f served =
-    let s0 = or_else-none (bad_vm m v) _ (sym (refusal-remap m v i f) ∙ served) in
-    let s1 = or_else-none (bad_frame m f) _ s0.1 in
-    (or_else-none (next_page_refusal (linked_slot (slot_at m v)) i) _ s1.1).0
+    none-of (bad_vm m v ∷ bad_frame m f ∷ next_page_refusal (linked_slot (slot_at m v)) i ∷ not_host m f ∷ tables_full m v (next_gfn m v i) ∷ []) (sym (refusal-remap m v i f) ∙ served) 2
 
 pub host-owner : (config : Configuration) (h : Held) (f : ℕ) → f < config.frames → (frame_at (state_of config h) f).owner ≡ Host → owner_at h f ≡ Host
 host-owner config h f low host = sym (ap (λ (frame : Frame). frame.owner) (frame-seen config h f low)) ∙ host

@@ -1,5 +1,5 @@
 -- The host's calls on parts.
-use Rattle.std.proofs.Common.{ℕ, zero, suc, ◌≡◌, ◌<◌, inl, inr, true, false, not, [], ◌∷◌, ◌++◌, Some, None, refl, sym, ap, ◌∙◌, arith}
+use Rattle.std.proofs.Common.{ℕ, zero, suc, ◌≡◌, ◌<◌, inl, inr, false, [], ◌∷◌, ◌++◌, Some, None, refl, sym, ap, ◌∙◌, arith}
 use Rattle.kc_types.specs.Configuration.{Configuration}
 use Rattle.kc_types.specs.declared.link.Ends.{Ends}
 use Rattle.kc_types.specs.declared.owner.Owner.{Owner}
@@ -7,9 +7,10 @@ use Rattle.kc_types.specs.declared.owner.Owner.TheVariants.{Core, Host, Free, Vm
 use Rattle.kc_types.specs.declared.call.Call.TheVariants.{Take, Give, HostFault, HostRead}
 use Rattle.kc_model.specs.State.{State, Frame, frame_at, with_frame, untouched, zero_page}
 use Rattle.kc_model.specs.Lawful.{times_in}
-use Rattle.kc_model.specs.Refusals.{refusal, bad_frame, not_host, is_host}
+use Rattle.kc_model.specs.Refusals.{refusal, conditions}
 use Rattle.kc_model.specs.Effects.{effect, host_takes, given}
-use Rattle.kc_model.proofs.Served.{or_else-none, when-none, nat_le-is_false, not-is_false, host_fault-served, host_access-served}
+use Rattle.kc_model.proofs.Served.{host_fault-served, host_access-served, none-of}
+use Rattle.kc_model.proofs.Answered.{frame-in, was-host}
 use Rattle.kc_page.specs.declared.page.Page.{Page}
 use Rattle.kc_page.specs.Pages.{frame_of}
 use Rattle.kc_links.specs.Chain.{Links}
@@ -22,15 +23,8 @@ use Rattle.kc_calls.proofs.Frames.{changed}
 
 pub give-served : (m : State) (f : ℕ) → refusal m (Give f) ≡ None → (f < m.config.frames) × ((frame_at m f).owner ≡ Host)
 give-served m f served =
-    let first = or_else-none (bad_frame m f) _ served in
-    let second = or_else-none (not_host m f) None first.1 in
-    (nat_le-is_false _ _ (when-none _ _ first.0), host-is (frame_at m f).owner (not-is_false (is_host (frame_at m f).owner) (when-none (not (is_host (frame_at m f).owner)) _ second.0)))
-  where
-    host-is : (owner : Owner) → is_host owner ≡ true → owner ≡ Host
-    host-is Host is = refl
-    host-is Core is = cc
-    host-is Free is = cc
-    host-is (Vm v) is = cc
+    let none = none-of (conditions m (Give f)) served in
+    (frame-in m f (none 0), was-host m f (none 1))
 
 -- what is given, mapped or read is not untouched
 pub give-touched : (m : State) (f : ℕ) → refusal m (Give f) ≡ None → frame_at m f ≡ untouched Core → ⊥

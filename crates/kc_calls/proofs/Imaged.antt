@@ -3,7 +3,6 @@ use Rattle.std.proofs.Common.{ℕ, zero, suc, ◌≡◌, ◌<◌, ◌+◌, ◌-�
 use Rattle.std.specs.Prelude.{slice_index_or}
 use Rattle.std.specs.Ordering.{nat_cmp}
 use Rattle.std.specs.FinMap as map
-use Rattle.std.proofs.lemmas.Grind.{common_steps}
 use Rattle.kc_model.proofs.VerifyLocal.{pages-same}
 use Rattle.kc_types.specs.Configuration.{Configuration, slot_count}
 use Rattle.kc_types.specs.declared.call.Call.TheVariants.{Verify}
@@ -12,7 +11,9 @@ use Rattle.kc_model.specs.State.{State, Image, Slot, slot_at, mapped_at, frame_a
 use Rattle.kc_model.specs.Refusals.{refusal, backing, pages_of, is_short}
 use Rattle.kc_model.specs.Effects.{bytes_at, image_bytes, trimmed, all_trimmed}
 use Rattle.kc_model.specs.Local.{IsMappedImage, HasMappedPages}
-use Rattle.kc_model.proofs.Verifies.{verify-served, none-at, backing-of}
+use Rattle.kc_model.proofs.Verifies.{verify-served, backing-of}
+use Rattle.kc_model.proofs.Slots.{none-at}
+use Rattle.kc_model.proofs.Needs.{not_short}
 use Rattle.kc_page.specs.declared.page.Page.{Page}
 use Rattle.kc_page.specs.Bytes.{zeroed_from}
 use Rattle.kc_page.specs.Pages.{frame_of}
@@ -99,17 +100,14 @@ images-needed config h v able served i d low =
     let pages = has-pages (slot_at m v).mapped (slot_at m v).images i d ((able.orderly.each_slot v seen.0).images seen.1) low in
     let same : (g : ℕ) → mapped_at m v g ≡ mapped_in (vm_at h v) g = mapped-as config h v seen.0 in
     record {
-      mapped_pages = λ g from below. sym (ap is_some (same g)) ∙ pages.each_page g from (not-short image g whole below);
-      pages = λ g from below. ap (λ f. is_some (page_at h (backing f))) (sym (same g)) ∙ mapped-needed config h (Verify v) able v g (backing (mapped_at m v g)) refl seen.0 (backing-of (mapped_at m v g) (pages.each_page g from (not-short image g whole below)));
+      mapped_pages = λ g from below. sym (ap is_some (same g)) ∙ pages.each_page g from (not_short image g whole below);
+      pages = λ g from below. ap (λ f. is_some (page_at h (backing f))) (sym (same g)) ∙ mapped-needed config h (Verify v) able v g (backing (mapped_at m v g)) refl seen.0 (backing-of (mapped_at m v g) (pages.each_page g from (not_short image g whole below)));
     }
   where
     has-pages : (mapped : map.FinMap nat_cmp ℕ) (images : List Image) (i : ℕ) (d : Image) → HasMappedPages mapped images → i < length images → IsMappedImage mapped (get_or images i d)
     has-pages mapped [] i d each low = absurd (omega (arith, low))
     has-pages mapped (image ∷ images) zero d each low = each.0
     has-pages mapped (image ∷ images) (suc i) d each low = has-pages mapped images i d each.1 (omega (arith, low))
-
-    not-short : (image : Image) (g : ℕ) → is_short image ≡ false → g < image.base + pages_of image.len → g < image.base + image.pages
-    not-short image g full lt = grind (arith, common_steps)
 
     mapped-as : (config : Configuration) (h : Held) (v : ℕ) → v < slot_count config → (g : ℕ) → mapped_at (state_of config h) v g ≡ mapped_in (vm_at h v) g
     mapped-as config h v low g = ap (λ (there : Slot). map.get there.mapped g) (slot-seen config h v low) ∙ by_slot (links_of h) (vm_at h v)

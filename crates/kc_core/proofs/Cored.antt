@@ -1,6 +1,6 @@
 -- A core keeps its parts whole, and calls find what they need in them.
 use Rattle.std.proofs.Common.{ℕ, ◌≡◌, ◌<◌, Bool, true, false, ◌&&◌, ◌||◌, nat_lt, nat_eq, Option, Some, None, is_some, refl, ap, ◌∙◌}
-use Rattle.std.proofs.lemmas.Bool.{ltb-true, eqb-true}
+use Rattle.std.proofs.lemmas.Bool.{ltb-true, eqb-true, and_parts}
 use Rattle.kc_types.specs.Configuration.{Configuration, slot_count}
 use Rattle.kc_types.specs.declared.call.Call.{Call}
 use Rattle.kc_types.specs.declared.owner.Owner.{Owner}
@@ -36,11 +36,7 @@ module _ (config : Configuration) (h : Held) (is : IsCore config h) where
     where
       by_slot : (named : Option ℕ) → of_slot config (listed_in (state_of config h)) named f ≡ true → f < config.frames
       by_slot None of = cc
-      by_slot (Some v) of = listed-low (state_of config h) is.lawful (Vm v) f refl (second (nat_lt v (slot_count config)) _ of)
-        where
-          second : (x y : Bool) → (x && y) ≡ true → y ≡ true
-          second true y both = both
-          second false y both = cc
+      by_slot (Some v) of = listed-low (state_of config h) is.lawful (Vm v) f refl (and_parts (nat_lt v (slot_count config)) _ of).1
   frame-here call f a b c true low of free some = is.whole.frames f (listed-low (state_of config h) is.lawful Free f refl (free refl))
   frame-here call f true false false false low of free some = cc
   frame-here call f false b false false low of free some = cc
@@ -54,10 +50,6 @@ module _ (config : Configuration) (h : Held) (is : IsCore config h) where
       by_tests true false low same both = cc
       by_tests false same' low same both = cc
 
-  free-in : (uses in_free : Bool) → (uses && in_free) ≡ true → in_free ≡ true
-  free-in true in_free both = both
-  free-in false in_free both = cc
-
   pub able : (call : Call) → IsAble config h call
   able call = record {
     orderly = orderly-is (state_of config h) is.lawful;
@@ -67,7 +59,7 @@ module _ (config : Configuration) (h : Held) (is : IsCore config h) where
     where
       here : (r : Resource) → need (state_of config h) call r ≡ true → here_of h r ≡ true
       here (resource.Frame f) needed = frame-here call f (names_frame call f) (nat_lt f config.frames) (of_slot config (listed_in (state_of config h)) (slot_of call) f) (uses_free call && is_in (state_of config h).free f) refl refl
-          (free-in (uses_free call) (is_in (state_of config h).free f)) needed
+          (λ used. (and_parts (uses_free call) (is_in (state_of config h).free f) used).1) needed
       here (resource.Vm w) needed = slot-here (slot_of call) w needed
       here resource.Free needed = is.whole.free
 

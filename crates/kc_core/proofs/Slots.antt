@@ -4,14 +4,13 @@ use Rattle.std.specs.Option.{option_copied}
 use Rattle.std.specs.Ordering.{nat_cmp}
 use Rattle.std.specs.FinMap as map
 use Rattle.std.proofs.lemmas.Bool.{cases_lt}
-use Rattle.std.proofs.lemmas.List.{get_or_past}
 use Rattle.kc_types.specs.Limits.{gfn_limit}
 use Rattle.kc_types.specs.Configuration.{Configuration, slot_count}
 use Rattle.kc_types.specs.declared.owner.Owner.TheVariants.{Core, Vm}
-use Rattle.kc_model.specs.State.{State, Slot, Vcpu, slot_at, vcpu_at, mapped_at, absent_vcpu, empty_slot}
+use Rattle.kc_model.specs.State.{State, Slot, Vcpu, slot_at, vcpu_at, mapped_at, absent_vcpu}
 use Rattle.kc_model.specs.Lawful.{IsLawful}
 use Rattle.kc_model.proofs.Changes.{exists}
-use Rattle.kc_model.proofs.Slots.{at-no_vcpus}
+use Rattle.kc_model.proofs.Slots.{at-no_vcpus, slot-past}
 use Rattle.kc_vms.specs.Slots.{VmSlot}
 use Rattle.kc_parts.specs.Held.{Held, vm_at, links_of}
 use Rattle.kc_parts.specs.States.{slot_in, unlinked_slot, state_of}
@@ -34,15 +33,12 @@ past_none n limit refused = elim (cases_lt n limit) [
 ]
 
 module _ (m : State) (is : IsLawful m) where
-  slot-past : (v : ℕ) → slot_count m.config ≤ v → slot_at m v ≡ empty_slot
-  slot-past v past = get_or_past m.slots v empty_slot (rw is.slots past)
-
   -- an empty slot has no virtual processor that waits, and no mapped guest frame
   pub no_fault-past_slots : (v c : ℕ) → slot_count m.config ≤ v → (vcpu_at m v c).fault ≡ None
-  no_fault-past_slots v c past = ap (λ (there : Slot). (get_or there.vcpus c absent_vcpu).fault) (slot-past v past) ∙ ap (λ (vcpu : Vcpu). vcpu.fault) (at-no_vcpus c)
+  no_fault-past_slots v c past = ap (λ (there : Slot). (get_or there.vcpus c absent_vcpu).fault) (slot-past m v is.slots past) ∙ ap (λ (vcpu : Vcpu). vcpu.fault) (at-no_vcpus c)
 
   pub unmapped-past_slots : (v g : ℕ) → slot_count m.config ≤ v → mapped_at m v g ≡ None
-  unmapped-past_slots v g past = ap (λ (there : Slot). map.get there.mapped g) (slot-past v past) ∙ map.get-empty nat_cmp g
+  unmapped-past_slots v g past = ap (λ (there : Slot). map.get there.mapped g) (slot-past m v is.slots past) ∙ map.get-empty nat_cmp g
 
   -- a mapped guest frame is that of a frame, which is below the limit
   mapped-low : (v g f : ℕ) → v < slot_count m.config → mapped_at m v g ≡ Some f → g < gfn_limit

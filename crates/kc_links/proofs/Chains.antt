@@ -1,12 +1,13 @@
 -- What each list call does to a chain.
-use Rattle.std.proofs.Common.{ℕ, zero, suc, ◌≡◌, ◌<◌, ◌+◌, ◌-◌, inl, inr, List, [], ◌∷◌, ◌++◌, length-append, Option, Some, None, eq-eqb, refl, sym, ap, subst, ◌∙◌, arith}
+use Rattle.std.proofs.Common.{ℕ, ◌≡◌, ◌<◌, ◌+◌, ◌-◌, inl, inr, List, [], ◌∷◌, ◌++◌, length-append, Option, Some, None, eq-eqb, refl, sym, ap, subst, ◌∙◌, arith}
 use Rattle.kc_model.specs.Lawful.{times_in}
 use Rattle.kc_model.specs.Effects.{without}
+use Rattle.kc_model.proofs.Members.{times_in-append, IsOnce, once-rest}
 use Rattle.kc_types.specs.declared.link.Link.{Link}
 use Rattle.kc_types.specs.declared.link.Ends.{Ends}
 use Rattle.kc_links.specs.Chain.{Links, unlinked, with_link, pointing_forward, pointing_back, first_or, last_or, IsLinked}
 use Rattle.kc_links.specs.Ending.{Chain, listed, IsList, AreApart, starting, stopping}
-use Rattle.kc_links.proofs.Times.{times-same, times-append, IsOnce, once-rest, once-first, without-none, Around, around}
+use Rattle.kc_links.proofs.Times.{times-same, once-first, without-none, Around, around}
 use Rattle.kc_links.proofs.Linked.{with_link-same, with_link-other, forward-other, back-other, first-where, last-where, last-append, linked-same, linked-split, linked-join, linked-forward, linked-back}
 use Rattle.kc_links.proofs.Once.{linked-once, spelled-linked}
 
@@ -84,13 +85,6 @@ pub stopping-last : (a b : List ℕ) (f : ℕ) (ends : Ends) → ends.tail ≡ l
 stopping-last a [] f ends tail = sym (last-append None a [])
 stopping-last a (x ∷ xs) f ends tail = tail ∙ last-append None a (f ∷ x ∷ xs) ∙ sym (last-append None a (x ∷ xs))
 
-apart-none : (k n : ℕ) → (0 < k → n ≡ 0) → 0 < n → k ≡ 0
-apart-none zero n none some = refl
-apart-none (suc k) n none some = absurd (let h = none (omega arith) in omega (arith, h))
-
-pub apart-other : (a b : List ℕ) → AreApart a b → AreApart b a
-apart-other a b apart g some = apart-none (times_in a g) (times_in b g) (apart g) some
-
 -- two linked parts that share no frame are joined
 pub linked-joined : (m : Links) (a b : List ℕ) (middle before : Option ℕ) → IsLinked m None a middle → IsLinked m before b None → IsOnce a → IsOnce b → AreApart a b → IsLinked (pointing_back (pointing_forward m (last_or None a) (first_or None b)) (first_or None b) (last_or None a)) None (a ++ b) None
 linked-joined m a b middle before front back once_a once_b apart = linked-join _ None a b None
@@ -109,9 +103,9 @@ linked-joined m a b middle before front back once_a once_b apart = linked-join _
 
 pub once-parts : (a b : List ℕ) → IsOnce (a ++ b) → IsOnce a × IsOnce b × AreApart a b
 once-parts a b once = (
-  λ g. let h = once g in let e = times-append a b g in omega (arith, h, e),
-  λ g. let h = once g in let e = times-append a b g in omega (arith, h, e),
-  λ g some. let h = once g in let e = times-append a b g in omega (arith, h, e, some),
+  λ g. let h = once g in let e = times_in-append a b g in omega (arith, h, e),
+  λ g. let h = once g in let e = times_in-append a b g in omega (arith, h, e),
+  λ g some. let h = once g in let e = times_in-append a b g in omega (arith, h, e, some),
 )
 
 -- the frame between two parts, as the chain has it
@@ -128,7 +122,7 @@ linked-unlink m a b f linked =
     linked-same joined _ None (a ++ b) None
     (linked-joined m a b (Some f) (Some f) parts.0 parts.1.1 split.0 (once-rest f b split.1) apart)
     (λ g some. with_link-other joined f unlinked g (λ same.
-    let here = times-append a b f in let whole = times-append a (f ∷ b) f in let first = times-same f b in let one = once f in
+    let here = times_in-append a b f in let whole = times_in-append a (f ∷ b) f in let first = times-same f b in let one = once f in
     let some_f : 0 < times_in (a ++ b) f = rw same at some in absurd (omega (arith, here, whole, first, one))))
 
 pub chain-unlink : (m : Links) (ends : Ends) (a b : List ℕ) (f : ℕ) → Chain m ends (a ++ f ∷ b) → Chain (links_unlinked m f (between a b)) (ends_unlinked ends (between a b)) (a ++ b)

@@ -2,9 +2,10 @@
 use Rattle.std.proofs.Common.{ℕ, ◌≡◌, ◌<◌, ◌+◌, ◌⊎◌, inl, inr, List, [], ◌∷◌, ◌++◌, Option, Some, None, IsSome, eq-eqb, refl, sym, ap, ◌∙◌, arith}
 use Rattle.std.proofs.lemmas.Bool.{cases_eq, ne_eqb}
 use Rattle.kc_model.specs.Lawful.{times_in}
+use Rattle.kc_model.proofs.Members.{IsOnce, once-rest}
 use Rattle.kc_types.specs.declared.link.Link.{Link}
 use Rattle.kc_links.specs.Chain.{Links, with_link, or_unlinked, pointing_forward, pointing_back, first_or, last_or, IsLinked}
-use Rattle.kc_links.proofs.Times.{times-same, times-other, IsOnce, once-rest, once-first}
+use Rattle.kc_links.proofs.Times.{times-same, times-other, once-first}
 
 pub with_link-same : (m : Links) (f : ℕ) (link : Link) → with_link m f link f ≡ Some link
 with_link-same m f link = rw (eq-eqb f f refl) refl

@@ -2,9 +2,10 @@
 use Rattle.std.proofs.Common.{ℕ, zero, suc, ◌≡◌, ◌<◌, ◌≤◌, ◌+◌, inl, inr, List, [], ◌∷◌, length, Option, Some, None, refl, sym, ap, subst, ◌∙◌, arith}
 use Rattle.std.proofs.lemmas.Bool.{cases_eq}
 use Rattle.kc_model.specs.Lawful.{times_in}
+use Rattle.kc_model.proofs.Members.{IsOnce}
 use Rattle.kc_types.specs.declared.link.Link.{Link}
 use Rattle.kc_links.specs.Chain.{Links, first_or, IsLinked, next_of, spelled}
-use Rattle.kc_links.proofs.Times.{times-same, times-other, IsOnce}
+use Rattle.kc_links.proofs.Times.{times-same, times-other}
 
 abbrev pub prev_of : Option Link → Option ℕ
 prev_of None = None

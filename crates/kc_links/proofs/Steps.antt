@@ -4,11 +4,12 @@ use Rattle.std.specs.List.{list_any, IsDistinct, AllByRecursion}
 use Rattle.std.proofs.lemmas.Bool.{cases_eq, ne_eqb}
 use Rattle.std.proofs.lemmas.Map.Steps.{length-le_from_distinct_below}
 use Rattle.kc_model.specs.Lawful.{times_in}
+use Rattle.kc_model.proofs.Members.{times_in-append, IsOnce, once-rest}
 use Rattle.kc_types.specs.declared.link.Link.{Link}
 use Rattle.kc_types.specs.declared.link.Ends.{Ends}
 use Rattle.kc_links.specs.Chain.{Links, unlinked, Holds, pointing_forward, pointing_back}
 use Rattle.kc_links.specs.Ending.{listed, IsList, KeepsOthers}
-use Rattle.kc_links.proofs.Times.{times-same, times-other, times-append, IsOnce, once-rest, once-first, around}
+use Rattle.kc_links.proofs.Times.{times-same, times-other, once-first, around}
 use Rattle.kc_links.proofs.Linked.{with_link-same, with_link-other, forward-other, back-other, first-where, last-where, linked-holds}
 use Rattle.kc_links.proofs.Chains.{chain-once, links_appended, links_unlinked, links_spliced, list-between}
 
@@ -41,7 +42,7 @@ pub neighbours-inside : (m : Links) (ends : Ends) (f : ℕ) (link : Link) (g : �
 neighbours-inside m ends f link g list some is near =
     let parts = around (listed m ends) f (chain-once m ends (listed m ends) list) some in
     let here = list-between m ends f link list some is parts in
-    let whole = ap (λ l. times_in l g) parts.whole ∙ times-append parts.before (f ∷ parts.after) g in
+    let whole = ap (λ l. times_in l g) parts.whole ∙ times_in-append parts.before (f ∷ parts.after) g in
     elim near [
       | inl before ↦ elim (last-where None parts.before g (sym (ap (λ l. l.prev) here) ∙ before)) [ inl none ↦ absurd cc | inr there ↦ omega (arith, whole, there) ]
       | inr after ↦ elim (first-where None parts.after g (sym (ap (λ l. l.next) here) ∙ after)) [ inl none ↦ absurd cc | inr there ↦ omega (arith, whole, there) ]
@@ -56,7 +57,7 @@ next-held m ends f link list some is = holds-at _ link.next (λ g near.
 
 pub append-others : (m : Links) (ends : Ends) (f : ℕ) → IsList m ends → KeepsOthers m (links_appended m ends f) (listed m ends ++ f ∷ [])
 append-others m ends f list g none =
-    let whole = times-append (listed m ends) (f ∷ []) g in
+    let whole = times_in-append (listed m ends) (f ∷ []) g in
     with_link-other (pointing_forward m ends.tail (Some f)) f _ g (λ same. let one = times-same f [] in let here : times_in (f ∷ []) g ≡ 1 = rw same one in absurd (omega (arith, whole, none, here)))
     ∙ forward-other m ends.tail (Some f) g (λ is. let some = tail-inside m ends g list is in absurd (omega (arith, whole, none, some)))
 
@@ -68,7 +69,7 @@ unlink-others m ends f link list some is g none =
 
 pub splice-others : (m : Links) (to from : Ends) → IsList m to → IsList m from → KeepsOthers m (links_spliced m to from) (listed m to ++ listed m from)
 splice-others m to from list other g none =
-    let whole = times-append (listed m to) (listed m from) g in
+    let whole = times_in-append (listed m to) (listed m from) g in
     back-other (pointing_forward m to.tail from.head) from.head to.tail g (λ is. let some = head-inside m from g other is in absurd (omega (arith, whole, none, some)))
     ∙ forward-other m to.tail from.head g (λ is. let some = tail-inside m to g list is in absurd (omega (arith, whole, none, some)))
 

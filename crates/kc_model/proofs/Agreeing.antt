@@ -7,7 +7,7 @@ use Rattle.kc_model.specs.State.{State, Frame, Slot, untouched, empty_slot}
 use Rattle.kc_model.specs.Effects.{Outcome}
 use Rattle.kc_model.specs.Next.{next}
 use Rattle.kc_model.specs.Resources.{Resources, Resource, pick, merged, part_of, Part, frame_part, slot_part, free_part, need, IsWithin}
-use Rattle.kc_model.specs.Local.{IsOrderly, IsSameSize, AgreesOn, outcome_merged, cut}
+use Rattle.kc_model.specs.Local.{IsOrderly, IsSameSize, AgreesOn, outcome_merged}
 use Rattle.kc_model.proofs.Merges.{pick-get}
 use Rattle.kc_model.proofs.Sizes.{sized-next}
 use Rattle.kc_model.proofs.Locality.{local}
@@ -98,10 +98,6 @@ keeps-rest here m other call is within agrees r not_here =
 -- a call leaves what it does not need
 pub keeps-others : (m : State) (call : Call) → IsOrderly m → (r : Resource) → need m call r ≡ false → part_of (next m call).1 r ≡ part_of m r
 keeps-others m call is r not_here = keeps-rest (need m call) m m call is (λ r in_need. in_need) (agrees-self (need m call) m) r not_here
-
--- the call on a part of a state alone
-pub next-cut : (m : State) (here : Resources) (call : Call) → IsOrderly m → IsWithin (need m call) here → next (cut m here) call ≡ ((next m call).0, cut (next m call).1 here)
-next-cut m here call is within = local here m (record { config = m.config; frames = []; free = []; slots = [] }) call is within
 
 -- what holds of parts held in a store holds of the state that they are parts of
 pub on-parts : (held new : State) (call : Call) (answer : Reply) → answer ≡ (next held call).0 → new ≡ (next held call).1

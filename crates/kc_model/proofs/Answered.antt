@@ -1,31 +1,29 @@
 -- What a call that is not refused has of each condition.
-use Rattle.std.proofs.Common.{ℕ, ◌≡◌, ◌<◌, ◌≤◌, ◌⊎◌, inl, inr, Bool, true, false, not, ◌&&◌, ◌||◌, Option, Some, None, is_some, is_none, length, nat_le, nat_lt, refl, arith}
+use Rattle.std.proofs.Common.{ℕ, ◌≡◌, ◌<◌, ◌⊎◌, inl, inr, Bool, true, false, not, ◌&&◌, Option, Some, None, is_some, is_none, length, nat_le, refl, arith}
 use Rattle.std.proofs.lemmas.Grind.{common_steps}
+use Rattle.std.proofs.lemmas.Bool.{leb-false, not-false}
 use Rattle.kc_types.specs.declared.refusal.Refusal.{Refusal}
 use Rattle.kc_types.specs.declared.owner.Owner.{Owner}
 use Rattle.kc_types.specs.declared.owner.Owner.TheVariants.{Core, Host, Free, Vm}
 use Rattle.kc_types.specs.declared.slot.Phase.{Phase}
 use Rattle.kc_types.specs.declared.slot.Phase.TheVariants.{Empty, Booting, Active, Dead}
-use Rattle.kc_model.specs.State.{State, frame_at, slot_at, vcpu_at, mapped_at}
-use Rattle.kc_model.specs.Refusals.{when, is_host, is_empty, is_booting, is_active, bad_vm, bad_vcpu, bad_frame, bad_gfn, not_booting, not_active, no_vcpu, not_mapped, not_host, tables_full, backing}
+use Rattle.kc_model.specs.State.{State, Image, frame_at, slot_at, vcpu_at, mapped_at}
+use Rattle.kc_model.specs.Refusals.{when, is_host, is_empty, is_booting, is_active, bad_vm, bad_vcpu, bad_frame, bad_gfn, not_booting, not_active, no_vcpu, not_mapped, not_host, tables_full, backing, is_short, pages_of}
 use Rattle.kc_model.specs.Lawful.{has_leaf}
-use Rattle.kc_model.proofs.Served.{when-none, nat_le-is_false, not-is_false}
+use Rattle.kc_model.proofs.Served.{when-none}
 use Rattle.kc_types.specs.Configuration.{slot_count}
 
-pub nat_lt-is_false : (a b : ℕ) → nat_lt a b ≡ false → b ≤ a
-nat_lt-is_false a b h = grind (arith, common_steps)
-
 pub vm-in : (m : State) (v : ℕ) → bad_vm m v ≡ None → v < slot_count m.config
-vm-in m v h = nat_le-is_false _ _ (when-none _ _ h)
+vm-in m v h = leb-false _ _ (when-none _ _ h)
 
 pub vcpu-in : (c : ℕ) → bad_vcpu c ≡ None → c < 8
-vcpu-in c h = nat_le-is_false _ _ (when-none _ _ h)
+vcpu-in c h = leb-false _ _ (when-none _ _ h)
 
 pub frame-in : (m : State) (f : ℕ) → bad_frame m f ≡ None → f < m.config.frames
-frame-in m f h = nat_le-is_false _ _ (when-none _ _ h)
+frame-in m f h = leb-false _ _ (when-none _ _ h)
 
 pub gfn-in : (g : ℕ) → bad_gfn g ≡ None → g < 262144
-gfn-in g h = nat_le-is_false _ _ (when-none _ _ h)
+gfn-in g h = leb-false _ _ (when-none _ _ h)
 
 is_empty-is : (phase : Phase) → not (is_empty phase) ≡ false → phase ≡ Empty
 is_empty-is Empty h = refl
@@ -55,6 +53,9 @@ backing-is : (at : Option ℕ) → is_none at ≡ false → at ≡ Some (backing
 backing-is (Some f) h = refl
 backing-is None h = cc
 
+pub is_short-is : (image : Image) → not (is_short image) ≡ false → image.pages < pages_of image.len
+is_short-is image h = grind (arith, common_steps)
+
 pub is_none-of : {X : Type 0} (at : Option X) → is_some at ≡ false → at ≡ None
 is_none-of None h = refl
 is_none-of (Some x) h = cc
@@ -69,7 +70,7 @@ pub was-active : (m : State) (v : ℕ) → not_active m v ≡ None → (slot_at 
 was-active m v h = is_active-is _ (when-none _ _ h)
 
 pub was-registered : (m : State) (v c : ℕ) → no_vcpu m v c ≡ None → (vcpu_at m v c).registered ≡ true
-was-registered m v c h = not-is_false _ (when-none _ _ h)
+was-registered m v c h = not-false _ (when-none _ _ h)
 
 pub was-host : (m : State) (f : ℕ) → not_host m f ≡ None → (frame_at m f).owner ≡ Host
 was-host m f h = is_host-is _ (when-none _ _ h)
@@ -89,7 +90,3 @@ room false n k h = inr (grind (arith, common_steps))
 
 pub was-room : (m : State) (v g : ℕ) → tables_full m v g ≡ None → (has_leaf (slot_at m v).leaves g ≡ true) ⊎ (length (slot_at m v).leaves < m.config.leaves)
 was-room m v g h = room _ _ _ (when-none _ _ h)
-
-pub both-false : (a b : Bool) → (a || b) ≡ false → (a ≡ false) × (b ≡ false)
-both-false true b h = cc
-both-false false b h = (refl, h)

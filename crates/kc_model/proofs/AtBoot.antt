@@ -1,8 +1,9 @@
 -- The state at boot is lawful.
-use Rattle.std.proofs.Common.{ℕ, zero, suc, ◌≡◌, ◌<◌, ◌≤◌, ◌+◌, ◌-◌, ◌⊎◌, inl, inr, cond, ◌&&◌, [], length, get_or, nat_lt, nat_le, replicate, if◌then◌else◌, refl, sym, ap, ◌∙◌, arith}
+use Rattle.std.proofs.Common.{ℕ, zero, suc, ◌≡◌, ◌<◌, ◌≤◌, ◌+◌, ◌-◌, inl, inr, cond, ◌&&◌, [], length, nat_lt, nat_le, if◌then◌else◌, refl, sym, ap, ◌∙◌, arith}
 use Rattle.std.proofs.lemmas.Grind.{common_steps}
 use Rattle.std.proofs.lemmas.List.{get_or_past, length-replicate}
 use Rattle.std.proofs.lemmas.List.FromFn.{get_or-map-range_with_len, length-map-range_with_len}
+use Rattle.std.proofs.lemmas.Bool.{cases_lt}
 use Rattle.std.specs.List.{range_with_len}
 use Rattle.std.specs.Ordering.{nat_cmp}
 use Rattle.std.specs.FinMap.{get-empty}
@@ -12,21 +13,12 @@ use Rattle.kc_model.specs.State.{Frame, frame_at, slot_at, untouched, empty_slot
 use Rattle.kc_model.specs.Boot.{boot, boot_owner, boot_frame, no_vms}
 use Rattle.kc_model.specs.Lawful.{IsLawful, IsLawfulFrame, ListsOnce, same_owner, times_in}
 use Rattle.kc_model.proofs.ZeroPage.{zero_page-is}
-use Rattle.kc_model.proofs.Slots.{lawful-empty_slot}
-
-lt_or_le : (a b : ℕ) → (a < b) ⊎ (b ≤ a)
-lt_or_le a b = grind (arith, common_steps)
+use Rattle.kc_model.proofs.Slots.{lawful-empty_slot, get_or-same}
 
 -- a number stands once in the range that it is in
 pub times_in-range : (first count f : ℕ) → times_in (range_with_len first count) f ≡ cond (nat_le first f && nat_lt f (first + count)) 1 0
 times_in-range first zero f = grind (arith, common_steps)
 times_in-range first (suc count) f = let rest = times_in-range (first + 1) count f in grind (arith, common_steps, rest)
-
--- each place of a list of one value, and past its end
-get_or-same : {X : Type 0} (n : ℕ) (x : X) (i : ℕ) → get_or (replicate n x) i x ≡ x
-get_or-same zero x i = refl
-get_or-same (suc n) x zero = refl
-get_or-same (suc n) x (suc i) = get_or-same n x i
 
 length-no_vms : (c : Configuration) → length (no_vms c) ≡ slot_count c
 unfolding no_vms
@@ -59,19 +51,19 @@ lawful_frame-boot c is f lt = record {
 }
 
 not_owned : (c : Configuration) (f v : ℕ) → (frame_at (boot c) f).owner ≡ Vm v → ⊥
-not_owned c f v h = elim (lt_or_le f c.frames) [
+not_owned c f v h = elim (cases_lt f c.frames) [
   | inl lt ↦ not_vm c f v (sym (ap (λ (x : Frame). x.owner) (frame_at-boot c f lt)) ∙ h)
   | inr le ↦ let past = ap (λ (x : Frame). x.owner) (frame_at-past c f le) in cc
 ]
 
 no_vm_owns : (c : Configuration) (f v : ℕ) → times_in [] f ≡ (if same_owner (frame_at (boot c) f).owner (Vm v) then 1 else 0)
-no_vm_owns c f v = elim (lt_or_le f c.frames) [
+no_vm_owns c f v = elim (cases_lt f c.frames) [
   | inl lt ↦ rw (frame_at-boot c f lt) (grind (arith, common_steps))
   | inr le ↦ rw (frame_at-past c f le) refl
 ]
 
 free-boot : (c : Configuration) → IsConfiguration c → ListsOnce (boot c) Free (boot c).free
-free-boot c is f = times_in-range (c.core + c.host) (c.frames - (c.core + c.host)) f ∙ elim (lt_or_le f c.frames) [
+free-boot c is f = times_in-range (c.core + c.host) (c.frames - (c.core + c.host)) f ∙ elim (cases_lt f c.frames) [
   | inl lt ↦ rw (frame_at-boot c f lt) (grind (arith, common_steps))
   | inr le ↦ rw (frame_at-past c f le) (grind (arith, common_steps))
 ]

@@ -1,9 +1,9 @@
 -- Each call does the same to a state and to the state without its secret bytes.
-use Rattle.std.proofs.Common.{ℕ, zero, suc, ◌≡◌, ◌<◌, ◌≤◌, ◌+◌, ◌-◌, ◌%◌, ◌⊎◌, inl, inr, Bool, true, false, cond, ◌&&◌, List, [], ◌∷◌, ◌++◌, map, length, take, replicate, get_or, set, nat_eq, refl, sym, ap, subst, ◌∙◌, arith, Option, None, Some, All}
-use Rattle.std.proofs.lemmas.Bool.{cases_eq, cases_Bool}
+use Rattle.std.proofs.Common.{ℕ, zero, suc, ◌≡◌, ◌<◌, ◌≤◌, ◌+◌, ◌-◌, ◌%◌, ◌⊎◌, inl, inr, Bool, true, false, cond, List, [], ◌∷◌, ◌++◌, map, length, take, replicate, get_or, set, nat_eq, refl, sym, ap, subst, ◌∙◌, arith, Option, None, Some, All}
+use Rattle.std.proofs.lemmas.Bool.{cases_eq, cases_Bool, and_parts}
 use Rattle.std.proofs.lemmas.List.Folds.{list_any_at}
 use Rattle.std.proofs.lemmas.Grind.{common_steps}
-use Rattle.std.specs.List.{flat_map, range_with_len, list_any}
+use Rattle.std.specs.List.{list_any}
 use Rattle.kc_types.specs.declared.call.Call.{Call}
 use Rattle.kc_types.specs.declared.call.Call.TheVariants.{Take, Give, HostFault, HostRead, HostWrite, RegisterVm, RegisterVcpu, SetBoot, Remap, Verify, Map, GuestRead, GuestWrite, Grant, Revoke, Drop, Clear}
 use Rattle.kc_types.specs.declared.owner.Owner.{Owner}
@@ -11,20 +11,22 @@ use Rattle.kc_types.specs.declared.owner.Owner.TheVariants.{Core, Host, Free, Vm
 use Rattle.kc_types.specs.declared.slot.Phase.{Phase}
 use Rattle.kc_types.specs.declared.slot.Phase.TheVariants.{Booting, Active, Dead}
 use Rattle.kc_model.specs.State.{State, Frame, Slot, Image, frame_at, slot_at, mapped_at, with_slot, untouched, empty_slot, zero_page, overwritten}
-use Rattle.kc_model.specs.Refusals.{refusal, is_active, backing, next_gfn, pending, pages_of, is_short}
+use Rattle.kc_model.specs.Refusals.{refusal, is_active, backing, next_gfn, pending, pages_of, is_short, conditions}
 use Rattle.kc_model.specs.Effects.{effect, read, host_takes, hand, guest_read, guest_written, scrubbed, cleared, trimmed, all_trimmed, verified, first_failing, is_approved, image_bytes, bytes_at, with_phase}
 use Rattle.kc_model.specs.Lawful.{IsLawful, same_owner, holds}
 use Rattle.kc_model.specs.Blind.{Secret, has_gfn, is_secret, hidden_frame, is_running, hidden, names_secret, hidden_call, reads_secret, grants_secret, IsPrivate}
 use Rattle.kc_model.proofs.Frames.{part-set}
-use Rattle.kc_model.proofs.Served.{or_else-none, host_fault-served, host_access-served, when-none}
+use Rattle.kc_model.proofs.Served.{host_fault-served, host_access-served, when-none, positive, none-of}
 use Rattle.kc_model.proofs.Answered.{vm-in, was-host, was-empty}
 use Rattle.kc_model.proofs.Changes.{slot-elsewhere}
 use Rattle.kc_model.proofs.Moves.{first_free}
 use Rattle.kc_model.proofs.GuestCalls.{guest_access-served, guest_frame-served, owner-mapped}
 use Rattle.kc_model.proofs.HandCalls.{remap-served, map-served}
-use Rattle.kc_model.proofs.Verifies.{HasLastPage, last_gfn, each_last_page, verify-served, none-at, backing-of, lawful-trimmed}
+use Rattle.kc_model.proofs.Verifies.{HasLastPage, last_gfn, each_last_page, verify-served, backing-of, lawful-trimmed}
 use Rattle.kc_model.proofs.Clears.{after, slot-kept}
 use Rattle.kc_model.proofs.Unseen.{map-same, map-write, frame-hidden, frame-open, open-frame, frames-written, frames-kept, alike-by, hidden-idle, open-owner, open-host, open-free, open-other, open-shared, open-mapped}
+use Rattle.kc_model.proofs.VerifyLocal.{pages-same}
+use Rattle.kc_model.proofs.Slots.{none-at}
 use Rattle.kc_types.specs.Configuration.{slot_count}
 
 -- what a call does is the same where the secret bytes are hidden
@@ -59,9 +61,8 @@ blind-take s m is = record { state = takes-state s m m.free is refl; answer = λ
 
 blind-give : (s : Secret) (m : State) (f : ℕ) → refusal m (Give f) ≡ None → IsBlind s m (Give f)
 blind-give s m f served =
-    let s0 = or_else-none _ _ served in
-    let s1 = or_else-none _ _ s0.1 in
-    let host = was-host m f s1.0 in
+    let none = none-of (conditions m (Give f)) served in
+    let host = was-host m f (none 1) in
     record {
       state = alike-by s (effect m (Give f)).1 (effect (hidden s m) (Give f)).1 (is_running m s.vm) refl refl refl refl
           (opened s m f (λ x. record x { owner = Free; present = false; bytes = zero_page }) (open-host s (is_running m s.vm) (frame_at m f) host));
@@ -106,9 +107,8 @@ blind-slot s m w slot same = alike-by s (with_slot m w slot) (with_slot (hidden 
 
 blind-register_vm : (s : Secret) (m : State) (w : ℕ) → refusal m (RegisterVm w) ≡ None → IsBlind s m (RegisterVm w)
 blind-register_vm s m w served =
-    let s0 = or_else-none _ _ served in
-    let s1 = or_else-none _ _ s0.1 in
-    let empty = was-empty m w _ s1.0 in
+    let none = none-of (conditions m (RegisterVm w)) served in
+    let empty = was-empty m w _ (none 1) in
     record { state = blind-slot s m w (record (slot_at m w) { phase = Booting }) (sym (ap is_active empty)); answer = λ _. refl }
 
 blind-register_vcpu : (s : Secret) (m : State) (w c : ℕ) → IsBlind s m (RegisterVcpu w c)
@@ -158,14 +158,9 @@ both-written s m f first second e =
     let still : is_secret s b (frame_at (hidden s m) f) ≡ true = ap (is_secret s b) (frame-hidden s m f) ∙ e in
     secret-bytes s b (frame_at m f) first e ∙ sym (secret-bytes s b (frame_at (hidden s m) f) second still ∙ ap (λ (x : Frame). record x { bytes = [] }) (frame-hidden s m f))
 
-named : (a c : Bool) → (a && c) ≡ true → (a ≡ true) × (c ≡ true)
-named true true e = (refl, refl)
-named true false e = cc
-named false c e = cc
-
 is_secret-mapped : (s : Secret) (m : State) (v g f : ℕ) → IsLawful m → v < slot_count m.config → (slot_at m v).phase ≡ Active → mapped_at m v g ≡ Some f → names_secret s v g ≡ true → is_secret s (is_running m s.vm) (frame_at m f) ≡ true
 is_secret-mapped s m v g f is v_in active mapped names =
-    let parts = named (nat_eq v s.vm) (s.gfns g) names in
+    let parts = and_parts (nat_eq v s.vm) (s.gfns g) names in
     let same : v ≡ s.vm = grind (arith, common_steps, parts.0) in
     let owner : same_owner (frame_at m f).owner (Vm s.vm) ≡ true = ap (λ (o : Owner). same_owner o (Vm s.vm)) ((is.mapped v g f v_in).0 mapped).0 ∙ parts.0 in
     let gfn : has_gfn s.gfns (frame_at m f).gfn ≡ true = ap (has_gfn s.gfns) ((is.mapped v g f v_in).0 mapped).1 ∙ parts.1 in
@@ -204,14 +199,11 @@ blind-grant s m v c g is other served =
       answer = λ _. refl;
     }
 
-some-share : (share : ℕ) → nat_eq share 0 ≡ false → 0 < share
-some-share share e = grind (arith, common_steps)
-
 blind-revoke : (s : Secret) (m : State) (v c g : ℕ) → IsPrivate s m → refusal m (Revoke v c g) ≡ None → IsBlind s m (Revoke v c g)
 blind-revoke s m v c g private served =
     let seen = guest_frame-served m v c g _ served in
     let f = backing (mapped_at m v g) in
-    let some : 0 < (frame_at m f).share = some-share _ (when-none _ _ seen.1) in
+    let some : 0 < (frame_at m f).share = positive _ (when-none _ _ seen.1) in
     record {
       state = alike-by s (effect m (Revoke v c g)).1 (effect (hidden s m) (Revoke v c g)).1 (is_running m s.vm) refl refl refl refl
           (opened s m f (λ x. record x { share = x.share - 1; present = cond (nat_eq x.share 1) false x.present }) (open-shared s m f private some));
@@ -257,7 +249,7 @@ blind-clear : (s : Secret) (m : State) (w : ℕ) → IsLawful m → refusal m (C
 blind-clear s m w is served = record { state = state; answer = λ _. refl }
   where
     v_in : w < slot_count m.config
-    v_in = let first = or_else-none _ _ served in vm-in m w first.0
+    v_in = vm-in m w (none-of (conditions m (Clear w)) served 0)
 
     mine : w ≡ s.vm → hidden s (cleared m w) ≡ hidden s (cleared (hidden s m) w)
     mine same =
@@ -283,13 +275,6 @@ blind-clear s m w is served = record { state = state; answer = λ _. refl }
 
 -- verifying another slot
 
-joined-same : (f g : ℕ → List ℕ) (first count : ℕ) → ((k : ℕ) → first ≤ k → k < first + count → f k ≡ g k) → flat_map f (range_with_len first count) ≡ flat_map g (range_with_len first count)
-joined-same f g first zero same = refl
-joined-same f g first (suc count) same =
-    let here = same first (omega arith) (omega arith) in
-    let rest = joined-same f g (first + 1) count (λ k low high. same k (omega arith) (omega arith)) in
-    cc
-
 failing-same : {X : Type 0} (p q : X → Bool) (xs : List X) → ((i : ℕ) (d : X) → i < length xs → p (get_or xs i d) ≡ q (get_or xs i d)) → first_failing p xs ≡ first_failing q xs
 failing-same p q [] same = refl
 failing-same p q (x ∷ xs) same =
@@ -311,7 +296,7 @@ approved-same s m w is w_in booting full ne i d lt =
     (let mapped = backing-of (mapped_at m w g) (there.booting booting g ∙ list_any_at (holds g) images i d lt (held image g full_here low high)) in
     let f = backing (mapped_at m w g) in
     ap (λ (x : Frame). x.bytes) (sym (frame-open s m f (open-other s (is_running m s.vm) (frame_at m f) w (owner-mapped m w g f is w_in mapped) ne)))) in
-    let bytes : image_bytes m w image ≡ image_bytes (hidden s m) w image = ap (take image.len) (joined-same (bytes_at m w) (bytes_at (hidden s m) w) image.base (pages_of image.len) page) in
+    let bytes : image_bytes m w image ≡ image_bytes (hidden s m) w image = ap (take image.len) (pages-same (bytes_at m w) (bytes_at (hidden s m) w) image.base (pages_of image.len) page) in
     rw bytes refl
 
 trims-hidden : (s : Secret) (m : State) (w : ℕ) (images : List Image) → IsLawful m → w < slot_count m.config → All (HasLastPage m w) images → (w ≡ s.vm → ⊥) → hidden s (all_trimmed m w images) ≡ all_trimmed (hidden s m) w images

@@ -1,5 +1,5 @@
 -- A slot that is cleared.
-use Rattle.std.proofs.Common.{ℕ, ◌≡◌, ◌<◌, ◌+◌, ◌↔◌, ◌⊎◌, inl, inr, true, false, cond, None, Some, List, [], ◌∷◌, ◌++◌, length, get_or, set, nat_eq, eq-eqb, refl, sym, ap, ◌∙◌, arith, length-set, get_or-set_same, get_or-set_other}
+use Rattle.std.proofs.Common.{ℕ, ◌≡◌, ◌<◌, ◌↔◌, ◌⊎◌, inl, inr, true, false, cond, None, Some, List, [], ◌∷◌, length, get_or, set, nat_eq, eq-eqb, refl, sym, ap, ◌∙◌, arith, length-set, get_or-set_same, get_or-set_other}
 use Rattle.std.proofs.lemmas.Bool.{cases_eq, cases_lt, ne_eqb}
 use Rattle.std.proofs.lemmas.List.{get_or_past}
 use Rattle.std.specs.Ordering.{nat_cmp}
@@ -10,21 +10,16 @@ use Rattle.kc_types.specs.declared.owner.Owner.TheVariants.{Core, Host, Free, Vm
 use Rattle.kc_model.specs.State.{State, Frame, frame_at, slot_at, mapped_at, untouched, empty_slot}
 use Rattle.kc_model.specs.Effects.{scrubbed, cleared}
 use Rattle.kc_model.specs.Lawful.{IsLawful, IsLawfulFrame, same_owner, times_in}
-use Rattle.kc_model.specs.Refusals.{refusal}
+use Rattle.kc_model.specs.Refusals.{refusal, conditions}
 use Rattle.kc_types.specs.declared.call.Call.TheVariants.{Clear}
 use Rattle.kc_model.specs.Effects.{effect}
 use Rattle.kc_model.proofs.ZeroPage.{zero_page-is}
-use Rattle.kc_model.proofs.Served.{or_else-none}
+use Rattle.kc_model.proofs.Served.{none-of}
 use Rattle.kc_model.proofs.Answered.{vm-in}
 use Rattle.kc_model.proofs.Slots.{lawful-empty_slot}
-
-length-scrubbed : (frames : List Frame) (fs : List ℕ) → length (scrubbed frames fs) ≡ length frames
-length-scrubbed frames [] = refl
-length-scrubbed frames (f ∷ fs) = length-scrubbed (set frames f (untouched Free)) fs ∙ length-set frames f (untouched Free)
-
-times_in-append : (xs ys : List ℕ) (k : ℕ) → times_in (xs ++ ys) k ≡ times_in xs k + times_in ys k
-times_in-append [] ys k = omega arith
-times_in-append (x ∷ xs) ys k = let rest = times_in-append xs ys k in omega (arith, rest)
+use Rattle.kc_model.proofs.Sizes.{length-scrubbed}
+use Rattle.kc_model.proofs.Changes.{vm-same}
+use Rattle.kc_model.proofs.Members.{times_in-append}
 
 -- a frame that the list doesn't hold stays
 scrubbed-other : (frames : List Frame) (fs : List ℕ) (k : ℕ) (d : Frame) → times_in fs k ≡ 0 → get_or (scrubbed frames fs) k d ≡ get_or frames k d
@@ -103,9 +98,6 @@ slot-cleared m v lt = get_or-set_same m.slots v empty_slot empty_slot lt
 pub slot-kept : (m : State) (v w : ℕ) → (w ≡ v → ⊥) → slot_at (cleared m v) w ≡ slot_at m w
 slot-kept m v w ne = get_or-set_other m.slots v w empty_slot empty_slot ne
 
-vm-same : (v w : ℕ) → Vm v ≡ Vm w → v ≡ w
-vm-same v w e = cc
-
 listed-after : (m : State) (v w k : ℕ) → IsLawful m → v < slot_count m.config → w < slot_count m.config → times_in (slot_at (cleared m v) w).frames k ≡ cond (same_owner (frame_at (cleared m v) k).owner (Vm w)) 1 0
 listed-after m v w k is v_in lt = elim (cases_eq w v) [
   | inl same ↦ rw (same, slot-cleared m v (rw is.slots v_in)) (elim (after m v k is v_in) [
@@ -157,8 +149,4 @@ lawful-cleared m v is v_in = record {
 }
 
 pub lawful-clear : (m : State) (v : ℕ) → IsLawful m → refusal m (Clear v) ≡ None → IsLawful (effect m (Clear v)).1
-lawful-clear m v is served = let first = or_else-none _ _ served in lawful-cleared m v is (vm-in m v first.0)
-
--- a mapped frame exists
-pub mapped-exists : (m : State) (v g f : ℕ) → IsLawful m → v < slot_count m.config → mapped_at m v g ≡ Some f → f < length m.frames
-mapped-exists m v g f is lt e = exists-vm m f v ((is.mapped v g f lt).0 e).0
+lawful-clear m v is served = lawful-cleared m v is (vm-in m v (none-of (conditions m (Clear v)) served 0))

@@ -1,6 +1,6 @@
 -- A frame that a slot drops.
 use Rattle.std.proofs.Common.{ℕ, ◌≡◌, ◌<◌, ◌≤◌, inl, inr, false, None, Some, [], ◌∷◌, ◌++◌, refl, sym, ap, subst, ◌∙◌, arith}
-use Rattle.std.proofs.lemmas.Bool.{cases_eq}
+use Rattle.std.proofs.lemmas.Bool.{cases_eq, ltb-false}
 use Rattle.std.specs.FinMap as map
 use Rattle.kc_types.specs.Configuration.{Configuration, slot_count}
 use Rattle.kc_types.specs.declared.call.Call.TheVariants.{Drop}
@@ -12,7 +12,6 @@ use Rattle.kc_model.specs.Refusals.{refusal, backing, share_at}
 use Rattle.kc_model.specs.Effects.{effect, without, dropped}
 use Rattle.kc_model.specs.Lawful.{IsLawful, IsLawfulFrame, IsLawfulSlot, same_owner}
 use Rattle.kc_model.proofs.Served.{when-none}
-use Rattle.kc_model.proofs.Answered.{nat_lt-is_false}
 use Rattle.kc_model.proofs.ZeroPage.{zero_page-is}
 use Rattle.kc_model.proofs.Lists.{lists-gained}
 use Rattle.kc_model.proofs.Tables.{gone-here, gone-elsewhere, table-lost, lists-without}
@@ -73,5 +72,5 @@ lawful-dropped m v g f is v_in active mapped private =
 pub lawful-drop : (m : State) (v c g : ℕ) → IsLawful m → refusal m (Drop v c g) ≡ None → IsLawful (effect m (Drop v c g)).1
 lawful-drop m v c g is served =
     let seen = guest_frame-served m v c g _ served in
-    let none : share_at m v g ≤ 0 = nat_lt-is_false _ _ (when-none _ _ seen.1) in
+    let none : share_at m v g ≤ 0 = ltb-false _ _ (when-none _ _ seen.1) in
     lawful-dropped m v g (backing (mapped_at m v g)) is seen.0.call.vm seen.0.call.active seen.0.mapped (omega (arith, none))

@@ -1,25 +1,26 @@
 -- Which frames the lists may hold after a call: those of before, and those that the call's names bring.
-use Rattle.std.proofs.Common.{ℕ, zero, suc, ◌≡◌, ◌<◌, ◌⊎◌, inl, inr, Bool, true, false, not, ◌&&◌, ◌||◌, Option, Some, None, nat_lt, nat_le, nat_eq, eqb-true, List, [], ◌∷◌, ◌++◌, get_or, set, refl, sym, ap, subst, ◌∙◌, arith}
-use Rattle.std.proofs.lemmas.Grind.{common_steps}
+use Rattle.std.proofs.Common.{ℕ, zero, suc, ◌≡◌, ◌⊎◌, inl, inr, Bool, true, false, not, ◌&&◌, ◌||◌, Option, Some, None, nat_lt, nat_eq, eqb-true, List, [], ◌∷◌, ◌++◌, get_or, set, refl, sym, ap, subst, ◌∙◌}
+use Rattle.std.proofs.lemmas.Bool.{or_left, lt-ltb, and_from}
 use Rattle.kc_types.specs.declared.call.Call.{Call}
 use Rattle.kc_types.specs.declared.call.Call.TheVariants.{Take, Give, HostFault, HostRead, HostWrite, RegisterVm, RegisterVcpu, SetBoot, Remap, Verify, Map, GuestRead, GuestWrite, Grant, Revoke, Drop, Clear}
 use Rattle.kc_types.specs.declared.refusal.Refusal.{Refusal}
 use Rattle.kc_types.specs.declared.owner.Owner.{Owner}
 use Rattle.kc_types.specs.declared.owner.Owner.TheVariants.{Core, Host, Free, Vm}
 use Rattle.kc_model.specs.State.{State, Slot, Image, slot_at, mapped_at, empty_slot}
-use Rattle.kc_model.specs.Refusals.{refusal, backing, pending, next_gfn, bad_vm, bad_vcpu, bad_frame, or_else}
+use Rattle.kc_model.specs.Refusals.{conditions, refusal, backing, pending, next_gfn}
 use Rattle.kc_model.specs.Effects.{effect, hand, host_takes, guest_read, guest_written, verified, all_trimmed, trimmed, first_failing, is_approved, without}
 use Rattle.kc_model.specs.Next.{next, unless_refused}
 use Rattle.kc_model.specs.Resources.{is_in, listed_in}
 use Rattle.kc_model.specs.Footprints.{gains}
 use Rattle.kc_model.specs.Local.{IsOrderly}
 use Rattle.kc_model.proofs.Frames.{part-set}
-use Rattle.kc_model.proofs.Members.{is_in-later, is_in-append, is_in-push, is_in-filter, or-first, same_number}
-use Rattle.kc_model.proofs.Served.{or_else-none, when-none}
-use Rattle.kc_model.proofs.GuestLocals.{guest_frame-served}
-use Rattle.kc_model.proofs.Needs.{mapped_to, both, nat_lt-is}
-use Rattle.kc_model.proofs.Locality.{low-of}
+use Rattle.kc_model.proofs.Members.{is_in-later, is_in-append, is_in-push, is_in-filter, same_number}
+use Rattle.kc_model.proofs.Served.{none-of}
+use Rattle.kc_model.proofs.Needs.{mapped_to}
 use Rattle.kc_types.specs.Configuration.{slot_count}
+use Rattle.kc_model.proofs.GuestLocals.{mapped-served}
+use Rattle.kc_model.proofs.Verifies.{slots-trimmed}
+use Rattle.kc_model.proofs.Answered.{vm-in, frame-in}
 
 -- the lists hold no frame but those of before, and those that the call's names bring
 abbrev pub Grows : State → Call → State → Type 0
@@ -29,8 +30,8 @@ Grows m call new = (owner : Owner) (f : ℕ) → listed_in new owner f ≡ true 
 kept : (m : State) (call : Call) (new : State) → new.free ≡ m.free → ((w : ℕ) → (slot_at new w).frames ≡ (slot_at m w).frames) → Grows m call new
 kept m call new free slots Core f h = cc
 kept m call new free slots Host f h = cc
-kept m call new free slots Free f h = or-first (is_in m.free f) _ (rw free at h)
-kept m call new free slots (Vm w) f h = or-first (is_in (slot_at m w).frames f) _ (rw (slots w) at h)
+kept m call new free slots Free f h = or_left (is_in m.free f) _ (rw free at h)
+kept m call new free slots (Vm w) f h = or_left (is_in (slot_at m w).frames f) _ (rw (slots w) at h)
 
 -- a slot that keeps its list
 kept-slot : (m : State) (v : ℕ) (there : Slot) → there.frames ≡ (slot_at m v).frames → (w : ℕ) → (get_or (set m.slots v there) w empty_slot).frames ≡ (slot_at m w).frames
@@ -50,7 +51,7 @@ pushed m v f there is w k h = elim (set-or m.slots v there w) [
   | inl at ↦
       let here : is_in ((slot_at m v).frames ++ f ∷ []) k ≡ true = ap (λ (fs : List ℕ). is_in fs k) (sym (ap (λ (s : Slot). s.frames) at.1 ∙ is)) ∙ h in
       rw (at.0, same_number v) (is_in-push (slot_at m v).frames f k here)
-  | inr same ↦ or-first (is_in (slot_at m w).frames k) _ (ap (λ (s : Slot). is_in s.frames k) (sym same) ∙ h)
+  | inr same ↦ or_left (is_in (slot_at m w).frames k) _ (ap (λ (s : Slot). is_in s.frames k) (sym same) ∙ h)
 ]
 
 -- a slot that loses a frame
@@ -75,20 +76,16 @@ grows-takes : (m : State) (free : List ℕ) → m.free ≡ free → Grows m Take
 grows-takes m [] e owner k h = kept m Take m refl (λ w. refl) owner k h
 grows-takes m (f ∷ rest) e Core k h = cc
 grows-takes m (f ∷ rest) e Host k h = cc
-grows-takes m (f ∷ rest) e Free k h = or-first (is_in m.free k) _ (rw e (is_in-later f rest k h))
-grows-takes m (f ∷ rest) e (Vm w) k h = or-first (is_in (slot_at m w).frames k) _ h
-
-exists-of : (m : State) (g : ℕ) → nat_le m.config.frames g ≡ false → nat_lt g m.config.frames ≡ true
-exists-of m g h = grind (arith, common_steps)
+grows-takes m (f ∷ rest) e Free k h = or_left (is_in m.free k) _ (rw e (is_in-later f rest k h))
+grows-takes m (f ∷ rest) e (Vm w) k h = or_left (is_in (slot_at m w).frames k) _ h
 
 grows-give : (m : State) (g : ℕ) → refusal m (Give g) ≡ None → Grows m (Give g) (effect m (Give g)).1
 grows-give m g served Core k h = cc
 grows-give m g served Host k h = cc
 grows-give m g served Free k h =
-    let first = or_else-none (bad_frame m g) _ served in
-    let bound : nat_lt g m.config.frames ≡ true = exists-of m g (when-none (nat_le m.config.frames g) _ first.0) in
-    or-map (is_in m.free k) (nat_eq g k) (nat_lt g m.config.frames && nat_eq g k) (both (nat_lt g m.config.frames) (nat_eq g k) bound) (is_in-push m.free g k h)
-grows-give m g served (Vm w) k h = or-first (is_in (slot_at m w).frames k) _ h
+    let bound = lt-ltb g m.config.frames (frame-in m g (none-of (conditions m (Give g)) served 0)) in
+    or-map (is_in m.free k) (nat_eq g k) (nat_lt g m.config.frames && nat_eq g k) (and_from (nat_lt g m.config.frames) (nat_eq g k) bound) (is_in-push m.free g k h)
+grows-give m g served (Vm w) k h = or_left (is_in (slot_at m w).frames k) _ h
 
 -- the list of a slot after a frame was handed to one
 handed : (m : State) (v g f w k : ℕ) → nat_lt f m.config.frames ≡ true → is_in (slot_at (hand m v g f) w).frames k ≡ true → (is_in (slot_at m w).frames k || (nat_eq v w && (nat_lt f m.config.frames && nat_eq f k))) ≡ true
@@ -99,46 +96,38 @@ handed m v g f w k bound h =
 grows-remap : (m : State) (v i f : ℕ) → refusal m (Remap v i f) ≡ None → Grows m (Remap v i f) (effect m (Remap v i f)).1
 grows-remap m v i f served Core k h = cc
 grows-remap m v i f served Host k h = cc
-grows-remap m v i f served Free k h = or-first (is_in m.free k) _ h
+grows-remap m v i f served Free k h = or_left (is_in m.free k) _ h
 grows-remap m v i f served (Vm w) k h =
-    let first = or_else-none (bad_vm m v) _ served in
-    let second = or_else-none (bad_frame m f) _ first.1 in
-    let bound : nat_lt f m.config.frames ≡ true = exists-of m f (when-none (nat_le m.config.frames f) _ second.0) in
+    let bound = lt-ltb f m.config.frames (frame-in m f (none-of (conditions m (Remap v i f)) served 1)) in
     let same = kept-slot (hand m v (next_gfn m v i) f) v _ refl w in
     handed m v (next_gfn m v i) f w k bound (ap (λ (fs : List ℕ). is_in fs k) (sym same) ∙ h)
 
 grows-map : (m : State) (v c f : ℕ) → refusal m (Map v c f) ≡ None → Grows m (Map v c f) (effect m (Map v c f)).1
 grows-map m v c f served Core k h = cc
 grows-map m v c f served Host k h = cc
-grows-map m v c f served Free k h = or-first (is_in m.free k) _ h
+grows-map m v c f served Free k h = or_left (is_in m.free k) _ h
 grows-map m v c f served (Vm w) k h =
-    let first = or_else-none (bad_vm m v) _ served in
-    let second = or_else-none (bad_vcpu c) _ first.1 in
-    let third = or_else-none (bad_frame m f) _ second.1 in
-    let bound : nat_lt f m.config.frames ≡ true = exists-of m f (when-none (nat_le m.config.frames f) _ third.0) in
+    let bound = lt-ltb f m.config.frames (frame-in m f (none-of (conditions m (Map v c f)) served 2)) in
     let same = kept-slot (hand m v (pending m v c) f) v _ refl w in
     handed m v (pending m v c) f w k bound (ap (λ (fs : List ℕ). is_in fs k) (sym same) ∙ h)
-
-pub low-served : (m : State) (v : ℕ) (later : Option Refusal) → or_else (bad_vm m v) later ≡ None → v < slot_count m.config
-low-served m v later served = low-of m v (when-none (nat_le (slot_count m.config) v) _ (or_else-none (bad_vm m v) later served).0)
 
 grows-drop : (m : State) (v c g : ℕ) → IsOrderly m → refusal m (Drop v c g) ≡ None → Grows m (Drop v c g) (effect m (Drop v c g)).1
 grows-drop m v c g is served Core k h = cc
 grows-drop m v c g is served Host k h = cc
 grows-drop m v c g is served Free k h =
-    let low : v < slot_count m.config = low-served m v _ served in
-    let mine : is_in (slot_at m v).frames (backing (mapped_at m v g)) ≡ true = mapped_to m is v g low (mapped_at m v g) refl (guest_frame-served m v c g _ served) in
+    let low = vm-in m v (none-of (conditions m (Drop v c g)) served 0) in
+    let mine : is_in (slot_at m v).frames (backing (mapped_at m v g)) ≡ true = mapped_to m is v g low (mapped_at m v g) refl (mapped-served m v c g _ served) in
     or-map (is_in m.free k) (nat_eq (backing (mapped_at m v g)) k) (nat_lt v (slot_count m.config) && is_in (slot_at m v).frames k)
-    (λ e. both (nat_lt v (slot_count m.config)) (is_in (slot_at m v).frames k) (nat_lt-is v (slot_count m.config) low) (subst (λ x. is_in (slot_at m v).frames x ≡ true) (eqb-true (backing (mapped_at m v g)) k e) mine))
+    (λ e. and_from (nat_lt v (slot_count m.config)) (is_in (slot_at m v).frames k) (lt-ltb v (slot_count m.config) low) (subst (λ x. is_in (slot_at m v).frames x ≡ true) (eqb-true (backing (mapped_at m v g)) k e) mine))
     (is_in-push m.free (backing (mapped_at m v g)) k h)
-grows-drop m v c g is served (Vm w) k h = or-first (is_in (slot_at m w).frames k) _ (fewer m v (backing (mapped_at m v g)) _ refl w k h)
+grows-drop m v c g is served (Vm w) k h = or_left (is_in (slot_at m w).frames k) _ (fewer m v (backing (mapped_at m v g)) _ refl w k h)
 
 grows-clear : (m : State) (v : ℕ) → refusal m (Clear v) ≡ None → Grows m (Clear v) (effect m (Clear v)).1
 grows-clear m v served Core k h = cc
 grows-clear m v served Host k h = cc
 grows-clear m v served Free k h =
-    or-map (is_in m.free k) (is_in (slot_at m v).frames k) (nat_lt v (slot_count m.config) && is_in (slot_at m v).frames k) (both (nat_lt v (slot_count m.config)) (is_in (slot_at m v).frames k) (nat_lt-is v (slot_count m.config) (low-served m v _ served))) (is_in-append m.free (slot_at m v).frames k h)
-grows-clear m v served (Vm w) k h = or-first (is_in (slot_at m w).frames k) _ (elim (set-or m.slots v empty_slot w) [
+    or-map (is_in m.free k) (is_in (slot_at m v).frames k) (nat_lt v (slot_count m.config) && is_in (slot_at m v).frames k) (and_from (nat_lt v (slot_count m.config)) (is_in (slot_at m v).frames k) (lt-ltb v (slot_count m.config) (vm-in m v (none-of (conditions m (Clear v)) served 0)))) (is_in-append m.free (slot_at m v).frames k h)
+grows-clear m v served (Vm w) k h = or_left (is_in (slot_at m w).frames k) _ (elim (set-or m.slots v empty_slot w) [
   | inl at ↦ let none : is_in (get_or (set m.slots v empty_slot) w empty_slot).frames k ≡ false = ap (λ (s : Slot). is_in s.frames k) at.1 in cc
   | inr same ↦ ap (λ (s : Slot). is_in s.frames k) (sym same) ∙ h
 ])
@@ -146,10 +135,6 @@ grows-clear m v served (Vm w) k h = or-first (is_in (slot_at m w).frames k) _ (e
 free-trimmed : (m : State) (v : ℕ) (images : List Image) → (all_trimmed m v images).free ≡ m.free
 free-trimmed m v [] = refl
 free-trimmed m v (image ∷ images) = free-trimmed (trimmed m v image) v images
-
-slots-trimmed : (m : State) (v : ℕ) (images : List Image) → (all_trimmed m v images).slots ≡ m.slots
-slots-trimmed m v [] = refl
-slots-trimmed m v (image ∷ images) = slots-trimmed (trimmed m v image) v images
 
 grows-verified : (m : State) (v : ℕ) (failing : Option ℕ) → Grows m (Verify v) (verified m v failing).1
 grows-verified m v None owner k h =

@@ -1,16 +1,17 @@
 -- A virtual processor's reads, writes, grants and revokes keep the state lawful.
 use Rattle.std.proofs.Common.{ℕ, ◌≡◌, ◌<◌, ◌≤◌, ◌+◌, ◌-◌, inl, inr, Bool, true, false, IsTrue, cond, Option, None, Some, List, length, nat_eq, refl, sym, ap, subst, ◌∙◌, arith}
 use Rattle.std.proofs.lemmas.Grind.{common_steps}
+use Rattle.std.proofs.lemmas.Bool.{leb-false}
 use Rattle.kc_types.specs.Bytes.{IsData}
 use Rattle.kc_types.specs.declared.refusal.Refusal.{Refusal}
 use Rattle.kc_types.specs.declared.call.Call.TheVariants.{GuestRead, GuestWrite, Grant, Revoke}
 use Rattle.kc_types.specs.declared.owner.Owner.TheVariants.{Vm}
 use Rattle.kc_types.specs.declared.slot.Phase.TheVariants.{Active}
 use Rattle.kc_model.specs.State.{State, frame_at, slot_at, vcpu_at, mapped_at, with_frame}
-use Rattle.kc_model.specs.Refusals.{refusal, backing, guest_access, guest_frame}
+use Rattle.kc_model.specs.Refusals.{refusal, backing, guest_access, guest_frame, first_of_these}
 use Rattle.kc_model.specs.Effects.{effect, guest_read, guest_written, written}
 use Rattle.kc_model.specs.Lawful.{IsLawful, is_vm}
-use Rattle.kc_model.proofs.Served.{or_else-none, when-none, nat_le-is_false, range-served}
+use Rattle.kc_model.proofs.Served.{when-none, range-served, none-of}
 use Rattle.kc_model.proofs.Answered.{vm-in, vcpu-in, gfn-in, was-active, was-registered, was-mapped}
 use Rattle.kc_model.proofs.Changes.{lawful-with_frame, exists, vm-same}
 use Rattle.kc_model.proofs.HostCalls.{lawful-written}
@@ -25,23 +26,17 @@ pub record IsGuestCall (m : State) (v c g : ℕ) : Type 0 where
   pub active : (slot_at m v).phase ≡ Active
   pub registered : (vcpu_at m v c).registered ≡ true
 
-pub guest_access-served : (m : State) (v c g off len : ℕ) → guest_access m v c g off len ≡ None → IsGuestCall m v c g × (off + len ≤ 4096)
+pub guest_access-served : (m : State) (v c g off len : ℕ) → first_of_these (guest_access m v c g off len) ≡ None → IsGuestCall m v c g × (off + len ≤ 4096)
 guest_access-served m v c g off len served =
-    let s0 = or_else-none _ _ served in
-    let s1 = or_else-none _ _ s0.1 in
-    let s2 = or_else-none _ _ s1.1 in
-    let s3 = or_else-none _ _ s2.1 in
-    let s4 = or_else-none _ _ s3.1 in
-    let s5 = or_else-none _ _ s4.1 in
-    let s6 = or_else-none _ _ s5.1 in (
+    let none = none-of (guest_access m v c g off len) served in (
       record {
-        vm = vm-in m v s0.0;
-        vcpu = vcpu-in c s1.0;
-        gfn = gfn-in g s2.0;
-        active = was-active m v s5.0;
-        registered = was-registered m v c s6.0;
+        vm = vm-in m v (none 0);
+        vcpu = vcpu-in c (none 1);
+        gfn = gfn-in g (none 2);
+        active = was-active m v (none 5);
+        registered = was-registered m v c (none 6);
       },
-      (range-served off len (when-none _ _ s3.0)).1,
+      (range-served off len (when-none _ _ (none 3))).1,
     )
 
 -- a served call of a virtual processor on a mapped guest frame
@@ -49,27 +44,20 @@ pub record IsMappedCall (m : State) (v c g : ℕ) : Type 0 where
   pub call : IsGuestCall m v c g
   pub mapped : mapped_at m v g ≡ Some (backing (mapped_at m v g))
 
-pub guest_frame-served : (m : State) (v c g : ℕ) (last : Option Refusal) → guest_frame m v c g last ≡ None → IsMappedCall m v c g × (last ≡ None)
+pub guest_frame-served : (m : State) (v c g : ℕ) (last : Option Refusal) → first_of_these (guest_frame m v c g last) ≡ None → IsMappedCall m v c g × (last ≡ None)
 guest_frame-served m v c g last served =
-    let s0 = or_else-none _ _ served in
-    let s1 = or_else-none _ _ s0.1 in
-    let s2 = or_else-none _ _ s1.1 in
-    let s3 = or_else-none _ _ s2.1 in
-    let s4 = or_else-none _ _ s3.1 in
-    let s5 = or_else-none _ _ s4.1 in
-    let s6 = or_else-none _ _ s5.1 in
-    let s7 = or_else-none _ _ s6.1 in (
+    let none = none-of (guest_frame m v c g last) served in (
       record {
         call = record {
-          vm = vm-in m v s0.0;
-          vcpu = vcpu-in c s1.0;
-          gfn = gfn-in g s2.0;
-          active = was-active m v s4.0;
-          registered = was-registered m v c s5.0;
+          vm = vm-in m v (none 0);
+          vcpu = vcpu-in c (none 1);
+          gfn = gfn-in g (none 2);
+          active = was-active m v (none 4);
+          registered = was-registered m v c (none 5);
         };
-        mapped = was-mapped m v g s6.0;
+        mapped = was-mapped m v g (none 6);
       },
-      s7.0,
+      none 7,
     )
 
 -- a mapped frame is the slot's, and exists
@@ -121,7 +109,7 @@ lawful-grant m v c g is served =
     let seen = guest_frame-served m v c g _ served in
     let f = backing (mapped_at m v g) in
     let owner = owner-mapped m v g f is seen.0.call.vm seen.0.mapped in
-    let below : (frame_at m f).share < 100 = nat_le-is_false _ _ (when-none _ _ seen.1) in
+    let below : (frame_at m f).share < 100 = leb-false _ _ (when-none _ _ seen.1) in
     lawful-shared m v f ((frame_at m f).share + 1) (frame_at m f).present is seen.0.call.vm seen.0.call.active owner (omega arith) (λ h. omega arith)
 
 lowered : (share : ℕ) (present : Bool) → (IsTrue present → 0 < share) → IsTrue (cond (nat_eq share 1) false present) → 0 < share - 1

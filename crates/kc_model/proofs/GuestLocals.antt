@@ -8,14 +8,14 @@ use Rattle.kc_types.specs.declared.refusal.Refusal.{Refusal}
 use Rattle.kc_types.specs.declared.refusal.Refusal.TheVariants.{NotMapped, ShareFull, NotShared, Shared}
 use Rattle.kc_types.specs.declared.owner.Owner.TheVariants.{Core, Free}
 use Rattle.kc_model.specs.State.{State, Frame, Slot, Image, frame_at, slot_at, mapped_at, absent_vcpu, with_slot, untouched}
-use Rattle.kc_model.specs.Refusals.{when, first_of_these, bad_vm, bad_vcpu, bad_gfn, no_vm, not_active, no_vcpu, not_mapped, share_at, guest_frame, backing, pending, next_gfn}
+use Rattle.kc_model.specs.Refusals.{when, first_of_these, bad_vm, bad_vcpu, bad_gfn, no_vm, not_active, no_vcpu, share_at, guest_frame, backing, pending, next_gfn}
 use Rattle.kc_model.specs.Effects.{with_fault, hand, guest_read, guest_written, scrubbed}
 use Rattle.kc_model.specs.Resources.{Resources, pick, merged, is_in}
 use Rattle.kc_model.specs.Local.{outcome_merged, IsLocal}
 use Rattle.kc_model.proofs.Merges.{HasFrame, HasSlot, frame-merged, slot-merged, frames-set, slots-set, pick-set}
 use Rattle.kc_model.proofs.Members.{is_in-first, is_in-later}
-use Rattle.kc_model.proofs.Served.{or_else-none}
 use Rattle.kc_model.proofs.Locals.{local-next}
+use Rattle.kc_model.proofs.GuestCalls.{guest_frame-served}
 use Rattle.kc_types.specs.declared.resource.Resource.TheVariants as resource
 
 -- the frame that a guest frame is mapped to is among the resources
@@ -69,23 +69,11 @@ unless_unmapped : (a b c d e f : Option Refusal) (at : Option ℕ) (last other :
 unless_unmapped a b c d e f None last other same = refl
 unless_unmapped a b c d e f (Some _) last other same = ap (λ last. first_of_these (a ∷ b ∷ c ∷ d ∷ e ∷ f ∷ last ∷ [])) (same refl)
 
-some-of : (at : Option ℕ) → when (is_none at) NotMapped ≡ None → is_some at ≡ true
-some-of None h = cc
-some-of (Some f) h = refl
+-- a served call on a mapped guest frame finds one there
+pub mapped-served : (m : State) (v c g : ℕ) (last : Option Refusal) → first_of_these (guest_frame m v c g last) ≡ None → is_some (mapped_at m v g) ≡ true
+mapped-served m v c g last served = ap is_some (guest_frame-served m v c g last served).0.mapped
 
-seventh : (a b c d e f g h : Option Refusal) → first_of_these (a ∷ b ∷ c ∷ d ∷ e ∷ f ∷ g ∷ h ∷ []) ≡ None → g ≡ None
-seventh None None None None None None g h is = (or_else-none g _ is).0
-seventh (Some r) b c d e f g h is = cc
-seventh None (Some r) c d e f g h is = cc
-seventh None None (Some r) d e f g h is = cc
-seventh None None None (Some r) e f g h is = cc
-seventh None None None None (Some r) f g h is = cc
-seventh None None None None None (Some r) g h is = cc
-
-pub guest_frame-served : (m : State) (v c g : ℕ) (last : Option Refusal) → guest_frame m v c g last ≡ None → is_some (mapped_at m v g) ≡ true
-guest_frame-served m v c g last h = some-of (mapped_at m v g) (seventh (bad_vm m v) (bad_vcpu c) (bad_gfn g) (no_vm m v) (not_active m v) (no_vcpu m v c) (not_mapped m v g) last h)
-
-guest_frame-merged : (here : Resources) (m rest : State) (v c g : ℕ) (last other : Option Refusal) → HasSlot here m v → (is_some (mapped_at m v g) ≡ true → last ≡ other) → guest_frame (merged here m rest) v c g last ≡ guest_frame m v c g other
+guest_frame-merged : (here : Resources) (m rest : State) (v c g : ℕ) (last other : Option Refusal) → HasSlot here m v → (is_some (mapped_at m v g) ≡ true → last ≡ other) → first_of_these (guest_frame (merged here m rest) v c g last) ≡ first_of_these (guest_frame m v c g other)
 guest_frame-merged here m rest v c g last other has same = rw (slot-merged here m rest v has) (unless_unmapped (bad_vm m v) (bad_vcpu c) (bad_gfn g) (no_vm m v) (not_active m v) (no_vcpu m v c) (mapped_at m v g) last other same)
 
 share-merged : (here : Resources) (m rest : State) (v g : ℕ) → HasSlot here m v → HasMapped here m v g → is_some (mapped_at m v g) ≡ true → share_at (merged here m rest) v g ≡ share_at m v g
@@ -96,19 +84,19 @@ share-merged here m rest v g has mapped is =
 pub local-grant : (here : Resources) (m rest : State) (v c g : ℕ) → HasSlot here m v → HasMapped here m v g → IsLocal here m rest (Grant v c g)
 local-grant here m rest v c g has mapped = local-next here m rest (Grant v c g)
     (guest_frame-merged here m rest v c g (when (nat_le 100 (share_at (merged here m rest) v g)) ShareFull) (when (nat_le 100 (share_at m v g)) ShareFull) has (λ is. ap (λ share. when (nat_le 100 share) ShareFull) (share-merged here m rest v g has mapped is)))
-    (λ served. let is = mapped (guest_frame-served m v c g _ served) in
+    (λ served. let is = mapped (mapped-served m v c g _ served) in
     rw (slot-merged here m rest v has, frame-merged here m rest (backing (mapped_at m v g)) is, frames-set here m rest (backing (mapped_at m v g)) is) refl)
 
 pub local-revoke : (here : Resources) (m rest : State) (v c g : ℕ) → HasSlot here m v → HasMapped here m v g → IsLocal here m rest (Revoke v c g)
 local-revoke here m rest v c g has mapped = local-next here m rest (Revoke v c g)
     (guest_frame-merged here m rest v c g (when ((share_at (merged here m rest) v g) == 0) NotShared) (when ((share_at m v g) == 0) NotShared) has (λ is. ap (λ share. when (share == 0) NotShared) (share-merged here m rest v g has mapped is)))
-    (λ served. let is = mapped (guest_frame-served m v c g _ served) in
+    (λ served. let is = mapped (mapped-served m v c g _ served) in
     rw (slot-merged here m rest v has, frame-merged here m rest (backing (mapped_at m v g)) is, frames-set here m rest (backing (mapped_at m v g)) is) refl)
 
 pub local-drop : (here : Resources) (m rest : State) (v c g : ℕ) → HasSlot here m v → HasMapped here m v g → here resource.Free ≡ true → IsLocal here m rest (Drop v c g)
 local-drop here m rest v c g has mapped free = local-next here m rest (Drop v c g)
     (guest_frame-merged here m rest v c g (when (nat_lt 0 (share_at (merged here m rest) v g)) Shared) (when (nat_lt 0 (share_at m v g)) Shared) has (λ is. ap (λ share. when (nat_lt 0 share) Shared) (share-merged here m rest v g has mapped is)))
-    (λ served. let is = mapped (guest_frame-served m v c g _ served) in
+    (λ served. let is = mapped (mapped-served m v c g _ served) in
     rw (slot-merged here m rest v has, frame-merged here m rest (backing (mapped_at m v g)) is, frames-set here m rest (backing (mapped_at m v g)) is, slots-set here m rest v has, free) refl)
 
 -- the changes of a slot that others are made of

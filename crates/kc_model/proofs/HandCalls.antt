@@ -1,8 +1,7 @@
 -- The calls that hand a frame to a slot keep the state lawful.
-use Rattle.std.proofs.Common.{ℕ, ◌≡◌, ◌<◌, ◌≤◌, ◌+◌, ◌⊎◌, ◌||◌, inl, inr, true, false, not, None, Some, is_some, List, [], ◌∷◌, ◌++◌, length, get_or, set, nat_eq, eq-eqb, refl, sym, ap, subst, ◌∙◌, arith, length-set, All}
+use Rattle.std.proofs.Common.{ℕ, ◌≡◌, ◌<◌, ◌≤◌, ◌+◌, ◌⊎◌, ◌||◌, inl, inr, true, false, None, Some, is_some, List, [], ◌∷◌, ◌++◌, length, get_or, set, nat_eq, eq-eqb, refl, sym, ap, subst, ◌∙◌, arith, length-set, All}
 use Rattle.std.specs.List.{list_any}
-use Rattle.std.proofs.lemmas.Bool.{cases_eq}
-use Rattle.std.proofs.lemmas.Grind.{common_steps}
+use Rattle.std.proofs.lemmas.Bool.{cases_eq, leb-false}
 use Rattle.std.proofs.lemmas.List.Elements.{All-set}
 use Rattle.std.specs.FinMap as map
 use Rattle.std.proofs.lemmas.List.{set-set}
@@ -12,11 +11,11 @@ use Rattle.kc_types.specs.declared.owner.Owner.{Owner}
 use Rattle.kc_types.specs.declared.owner.Owner.TheVariants.{Host, Free, Vm}
 use Rattle.kc_types.specs.declared.slot.Phase.TheVariants.{Empty, Booting, Active}
 use Rattle.kc_model.specs.State.{State, Frame, Slot, Image, frame_at, slot_at, vcpu_at, image_at, mapped_at, with_frame, with_slot, with_vcpu, absent_vcpu}
-use Rattle.kc_model.specs.Refusals.{refusal, pending, next_gfn, pages_of, is_short}
+use Rattle.kc_model.specs.Refusals.{refusal, pending, next_gfn, pages_of, conditions}
 use Rattle.kc_model.specs.Effects.{effect, with_leaf}
 use Rattle.kc_model.specs.Lawful.{IsLawful, IsLawfulFrame, IsLawfulSlot, IsLawfulImage, Apart, holds, has_leaf, same_owner, is_vm}
-use Rattle.kc_model.proofs.Served.{or_else-none, when-none, nat_le-is_false}
-use Rattle.kc_model.proofs.Answered.{vm-in, vcpu-in, frame-in, was-host, was-booting, was-active, was-registered, was-pending, was-unmapped, was-room, is_none-of}
+use Rattle.kc_model.proofs.Served.{when-none, none-of}
+use Rattle.kc_model.proofs.Answered.{vm-in, vcpu-in, frame-in, was-host, was-booting, was-active, was-registered, was-pending, was-unmapped, was-room, is_none-of, is_short-is}
 use Rattle.kc_model.proofs.Lists.{lists-other, lists-gained, changed-same, changed-other}
 use Rattle.kc_model.proofs.Leaves.{leaves-grown}
 use Rattle.kc_model.proofs.Slots.{lawful-with_vcpu, waits-not, next-held, apart-set, holds-more, list_any-set_more}
@@ -92,9 +91,6 @@ lawful-hand m v g f slot is v_in g_in lt host unmapped frames mapped phase there
 pub written-twice : (m : State) (v : ℕ) (slot : Slot) (change : Slot → Slot) → v < length m.slots → with_slot (with_slot m v slot) v (change (slot_at (with_slot m v slot) v)) ≡ with_slot m v (change slot)
 written-twice m v slot change lt = ap (λ (s : Slot). with_slot (with_slot m v slot) v (change s)) (slot-here m v slot lt) ∙ ap (λ (slots : List Slot). record m { slots = slots }) (set-set m.slots v slot (change slot))
 
-is_short-is : (image : Image) → not (is_short image) ≡ false → image.pages < pages_of image.len
-is_short-is image h = grind (arith, common_steps)
-
 more_pages : (image : Image) → IsLawfulImage image → image.pages < pages_of image.len → IsLawfulImage (record image { pages = image.pages + 1 })
 more_pages image is short = record { some = is.some; small = is.small; within = is.within; pages = omega arith }
 
@@ -110,22 +106,15 @@ pub record IsRemap (m : State) (v i f : ℕ) : Type 0 where
 
 pub remap-served : (m : State) (v i f : ℕ) → refusal m (Remap v i f) ≡ None → IsRemap m v i f
 remap-served m v i f served =
-    let s0 = or_else-none _ _ served in
-    let s1 = or_else-none _ _ s0.1 in
-    let s2 = or_else-none _ _ s1.1 in
-    let s3 = or_else-none _ _ s2.1 in
-    let s4 = or_else-none _ _ s3.1 in
-    let s5 = or_else-none _ _ s4.1 in
-    let s6 = or_else-none _ _ s5.1 in
-    let s7 = or_else-none _ _ s6.1 in
+    let none = none-of (conditions m (Remap v i f)) served in
     record {
-      vm = vm-in m v s0.0;
-      frame = frame-in m f s1.0;
-      booting = was-booting m v s3.0;
-      image = nat_le-is_false _ _ (when-none _ _ s4.0);
-      short = is_short-is (image_at m v i) (when-none _ _ s5.0);
-      host = was-host m f s6.0;
-      room = was-room m v (next_gfn m v i) s7.0;
+      vm = vm-in m v (none 0);
+      frame = frame-in m f (none 1);
+      booting = was-booting m v (none 3);
+      image = leb-false _ _ (when-none _ _ (none 4));
+      short = is_short-is (image_at m v i) (when-none _ _ (none 5));
+      host = was-host m f (none 6);
+      room = was-room m v (next_gfn m v i) (none 7);
     }
 
 pub lawful-remap : (m : State) (v i f : ℕ) → IsLawful m → refusal m (Remap v i f) ≡ None → IsLawful (effect m (Remap v i f)).1
@@ -170,26 +159,17 @@ pub record IsMap (m : State) (v c f : ℕ) : Type 0 where
 
 pub map-served : (m : State) (v c f : ℕ) → refusal m (Map v c f) ≡ None → IsMap m v c f
 map-served m v c f served =
-    let s0 = or_else-none _ _ served in
-    let s1 = or_else-none _ _ s0.1 in
-    let s2 = or_else-none _ _ s1.1 in
-    let s3 = or_else-none _ _ s2.1 in
-    let s4 = or_else-none _ _ s3.1 in
-    let s5 = or_else-none _ _ s4.1 in
-    let s6 = or_else-none _ _ s5.1 in
-    let s7 = or_else-none _ _ s6.1 in
-    let s8 = or_else-none _ _ s7.1 in
-    let s9 = or_else-none _ _ s8.1 in
+    let none = none-of (conditions m (Map v c f)) served in
     record {
-      vm = vm-in m v s0.0;
-      vcpu = vcpu-in c s1.0;
-      frame = frame-in m f s2.0;
-      active = was-active m v s4.0;
-      registered = was-registered m v c s5.0;
-      waits = was-pending (vcpu_at m v c).fault _ s6.0;
-      unmapped = was-unmapped (mapped_at m v (pending m v c)) _ s7.0;
-      host = was-host m f s8.0;
-      room = was-room m v (pending m v c) s9.0;
+      vm = vm-in m v (none 0);
+      vcpu = vcpu-in c (none 1);
+      frame = frame-in m f (none 2);
+      active = was-active m v (none 4);
+      registered = was-registered m v c (none 5);
+      waits = was-pending (vcpu_at m v c).fault _ (none 6);
+      unmapped = was-unmapped (mapped_at m v (pending m v c)) _ (none 7);
+      host = was-host m f (none 8);
+      room = was-room m v (pending m v c) (none 9);
     }
 
 pub lawful-map : (m : State) (v c f : ℕ) → IsLawful m → refusal m (Map v c f) ≡ None → IsLawful (effect m (Map v c f)).1

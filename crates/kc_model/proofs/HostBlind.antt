@@ -12,7 +12,7 @@ use Rattle.kc_model.specs.Ranged.{IsRanged}
 use Rattle.kc_model.specs.Lawful.{IsLawful, same_owner}
 use Rattle.kc_model.specs.Blind.{Secret, has_gfn, is_secret, is_running, hidden, hidden_call, reads_secret, grants_secret, IsPrivate, AreAlike, AlikeTraces, SeesTheSame, HostIsBlind, ShowsNothing}
 use Rattle.kc_model.proofs.Keeps.{lawful-next}
-use Rattle.kc_model.proofs.Unseen.{refusal-hidden, frame-hidden}
+use Rattle.kc_model.proofs.Unseen.{refusal-hidden, frame-hidden, and-false}
 use Rattle.kc_model.proofs.Blinds.{blind-effect, hidden-again}
 use Rattle.kc_model.proofs.Private.{private-next, secret-owner}
 use Rattle.kc_model.proofs.AtBoot.{slot_at-boot}
@@ -109,11 +109,6 @@ alike-boot s c = record { same = refl; private = λ f secret. no_secret f secret
   where
     idle : is_running (boot c) s.vm ≡ false
     idle = ap (λ (x : Slot). is_active x.phase) (slot_at-boot c s.vm)
-
-    and-false : (a b : Bool) → (a && (b && false)) ≡ false
-    and-false true true = refl
-    and-false true false = refl
-    and-false false b = refl
 
     no_secret : (f : ℕ) → is_secret s (is_running (boot c) s.vm) (frame_at (boot c) f) ≡ true → (frame_at (boot c) f).share ≡ 0
     no_secret f secret =

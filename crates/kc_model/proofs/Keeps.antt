@@ -1,13 +1,12 @@
 -- Each call keeps a lawful state lawful.
-use Rattle.std.proofs.Common.{◌≡◌, List, [], ◌∷◌, Option, None, Some, refl}
-use Rattle.std.specs.List.{AllByRecursion}
+use Rattle.std.proofs.Common.{◌≡◌, Option, None, Some, refl}
 use Rattle.kc_types.specs.declared.call.Call.{Call}
 use Rattle.kc_types.specs.declared.call.Call.TheVariants.{Take, Give, HostFault, HostRead, HostWrite, RegisterVm, RegisterVcpu, SetBoot, Remap, Verify, Map, GuestRead, GuestWrite, Grant, Revoke, Drop, Clear}
 use Rattle.kc_types.specs.declared.refusal.Refusal.{Refusal}
 use Rattle.kc_model.specs.State.{State}
 use Rattle.kc_model.specs.Ranged.{IsRanged}
 use Rattle.kc_model.specs.Lawful.{IsLawful}
-use Rattle.kc_model.specs.Next.{next, unless_refused, state_after}
+use Rattle.kc_model.specs.Next.{next, unless_refused}
 use Rattle.kc_model.specs.Refusals.{refusal}
 use Rattle.kc_model.specs.Effects.{effect}
 use Rattle.kc_model.proofs.Moves.{lawful-takes, lawful-give}
@@ -46,8 +45,3 @@ lawful-unless_refused (Some r) m call ranged is served = is
 pub lawful-next : (m : State) (call : Call) → IsRanged call → IsLawful m → IsLawful (next m call).1
 unfolding next
 lawful-next m call ranged is = lawful-unless_refused (refusal m call) m call ranged is refl
-
--- so does each trace
-pub lawful-after : (m : State) (calls : List Call) → AllByRecursion IsRanged calls → IsLawful m → IsLawful (state_after m calls)
-lawful-after m [] ranged is = is
-lawful-after m (call ∷ calls) ranged is = lawful-after (next m call).1 calls ranged.1 (lawful-next m call ranged.0 is)

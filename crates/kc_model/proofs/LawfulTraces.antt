@@ -4,6 +4,7 @@ use Rattle.std.specs.List.{list_any}
 use Rattle.std.specs.Ordering.{nat_cmp}
 use Rattle.std.specs.FinMap as map
 use Rattle.std.proofs.lemmas.Grind.{common_steps}
+use Rattle.std.proofs.lemmas.Bool.{or_right, or_left, and_from}
 use Rattle.kc_types.specs.declared.call.Call.{Call}
 use Rattle.kc_types.specs.declared.owner.Owner.TheVariants.{Free, Vm}
 use Rattle.kc_model.specs.State.{State, Image, frame_at, slot_at}
@@ -12,8 +13,7 @@ use Rattle.kc_model.specs.Lawful.{IsLawful, IsLawfulImage, holds, same_owner, ti
 use Rattle.kc_model.specs.Ranged.{IsRanged}
 use Rattle.kc_model.specs.Local.{IsOrderly, HasMappedPages}
 use Rattle.kc_model.specs.Footprints.{call_at, state_at}
-use Rattle.kc_model.proofs.Members.{held-times_in, same_number, or-first, or-later}
-use Rattle.kc_model.proofs.Needs.{both}
+use Rattle.kc_model.proofs.Members.{held-times_in, same_number}
 use Rattle.kc_model.proofs.Orderly.{orderly-lawful}
 use Rattle.kc_model.proofs.LinksKept.{ListsAll}
 use Rattle.kc_model.proofs.Keeps.{lawful-next}
@@ -23,16 +23,16 @@ some-page : (len : ℕ) → 0 < len → 0 < pages_of len
 some-page len some = omega (arith, some)
 
 held-between : (g : ℕ) (image : Image) → image.base ≤ g → g < image.base + image.pages → holds g image ≡ true
-held-between g image from below = both (nat_le image.base g) (nat_lt g (image.base + image.pages)) (grind (arith, common_steps)) (grind (arith, common_steps))
+held-between g image from below = and_from (nat_le image.base g) (nat_lt g (image.base + image.pages)) (grind (arith, common_steps)) (grind (arith, common_steps))
 
 mapped-pages : (mapped : map.FinMap nat_cmp ℕ) (images : List Image) → All IsLawfulImage images → ((g : ℕ) → list_any (holds g) images ≡ true → is_some (map.get mapped g) ≡ true) → HasMappedPages mapped images
 mapped-pages mapped [] each held = tt
 mapped-pages mapped (image ∷ images) each held = (
   record {
     some = some-page image.len (each 0 image (omega arith)).some;
-    each_page = λ g from below. held g (or-first (holds g image) (list_any (holds g) images) (held-between g image from below));
+    each_page = λ g from below. held g (or_left (holds g image) (list_any (holds g) images) (held-between g image from below));
   },
-  mapped-pages mapped images (λ k d lt. each (suc k) d (omega (arith, lt))) (λ g h. held g (or-later (holds g image) (list_any (holds g) images) h)),
+  mapped-pages mapped images (λ k d lt. each (suc k) d (omega (arith, lt))) (λ g h. held g (or_right (holds g image) (list_any (holds g) images) h)),
 )
 
 -- a lawful state is orderly

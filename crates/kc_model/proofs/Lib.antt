@@ -25,7 +25,6 @@ pub mod Unseen
 pub mod Blinds
 pub mod Private
 pub mod HostBlind
-pub mod Known
 pub mod Wipes
 pub mod Merges
 pub mod Locals

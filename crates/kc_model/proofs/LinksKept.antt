@@ -1,6 +1,7 @@
 -- A call leaves the links of the frames that it does not need: they follow from the parts.
 use Rattle.std.proofs.Common.{ℕ, ◌≡◌, ◌<◌, Bool, true, false, ◌&&◌, Option, Some, None, nat_lt, nat_eq, eqb-true, List, refl, sym, ap, subst, ◌∙◌, arith}
 use Rattle.std.proofs.lemmas.Grind.{common_steps}
+use Rattle.std.proofs.lemmas.Bool.{and_parts, and_from}
 use Rattle.kc_types.specs.declared.call.Call.{Call}
 use Rattle.kc_types.specs.declared.owner.Owner.{Owner}
 use Rattle.kc_types.specs.declared.owner.Owner.TheVariants.{Core, Host, Free, Vm}
@@ -10,7 +11,7 @@ use Rattle.kc_model.specs.Resources.{Resource, is_in, names_frame, slot_of, uses
 use Rattle.kc_model.specs.Links.{link_in, list_of}
 use Rattle.kc_model.specs.Linked.{frame_and_link, slot_and_ends, free_ends, linked_slot, ends_of, linked_part_of}
 use Rattle.kc_model.specs.Local.{IsOrderly}
-use Rattle.kc_model.proofs.Needs.{by_slot, by_free, both}
+use Rattle.kc_model.proofs.Needs.{by_slot, by_free}
 use Rattle.kc_model.proofs.Agreeing.{keeps-others, frame_of_part, slot_of_part, free_of_part}
 use Rattle.kc_types.specs.Configuration.{slot_count}
 use Rattle.kc_types.specs.declared.resource.Resource.TheVariants as resource
@@ -21,21 +22,14 @@ pub record ListsAll (m : State) : Type 0 where
   pub slots : (v f : ℕ) → v < slot_count m.config → (frame_at m f).owner ≡ Vm v → is_in (slot_at m v).frames f ≡ true
 
 needs-free : (m : State) (call : Call) (f : ℕ) → uses_free call ≡ true → is_in m.free f ≡ true → need m call (resource.Frame f) ≡ true
-needs-free m call f uses listed = by_free (names_frame call f) (nat_lt f m.config.frames) (of_slot m.config (listed_in m) (slot_of call) f) (uses_free call && is_in m.free f) (both (uses_free call) (is_in m.free f) uses listed)
+needs-free m call f uses listed = by_free (names_frame call f) (nat_lt f m.config.frames) (of_slot m.config (listed_in m) (slot_of call) f) (uses_free call && is_in m.free f) (and_from (uses_free call) (is_in m.free f) uses listed)
 
 of-named : (m : State) (named : Option ℕ) (v f : ℕ) → exists_slot m.config named v ≡ true → is_in (slot_at m v).frames f ≡ true → of_slot m.config (listed_in m) named f ≡ true
 of-named m None v f names listed = cc
 of-named m (Some w) v f names listed =
-    let same : w ≡ v = eqb-true w v (and-right (nat_lt w (slot_count m.config)) (nat_eq w v) names) in
-    both (nat_lt w (slot_count m.config)) (is_in (slot_at m w).frames f) (and-left (nat_lt w (slot_count m.config)) (nat_eq w v) names) (subst (λ x. is_in (slot_at m x).frames f ≡ true) (sym same) listed)
-  where
-    and-left : (a b : Bool) → (a && b) ≡ true → a ≡ true
-    and-left true b h = refl
-    and-left false b h = h
-
-    and-right : (a b : Bool) → (a && b) ≡ true → b ≡ true
-    and-right true b h = h
-    and-right false b h = cc
+    let parts = and_parts (nat_lt w (slot_count m.config)) (nat_eq w v) names in
+    let same : w ≡ v = eqb-true w v parts.1 in
+    and_from (nat_lt w (slot_count m.config)) (is_in (slot_at m w).frames f) parts.0 (subst (λ x. is_in (slot_at m x).frames f ≡ true) (sym same) listed)
 
 needs-slot : (m : State) (call : Call) (v f : ℕ) → need m call (resource.Vm v) ≡ true → is_in (slot_at m v).frames f ≡ true → need m call (resource.Frame f) ≡ true
 needs-slot m call v f names listed = by_slot (names_frame call f) (nat_lt f m.config.frames) (of_slot m.config (listed_in m) (slot_of call) f) (uses_free call && is_in m.free f) (of-named m (slot_of call) v f names listed)

@@ -1,47 +1,23 @@
 -- Every call depends on what it needs alone, and changes nothing else.
-use Rattle.std.proofs.Common.{ℕ, ◌≡◌, ◌<◌, ◌||◌, Bool, true, false, not, None, nat_le, length, refl, arith}
-use Rattle.std.specs.Prelude.{◌==◌}
-use Rattle.std.specs.List.{list_any}
-use Rattle.std.proofs.lemmas.Grind.{common_steps}
+use Rattle.std.proofs.Common.{ℕ, ◌≡◌, None, refl}
 use Rattle.kc_types.specs.declared.call.Call.{Call}
 use Rattle.kc_types.specs.declared.call.Call.TheVariants.{Take, Give, HostFault, HostRead, HostWrite, RegisterVm, RegisterVcpu, SetBoot, Remap, Verify, Map, GuestRead, GuestWrite, Grant, Revoke, Drop, Clear}
-use Rattle.kc_types.specs.declared.slot.Phase.{Phase}
-use Rattle.kc_types.specs.declared.slot.Phase.TheVariants.{Empty, Booting, Active, Dead}
 use Rattle.kc_model.specs.State.{State, slot_at}
-use Rattle.kc_model.specs.Refusals.{refusal, is_booting, is_short, bad_vm, no_vm, not_booting}
+use Rattle.kc_model.specs.Refusals.{refusal}
 use Rattle.kc_model.specs.Resources.{Resources, need, IsWithin}
 use Rattle.kc_model.specs.Local.{IsLocal, IsOrderly}
 use Rattle.kc_model.proofs.Members.{is_in-first, same_number}
-use Rattle.kc_model.proofs.Served.{or_else-none, when-none, not-is_false}
 use Rattle.kc_model.proofs.Locals.{local-host_fault, local-host_read, local-host_write, local-give, local-take}
 use Rattle.kc_model.proofs.GuestLocals.{local-register_vm, local-register_vcpu, local-set_boot, local-guest_read, local-guest_write, local-grant, local-revoke, local-drop, local-map, local-remap, local-clear}
 use Rattle.kc_model.proofs.VerifyLocal.{HasImages, local-verify}
 use Rattle.kc_model.proofs.Needs.{has_named, has_slot, has_frames, has_mapped, has_free, has_images}
-use Rattle.kc_types.specs.Configuration.{slot_count}
+use Rattle.kc_model.proofs.Verifies.{verify-served}
 use Rattle.kc_types.specs.declared.resource.Resource.TheVariants as resource
-
-booting-is : (phase : Phase) → is_booting phase ≡ true → phase ≡ Booting
-booting-is Booting h = refl
-booting-is Empty h = cc
-booting-is Active h = cc
-booting-is Dead h = cc
-
-pub low-of : (m : State) (v : ℕ) → nat_le (slot_count m.config) v ≡ false → v < slot_count m.config
-low-of m v h = grind (arith, common_steps)
-
-or_second : (a b : Bool) → (a || b) ≡ false → b ≡ false
-or_second true b h = cc
-or_second false b h = h
 
 verify-images : (here : Resources) (m : State) (v : ℕ) → IsOrderly m → IsWithin (need m (Verify v)) here → refusal m (Verify v) ≡ None → HasImages here m v (slot_at m v).images
 verify-images here m v is within served =
-    let first = or_else-none (bad_vm m v) _ served in
-    let second = or_else-none (no_vm m v) _ first.1 in
-    let third = or_else-none (not_booting m v) _ second.1 in
-    let fourth = or_else-none _ None third.1 in
-    let low : v < slot_count m.config = low-of m v (when-none (nat_le (slot_count m.config) v) _ first.0) in
-    let booting : (slot_at m v).phase ≡ Booting = booting-is (slot_at m v).phase (not-is_false (is_booting (slot_at m v).phase) (when-none (not (is_booting (slot_at m v).phase)) _ third.0)) in
-    has_images here m (Verify v) is within v refl low (slot_at m v).images ((is.each_slot v low).images booting) (or_second (length (slot_at m v).images == 0) (list_any is_short (slot_at m v).images) (when-none _ _ fourth.0))
+    let seen = verify-served m v served in
+    has_images here m (Verify v) is within v refl seen.0 (slot_at m v).images ((is.each_slot v seen.0).images seen.1) seen.2
 
 -- the law of one call
 pub local : (here : Resources) (m rest : State) (call : Call) → IsOrderly m → IsWithin (need m call) here → IsLocal here m rest call

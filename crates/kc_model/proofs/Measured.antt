@@ -8,11 +8,12 @@ use Rattle.kc_types.specs.declared.reply.Reply.{Reply}
 use Rattle.kc_types.specs.declared.reply.Reply.TheVariants as reply
 use Rattle.kc_types.specs.declared.refusal.Refusal.{Refusal}
 use Rattle.kc_model.specs.Refusals.{refusal, next_gfn, pending}
-use Rattle.kc_model.specs.Effects.{effect, host_takes, hand, guest_read, guest_written, verified, all_trimmed, trimmed, is_approved, first_failing}
+use Rattle.kc_model.specs.Effects.{effect, host_takes, hand, guest_read, guest_written, verified, all_trimmed, is_approved, first_failing}
 use Rattle.kc_model.proofs.Frames.{part-set}
+use Rattle.kc_model.proofs.Verifies.{slots-trimmed}
 use Rattle.kc_types.specs.declared.call.Call.{Call}
 use Rattle.kc_types.specs.declared.slot.Phase.TheVariants.{Active}
-use Rattle.kc_model.specs.State.{State, Slot, Image, slot_at, with_slot, empty_slot}
+use Rattle.kc_model.specs.State.{State, Slot, slot_at, with_slot, empty_slot}
 use Rattle.kc_model.specs.Next.{next, unless_refused, state_after}
 use Rattle.kc_model.specs.Safety.{IsActive, Measures, Clears, NeverCleared, EachStep, IsMeasured}
 
@@ -38,10 +39,6 @@ kept-active m w slot v same active = sym (part-set (λ (s : Slot). s.phase) m.sl
 
 Becomes : ℕ → State → Call → Reply → Type 0
 Becomes v m call answer = ((Clears v call answer → ⊥) × IsActive m v) ⊎ Measures v m call answer
-
-trimmed-slots : (m : State) (v : ℕ) (images : List Image) → (all_trimmed m v images).slots ≡ m.slots
-trimmed-slots m v [] = refl
-trimmed-slots m v (image ∷ images) = trimmed-slots (trimmed m v image) v images
 
 takes-active : (v : ℕ) (m : State) (free : List ℕ) → IsActive (host_takes m free).1 v → IsActive m v
 takes-active v m [] active = active
@@ -72,7 +69,7 @@ verifies-active : (v : ℕ) (m : State) (w : ℕ) (first : Option ℕ) → first
 unfolding Becomes
 verifies-active v m w None e active = elim (written-active (all_trimmed m w (slot_at m w).images) w _ v active) [
   | inl set ↦ inr (sym set.0, rw set.0 (all_pass (is_approved m w) (slot_at m w).images e))
-  | inr other ↦ inl (λ h. h, subst (λ (slots : List Slot). (get_or slots v empty_slot).phase ≡ Active) (trimmed-slots m w (slot_at m w).images) other.1)
+  | inr other ↦ inl (λ h. h, subst (λ (slots : List Slot). (get_or slots v empty_slot).phase ≡ Active) (slots-trimmed m w (slot_at m w).images) other.1)
 ]
 verifies-active v m w (Some i) e active = elim (written-active m w _ v active) [
   | inl set ↦ absurd (let h = set.1 in cc)

@@ -3,10 +3,10 @@ use Rattle.std.proofs.Common.{ℕ, ◌≡◌, ◌<◌, false, None, List, [], �
 use Rattle.kc_types.specs.declared.call.Call.TheVariants.{Give}
 use Rattle.kc_types.specs.declared.owner.Owner.TheVariants.{Host, Free}
 use Rattle.kc_model.specs.State.{State, frame_at, with_frame, zero_page}
-use Rattle.kc_model.specs.Refusals.{refusal}
+use Rattle.kc_model.specs.Refusals.{refusal, conditions}
 use Rattle.kc_model.specs.Effects.{effect, host_takes}
 use Rattle.kc_model.specs.Lawful.{IsLawful, ListsOnce, same_owner, is_vm}
-use Rattle.kc_model.proofs.Served.{or_else-none}
+use Rattle.kc_model.proofs.Served.{none-of}
 use Rattle.kc_model.proofs.Answered.{frame-in, was-host}
 use Rattle.kc_model.proofs.Lists.{lists-gained, lists-lost, lists-first}
 use Rattle.kc_model.proofs.Changes.{lawful-moved, exists, free-is}
@@ -45,11 +45,10 @@ lawful-takes m (f ∷ rest) is e = lawful-take m f rest is e
 -- a frame of the host's becomes free
 pub lawful-give : (m : State) (f : ℕ) → IsLawful m → refusal m (Give f) ≡ None → IsLawful (effect m (Give f)).1
 lawful-give m f is served =
-    let s0 = or_else-none _ _ served in
-    let s1 = or_else-none _ _ s0.1 in
-    let within = frame-in m f s0.0 in
+    let none = none-of (conditions m (Give f)) served in
+    let within = frame-in m f (none 0) in
     let lt : f < length m.frames = rw is.frames within in
-    let host = was-host m f s1.0 in
+    let host = was-host m f (none 1) in
     let frame = is.each_frame f lt in
     let not_vm : is_vm (frame_at m f).owner ≡ false = ap is_vm host in
     let not_free : same_owner (frame_at m f).owner Free ≡ false = ap (λ o. same_owner o Free) host in

@@ -1,19 +1,19 @@
 -- What a call needs, as the proofs of its locality want it.
-use Rattle.std.proofs.Common.{ℕ, ◌≡◌, ◌<◌, ◌≤◌, ◌+◌, inl, inr, Bool, true, false, ◌&&◌, ◌||◌, Option, Some, None, is_some, nat_lt, nat_eq, eq-eqb, List, [], ◌∷◌, refl, ap, ◌∙◌, arith}
+use Rattle.std.proofs.Common.{ℕ, ◌≡◌, ◌<◌, ◌+◌, inl, inr, Bool, true, false, ◌&&◌, ◌||◌, Option, Some, None, is_some, nat_lt, nat_eq, eq-eqb, List, [], ◌∷◌, refl, ap, ◌∙◌, arith}
 use Rattle.std.specs.List.{list_any}
 use Rattle.std.specs.Ordering.{nat_cmp}
 use Rattle.std.specs.FinMap as map
-use Rattle.std.proofs.lemmas.Bool.{cases_lt}
+use Rattle.std.proofs.lemmas.Bool.{cases_lt, lt-ltb, and_from, or_parts}
 use Rattle.std.proofs.lemmas.Grind.{common_steps}
-use Rattle.std.proofs.lemmas.List.{get_or_past}
 use Rattle.kc_types.specs.declared.call.Call.{Call}
-use Rattle.kc_model.specs.State.{State, Slot, Image, slot_at, mapped_at, empty_slot}
+use Rattle.kc_model.specs.State.{State, Slot, Image, slot_at, mapped_at}
 use Rattle.kc_model.specs.Refusals.{backing, pages_of, is_short}
 use Rattle.kc_model.specs.Resources.{Resources, is_in, names_frame, slot_of, uses_free, of_slot, listed_in, need, IsWithin}
 use Rattle.kc_model.specs.Local.{IsOrderly, HasMappedPages}
 use Rattle.kc_model.proofs.Merges.{HasFrame, HasSlot}
 use Rattle.kc_model.proofs.GuestLocals.{HasMapped, HasFrames}
 use Rattle.kc_model.proofs.VerifyLocal.{HasImages}
+use Rattle.kc_model.proofs.Slots.{slot-past}
 use Rattle.kc_types.specs.Configuration.{slot_count}
 use Rattle.kc_types.specs.declared.resource.Resource.TheVariants as resource
 
@@ -36,13 +36,9 @@ by_free false b true true is = refl
 by_free false b false true is = refl
 by_free a b c false is = cc
 
-pub both : (a b : Bool) → a ≡ true → b ≡ true → (a && b) ≡ true
-both true true x y = refl
-both true false x y = cc
-both false b x y = cc
-
-pub nat_lt-is : (a b : ℕ) → a < b → nat_lt a b ≡ true
-nat_lt-is a b lt = grind (arith, common_steps)
+-- an image that is not short has all its pages
+pub not_short : (image : Image) (g : ℕ) → is_short image ≡ false → g < image.base + pages_of image.len → g < image.base + image.pages
+not_short image g full lt = grind (arith, common_steps)
 
 -- a mapped frame is in the list of its slot
 pub mapped_to : (m : State) → IsOrderly m → (v g : ℕ) → v < slot_count m.config → (at : Option ℕ) → mapped_at m v g ≡ at → is_some at ≡ true → is_in (slot_at m v).frames (backing at) ≡ true
@@ -51,50 +47,36 @@ mapped_to m is v g lt (Some f) e some = (is.each_slot v lt).listed g f e
 
 module _ (here : Resources) (m : State) (call : Call) (is : IsOrderly m) (within : IsWithin (need m call) here) where
   pub has_named : (f : ℕ) → names_frame call f ≡ true → HasFrame here m f
-  has_named f named lt = within (resource.Frame f) (by_name (names_frame call f) (nat_lt f m.config.frames) (of_slot m.config (listed_in m) (slot_of call) f) (uses_free call && is_in m.free f) named (nat_lt-is f m.config.frames (rw is.frames at lt)))
+  has_named f named lt = within (resource.Frame f) (by_name (names_frame call f) (nat_lt f m.config.frames) (of_slot m.config (listed_in m) (slot_of call) f) (uses_free call && is_in m.free f) named (lt-ltb f m.config.frames (rw is.frames at lt)))
 
   pub has_slot : (v : ℕ) → slot_of call ≡ Some v → HasSlot here m v
-  has_slot v names lt = within (resource.Vm v) (rw names (both (nat_lt v (slot_count m.config)) (nat_eq v v) (nat_lt-is v (slot_count m.config) (rw is.slots at lt)) (eq-eqb v v refl)))
+  has_slot v names lt = within (resource.Vm v) (rw names (and_from (nat_lt v (slot_count m.config)) (nat_eq v v) (lt-ltb v (slot_count m.config) (rw is.slots at lt)) (eq-eqb v v refl)))
 
   pub has_listed : (v f : ℕ) → slot_of call ≡ Some v → v < slot_count m.config → is_in (slot_at m v).frames f ≡ true → here (resource.Frame f) ≡ true
   has_listed v f names lt listed = within (resource.Frame f) (by_slot (names_frame call f) (nat_lt f m.config.frames) (of_slot m.config (listed_in m) (slot_of call) f) (uses_free call && is_in m.free f)
-      (rw names (both (nat_lt v (slot_count m.config)) (is_in (slot_at m v).frames f) (nat_lt-is v (slot_count m.config) lt) listed)))
-
-  past : (v : ℕ) → slot_count m.config ≤ v → slot_at m v ≡ empty_slot
-  past v le = get_or_past m.slots v empty_slot (rw is.slots le)
+      (rw names (and_from (nat_lt v (slot_count m.config)) (is_in (slot_at m v).frames f) (lt-ltb v (slot_count m.config) lt) listed)))
 
   pub has_frames : (v : ℕ) → slot_of call ≡ Some v → HasFrames here m (slot_at m v).frames
   has_frames v names f listed lt = elim (cases_lt v (slot_count m.config)) [
     | inl low ↦ has_listed v f names low listed
-    | inr high ↦ let none : is_in (slot_at m v).frames f ≡ false = ap (λ (there : Slot). is_in there.frames f) (past v high) in cc
+    | inr high ↦ let none : is_in (slot_at m v).frames f ≡ false = ap (λ (there : Slot). is_in there.frames f) (slot-past m v is.slots high) in cc
   ]
 
   pub has_mapped : (v g : ℕ) → slot_of call ≡ Some v → HasMapped here m v g
   has_mapped v g names some lt = elim (cases_lt v (slot_count m.config)) [
     | inl low ↦ has_listed v (backing (mapped_at m v g)) names low (mapped_to m is v g low (mapped_at m v g) refl some)
-    | inr high ↦ let none : is_some (mapped_at m v g) ≡ false = ap (λ (there : Slot). is_some (map.get there.mapped g)) (past v high) ∙ ap is_some (map.get-empty nat_cmp g) in cc
+    | inr high ↦ let none : is_some (mapped_at m v g) ≡ false = ap (λ (there : Slot). is_some (map.get there.mapped g)) (slot-past m v is.slots high) ∙ ap is_some (map.get-empty nat_cmp g) in cc
   ]
 
   pub has_free : (f : ℕ) → uses_free call ≡ true → is_in m.free f ≡ true → here (resource.Frame f) ≡ true
-  has_free f uses listed = within (resource.Frame f) (by_free (names_frame call f) (nat_lt f m.config.frames) (of_slot m.config (listed_in m) (slot_of call) f) (uses_free call && is_in m.free f) (both (uses_free call) (is_in m.free f) uses listed))
+  has_free f uses listed = within (resource.Frame f) (by_free (names_frame call f) (nat_lt f m.config.frames) (of_slot m.config (listed_in m) (slot_of call) f) (uses_free call && is_in m.free f) (and_from (uses_free call) (is_in m.free f) uses listed))
 
   pub has_images : (v : ℕ) → slot_of call ≡ Some v → v < slot_count m.config → (images : List Image) → HasMappedPages (slot_at m v).mapped images → list_any is_short images ≡ false → HasImages here m v images
   has_images v names low [] pages whole = tt
   has_images v names low (image ∷ images) pages whole = (
     record {
       some = pages.0.some;
-      pages = λ g from below. has_mapped v g names (pages.0.each_page g from (not_short image g (or_first (is_short image) (list_any is_short images) whole) below));
+      pages = λ g from below. has_mapped v g names (pages.0.each_page g from (not_short image g (or_parts (is_short image) (list_any is_short images) whole).0 below));
     },
-    has_images v names low images pages.1 (or_second (is_short image) (list_any is_short images) whole),
+    has_images v names low images pages.1 (or_parts (is_short image) (list_any is_short images) whole).1,
   )
-    where
-      or_first : (a b : Bool) → (a || b) ≡ false → a ≡ false
-      or_first true b h = cc
-      or_first false b h = refl
-
-      or_second : (a b : Bool) → (a || b) ≡ false → b ≡ false
-      or_second true b h = cc
-      or_second false b h = h
-
-      not_short : (image : Image) (g : ℕ) → is_short image ≡ false → g < image.base + pages_of image.len → g < image.base + image.pages
-      not_short image g h lt = grind (arith, common_steps)

@@ -1,14 +1,11 @@
 -- Pages that are written.
-use Rattle.std.proofs.Common.{ℕ, ◌≡◌, ◌<◌, ◌≤◌, ◌+◌, ◌-◌, List, ◌++◌, length, take, replicate, ◌∙◌, arith, length-append, length-drop, All}
+use Rattle.std.proofs.Common.{ℕ, ◌≡◌, ◌<◌, ◌≤◌, ◌+◌, ◌-◌, List, ◌++◌, length, take, replicate, ◌∙◌, arith, length-append, length-drop}
 use Rattle.std.proofs.lemmas.List.{length-take, length-replicate}
 use Rattle.std.proofs.lemmas.List.Elements.{All-append, All-take, All-drop}
 use Rattle.kc_types.specs.Bytes.{IsData}
 use Rattle.kc_model.specs.State.{overwritten}
 use Rattle.kc_model.specs.Lawful.{IsPage}
 use Rattle.kc_model.proofs.ZeroPage.{zeros-are_bytes}
-
-abbrev AreBytes : List ℕ → Type 0
-AreBytes bytes = All (λ b. b < 256) bytes
 
 length-overwritten : (bytes : List ℕ) (off : ℕ) (written : List ℕ) → off + length written ≤ length bytes → length (overwritten bytes off written) ≡ length bytes
 length-overwritten bytes off written h = simp (length-append, length-take, length-drop) (omega arith)

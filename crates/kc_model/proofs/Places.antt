@@ -1,10 +1,9 @@
 -- The state before each call, its reply and the state at the end, beside the fold over the trace.
-use Rattle.std.proofs.Common.{ℕ, zero, suc, ◌≡◌, ◌<◌, ◌≤◌, List, [], ◌∷◌, length, get_or, refl, sym, ap, ◌∙◌, arith}
+use Rattle.std.proofs.Common.{ℕ, zero, suc, ◌≡◌, ◌<◌, ◌≤◌, List, [], ◌∷◌, length, refl, ap, ◌∙◌, arith}
 use Rattle.kc_types.specs.declared.call.Call.{Call}
-use Rattle.kc_types.specs.declared.reply.Reply.{Reply}
 use Rattle.kc_model.specs.State.{State}
-use Rattle.kc_model.specs.Next.{next, replies_from, state_after}
-use Rattle.kc_model.specs.Footprints.{call_at, state_at, reply_at}
+use Rattle.kc_model.specs.Next.{next, state_after}
+use Rattle.kc_model.specs.Footprints.{call_at, state_at}
 
 -- a place of a trace is the place before it of the rest
 pub state_at-rest : (m : State) (call : Call) (calls : List Call) (k : ℕ) → state_at m (call ∷ calls) (suc k) ≡ state_at (next m call).1 calls k
@@ -15,13 +14,6 @@ state_at-rest m call calls (suc k) = ap (λ s. (next s (call_at calls k)).1) (st
 pub state_at-end : (m : State) (calls : List Call) → state_at m calls (length calls) ≡ state_after m calls
 state_at-end m [] = refl
 state_at-end m (call ∷ calls) = state_at-rest m call calls (length calls) ∙ state_at-end (next m call).1 calls
-
--- each reply
-pub reply_at-is : (m : State) (calls : List Call) (k : ℕ) (d : Reply) → k < length calls → get_or (replies_from m calls) k d ≡ reply_at m calls k
-reply_at-is m [] k d lt = absurd (omega arith)
-reply_at-is m (call ∷ calls) zero d lt = refl
-reply_at-is m (call ∷ calls) (suc k) d lt =
-    reply_at-is (next m call).1 calls k d (omega arith) ∙ ap (λ s. (next s (call_at calls k)).0) (sym (state_at-rest m call calls k))
 
 -- what each call keeps holds before each call of a trace, and at its end
 pub good-at : (IsGood : State → Type 0) (IsFit : Call → Type 0) → ((s : State) (call : Call) → IsFit call → IsGood s → IsGood (next s call).1)

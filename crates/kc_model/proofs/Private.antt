@@ -1,6 +1,6 @@
 -- No call but a grant shares a secret frame.
-use Rattle.std.proofs.Common.{ℕ, ◌≡◌, ◌<◌, inl, inr, Bool, true, false, ◌&&◌, List, [], ◌∷◌, ◌++◌, length, refl, sym, ap, subst, ◌∙◌, arith, Option, None, Some, get_or-set_other}
-use Rattle.std.proofs.lemmas.Bool.{cases_eq, cases_lt}
+use Rattle.std.proofs.Common.{ℕ, ◌≡◌, ◌<◌, inl, inr, Bool, true, false, List, [], ◌∷◌, ◌++◌, length, refl, sym, ap, subst, ◌∙◌, arith, Option, None, Some, get_or-set_other}
+use Rattle.std.proofs.lemmas.Bool.{cases_eq, cases_lt, and_parts}
 use Rattle.std.proofs.lemmas.Grind.{common_steps}
 use Rattle.kc_types.specs.declared.call.Call.{Call}
 use Rattle.kc_types.specs.declared.call.Call.TheVariants.{Take, Give, HostFault, HostRead, HostWrite, RegisterVm, RegisterVcpu, SetBoot, Remap, Verify, Map, GuestRead, GuestWrite, Grant, Revoke, Drop, Clear}
@@ -10,12 +10,12 @@ use Rattle.kc_types.specs.declared.owner.Owner.TheVariants.{Core, Host, Free, Vm
 use Rattle.kc_types.specs.declared.slot.Phase.{Phase}
 use Rattle.kc_types.specs.declared.slot.Phase.TheVariants.{Booting, Active, Dead}
 use Rattle.kc_model.specs.State.{State, Frame, Slot, Image, frame_at, slot_at, mapped_at, with_frame, with_slot, untouched, zero_page}
-use Rattle.kc_model.specs.Refusals.{refusal, is_active, backing, next_gfn, pending}
+use Rattle.kc_model.specs.Refusals.{refusal, is_active, backing, next_gfn, pending, conditions}
 use Rattle.kc_model.specs.Effects.{effect, host_takes, hand, guest_read, guest_written, written, cleared, dropped, trimmed, all_trimmed, verified, first_failing, is_approved, with_phase}
 use Rattle.kc_model.specs.Next.{next, unless_refused}
 use Rattle.kc_model.specs.Lawful.{IsLawful, same_owner, is_vm}
 use Rattle.kc_model.specs.Blind.{Secret, is_secret, is_running, grants_secret, IsPrivate}
-use Rattle.kc_model.proofs.Served.{or_else-none}
+use Rattle.kc_model.proofs.Served.{none-of}
 use Rattle.kc_model.proofs.Answered.{vm-in, was-empty}
 use Rattle.kc_model.proofs.Measured.{set-here}
 use Rattle.kc_model.proofs.GuestCalls.{guest_frame-served}
@@ -73,11 +73,7 @@ owner-is Host v e = cc
 owner-is Free v e = cc
 
 pub secret-owner : (s : Secret) (b : Bool) (x : Frame) → is_secret s b x ≡ true → x.owner ≡ Vm s.vm
-secret-owner s b x e = owner-is x.owner s.vm (first (same_owner x.owner (Vm s.vm)) _ e)
-  where
-    first : (p q : Bool) → (p && q) ≡ true → p ≡ true
-    first true q h = refl
-    first false q h = cc
+secret-owner s b x e = owner-is x.owner s.vm (and_parts (same_owner x.owner (Vm s.vm)) _ e).0
 
 -- a slot that boots shares nothing
 booting-share : (m : State) (w f : ℕ) → IsLawful m → w < slot_count m.config → (slot_at m w).phase ≡ Booting → (frame_at m f).owner ≡ Vm w → (frame_at m f).share ≡ 0
@@ -132,9 +128,7 @@ private-effect s m (HostFault f) is private grants served = private-write s m f 
 private-effect s m (HostRead f off len) is private grants served = private
 private-effect s m (HostWrite f off bytes) is private grants served = private-write s m f _ private (λ e. private f e)
 private-effect s m (RegisterVm w) is private grants served =
-    let s0 = or_else-none _ _ served in
-    let s1 = or_else-none _ _ s0.1 in
-    private-slot s m w _ private (sym (ap is_active (was-empty m w _ s1.0)))
+    private-slot s m w _ private (sym (ap is_active (was-empty m w _ (none-of (conditions m (RegisterVm w)) served 1))))
 private-effect s m (RegisterVcpu w c) is private grants served = private-slot s m w _ private refl
 private-effect s m (SetBoot w base len) is private grants served = private-slot s m w _ private refl
 private-effect s m (Remap w i f) is private grants served =
@@ -154,7 +148,7 @@ private-effect s m (Grant w c g) is private grants served =
     private-write s m (backing (mapped_at m w g)) _ private (λ e. absurd cc)
 private-effect s m (Revoke w c g) is private grants served = private-write s m (backing (mapped_at m w g)) _ private (λ e. let none = private (backing (mapped_at m w g)) e in omega (arith, none))
 private-effect s m (Drop w c g) is private grants served = private-dropped s m w g (backing (mapped_at m w g)) private
-private-effect s m (Clear w) is private grants served = let first = or_else-none _ _ served in private-clear s m w is (vm-in m w first.0) private
+private-effect s m (Clear w) is private grants served = private-clear s m w is (vm-in m w (none-of (conditions m (Clear w)) served 0)) private
 
 private-unless : (refused : Option Refusal) (s : Secret) (m : State) (call : Call) → IsLawful m → IsPrivate s m → grants_secret s call ≡ false → refusal m call ≡ refused → IsPrivate s (unless_refused refused m call).1
 private-unless None s m call is private grants served = private-effect s m call is private grants served

@@ -50,6 +50,10 @@ touched-wider config held wider le call (resource.Frame f) h =
 touched-wider config held wider le call (resource.Vm v) h = h
 touched-wider config held wider le call resource.Free h = h
 
+pub not-held : (a b : Bool) → (a ≡ true → b ≡ true) → b ≡ false → a ≡ false
+not-held true b le no_b = let is = le refl in cc
+not-held false b le no_b = refl
+
 -- no call changes the configuration
 pub config-at : (m : State) (calls : List Call) (k : ℕ) → (state_at m calls k).config ≡ m.config
 config-at m calls zero = refl
@@ -73,12 +77,8 @@ module _ (m : State) (calls : List Call) (start : IsLawful m) (throughout : (k :
       touched-wider m.config (listed_in (state_at m calls k)) (reach m calls k) (listed-reached k (omega arith)) (call_at calls k) r
       (subst (λ config. touched config (listed_in (state_at m calls k)) (call_at calls k) r ≡ true) (config-at m calls k) h)
 
-  not-true : (a b : Bool) → (a ≡ true → b ≡ true) → b ≡ false → a ≡ false
-  not-true true b le no_b = let is = le refl in cc
-  not-true false b le no_b = refl
-
   -- a call leaves all that lies outside its footprint
   pub footprint-keeps : (k : ℕ) → k < length calls → (r : Resource) → footprint m calls k r ≡ false → part_at m calls (suc k) r ≡ part_at m calls k r
   footprint-keeps k lt r outside =
       keeps-others (state_at m calls k) (call_at calls k) (throughout k lt) r
-      (not-true (need (state_at m calls k) (call_at calls k) r) (footprint m calls k r) (need-within k lt r) outside)
+      (not-held (need (state_at m calls k) (call_at calls k) r) (footprint m calls k r) (need-within k lt r) outside)

@@ -1,5 +1,6 @@
 -- Every trace from a lawful state is safe.
-use Rattle.std.proofs.Common.{ℕ, zero, suc, ◌≡◌, ◌<◌, inl, inr, false, length, List, [], ◌∷◌, nat_eq, eq-eqb, refl, sym, ap, subst, ◌∙◌, Option, None, Some, arith, All}
+use Rattle.std.proofs.Common.{ℕ, zero, suc, ◌≡◌, ◌<◌, inl, inr, false, length, List, [], ◌∷◌, nat_eq, refl, sym, ap, subst, ◌∙◌, Option, None, Some, arith, All}
+use Rattle.std.proofs.lemmas.Bool.{eqb-false}
 use Rattle.std.specs.List.{AllByRecursion}
 use Rattle.kc_types.specs.declared.call.Call.{Call}
 use Rattle.kc_types.specs.declared.call.Call.TheVariants.{Take, Give, HostFault, HostRead, HostWrite, RegisterVm, RegisterVcpu, SetBoot, Remap, Verify, Map, GuestRead, GuestWrite, Grant, Revoke, Drop, Clear}
@@ -8,14 +9,14 @@ use Rattle.kc_types.specs.declared.reply.Reply.TheVariants as reply
 use Rattle.kc_types.specs.declared.refusal.Refusal.{Refusal}
 use Rattle.kc_types.specs.declared.owner.Owner.TheVariants.{Core, Host, Vm}
 use Rattle.kc_model.specs.State.{State, Frame, Image, frame_at, slot_at, mapped_at, with_frame, untouched}
-use Rattle.kc_model.specs.Refusals.{refusal, backing}
+use Rattle.kc_model.specs.Refusals.{refusal, backing, conditions}
 use Rattle.kc_model.specs.Effects.{effect, host_takes, guest_read, guest_written, trimmed, all_trimmed, verified, first_failing, is_approved}
 use Rattle.kc_model.specs.Next.{next, unless_refused}
 use Rattle.kc_model.specs.Ranged.{IsRanged}
 use Rattle.kc_model.specs.Lawful.{IsLawful}
 use Rattle.kc_model.specs.Safety.{EachStep, KeepsOneOwner, ServesOpenFrames, KeepsPrivateBytes, IsOpen, IsSafe}
 use Rattle.kc_model.proofs.Frames.{part-set}
-use Rattle.kc_model.proofs.Served.{or_else-none, host_access-served}
+use Rattle.kc_model.proofs.Served.{host_access-served, none-of}
 use Rattle.kc_model.proofs.Answered.{vm-in, was-host}
 use Rattle.kc_model.proofs.Lists.{changed-other}
 use Rattle.kc_model.proofs.Changes.{vm-same}
@@ -64,12 +65,9 @@ takes-bytes : (m : State) (free : List ℕ) (f : ℕ) → (frame_at (host_takes 
 takes-bytes m [] f = refl
 takes-bytes m (g ∷ rest) f = part-set (λ (x : Frame). x.bytes) m.frames g _ (untouched Core) refl f
 
-not-same : (w v : ℕ) → nat_eq w v ≡ false → w ≡ v → ⊥
-not-same w v differ same = let e = eq-eqb w v same in cc
-
 -- a frame of one slot is not a frame of another
 other_frame : (m : State) (f k v w : ℕ) → (frame_at m f).owner ≡ Vm v → (frame_at m k).owner ≡ Vm w → nat_eq w v ≡ false → f ≡ k → ⊥
-other_frame m f k v w mine theirs differ same = not-same w v differ (vm-same w v (sym theirs ∙ subst (λ x. (frame_at m x).owner ≡ Vm v) same mine))
+other_frame m f k v w mine theirs differ same = eqb-false w v differ (vm-same w v (sym theirs ∙ subst (λ x. (frame_at m x).owner ≡ Vm v) same mine))
 
 -- what is written to another frame leaves the bytes
 bytes-other : (m : State) (k f : ℕ) (frame : Frame) → (f ≡ k → ⊥) → (frame_at (with_frame m k frame) f).bytes ≡ (frame_at m f).bytes
@@ -102,9 +100,7 @@ verifies-bytes m w (Some i) v f is served owned differ = refl
 keeps-effect : (m : State) (call : Call) → IsLawful m → refusal m call ≡ None → KeepsPrivateBytes m call (effect m call).0 (effect m call).1
 keeps-effect m Take is served v f owned private others = takes-bytes m m.free f
 keeps-effect m (Give g) is served v f owned private others =
-    let s0 = or_else-none _ _ served in
-    let s1 = or_else-none _ _ s0.1 in
-    let host = was-host m g s1.0 in
+    let host = was-host m g (none-of (conditions m (Give g)) served 1) in
     bytes-other m g f _ (λ same. let h : (frame_at m f).owner ≡ Host = rw same host in cc)
 keeps-effect m (HostFault g) is served v f owned private others = part-set (λ (x : Frame). x.bytes) m.frames g _ (untouched Core) refl f
 keeps-effect m (HostRead g off len) is served v f owned private others = refl
@@ -127,8 +123,7 @@ keeps-effect m (Drop w c g) is served v f owned private others =
     let k = backing (mapped_at m w g) in
     bytes-other m k f _ (other_frame m f k v w owned (owner-mapped m w g k is seen.0.call.vm seen.0.mapped) others)
 keeps-effect m (Clear w) is served v f owned private others =
-    let first = or_else-none _ _ served in
-    ap (λ (x : Frame). x.bytes) (kept-frame m w f is (vm-in m w first.0) (λ theirs. not-same w v others (vm-same w v (sym theirs ∙ owned))))
+    ap (λ (x : Frame). x.bytes) (kept-frame m w f is (vm-in m w (none-of (conditions m (Clear w)) served 0)) (λ theirs. eqb-false w v others (vm-same w v (sym theirs ∙ owned))))
 
 keeps-unless : (refused : Option Refusal) (m : State) (call : Call) → IsLawful m → refusal m call ≡ refused → KeepsPrivateBytes m call (unless_refused refused m call).0 (unless_refused refused m call).1
 keeps-unless None m call is served = keeps-effect m call is served

@@ -1,25 +1,24 @@
 -- The calls that set up a slot keep the state lawful.
 use Rattle.std.proofs.Common.{ℕ, ◌≡◌, ◌<◌, ◌+◌, true, false, Option, None, Some, [], ◌∷◌, ◌++◌, length, nat_eq, nat_lt, refl, arith}
+use Rattle.std.proofs.lemmas.Bool.{leb-false, ltb-false, or_parts}
 use Rattle.std.specs.List.{list_any}
-use Rattle.std.proofs.lemmas.Grind.{common_steps}
 use Rattle.kc_types.specs.declared.call.Call.TheVariants.{RegisterVm, RegisterVcpu, SetBoot}
 use Rattle.kc_types.specs.declared.slot.Phase.TheVariants.{Booting, Active}
 use Rattle.kc_model.specs.State.{State, Image, slot_at, vcpu_at, with_vcpu}
-use Rattle.kc_model.specs.Refusals.{refusal, pages_of, overlaps}
+use Rattle.kc_model.specs.Refusals.{refusal, pages_of, overlaps, conditions}
 use Rattle.kc_model.specs.Effects.{effect, with_fault}
 use Rattle.kc_model.specs.Lawful.{IsLawful}
-use Rattle.kc_model.proofs.Served.{or_else-none, when-none, nat_le-is_false}
-use Rattle.kc_model.proofs.Answered.{nat_lt-is_false, both-false, vm-in, vcpu-in, was-empty, was-booting}
+use Rattle.kc_model.proofs.Served.{when-none, positive, none-of}
+use Rattle.kc_model.proofs.Answered.{vm-in, vcpu-in, was-empty, was-booting}
 use Rattle.kc_model.proofs.Slots.{lawful-registered, lawful-with_vcpu, lawful-with_image, waits-not}
 use Rattle.kc_model.proofs.Changes.{lawful-with_slot}
 use Rattle.kc_types.specs.Configuration.{slot_count}
 
 pub lawful-register_vm : (m : State) (v : ℕ) → IsLawful m → refusal m (RegisterVm v) ≡ None → IsLawful (effect m (RegisterVm v)).1
 lawful-register_vm m v is served =
-    let s0 = or_else-none _ _ served in
-    let s1 = or_else-none _ _ s0.1 in
-    let v_in = vm-in m v s0.0 in
-    let empty = was-empty m v _ s1.0 in
+    let none = none-of (conditions m (RegisterVm v)) served in
+    let v_in = vm-in m v (none 0) in
+    let empty = was-empty m v _ (none 1) in
     lawful-with_slot m v (record (slot_at m v) { phase = Booting }) is v_in refl refl (lawful-registered m.config (slot_at m v) (is.each_slot v v_in) empty) (λ h. absurd cc)
 
 -- a virtual processor's fault
@@ -30,39 +29,27 @@ lawful-with_fault m v c fault is v_in c_in active registered ranged =
 
 pub lawful-register_vcpu : (m : State) (v c : ℕ) → IsLawful m → refusal m (RegisterVcpu v c) ≡ None → IsLawful (effect m (RegisterVcpu v c)).1
 lawful-register_vcpu m v c is served =
-    let s0 = or_else-none _ _ served in
-    let s1 = or_else-none _ _ s0.1 in
-    let s2 = or_else-none _ _ s1.1 in
-    let s3 = or_else-none _ _ s2.1 in
-    let v_in = vm-in m v s0.0 in
-    let c_in = vcpu-in c s1.0 in
-    let booting = was-booting m v s3.0 in
+    let none = none-of (conditions m (RegisterVcpu v c)) served in
+    let v_in = vm-in m v (none 0) in
+    let c_in = vcpu-in c (none 1) in
+    let booting = was-booting m v (none 3) in
     lawful-with_slot m v (with_vcpu (slot_at m v) c (record { registered = true; fault = None })) is v_in refl refl
     (lawful-with_vcpu m.config (slot_at m v) c (record { registered = true; fault = None }) (is.each_slot v v_in) (λ h. cc) c_in (waits-not _ (record { registered = true; fault = None }) refl)) (λ h. h)
 
-positive : (len : ℕ) → nat_eq len 0 ≡ false → 0 < len
-positive len h = grind (arith, common_steps)
-
 pub lawful-set_boot : (m : State) (v base len : ℕ) → IsLawful m → refusal m (SetBoot v base len) ≡ None → IsLawful (effect m (SetBoot v base len)).1
 lawful-set_boot m v base len is served =
-    let s0 = or_else-none _ _ served in
-    let s1 = or_else-none _ _ s0.1 in
-    let s2 = or_else-none _ _ s1.1 in
-    let s3 = or_else-none _ _ s2.1 in
-    let s4 = or_else-none _ _ s3.1 in
-    let s5 = or_else-none _ _ s4.1 in
-    let s6 = or_else-none _ _ s5.1 in
-    let v_in = vm-in m v s0.0 in
-    let placed = both-false (nat_lt 262143 base) (nat_lt 262144 (base + pages_of len)) (when-none _ _ s1.0) in
-    let sized = both-false (nat_eq len 0) (nat_lt 1048576 len) (when-none _ _ s2.0) in
-    let booting = was-booting m v s4.0 in
-    let few : length (slot_at m v).images < 4 = nat_le-is_false _ _ (when-none _ _ s5.0) in
-    let apart : list_any (overlaps base len) (slot_at m v).images ≡ false = when-none _ _ s6.0 in
+    let none = none-of (conditions m (SetBoot v base len)) served in
+    let v_in = vm-in m v (none 0) in
+    let placed = or_parts (nat_lt 262143 base) (nat_lt 262144 (base + pages_of len)) (when-none _ _ (none 1)) in
+    let sized = or_parts (nat_eq len 0) (nat_lt 1048576 len) (when-none _ _ (none 2)) in
+    let booting = was-booting m v (none 4) in
+    let few : length (slot_at m v).images < 4 = leb-false _ _ (when-none _ _ (none 5)) in
+    let apart : list_any (overlaps base len) (slot_at m v).images ≡ false = when-none _ _ (none 6) in
     let new : Image = record { base = base; len = len; pages = 0 } in
     lawful-with_slot m v (record (slot_at m v) { images = (slot_at m v).images ++ new ∷ [] }) is v_in refl refl
     (lawful-with_image m.config (slot_at m v) new (is.each_slot v v_in) booting few (record {
       some = positive len sized.0;
-      small = nat_lt-is_false _ _ sized.1;
-      within = nat_lt-is_false _ _ placed.1;
+      small = ltb-false _ _ sized.1;
+      within = ltb-false _ _ placed.1;
       pages = omega arith;
     }) refl apart) (λ h. h)

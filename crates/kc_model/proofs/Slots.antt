@@ -1,24 +1,26 @@
 -- What a slot keeps by itself, change by change.
 use Rattle.std.proofs.Common.{ℕ, zero, suc, ◌≡◌, ◌<◌, ◌≤◌, ◌+◌, inl, inr, Bool, true, false, ◌&&◌, ◌||◌, nat_eq, nat_le, nat_lt, None, List, [], ◌∷◌, ◌++◌, length, get_or, set, replicate, refl, sym, ap, ◌∙◌, arith, length-set, length-append, get_or-set_same, get_or-set_other, All}
-use Rattle.std.proofs.lemmas.Bool.{cases_eq, cases_Bool}
+use Rattle.std.proofs.lemmas.Bool.{cases_eq, cases_Bool, or_parts}
 use Rattle.std.proofs.lemmas.Grind.{common_steps}
 use Rattle.std.proofs.lemmas.List.Elements.{All-append, All-nil}
 use Rattle.std.proofs.lemmas.List.Folds.{list_any-append, list_any_at}
+use Rattle.std.proofs.lemmas.List.{get_or_past}
+use Rattle.std.proofs.Math.Bool.{or_assoc}
 use Rattle.std.specs.List.{list_any}
 use Rattle.std.specs.Ordering.{nat_cmp}
 use Rattle.std.specs.FinMap as map
-use Rattle.kc_types.specs.Configuration.{Configuration}
+use Rattle.kc_types.specs.Configuration.{Configuration, slot_count}
 use Rattle.kc_types.specs.declared.slot.Phase.{Phase}
 use Rattle.kc_types.specs.declared.slot.Phase.TheVariants.{Empty, Booting}
-use Rattle.kc_model.specs.State.{Slot, Vcpu, Image, absent_vcpu, no_vcpus, empty_slot, with_vcpu}
+use Rattle.kc_model.specs.State.{State, Slot, Vcpu, Image, absent_vcpu, no_vcpus, empty_slot, slot_at, with_vcpu}
 use Rattle.kc_model.specs.Refusals.{pages_of, overlaps}
 use Rattle.kc_model.specs.Lawful.{IsLawfulSlot, IsLawfulVcpu, IsLawfulImage, Apart, holds}
 
 -- one value
-same-everywhere : {X : Type 0} (n : ℕ) (x : X) (i : ℕ) → get_or (replicate n x) i x ≡ x
-same-everywhere zero x i = refl
-same-everywhere (suc n) x zero = refl
-same-everywhere (suc n) x (suc i) = same-everywhere n x i
+pub get_or-same : {X : Type 0} (n : ℕ) (x : X) (i : ℕ) → get_or (replicate n x) i x ≡ x
+get_or-same zero x i = refl
+get_or-same (suc n) x zero = refl
+get_or-same (suc n) x (suc i) = get_or-same n x i
 
 pub length-no_vcpus : length no_vcpus ≡ 8
 unfolding no_vcpus
@@ -26,7 +28,7 @@ length-no_vcpus = refl
 
 pub at-no_vcpus : (c : ℕ) → get_or no_vcpus c absent_vcpu ≡ absent_vcpu
 unfolding no_vcpus
-at-no_vcpus c = same-everywhere 8 absent_vcpu c
+at-no_vcpus c = get_or-same 8 absent_vcpu c
 
 -- a virtual processor that waits for nothing
 pub waits-not : (phase : Phase) (vcpu : Vcpu) → vcpu.fault ≡ None → IsLawfulVcpu phase vcpu
@@ -113,14 +115,10 @@ lawful-with_phase config slot phase is was not_booting not_empty = record {
 overlaps-turned : (a b : Image) → overlaps a.base a.len b ≡ overlaps b.base b.len a
 overlaps-turned a b = grind (arith, common_steps)
 
-or-parts : (a b : Bool) → (a || b) ≡ false → (a ≡ false) × (b ≡ false)
-or-parts true b h = cc
-or-parts false b h = (refl, h)
-
 pub apart-push : (images : List Image) (new : Image) → Apart images → list_any (overlaps new.base new.len) images ≡ false → Apart (images ++ new ∷ [])
 apart-push [] new apart none = (refl, tt)
 apart-push (image ∷ images) new apart none =
-    let parts = or-parts (overlaps new.base new.len image) (list_any (overlaps new.base new.len) images) none in
+    let parts = or_parts (overlaps new.base new.len image) (list_any (overlaps new.base new.len) images) none in
     let turned = overlaps-turned image new in
     let last : (list_any (overlaps image.base image.len) images || (overlaps image.base image.len new || false)) ≡ false = rw (apart.0, turned, parts.0) refl in
     (list_any-append (overlaps image.base image.len) images (new ∷ []) ∙ last, apart-push images new apart.1 parts.1)
@@ -164,14 +162,10 @@ or-swap false true false = refl
 or-swap false false true = refl
 or-swap false false false = refl
 
-or-assoc : (a b c : Bool) → (a || (b || c)) ≡ ((a || b) || c)
-or-assoc true b c = refl
-or-assoc false b c = refl
-
 pub list_any-set_more : {X : Type 0} (p : X → Bool) (xs : List X) (i : ℕ) (x d : X) (more : Bool) → i < length xs → p x ≡ (p (get_or xs i d) || more) → list_any p (set xs i x) ≡ (list_any p xs || more)
 list_any-set_more p [] i x d more lt is = absurd (omega arith)
 list_any-set_more p (y ∷ ys) zero x d more lt is = ap (λ b. b || list_any p ys) is ∙ or-swap (p y) more (list_any p ys)
-list_any-set_more p (y ∷ ys) (suc i) x d more lt is = ap (λ b. p y || b) (list_any-set_more p ys i x d more (omega arith) is) ∙ or-assoc (p y) (list_any p ys) more
+list_any-set_more p (y ∷ ys) (suc i) x d more lt is = ap (λ b. p y || b) (list_any-set_more p ys i x d more (omega arith) is) ∙ sym (or_assoc (p y) (list_any p ys) more)
 
 -- the same extent as before
 pub apart-set : (images : List Image) (i : ℕ) (image d : Image) → i < length images → image.base ≡ (get_or images i d).base → image.len ≡ (get_or images i d).len → Apart images → Apart (set images i image)
@@ -187,11 +181,18 @@ holds-more g base pages = grind (arith, common_steps)
 outside-others : (base len g : ℕ) (images : List Image) → list_any (overlaps base len) images ≡ false → All IsLawfulImage images → base ≤ g → g < base + pages_of len → list_any (holds g) images ≡ false
 outside-others base len g [] none all low high = refl
 outside-others base len g (image ∷ images) none all low high =
-    let parts = or-parts (overlaps base len image) (list_any (overlaps base len) images) none in
+    let parts = or_parts (overlaps base len image) (list_any (overlaps base len) images) none in
     let is = all zero image (omega arith) in
     let pages = is.pages in
     let first : holds g image ≡ false = grind (arith, common_steps, parts.0, pages) in
     rw first (outside-others base len g images parts.1 (λ k d lt. all (suc k) d (omega arith)) low high)
+
+-- what fails for each element of a list fails for this one
+pub none-at : {X : Type 0} (p : X → Bool) (xs : List X) (j : ℕ) (d : X) → j < length xs → list_any p xs ≡ false → p (get_or xs j d) ≡ false
+none-at p xs j d lt none = elim (cases_Bool (p (get_or xs j d))) [
+  | inl holds_it ↦ let h = list_any_at p xs j d lt holds_it in absurd cc
+  | inr fails ↦ fails
+]
 
 -- the next page of an image is held by no image
 pub next-held : (images : List Image) (i : ℕ) (d : Image) (g : ℕ) → Apart images → All IsLawfulImage images → i < length images → g ≡ (get_or images i d).base + (get_or images i d).pages → (get_or images i d).pages < pages_of (get_or images i d).len → list_any (holds g) images ≡ false
@@ -206,9 +207,7 @@ next-held (image ∷ images) (suc i) d g apart all lt is short =
     let pages = here.pages in
     let first : holds g image ≡ false = grind (arith, common_steps, is, pages, turned, short) in
     rw first (next-held images i d g apart.1 (λ k e l. all (suc k) e (omega arith)) within is short)
-  where
-    none-at : {X : Type 0} (p : X → Bool) (xs : List X) (j : ℕ) (e : X) → j < length xs → list_any p xs ≡ false → p (get_or xs j e) ≡ false
-    none-at p xs j e l none = elim (cases_Bool (p (get_or xs j e))) [
-      | inl yes_it ↦ let h = list_any_at p xs j e l yes_it in absurd cc
-      | inr no_it ↦ no_it
-    ]
+
+-- there is no slot past the last
+pub slot-past : (m : State) (v : ℕ) → length m.slots ≡ slot_count m.config → slot_count m.config ≤ v → slot_at m v ≡ empty_slot
+slot-past m v slots past = get_or_past m.slots v empty_slot (rw slots past)

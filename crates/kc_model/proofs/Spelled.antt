@@ -4,18 +4,7 @@ use Rattle.std.proofs.lemmas.Option.{same_Some}
 use Rattle.kc_model.specs.Lawful.{times_in}
 use Rattle.kc_model.specs.Resources.{is_in}
 use Rattle.kc_model.specs.Links.{Link, link_after, link_in, first_of}
-use Rattle.kc_model.proofs.Members.{is_in-first, is_in-later, same_number, times_in-held}
-
--- each number stands once at most
-abbrev pub IsOnce : List ℕ → Type 0
-IsOnce xs = (f : ℕ) → times_in xs f ≤ 1
-
-rest-once : (x : ℕ) (xs : List ℕ) → IsOnce (x ∷ xs) → IsOnce xs
-rest-once x xs once f = by_first (nat_eq x f) (times_in xs f) (once f)
-  where
-    by_first : (b : Bool) (n : ℕ) → cond b 1 0 + n ≤ 1 → n ≤ 1
-    by_first true n h = omega (arith, h)
-    by_first false n h = omega (arith, h)
+use Rattle.kc_model.proofs.Members.{is_in-first, is_in-later, same_number, times_in-held, IsOnce, once-rest}
 
 -- a number of the rest is not the first
 not-first : (x f : ℕ) (xs : List ℕ) → IsOnce (x ∷ xs) → is_in xs f ≡ true → nat_eq x f ≡ false
@@ -35,7 +24,7 @@ spelled-after before (x ∷ xs) (y ∷ ys) once first links =
     sym (ap (λ b. (cond b (record { prev = before; next = first_of xs }) (link_after (Some x) xs x)).next) (same_number x))
     ∙ ap (λ (l : Link). l.next) (links x (is_in-first x xs))
     ∙ ap (λ b. (cond b (record { prev = before; next = first_of ys }) (link_after (Some y) ys x)).next) (subst (λ z. nat_eq z x ≡ true) same (same_number x)) in
-    let rest : xs ≡ ys = spelled-after (Some x) xs ys (rest-once x xs once) next (λ f listed.
+    let rest : xs ≡ ys = spelled-after (Some x) xs ys (once-rest x xs once) next (λ f listed.
     let other : nat_eq x f ≡ false = not-first x f xs once listed in
     sym (ap (λ b. cond b (record { prev = before; next = first_of xs }) (link_after (Some x) xs f)) other)
     ∙ links f (is_in-later x xs f listed)

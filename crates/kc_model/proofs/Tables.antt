@@ -6,6 +6,7 @@ use Rattle.std.specs.Ordering.{nat_cmp, eq_by_cmp}
 use Rattle.std.specs.Cmp.{nat_cmp_total}
 use Rattle.std.specs.FinMap as map
 use Rattle.std.proofs.lemmas.Option.{same_Some}
+use Rattle.std.proofs.Math.Bool.{or-true, or-false}
 use Rattle.kc_types.specs.declared.owner.Owner.{Owner}
 use Rattle.kc_types.specs.declared.owner.Owner.TheVariants.{Vm}
 use Rattle.kc_model.specs.State.{State, Frame, frame_at, slot_at, mapped_at, with_frame}
@@ -39,14 +40,6 @@ has-after table g f h = elim (cases_eq h g) [
   | inl same ↦ rw (same, got-here table g f) (let t = eq-eqb g g refl in rw t (sym (or-true _)))
   | inr other ↦ rw (got-elsewhere table g f h other) (let t = ne_eqb h g other in rw t (sym (or-false _)))
 ]
-  where
-    or-true : (b : Bool) → (b || true) ≡ true
-    or-true true = refl
-    or-true false = refl
-
-    or-false : (b : Bool) → (b || false) ≡ b
-    or-false true = refl
-    or-false false = refl
 
 -- the table agrees with the frames after the slot gained a frame that no table mapped
 pub table-gained : (m : State) (f : ℕ) (frame : Frame) (v g : ℕ) → IsLawful m → v < slot_count m.config → f < length m.frames → ((frame_at m f).owner ≡ Vm v → ⊥) → mapped_at m v g ≡ None → frame.owner ≡ Vm v → frame.gfn ≡ Some g

@@ -7,7 +7,7 @@ use Rattle.kc_types.specs.declared.call.Call.TheVariants.{Take, Give, HostFault,
 use Rattle.kc_types.specs.declared.owner.Owner.{Owner}
 use Rattle.kc_types.specs.declared.owner.Owner.TheVariants.{Core, Host, Free, Vm}
 use Rattle.kc_model.specs.State.{State, Frame, Slot, frame_at, mapped_at, untouched, empty_slot}
-use Rattle.kc_model.specs.Refusals.{refusal, is_active, backing, guest_frame, when}
+use Rattle.kc_model.specs.Refusals.{refusal, is_active, backing, guest_frame, first_of_these, when}
 use Rattle.kc_types.specs.declared.refusal.Refusal.TheVariants.{ShareFull, NotShared, Shared}
 use Rattle.kc_model.specs.Lawful.{IsLawful, same_owner}
 use Rattle.kc_model.specs.Blind.{Secret, has_gfn, is_secret, hidden_frame, is_running, hidden, names_secret, hidden_call, IsPrivate}
@@ -70,15 +70,15 @@ alike-by s m n b running config free slots frames =
     let both = first ∙ frames ∙ sym second in
     cc
 
+pub and-false : (a b : Bool) → (a && (b && false)) ≡ false
+and-false true true = refl
+and-false true false = refl
+and-false false b = refl
+
 -- a slot that is not running has no secrets
 pub hidden-idle : (s : Secret) (m : State) → is_running m s.vm ≡ false → hidden s m ≡ m
 hidden-idle s m idle = ap (λ (frames : List Frame). record m { frames = frames }) (map-same (hidden_frame s (is_running m s.vm)) m.frames (untouched Core) (λ i lt. open-frame s (is_running m s.vm) (get_or m.frames i (untouched Core)) (not-secret (get_or m.frames i (untouched Core)))))
   where
-    and-false : (a b : Bool) → (a && (b && false)) ≡ false
-    and-false true true = refl
-    and-false true false = refl
-    and-false false b = refl
-
     not-secret : (frame : Frame) → is_secret s (is_running m s.vm) frame ≡ false
     not-secret frame = rw idle (and-false (same_owner frame.owner (Vm s.vm)) (has_gfn s.gfns frame.gfn))
 
@@ -139,7 +139,7 @@ refusal-hidden s m (Verify v) = refl
 refusal-hidden s m (Map v c f) = rw (frame-hidden s m f) refl
 refusal-hidden s m (GuestRead v c g off len) = refl
 refusal-hidden s m (GuestWrite v c g off bytes) = rw (length-chosen (names_secret s v g) bytes) refl
-refusal-hidden s m (Grant v c g) = ap (λ share. guest_frame m v c g (when (nat_le 100 share) ShareFull)) (share-hidden s m (backing (mapped_at m v g)))
-refusal-hidden s m (Revoke v c g) = ap (λ share. guest_frame m v c g (when (nat_eq share 0) NotShared)) (share-hidden s m (backing (mapped_at m v g)))
-refusal-hidden s m (Drop v c g) = ap (λ share. guest_frame m v c g (when (nat_lt 0 share) Shared)) (share-hidden s m (backing (mapped_at m v g)))
+refusal-hidden s m (Grant v c g) = ap (λ share. first_of_these (guest_frame m v c g (when (nat_le 100 share) ShareFull))) (share-hidden s m (backing (mapped_at m v g)))
+refusal-hidden s m (Revoke v c g) = ap (λ share. first_of_these (guest_frame m v c g (when (nat_eq share 0) NotShared))) (share-hidden s m (backing (mapped_at m v g)))
+refusal-hidden s m (Drop v c g) = ap (λ share. first_of_these (guest_frame m v c g (when (nat_lt 0 share) Shared))) (share-hidden s m (backing (mapped_at m v g)))
 refusal-hidden s m (Clear v) = refl

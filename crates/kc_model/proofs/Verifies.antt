@@ -1,19 +1,19 @@
 -- A slot whose images are verified.
-use Rattle.std.proofs.Common.{ℕ, zero, suc, ◌≡◌, ◌<◌, ◌+◌, ◌-◌, ◌%◌, inl, inr, Bool, true, false, Option, None, Some, is_some, List, [], ◌∷◌, ◌++◌, length, take, replicate, get_or, nat_eq, refl, sym, subst, ◌∙◌, arith, All}
+use Rattle.std.proofs.Common.{ℕ, zero, suc, ◌≡◌, ◌<◌, ◌+◌, ◌-◌, ◌%◌, true, false, Option, None, Some, is_some, List, [], ◌∷◌, ◌++◌, length, take, replicate, get_or, nat_eq, refl, sym, subst, ◌∙◌, arith, All}
 use Rattle.std.specs.List.{list_any}
-use Rattle.std.proofs.lemmas.Bool.{cases_Bool}
+use Rattle.std.proofs.lemmas.Bool.{or_parts}
 use Rattle.std.proofs.lemmas.Grind.{common_steps}
 use Rattle.std.proofs.lemmas.List.Folds.{list_any_at}
 use Rattle.kc_types.specs.declared.call.Call.TheVariants.{Verify}
 use Rattle.kc_types.specs.declared.slot.Phase.TheVariants.{Booting, Active, Dead}
 use Rattle.kc_model.specs.State.{State, Slot, Image, frame_at, slot_at, mapped_at}
-use Rattle.kc_model.specs.Refusals.{refusal, backing, pages_of, is_short}
+use Rattle.kc_model.specs.Refusals.{refusal, backing, pages_of, is_short, conditions}
 use Rattle.kc_model.specs.Effects.{effect, trimmed, all_trimmed, verified, first_failing, is_approved}
 use Rattle.kc_model.specs.Lawful.{IsLawful, IsLawfulFrame, holds}
-use Rattle.kc_model.proofs.Served.{or_else-none, when-none}
-use Rattle.kc_model.proofs.Answered.{vm-in, was-booting, both-false}
+use Rattle.kc_model.proofs.Served.{when-none, none-of}
+use Rattle.kc_model.proofs.Answered.{vm-in, was-booting}
 use Rattle.kc_model.proofs.Pages.{page-trimmed}
-use Rattle.kc_model.proofs.Slots.{lawful-with_phase}
+use Rattle.kc_model.proofs.Slots.{lawful-with_phase, none-at}
 use Rattle.kc_model.proofs.Changes.{lawful-with_slot}
 use Rattle.kc_model.proofs.HostCalls.{lawful-with_bytes}
 use Rattle.kc_model.proofs.GuestCalls.{owner-mapped, exists-mapped}
@@ -61,13 +61,6 @@ pub lawful-all_trimmed : (m : State) (v : ℕ) (images : List Image) → IsLawfu
 lawful-all_trimmed m v [] is v_in mapped = is
 lawful-all_trimmed m v (image ∷ images) is v_in mapped = lawful-all_trimmed (trimmed m v image) v images (lawful-trimmed m v image is v_in (mapped zero image (omega arith))) v_in (λ k d lt. mapped (suc k) d (omega arith))
 
--- what fails for each element of a list fails for this one
-pub none-at : {X : Type 0} (p : X → Bool) (xs : List X) (j : ℕ) (d : X) → j < length xs → list_any p xs ≡ false → p (get_or xs j d) ≡ false
-none-at p xs j d lt none = elim (cases_Bool (p (get_or xs j d))) [
-  | inl holds_it ↦ let h = list_any_at p xs j d lt holds_it in absurd cc
-  | inr fails ↦ fails
-]
-
 pub backing-of : (at : Option ℕ) → is_some at ≡ true → at ≡ Some (backing at)
 backing-of (Some f) h = refl
 backing-of None h = cc
@@ -98,11 +91,8 @@ lawful-verified m v (Some i) is v_in booting full =
 -- a served `verify`
 pub verify-served : (m : State) (v : ℕ) → refusal m (Verify v) ≡ None → (v < slot_count m.config) × ((slot_at m v).phase ≡ Booting) × (list_any is_short (slot_at m v).images ≡ false)
 verify-served m v served =
-    let s0 = or_else-none _ _ served in
-    let s1 = or_else-none _ _ s0.1 in
-    let s2 = or_else-none _ _ s1.1 in
-    let s3 = or_else-none _ _ s2.1 in
-    (vm-in m v s0.0, was-booting m v s2.0, (both-false (nat_eq (length (slot_at m v).images) 0) (list_any is_short (slot_at m v).images) (when-none _ _ s3.0)).1)
+    let none = none-of (conditions m (Verify v)) served in
+    (vm-in m v (none 0), was-booting m v (none 2), (or_parts (nat_eq (length (slot_at m v).images) 0) (list_any is_short (slot_at m v).images) (when-none _ _ (none 3))).1)
 
 pub lawful-verify : (m : State) (v : ℕ) → IsLawful m → refusal m (Verify v) ≡ None → IsLawful (effect m (Verify v)).1
 lawful-verify m v is served =

@@ -13,6 +13,7 @@ use Rattle.kc_model.specs.Resources.{Resources, merged}
 use Rattle.kc_model.specs.Local.{outcome_merged, IsLocal}
 use Rattle.kc_model.proofs.Merges.{HasFrame, HasSlot, frame-merged, slot-merged, frames-set, slots-set}
 use Rattle.kc_model.proofs.Locals.{local-next}
+use Rattle.kc_model.proofs.Verifies.{slots-trimmed}
 
 -- the frames of an image's pages are among the resources
 pub record HasImage (here : Resources) (m : State) (v : ℕ) (image : Image) : Type 0 where
@@ -61,10 +62,6 @@ all_trimmed-merged here m rest v (image ∷ images) has each =
 
 with_phase-merged : (here : Resources) (m rest : State) (v : ℕ) → HasSlot here m v → with_phase (merged here m rest) v Active ≡ merged here (with_phase m v Active) rest
 with_phase-merged here m rest v has = rw (slot-merged here m rest v has, slots-set here m rest v has) refl
-
-slots-trimmed : (m : State) (v : ℕ) (images : List Image) → (all_trimmed m v images).slots ≡ m.slots
-slots-trimmed m v [] = refl
-slots-trimmed m v (image ∷ images) = slots-trimmed (trimmed m v image) v images
 
 verified-merged : (here : Resources) (m rest : State) (v : ℕ) (failing : Option ℕ) → HasSlot here m v → HasImages here m v (slot_at m v).images → verified (merged here m rest) v failing ≡ outcome_merged here (verified m v failing) rest
 verified-merged here m rest v None has each = ap (λ s. (reply.Done, s)) (

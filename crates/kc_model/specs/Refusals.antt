@@ -108,43 +108,46 @@ next_gfn m v i = (image_at m v i).base + (image_at m v i).pages
 abbrev pub pending : State → ℕ → ℕ → ℕ
 pending m v c = backing (vcpu_at m v c).fault
 
--- what every call of a virtual processor on a guest frame is first refused for
-abbrev pub guest_refusals : State → ℕ → ℕ → ℕ → List (Option Refusal)
-guest_refusals m v c g = no_vm m v ∷ not_active m v ∷ no_vcpu m v c ∷ []
+-- what a virtual processor's read or write is refused for
+abbrev pub guest_access : State → ℕ → ℕ → ℕ → ℕ → ℕ → List (Option Refusal)
+guest_access m v c g off len = bad_vm m v ∷ bad_vcpu c ∷ bad_gfn g ∷ bad_range off len ∷ no_vm m v ∷ not_active m v ∷ no_vcpu m v c ∷ []
 
-abbrev pub guest_access : State → ℕ → ℕ → ℕ → ℕ → ℕ → Option Refusal
-guest_access m v c g off len = first_of_these (bad_vm m v ∷ bad_vcpu c ∷ bad_gfn g ∷ bad_range off len ∷ no_vm m v ∷ not_active m v ∷ no_vcpu m v c ∷ [])
+-- what a virtual processor's call on a mapped guest frame is refused for, at last for something of its own
+abbrev pub guest_frame : State → ℕ → ℕ → ℕ → Option Refusal → List (Option Refusal)
+guest_frame m v c g last = bad_vm m v ∷ bad_vcpu c ∷ bad_gfn g ∷ no_vm m v ∷ not_active m v ∷ no_vcpu m v c ∷ not_mapped m v g ∷ last ∷ []
 
-abbrev pub guest_frame : State → ℕ → ℕ → ℕ → Option Refusal → Option Refusal
-guest_frame m v c g last = first_of_these (bad_vm m v ∷ bad_vcpu c ∷ bad_gfn g ∷ no_vm m v ∷ not_active m v ∷ no_vcpu m v c ∷ not_mapped m v g ∷ last ∷ [])
-
-abbrev pub refusal : State → Call → Option Refusal
-refusal m Take = when (length m.free == 0) NoFree
-refusal m (Give f) = first_of_these (bad_frame m f ∷ not_host m f ∷ [])
-refusal m (HostFault f) = first_of_these (bad_frame m f ∷ when (not (is_host (frame_at m f).owner) && ((frame_at m f).share == 0)) Protected ∷ [])
-refusal m (HostRead f off len) = first_of_these (bad_frame m f ∷ bad_range off len ∷ not_present m f ∷ [])
-refusal m (HostWrite f off bytes) = first_of_these (bad_frame m f ∷ bad_range off (length bytes) ∷ not_present m f ∷ [])
-refusal m (RegisterVm v) = first_of_these (bad_vm m v ∷ when (not (is_empty (slot_at m v).phase)) SlotUsed ∷ [])
-refusal m (RegisterVcpu v c) = first_of_these (bad_vm m v ∷ bad_vcpu c ∷ no_vm m v ∷ not_booting m v ∷ when (vcpu_at m v c).registered VcpuUsed ∷ [])
-refusal m (SetBoot v base len) = first_of_these (bad_vm m v
+-- what a call may be refused for, in the order in which it is asked
+abbrev pub conditions : State → Call → List (Option Refusal)
+conditions m Take = when (length m.free == 0) NoFree ∷ []
+conditions m (Give f) = bad_frame m f ∷ not_host m f ∷ []
+conditions m (HostFault f) = bad_frame m f ∷ when (not (is_host (frame_at m f).owner) && ((frame_at m f).share == 0)) Protected ∷ []
+conditions m (HostRead f off len) = bad_frame m f ∷ bad_range off len ∷ not_present m f ∷ []
+conditions m (HostWrite f off bytes) = bad_frame m f ∷ bad_range off (length bytes) ∷ not_present m f ∷ []
+conditions m (RegisterVm v) = bad_vm m v ∷ when (not (is_empty (slot_at m v).phase)) SlotUsed ∷ []
+conditions m (RegisterVcpu v c) = bad_vm m v ∷ bad_vcpu c ∷ no_vm m v ∷ not_booting m v ∷ when (vcpu_at m v c).registered VcpuUsed ∷ []
+conditions m (SetBoot v base len) = bad_vm m v
     ∷ when (nat_lt 262143 base || nat_lt 262144 (base + pages_of len)) BadGfn
     ∷ when (len == 0 || nat_lt 1048576 len) BadRange
     ∷ no_vm m v ∷ not_booting m v
     ∷ when (nat_le 4 (length (slot_at m v).images)) ImagesFull
-    ∷ when (list_any (overlaps base len) (slot_at m v).images) Overlap ∷ [])
-refusal m (Remap v i f) = first_of_these (bad_vm m v ∷ bad_frame m f ∷ no_vm m v ∷ not_booting m v
+    ∷ when (list_any (overlaps base len) (slot_at m v).images) Overlap ∷ []
+conditions m (Remap v i f) = bad_vm m v ∷ bad_frame m f ∷ no_vm m v ∷ not_booting m v
     ∷ when (nat_le (length (slot_at m v).images) i) NoImage
     ∷ when (not (is_short (image_at m v i))) ImageFull
-    ∷ not_host m f ∷ tables_full m v (next_gfn m v i) ∷ [])
-refusal m (Verify v) = first_of_these (bad_vm m v ∷ no_vm m v ∷ not_booting m v
-    ∷ when (length (slot_at m v).images == 0 || list_any is_short (slot_at m v).images) ImageShort ∷ [])
-refusal m (Map v c f) = first_of_these (bad_vm m v ∷ bad_vcpu c ∷ bad_frame m f ∷ no_vm m v ∷ not_active m v ∷ no_vcpu m v c
+    ∷ not_host m f ∷ tables_full m v (next_gfn m v i) ∷ []
+conditions m (Verify v) = bad_vm m v ∷ no_vm m v ∷ not_booting m v
+    ∷ when (length (slot_at m v).images == 0 || list_any is_short (slot_at m v).images) ImageShort ∷ []
+conditions m (Map v c f) = bad_vm m v ∷ bad_vcpu c ∷ bad_frame m f ∷ no_vm m v ∷ not_active m v ∷ no_vcpu m v c
     ∷ when (is_none (vcpu_at m v c).fault) NoFault
     ∷ when (is_some (mapped_at m v (pending m v c))) Mapped
-    ∷ not_host m f ∷ tables_full m v (pending m v c) ∷ [])
-refusal m (GuestRead v c g off len) = guest_access m v c g off len
-refusal m (GuestWrite v c g off bytes) = guest_access m v c g off (length bytes)
-refusal m (Grant v c g) = guest_frame m v c g (when (nat_le 100 (share_at m v g)) ShareFull)
-refusal m (Revoke v c g) = guest_frame m v c g (when (share_at m v g == 0) NotShared)
-refusal m (Drop v c g) = guest_frame m v c g (when (nat_lt 0 (share_at m v g)) Shared)
-refusal m (Clear v) = first_of_these (bad_vm m v ∷ no_vm m v ∷ [])
+    ∷ not_host m f ∷ tables_full m v (pending m v c) ∷ []
+conditions m (GuestRead v c g off len) = guest_access m v c g off len
+conditions m (GuestWrite v c g off bytes) = guest_access m v c g off (length bytes)
+conditions m (Grant v c g) = guest_frame m v c g (when (nat_le 100 (share_at m v g)) ShareFull)
+conditions m (Revoke v c g) = guest_frame m v c g (when (share_at m v g == 0) NotShared)
+conditions m (Drop v c g) = guest_frame m v c g (when (nat_lt 0 (share_at m v g)) Shared)
+conditions m (Clear v) = bad_vm m v ∷ no_vm m v ∷ []
+
+-- why a call is refused: the first of its conditions that holds
+abbrev pub refusal : State → Call → Option Refusal
+refusal m call = first_of_these (conditions m call)

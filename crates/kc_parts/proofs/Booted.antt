@@ -1,11 +1,11 @@
 -- The parts that a core starts with are those of the boot state, linked.
-use Rattle.std.proofs.Common.{ℕ, zero, suc, ◌≡◌, ◌<◌, ◌≤◌, ◌+◌, ◌-◌, ◌⊎◌, inl, inr, Bool, true, false, cond, nat_eq, nat_lt, nat_le, ◌&&◌, List, [], length, get_or, map, replicate, Option, Some, None, is_some, refl, sym, ap, ◌∙◌, arith}
+use Rattle.std.proofs.Common.{ℕ, zero, suc, ◌≡◌, ◌<◌, ◌≤◌, ◌+◌, ◌-◌, ◌⊎◌, inl, inr, Bool, true, false, cond, nat_eq, nat_lt, nat_le, ◌&&◌, List, [], get_or, map, replicate, Option, Some, None, is_some, refl, sym, ap, ◌∙◌, arith}
 use Rattle.std.specs.List.{range_with_len}
 use Rattle.std.specs.Option.{option_map}
 use Rattle.std.proofs.lemmas.Bool.{cases_lt, lt-ltb, ltb-true, ne_eqb}
 use Rattle.std.proofs.lemmas.Grind.{common_steps}
-use Rattle.std.proofs.lemmas.List.{get_or_past}
-use Rattle.std.proofs.lemmas.List.FromFn.{length-map-range_with_len, get_or-map-range_with_len, get_or-range_with_len}
+use Rattle.std.proofs.lemmas.List.{get_or_past, length-replicate}
+use Rattle.std.proofs.lemmas.List.FromFn.{length-map-range_with_len, get_or-map-range_with_len, get_or-range_with_len, length-range_with_len}
 use Rattle.std.proofs.lemmas.Option.{slice_get-get_or, same_Some}
 use Rattle.kc_types.specs.Limits.{frame_limit}
 use Rattle.kc_types.specs.Configuration.{Configuration, IsConfiguration, slot_count}
@@ -74,14 +74,6 @@ first-range : (a n : ℕ) → first_or None (range_with_len a n) ≡ by_zero n N
 first-range a zero = refl
 first-range a (suc n) = refl
 
-length-range : (a n : ℕ) → length (range_with_len a n) ≡ n
-length-range a zero = refl
-length-range a (suc n) = ap suc (length-range (a + 1) n)
-
-length-replicate : {X : Type 0} (n : ℕ) (x : X) → length (replicate n x) ≡ n
-length-replicate zero x = refl
-length-replicate (suc n) x = ap suc (length-replicate n x)
-
 get_or-same : {X : Type 0} (n v : ℕ) (x : X) → v < n → get_or (replicate n (Some x)) v None ≡ Some x
 get_or-same zero v x lt = absurd (omega (arith, lt))
 get_or-same (suc n) zero x lt = refl
@@ -123,7 +115,7 @@ module _ (config : Configuration) (is : IsConfiguration config) where
   chain = let room = is.room in record {
     head = ends (nat_lt (first_free config) config.frames) refl (Some (first_free config)) ∙ sym (first-range (first_free config) count);
     tail = ends (nat_lt (first_free config) config.frames) refl (Some (config.frames - 1)) ∙ tail-of (config.frames - first_free config) refl ∙ sym (last-range (first_free config) count None);
-    count = sym (length-range (first_free config) count);
+    count = sym (length-range_with_len (first_free config) count);
     linked = linked-range (links_of booted) (first_free config) count None None (λ k lt. link-boot (first_free config + k) (omega (arith, lt)) ∙ link k lt);
   }
     where
@@ -274,7 +266,7 @@ module _ (config : Configuration) (is : IsConfiguration config) where
   pub is_held-boot : IsHeld (range_with_len 0 config.frames) (replicate config.frames true) (map (boot_page config) (range_with_len 0 config.frames))
   is_held-boot = record {
     rising = λ i j less within.
-        let count = length-range 0 config.frames in
+        let count = length-range_with_len 0 config.frames in
         let low : i < config.frames = omega (arith, less, within, count) in
         let high : j < config.frames = omega (arith, within, count) in
         let a = get_or-range_with_len 0 config.frames i 0 low in
@@ -282,9 +274,9 @@ module _ (config : Configuration) (is : IsConfiguration config) where
         omega (arith, less, a, b);
     frames = λ i. let few = is.few_frames in elim (cases_lt i config.frames) [
       | inl low ↦ let a = get_or-range_with_len 0 config.frames i 0 low in omega (arith, low, few, a)
-      | inr past ↦ let count = length-range 0 config.frames in let a : get_or (range_with_len 0 config.frames) i 0 ≡ 0 = get_or_past (range_with_len 0 config.frames) i 0 (omega (arith, past, count)) in omega (arith, a)
+      | inr past ↦ let count = length-range_with_len 0 config.frames in let a : get_or (range_with_len 0 config.frames) i 0 ≡ 0 = get_or_past (range_with_len 0 config.frames) i 0 (omega (arith, past, count)) in omega (arith, a)
     ];
-    here = length-replicate config.frames true ∙ sym (length-range 0 config.frames);
-    pages = length-map-range_with_len (boot_page config) 0 config.frames ∙ sym (length-range 0 config.frames);
+    here = length-replicate config.frames true ∙ sym (length-range_with_len 0 config.frames);
+    pages = length-map-range_with_len (boot_page config) 0 config.frames ∙ sym (length-range_with_len 0 config.frames);
     blanks = blanks-filled config.frames (map (boot_page config) (range_with_len 0 config.frames));
   }

@@ -13,10 +13,6 @@ numbers-more n = sym (map-id (range_with_len 0 (n + 1))) ∙ map-range_with_len_
 pub pages-more : {X : Type 0} (at : ℕ → X) (n : ℕ) → map at (range_with_len 0 (n + 1)) ≡ map at (range_with_len 0 n) ++ at n ∷ []
 pages-more at n = map-range_with_len_more at 0 n n (omega arith)
 
-pub same-more : {X : Type 0} (x : X) (n : ℕ) → replicate (suc n) x ≡ replicate n x ++ x ∷ []
-same-more x zero = refl
-same-more x (suc n) = ap (λ xs. x ∷ xs) (same-more x n)
-
 -- where all numbers from one on have places, each is at its distance
 place-range : (a n k : ℕ) → k < n → place_of (range_with_len a n) (a + k) ≡ k
 place-range a zero k lt = absurd (omega (arith, lt))

@@ -12,11 +12,12 @@ use Rattle.kc_types.specs.declared.resource.Resource.TheVariants as resource
 use Rattle.kc_model.specs.State.{State, empty_slot, with_slot, with_frame, untouched}
 use Rattle.kc_model.specs.Effects.{scrubbed}
 use Rattle.kc_model.specs.Lawful.{times_in}
+use Rattle.kc_model.proofs.Members.{times_in-append}
 use Rattle.kc_page.specs.declared.page.Page.{Page}
 use Rattle.kc_vms.specs.Slots.{VmSlot, empty_vm}
 use Rattle.kc_links.specs.Chain.{Links, spelled, next_of}
 use Rattle.kc_links.specs.Ending.{listed, IsList}
-use Rattle.kc_links.proofs.Times.{times-same, times-other, times-append}
+use Rattle.kc_links.proofs.Times.{times-same, times-other}
 use Rattle.kc_links.proofs.Steps.{inside-held}
 use Rattle.kc_parts.specs.Held.{Held, page_at, vm_at, links_of, ends_at, with_page, with_vm, link_of}
 use Rattle.kc_parts.specs.States.{frame_in, unlinked_slot, state_of, here_of, owner_at, frames_of, AreLists, IsLinked}
@@ -154,7 +155,7 @@ pub owned-joined : (owner_at : ℕ → Owner) (owner : Owner) (a b : List ℕ) �
 owned-joined owner_at owner a b in_a in_b g some = by_count (times_in a g) refl
   where
     by_count : (n : ℕ) → times_in a g ≡ n → owner_at g ≡ owner
-    by_count zero e = let whole = times-append a b g in in_b g (omega (arith, whole, e, some))
+    by_count zero e = let whole = times_in-append a b g in in_b g (omega (arith, whole, e, some))
     by_count (suc n) e = in_a g (rw e (omega arith))
 
 -- what a walk of a list scrubs, step by step

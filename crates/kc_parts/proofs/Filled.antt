@@ -3,9 +3,11 @@ use Rattle.std.proofs.Common.{ℕ, zero, suc, ◌≡◌, ◌≢◌, ◌<◌, Boo
 use Rattle.std.specs.Prelude.{Option, Some, None, slice_get}
 use Rattle.std.proofs.lemmas.Bool.Decides.{nat_tests}
 use Rattle.std.proofs.lemmas.Option.{slice_get_past}
+use Rattle.std.proofs.lemmas.Bool.{ne_eqb, eqb-true}
 use Rattle.kc_page.specs.declared.page.Page.{Page}
 use Rattle.kc_parts.specs.Held.{IsRising, place_of, is_filled}
 use Rattle.kc_parts.specs.Moves.{is_among}
+use Rattle.kc_parts.proofs.Places.{rising-rest}
 
 -- what the places have
 abbrev pub cells : List Bool → List Page → List (Option Page)
@@ -18,13 +20,13 @@ cell_in [] cs f = None
 cell_in (n ∷ ns) [] f = None
 cell_in (n ∷ ns) (c ∷ cs) f = cond (nat_eq f n) c (cell_in ns cs f)
 
+pub bool-same : (a b : Bool) → (a ≡ true → b ≡ true) → (b ≡ true → a ≡ true) → a ≡ b
+bool-same true b there back = sym (there refl)
+bool-same false true there back = back refl
+bool-same false false there back = refl
+
 swapped : (a b : ℕ) → nat_eq a b ≡ nat_eq b a
-swapped a b = by_test (nat_eq a b) (nat_eq b a) (λ e. grind (arith, nat_tests)) (λ e. grind (arith, nat_tests))
-  where
-    by_test : (x y : Bool) → (x ≡ true → y ≡ true) → (y ≡ true → x ≡ true) → x ≡ y
-    by_test true y f g = sym (f refl)
-    by_test false true f g = g refl
-    by_test false false f g = refl
+swapped a b = bool-same (nat_eq a b) (nat_eq b a) (λ e. grind (arith, nat_tests)) (λ e. grind (arith, nat_tests))
 
 pub page_at-cells : (ns : List ℕ) (hs : List Bool) (ps : List Page) (f : ℕ) → length hs ≡ length ns → length ps ≡ length ns
     → slice_get ps (cond (is_filled ns hs f) (place_of ns f) (length ps)) ≡ cell_in ns (cells hs ps) f
@@ -61,38 +63,15 @@ cells-append [] (q ∷ ps) b p e = absurd (omega (arith, e))
 cells-append (h ∷ hs) [] b p e = absurd (omega (arith, e))
 cells-append (h ∷ hs) (q ∷ ps) b p e = ap (λ cs. cond h (Some q) None ∷ cs) (cells-append hs ps b p (omega (arith, e)))
 
-rising-rest : (n : ℕ) (ns : List ℕ) → IsRising (n ∷ ns) → IsRising ns
-rising-rest n ns up i j l h = up (suc i) (suc j) (omega (arith, l)) (omega (arith, h))
-
 cond-unless : {A : Type 0} → (b : Bool) (x y : A) → b ≡ false → cond b x y ≡ y
 cond-unless b x y e = rw e refl
-
-pub eqb-yes : (a b : ℕ) → a ≡ b → nat_eq a b ≡ true
-eqb-yes a b e = grind (arith, nat_tests)
-
-pub eqb-no : (a b : ℕ) → a ≢ b → nat_eq a b ≡ false
-eqb-no a b e = grind (arith, nat_tests)
-
-pub same-number : (a b : ℕ) → nat_eq a b ≡ true → a ≡ b
-same-number a b e = grind (arith, nat_tests)
-
--- the cell at a place
-pub cell-at_place : (ns : List ℕ) (cs : List (Option Page)) (i : ℕ) (d : Option Page) → IsRising ns → length cs ≡ length ns → i < length ns
-    → cell_in ns cs (get_or ns i 0) ≡ get_or cs i d
-cell-at_place [] cs i d up l h = absurd (omega (arith, h))
-cell-at_place (n ∷ ns) [] i d up l h = absurd (omega (arith, l))
-cell-at_place (n ∷ ns) (c ∷ cs) zero d up l h = rw (eqb-yes n n refl) refl
-cell-at_place (n ∷ ns) (c ∷ cs) (suc i) d up l h =
-    let below : n < get_or ns i 0 = up 0 (suc i) (omega arith) h in
-    cond-unless _ _ _ (eqb-no (get_or ns i 0) n (λ same. omega (arith, below, same)))
-    ∙ cell-at_place ns cs i d (rising-rest n ns up) (omega (arith, l)) (omega (arith, h))
 
 -- no place, no cell
 pub cell-no_place : (ns : List ℕ) (cs : List (Option Page)) (f : ℕ) → ((k : ℕ) → k < length ns → get_or ns k 0 ≢ f) → cell_in ns cs f ≡ None
 cell-no_place [] cs f none = refl
 cell-no_place (n ∷ ns) [] f none = refl
 cell-no_place (n ∷ ns) (c ∷ cs) f none =
-    cond-unless _ _ _ (eqb-no f n (λ e. none 0 (omega arith) (sym e))) ∙ cell-no_place ns cs f (λ k h. none (suc k) (omega (arith, h)))
+    cond-unless _ _ _ (ne_eqb f n (λ e. none 0 (omega arith) (sym e))) ∙ cell-no_place ns cs f (λ k h. none (suc k) (omega (arith, h)))
 
 -- after a write at a place
 pub cell-set : (ns : List ℕ) (cs : List (Option Page)) (i g : ℕ) (x : Option Page) → IsRising ns → length cs ≡ length ns → i < length ns
@@ -107,7 +86,7 @@ cell-set (n ∷ ns) (c ∷ cs) zero g x up l h = set_first (nat_eq g n) x c (cel
 cell-set (n ∷ ns) (c ∷ cs) (suc i) g x up l h =
     let below : n < get_or ns i 0 = up 0 (suc i) (omega arith) h in
     set_later (nat_eq g n) (nat_eq g (get_or ns i 0)) x c _ _
-    (λ a. eqb-no g (get_or ns i 0) (λ e. omega (arith, below, e, same-number g n a)))
+    (λ a. ne_eqb g (get_or ns i 0) (λ e. omega (arith, below, e, eqb-true g n a)))
     (cell-set ns cs i g x (rising-rest n ns up) (omega (arith, l)) (omega (arith, h)))
   where
     set_later : (b d : Bool) (x c y z : Option Page) → (b ≡ true → d ≡ false) → z ≡ cond d x y → cond b c z ≡ cond d x (cond b c y)
@@ -118,7 +97,7 @@ cell-set (n ∷ ns) (c ∷ cs) (suc i) g x up l h =
 pub cell-by_numbers : (ns : List ℕ) (get : ℕ → Option Page) (f : ℕ) → cell_in ns (map get ns) f ≡ cond (is_among ns f) (get f) None
 cell-by_numbers [] get f = refl
 cell-by_numbers (n ∷ ns) get f =
-    by_first (nat_eq f n) (is_among ns f) (get n) (cell_in ns (map get ns) f) (get f) (λ b. ap get (sym (same-number f n b))) (cell-by_numbers ns get f)
+    by_first (nat_eq f n) (is_among ns f) (get n) (cell_in ns (map get ns) f) (get f) (λ b. ap get (sym (eqb-true f n b))) (cell-by_numbers ns get f)
   where
     by_first : (b d : Bool) (x z y : Option Page) → (b ≡ true → x ≡ y) → z ≡ cond d y None → cond b x z ≡ cond (b || d) y None
     by_first true d x z y same e = same refl

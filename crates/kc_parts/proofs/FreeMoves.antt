@@ -11,10 +11,11 @@ use Rattle.kc_types.specs.declared.resource.Resource.{Resource}
 use Rattle.kc_types.specs.declared.resource.Resource.TheVariants as resource
 use Rattle.kc_model.specs.Lawful.{times_in}
 use Rattle.kc_model.specs.State.{Frame}
+use Rattle.kc_model.proofs.Members.{times_in-append}
 use Rattle.kc_vms.specs.Slots.{VmSlot}
 use Rattle.kc_links.specs.Chain.{unlinked}
 use Rattle.kc_links.specs.Ending.{listed, IsList, KeepsOthers}
-use Rattle.kc_links.proofs.Times.{times-same, times-other, times-append, once-first}
+use Rattle.kc_links.proofs.Times.{times-same, times-other, once-first}
 use Rattle.kc_links.proofs.Chains.{chain-once}
 use Rattle.kc_parts.specs.Held.{Held, page_at, vm_at, links_of, ends_at}
 use Rattle.kc_parts.specs.States.{frame_in, slot_in, owner_at, here_of, AreLists, IsLoose, IsFreeMove}
@@ -99,5 +100,5 @@ popped-within old new (Some f) gave g some = rw gave (omega (arith, some))
 pub owned-appended : (owner_at : ℕ → Owner) (owner : Owner) (fs : List ℕ) (f : ℕ) → ((g : ℕ) → 0 < times_in fs g → owner_at g ≡ owner) → owner_at f ≡ owner → (g : ℕ) → 0 < times_in (fs ++ f ∷ []) g → owner_at g ≡ owner
 owned-appended owner_at owner fs f owned mine g some = elim (cases_eq g f) [
   | inl same ↦ ap owner_at same ∙ mine
-  | inr other ↦ let whole = times-append fs (f ∷ []) g in let last = times-other f [] g other in owned g (omega (arith, some, whole, last))
+  | inr other ↦ let whole = times_in-append fs (f ∷ []) g in let last = times-other f [] g other in owned g (omega (arith, some, whole, last))
 ]

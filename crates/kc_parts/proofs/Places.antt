@@ -3,7 +3,7 @@ use Rattle.std.proofs.Common.{ℕ, zero, suc, ◌≡◌, ◌≢◌, ◌<◌, ◌
 use Rattle.std.proofs.lemmas.Bool.{ne_eqb}
 use Rattle.kc_parts.specs.Held.{IsRising, place_of, is_filled}
 
-rising-rest : (n : ℕ) (ns : List ℕ) → IsRising (n ∷ ns) → IsRising ns
+pub rising-rest : (n : ℕ) (ns : List ℕ) → IsRising (n ∷ ns) → IsRising ns
 rising-rest n ns rising i j less within = rising (suc i) (suc j) (omega (arith, less)) (omega (arith, within))
 
 pub place-found : (ns : List ℕ) (i f : ℕ) → IsRising ns → i < length ns → get_or ns i 0 ≡ f → place_of ns f ≡ i

@@ -1,7 +1,7 @@
 -- What is kept while pages are put back.
 use Rattle.std.proofs.Common.{ℕ, suc, ◌≡◌, ◌≢◌, ◌<◌, Bool, true, false, cond, nat_eq, List, [], ◌∷◌, ◌++◌, length, get_or, inl, inr, refl, sym, ◌∙◌, ap, arith}
 use Rattle.std.specs.Prelude.{Option, Some, None}
-use Rattle.std.proofs.lemmas.Bool.{cases_lt}
+use Rattle.std.proofs.lemmas.Bool.{cases_lt, eq-eqb, ne_eqb, eqb-true}
 use Rattle.std.proofs.lemmas.List.{get_or_append_left, get_or_past}
 use Rattle.std.proofs.Math.Seq.{get_or-append_seam}
 use Rattle.std.proofs.Math.ListN.{length-append}
@@ -9,7 +9,7 @@ use Rattle.kc_page.specs.declared.page.Page.{Page}
 use Rattle.kc_parts.specs.Held.{Held, IsHeld, IsRising, blank_page, page_at}
 use Rattle.kc_parts.specs.Cuts.{either}
 use Rattle.kc_parts.specs.Moves.{AreFrames, IsEmptyPlace, IsLaid, only_at}
-use Rattle.kc_parts.proofs.Filled.{cells, cell_in, cells-append, length-cells, cell-no_place, eqb-yes, eqb-no, same-number}
+use Rattle.kc_parts.proofs.Filled.{cells, cell_in, cells-append, length-cells, cell-no_place}
 use Rattle.kc_parts.proofs.SlotMoves.{either-none}
 use Rattle.kc_parts.proofs.Blanks.{blanks-front, blank-last}
 
@@ -25,7 +25,7 @@ cell-last (m ∷ ns) (d ∷ cs) n c g l absent =
     by_test : (b : Bool) → nat_eq g m ≡ b → cell_in (ns ++ n ∷ []) (cs ++ c ∷ []) g ≡ either (cell_in ns cs g) (cond (nat_eq g n) c None)
         → cond b d (cell_in (ns ++ n ∷ []) (cs ++ c ∷ []) g) ≡ either (cond b d (cell_in ns cs g)) (cond (nat_eq g n) c None)
     by_test true e rest =
-        let no_more : nat_eq g n ≡ false = eqb-no g n (λ is. absent 0 (omega arith) (sym (same-number g m e) ∙ is)) in
+        let no_more : nat_eq g n ≡ false = ne_eqb g n (λ is. absent 0 (omega arith) (sym (eqb-true g m e) ∙ is)) in
         rw no_more (sym (either-none d))
     by_test false e rest = rest
 
@@ -52,7 +52,7 @@ empty-at_last : (ns : List ℕ) (cs : List (Option Page)) (n : ℕ) (c : Option 
     → ((f : ℕ) (page : Page) → cell_in (ns ++ n ∷ []) (cs ++ c ∷ []) f ≡ Some page → IsEmptyPlace h f) → (page : Page) → c ≡ Some page → IsEmptyPlace h n
 empty-at_last ns cs n c h l up fits page e =
     let gone : cell_in ns cs n ≡ None = cell-no_place ns cs n (below-last ns n up) in
-    fits n page (cell-last ns cs n c n l (below-last ns n up) ∙ rw (gone, eqb-yes n n refl) e)
+    fits n page (cell-last ns cs n c n l (below-last ns n up) ∙ rw (gone, eq-eqb n n refl) e)
 
 pub record Steps (all_ns : List ℕ) (all_cs : List (Option Page)) (ns : List ℕ) (cs : List (Option Page)) (before after : Held) : Type 0 where
   pub fits : (f : ℕ) (page : Page) → cell_in ns cs f ≡ Some page → IsEmptyPlace after f
@@ -70,14 +70,14 @@ put-step ns cs n c before after l up fits laid =
     fits_at : (f : ℕ) (page : Page) → cell_in ns cs f ≡ Some page → (b : Bool) → nat_eq f n ≡ b → IsEmptyPlace after f
     fits_at f page e true same =
         let gone : cell_in ns cs n ≡ None = cell-no_place ns cs n (below-last ns n up) in
-        let no_cell : cell_in ns cs f ≡ None = rw (same-number f n same) gone in cc
+        let no_cell : cell_in ns cs f ≡ None = rw (eqb-true f n same) gone in cc
     fits_at f page e false same =
         let was = fits f page (cell-last ns cs n c f l (below-last ns n up) ∙ rw e refl) in
         (rw laid.numbers was.0, laid.pages f ∙ rw (was.1, same) refl)
 
     joined_at : (f : ℕ) (b : Bool) → nat_eq f n ≡ b → either (page_at after f) (cell_in ns cs f) ≡ either (page_at before f) (cell_in (ns ++ n ∷ []) (cs ++ c ∷ []) f)
     joined_at f true same =
-        let gone : cell_in ns cs f ≡ None = rw (same-number f n same) (cell-no_place ns cs n (below-last ns n up)) in
+        let gone : cell_in ns cs f ≡ None = rw (eqb-true f n same) (cell-no_place ns cs n (below-last ns n up)) in
         rw (cell-last ns cs n c f l (below-last ns n up), laid.pages f, gone, same) (either-none _)
     joined_at f false same =
         rw (cell-last ns cs n c f l (below-last ns n up), laid.pages f, same, either-none (page_at before f), either-none (cell_in ns cs f)) refl

@@ -1,15 +1,15 @@
 -- Slots that move from list to list.
 use Rattle.std.proofs.Common.{ℕ, zero, suc, ◌≡◌, ◌<◌, ◌+◌, Bool, true, false, cond, ◌||◌, nat_eq, List, [], ◌∷◌, length, get_or, set, take, refl, sym, ◌∙◌, ap, arith}
 use Rattle.std.specs.Prelude.{Option, Some, None}
-use Rattle.std.proofs.lemmas.Bool.{eqb-false}
+use Rattle.std.proofs.lemmas.Bool.{eqb-false, eq-eqb, eqb-true}
 use Rattle.std.proofs.lemmas.List.{get_or-set_same, get_or-set_other}
 use Rattle.std.proofs.lemmas.List.Folds.{list_any_more}
+use Rattle.std.proofs.Math.Bool.{or-true, or-false}
 use Rattle.kc_types.specs.declared.resource.Resource.{Resource}
 use Rattle.kc_types.specs.declared.resource.Resource.TheVariants as resource
 use Rattle.kc_vms.specs.Slots.{VmSlot}
 use Rattle.kc_parts.specs.Cuts.{is_wanted, same, either}
 use Rattle.kc_parts.specs.Moves.{slot_of}
-use Rattle.kc_parts.proofs.Filled.{same-number, eqb-yes}
 
 pub either-none : {X : Type 0} → (o : Option X) → either o None ≡ o
 either-none None = refl
@@ -19,7 +19,7 @@ pub slot-set : (xs : List (Option VmSlot)) (at v : ℕ) (x : Option VmSlot) → 
 slot-set xs at v x h = by_test (nat_eq v at) refl
   where
     by_test : (b : Bool) → nat_eq v at ≡ b → slot_of (set xs at x) v ≡ cond b x (slot_of xs v)
-    by_test true e = rw (same-number v at e) (get_or-set_same xs at x None h)
+    by_test true e = rw (eqb-true v at e) (get_or-set_same xs at x None h)
     by_test false e = get_or-set_other xs at v x None (eqb-false v at e)
 
 pub slot-within : (xs : List (Option VmSlot)) (v : ℕ) (x : VmSlot) → slot_of xs v ≡ Some x → v < length xs
@@ -39,8 +39,8 @@ moved-more from to start at v was now h moved left e =
     by_was false o = either-none o
 
     by_test : (b : Bool) → nat_eq v at ≡ b → (d : Bool) → was v ≡ d → cond b (either (slot_of from at) (slot_of to at)) (cond d (slot_of start v) None) ≡ cond (d || b) (slot_of start v) None
-    by_test true e true f = rw (same-number v at e, left at, moved at) (by_was (was at) (slot_of start at))
-    by_test true e false f = rw (same-number v at e, left at, moved at) (by_was (was at) (slot_of start at))
+    by_test true e true f = rw (eqb-true v at e, left at, moved at) (by_was (was at) (slot_of start at))
+    by_test true e false f = rw (eqb-true v at e, left at, moved at) (by_was (was at) (slot_of start at))
     by_test false e true f = refl
     by_test false e false f = refl
 
@@ -66,10 +66,6 @@ pub wanted-no_slot : (wanted : List Resource) (i v : ℕ) (r : Resource) → i <
 wanted-no_slot wanted i v r h is none =
     list_any_more (same (resource.Vm v)) wanted i r h ∙ ap (λ s. is_wanted (take i wanted) (resource.Vm v) || same (resource.Vm v) s) (sym is) ∙ by_kind r none
   where
-    or-false : (b : Bool) → (b || false) ≡ b
-    or-false true = refl
-    or-false false = refl
-
     by_kind : (s : Resource) → ((at : ℕ) → s ≡ resource.Vm at → ⊥) → (is_wanted (take i wanted) (resource.Vm v) || same (resource.Vm v) s) ≡ is_wanted (take i wanted) (resource.Vm v)
     by_kind (resource.Frame f) none = or-false _
     by_kind (resource.Vm w) none = absurd (none w refl)
@@ -78,9 +74,5 @@ wanted-no_slot wanted i v r h is none =
 -- a slot at a place of the resources is wanted
 pub wanted-here : (wanted : List Resource) (i at : ℕ) (r : Resource) → i < length wanted → r ≡ get_or wanted i r → r ≡ resource.Vm at → is_wanted wanted (resource.Vm at) ≡ true
 wanted-here [] i at r h is e = absurd (omega (arith, h))
-wanted-here (s ∷ wanted) zero at r h is e = rw (sym is ∙ e, eqb-yes at at refl) refl
+wanted-here (s ∷ wanted) zero at r h is e = rw (sym is ∙ e, eq-eqb at at refl) refl
 wanted-here (s ∷ wanted) (suc i) at r h is e = rw (wanted-here wanted i at r (omega (arith, h)) is e) (or-true (same (resource.Vm at) s))
-  where
-    or-true : (b : Bool) → (b || true) ≡ true
-    or-true true = refl
-    or-true false = refl

@@ -1,11 +1,11 @@
 -- What was taken out fits back, and gives what there was before.
-use Rattle.std.proofs.Common.{◌≡◌, Bool, true, false, cond, refl, ◌∙◌}
+use Rattle.std.proofs.Common.{◌≡◌, Bool, true, false, cond, refl}
 use Rattle.std.specs.Prelude.{Option, Some, None}
 use Rattle.std.specs.Option.{option_map}
 use Rattle.kc_types.specs.declared.resource.Resource.{Resource}
 use Rattle.kc_types.specs.declared.resource.Resource.TheVariants as resource
 use Rattle.kc_parts.specs.Held.{Held, page_at, vm_at}
-use Rattle.kc_parts.specs.Cuts.{HeldPart, held_at, IsSplit, FitsInto, IsJoin, either}
+use Rattle.kc_parts.specs.Cuts.{HeldPart, IsSplit, FitsInto}
 use Rattle.kc_parts.specs.Cuts.HeldPart.{page_part, slot_part, ends_part}
 use Rattle.kc_parts.proofs.Writing.{place-here}
 use Rattle.kc_parts.proofs.SlotMoves.{slot-within}
@@ -37,14 +37,3 @@ split_fits before test rest taken split = record {
       let both = some-split ends_part (test resource.Free) before.free rest.free taken.free (λ x y same. cc) (split.taken_is resource.Free) (split.rest_is resource.Free) ends e in
       both.1;
 }
-
-pub split_joined : (before : Held) (test : Resource → Bool) (rest taken after : Held) → IsSplit before test rest taken → IsJoin rest taken after → (r : Resource) → held_at after r ≡ held_at before r
-split_joined before test rest taken after split join r = join r ∙ rw (split.rest_is r, split.taken_is r) (by_test (test r))
-  where
-    by_test : (b : Bool) → either (cond b None (held_at before r)) (cond b (held_at before r) None) ≡ held_at before r
-    by_test true = refl
-    by_test false = either_none (held_at before r)
-      where
-        either_none : (o : Option HeldPart) → either o None ≡ o
-        either_none None = refl
-        either_none (Some x) = refl

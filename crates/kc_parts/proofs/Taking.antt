@@ -4,6 +4,7 @@ use Rattle.std.specs.Prelude.{Option, Some, None, IsSome}
 use Rattle.std.specs.Option.{option_map}
 use Rattle.std.proofs.lemmas.List.{length-map, length-replicate}
 use Rattle.std.proofs.lemmas.List.Folds.{list_any_more}
+use Rattle.std.proofs.lemmas.Bool.{ne_eqb}
 use Rattle.kc_types.specs.declared.link.Ends.{Ends}
 use Rattle.kc_types.specs.declared.resource.Resource.{Resource}
 use Rattle.kc_types.specs.declared.resource.Resource.TheVariants as resource
@@ -13,7 +14,7 @@ use Rattle.kc_parts.specs.Held.{Held, IsHeld, IsRising, page_at, vm_at}
 use Rattle.kc_parts.specs.Cuts.{HeldPart, held_at, is_wanted, AreHere, IsSplit, IsFull}
 use Rattle.kc_parts.specs.Cuts.HeldPart.{page_part, slot_part, ends_part}
 use Rattle.kc_parts.specs.Moves.{is_among, AreAmong, AreFramesOf, IsLifted, WithSlots, page_among, slot_of}
-use Rattle.kc_parts.proofs.Filled.{cells, cell_in, page_at-cells, cell-by_numbers, eqb-no}
+use Rattle.kc_parts.proofs.Filled.{cells, cell_in, page_at-cells, cell-by_numbers}
 use Rattle.kc_parts.proofs.Named.{among-at}
 use Rattle.kc_parts.proofs.Blanks.{blanks-filled}
 
@@ -21,7 +22,7 @@ pub not-before : (ns : List ℕ) (i n : ℕ) → i ≤ length ns → ((j : ℕ) 
 not-before ns zero n h low = refl
 not-before ns (suc i) n h low =
     let e : suc i ≡ i + 1 = omega arith in
-    rw (e, list_any_more (nat_eq n) ns i 0 (omega arith), not-before ns i n (omega arith) (λ j l. low j (omega (arith, l))), eqb-no n (get_or ns i 0) (λ is. omega (arith, is, low i (omega arith)))) refl
+    rw (e, list_any_more (nat_eq n) ns i 0 (omega arith), not-before ns i n (omega arith) (λ j l. low j (omega (arith, l))), ne_eqb n (get_or ns i 0) (λ is. omega (arith, is, low i (omega arith)))) refl
 
 -- the next page is still here
 pub still-here : (ns : List ℕ) (i : ℕ) (start before : Held) → IsRising ns → i < length ns → IsLifted (take i ns) start before → IsSome (page_at start (get_or ns i 0))
@@ -32,11 +33,6 @@ still-here ns i start before up h lifted here =
 page-here : (o : Option Page) → IsSome (option_map page_part o) → IsSome o
 page-here None h = h
 page-here (Some page) h = refl
-
-pub slot-here : (vms : List (Option VmSlot)) (v : ℕ) → IsSome (option_map slot_part (slot_of vms v)) → v < length vms
-slot-here [] v h = cc
-slot-here (vm ∷ vms) zero h = omega arith
-slot-here (vm ∷ vms) (suc v) h = let rest : v < length vms = slot-here vms v h in omega arith
 
 pub pages-here : (h : Held) (wanted : List Resource) (ns : List ℕ) → AreHere h wanted → AreAmong wanted ns → (i : ℕ) → i < length ns → IsSome (page_at h (get_or ns i 0))
 pages-here h wanted ns here among i low =

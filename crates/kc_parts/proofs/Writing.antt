@@ -2,13 +2,14 @@
 use Rattle.std.proofs.Common.{ℕ, suc, ◌≡◌, ◌<◌, Bool, true, false, cond, nat_eq, List, [], ◌∷◌, length, get_or, set, refl, sym, ◌∙◌, ap, arith, length-set}
 use Rattle.std.specs.Prelude.{Option, Some, None, IsSome, slice_get}
 use Rattle.std.proofs.lemmas.Option.{slice_get_past}
+use Rattle.std.proofs.lemmas.Bool.{eqb-true}
 use Rattle.kc_types.specs.declared.link.Ends.{Ends}
 use Rattle.kc_page.specs.declared.page.Page.{Page}
 use Rattle.kc_vms.specs.Slots.{VmSlot}
 use Rattle.kc_parts.specs.Held.{Held, IsHeld, IsRising, place_of, is_filled, page_at}
 use Rattle.kc_parts.specs.Moves.{IsWrite, page_among}
 use Rattle.kc_parts.proofs.Places.{place-found}
-use Rattle.kc_parts.proofs.Filled.{cells, cell_in, page_at-cells, cells-set, cell-set, length-cells, same-number}
+use Rattle.kc_parts.proofs.Filled.{cells, cell_in, page_at-cells, cells-set, cell-set, length-cells}
 
 pub place-number : (ns : List ℕ) (f : ℕ) → place_of ns f < length ns → get_or ns (place_of ns f) 0 ≡ f
 place-number [] f h = absurd (omega (arith, h))
@@ -16,7 +17,7 @@ place-number (n ∷ ns) f h = by_first (nat_eq n f) refl h (λ low. place-number
   where
     by_first : (b : Bool) → nat_eq n f ≡ b → cond b 0 (suc (place_of ns f)) < suc (length ns) → (place_of ns f < length ns → get_or ns (place_of ns f) 0 ≡ f)
         → get_or (n ∷ ns) (cond b 0 (suc (place_of ns f))) 0 ≡ f
-    by_first true e low rest = same-number n f e
+    by_first true e low rest = eqb-true n f e
     by_first false e low rest = rest (omega (arith, low))
 
 filled-place : (ns : List ℕ) (hs : List Bool) (f : ℕ) → is_filled ns hs f ≡ true → place_of ns f < length ns
@@ -61,10 +62,6 @@ filled-here ns hs ps f h = by_filled (is_filled ns hs f) refl h
     by_filled : (b : Bool) → is_filled ns hs f ≡ b → IsSome (slice_get ps (cond b (place_of ns f) (length ps))) → is_filled ns hs f ≡ true
     by_filled true e some = e
     by_filled false e some = let none : slice_get ps (length ps) ≡ None = slice_get_past ps (length ps) (omega arith) in let no_page = rw none at some in cc
-
--- a page that is here is that at its frame's place, whatever the pages become
-pub page-with : (h : Held) (pages : List Page) (f : ℕ) → IsSome (page_at h f) → page_at (record h { pages = pages }) f ≡ slice_get pages (place_of h.numbers f)
-page-with h pages f here = rw (filled-here h.numbers h.here h.pages f here) refl
 
 -- the page at a place is that of the frame there
 pub full-page : (h : Held) (i : ℕ) → IsRising h.numbers → i < length h.numbers → IsSome (page_at h (get_or h.numbers i 0)) → slice_get h.pages i ≡ page_at h (get_or h.numbers i 0)

@@ -1,5 +1,5 @@
 -- The law of waves, over the footprints of a trace.
-use Rattle.std.proofs.Common.{ℕ, ◌≡◌, ◌<◌, ◌≤◌, refl, arith, List, Bool, true, false, All, length}
+use Rattle.std.proofs.Common.{ℕ, ◌<◌, ◌≤◌, arith, List, All, length}
 use Rattle.kc_types.specs.declared.call.Call.{Call}
 use Rattle.kc_types.specs.declared.call.Call.TheVariants.{Take}
 use Rattle.kc_model.specs.Ranged.{IsRanged}
@@ -7,7 +7,7 @@ use Rattle.kc_model.specs.Resources.{need}
 use Rattle.kc_model.specs.Linked.{linked_part_at}
 use Rattle.kc_model.specs.Footprints.{call_at, state_at, part_at, footprint}
 use Rattle.kc_model.proofs.Agreeing.{agrees-next, keeps-rest}
-use Rattle.kc_model.proofs.Reaches.{need-within, footprint-keeps}
+use Rattle.kc_model.proofs.Reaches.{need-within, footprint-keeps, not-held}
 use Rattle.kc_model.proofs.LinksKept.{links-kept}
 use Rattle.kc_model.proofs.LawfulTraces.{IsRangedTrace, lawful-at, orderly-at, lists-all}
 use Rattle.waves.proofs.Laws.{commutes}
@@ -35,16 +35,12 @@ is_commuting m calls wave is ranged plan =
     commutes (footprint m calls) wave (part_at m calls) (length calls) plan
     (λ k r lt outside. footprint-keeps m calls is (orderly-at m calls is (each-ranged calls ranged)) k lt r outside)
 
-not-needed : (a b : Bool) → (a ≡ true → b ≡ true) → b ≡ false → a ≡ false
-not-needed true b le no_b = let is = le refl in cc
-not-needed false b le no_b = refl
-
 pub is_commuting_linked : IsCommutingLinked
 is_commuting_linked m calls wave is ranged plan =
     commutes (footprint m calls) wave (linked_part_at m calls) (length calls) plan
     (λ k r lt outside.
     links-kept (state_at m calls k) (call_at calls k) (orderly-at m calls is (each-ranged calls ranged) k lt) (lists-all (state_at m calls k) (lawful-at m calls is (each-ranged calls ranged) k (before k lt))) r
-    (not-needed (need (state_at m calls k) (call_at calls k) r) (footprint m calls k r) (has_needs m calls is ranged k lt r) outside))
+    (not-held (need (state_at m calls k) (call_at calls k) r) (footprint m calls k r) (has_needs m calls is ranged k lt r) outside))
   where
     before : (k : ℕ) → k < length calls → k ≤ length calls
     before k lt = omega (arith, lt)

@@ -1,7 +1,7 @@
 -- Why a slot of parts is not verified.
-use Rattle.std.proofs.Common.{ℕ, ◌≡◌, ◌<◌, ◌≤◌, ◌||◌, ◌==◌, Bool, true, false, not, nat_le, [], ◌∷◌, length, Option, Some, None, sym, ap, ◌∙◌, arith}
+use Rattle.std.proofs.Common.{ℕ, ◌≡◌, ◌<◌, ◌||◌, ◌==◌, Bool, not, [], ◌∷◌, length, Option, Some, None, sym, ap, ◌∙◌}
 use Rattle.std.specs.List.{list_any}
-use Rattle.std.proofs.lemmas.Grind.{common_steps}
+use Rattle.std.proofs.lemmas.Bool.{lt-leb}
 use Rattle.kc_types.specs.Configuration.{Configuration, slot_count}
 use Rattle.kc_types.specs.declared.call.Call.TheVariants.{Verify}
 use Rattle.kc_types.specs.declared.refusal.Refusal.{Refusal}
@@ -21,13 +21,10 @@ refusal_in phase lacks = first_of_these (when (is_empty phase) NoVm ∷ when (no
 abbrev pub lacks_pages : Slot → Bool
 lacks_pages slot = length slot.images == 0 || list_any is_short slot.images
 
-not_past : (n v : ℕ) → v < n → nat_le n v ≡ false
-not_past n v low = grind (arith, common_steps)
-
 refusal-at : (config : Configuration) (h : Held) (v : ℕ) (slot : Slot) → v < slot_count config → slot_at (state_of config h) v ≡ slot → refusal (state_of config h) (Verify v) ≡ refusal_in slot.phase (lacks_pages slot)
 refusal-at config h v slot low is =
     let there : Slot = slot_at (state_of config h) v in
-    ap (λ past. or_else (when past BadVm) (refusal_in there.phase (lacks_pages there))) (not_past (slot_count config) v low)
+    ap (λ past. or_else (when past BadVm) (refusal_in there.phase (lacks_pages there))) (lt-leb (slot_count config) v low)
     ∙ ap (λ (s : Slot). refusal_in s.phase (lacks_pages s)) is
 
 pub refusal-absent : (config : Configuration) (h : Held) (v : ℕ) → v < slot_count config → vm_at h v ≡ None → refusal (state_of config h) (Verify v) ≡ Some NoVm
@@ -38,12 +35,3 @@ pub refusal-here : (config : Configuration) (h : Held) (v : ℕ) (vm : VmSlot) (
 refusal-here config h v vm phase lacks low at in_phase lacking =
     ap (λ (p : Phase). refusal_in p lacks) in_phase ∙ ap (refusal_in vm.slot.phase) lacking
     ∙ sym (refusal-at config h v (slot_in (links_of h) (Some vm)) low (slot-seen config h v low ∙ ap (slot_in (links_of h)) at))
-
-pub refusal-past : (config : Configuration) (h : Held) (v : ℕ) → slot_count config ≤ v → refusal (state_of config h) (Verify v) ≡ Some BadVm
-refusal-past config h v past = ap (λ is_past. or_else (when is_past BadVm) (refusal_in there.phase (lacks_pages there))) (is_past (slot_count config) v past)
-  where
-    there : Slot
-    there = slot_at (state_of config h) v
-
-    is_past : (n k : ℕ) → n ≤ k → nat_le n k ≡ true
-    is_past n k le = grind (arith, common_steps)

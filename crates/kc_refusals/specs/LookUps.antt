@@ -5,7 +5,7 @@ use Rattle.kc_types.specs.declared.call.Call.TheVariants.{RegisterVm, RegisterVc
 use Rattle.kc_types.specs.declared.refusal.Refusal.{Refusal}
 use Rattle.kc_page.specs.declared.page.PageRecord.{PageRecord}
 use Rattle.kc_model.specs.State.{State, Frame, mapped_at}
-use Rattle.kc_model.specs.Refusals.{refusal, guest_frame}
+use Rattle.kc_model.specs.Refusals.{refusal, first_of_these, guest_frame}
 
 -- the record says of the frame what the state does
 pub record IsMetaOf (frame : Frame) (meta : PageRecord) : Type 0 where
@@ -23,5 +23,5 @@ looked_up m call = refusal m call
 
 -- the first refusal of a call on a mapped guest frame, whatever its last condition is, or the frame there, and then only the last condition counts
 abbrev pub AnswersMapped : State → ℕ → ℕ → ℕ → Result ℕ Refusal → Type 0
-AnswersMapped m v c g (Ok f) = (mapped_at m v g ≡ Some f) × ((last : Option Refusal) → guest_frame m v c g last ≡ last)
-AnswersMapped m v c g (Err refusal) = (last : Option Refusal) → guest_frame m v c g last ≡ Some refusal
+AnswersMapped m v c g (Ok f) = (mapped_at m v g ≡ Some f) × ((last : Option Refusal) → first_of_these (guest_frame m v c g last) ≡ last)
+AnswersMapped m v c g (Err refusal) = (last : Option Refusal) → first_of_these (guest_frame m v c g last) ≡ Some refusal

@@ -12,7 +12,7 @@ mod gated;
 mod stories;
 
 /// 8 frames, of which 0 is the core's, 1 to 4 are the host's and the rest is free.
-fn small(alloc: Global) -> Option<Config> {
+fn small_config(alloc: Global) -> Option<Config> {
     config(alloc, 8, 4)
 }
 
@@ -44,7 +44,7 @@ fn cause<R: Threads + Wait + Sync>(
     takes: u32,
 ) -> Option<LiveCause> {
     let programs = with_takes(alloc, actors, takes)?;
-    match run_live(rt, alloc, small(alloc)?, programs, &OpenGate) {
+    match run_live(rt, alloc, small_config(alloc)?, programs, &OpenGate) {
         Err(
             LiveStop {
                 cause,
@@ -93,7 +93,7 @@ fn call_often<R: Wait>(rt: &R, core: &LiveCore, seat: &mut Seat, count: u32) -> 
 #[test]
 fn a_seat_has_no_more_than_65_536_calls(rt: HostRuntime) -> Result<(), Fail> {
     let alloc = rt.alloc();
-    let core = LiveCore::new(alloc, small(alloc).ok_or("no configuration")?)?;
+    let core = LiveCore::new(alloc, small_config(alloc).ok_or("no configuration")?)?;
     let mut seat = Seat::new(alloc, Actor::Host);
     assert!(rt; call_often(&rt, &core, &mut seat, 65_536));
     let once_more = core.call(&rt, &mut seat, Call::HostFault { frame: 0 });
@@ -105,7 +105,7 @@ fn a_seat_has_no_more_than_65_536_calls(rt: HostRuntime) -> Result<(), Fail> {
 #[test]
 fn a_seat_makes_its_own_calls(rt: HostRuntime) -> Result<(), Fail> {
     let alloc = rt.alloc();
-    let core = LiveCore::new(alloc, small(alloc).ok_or("no configuration")?)?;
+    let core = LiveCore::new(alloc, small_config(alloc).ok_or("no configuration")?)?;
     let mut other = Seat::new(alloc, Actor::Vcpu(0, 0));
     let not_its_own = core.call(&rt, &mut other, Call::Take);
     assert_eq!(rt; not_its_own, Err(LiveFault::NotYours));

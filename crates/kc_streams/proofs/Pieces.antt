@@ -68,10 +68,6 @@ begun line front n xs piece old mid new given cut =
 abbrev reply_line : Reply → List ℕ
 reply_line reply = reply_line_of reply ++ 10 ∷ []
 
-pub given_reply : (n : ℕ) (replies : List Reply) (reply : Reply) (piece more : List ℕ) (old new : Option (List ℕ)) → n < length replies → reply ≡ get_or replies n reply → IsGiven (reply_text_of (take n replies)) piece old new → more ≡ piece ++ (reply_line_of reply ++ 10 ∷ [])
-    → IsGiven (reply_text_of (take (n + 1) replies)) more old new
-given_reply = given_more reply_line []
-
 pub replies_begun : (n : ℕ) (replies : List Reply) (piece : List ℕ) (old mid new : Option (List ℕ)) → IsGiven (reply_text_of (take n replies)) piece old mid → ((k : ℕ) × Appends mid new (take k piece)) → (m : ℕ) × Appends old new (take m (reply_text_of replies))
 replies_begun = begun reply_line []
 

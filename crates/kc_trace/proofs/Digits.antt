@@ -209,12 +209,6 @@ next_decoded valid word bytes i v lt within e before = record {
   each_byte = set_byte bytes i v within (omega (arith, value_is_small (get_or word (2 * i) 0), value_is_small (get_or word (2 * i + 1) 0), e)) before.each_byte;
 }
 
-pub all_decoded : (valid : Bool) (word bytes : List ℕ) (n : ℕ) → length word ≡ 2 * length bytes → length bytes ≤ n → IsDecoded valid word bytes n → (valid ≡ list_all is_lower_digit word) × (valid ≡ true → word ≡ encode_lower bytes)
-all_decoded valid word bytes n sizes past decoded =
-    let all_word : take (2 * n) word ≡ word = take_all (2 * n) word (omega arith) in
-    let all_bytes : take n bytes ≡ bytes = take_all n bytes past in
-    (rw all_word at decoded.valid_is, λ e. sym all_word ∙ decoded.spelled e ∙ ap encode_lower all_bytes)
-
 -- ---- what is read as data
 
 none_unless : (found : Option (List ℕ)) → ((bytes : List ℕ) → found ≡ Some bytes → ⊥) → found ≡ None

@@ -1,17 +1,19 @@
 -- What a slot keeps by itself, change by change.
-use Rattle.std.proofs.Common.{ℕ, zero, suc, ◌≡◌, ◌<◌, ◌≤◌, ◌+◌, false, not, None, List, [], ◌∷◌, ◌++◌, length, get_or, set, drop, replicate, refl, sym, ap, ◌∙◌, subst, arith, length-set, length-append}
-use Rattle.std.proofs.lemmas.Grind.{common_steps}
+use Rattle.std.proofs.Common.{ℕ, zero, suc, ◌≡◌, ◌<◌, ◌≤◌, ◌+◌, false, not, nat_le, None, List, [], ◌∷◌, ◌++◌, length, get_or, set, drop, replicate, refl, sym, ap, ◌∙◌, subst, arith, length-set, length-append}
 use Rattle.std.proofs.lemmas.List.{take_at}
 use Rattle.std.proofs.lemmas.List.Elements.{All-set, All-push}
+use Rattle.std.proofs.lemmas.Bool.{leb-false}
 use Rattle.std.specs.List.{list_any, refill}
 use Rattle.kc_types.specs.declared.slot.Phase.{Phase}
 use Rattle.kc_types.specs.declared.slot.Phase.TheVariants.{Empty}
+use Rattle.kc_types.specs.declared.refusal.Refusal.TheVariants.{NoImage, ImageFull}
 use Rattle.kc_model.specs.State.{Vcpu, Image, absent_vcpu, no_vcpus}
-use Rattle.kc_model.specs.Refusals.{first_of_these, pages_of, overlaps, is_short}
+use Rattle.kc_model.specs.Refusals.{first_of_these, pages_of, overlaps, is_short, when}
 use Rattle.kc_model.specs.Lawful.{IsLawfulVcpu, IsLawfulImage}
 use Rattle.kc_model.specs.Linked.{LinkedSlot}
-use Rattle.kc_model.proofs.Served.{or_else-none, when-none, nat_le-is_false}
+use Rattle.kc_model.proofs.Served.{when-none, none-of}
 use Rattle.kc_model.proofs.Slots.{lawful-empty_slot, at-no_vcpus, waits-not, each-place, apart-push, apart-set}
+use Rattle.kc_model.proofs.Answered.{is_short-is}
 use Rattle.kc_vms.specs.Slots.{IsSlot, image_of}
 use Rattle.kc_vms.specs.Refusals.{no_vm, not_booting, next_page_refusal}
 
@@ -95,18 +97,12 @@ slot-with_page phase vcpus images now i absent is same lt short =
 
 pub booting-used : (slot : LinkedSlot) → first_of_these (no_vm slot ∷ not_booting slot ∷ []) ≡ None → slot.phase ≡ Empty → ⊥
 booting-used slot served empty =
-    let used = when-none _ _ (or_else-none (no_vm slot) _ served).0 in
+    let used = when-none _ _ (none-of (no_vm slot ∷ not_booting slot ∷ []) served 0) in
     let no = rw empty at used in
     cc
-
-is_short-is : (image : Image) → not (is_short image) ≡ false → image.pages < pages_of image.len
-is_short-is image h = grind (arith, common_steps)
 
 -- an image that has a next page
 pub next_page-served : (slot : LinkedSlot) (i : ℕ) → next_page_refusal slot i ≡ None → (i < length slot.images) × ((image_of slot i).pages < pages_of (image_of slot i).len)
 next_page-served slot i served =
-    let used = or_else-none (no_vm slot) _ served in
-    let booting = or_else-none (not_booting slot) _ used.1 in
-    let image = or_else-none _ _ booting.1 in
-    let short = or_else-none _ _ image.1 in
-    (nat_le-is_false _ _ (when-none _ _ image.0), is_short-is (image_of slot i) (when-none _ _ short.0))
+    let none = none-of (no_vm slot ∷ not_booting slot ∷ when (nat_le (length slot.images) i) NoImage ∷ when (not (is_short (image_of slot i))) ImageFull ∷ []) served in
+    (leb-false _ _ (when-none _ _ (none 2)), is_short-is (image_of slot i) (when-none _ _ (none 3)))

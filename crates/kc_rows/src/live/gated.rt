@@ -1,6 +1,6 @@
 //! Live runs through gates, which hold calls and watch them.
 use crate::gates::{Count, Hold, Script};
-use crate::live::{programs, small, stories};
+use crate::live::{programs, small_config, stories};
 use crate::support::config;
 use kc_live::{History, Receipt, run_live, settle};
 use kc_replay::{Gate, OpenGate};
@@ -25,7 +25,7 @@ fn run_both<G: Gate + Sync, R: Threads + Wait + Sync>(
 ) -> Option<(History, Vec<Vec<Receipt>>)> {
     let actors = [(Actor::Vcpu(0, 0), READS), (Actor::Host, TAKES)];
     let programs = programs(alloc, &actors)?;
-    run_live(rt, alloc, small(alloc)?, programs, gate).ok()
+    run_live(rt, alloc, small_config(alloc)?, programs, gate).ok()
 }
 
 /// The same calls in the order 2, 0, 3, 1, 4.
@@ -86,7 +86,7 @@ fn a_program_may_make_no_calls(rt: HostRuntime) -> Result<(), Fail> {
     let alloc = rt.alloc();
     let actors = [(Actor::Vcpu(15, 7), ""), (Actor::Host, TAKES)];
     let programs = programs(alloc, &actors).ok_or("no programs")?;
-    let config = small(alloc).ok_or("no configuration")?;
+    let config = small_config(alloc).ok_or("no configuration")?;
     let Ok((history, rows)) = run_live(&rt, alloc, config, programs, &OpenGate) else {
         return Err(Fail::from("no answer"));
     };
@@ -113,7 +113,7 @@ fn a_vm_boots_and_touches_memory(rt: HostRuntime) -> Result<(), Fail> {
         gave_up: AtomicBool::new(false),
     };
     let programs = programs(alloc, &stories::STORY).ok_or("no programs")?;
-    let config = small(alloc).ok_or("no configuration")?;
+    let config = small_config(alloc).ok_or("no configuration")?;
     let Ok((history, rows)) = run_live(&rt, alloc, config, programs, &gate) else {
         return Err(Fail::from("no answer"));
     };
