@@ -29,13 +29,16 @@ filled-place (n ∷ ns) (h ∷ hs) f e = by_first (nat_eq n f) e (λ rest. fille
     by_first true e rest = omega arith
     by_first false e rest = let low : place_of ns f < length ns = rest e in omega arith
 
--- a page that is here has its place
-pub place-here : (ns : List ℕ) (hs : List Bool) (ps : List Page) (f : ℕ) → IsSome (page_among ns hs ps f) → place_of ns f < length ns
-place-here ns hs ps f h = by_filled (is_filled ns hs f) refl h
+-- a page that is here fills its place
+pub filled-here : (ns : List ℕ) (hs : List Bool) (ps : List Page) (f : ℕ) → IsSome (page_among ns hs ps f) → is_filled ns hs f ≡ true
+filled-here ns hs ps f h = by_filled (is_filled ns hs f) refl h
   where
-    by_filled : (b : Bool) → is_filled ns hs f ≡ b → IsSome (slice_get ps (cond b (place_of ns f) (length ps))) → place_of ns f < length ns
-    by_filled true e some = filled-place ns hs f e
+    by_filled : (b : Bool) → is_filled ns hs f ≡ b → IsSome (slice_get ps (cond b (place_of ns f) (length ps))) → is_filled ns hs f ≡ true
+    by_filled true e some = e
     by_filled false e some = let none : slice_get ps (length ps) ≡ None = slice_get_past ps (length ps) (omega arith) in let no_page = rw none at some in cc
+
+pub place-here : (ns : List ℕ) (hs : List Bool) (ps : List Page) (f : ℕ) → IsSome (page_among ns hs ps f) → place_of ns f < length ns
+place-here ns hs ps f here = filled-place ns hs f (filled-here ns hs ps f here)
 
 pub write-place : (ns : List ℕ) (hs : List Bool) (ps : List Page) (vms : List (Option VmSlot)) (free : Option Ends) (f at : ℕ) (b : Bool) (p : Page)
     → IsHeld ns hs ps → at ≡ place_of ns f → place_of ns f < length ns
@@ -55,13 +58,6 @@ write-place ns hs ps vms free f at b p held is low = record {
         ∙ cell-set ns (cells hs ps) (place_of ns f) g (cond b (Some p) None) held.rising (length-cells hs ps (held.here ∙ sym held.pages) ∙ held.here) low
         ∙ ap (λ n. cond (nat_eq g n) (cond b (Some p) None) (cell_in ns (cells hs ps) g)) (place-number ns f low)
         ∙ ap (cond (nat_eq g f) (cond b (Some p) None)) (sym (page_at-cells ns hs ps g held.here held.pages))
-
-pub filled-here : (ns : List ℕ) (hs : List Bool) (ps : List Page) (f : ℕ) → IsSome (page_among ns hs ps f) → is_filled ns hs f ≡ true
-filled-here ns hs ps f h = by_filled (is_filled ns hs f) refl h
-  where
-    by_filled : (b : Bool) → is_filled ns hs f ≡ b → IsSome (slice_get ps (cond b (place_of ns f) (length ps))) → is_filled ns hs f ≡ true
-    by_filled true e some = e
-    by_filled false e some = let none : slice_get ps (length ps) ≡ None = slice_get_past ps (length ps) (omega arith) in let no_page = rw none at some in cc
 
 -- the page at a place is that of the frame there
 pub full-page : (h : Held) (i : ℕ) → IsRising h.numbers → i < length h.numbers → IsSome (page_at h (get_or h.numbers i 0)) → slice_get h.pages i ≡ page_at h (get_or h.numbers i 0)
