@@ -60,6 +60,7 @@ pub fn host_fault(parts: &mut Parts, config: &Config, frame: u32) -> Reply
     Reply::Done
 }
 
+/// Bytes of a frame, `len` of them from `offset` on, in room made before.
 pub fn host_read(
     parts: &Parts,
     config: &Config,
@@ -77,6 +78,7 @@ pub fn host_read(
     Reply::Data(page.bytes.read(offset as usize, len as usize, room))
 }
 
+/// Writes bytes to a frame, from `offset` on.
 pub fn host_write(
     parts: &mut Parts,
     config: &Config,

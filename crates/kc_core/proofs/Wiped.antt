@@ -1,9 +1,10 @@
 -- Parts whose bytes are zeroed.
-use Rattle.std.proofs.Common.{ℕ, zero, suc, ◌≡◌, ◌<◌, cond, nat_lt, List, [], ◌∷◌, ◌++◌, length, map, take, drop, get_or, Option, Some, None, is_some, refl, sym, ap, ◌∙◌, arith}
+use Rattle.std.proofs.Common.{ℕ, ◌≡◌, ◌<◌, cond, nat_lt, List, [], ◌∷◌, ◌++◌, length, map, take, drop, get_or, Option, Some, None, is_some, refl, sym, ap, ◌∙◌, arith}
 use Rattle.std.specs.List.{range_with_len, slice_get}
 use Rattle.std.specs.Option.{option_map}
 use Rattle.std.proofs.lemmas.List.{length-map, take_at}
 use Rattle.std.proofs.lemmas.List.FromFn.{length-range_with_len, get_or-range_with_len}
+use Rattle.std.proofs.lemmas.Option.{slice_get-map}
 use mathlib.Core.Path.{fun_ext}
 use Rattle.kc_types.specs.Limits.{frame_limit}
 use Rattle.kc_types.specs.Configuration.{Configuration, slot_count}
@@ -23,11 +24,6 @@ use Rattle.kc_core.proofs.Shown.{pages-frames}
 -- all elements are written back
 pub refilled-same : (old new : List Page) → length new ≡ length old → take (length old) (new ++ drop (length new) old) ≡ new
 refilled-same old new same = take_at new (drop (length new) old) (length old) same
-
-slice_get-map : {X Y : Type 0} (f : X → Y) (xs : List X) (i : ℕ) → slice_get (map f xs) i ≡ option_map f (slice_get xs i)
-slice_get-map f [] i = refl
-slice_get-map f (x ∷ xs) zero = refl
-slice_get-map f (x ∷ xs) (suc i) = slice_get-map f xs i
 
 -- the pages of a core are its frames
 pub frames-whole : (config : Configuration) (h : Held) (pages : List Page) → IsCore config h → length pages ≡ length h.numbers → ((i : ℕ) → i < length h.numbers → slice_get pages i ≡ page_at h (get_or h.numbers i 0))

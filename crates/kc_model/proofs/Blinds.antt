@@ -3,6 +3,7 @@ use Rattle.std.proofs.Common.{ℕ, zero, suc, ◌≡◌, ◌<◌, ◌≤◌, ◌
 use Rattle.std.proofs.lemmas.Bool.{cases_eq, cases_Bool, and_parts}
 use Rattle.std.proofs.lemmas.List.Folds.{list_any_at}
 use Rattle.std.proofs.lemmas.Grind.{common_steps}
+use Rattle.std.proofs.lemmas.List.{map-set}
 use Rattle.std.specs.List.{list_any}
 use Rattle.kc_types.specs.declared.call.Call.{Call}
 use Rattle.kc_types.specs.declared.call.Call.TheVariants.{Take, Give, HostFault, HostRead, HostWrite, RegisterVm, RegisterVcpu, SetBoot, Remap, Verify, Map, GuestRead, GuestWrite, Grant, Revoke, Drop, Clear}
@@ -24,7 +25,7 @@ use Rattle.kc_model.proofs.GuestCalls.{guest_access-served, guest_frame-served, 
 use Rattle.kc_model.proofs.HandCalls.{remap-served, map-served}
 use Rattle.kc_model.proofs.Verifies.{HasLastPage, last_gfn, each_last_page, verify-served, backing-of, lawful-trimmed}
 use Rattle.kc_model.proofs.Clears.{after, slot-kept}
-use Rattle.kc_model.proofs.Unseen.{map-same, map-write, frame-hidden, frame-open, open-frame, frames-written, frames-kept, alike-by, hidden-idle, open-owner, open-host, open-free, open-other, open-shared, open-mapped}
+use Rattle.kc_model.proofs.Unseen.{map-same, frame-hidden, frame-open, open-frame, frames-written, frames-kept, alike-by, hidden-idle, open-owner, open-host, open-free, open-other, open-shared, open-mapped}
 use Rattle.kc_model.proofs.VerifyLocal.{pages-same}
 use Rattle.kc_model.proofs.Slots.{none-at}
 use Rattle.kc_types.specs.Configuration.{slot_count}
@@ -227,7 +228,7 @@ running-elsewhere m w slot v ne = ap (λ (x : Slot). is_active x.phase) (slot-el
 
 scrubbed-hidden : (s : Secret) (b : Bool) (frames : List Frame) (fs : List ℕ) → map (hidden_frame s b) (scrubbed frames fs) ≡ scrubbed (map (hidden_frame s b) frames) fs
 scrubbed-hidden s b frames [] = refl
-scrubbed-hidden s b frames (f ∷ fs) = scrubbed-hidden s b (set frames f (untouched Free)) fs ∙ ap (λ (xs : List Frame). scrubbed xs fs) (map-write (hidden_frame s b) frames f (untouched Free))
+scrubbed-hidden s b frames (f ∷ fs) = scrubbed-hidden s b (set frames f (untouched Free)) fs ∙ ap (λ (xs : List Frame). scrubbed xs fs) (map-set (hidden_frame s b) frames f (untouched Free))
 
 -- after the slot itself is cleared no frame is a secret
 cleared-open : (s : Secret) (m : State) (b : Bool) → IsLawful m → s.vm < slot_count m.config → map (hidden_frame s b) (scrubbed m.frames (slot_at m s.vm).frames) ≡ scrubbed m.frames (slot_at m s.vm).frames
@@ -311,7 +312,7 @@ trims-hidden s m w (image ∷ images) is w_in mapped ne =
     let unseen : hidden_frame s b (change (frame_at m f)) ≡ change (frame_at m f) = open-frame s b (change (frame_at m f)) (open-other s b (change (frame_at m f)) w owner ne) in
     let same : change (frame_at m f) ≡ change (frame_at (hidden s m) f) = ap change (sym (frame-open s m f (open-other s b (frame_at m f) w owner ne))) in
     let one : hidden s (trimmed m w image) ≡ trimmed (hidden s m) w image =
-    ap (λ (frames : List Frame). record m { frames = frames }) (map-write (hidden_frame s b) m.frames f (change (frame_at m f)) ∙ ap (λ (x : Frame). set (map (hidden_frame s b) m.frames) f x) (unseen ∙ same)) in
+    ap (λ (frames : List Frame). record m { frames = frames }) (map-set (hidden_frame s b) m.frames f (change (frame_at m f)) ∙ ap (λ (x : Frame). set (map (hidden_frame s b) m.frames) f x) (unseen ∙ same)) in
     trims-hidden s (trimmed m w image) w images (lawful-trimmed m w image is w_in last) w_in (λ k d lt. mapped (suc k) d (omega arith)) ne ∙ ap (λ (n : State). all_trimmed n w images) one
 
 phase-hidden : (s : Secret) (m : State) (w : ℕ) (phase : Phase) → (w ≡ s.vm → ⊥) → hidden s (with_phase m w phase) ≡ hidden s (with_phase (hidden s m) w phase)

@@ -5,7 +5,7 @@ use Rattle.std.proofs.lemmas.Grind.{common_steps}
 use Rattle.std.proofs.lemmas.List.Elements.{All-append, All-nil}
 use Rattle.std.proofs.lemmas.List.Folds.{list_any-append, list_any_at}
 use Rattle.std.proofs.lemmas.List.{get_or_past}
-use Rattle.std.proofs.Math.Bool.{or_assoc}
+use Rattle.std.proofs.Math.Bool.{or_assoc, or-false}
 use Rattle.std.specs.List.{list_any}
 use Rattle.std.specs.Ordering.{nat_cmp}
 use Rattle.std.specs.FinMap as map
@@ -125,10 +125,6 @@ apart-push (image ∷ images) new apart none =
 
 holds-none : (g : ℕ) (image : Image) → image.pages ≡ 0 → holds g image ≡ false
 holds-none g image none = grind (arith, common_steps)
-
-or-false : (b : Bool) → (b || (false || false)) ≡ b
-or-false true = refl
-or-false false = refl
 
 -- an image more, with no pages yet
 pub lawful-with_image : (config : Configuration) (slot : Slot) (image : Image) → IsLawfulSlot config slot → slot.phase ≡ Booting → length slot.images < 4 → IsLawfulImage image → image.pages ≡ 0 → list_any (overlaps image.base image.len) slot.images ≡ false → IsLawfulSlot config (record slot { images = slot.images ++ image ∷ [] })

@@ -1,7 +1,7 @@
 -- States without their secret bytes.
 use Rattle.std.proofs.Common.{ℕ, zero, suc, ◌≡◌, ◌<◌, inl, inr, Bool, true, false, cond, ◌&&◌, List, [], ◌∷◌, map, length, replicate, get_or, set, nat_eq, nat_le, nat_lt, eq-eqb, refl, sym, ap, ◌∙◌, arith, Some}
 use Rattle.std.proofs.lemmas.Bool.{cases_eq, cases_Bool, ne_eqb}
-use Rattle.std.proofs.lemmas.List.{length-replicate}
+use Rattle.std.proofs.lemmas.List.{length-replicate, map-set}
 use Rattle.kc_types.specs.declared.call.Call.{Call}
 use Rattle.kc_types.specs.declared.call.Call.TheVariants.{Take, Give, HostFault, HostRead, HostWrite, RegisterVm, RegisterVcpu, SetBoot, Remap, Verify, Map, GuestRead, GuestWrite, Grant, Revoke, Drop, Clear}
 use Rattle.kc_types.specs.declared.owner.Owner.{Owner}
@@ -18,11 +18,6 @@ at-map : {X : Type 0} (change : X → X) (xs : List X) (i : ℕ) (d : X) → cha
 at-map change [] i d same = sym same
 at-map change (x ∷ xs) zero d same = refl
 at-map change (x ∷ xs) (suc i) d same = at-map change xs i d same
-
-pub map-write : {X : Type 0} (change : X → X) (xs : List X) (i : ℕ) (x : X) → map change (set xs i x) ≡ set (map change xs) i (change x)
-map-write change [] i x = refl
-map-write change (y ∷ ys) zero x = refl
-map-write change (y ∷ ys) (suc i) x = ap (λ zs. change y ∷ zs) (map-write change ys i x)
 
 map-twice : {X : Type 0} (change : X → X) (xs : List X) → ((x : X) → change (change x) ≡ change x) → map change (map change xs) ≡ map change xs
 map-twice change [] same = refl
@@ -54,9 +49,9 @@ frame-open s m f e = frame-hidden s m f ∙ open-frame s (is_running m s.vm) (fr
 -- frames without the secret bytes, after a write
 pub frames-written : (s : Secret) (b : Bool) (frames : List Frame) (f : ℕ) (x y : Frame) → hidden_frame s b x ≡ hidden_frame s b y → map (hidden_frame s b) (set frames f x) ≡ map (hidden_frame s b) (set (map (hidden_frame s b) frames) f y)
 frames-written s b frames f x y same =
-    map-write (hidden_frame s b) frames f x
+    map-set (hidden_frame s b) frames f x
     ∙ ap (λ z. set (map (hidden_frame s b) frames) f z) same
-    ∙ sym (map-write (hidden_frame s b) (map (hidden_frame s b) frames) f y ∙ ap (λ zs. set zs f (hidden_frame s b y)) (map-twice (hidden_frame s b) frames (hidden_frame-twice s b)))
+    ∙ sym (map-set (hidden_frame s b) (map (hidden_frame s b) frames) f y ∙ ap (λ zs. set zs f (hidden_frame s b y)) (map-twice (hidden_frame s b) frames (hidden_frame-twice s b)))
 
 pub frames-kept : (s : Secret) (b : Bool) (frames : List Frame) → map (hidden_frame s b) frames ≡ map (hidden_frame s b) (map (hidden_frame s b) frames)
 frames-kept s b frames = sym (map-twice (hidden_frame s b) frames (hidden_frame-twice s b))

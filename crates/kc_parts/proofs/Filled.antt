@@ -3,7 +3,7 @@ use Rattle.std.proofs.Common.{ℕ, zero, suc, ◌≡◌, ◌≢◌, ◌<◌, Boo
 use Rattle.std.specs.Prelude.{Option, Some, None, slice_get}
 use Rattle.std.proofs.lemmas.Bool.Decides.{nat_tests}
 use Rattle.std.proofs.lemmas.Option.{slice_get_past}
-use Rattle.std.proofs.lemmas.Bool.{ne_eqb, eqb-true}
+use Rattle.std.proofs.lemmas.Bool.{ne_eqb, eqb-true, cond-false}
 use Rattle.kc_page.specs.declared.page.Page.{Page}
 use Rattle.kc_parts.specs.Held.{IsRising, place_of, is_filled}
 use Rattle.kc_parts.specs.Moves.{is_among}
@@ -63,15 +63,12 @@ cells-append [] (q ∷ ps) b p e = absurd (omega (arith, e))
 cells-append (h ∷ hs) [] b p e = absurd (omega (arith, e))
 cells-append (h ∷ hs) (q ∷ ps) b p e = ap (λ cs. cond h (Some q) None ∷ cs) (cells-append hs ps b p (omega (arith, e)))
 
-cond-unless : {A : Type 0} → (b : Bool) (x y : A) → b ≡ false → cond b x y ≡ y
-cond-unless b x y e = rw e refl
-
 -- no place, no cell
 pub cell-no_place : (ns : List ℕ) (cs : List (Option Page)) (f : ℕ) → ((k : ℕ) → k < length ns → get_or ns k 0 ≢ f) → cell_in ns cs f ≡ None
 cell-no_place [] cs f none = refl
 cell-no_place (n ∷ ns) [] f none = refl
 cell-no_place (n ∷ ns) (c ∷ cs) f none =
-    cond-unless _ _ _ (ne_eqb f n (λ e. none 0 (omega arith) (sym e))) ∙ cell-no_place ns cs f (λ k h. none (suc k) (omega (arith, h)))
+    cond-false _ _ _ (ne_eqb f n (λ e. none 0 (omega arith) (sym e))) ∙ cell-no_place ns cs f (λ k h. none (suc k) (omega (arith, h)))
 
 -- after a write at a place
 pub cell-set : (ns : List ℕ) (cs : List (Option Page)) (i g : ℕ) (x : Option Page) → IsRising ns → length cs ≡ length ns → i < length ns
@@ -90,7 +87,7 @@ cell-set (n ∷ ns) (c ∷ cs) (suc i) g x up l h =
     (cell-set ns cs i g x (rising-rest n ns up) (omega (arith, l)) (omega (arith, h)))
   where
     set_later : (b d : Bool) (x c y z : Option Page) → (b ≡ true → d ≡ false) → z ≡ cond d x y → cond b c z ≡ cond d x (cond b c y)
-    set_later true d x c y z differ e = sym (cond-unless d x c (differ refl))
+    set_later true d x c y z differ e = sym (cond-false d x c (differ refl))
     set_later false d x c y z differ e = e
 
 -- cells by their numbers

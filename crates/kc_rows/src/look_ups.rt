@@ -1,6 +1,6 @@
 //! What the core shows of its state.
 
-use crate::support::after;
+use crate::support::{after, answers};
 use kc_core::KCore;
 use kc_types::{FrameNo, Owner};
 
@@ -58,6 +58,19 @@ fn owners_have_frames(rt: HostRuntime) {
         assert!(rt; has_frames(&core, Owner::Host, &[1, 3, 4, 5]));
         assert!(rt; has_frames(&core, Owner::Core, &[0]));
         assert_eq!(rt; core.pages().len(), 8);
+    }
+}
+
+#[test]
+fn a_core_made_of_its_parts_goes_on(rt: HostRuntime) {
+    let core = after(rt.alloc(), MOVES);
+    assert!(rt; core.is_some());
+    if let Some(core) = core {
+        let (config, parts) = core.into_parts();
+        let mut core = KCore::from_parts(rt.alloc(), config, parts);
+        assert!(rt; answers(rt.alloc(), &mut core, "take\n").is_some());
+        assert!(rt; has_frames(&core, Owner::Free, &[7, 2]));
+        assert!(rt; has_frames(&core, Owner::Host, &[1, 3, 4, 5, 6]));
     }
 }
 

@@ -18,6 +18,7 @@ pub struct Levels {
 }
 
 impl Levels {
+    /// Levels without leaves, and room for so many; `Memory` where a growth was refused.
     pub fn try_new(alloc: Global, leaves: u8) -> Result<Levels, Memory>
         requires { leaves ≤ 64 }
         ensures kept { IfOk result IsLevels }
@@ -55,6 +56,7 @@ impl Levels {
         Some(leaf)
     }
 
+    /// All leaves go back to the pool, and nothing is mapped.
     pub fn clear(&mut self)
         requires { IsLevels self.old }
         ensures kept { IsLevels self.new }
