@@ -1,6 +1,6 @@
 //! What the core shows of its state.
 
-use crate::support::{after, answers};
+use crate::support::{after, answers, has_frames};
 use kc_core::KCore;
 use kc_types::{FrameNo, Owner};
 
@@ -35,18 +35,6 @@ fn records_have_neighbours(rt: HostRuntime) {
         assert!(rt; has_neighbours(&core, 5, None, None));
         assert!(rt; !has_neighbours(&core, 8, None, None));
     }
-}
-
-/// Whether the owner's frames are these.
-fn has_frames(core: &KCore, owner: Owner, numbers: &[u32]) -> bool {
-    let Ok(frames) = core.frames_of(owner) else {
-        return false;
-    };
-    frames.len() == numbers.len()
-        && frames
-            .iter()
-            .zip(numbers)
-            .all(|(frame, number)| frame.number() == *number)
 }
 
 #[test]

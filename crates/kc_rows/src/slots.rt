@@ -1,22 +1,15 @@
 //! What the core shows of its slots, after traces.
-use crate::support::after;
+use crate::support::{after, has_frames};
 use kc_core::KCore;
 use kc_types::{FrameNo, Gfn, Owner, Phase, VmId};
 use std::alloc::Global;
 
 /// Whether these are the frames of the VM in slot 0.
-fn has_frames(core: &KCore, numbers: &[u32]) -> bool {
-    let Some(vm) = VmId::try_new(0) else {
-        return false;
-    };
-    let Ok(frames) = core.frames_of(Owner::Vm(vm)) else {
-        return false;
-    };
-    frames.len() == numbers.len()
-        && frames
-            .iter()
-            .zip(numbers)
-            .all(|(frame, number)| frame.number() == *number)
+fn vm_has_frames(core: &KCore, numbers: &[u32]) -> bool {
+    match VmId::try_new(0) {
+        Some(vm) => has_frames(core, Owner::Vm(vm), numbers),
+        None => false,
+    }
 }
 
 /// Whether the frame is the host's.
@@ -37,7 +30,7 @@ fn a_rejected_vm_is_dead(rt: HostRuntime) {
     assert!(rt; core.is_some());
     if let Some(core) = core {
         assert_eq!(rt; core.phase(0), Some(Phase::Dead));
-        assert!(rt; has_frames(&core, &[2, 1]));
+        assert!(rt; vm_has_frames(&core, &[2, 1]));
         assert_eq!(rt; core.lookup(0, 0), FrameNo::try_new(1));
         assert_eq!(rt; core.lookup(0, 1), FrameNo::try_new(2));
     }
@@ -56,7 +49,7 @@ fn after_drops(alloc: Global, drops: &str) -> Option<KCore> {
 /// Whether these are the VM's frames after some were given up, and root slot 0 still has its leaf.
 fn keeps(alloc: Global, drops: &str, numbers: &[u32]) -> bool {
     match after_drops(alloc, drops) {
-        Some(core) => { has_frames(&core, numbers) && core.leaves(0) == Some([0].as_slice()) },
+        Some(core) => { vm_has_frames(&core, numbers) && core.leaves(0) == Some([0].as_slice()) },
         None => false,
     }
 }
@@ -86,7 +79,7 @@ fn a_refused_page_stays_the_hosts(rt: HostRuntime) {
     assert!(rt; core.is_some());
     if let Some(core) = core {
         assert!(rt; is_host(&core, 2));
-        assert!(rt; has_frames(&core, &[1]));
+        assert!(rt; vm_has_frames(&core, &[1]));
         assert_eq!(rt; core.leaves(0), Some([0].as_slice()));
         assert_eq!(rt; core.phase(0), Some(Phase::Booting));
     }
@@ -103,7 +96,7 @@ fn a_refused_map_leaves_the_fault(rt: HostRuntime) {
         assert!(rt; is_host(&core, 2));
         assert_eq!(rt; core.fault(0, 0), Gfn::try_new(512));
         assert_eq!(rt; core.phase(0), Some(Phase::Active));
-        assert!(rt; has_frames(&core, &[1]));
+        assert!(rt; vm_has_frames(&core, &[1]));
     }
 }
 

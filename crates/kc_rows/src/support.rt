@@ -2,7 +2,7 @@
 use kc_cli::{Mem, TextFault, replay_text};
 use kc_core::KCore;
 use kc_trace::read_trace;
-use kc_types::{Call, Config, Reply};
+use kc_types::{Call, Config, Owner, Reply};
 use std::alloc::{AllocError, Global};
 use std::process::Abort;
 use std::test::Fail;
@@ -59,6 +59,18 @@ pub fn after(alloc: Global, lines: &str) -> Option<KCore> {
     let mut core = small(alloc)?;
     answers(alloc, &mut core, lines)?;
     Some(core)
+}
+
+/// Whether the owner's frames are these.
+pub fn has_frames(core: &KCore, owner: Owner, numbers: &[u32]) -> bool {
+    let Ok(frames) = core.frames_of(owner) else {
+        return false;
+    };
+    frames.len() == numbers.len()
+        && frames
+            .iter()
+            .zip(numbers)
+            .all(|(frame, number)| frame.number() == *number)
 }
 
 /// What the engine answers to a configuration and a trace, and what it wrote.

@@ -1,7 +1,9 @@
 //! The program: words, files and standard streams around the engines of `kc_cli`.
 #![tactic(auto)]
 
-use kc_cli::{ArgFault, Job, Mem, Std, TextFault, job_of, live_text, replay_text, tell};
+ghost use Rattle.std.specs.Prelude.{◌≡◌, false};
+
+use kc_cli::{ArgFault, Job, Mem, Source, Std, TextFault, job_of, live_text, replay_text, tell};
 use kc_replay::OpenGate;
 use std::env;
 use std::fs::File;
@@ -45,41 +47,41 @@ fn replay(rt: &HostRuntime, config: Option<&str>) -> u8 {
     }
 }
 
-/// Runs the trace on standard input live, writes the history onto standard output, and answers the exit status.
-fn live<R: Threads + Wait + Sync>(rt: &HostRuntime, threads: &R, config: Option<&str>) -> u8 {
-    let alloc = rt.alloc();
+/// Runs the trace on standard input live in a configuration, and writes the history onto standard output.
+fn run_live_in<C: Source, R: Threads + Wait + Sync>(
+    rt: &HostRuntime,
+    threads: &R,
+    config: &mut C,
+) -> Result<(), TextFault>
+    requires { C.failed config.old ≡ false }
+{
     let mut trace = Std::new(rt.stdin());
     let mut out = Std::new(rt.stdout());
+    live_text(
+        threads,
+        rt.alloc(),
+        config,
+        &mut trace,
+        &mut out,
+        1,
+        &OpenGate,
+    )
+}
+
+/// Runs the trace live, and answers the exit status.
+fn live<R: Threads + Wait + Sync>(rt: &HostRuntime, threads: &R, config: Option<&str>) -> u8 {
     let outcome = match config {
         Some(path) => {
             let Ok(file) = File::open(rt, path) else {
                 return fail(rt, TextFault::Read);
             };
-            let mut config = Std::new(file);
-            live_text(
-                threads,
-                alloc,
-                &mut config,
-                &mut trace,
-                &mut out,
-                1,
-                &OpenGate,
-            )
+            run_live_in(rt, threads, &mut Std::new(file))
         },
         None => {
-            let Ok(bytes) = Vec::from_slice(alloc, DEFAULT_CONFIG) else {
+            let Ok(bytes) = Vec::from_slice(rt.alloc(), DEFAULT_CONFIG) else {
                 return fail(rt, TextFault::Memory);
             };
-            let mut config = Mem::with_bytes(bytes);
-            live_text(
-                threads,
-                alloc,
-                &mut config,
-                &mut trace,
-                &mut out,
-                1,
-                &OpenGate,
-            )
+            run_live_in(rt, threads, &mut Mem::with_bytes(bytes))
         },
     };
     match outcome {
