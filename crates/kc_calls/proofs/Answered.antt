@@ -3,7 +3,7 @@ use Rattle.std.proofs.Common.{ℕ, ◌≡◌, ◌↔◌, ◌<◌, ◌≤◌, inl
 use Rattle.std.proofs.lemmas.Bool.{cases_lt}
 use Rattle.kc_types.specs.Configuration.{Configuration}
 use Rattle.kc_types.specs.declared.call.Call.{Call}
-use Rattle.kc_types.specs.declared.call.Call.TheVariants.{Take, Give, HostFault, HostRead, HostWrite, RegisterVm, RegisterVcpu, SetBoot, Remap, Verify, Map, GuestRead, GuestWrite, Grant, Revoke, Drop, Clear}
+use Rattle.kc_types.specs.declared.call.Call.TheVariants.{Take, Give, HostFault, HostRead, HostWrite, RegisterVm, RegisterVcpu, SetBoot, Remap, Verify, Map, GuestRead, GuestWrite, Grant, Revoke, GrantRange, RevokeRange, Drop, Clear}
 use Rattle.kc_types.specs.declared.refusal.Refusal.{Refusal}
 use Rattle.kc_types.specs.declared.reply.Reply.{Reply}
 use Rattle.kc_types.specs.declared.reply.Reply.TheVariants as reply
@@ -18,7 +18,7 @@ use Rattle.kc_parts.specs.States.{state_of, unlinked_slot, IsLinked}
 use Rattle.kc_parts.proofs.SlotChanges.{vm-same, state-vm, linked-vm}
 use Rattle.kc_refusals.specs.LookUps.{looked_up}
 use Rattle.kc_calls.specs.Applying.{IsAnswer}
-use Rattle.kc_calls.proofs.Frames.{room-vm}
+use Rattle.kc_calls.proofs.Frames.{room-same, room-vm}
 
 -- a call by its refusal
 next-by : (m : State) (call : Call) (why : Option Refusal) → refusal m call ≡ why → next m call ≡ unless_refused why m call
@@ -42,6 +42,8 @@ looked-refusal m (GuestRead a b d e f) why is = is
 looked-refusal m (GuestWrite a b d e f) why is = is
 looked-refusal m (Grant a b d) why is = is
 looked-refusal m (Revoke a b d) why is = is
+looked-refusal m (GrantRange a b d e) why is = is
+looked-refusal m (RevokeRange a b d e) why is = is
 looked-refusal m (Drop a b d) why is = is
 looked-refusal m (Clear a) why is = is
 
@@ -52,7 +54,7 @@ answer-refused config h call why linked is =
       reply = sym (ap (λ (o : Outcome). o.0) by);
       state = sym (ap (λ (o : Outcome). o.1) by);
       linked = linked;
-      room = record { numbers = refl; filled = refl; here = λ r. refl };
+      room = room-same h;
     }
 
 pub answer-looked_up : (config : Configuration) (h : Held) (call : Call) (why : Refusal) → IsLinked config h → looked_up (state_of config h) call ≡ Some why → IsAnswer config h h call (reply.Refused why)

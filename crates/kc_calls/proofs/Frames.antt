@@ -42,6 +42,9 @@ pub changed : (config : Configuration) (h : Held) (f : ℕ) (page new : Page) (c
     → state_of config (with_page h f new) ≡ with_frame (state_of config h) f (change (frame_at (state_of config h) f))
 changed config h f page new change low at same to = state-page config h f page new at same ∙ ap (with_frame (state_of config h) f) (to ∙ ap change (sym (frame-is config h f page low at)))
 
+pub room-same : (h : Held) → IsSameRoom h h
+room-same h = record { numbers = refl; filled = refl; here = λ r. refl }
+
 pub room-page : (h : Held) (f : ℕ) (page new : Page) → page_at h f ≡ Some page → IsSameRoom h (with_page h f new)
 room-page h f page new at = record {
   numbers = refl;

@@ -11,3 +11,4 @@ pub mod Imaged
 pub mod FirstFailing
 pub mod Drops
 pub mod Clears
+pub mod Sharing

@@ -8,9 +8,10 @@ ghost use Rattle.kc_calls.specs.Applying.{IsSameRoom, IsAble};
 
 use crate::clear::clear;
 use crate::drop::drop_page;
-use crate::guest::{grant, guest_read, guest_write, revoke};
+use crate::guest::{guest_read, guest_write};
 use crate::hand::{map, remap};
 use crate::host::{give, host_fault, host_read, host_write, take};
+use crate::shares::{grant, grant_range, revoke, revoke_range};
 use crate::slots::{register_vcpu, register_vm, set_boot};
 use crate::verify::verify;
 use kc_parts::Parts;
@@ -62,6 +63,18 @@ fn carry_out(parts: &mut Parts, config: &Config, call: &Call, room: Spare) -> Re
         } => guest_write(parts, config, *vm, *vcpu, *gfn, *offset, data),
         Call::Grant { vm, vcpu, gfn } => grant(parts, config, *vm, *vcpu, *gfn),
         Call::Revoke { vm, vcpu, gfn } => revoke(parts, config, *vm, *vcpu, *gfn),
+        Call::GrantRange {
+            vm,
+            vcpu,
+            gfn,
+            count,
+        } => grant_range(parts, config, *vm, *vcpu, *gfn, *count),
+        Call::RevokeRange {
+            vm,
+            vcpu,
+            gfn,
+            count,
+        } => revoke_range(parts, config, *vm, *vcpu, *gfn, *count),
         Call::Drop { vm, vcpu, gfn } => drop_page(parts, config, *vm, *vcpu, *gfn),
         Call::Clear { vm } => clear(parts, config, *vm),
     }

@@ -1,9 +1,9 @@
-//! The calls of a virtual processor: reading and writing its guest frames, granting and revoking access to them.
-ghost use Rattle.std.specs.Prelude.{◌≡◌, ◌<◌, ◌≤◌, ◌+◌, ◌-◌, ◌==◌, Some, None, is_some, true, false, if◌then◌else◌, length};
+//! The calls of a virtual processor that read and write its guest frames.
+ghost use Rattle.std.specs.Prelude.{◌≡◌, ◌<◌, ◌≤◌, ◌+◌, Some, None, is_some, true, length};
 ghost use Rattle.kc_types.specs.Configuration.{slot_count};
 ghost use Rattle.kc_types.specs.Limits.{page_size};
 ghost use Rattle.kc_types.specs.Room.{readable};
-ghost use Rattle.kc_types.specs.declared.call.Call.TheVariants.{GuestRead, GuestWrite, Grant, Revoke};
+ghost use Rattle.kc_types.specs.declared.call.Call.TheVariants.{GuestRead, GuestWrite};
 ghost use Rattle.kc_model.specs.State.{slot_at, vcpu_at};
 ghost use Rattle.kc_model.specs.Refusals.{refusal};
 ghost use Rattle.kc_model.specs.Effects.{effect, with_fault, written};
@@ -11,7 +11,6 @@ ghost use Rattle.kc_parts.specs.Held.{page_at, vm_at};
 ghost use Rattle.kc_parts.specs.States.{state_of, IsLinked};
 ghost use Rattle.kc_calls.specs.Applying.{IsAble, IsSameRoom};
 
-use kc_page::PageRecord;
 use kc_parts::Parts;
 use kc_refusals::mapped_at;
 use kc_types::{Config, Data, FrameNo, Gfn, Phase, Reply, Spare, VcpuId};
@@ -124,49 +123,4 @@ pub fn guest_write(
             Reply::Fault(gfn.number())
         },
     }
-}
-
-/// The host is granted access to a guest frame once more.
-pub fn grant(parts: &mut Parts, config: &Config, vm: u32, vcpu: u32, gfn: u32) -> Reply
-    requires served { refusal (state_of config.now parts.old) (Grant vm vcpu gfn) ≡ None }
-    requires able { IsAble config.now parts.old (Grant vm vcpu gfn) }
-    ensures reply { result ≡ (effect (state_of config.now parts.old) (Grant vm vcpu gfn)).0 }
-    ensures state { state_of config.now parts.new ≡ (effect (state_of config.now parts.old) (Grant vm vcpu gfn)).1 }
-    ensures linked { IsLinked config.now parts.new }
-    ensures room { IsSameRoom parts.old parts.new }
-{
-    let gfn = Gfn::try_new(gfn).unwrap();
-    let frame = mapped_at(parts, config, vm, gfn).unwrap();
-    let page = parts.frame_mut(frame).unwrap();
-    page.meta.share += 1;
-    Reply::Done
-}
-
-/// The record of a frame to which the host has one grant less, and which it no longer reaches where that was
-/// the last.
-fn revoked(meta: PageRecord) -> PageRecord
-    requires { 0 < meta.share }
-    ensures { result ≡ record meta { share = meta.share - 1; present = if meta.share == 1 then false else meta.present } }
-{
-    PageRecord {
-        share: meta.share - 1,
-        present: meta.share != 1 && meta.present,
-        ..meta
-    }
-}
-
-/// A grant of the host's to a guest frame is taken back.
-pub fn revoke(parts: &mut Parts, config: &Config, vm: u32, vcpu: u32, gfn: u32) -> Reply
-    requires served { refusal (state_of config.now parts.old) (Revoke vm vcpu gfn) ≡ None }
-    requires able { IsAble config.now parts.old (Revoke vm vcpu gfn) }
-    ensures reply { result ≡ (effect (state_of config.now parts.old) (Revoke vm vcpu gfn)).0 }
-    ensures state { state_of config.now parts.new ≡ (effect (state_of config.now parts.old) (Revoke vm vcpu gfn)).1 }
-    ensures linked { IsLinked config.now parts.new }
-    ensures room { IsSameRoom parts.old parts.new }
-{
-    let gfn = Gfn::try_new(gfn).unwrap();
-    let frame = mapped_at(parts, config, vm, gfn).unwrap();
-    let page = parts.frame_mut(frame).unwrap();
-    page.meta = revoked(page.meta);
-    Reply::Done
 }

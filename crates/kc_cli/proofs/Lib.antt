@@ -1,1 +1,2 @@
 pub mod Faulted
+pub mod Begun

@@ -9,6 +9,7 @@ use Rattle.std.proofs.lemmas.List.Elements.{filter-append}
 use Rattle.std.proofs.lemmas.List.FromFn.{map-range_with_len_more, length-map-range_with_len}
 use Rattle.std.proofs.lemmas.Option.{same_Some}
 use Rattle.kc_types.specs.Limits.{frame_limit}
+use Rattle.kc_model.proofs.Configurations.{few-frames}
 use Rattle.kc_types.specs.Configuration.{Configuration, slot_count}
 use Rattle.kc_types.specs.declared.link.Ends.{Ends}
 use Rattle.kc_types.specs.declared.link.Link.{Link}
@@ -53,7 +54,7 @@ module _ (config : Configuration) (h : Held) (is : IsCore config h) where
   frame-shown f page low at = frame-seen config h f low ∙ ap frame_in at
 
   link-here : (f : ℕ) (page : Page) → f < config.frames → page_at h f ≡ Some page → links_of h f ≡ Some (link_of page)
-  link-here f page low at = let few = is.lawful.config.few_frames in rw (lt-ltb f frame_limit (omega (arith, low, few)), at) refl
+  link-here f page low at = let few = few-frames config is.lawful.config in rw (lt-ltb f frame_limit (omega (arith, low, few)), at) refl
 
   -- the link of a frame that its owner's list holds
   link-listed : (f : ℕ) (page : Page) (ends : Ends) → f < config.frames → page_at h f ≡ Some page → IsList (links_of h) ends → 0 < times_in (listed (links_of h) ends) f → link_in (listed (links_of h) ends) f ≡ link_of page

@@ -3,6 +3,7 @@ use Rattle.std.proofs.Common.{ℕ, ◌≡◌, ◌<◌, ◌≤◌, ◌⊎◌, inl
 use Rattle.std.specs.List.{list_any, IsDistinct, AllByRecursion}
 use Rattle.std.proofs.lemmas.Bool.{cases_eq, ne_eqb}
 use Rattle.std.proofs.lemmas.Map.Steps.{length-le_from_distinct_below}
+use Rattle.kc_types.specs.Limits.{frame_limit}
 use Rattle.kc_model.specs.Lawful.{times_in}
 use Rattle.kc_model.proofs.Members.{times_in-append, IsOnce, once-rest}
 use Rattle.kc_types.specs.declared.link.Link.{Link}
@@ -93,8 +94,8 @@ any-inside (f ∷ fs) g any = elim (cases_eq g f) [
   | inr other ↦ rw (times-other f fs g other) (any-inside fs g (rw (ne_eqb g f other) at any))
 ]
 
-pub count-within : (m : Links) (ends : Ends) → ((f : ℕ) → IsSome (m f) → f < 8192) → IsList m ends → ends.count ≤ 8192
+pub count-within : (m : Links) (ends : Ends) → ((f : ℕ) → IsSome (m f) → f < frame_limit) → IsList m ends → ends.count ≤ frame_limit
 count-within m ends within list =
-    let short = length-le_from_distinct_below (listed m ends) 8192 (once-distinct (listed m ends) (chain-once m ends (listed m ends) list))
+    let short = length-le_from_distinct_below (listed m ends) frame_limit (once-distinct (listed m ends) (chain-once m ends (listed m ends) list))
     (λ g any. within g (inside-held m ends g list (any-inside (listed m ends) g any))) in
     rw list.count short

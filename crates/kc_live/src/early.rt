@@ -8,7 +8,7 @@ ghost use Rattle.kc_live.specs.Plans.{IsActor, HaveActors, MayJoin, IsFirstBad, 
 
 use crate::program::Program;
 use kc_history::MOST_CALLS;
-use kc_types::{Actor, Call, Config, VcpuId, VmId, actor_of};
+use kc_types::{Actor, Call, Config, VcpuId, actor_of};
 
 /// Whether none of the programs has this actor.
 fn is_free(programs: &[Program], actor: Actor) -> bool
@@ -23,13 +23,12 @@ fn is_free(programs: &[Program], actor: Actor) -> bool
 }
 
 /// Whether the actor is the host, or names a slot and a virtual processor that there can be.
-#[tactic(auto, unfolding(kc_types::specs::Configuration::slot_count))]
-fn is_actor(_config: &Config, actor: Actor) -> bool
-    ensures { IsTrue result ↔ IsActor _config.now actor }
+fn is_actor(config: &Config, actor: Actor) -> bool
+    ensures { IsTrue result ↔ IsActor config.now actor }
 {
     match actor {
         Actor::Host => true,
-        Actor::Vcpu(vm, vcpu) => VmId::try_new(vm).is_some() && VcpuId::try_new(vcpu).is_some(),
+        Actor::Vcpu(vm, vcpu) => config.vm(vm).is_some() && VcpuId::try_new(vcpu).is_some(),
     }
 }
 

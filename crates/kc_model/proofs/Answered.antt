@@ -49,7 +49,7 @@ is_host-is Core h = cc
 is_host-is Free h = cc
 is_host-is (Vm w) h = cc
 
-backing-is : (at : Option ℕ) → is_none at ≡ false → at ≡ Some (backing at)
+pub backing-is : (at : Option ℕ) → is_none at ≡ false → at ≡ Some (backing at)
 backing-is (Some f) h = refl
 backing-is None h = cc
 

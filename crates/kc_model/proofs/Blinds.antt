@@ -4,16 +4,16 @@ use Rattle.std.proofs.lemmas.Bool.{cases_eq, cases_Bool, and_parts}
 use Rattle.std.proofs.lemmas.List.Folds.{list_any_at}
 use Rattle.std.proofs.lemmas.Grind.{common_steps}
 use Rattle.std.proofs.lemmas.List.{map-set}
-use Rattle.std.specs.List.{list_any}
+use Rattle.std.specs.List.{list_any, range_with_len}
 use Rattle.kc_types.specs.declared.call.Call.{Call}
-use Rattle.kc_types.specs.declared.call.Call.TheVariants.{Take, Give, HostFault, HostRead, HostWrite, RegisterVm, RegisterVcpu, SetBoot, Remap, Verify, Map, GuestRead, GuestWrite, Grant, Revoke, Drop, Clear}
+use Rattle.kc_types.specs.declared.call.Call.TheVariants.{Take, Give, HostFault, HostRead, HostWrite, RegisterVm, RegisterVcpu, SetBoot, Remap, Verify, Map, GuestRead, GuestWrite, Grant, Revoke, GrantRange, RevokeRange, Drop, Clear}
 use Rattle.kc_types.specs.declared.owner.Owner.{Owner}
 use Rattle.kc_types.specs.declared.owner.Owner.TheVariants.{Core, Host, Free, Vm}
 use Rattle.kc_types.specs.declared.slot.Phase.{Phase}
 use Rattle.kc_types.specs.declared.slot.Phase.TheVariants.{Booting, Active, Dead}
 use Rattle.kc_model.specs.State.{State, Frame, Slot, Image, frame_at, slot_at, mapped_at, with_slot, untouched, empty_slot, zero_page, overwritten}
 use Rattle.kc_model.specs.Refusals.{refusal, is_active, backing, next_gfn, pending, pages_of, is_short, conditions}
-use Rattle.kc_model.specs.Effects.{effect, read, host_takes, hand, guest_read, guest_written, scrubbed, cleared, trimmed, all_trimmed, verified, first_failing, is_approved, image_bytes, bytes_at, with_phase}
+use Rattle.kc_model.specs.Effects.{effect, changed_each, frames_under, with_each, granted, revoked, read, host_takes, hand, guest_read, guest_written, scrubbed, cleared, trimmed, all_trimmed, verified, first_failing, is_approved, image_bytes, bytes_at, with_phase}
 use Rattle.kc_model.specs.Lawful.{IsLawful, same_owner, holds}
 use Rattle.kc_model.specs.Blind.{Secret, has_gfn, is_secret, hidden_frame, is_running, hidden, names_secret, hidden_call, reads_secret, grants_secret, IsPrivate}
 use Rattle.kc_model.proofs.Frames.{part-set}
@@ -25,7 +25,7 @@ use Rattle.kc_model.proofs.GuestCalls.{guest_access-served, guest_frame-served, 
 use Rattle.kc_model.proofs.HandCalls.{remap-served, map-served}
 use Rattle.kc_model.proofs.Verifies.{HasLastPage, last_gfn, each_last_page, verify-served, backing-of, lawful-trimmed}
 use Rattle.kc_model.proofs.Clears.{after, slot-kept}
-use Rattle.kc_model.proofs.Unseen.{map-same, frame-hidden, frame-open, open-frame, frames-written, frames-kept, alike-by, hidden-idle, open-owner, open-host, open-free, open-other, open-shared, open-mapped}
+use Rattle.kc_model.proofs.Unseen.{at-map, map-same, frame-hidden, frame-open, open-frame, frames-written, frames-kept, alike-by, hidden-idle, open-owner, open-host, open-free, open-other, open-shared, open-mapped}
 use Rattle.kc_model.proofs.VerifyLocal.{pages-same}
 use Rattle.kc_model.proofs.Slots.{none-at}
 use Rattle.kc_types.specs.Configuration.{slot_count}
@@ -190,26 +190,24 @@ blind-guest_write s m v c g off bytes is served =
       answer = λ _. writes-answer m (hidden s m) v c g off bytes _ (mapped_at m v g);
     }
 
-blind-grant : (s : Secret) (m : State) (v c g : ℕ) → IsLawful m → names_secret s v g ≡ false → refusal m (Grant v c g) ≡ None → IsBlind s m (Grant v c g)
-blind-grant s m v c g is other served =
-    let seen = guest_frame-served m v c g _ served in
-    let f = backing (mapped_at m v g) in
-    record {
-      state = alike-by s (effect m (Grant v c g)).1 (effect (hidden s m) (Grant v c g)).1 (is_running m s.vm) refl refl refl refl
-          (opened s m f (λ x. record x { share = x.share + 1 }) (open-mapped s m v g f is seen.0.call.vm seen.0.mapped other));
-      answer = λ _. refl;
-    }
+-- frames that are changed, whatever their bytes
+changed-hidden : (s : Secret) (b : Bool) (change : Frame → Frame) → ((x : Frame) → hidden_frame s b (change x) ≡ change (hidden_frame s b x)) → (frames : List Frame) (fs : List ℕ)
+    → map (hidden_frame s b) (changed_each change frames fs) ≡ changed_each change (map (hidden_frame s b) frames) fs
+changed-hidden s b change apart frames [] = refl
+changed-hidden s b change apart frames (f ∷ fs) =
+    let x = get_or frames f (untouched Core) in
+    changed-hidden s b change apart (set frames f (change x)) fs
+    ∙ ap (λ xs. changed_each change xs fs) (map-set (hidden_frame s b) frames f (change x))
+    ∙ ap (λ y. changed_each change (set (map (hidden_frame s b) frames) f y) fs) (apart x ∙ ap change (sym (at-map (hidden_frame s b) frames f (untouched Core) refl)))
 
-blind-revoke : (s : Secret) (m : State) (v c g : ℕ) → IsPrivate s m → refusal m (Revoke v c g) ≡ None → IsBlind s m (Revoke v c g)
-blind-revoke s m v c g private served =
-    let seen = guest_frame-served m v c g _ served in
-    let f = backing (mapped_at m v g) in
-    let some : 0 < (frame_at m f).share = positive _ (when-none _ _ seen.1) in
-    record {
-      state = alike-by s (effect m (Revoke v c g)).1 (effect (hidden s m) (Revoke v c g)).1 (is_running m s.vm) refl refl refl refl
-          (opened s m f (λ x. record x { share = x.share - 1; present = cond (nat_eq x.share 1) false x.present }) (open-shared s m f private some));
-      answer = λ _. refl;
-    }
+each-hidden : (s : Secret) (m : State) (v : ℕ) (gs : List ℕ) (change : Frame → Frame) → ((b : Bool) (x : Frame) → hidden_frame s b (change x) ≡ change (hidden_frame s b x)) → hidden s (with_each m v gs change) ≡ hidden s (with_each (hidden s m) v gs change)
+each-hidden s m v gs change apart =
+    let b = is_running m s.vm in
+    let fs = frames_under (slot_at m v).mapped gs in
+    alike-by s (with_each m v gs change) (with_each (hidden s m) v gs change) b refl refl refl refl
+    (changed-hidden s b change (apart b) m.frames fs
+    ∙ ap (λ xs. changed_each change xs fs) (frames-kept s b m.frames)
+    ∙ sym (changed-hidden s b change (apart b) (map (hidden_frame s b) m.frames) fs))
 
 blind-drop : (s : Secret) (m : State) (v c g : ℕ) → IsBlind s m (Drop v c g)
 blind-drop s m v c g =
@@ -371,7 +369,9 @@ blind-effect s m (Verify w) is private grants served = blind-verify s m w is ser
 blind-effect s m (Map w c f) is private grants served = blind-map s m w c f (map-served m w c f served).host
 blind-effect s m (GuestRead w c g off len) is private grants served = blind-guest_read s m w c g off len is served
 blind-effect s m (GuestWrite w c g off bytes) is private grants served = blind-guest_write s m w c g off bytes is served
-blind-effect s m (Grant w c g) is private grants served = blind-grant s m w c g is grants served
-blind-effect s m (Revoke w c g) is private grants served = blind-revoke s m w c g private served
+blind-effect s m (Grant w c g) is private grants served = record { state = each-hidden s m w (g ∷ []) granted (λ b x. refl); answer = λ _. refl }
+blind-effect s m (Revoke w c g) is private grants served = record { state = each-hidden s m w (g ∷ []) revoked (λ b x. refl); answer = λ _. refl }
+blind-effect s m (GrantRange w c g n) is private grants served = record { state = each-hidden s m w (range_with_len g n) granted (λ b x. refl); answer = λ _. refl }
+blind-effect s m (RevokeRange w c g n) is private grants served = record { state = each-hidden s m w (range_with_len g n) revoked (λ b x. refl); answer = λ _. refl }
 blind-effect s m (Drop w c g) is private grants served = blind-drop s m w c g
 blind-effect s m (Clear w) is private grants served = blind-clear s m w is served

@@ -2,6 +2,7 @@
 use Rattle.std.proofs.Common.{ℕ, ◌≡◌, Bool, true, false, List, [], ◌∷◌, map, refl}
 use Rattle.std.specs.List.{range_with_len}
 use Rattle.kc_types.specs.Configuration.{Configuration}
+use Rattle.kc_types.specs.declared.version.Version.TheVariants.{One}
 use Rattle.kc_types.specs.declared.call.Call.{Call}
 use Rattle.kc_types.specs.declared.call.Call.TheVariants.{Take, Give, HostFault, RegisterVm, Remap, GuestRead, Drop, Clear}
 use Rattle.kc_model.specs.Boot.{boot}
@@ -11,7 +12,7 @@ use Rattle.kc_types.specs.Configuration.{slot_count}
 
 -- frame 0 is the core's, 1 to 4 are the host's, 5 to 7 are free
 abbrev small : Configuration
-small = record { frames = 8; core = 1; host = 4; leaves = 1; approved = [] }
+small = record { version = One; frames = 8; core = 1; host = 4; leaves = 1; approved = [] }
 
 abbrev calls : List Call
 calls = RegisterVm 0 ∷ Remap 0 0 1 ∷ GuestRead 0 0 0 0 1 ∷ Clear 0 ∷ Take ∷ HostFault 1 ∷ HostFault 5 ∷ HostFault 2 ∷ []

@@ -2,7 +2,7 @@
 use Rattle.std.proofs.Common.{ℕ, zero, suc, ◌≡◌, ◌⊎◌, inl, inr, Bool, true, false, not, ◌&&◌, ◌||◌, Option, Some, None, nat_lt, nat_eq, eqb-true, List, [], ◌∷◌, ◌++◌, get_or, set, refl, sym, ap, subst, ◌∙◌}
 use Rattle.std.proofs.lemmas.Bool.{or_left, lt-ltb, and_from}
 use Rattle.kc_types.specs.declared.call.Call.{Call}
-use Rattle.kc_types.specs.declared.call.Call.TheVariants.{Take, Give, HostFault, HostRead, HostWrite, RegisterVm, RegisterVcpu, SetBoot, Remap, Verify, Map, GuestRead, GuestWrite, Grant, Revoke, Drop, Clear}
+use Rattle.kc_types.specs.declared.call.Call.TheVariants.{Take, Give, HostFault, HostRead, HostWrite, RegisterVm, RegisterVcpu, SetBoot, Remap, Verify, Map, GuestRead, GuestWrite, Grant, Revoke, GrantRange, RevokeRange, Drop, Clear}
 use Rattle.kc_types.specs.declared.refusal.Refusal.{Refusal}
 use Rattle.kc_types.specs.declared.owner.Owner.{Owner}
 use Rattle.kc_types.specs.declared.owner.Owner.TheVariants.{Core, Host, Free, Vm}
@@ -167,6 +167,8 @@ grows-effect m (GuestRead v c g off len) is served = grows-guest_read m v c g of
 grows-effect m (GuestWrite v c g off bytes) is served = grows-guest_written m v c g off bytes (mapped_at m v g)
 grows-effect m (Grant v c g) is served = kept m (Grant v c g) (effect m (Grant v c g)).1 refl (λ w. refl)
 grows-effect m (Revoke v c g) is served = kept m (Revoke v c g) (effect m (Revoke v c g)).1 refl (λ w. refl)
+grows-effect m (GrantRange v c g n) is served = kept m (GrantRange v c g n) (effect m (GrantRange v c g n)).1 refl (λ w. refl)
+grows-effect m (RevokeRange v c g n) is served = kept m (RevokeRange v c g n) (effect m (RevokeRange v c g n)).1 refl (λ w. refl)
 grows-effect m (Drop v c g) is served = grows-drop m v c g is served
 grows-effect m (Clear v) is served = grows-clear m v served
 

@@ -112,7 +112,7 @@ lawful-grant m v c g is served =
     let below : (frame_at m f).share < 100 = leb-false _ _ (when-none _ _ seen.1) in
     lawful-shared m v f ((frame_at m f).share + 1) (frame_at m f).present is seen.0.call.vm seen.0.call.active owner (omega arith) (λ h. omega arith)
 
-lowered : (share : ℕ) (present : Bool) → (IsTrue present → 0 < share) → IsTrue (cond (nat_eq share 1) false present) → 0 < share - 1
+pub lowered : (share : ℕ) (present : Bool) → (IsTrue present → 0 < share) → IsTrue (cond (nat_eq share 1) false present) → 0 < share - 1
 lowered share present was h = by-test (nat_eq share 1) refl h
   where
     by-test : (b : Bool) → nat_eq share 1 ≡ b → IsTrue (cond b false present) → 0 < share - 1

@@ -1,7 +1,7 @@
 -- Each call keeps a lawful state lawful.
 use Rattle.std.proofs.Common.{◌≡◌, Option, None, Some, refl}
 use Rattle.kc_types.specs.declared.call.Call.{Call}
-use Rattle.kc_types.specs.declared.call.Call.TheVariants.{Take, Give, HostFault, HostRead, HostWrite, RegisterVm, RegisterVcpu, SetBoot, Remap, Verify, Map, GuestRead, GuestWrite, Grant, Revoke, Drop, Clear}
+use Rattle.kc_types.specs.declared.call.Call.TheVariants.{Take, Give, HostFault, HostRead, HostWrite, RegisterVm, RegisterVcpu, SetBoot, Remap, Verify, Map, GuestRead, GuestWrite, Grant, Revoke, GrantRange, RevokeRange, Drop, Clear}
 use Rattle.kc_types.specs.declared.refusal.Refusal.{Refusal}
 use Rattle.kc_model.specs.State.{State}
 use Rattle.kc_model.specs.Ranged.{IsRanged}
@@ -15,6 +15,7 @@ use Rattle.kc_model.proofs.SlotCalls.{lawful-register_vm, lawful-register_vcpu, 
 use Rattle.kc_model.proofs.HandCalls.{lawful-remap, lawful-map}
 use Rattle.kc_model.proofs.Verifies.{lawful-verify}
 use Rattle.kc_model.proofs.GuestCalls.{lawful-guest_read, lawful-guest_write, lawful-grant, lawful-revoke}
+use Rattle.kc_model.proofs.RangeCalls.{lawful-grant_range, lawful-revoke_range}
 use Rattle.kc_model.proofs.Drops.{lawful-drop}
 use Rattle.kc_model.proofs.Clears.{lawful-clear}
 
@@ -34,6 +35,8 @@ lawful-effect m (GuestRead v c g off len) ranged is served = lawful-guest_read m
 lawful-effect m (GuestWrite v c g off bytes) ranged is served = lawful-guest_write m v c g off bytes ranged.4 is served
 lawful-effect m (Grant v c g) ranged is served = lawful-grant m v c g is served
 lawful-effect m (Revoke v c g) ranged is served = lawful-revoke m v c g is served
+lawful-effect m (GrantRange v c g n) ranged is served = lawful-grant_range m v c g n is served
+lawful-effect m (RevokeRange v c g n) ranged is served = lawful-revoke_range m v c g n is served
 lawful-effect m (Drop v c g) ranged is served = lawful-drop m v c g is served
 lawful-effect m (Clear v) ranged is served = lawful-clear m v is served
 

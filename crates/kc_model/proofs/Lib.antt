@@ -7,6 +7,7 @@ pub mod Measured
 pub mod Answered
 pub mod Slots
 pub mod Leaves
+pub mod Configurations
 pub mod AtBoot
 pub mod Changes
 pub mod Tables
@@ -14,7 +15,9 @@ pub mod Pages
 pub mod Moves
 pub mod HostCalls
 pub mod SlotCalls
+pub mod Each
 pub mod GuestCalls
+pub mod RangeCalls
 pub mod HandCalls
 pub mod Clears
 pub mod Drops
@@ -32,6 +35,7 @@ pub mod GuestLocals
 pub mod Members
 pub mod VerifyLocal
 pub mod Needs
+pub mod RangeLocals
 pub mod Locality
 pub mod Sizes
 pub mod Agreeing

@@ -1,7 +1,7 @@
 -- Every call depends on what it needs alone, and changes nothing else.
 use Rattle.std.proofs.Common.{ℕ, ◌≡◌, None, refl}
 use Rattle.kc_types.specs.declared.call.Call.{Call}
-use Rattle.kc_types.specs.declared.call.Call.TheVariants.{Take, Give, HostFault, HostRead, HostWrite, RegisterVm, RegisterVcpu, SetBoot, Remap, Verify, Map, GuestRead, GuestWrite, Grant, Revoke, Drop, Clear}
+use Rattle.kc_types.specs.declared.call.Call.TheVariants.{Take, Give, HostFault, HostRead, HostWrite, RegisterVm, RegisterVcpu, SetBoot, Remap, Verify, Map, GuestRead, GuestWrite, Grant, Revoke, GrantRange, RevokeRange, Drop, Clear}
 use Rattle.kc_model.specs.State.{State, slot_at}
 use Rattle.kc_model.specs.Refusals.{refusal}
 use Rattle.kc_model.specs.Resources.{Resources, need, IsWithin}
@@ -9,6 +9,7 @@ use Rattle.kc_model.specs.Local.{IsLocal, IsOrderly}
 use Rattle.kc_model.proofs.Members.{is_in-first, same_number}
 use Rattle.kc_model.proofs.Locals.{local-host_fault, local-host_read, local-host_write, local-give, local-take}
 use Rattle.kc_model.proofs.GuestLocals.{local-register_vm, local-register_vcpu, local-set_boot, local-guest_read, local-guest_write, local-grant, local-revoke, local-drop, local-map, local-remap, local-clear}
+use Rattle.kc_model.proofs.RangeLocals.{local-grant_range, local-revoke_range}
 use Rattle.kc_model.proofs.VerifyLocal.{HasImages, local-verify}
 use Rattle.kc_model.proofs.Needs.{has_named, has_slot, has_frames, has_mapped, has_free, has_images}
 use Rattle.kc_model.proofs.Verifies.{verify-served}
@@ -36,5 +37,7 @@ local here m rest (GuestRead v c g off len) is within = local-guest_read here m 
 local here m rest (GuestWrite v c g off bytes) is within = local-guest_write here m rest v c g off bytes (has_slot here m (GuestWrite v c g off bytes) is within v refl) (has_mapped here m (GuestWrite v c g off bytes) is within v g refl)
 local here m rest (Grant v c g) is within = local-grant here m rest v c g (has_slot here m (Grant v c g) is within v refl) (has_mapped here m (Grant v c g) is within v g refl)
 local here m rest (Revoke v c g) is within = local-revoke here m rest v c g (has_slot here m (Revoke v c g) is within v refl) (has_mapped here m (Revoke v c g) is within v g refl)
+local here m rest (GrantRange v c g n) is within = local-grant_range here m rest v c g n (has_slot here m (GrantRange v c g n) is within v refl) (λ h. has_mapped here m (GrantRange v c g n) is within v h refl)
+local here m rest (RevokeRange v c g n) is within = local-revoke_range here m rest v c g n (has_slot here m (RevokeRange v c g n) is within v refl) (λ h. has_mapped here m (RevokeRange v c g n) is within v h refl)
 local here m rest (Drop v c g) is within = local-drop here m rest v c g (has_slot here m (Drop v c g) is within v refl) (has_mapped here m (Drop v c g) is within v g refl) (within resource.Free refl)
 local here m rest (Clear v) is within = local-clear here m rest v (has_slot here m (Clear v) is within v refl) (has_frames here m (Clear v) is within v refl) (within resource.Free refl)

@@ -3,7 +3,7 @@ use Rattle.std.proofs.Common.{ℕ, ◌≡◌, ◌⊎◌, inl, inr, zero, suc, �
 use Rattle.std.proofs.lemmas.Bool.{cases_eq}
 use Rattle.std.specs.List.{list_all}
 use Rattle.std.specs.Option.{option_map}
-use Rattle.kc_types.specs.declared.call.Call.TheVariants.{Take, Give, HostFault, HostRead, HostWrite, RegisterVm, RegisterVcpu, SetBoot, Remap, Verify, Map, GuestRead, GuestWrite, Grant, Revoke, Drop, Clear}
+use Rattle.kc_types.specs.declared.call.Call.TheVariants.{Take, Give, HostFault, HostRead, HostWrite, RegisterVm, RegisterVcpu, SetBoot, Remap, Verify, Map, GuestRead, GuestWrite, Grant, Revoke, GrantRange, RevokeRange, Drop, Clear}
 use Rattle.kc_types.specs.declared.reply.Reply.{Reply}
 use Rattle.kc_types.specs.declared.reply.Reply.TheVariants as reply
 use Rattle.kc_types.specs.declared.refusal.Refusal.{Refusal}
@@ -96,6 +96,8 @@ effect-active v m (GuestRead w c g off len) active = inl (λ h. h, reads-active 
 effect-active v m (GuestWrite w c g off bytes) active = inl (λ h. h, writes-active v m w c g off bytes _ active)
 effect-active v m (Grant w c g) active = inl (λ h. h, active)
 effect-active v m (Revoke w c g) active = inl (λ h. h, active)
+effect-active v m (GrantRange w c g n) active = inl (λ h. h, active)
+effect-active v m (RevokeRange w c g n) active = inl (λ h. h, active)
 effect-active v m (Drop w c g) active = inl (λ h. h, kept-active m w _ v refl active)
 effect-active v m (Clear w) active = elim (written-active m w empty_slot v active) [
   | inl set ↦ absurd (let h = set.1 in cc)

@@ -1,9 +1,10 @@
 -- No call but a grant shares a secret frame.
-use Rattle.std.proofs.Common.{ℕ, ◌≡◌, ◌<◌, inl, inr, Bool, true, false, List, [], ◌∷◌, ◌++◌, length, refl, sym, ap, subst, ◌∙◌, arith, Option, None, Some, get_or-set_other}
+use Rattle.std.proofs.Common.{ℕ, zero, suc, ◌≡◌, ◌<◌, ◌≤◌, ◌+◌, inl, inr, Bool, true, false, List, [], ◌∷◌, ◌++◌, length, refl, sym, ap, subst, ◌∙◌, arith, Option, None, Some, get_or-set_other}
 use Rattle.std.proofs.lemmas.Bool.{cases_eq, cases_lt, and_parts}
 use Rattle.std.proofs.lemmas.Grind.{common_steps}
+use Rattle.std.specs.List.{range_with_len}
 use Rattle.kc_types.specs.declared.call.Call.{Call}
-use Rattle.kc_types.specs.declared.call.Call.TheVariants.{Take, Give, HostFault, HostRead, HostWrite, RegisterVm, RegisterVcpu, SetBoot, Remap, Verify, Map, GuestRead, GuestWrite, Grant, Revoke, Drop, Clear}
+use Rattle.kc_types.specs.declared.call.Call.TheVariants.{Take, Give, HostFault, HostRead, HostWrite, RegisterVm, RegisterVcpu, SetBoot, Remap, Verify, Map, GuestRead, GuestWrite, Grant, Revoke, GrantRange, RevokeRange, Drop, Clear}
 use Rattle.kc_types.specs.declared.refusal.Refusal.{Refusal}
 use Rattle.kc_types.specs.declared.owner.Owner.{Owner}
 use Rattle.kc_types.specs.declared.owner.Owner.TheVariants.{Core, Host, Free, Vm}
@@ -11,14 +12,17 @@ use Rattle.kc_types.specs.declared.slot.Phase.{Phase}
 use Rattle.kc_types.specs.declared.slot.Phase.TheVariants.{Booting, Active, Dead}
 use Rattle.kc_model.specs.State.{State, Frame, Slot, Image, frame_at, slot_at, mapped_at, with_frame, with_slot, untouched, zero_page}
 use Rattle.kc_model.specs.Refusals.{refusal, is_active, backing, next_gfn, pending, conditions}
-use Rattle.kc_model.specs.Effects.{effect, host_takes, hand, guest_read, guest_written, written, cleared, dropped, trimmed, all_trimmed, verified, first_failing, is_approved, with_phase}
+use Rattle.kc_model.specs.Effects.{effect, host_takes, hand, guest_read, guest_written, written, cleared, dropped, trimmed, all_trimmed, verified, first_failing, is_approved, with_phase, with_each, granted, revoked}
 use Rattle.kc_model.specs.Next.{next, unless_refused}
 use Rattle.kc_model.specs.Lawful.{IsLawful, same_owner, is_vm}
-use Rattle.kc_model.specs.Blind.{Secret, is_secret, is_running, grants_secret, IsPrivate}
+use Rattle.kc_model.specs.Blind.{Secret, is_secret, names_secret, is_running, grants_secret, IsPrivate}
 use Rattle.kc_model.proofs.Served.{none-of}
 use Rattle.kc_model.proofs.Answered.{vm-in, was-empty}
 use Rattle.kc_model.proofs.Measured.{set-here}
 use Rattle.kc_model.proofs.GuestCalls.{guest_frame-served}
+use Rattle.kc_model.proofs.RangeCalls.{guest_range-served}
+use Rattle.kc_model.proofs.Each.{none-in}
+use Rattle.kc_model.proofs.Frames.{part-set}
 use Rattle.kc_model.proofs.HandCalls.{remap-served, map-served}
 use Rattle.kc_model.proofs.Verifies.{verify-served, each_last_page, lawful-all_trimmed, slots-trimmed, exists-trimmed}
 use Rattle.kc_model.proofs.Clears.{after, slot-kept}
@@ -121,6 +125,21 @@ private-dropped s m v g f private =
     let x : Frame = record (frame_at m f) { owner = Free; gfn = None; present = false; bytes = zero_page } in
     private-slot s (record (with_frame m f x) { free = m.free ++ f ∷ [] }) v _ (private-write s m f x private (λ e. absurd cc)) refl
 
+-- grants of frames that are no secrets, and revokes of any
+private-grants : (s : Secret) (m : State) (v g n : ℕ) → IsPrivate s m → ((h : ℕ) → g ≤ h → h < g + n → is_secret s (is_running m s.vm) (frame_at m (backing (mapped_at m v h))) ≡ false) → IsPrivate s (with_each m v (range_with_len g n) granted)
+private-grants s m v g zero private shown = private
+private-grants s m v g (suc n) private shown =
+    let f = backing (mapped_at m v g) in
+    let first = shown g (omega arith) (omega arith) in
+    private-grants s (with_frame m f (granted (frame_at m f))) v (g + 1) n (private-write s m f (granted (frame_at m f)) private (λ e. absurd cc)) (λ h low high.
+    part-set (is_secret s (is_running m s.vm)) m.frames f (granted (frame_at m f)) (untouched Core) refl (backing (mapped_at m v h)) ∙ shown h (omega (arith, low)) (omega (arith, high)))
+
+private-revokes : (s : Secret) (m : State) (v : ℕ) (gs : List ℕ) → IsPrivate s m → IsPrivate s (with_each m v gs revoked)
+private-revokes s m v [] private = private
+private-revokes s m v (g ∷ gs) private =
+    let f = backing (mapped_at m v g) in
+    private-revokes s (with_frame m f (revoked (frame_at m f))) v gs (private-write s m f (revoked (frame_at m f)) private (λ e. let none = private f e in omega (arith, none)))
+
 private-effect : (s : Secret) (m : State) (call : Call) → IsLawful m → IsPrivate s m → grants_secret s call ≡ false → refusal m call ≡ None → IsPrivate s (effect m call).1
 private-effect s m Take is private grants served = private-takes s m m.free private
 private-effect s m (Give f) is private grants served = private-write s m f _ private (λ e. absurd cc)
@@ -147,6 +166,10 @@ private-effect s m (Grant w c g) is private grants served =
     let no_it = open-mapped s m w g (backing (mapped_at m w g)) is seen.0.call.vm seen.0.mapped grants in
     private-write s m (backing (mapped_at m w g)) _ private (λ e. absurd cc)
 private-effect s m (Revoke w c g) is private grants served = private-write s m (backing (mapped_at m w g)) _ private (λ e. let none = private (backing (mapped_at m w g)) e in omega (arith, none))
+private-effect s m (GrantRange w c g n) is private grants served =
+    let seen = guest_range-served m w c g n _ served in
+    private-grants s m w g n private (λ h low high. open-mapped s m w h (backing (mapped_at m w h)) is seen.0.call.vm (seen.0.mapped h low high) (none-in (names_secret s w) g n h grants low high))
+private-effect s m (RevokeRange w c g n) is private grants served = private-revokes s m w (range_with_len g n) private
 private-effect s m (Drop w c g) is private grants served = private-dropped s m w g (backing (mapped_at m w g)) private
 private-effect s m (Clear w) is private grants served = private-clear s m w is (vm-in m w (none-of (conditions m (Clear w)) served 0)) private
 

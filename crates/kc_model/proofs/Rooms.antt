@@ -5,7 +5,7 @@ use Rattle.std.proofs.lemmas.List.{length-take}
 use Rattle.std.proofs.lemmas.Grind.{common_steps}
 use Rattle.kc_types.specs.Room.{bytes_in, readable, room_of}
 use Rattle.kc_types.specs.declared.call.Call.{Call}
-use Rattle.kc_types.specs.declared.call.Call.TheVariants.{Take, Give, HostFault, HostRead, HostWrite, RegisterVm, RegisterVcpu, SetBoot, Remap, Verify, Map, GuestRead, GuestWrite, Grant, Revoke, Drop, Clear}
+use Rattle.kc_types.specs.declared.call.Call.TheVariants.{Take, Give, HostFault, HostRead, HostWrite, RegisterVm, RegisterVcpu, SetBoot, Remap, Verify, Map, GuestRead, GuestWrite, Grant, Revoke, GrantRange, RevokeRange, Drop, Clear}
 use Rattle.kc_types.specs.declared.refusal.Refusal.{Refusal}
 use Rattle.kc_model.specs.State.{State, frame_at, mapped_at, slot_at}
 use Rattle.kc_model.specs.Refusals.{refusal}
@@ -52,6 +52,8 @@ room-effect m (GuestRead v c g off len) h = let served = guest_access-served m v
 room-effect m (GuestWrite v c g off bytes) h = none-written m v c g off bytes (mapped_at m v g)
 room-effect m (Grant v c g) h = omega arith
 room-effect m (Revoke v c g) h = omega arith
+room-effect m (GrantRange v c g n) h = omega arith
+room-effect m (RevokeRange v c g n) h = omega arith
 room-effect m (Drop v c g) h = omega arith
 room-effect m (Clear v) h = omega arith
 

@@ -1,21 +1,22 @@
 -- Every trace from a lawful state is safe.
 use Rattle.std.proofs.Common.{ℕ, zero, suc, ◌≡◌, ◌<◌, inl, inr, false, length, List, [], ◌∷◌, nat_eq, refl, sym, ap, subst, ◌∙◌, Option, None, Some, arith, All}
 use Rattle.std.proofs.lemmas.Bool.{eqb-false}
-use Rattle.std.specs.List.{AllByRecursion}
+use Rattle.std.specs.List.{AllByRecursion, range_with_len}
 use Rattle.kc_types.specs.declared.call.Call.{Call}
-use Rattle.kc_types.specs.declared.call.Call.TheVariants.{Take, Give, HostFault, HostRead, HostWrite, RegisterVm, RegisterVcpu, SetBoot, Remap, Verify, Map, GuestRead, GuestWrite, Grant, Revoke, Drop, Clear}
+use Rattle.kc_types.specs.declared.call.Call.TheVariants.{Take, Give, HostFault, HostRead, HostWrite, RegisterVm, RegisterVcpu, SetBoot, Remap, Verify, Map, GuestRead, GuestWrite, Grant, Revoke, GrantRange, RevokeRange, Drop, Clear}
 use Rattle.kc_types.specs.declared.reply.Reply.{Reply}
 use Rattle.kc_types.specs.declared.reply.Reply.TheVariants as reply
 use Rattle.kc_types.specs.declared.refusal.Refusal.{Refusal}
 use Rattle.kc_types.specs.declared.owner.Owner.TheVariants.{Core, Host, Vm}
 use Rattle.kc_model.specs.State.{State, Frame, Image, frame_at, slot_at, mapped_at, with_frame, untouched}
 use Rattle.kc_model.specs.Refusals.{refusal, backing, conditions}
-use Rattle.kc_model.specs.Effects.{effect, host_takes, guest_read, guest_written, trimmed, all_trimmed, verified, first_failing, is_approved}
+use Rattle.kc_model.specs.Effects.{effect, host_takes, guest_read, guest_written, trimmed, all_trimmed, verified, first_failing, is_approved, frames_under, granted, revoked}
 use Rattle.kc_model.specs.Next.{next, unless_refused}
 use Rattle.kc_model.specs.Ranged.{IsRanged}
 use Rattle.kc_model.specs.Lawful.{IsLawful}
 use Rattle.kc_model.specs.Safety.{EachStep, KeepsOneOwner, ServesOpenFrames, KeepsPrivateBytes, IsOpen, IsSafe}
 use Rattle.kc_model.proofs.Frames.{part-set}
+use Rattle.kc_model.proofs.Each.{part-changed}
 use Rattle.kc_model.proofs.Served.{host_access-served, none-of}
 use Rattle.kc_model.proofs.Answered.{vm-in, was-host}
 use Rattle.kc_model.proofs.Lists.{changed-other}
@@ -118,6 +119,8 @@ keeps-effect m (GuestRead w c g off len) is served v f owned private others = re
 keeps-effect m (GuestWrite w c g off bytes) is served v f owned private others = writes-bytes m w c g off bytes (mapped_at m w g) v f is (guest_access-served m w c g off (length bytes) served).0.vm refl owned others
 keeps-effect m (Grant w c g) is served v f owned private others = part-set (λ (x : Frame). x.bytes) m.frames (backing (mapped_at m w g)) _ (untouched Core) refl f
 keeps-effect m (Revoke w c g) is served v f owned private others = part-set (λ (x : Frame). x.bytes) m.frames (backing (mapped_at m w g)) _ (untouched Core) refl f
+keeps-effect m (GrantRange w c g n) is served v f owned private others = part-changed (λ x. x.bytes) granted (λ x. refl) m.frames (frames_under (slot_at m w).mapped (range_with_len g n)) f
+keeps-effect m (RevokeRange w c g n) is served v f owned private others = part-changed (λ x. x.bytes) revoked (λ x. refl) m.frames (frames_under (slot_at m w).mapped (range_with_len g n)) f
 keeps-effect m (Drop w c g) is served v f owned private others =
     let seen = guest_frame-served m w c g _ served in
     let k = backing (mapped_at m w g) in

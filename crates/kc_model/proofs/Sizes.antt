@@ -1,14 +1,16 @@
 -- No call changes the configuration, or how many frames and slots there are.
 use Rattle.std.proofs.Common.{ℕ, ◌≡◌, Option, Some, None, List, [], ◌∷◌, length, set, refl, ◌∙◌, length-set}
+use Rattle.std.specs.List.{range_with_len}
 use Rattle.kc_types.specs.declared.call.Call.{Call}
-use Rattle.kc_types.specs.declared.call.Call.TheVariants.{Take, Give, HostFault, HostRead, HostWrite, RegisterVm, RegisterVcpu, SetBoot, Remap, Verify, Map, GuestRead, GuestWrite, Grant, Revoke, Drop, Clear}
+use Rattle.kc_types.specs.declared.call.Call.TheVariants.{Take, Give, HostFault, HostRead, HostWrite, RegisterVm, RegisterVcpu, SetBoot, Remap, Verify, Map, GuestRead, GuestWrite, Grant, Revoke, GrantRange, RevokeRange, Drop, Clear}
 use Rattle.kc_types.specs.declared.refusal.Refusal.{Refusal}
 use Rattle.kc_types.specs.declared.owner.Owner.TheVariants.{Free}
 use Rattle.kc_model.specs.State.{State, Frame, Slot, Image, mapped_at, slot_at, untouched}
 use Rattle.kc_model.specs.Refusals.{refusal}
-use Rattle.kc_model.specs.Effects.{effect, host_takes, guest_read, guest_written, verified, all_trimmed, trimmed, scrubbed, first_failing, is_approved}
+use Rattle.kc_model.specs.Effects.{effect, host_takes, guest_read, guest_written, verified, all_trimmed, trimmed, scrubbed, granted, revoked, frames_under, with_each, first_failing, is_approved}
 use Rattle.kc_model.specs.Next.{next, unless_refused}
 use Rattle.kc_model.specs.Local.{IsSameSize}
+use Rattle.kc_model.proofs.Each.{length-changed}
 
 pub sized-then : (a b c : State) → IsSameSize a b → IsSameSize b c → IsSameSize a c
 sized-then a b c ab bc = record { config = bc.config ∙ ab.config; frames = bc.frames ∙ ab.frames; slots = bc.slots ∙ ab.slots }
@@ -52,6 +54,9 @@ pub length-scrubbed : (frames : List Frame) (fs : List ℕ) → length (scrubbed
 length-scrubbed frames [] = refl
 length-scrubbed frames (f ∷ fs) = length-scrubbed (set frames f (untouched Free)) fs ∙ length-set frames f (untouched Free)
 
+sized-each : (m : State) (v : ℕ) (gs : List ℕ) (change : Frame → Frame) → IsSameSize m (with_each m v gs change)
+sized-each m v gs change = record { config = refl; frames = length-changed change m.frames (frames_under (slot_at m v).mapped gs); slots = refl }
+
 sized-effect : (m : State) (call : Call) → IsSameSize m (effect m call).1
 sized-effect m Take = sized-takes m m.free
 sized-effect m (Give f) = sized-one m f _ _
@@ -68,6 +73,8 @@ sized-effect m (GuestRead v c g off len) = sized-guest_read m v c g off len (map
 sized-effect m (GuestWrite v c g off bytes) = sized-guest_written m v c g off bytes (mapped_at m v g)
 sized-effect m (Grant v c g) = sized-one m _ _ m.free
 sized-effect m (Revoke v c g) = sized-one m _ _ m.free
+sized-effect m (GrantRange v c g n) = sized-each m v (range_with_len g n) granted
+sized-effect m (RevokeRange v c g n) = sized-each m v (range_with_len g n) revoked
 sized-effect m (Drop v c g) = sized-both m _ v _ _ _
 sized-effect m (Clear v) = record { config = refl; frames = length-scrubbed m.frames (slot_at m v).frames; slots = length-set m.slots v _ }
 

@@ -3,18 +3,19 @@ use Rattle.std.proofs.Common.{ℕ, zero, suc, ◌≡◌, ◌<◌, inl, inr, Bool
 use Rattle.std.proofs.lemmas.Bool.{cases_eq, cases_Bool, ne_eqb}
 use Rattle.std.proofs.lemmas.List.{length-replicate, map-set}
 use Rattle.kc_types.specs.declared.call.Call.{Call}
-use Rattle.kc_types.specs.declared.call.Call.TheVariants.{Take, Give, HostFault, HostRead, HostWrite, RegisterVm, RegisterVcpu, SetBoot, Remap, Verify, Map, GuestRead, GuestWrite, Grant, Revoke, Drop, Clear}
+use Rattle.kc_types.specs.declared.call.Call.TheVariants.{Take, Give, HostFault, HostRead, HostWrite, RegisterVm, RegisterVcpu, SetBoot, Remap, Verify, Map, GuestRead, GuestWrite, Grant, Revoke, GrantRange, RevokeRange, Drop, Clear}
 use Rattle.kc_types.specs.declared.owner.Owner.{Owner}
 use Rattle.kc_types.specs.declared.owner.Owner.TheVariants.{Core, Host, Free, Vm}
 use Rattle.kc_model.specs.State.{State, Frame, Slot, frame_at, mapped_at, untouched, empty_slot}
-use Rattle.kc_model.specs.Refusals.{refusal, is_active, backing, guest_frame, first_of_these, when}
+use Rattle.kc_model.specs.Refusals.{refusal, is_active, backing, share_at, any_from, guest_frame, guest_range, first_of_these, when}
 use Rattle.kc_types.specs.declared.refusal.Refusal.TheVariants.{ShareFull, NotShared, Shared}
 use Rattle.kc_model.specs.Lawful.{IsLawful, same_owner}
 use Rattle.kc_model.specs.Blind.{Secret, has_gfn, is_secret, hidden_frame, is_running, hidden, names_secret, hidden_call, IsPrivate}
+use Rattle.kc_model.proofs.Each.{any-same}
 use Rattle.kc_types.specs.Configuration.{slot_count}
 
 -- lists that a function went over
-at-map : {X : Type 0} (change : X → X) (xs : List X) (i : ℕ) (d : X) → change d ≡ d → get_or (map change xs) i d ≡ change (get_or xs i d)
+pub at-map : {X : Type 0} (change : X → X) (xs : List X) (i : ℕ) (d : X) → change d ≡ d → get_or (map change xs) i d ≡ change (get_or xs i d)
 at-map change [] i d same = sym same
 at-map change (x ∷ xs) zero d same = refl
 at-map change (x ∷ xs) (suc i) d same = at-map change xs i d same
@@ -120,6 +121,10 @@ length-chosen : (b : Bool) (bytes : List ℕ) → length (cond b (replicate (len
 length-chosen true bytes = length-replicate (length bytes) 0
 length-chosen false bytes = refl
 
+-- a test of the shares of a range
+shares-hidden : (s : Secret) (m : State) (v g n : ℕ) (test : ℕ → Bool) → any_from g n (λ h. test (share_at (hidden s m) v h)) ≡ any_from g n (λ h. test (share_at m v h))
+shares-hidden s m v g n test = any-same _ _ g n (λ h low high. ap test (share-hidden s m (backing (mapped_at m v h))))
+
 pub refusal-hidden : (s : Secret) (m : State) (call : Call) → refusal (hidden s m) (hidden_call s call) ≡ refusal m call
 refusal-hidden s m Take = refl
 refusal-hidden s m (Give f) = rw (frame-hidden s m f) refl
@@ -136,5 +141,7 @@ refusal-hidden s m (GuestRead v c g off len) = refl
 refusal-hidden s m (GuestWrite v c g off bytes) = rw (length-chosen (names_secret s v g) bytes) refl
 refusal-hidden s m (Grant v c g) = ap (λ share. first_of_these (guest_frame m v c g (when (nat_le 100 share) ShareFull))) (share-hidden s m (backing (mapped_at m v g)))
 refusal-hidden s m (Revoke v c g) = ap (λ share. first_of_these (guest_frame m v c g (when (nat_eq share 0) NotShared))) (share-hidden s m (backing (mapped_at m v g)))
+refusal-hidden s m (GrantRange v c g n) = ap (λ full. first_of_these (guest_range m v c g n (when full ShareFull))) (shares-hidden s m v g n (nat_le 100))
+refusal-hidden s m (RevokeRange v c g n) = ap (λ none. first_of_these (guest_range m v c g n (when none NotShared))) (shares-hidden s m v g n (λ share. nat_eq share 0))
 refusal-hidden s m (Drop v c g) = ap (λ share. first_of_these (guest_frame m v c g (when (nat_lt 0 share) Shared))) (share-hidden s m (backing (mapped_at m v g)))
 refusal-hidden s m (Clear v) = refl

@@ -2,11 +2,11 @@
 use Rattle.std.specs.Prelude.{ℕ, ◌≡◌, ◌==◌, ◌&&◌, Bool, true, false, List, [], ◌∷◌, map, length, replicate, Option, Some, None, if◌then◌else◌}
 use Rattle.std.specs.List.{AllByRecursion}
 use Rattle.kc_types.specs.declared.call.Call.{Call}
-use Rattle.kc_types.specs.declared.call.Call.TheVariants.{GuestRead, GuestWrite, Grant}
+use Rattle.kc_types.specs.declared.call.Call.TheVariants.{GuestRead, GuestWrite, Grant, GrantRange}
 use Rattle.kc_types.specs.declared.reply.Reply.{Reply}
 use Rattle.kc_types.specs.declared.owner.Owner.TheVariants.{Vm}
 use Rattle.kc_model.specs.State.{State, Frame, frame_at, slot_at}
-use Rattle.kc_model.specs.Refusals.{is_active}
+use Rattle.kc_model.specs.Refusals.{is_active, any_from}
 use Rattle.kc_model.specs.Next.{replies_from, state_after}
 use Rattle.kc_model.specs.Ranged.{IsRanged}
 use Rattle.kc_model.specs.Lawful.{IsLawful, same_owner}
@@ -48,6 +48,7 @@ reads_secret s _ = false
 
 abbrev pub grants_secret : Secret → Call → Bool
 grants_secret s (Grant v c g) = names_secret s v g
+grants_secret s (GrantRange v c g n) = any_from g n (names_secret s v)
 grants_secret s _ = false
 
 -- no secret frame is shared with the host

@@ -1,14 +1,15 @@
 -- What each call that is not refused answers, and the state that it leaves.
-use Rattle.std.specs.Prelude.{ℕ, ◌+◌, ◌-◌, ◌/◌, ◌%◌, Bool, true, false, not, ◌==◌, List, [], ◌∷◌, ◌++◌, length, take, filter, replicate, slice_set, slice_range, if◌then◌else◌, Option, Some, None}
+use Rattle.std.specs.Prelude.{ℕ, ◌+◌, ◌-◌, ◌/◌, ◌%◌, Bool, true, false, not, ◌==◌, List, [], ◌∷◌, ◌++◌, length, take, filter, replicate, slice_set, slice_index_or, slice_range, if◌then◌else◌, Option, Some, None}
 use Rattle.std.specs.List.{list_any, flat_map, range_with_len}
 use Rattle.std.specs.Option.{option_map}
+use Rattle.std.specs.Ordering.{nat_cmp}
 use Rattle.std.specs.FinMap as map
 use Rattle.sha2.specs.Sha256.{sha256}
 use Rattle.kc_types.specs.declared.call.Call.{Call}
-use Rattle.kc_types.specs.declared.call.Call.TheVariants.{Take, Give, HostFault, HostRead, HostWrite, RegisterVm, RegisterVcpu, SetBoot, Remap, Verify, Map, GuestRead, GuestWrite, Grant, Revoke, Drop, Clear}
+use Rattle.kc_types.specs.declared.call.Call.TheVariants.{Take, Give, HostFault, HostRead, HostWrite, RegisterVm, RegisterVcpu, SetBoot, Remap, Verify, Map, GuestRead, GuestWrite, Grant, Revoke, GrantRange, RevokeRange, Drop, Clear}
 use Rattle.kc_types.specs.declared.reply.Reply.{Reply}
 use Rattle.kc_types.specs.declared.reply.Reply.TheVariants as reply
-use Rattle.kc_types.specs.declared.owner.Owner.TheVariants.{Host, Free, Vm}
+use Rattle.kc_types.specs.declared.owner.Owner.TheVariants.{Core, Host, Free, Vm}
 use Rattle.kc_types.specs.declared.slot.Phase.{Phase}
 use Rattle.kc_types.specs.declared.slot.Phase.TheVariants.{Booting, Active, Dead}
 use Rattle.kc_model.specs.State.{State, Frame, Image, frame_at, slot_at, vcpu_at, image_at, mapped_at, with_frame, with_slot, with_vcpu, overwritten, untouched, empty_slot, zero_page}
@@ -98,11 +99,27 @@ abbrev pub guest_written : State → ℕ → ℕ → ℕ → ℕ → List ℕ �
 guest_written m v c g off bytes (Some f) = (reply.Done, with_fault (written m f off bytes) v c None)
 guest_written m v c g off bytes None = (reply.Fault g, with_fault m v c (Some g))
 
-abbrev pub with_share : State → ℕ → ℕ → State
-with_share m f share = with_frame m f (record (frame_at m f) { share = share })
+-- a frame to which the host has one grant more
+abbrev pub granted : Frame → Frame
+granted frame = record frame { share = frame.share + 1 }
 
-abbrev pub revoked : State → ℕ → State
-revoked m f = with_frame m f (record (frame_at m f) { share = (frame_at m f).share - 1; present = if (frame_at m f).share == 1 then false else (frame_at m f).present })
+-- a frame to which the host has one grant less, and which it no longer reaches where that was the last
+abbrev pub revoked : Frame → Frame
+revoked frame = record frame { share = frame.share - 1; present = if frame.share == 1 then false else frame.present }
+
+-- the frames with each of these changed
+abbrev pub changed_each : (Frame → Frame) → List Frame → List ℕ → List Frame
+changed_each change frames [] = frames
+changed_each change frames (f ∷ fs) = changed_each change (slice_set frames f (change (slice_index_or frames f (untouched Core)))) fs
+
+-- the frames at these guest frames of a table
+abbrev pub frames_under : map.FinMap nat_cmp ℕ → List ℕ → List ℕ
+frames_under mapped [] = []
+frames_under mapped (g ∷ gs) = backing (map.get mapped g) ∷ frames_under mapped gs
+
+-- the state with each frame at these guest frames of a slot changed
+abbrev pub with_each : State → ℕ → List ℕ → (Frame → Frame) → State
+with_each m v gs change = record m { frames = changed_each change m.frames (frames_under (slot_at m v).mapped gs) }
 
 abbrev pub without : List ℕ → ℕ → List ℕ
 without frames f = filter (λ other. not (other == f)) frames
@@ -143,7 +160,9 @@ effect m (Verify v) = verified m v (first_failing (is_approved m v) (slot_at m v
 effect m (Map v c f) = (reply.Done, with_fault (hand m v (pending m v c) f) v c None)
 effect m (GuestRead v c g off len) = guest_read m v c g off len (mapped_at m v g)
 effect m (GuestWrite v c g off bytes) = guest_written m v c g off bytes (mapped_at m v g)
-effect m (Grant v c g) = let f = backing (mapped_at m v g) in (reply.Done, with_share m f ((frame_at m f).share + 1))
-effect m (Revoke v c g) = (reply.Done, revoked m (backing (mapped_at m v g)))
+effect m (Grant v c g) = (reply.Done, with_each m v (g ∷ []) granted)
+effect m (Revoke v c g) = (reply.Done, with_each m v (g ∷ []) revoked)
+effect m (GrantRange v c g n) = (reply.Done, with_each m v (range_with_len g n) granted)
+effect m (RevokeRange v c g n) = (reply.Done, with_each m v (range_with_len g n) revoked)
 effect m (Drop v c g) = (reply.Done, dropped m v g (backing (mapped_at m v g)))
 effect m (Clear v) = (reply.Done, cleared m v)

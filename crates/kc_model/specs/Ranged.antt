@@ -2,7 +2,7 @@
 use Rattle.std.specs.Prelude.{ℕ, ◌<◌}
 use Rattle.kc_types.specs.Bytes.{IsData}
 use Rattle.kc_types.specs.declared.call.Call.{Call}
-use Rattle.kc_types.specs.declared.call.Call.TheVariants.{Take, Give, HostFault, HostRead, HostWrite, RegisterVm, RegisterVcpu, SetBoot, Remap, Verify, Map, GuestRead, GuestWrite, Grant, Revoke, Drop, Clear}
+use Rattle.kc_types.specs.declared.call.Call.TheVariants.{Take, Give, HostFault, HostRead, HostWrite, RegisterVm, RegisterVcpu, SetBoot, Remap, Verify, Map, GuestRead, GuestWrite, Grant, Revoke, GrantRange, RevokeRange, Drop, Clear}
 
 abbrev pub IsWord : ℕ → Type 0
 IsWord n = n < 4294967296
@@ -24,5 +24,7 @@ IsRanged (GuestRead v c g off len) = IsWord v × IsWord c × IsWord g × IsWord 
 IsRanged (GuestWrite v c g off bytes) = IsWord v × IsWord c × IsWord g × IsWord off × IsData bytes
 IsRanged (Grant v c g) = IsWord v × IsWord c × IsWord g
 IsRanged (Revoke v c g) = IsWord v × IsWord c × IsWord g
+IsRanged (GrantRange v c g n) = IsWord v × IsWord c × IsWord g × IsWord n
+IsRanged (RevokeRange v c g n) = IsWord v × IsWord c × IsWord g × IsWord n
 IsRanged (Drop v c g) = IsWord v × IsWord c × IsWord g
 IsRanged (Clear v) = IsWord v

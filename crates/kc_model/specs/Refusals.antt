@@ -1,8 +1,8 @@
 -- Why a call is refused: the first condition of its row that holds.
 use Rattle.std.specs.Prelude.{ℕ, ◌+◌, ◌/◌, Bool, true, false, not, ◌&&◌, ◌||◌, ◌==◌, nat_lt, nat_le, List, [], ◌∷◌, length, if◌then◌else◌, Option, Some, None, is_some, is_none}
-use Rattle.std.specs.List.{list_any}
+use Rattle.std.specs.List.{list_any, range_with_len}
 use Rattle.kc_types.specs.declared.call.Call.{Call}
-use Rattle.kc_types.specs.declared.call.Call.TheVariants.{Take, Give, HostFault, HostRead, HostWrite, RegisterVm, RegisterVcpu, SetBoot, Remap, Verify, Map, GuestRead, GuestWrite, Grant, Revoke, Drop, Clear}
+use Rattle.kc_types.specs.declared.call.Call.TheVariants.{Take, Give, HostFault, HostRead, HostWrite, RegisterVm, RegisterVcpu, SetBoot, Remap, Verify, Map, GuestRead, GuestWrite, Grant, Revoke, GrantRange, RevokeRange, Drop, Clear}
 use Rattle.kc_types.specs.declared.refusal.Refusal.{Refusal}
 use Rattle.kc_types.specs.declared.refusal.Refusal.TheVariants.{BadVm, BadVcpu, BadFrame, BadGfn, BadRange, SlotUsed, NoVm, WrongPhase, VcpuUsed, NoVcpu, ImagesFull, Overlap, NoImage, ImageFull, ImageShort, NoFault, Mapped, NotMapped, NotHost, Protected, NotPresent, TablesFull, ShareFull, NotShared, Shared, NoFree}
 use Rattle.kc_types.specs.declared.owner.Owner.{Owner}
@@ -11,7 +11,7 @@ use Rattle.kc_types.specs.declared.slot.Phase.{Phase}
 use Rattle.kc_types.specs.declared.slot.Phase.TheVariants.{Empty, Booting, Active}
 use Rattle.kc_model.specs.State.{State, Image, frame_at, slot_at, vcpu_at, image_at, mapped_at}
 use Rattle.kc_types.specs.Configuration.{slot_count}
-use Rattle.kc_types.specs.Limits.{vcpu_limit, gfn_limit}
+use Rattle.kc_types.specs.Limits.{vcpu_limit, gfn_limit, range_limit}
 
 -- the refusal where the condition holds
 abbrev pub when : Bool → Refusal → Option Refusal
@@ -116,6 +116,19 @@ guest_access m v c g off len = bad_vm m v ∷ bad_vcpu c ∷ bad_gfn g ∷ bad_r
 abbrev pub guest_frame : State → ℕ → ℕ → ℕ → Option Refusal → List (Option Refusal)
 guest_frame m v c g last = bad_vm m v ∷ bad_vcpu c ∷ bad_gfn g ∷ no_vm m v ∷ not_active m v ∷ no_vcpu m v c ∷ not_mapped m v g ∷ last ∷ []
 
+-- whether one of `n` numbers from `g` on passes the test
+abbrev pub any_from : ℕ → ℕ → (ℕ → Bool) → Bool
+any_from g n test = list_any test (range_with_len g n)
+
+-- the same of a call on `n` mapped guest frames from `g` on
+abbrev pub guest_range : State → ℕ → ℕ → ℕ → ℕ → Option Refusal → List (Option Refusal)
+guest_range m v c g n last = bad_vm m v ∷ bad_vcpu c
+    ∷ when (nat_le gfn_limit g || nat_lt gfn_limit (g + n)) BadGfn
+    ∷ when (n == 0 || nat_lt range_limit n) BadRange
+    ∷ no_vm m v ∷ not_active m v ∷ no_vcpu m v c
+    ∷ when (any_from g n (λ h. is_none (mapped_at m v h))) NotMapped
+    ∷ last ∷ []
+
 -- what a call may be refused for, in the order in which it is asked
 abbrev pub conditions : State → Call → List (Option Refusal)
 conditions m Take = when (length m.free == 0) NoFree ∷ []
@@ -145,6 +158,8 @@ conditions m (GuestRead v c g off len) = guest_access m v c g off len
 conditions m (GuestWrite v c g off bytes) = guest_access m v c g off (length bytes)
 conditions m (Grant v c g) = guest_frame m v c g (when (nat_le 100 (share_at m v g)) ShareFull)
 conditions m (Revoke v c g) = guest_frame m v c g (when (share_at m v g == 0) NotShared)
+conditions m (GrantRange v c g n) = guest_range m v c g n (when (any_from g n (λ h. nat_le 100 (share_at m v h))) ShareFull)
+conditions m (RevokeRange v c g n) = guest_range m v c g n (when (any_from g n (λ h. share_at m v h == 0)) NotShared)
 conditions m (Drop v c g) = guest_frame m v c g (when (nat_lt 0 (share_at m v g)) Shared)
 conditions m (Clear v) = bad_vm m v ∷ no_vm m v ∷ []
 

@@ -1,7 +1,7 @@
 -- What a call may touch: the resources of a state, and the state made of some resources of one state and the others of another.
 use Rattle.std.specs.Prelude.{ℕ, suc, ◌≡◌, Bool, true, false, cond, ◌&&◌, ◌||◌, ◌==◌, nat_lt, List, [], ◌∷◌, drop, slice_index_or, Option, Some, None}
 use Rattle.kc_types.specs.declared.call.Call.{Call}
-use Rattle.kc_types.specs.declared.call.Call.TheVariants.{Take, Give, HostFault, HostRead, HostWrite, RegisterVm, RegisterVcpu, SetBoot, Remap, Verify, Map, GuestRead, GuestWrite, Grant, Revoke, Drop, Clear}
+use Rattle.kc_types.specs.declared.call.Call.TheVariants.{Take, Give, HostFault, HostRead, HostWrite, RegisterVm, RegisterVcpu, SetBoot, Remap, Verify, Map, GuestRead, GuestWrite, Grant, Revoke, GrantRange, RevokeRange, Drop, Clear}
 use Rattle.kc_types.specs.Configuration.{Configuration, slot_count}
 use Rattle.kc_types.specs.declared.owner.Owner.{Owner}
 use Rattle.kc_types.specs.declared.owner.Owner.TheVariants.{Core, Host, Free, Vm}
@@ -72,6 +72,8 @@ slot_of (GuestRead v c g off len) = Some v
 slot_of (GuestWrite v c g off bytes) = Some v
 slot_of (Grant v c g) = Some v
 slot_of (Revoke v c g) = Some v
+slot_of (GrantRange v c g n) = Some v
+slot_of (RevokeRange v c g n) = Some v
 slot_of (Drop v c g) = Some v
 slot_of (Clear v) = Some v
 

@@ -8,6 +8,7 @@ use Rattle.std.proofs.lemmas.List.{get_or_past, length-replicate}
 use Rattle.std.proofs.lemmas.List.FromFn.{length-map-range_with_len, get_or-map-range_with_len, get_or-range_with_len, length-range_with_len}
 use Rattle.std.proofs.lemmas.Option.{slice_get-get_or, same_Some}
 use Rattle.kc_types.specs.Limits.{frame_limit}
+use Rattle.kc_model.proofs.Configurations.{few-frames}
 use Rattle.kc_types.specs.Configuration.{Configuration, IsConfiguration, slot_count}
 use Rattle.kc_types.specs.declared.link.Ends.{Ends}
 use Rattle.kc_types.specs.declared.link.Link.{Link}
@@ -105,7 +106,7 @@ module _ (config : Configuration) (is : IsConfiguration config) where
   page-none f le = page-past booted config.frames f refl refl le
 
   link-boot : (f : ℕ) → f < config.frames → links_of booted f ≡ linking (boot_prev config f) (boot_next config f)
-  link-boot f lt = let few = is.few_frames in rw (lt-ltb f frame_limit (omega (arith, lt, few)), page-boot f lt) refl
+  link-boot f lt = let few = few-frames config is in rw (lt-ltb f frame_limit (omega (arith, lt, few)), page-boot f lt) refl
 
   count : ℕ
   count = config.frames - first_free config
@@ -272,7 +273,7 @@ module _ (config : Configuration) (is : IsConfiguration config) where
         let a = get_or-range_with_len 0 config.frames i 0 low in
         let b = get_or-range_with_len 0 config.frames j 0 high in
         omega (arith, less, a, b);
-    frames = λ i. let few = is.few_frames in elim (cases_lt i config.frames) [
+    frames = λ i. let few = few-frames config is in elim (cases_lt i config.frames) [
       | inl low ↦ let a = get_or-range_with_len 0 config.frames i 0 low in omega (arith, low, few, a)
       | inr past ↦ let count = length-range_with_len 0 config.frames in let a : get_or (range_with_len 0 config.frames) i 0 ≡ 0 = get_or_past (range_with_len 0 config.frames) i 0 (omega (arith, past, count)) in omega (arith, a)
     ];

@@ -1,11 +1,12 @@
 -- What is looked up in parts before a call is carried out.
-use Rattle.std.specs.Prelude.{ℕ, ◌≡◌, Option, None, Some, Result, Ok, Err}
+use Rattle.std.specs.Prelude.{ℕ, ◌≡◌, ◌+◌, ◌≤◌, false, is_none, Option, None, Some, Result, Ok, Err}
+use Rattle.kc_types.specs.Limits.{gfn_limit}
 use Rattle.kc_types.specs.declared.call.Call.{Call}
 use Rattle.kc_types.specs.declared.call.Call.TheVariants.{RegisterVm, RegisterVcpu, SetBoot}
 use Rattle.kc_types.specs.declared.refusal.Refusal.{Refusal}
 use Rattle.kc_page.specs.declared.page.PageRecord.{PageRecord}
 use Rattle.kc_model.specs.State.{State, Frame, mapped_at}
-use Rattle.kc_model.specs.Refusals.{refusal, first_of_these, guest_frame}
+use Rattle.kc_model.specs.Refusals.{refusal, first_of_these, guest_frame, guest_range, any_from}
 
 -- the record says of the frame what the state does
 pub record IsMetaOf (frame : Frame) (meta : PageRecord) : Type 0 where
@@ -25,3 +26,8 @@ looked_up m call = refusal m call
 abbrev pub AnswersMapped : State → ℕ → ℕ → ℕ → Result ℕ Refusal → Type 0
 AnswersMapped m v c g (Ok f) = (mapped_at m v g ≡ Some f) × ((last : Option Refusal) → first_of_these (guest_frame m v c g last) ≡ last)
 AnswersMapped m v c g (Err refusal) = (last : Option Refusal) → first_of_these (guest_frame m v c g last) ≡ Some refusal
+
+-- the same of a call on the guest frames of a range: its first refusal, or none, and then each of them is mapped and only the last condition counts
+abbrev pub AnswersRange : State → ℕ → ℕ → ℕ → ℕ → Option Refusal → Type 0
+AnswersRange m v c g n (Some refusal) = (last : Option Refusal) → first_of_these (guest_range m v c g n last) ≡ Some refusal
+AnswersRange m v c g n None = (g + n ≤ gfn_limit) × (any_from g n (λ h. is_none (mapped_at m v h)) ≡ false) × ((last : Option Refusal) → first_of_these (guest_range m v c g n last) ≡ last)

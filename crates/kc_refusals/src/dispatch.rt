@@ -6,6 +6,7 @@ ghost use Rattle.kc_refusals.specs.LookUps.{looked_up};
 use crate::guest::{drop_refusal, grant_refusal, guest_access_refusal, revoke_refusal};
 use crate::hand::{map_refusal, remap_refusal};
 use crate::host::{give_refusal, host_access_refusal, host_fault_refusal, take_refusal};
+use crate::ranges::{grant_range_refusal, revoke_range_refusal};
 use crate::slots::{clear_refusal, verify_refusal};
 use kc_parts::Parts;
 use kc_types::{Call, Config, Refusal};
@@ -56,6 +57,18 @@ pub fn refusal(parts: &Parts, config: &Config, call: &Call) -> Option<Refusal>
         ),
         Call::Grant { vm, vcpu, gfn } => grant_refusal(parts, config, *vm, *vcpu, *gfn),
         Call::Revoke { vm, vcpu, gfn } => revoke_refusal(parts, config, *vm, *vcpu, *gfn),
+        Call::GrantRange {
+            vm,
+            vcpu,
+            gfn,
+            count,
+        } => grant_range_refusal(parts, config, *vm, *vcpu, *gfn, *count),
+        Call::RevokeRange {
+            vm,
+            vcpu,
+            gfn,
+            count,
+        } => revoke_range_refusal(parts, config, *vm, *vcpu, *gfn, *count),
         Call::Drop { vm, vcpu, gfn } => drop_refusal(parts, config, *vm, *vcpu, *gfn),
         Call::Clear { vm } => clear_refusal(parts, config, *vm),
     }

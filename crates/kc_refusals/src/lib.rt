@@ -6,7 +6,9 @@ mod guest;
 mod hand;
 mod host;
 mod look_ups;
+mod ranges;
 mod slots;
 
 pub use dispatch::refusal;
 pub use look_ups::{mapped_at, pending_at};
+pub use ranges::mapped_under;

@@ -24,6 +24,8 @@ mod receipts;
 #[cfg(test)]
 mod refusals;
 #[cfg(test)]
+mod second_version;
+#[cfg(test)]
 mod slots;
 #[cfg(test)]
 mod support;

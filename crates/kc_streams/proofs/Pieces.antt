@@ -8,9 +8,10 @@ use Rattle.std.proofs.Math.Seq.{take-append-add, take-append-le}
 use Rattle.std.specs.Io.KnownBytes.{Appends}
 use Rattle.std.proofs.KnownBytes.{Appends-trans}
 use Rattle.kc_types.specs.declared.reply.Reply.{Reply}
+use Rattle.kc_types.specs.declared.version.Version.{Version}
 use Rattle.kc_types.specs.declared.call.Call.{Call}
 use Rattle.kc_trace.specs.ReplyText.{reply_line_of, reply_text_of}
-use Rattle.kc_trace.specs.Spelling.{header, line_of, trace_of}
+use Rattle.kc_trace.specs.Spelling.{header, line_of, text_of}
 use Rattle.std.specs.List.{flat_map}
 
 -- of this text the sink took a beginning, and what is left of it stands in the buffer
@@ -76,9 +77,9 @@ replies_begun = begun reply_line []
 abbrev call_line : Call → List ℕ
 call_line call = line_of call ++ 10 ∷ []
 
-pub given_call : (n : ℕ) (calls : List Call) (call : Call) (piece more : List ℕ) (old new : Option (List ℕ)) → n < length calls → call ≡ get_or calls n call → IsGiven (trace_of (take n calls)) piece old new → more ≡ piece ++ (line_of call ++ 10 ∷ [])
-    → IsGiven (trace_of (take (n + 1) calls)) more old new
-given_call = given_more call_line header
+pub given_call : (version : Version) (n : ℕ) (calls : List Call) (call : Call) (piece more : List ℕ) (old new : Option (List ℕ)) → n < length calls → call ≡ get_or calls n call → IsGiven (text_of version (take n calls)) piece old new → more ≡ piece ++ (line_of call ++ 10 ∷ [])
+    → IsGiven (text_of version (take (n + 1) calls)) more old new
+given_call version = given_more call_line (header version)
 
-pub calls_begun : (n : ℕ) (calls : List Call) (piece : List ℕ) (old mid new : Option (List ℕ)) → IsGiven (trace_of (take n calls)) piece old mid → ((k : ℕ) × Appends mid new (take k piece)) → (m : ℕ) × Appends old new (take m (trace_of calls))
-calls_begun = begun call_line header
+pub calls_begun : (version : Version) (n : ℕ) (calls : List Call) (piece : List ℕ) (old mid new : Option (List ℕ)) → IsGiven (text_of version (take n calls)) piece old mid → ((k : ℕ) × Appends mid new (take k piece)) → (m : ℕ) × Appends old new (take m (text_of version calls))
+calls_begun version = begun call_line (header version)

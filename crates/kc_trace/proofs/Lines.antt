@@ -9,7 +9,7 @@ use Rattle.hex.specs.Hex.{encode_lower, lower_digits}
 use Rattle.hex.proofs.HexLemmas.{length-encode_with}
 use Rattle.kc_types.specs.Bytes.{IsData}
 use Rattle.kc_types.specs.declared.call.Call.{Call}
-use Rattle.kc_types.specs.declared.call.Call.TheVariants.{Take, Give, HostFault, HostRead, HostWrite, RegisterVm, RegisterVcpu, SetBoot, Remap, Verify, Map, GuestRead, GuestWrite, Grant, Revoke, Drop, Clear}
+use Rattle.kc_types.specs.declared.call.Call.TheVariants.{Take, Give, HostFault, HostRead, HostWrite, RegisterVm, RegisterVcpu, SetBoot, Remap, Verify, Map, GuestRead, GuestWrite, Grant, Revoke, GrantRange, RevokeRange, Drop, Clear}
 use Rattle.kc_model.specs.Ranged.{IsWord, IsRanged}
 use Rattle.kc_trace.specs.Spelling.{words_of, line_of}
 use Rattle.kc_trace.specs.Reading.{with_three_numbers, four_words, call_of_words, call_of}
@@ -43,6 +43,8 @@ call_of_words-words_of (GuestWrite a b c d bytes) fits =
     rw (number_of-decimal a fits.0, number_of-decimal b fits.1, number_of-decimal c fits.2, number_of-decimal d fits.3, data_of-encode_lower bytes fits.4) refl
 call_of_words-words_of (Grant a b c) fits = three_read (codes "grant") a b c fits.0 fits.1 fits.2 refl
 call_of_words-words_of (Revoke a b c) fits = three_read (codes "revoke") a b c fits.0 fits.1 fits.2 refl
+call_of_words-words_of (GrantRange a b c d) fits = rw (number_of-decimal a fits.0, number_of-decimal b fits.1, number_of-decimal c fits.2, number_of-decimal d fits.3) refl
+call_of_words-words_of (RevokeRange a b c d) fits = rw (number_of-decimal a fits.0, number_of-decimal b fits.1, number_of-decimal c fits.2, number_of-decimal d fits.3) refl
 call_of_words-words_of (Drop a b c) fits = three_read (codes "drop") a b c fits.0 fits.1 fits.2 refl
 call_of_words-words_of (Clear a) fits = rw (number_of-decimal a fits) refl
 
@@ -77,6 +79,8 @@ words_are_words (GuestWrite a b c d bytes) fits =
     rw (decimal_is_word a fits.0, decimal_is_word b fits.1, decimal_is_word c fits.2, decimal_is_word d fits.3, encoded_is_word bytes fits.4) refl
 words_are_words (Grant a b c) fits = three_are_words a b c fits.0 fits.1 fits.2
 words_are_words (Revoke a b c) fits = three_are_words a b c fits.0 fits.1 fits.2
+words_are_words (GrantRange a b c d) fits = rw (decimal_is_word a fits.0) (three_are_words b c d fits.1 fits.2 fits.3)
+words_are_words (RevokeRange a b c d) fits = rw (decimal_is_word a fits.0) (three_are_words b c d fits.1 fits.2 fits.3)
 words_are_words (Drop a b c) fits = three_are_words a b c fits.0 fits.1 fits.2
 words_are_words (Clear a) fits = one_is_word a fits
 
@@ -104,6 +108,9 @@ fits_behind name words short few = omega (arith, length-join name words)
 fits_three : (name : List ℕ) (a b c : ℕ) → length name ≤ 7 → IsWord a → IsWord b → IsWord c → length (join_with_byte 32 (name ∷ decimal a ∷ decimal b ∷ decimal c ∷ [])) ≤ longest_line
 fits_three name a b c short fits_a fits_b fits_c = fits_behind name (decimal a ∷ decimal b ∷ decimal c ∷ []) short (omega (arith, three_fit a b c fits_a fits_b fits_c))
 
+fits_four : (name : List ℕ) (a b c d : ℕ) → length name ≤ 7 → IsWord a → IsWord b → IsWord c → IsWord d → length (join_with_byte 32 (name ∷ decimal a ∷ decimal b ∷ decimal c ∷ decimal d ∷ [])) ≤ longest_line
+fits_four name a b c d short fits_a fits_b fits_c fits_d = fits_behind name (decimal a ∷ decimal b ∷ decimal c ∷ decimal d ∷ []) short (omega (arith, two_fit a b fits_a fits_b, two_fit c d fits_c fits_d))
+
 pub line_fits : (call : Call) → IsRanged call → length (line_of call) ≤ longest_line
 line_fits Take fits = omega arith
 line_fits (Give a) fits = fits_behind (codes "give") (decimal a ∷ []) (omega arith) (omega (arith, one_fits a fits))
@@ -129,6 +136,8 @@ line_fits (GuestWrite a b c d bytes) fits =
     )
 line_fits (Grant a b c) fits = fits_three (codes "grant") a b c (omega arith) fits.0 fits.1 fits.2
 line_fits (Revoke a b c) fits = fits_three (codes "revoke") a b c (omega arith) fits.0 fits.1 fits.2
+line_fits (GrantRange a b c d) fits = fits_four (codes "grantr") a b c d (omega arith) fits.0 fits.1 fits.2 fits.3
+line_fits (RevokeRange a b c d) fits = fits_four (codes "revoker") a b c d (omega arith) fits.0 fits.1 fits.2 fits.3
 line_fits (Drop a b c) fits = fits_three (codes "drop") a b c (omega arith) fits.0 fits.1 fits.2
 line_fits (Clear a) fits = fits_behind (codes "clear") (decimal a ∷ []) (omega arith) (omega (arith, one_fits a fits))
 
@@ -153,6 +162,8 @@ some_words (GuestRead a b c d e) = omega arith
 some_words (GuestWrite a b c d bytes) = omega arith
 some_words (Grant a b c) = omega arith
 some_words (Revoke a b c) = omega arith
+some_words (GrantRange a b c d) = omega arith
+some_words (RevokeRange a b c d) = omega arith
 some_words (Drop a b c) = omega arith
 some_words (Clear a) = omega arith
 

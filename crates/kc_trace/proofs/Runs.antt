@@ -6,10 +6,11 @@ use Rattle.std.proofs.lemmas.Bool.{and_parts, and_from, not-true, eqb-true, case
 use Rattle.std.proofs.lemmas.List.{append-nil, take_all, drop_all}
 use Rattle.std.proofs.lemmas.List.Sums.{passes_at_first, split_at_first}
 use Rattle.kc_types.specs.Limits.{call_limit}
+use Rattle.kc_types.specs.declared.version.Version.{Version}
 use Rattle.kc_types.specs.declared.call.Call.{Call}
 use Rattle.kc_trace.specs.declared.fault.TraceFault.{TraceFault}
 use Rattle.kc_trace.specs.declared.fault.TraceFault.TheVariants.{NoHeader, BadLine, TooManyCalls}
-use Rattle.kc_trace.specs.Machine.{◌>>=◌, Progress, longest_line, longer, longer_each, call_in, after_line, with_front, step, feed}
+use Rattle.kc_trace.specs.Machine.{◌>>=◌, Progress, told, longest_line, longer, longer_each, call_in, after_line, with_front, step, feed}
 use Rattle.kc_trace.specs.Trace.{IsOneLine}
 use Rattle.kc_trace.proofs.Words.{chosen}
 
@@ -94,7 +95,7 @@ feed_run (byte ∷ run) p rest behind few h =
 pub feed_all : (p : Progress) (run : List ℕ) → p.header_left ≡ [] → p.calls < call_limit → IsOneLine run → feed p run ≡ with_front [] (feed (with_more p run) [])
 feed_all p run behind few h = ap (feed p) (sym (append-nil run)) ∙ feed_run run p [] behind few h ∙ sym (onto_none (feed (with_more p run) []))
 
-line_ends : (p : Progress) → p.header_left ≡ [] → p.calls < call_limit → step p 10 ≡ after_line p (call_in p.line)
+line_ends : (p : Progress) → p.header_left ≡ [] → p.calls < call_limit → step p 10 ≡ after_line p (call_in p.version p.line)
 unfolding step
 line_ends p behind few = rw (behind, lt-leb call_limit p.calls few) refl
 
@@ -103,17 +104,17 @@ after_longer p run None = refl
 after_longer p run (Some call) = refl
 
 -- the last bytes of a line and its newline
-feed_line : (p : Progress) (run rest : List ℕ) → p.header_left ≡ [] → p.calls < call_limit → IsOneLine run → feed p (run ++ 10 ∷ rest) ≡ (after_line p (call_in (longer_each p.line run)) >>= λ first. with_front first.1 (feed first.0 rest))
+feed_line : (p : Progress) (run rest : List ℕ) → p.header_left ≡ [] → p.calls < call_limit → IsOneLine run → feed p (run ++ 10 ∷ rest) ≡ (after_line p (call_in p.version (longer_each p.line run)) >>= λ first. with_front first.1 (feed first.0 rest))
 unfolding feed
 feed_line p run rest behind few h =
-    feed_run run p (10 ∷ rest) behind few h ∙ ap (λ (first : Result (Progress × List Call) TraceFault). first >>= λ x. with_front x.1 (feed x.0 rest)) (line_ends (with_more p run) behind few ∙ after_longer p run (call_in (longer_each p.line run)))
+    feed_run run p (10 ∷ rest) behind few h ∙ ap (λ (first : Result (Progress × List Call) TraceFault). first >>= λ x. with_front x.1 (feed x.0 rest)) (line_ends (with_more p run) behind few ∙ after_longer p run (call_in p.version (longer_each p.line run)))
 
 -- behind a line that is this call
-pub feed_call : (p q : Progress) (run rest : List ℕ) (call : Call) → p.header_left ≡ [] → p.calls < call_limit → IsOneLine run → Some call ≡ call_in (longer_each p.line run) → q ≡ record p { calls = p.calls + 1; line = Some [] } → feed p (run ++ 10 ∷ rest) ≡ with_front (call ∷ []) (feed q rest)
+pub feed_call : (p q : Progress) (run rest : List ℕ) (call : Call) → p.header_left ≡ [] → p.calls < call_limit → IsOneLine run → Some call ≡ call_in p.version (longer_each p.line run) → q ≡ record p { calls = p.calls + 1; line = Some [] } → feed p (run ++ 10 ∷ rest) ≡ with_front (call ∷ []) (feed q rest)
 feed_call p q run rest call behind few h is next = rw next (feed_line p run rest behind few h ∙ ap (λ (found : Option Call). after_line p found >>= λ first. with_front first.1 (feed first.0 rest)) (sym is))
 
 -- a line that is none
-pub feed_none : (p : Progress) (run rest : List ℕ) → p.header_left ≡ [] → p.calls < call_limit → IsOneLine run → None ≡ call_in (longer_each p.line run) → feed p (run ++ 10 ∷ rest) ≡ Err (BadLine (p.calls + 2))
+pub feed_none : (p : Progress) (run rest : List ℕ) → p.header_left ≡ [] → p.calls < call_limit → IsOneLine run → None ≡ call_in p.version (longer_each p.line run) → feed p (run ++ 10 ∷ rest) ≡ Err (BadLine (p.calls + 2))
 feed_none p run rest behind few h is = feed_line p run rest behind few h ∙ ap (λ (found : Option Call). after_line p found >>= λ first. with_front first.1 (feed first.0 rest)) (sym is)
 
 pub whole_fits : (line : List ℕ) → length line ≤ longest_line → longer_each (Some []) line ≡ Some line
@@ -131,32 +132,33 @@ nothing_behind xs = tail_is (length xs) xs ∙ drop_all (length xs) xs (omega ar
 
 -- ---- a byte of the header, and one too many
 
-abbrev pub progress_at : List ℕ → ℕ → Option (List ℕ) → Progress
-progress_at header_left calls line = record { header_left = header_left; calls = calls; line = line }
+abbrev pub progress_at : List ℕ → Version → ℕ → Option (List ℕ) → Progress
+progress_at header_left version calls line = record { header_left = header_left; version = version; calls = calls; line = line }
 
-pub next_of_header : (p : Progress) (bytes : List ℕ) → 1 ≤ length p.header_left → 0 < length bytes → get_or bytes 0 0 ≡ get_or p.header_left 0 0 → feed p bytes ≡ with_front [] (feed (progress_at (drop 1 p.header_left) p.calls p.line) (drop 1 bytes))
+pub next_of_header : (p : Progress) (bytes : List ℕ) (version : Version) → 1 ≤ length p.header_left → 0 < length bytes → Some version ≡ told (get_or p.header_left 0 0) (get_or bytes 0 0) p.version
+    → feed p bytes ≡ with_front [] (feed (progress_at (drop 1 p.header_left) version p.calls p.line) (drop 1 bytes))
 unfolding feed step
-next_of_header p bytes more some same = go p.header_left bytes more some same
+next_of_header p bytes version more some tells = go p.header_left bytes more some tells
   where
-    go : (left bytes : List ℕ) → 1 ≤ length left → 0 < length bytes → get_or bytes 0 0 ≡ get_or left 0 0 → feed (progress_at left p.calls p.line) bytes ≡ with_front [] (feed (progress_at (drop 1 left) p.calls p.line) (drop 1 bytes))
-    go [] bytes more some same = absurd (omega arith)
-    go (next ∷ left) [] more some same = absurd (omega arith)
-    go (next ∷ left) (byte ∷ bytes) more some same = rw (eq-eqb byte next same) refl
+    go : (left bytes : List ℕ) → 1 ≤ length left → 0 < length bytes → Some version ≡ told (get_or left 0 0) (get_or bytes 0 0) p.version → feed (progress_at left p.version p.calls p.line) bytes ≡ with_front [] (feed (progress_at (drop 1 left) version p.calls p.line) (drop 1 bytes))
+    go [] bytes more some tells = absurd (omega arith)
+    go (next ∷ left) [] more some tells = absurd (omega arith)
+    go (next ∷ left) (byte ∷ bytes) more some tells = rw (← tells) refl
 
-pub not_of_header : (p : Progress) (bytes : List ℕ) → 1 ≤ length p.header_left → 0 < length bytes → (get_or bytes 0 0 ≡ get_or p.header_left 0 0 → ⊥) → feed p bytes ≡ Err NoHeader
+pub not_of_header : (p : Progress) (bytes : List ℕ) → 1 ≤ length p.header_left → 0 < length bytes → None ≡ told (get_or p.header_left 0 0) (get_or bytes 0 0) p.version → feed p bytes ≡ Err NoHeader
 unfolding feed step
-not_of_header p bytes more some other = go p.header_left bytes more some other
+not_of_header p bytes more some tells = go p.header_left bytes more some tells
   where
-    go : (left bytes : List ℕ) → 1 ≤ length left → 0 < length bytes → (get_or bytes 0 0 ≡ get_or left 0 0 → ⊥) → feed (progress_at left p.calls p.line) bytes ≡ Err NoHeader
-    go [] bytes more some other = absurd (omega arith)
-    go (next ∷ left) [] more some other = absurd (omega arith)
-    go (next ∷ left) (byte ∷ bytes) more some other = rw (ne_eqb byte next other) refl
+    go : (left bytes : List ℕ) → 1 ≤ length left → 0 < length bytes → None ≡ told (get_or left 0 0) (get_or bytes 0 0) p.version → feed (progress_at left p.version p.calls p.line) bytes ≡ Err NoHeader
+    go [] bytes more some tells = absurd (omega arith)
+    go (next ∷ left) [] more some tells = absurd (omega arith)
+    go (next ∷ left) (byte ∷ bytes) more some tells = rw (← tells) refl
 
 pub one_too_many : (p : Progress) (bytes : List ℕ) → length p.header_left < 1 → call_limit ≤ p.calls → 0 < length bytes → feed p bytes ≡ Err TooManyCalls
 unfolding feed step
 one_too_many p bytes behind full some = go p.header_left bytes behind some
   where
-    go : (left bytes : List ℕ) → length left < 1 → 0 < length bytes → feed (progress_at left p.calls p.line) bytes ≡ Err TooManyCalls
+    go : (left bytes : List ℕ) → length left < 1 → 0 < length bytes → feed (progress_at left p.version p.calls p.line) bytes ≡ Err TooManyCalls
     go (next ∷ left) bytes behind some = absurd (omega arith)
     go [] [] behind some = absurd (omega arith)
     go [] (byte ∷ bytes) behind some = rw (le-leb call_limit p.calls full) refl
@@ -170,5 +172,5 @@ pub longer_over : (is_too_long : Bool) (line run : List ℕ) → length line ≤
 longer_over true line run few over = sym (none_longer run)
 longer_over false line run few over = sym (over_longer line run few over)
 
-pub with_line : (header_left : List ℕ) (calls : ℕ) (line other : Option (List ℕ)) → line ≡ other → progress_at header_left calls line ≡ progress_at header_left calls other
-with_line header_left calls line other e = ap (progress_at header_left calls) e
+pub with_line : (header_left : List ℕ) (version : Version) (calls : ℕ) (line other : Option (List ℕ)) → line ≡ other → progress_at header_left version calls line ≡ progress_at header_left version calls other
+with_line header_left version calls line other e = ap (progress_at header_left version calls) e

@@ -9,10 +9,10 @@ use Rattle.std.proofs.lemmas.List.Splits.{join_with_byte-slice_split, length-sli
 use Rattle.hex.specs.Hex.{encode_lower}
 use Rattle.kc_types.specs.Bytes.{IsData}
 use Rattle.kc_types.specs.declared.call.Call.{Call}
-use Rattle.kc_types.specs.declared.call.Call.TheVariants.{Take, Give, HostFault, HostRead, HostWrite, RegisterVm, RegisterVcpu, SetBoot, Remap, Verify, Map, GuestRead, GuestWrite, Grant, Revoke, Drop, Clear}
+use Rattle.kc_types.specs.declared.call.Call.TheVariants.{Take, Give, HostFault, HostRead, HostWrite, RegisterVm, RegisterVcpu, SetBoot, Remap, Verify, Map, GuestRead, GuestWrite, Grant, Revoke, GrantRange, RevokeRange, Drop, Clear}
 use Rattle.kc_model.specs.Ranged.{IsWord, IsRanged}
 use Rattle.kc_trace.specs.Spelling.{words_of, line_of}
-use Rattle.kc_trace.specs.Reading.{number_of, data_of, one_word, with_one_number, with_two_numbers, with_three_numbers, host_access, guest_access, two_words, three_words, four_words, six_words, call_of_words, call_of}
+use Rattle.kc_trace.specs.Reading.{number_of, data_of, one_word, with_one_number, with_two_numbers, with_three_numbers, with_four_numbers, host_access, guest_access, two_words, three_words, four_words, five_words, six_words, call_of_words, call_of}
 use Rattle.kc_trace.proofs.Numbers.{number_is_decimal}
 use Rattle.kc_trace.proofs.Digits.{data_is_spelled}
 use Rattle.kc_trace.proofs.Words.{is_space, chosen}
@@ -75,6 +75,13 @@ three_numbers_are name a b c call fits e =
     (by_name name (codes "drop") arguments (Drop a b c) call None refl fits none_left))))))
     e
 
+four_numbers_are : (name : List ℕ) (a b c d : ℕ) (call : Call) → IsWord a × IsWord b × IsWord c × IsWord d → with_four_numbers name a b c d ≡ Some call → IsSpelled (name ∷ decimal a ∷ decimal b ∷ decimal c ∷ decimal d ∷ []) call
+four_numbers_are name a b c d call fits e =
+    let arguments : List (List ℕ) = decimal a ∷ decimal b ∷ decimal c ∷ decimal d ∷ [] in
+    by_name name (codes "grantr") arguments (GrantRange a b c d) call _ refl fits
+    (by_name name (codes "revoker") arguments (RevokeRange a b c d) call None refl fits none_left)
+    e
+
 -- the last word is the bytes of a call that stands under this name
 bytes_are : (name text last : List ℕ) (arguments : List (List ℕ) → List (List ℕ)) (make : List ℕ → Call) (call : Call) → ((bytes : List ℕ) → words_of (make bytes) ≡ text ∷ arguments (encode_lower bytes ∷ []))
     → ((bytes : List ℕ) → IsData bytes → IsRanged (make bytes)) → bytes_eq name text ≡ true → option_map make (data_of last) ≡ Some call → IsSpelled (name ∷ arguments (last ∷ [])) call
@@ -130,6 +137,17 @@ four_are name first second third call e =
     numeral_then first (λ a. option_and_then (λ b. host_access name a b third) (number_of second)) call (λ w. IsSpelled (name ∷ w ∷ second ∷ third ∷ []) call)
     (λ a fits_a. numeral_then second (λ b. host_access name a b third) call (λ w. IsSpelled (name ∷ decimal a ∷ w ∷ third ∷ []) call) (λ b fits_b h. host_access_is name third a b call fits_a fits_b h)) e
 
+last_two_are : (name third fourth : List ℕ) (a b : ℕ) (call : Call) → IsWord a → IsWord b → option_and_then (λ c. option_and_then (with_four_numbers name a b c) (number_of fourth)) (number_of third) ≡ Some call
+    → IsSpelled (name ∷ decimal a ∷ decimal b ∷ third ∷ fourth ∷ []) call
+last_two_are name third fourth a b call fits_a fits_b e =
+    numeral_then third (λ c. option_and_then (with_four_numbers name a b c) (number_of fourth)) call (λ w. IsSpelled (name ∷ decimal a ∷ decimal b ∷ w ∷ fourth ∷ []) call)
+    (λ c fits_c. numeral_then fourth (with_four_numbers name a b c) call (λ w. IsSpelled (name ∷ decimal a ∷ decimal b ∷ decimal c ∷ w ∷ []) call) (λ d fits_d h. four_numbers_are name a b c d call (fits_a, fits_b, fits_c, fits_d) h)) e
+
+five_are : (name first second third fourth : List ℕ) (call : Call) → five_words name first second third fourth ≡ Some call → IsSpelled (name ∷ first ∷ second ∷ third ∷ fourth ∷ []) call
+five_are name first second third fourth call e =
+    numeral_then first (λ a. option_and_then (λ b. option_and_then (λ c. option_and_then (with_four_numbers name a b c) (number_of fourth)) (number_of third)) (number_of second)) call (λ w. IsSpelled (name ∷ w ∷ second ∷ third ∷ fourth ∷ []) call)
+    (λ a fits_a. numeral_then second (λ b. option_and_then (λ c. option_and_then (with_four_numbers name a b c) (number_of fourth)) (number_of third)) call (λ w. IsSpelled (name ∷ decimal a ∷ w ∷ third ∷ fourth ∷ []) call) (λ b fits_b h. last_two_are name third fourth a b call fits_a fits_b h)) e
+
 guest_are : (name third fourth last : List ℕ) (a b : ℕ) (call : Call) → IsWord a → IsWord b → option_and_then (λ c. option_and_then (λ d. guest_access name a b c d last) (number_of fourth)) (number_of third) ≡ Some call
     → IsSpelled (name ∷ decimal a ∷ decimal b ∷ third ∷ fourth ∷ last ∷ []) call
 guest_are name third fourth last a b call fits_a fits_b e =
@@ -150,7 +168,7 @@ words_are_spelled (name ∷ []) call e = one_is name call e
 words_are_spelled (name ∷ first ∷ []) call e = two_are name first call e
 words_are_spelled (name ∷ first ∷ second ∷ []) call e = three_are name first second call e
 words_are_spelled (name ∷ first ∷ second ∷ third ∷ []) call e = four_are name first second third call e
-words_are_spelled (name ∷ first ∷ second ∷ third ∷ fourth ∷ []) call e = absurd cc
+words_are_spelled (name ∷ first ∷ second ∷ third ∷ fourth ∷ []) call e = five_are name first second third fourth call e
 words_are_spelled (name ∷ first ∷ second ∷ third ∷ fourth ∷ fifth ∷ []) call e = six_are name first second third fourth fifth call e
 words_are_spelled (name ∷ first ∷ second ∷ third ∷ fourth ∷ fifth ∷ sixth ∷ more) call e = absurd cc
 

@@ -6,6 +6,8 @@ use Rattle.serde_json.specs.Data.{Data, Items, no_items, item, Members, no_membe
 use Rattle.serde_json.specs.Find.{get, as_number, as_u64, as_str, as_array, as_object}
 use Rattle.serde_json.specs.Read.{read as read_text}
 use Rattle.hex.specs.Hex.{decode_sized}
+use Rattle.kc_types.specs.declared.version.Version.{Version}
+use Rattle.kc_types.specs.declared.version.Version.TheVariants.{One, Two}
 use Rattle.kc_types.specs.Configuration.{Configuration}
 use Rattle.kc_types.specs.ConfigFaults.{fault_of}
 use Rattle.kc_types.specs.declared.config.ConfigFault.{ConfigFault}
@@ -35,11 +37,11 @@ digests_in (item value values) = option_and_then (λ digest. option_map (λ dige
 abbrev pub approved_in : Data → Option (List (List ℕ))
 approved_in value = option_and_then digests_in (option_and_then as_array (get (codes "approved") value))
 
--- the configuration under the five keys, if each holds what it should
-abbrev pub fields_in : Data → Option Configuration
-fields_in value =
+-- the configuration of this version under the five keys, if each holds what it should
+abbrev pub fields_in : Version → Data → Option Configuration
+fields_in version value =
     option_and_then (λ frames. option_and_then (λ core. option_and_then (λ host. option_and_then (λ leaves.
-    option_map (λ approved. record { frames = frames; core = core; host = host; leaves = leaves; approved = approved })
+    option_map (λ approved. record { version = version; frames = frames; core = core; host = host; leaves = leaves; approved = approved })
     (approved_in value))
     (number_in (codes "leaves") value)) (number_in (codes "host") value)) (number_in (codes "core") value)) (number_in (codes "frames") value)
 
@@ -48,13 +50,18 @@ abbrev pub member_count : Members → ℕ
 member_count no_members = 0
 member_count (member key value members) = suc (member_count members)
 
-abbrev pub is_five : Option ℕ → Bool
-is_five None = false
-is_five (Some n) = n == 5
+abbrev pub version_of : Option ℕ → Option Version
+version_of None = None
+version_of (Some n) = if n == 1 then Some One else if n == 2 then Some Two else None
 
--- the configuration that a value is: an object of exactly the five keys
+-- the version of an object of so many members: the first of five, and of six what stands under `version`
+abbrev pub version_in : Data → Option ℕ → Option Version
+version_in value None = None
+version_in value (Some count) = if count == 5 then Some One else if count == 6 then version_of (number_in (codes "version") value) else None
+
+-- the configuration that a value is: an object of exactly the five keys, or of these and `version`
 abbrev pub shape_in : Data → Option Configuration
-shape_in value = if is_five (option_map member_count (as_object value)) then fields_in value else None
+shape_in value = option_and_then (λ version. fields_in version value) (version_in value (option_map member_count (as_object value)))
 
 abbrev pub unless_fault : Option ConfigFault → Configuration → Result Configuration ConfigTextFault
 unless_fault None config = Ok config

@@ -1,10 +1,12 @@
 -- Reading a trace byte after byte.
-use Rattle.std.specs.Prelude.{◌+◌, ◌==◌, nat_lt, nat_le, ℕ, List, [], ◌∷◌, ◌++◌, length, Option, Some, None, if◌then◌else◌, Result, Ok, Err, ◌≡◌}
+use Rattle.std.specs.Prelude.{◌+◌, ◌==◌, ◌&&◌, nat_lt, nat_le, ℕ, List, [], ◌∷◌, ◌++◌, length, Option, Some, None, if◌then◌else◌, Result, Ok, Err, ◌≡◌}
+use Rattle.kc_types.specs.declared.version.Version.{Version}
+use Rattle.kc_types.specs.declared.version.Version.TheVariants.{One, Two}
 use Rattle.kc_types.specs.declared.call.Call.{Call}
 use Rattle.kc_trace.specs.declared.fault.TraceFault.{TraceFault}
 use Rattle.kc_trace.specs.declared.fault.TraceFault.TheVariants.{NoHeader, BadLine, NoNewline, TooManyCalls, Memory}
 use Rattle.kc_types.specs.Limits.{call_limit}
-use Rattle.kc_trace.specs.Spelling.{header}
+use Rattle.kc_trace.specs.Spelling.{header, stands_in}
 use Rattle.kc_trace.specs.Reading.{call_of}
 
 -- the ? of the definitions
@@ -26,16 +28,17 @@ abbrev pub Gives : {X Y : Type 0} → (X → Y) → Result X TraceFault → Resu
 Gives view (Ok x) read = read ≡ Ok (view x)
 Gives view (Err e) read = Fails e read
 
--- how far a trace has been read: what is still to come of the header, how many calls came, and the line
--- begun, or nothing where it is longer than any call
+-- how far a trace has been read: what is still to come of the header, the version that it tells, how many calls
+-- came, and the line begun, or nothing where it is longer than any call
 pub record Progress : Type 0 where
   pub header_left : List ℕ
+  pub version : Version
   pub calls : ℕ
   pub line : Option (List ℕ)
 
 -- in front of the header
 abbrev pub start : Progress
-start = record { header_left = header; calls = 0; line = Some [] }
+start = record { header_left = header One; version = One; calls = 0; line = Some [] }
 
 -- the length of the longest line: `gwrite`, four numbers and 4,096 bytes
 abbrev pub longest_line : ℕ
@@ -51,10 +54,19 @@ abbrev pub longer_each : Option (List ℕ) → List ℕ → Option (List ℕ)
 longer_each line [] = line
 longer_each line (byte ∷ bytes) = longer_each (longer line byte) bytes
 
+-- the call, if it may stand in a text of this version
+abbrev pub standing : Version → Option Call → Option Call
+standing version None = None
+standing version (Some call) = if stands_in version call then Some call else None
+
 -- the call that a line is, if it is one
-abbrev pub call_in : Option (List ℕ) → Option Call
-call_in None = None
-call_in (Some line) = call_of line
+abbrev pub call_of_kept : Option (List ℕ) → Option Call
+call_of_kept None = None
+call_of_kept (Some line) = call_of line
+
+-- the same, if it may stand there
+abbrev pub call_in : Version → Option (List ℕ) → Option Call
+call_in version line = standing version (call_of_kept line)
 
 -- behind the newline of a line that is this call, or none
 abbrev pub after_line : Progress → Option Call → Result (Progress × List Call) TraceFault
@@ -65,13 +77,21 @@ after_line progress (Some call) = Ok (record progress { calls = progress.calls +
 abbrev pub after_text_byte : Progress → ℕ → Result (Progress × List Call) TraceFault
 after_text_byte progress byte =
     if nat_le call_limit progress.calls then Err TooManyCalls
-    else if byte == 10 then after_line progress (call_in progress.line)
+    else if byte == 10 then after_line progress (call_in progress.version progress.line)
     else Ok (record progress { line = longer progress.line byte }, [])
+
+-- the version that the header tells, where this byte is to come of the first version's: the digit 2 may stand for its 1
+abbrev pub told : ℕ → ℕ → Version → Option Version
+told next byte version = if byte == next then Some version else if next == 49 && byte == 50 then Some Two else None
+
+abbrev pub after_header_byte : List ℕ → Progress → Option Version → Result (Progress × List Call) TraceFault
+after_header_byte left progress None = Err NoHeader
+after_header_byte left progress (Some version) = Ok (record progress { header_left = left; version = version }, [])
 
 -- a byte, where this is to come of the header
 abbrev pub after_byte : List ℕ → Progress → ℕ → Result (Progress × List Call) TraceFault
 after_byte [] progress byte = after_text_byte progress byte
-after_byte (next ∷ left) progress byte = if byte == next then Ok (record progress { header_left = left }, []) else Err NoHeader
+after_byte (next ∷ left) progress byte = after_header_byte left progress (told next byte progress.version)
 
 -- what one more byte makes of it, and the call that it ends
 unfoldable pub step : Progress → ℕ → Result (Progress × List Call) TraceFault

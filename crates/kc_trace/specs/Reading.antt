@@ -7,7 +7,7 @@ use Rattle.std.specs.Char.{is_ascii_digit}
 use Rattle.std.specs.Str.Parse.{digits_value}
 use Rattle.hex.specs.Hex.{decode_of}
 use Rattle.kc_types.specs.declared.call.Call.{Call}
-use Rattle.kc_types.specs.declared.call.Call.TheVariants.{Take, Give, HostFault, HostRead, HostWrite, RegisterVm, RegisterVcpu, SetBoot, Remap, Verify, Map, GuestRead, GuestWrite, Grant, Revoke, Drop, Clear}
+use Rattle.kc_types.specs.declared.call.Call.TheVariants.{Take, Give, HostFault, HostRead, HostWrite, RegisterVm, RegisterVcpu, SetBoot, Remap, Verify, Map, GuestRead, GuestWrite, Grant, Revoke, GrantRange, RevokeRange, Drop, Clear}
 
 -- digits with no leading zero
 abbrev pub is_numeral : List ℕ → Bool
@@ -61,6 +61,12 @@ with_three_numbers name first second third =
     else if bytes_eq name (codes "drop") then Some (Drop first second third)
     else None
 
+abbrev pub with_four_numbers : List ℕ → ℕ → ℕ → ℕ → ℕ → Option Call
+with_four_numbers name first second third fourth =
+    if bytes_eq name (codes "grantr") then Some (GrantRange first second third fourth)
+    else if bytes_eq name (codes "revoker") then Some (RevokeRange first second third fourth)
+    else None
+
 -- two numbers, and a number or bytes
 abbrev pub host_access : List ℕ → ℕ → ℕ → List ℕ → Option Call
 host_access name first second last =
@@ -87,6 +93,10 @@ abbrev pub four_words : List ℕ → List ℕ → List ℕ → List ℕ → Opti
 four_words name first second third =
     option_and_then (λ a. option_and_then (λ b. host_access name a b third) (number_of second)) (number_of first)
 
+abbrev pub five_words : List ℕ → List ℕ → List ℕ → List ℕ → List ℕ → Option Call
+five_words name first second third fourth =
+    option_and_then (λ a. option_and_then (λ b. option_and_then (λ c. option_and_then (with_four_numbers name a b c) (number_of fourth)) (number_of third)) (number_of second)) (number_of first)
+
 abbrev pub six_words : List ℕ → List ℕ → List ℕ → List ℕ → List ℕ → List ℕ → Option Call
 six_words name first second third fourth fifth =
     option_and_then (λ a. option_and_then (λ b. option_and_then (λ c. option_and_then (λ d. guest_access name a b c d fifth) (number_of fourth)) (number_of third)) (number_of second)) (number_of first)
@@ -97,6 +107,7 @@ call_of_words (name ∷ []) = one_word name
 call_of_words (name ∷ first ∷ []) = two_words name first
 call_of_words (name ∷ first ∷ second ∷ []) = three_words name first second
 call_of_words (name ∷ first ∷ second ∷ third ∷ []) = four_words name first second third
+call_of_words (name ∷ first ∷ second ∷ third ∷ fourth ∷ []) = five_words name first second third fourth
 call_of_words (name ∷ first ∷ second ∷ third ∷ fourth ∷ fifth ∷ []) = six_words name first second third fourth fifth
 call_of_words _ = None
 

@@ -1,10 +1,12 @@
 -- How each call is spelled.
-use Rattle.std.specs.Prelude.{ℕ, List, [], ◌∷◌, ◌++◌, codes}
-use Rattle.std.specs.List.{flat_map, join_with_byte}
+use Rattle.std.specs.Prelude.{ℕ, Bool, true, false, not, List, [], ◌∷◌, ◌++◌, codes, if◌then◌else◌}
+use Rattle.std.specs.List.{list_any, flat_map, join_with_byte}
 use Rattle.std.specs.Fmt.{decimal}
 use Rattle.hex.specs.Hex.{encode_lower}
+use Rattle.kc_types.specs.declared.version.Version.{Version}
+use Rattle.kc_types.specs.declared.version.Version.TheVariants.{One, Two}
 use Rattle.kc_types.specs.declared.call.Call.{Call}
-use Rattle.kc_types.specs.declared.call.Call.TheVariants.{Take, Give, HostFault, HostRead, HostWrite, RegisterVm, RegisterVcpu, SetBoot, Remap, Verify, Map, GuestRead, GuestWrite, Grant, Revoke, Drop, Clear}
+use Rattle.kc_types.specs.declared.call.Call.TheVariants.{Take, Give, HostFault, HostRead, HostWrite, RegisterVm, RegisterVcpu, SetBoot, Remap, Verify, Map, GuestRead, GuestWrite, Grant, Revoke, GrantRange, RevokeRange, Drop, Clear}
 
 -- the words of a call's line: its name, its numbers, and the bytes that it writes
 abbrev pub words_of : Call → List (List ℕ)
@@ -23,6 +25,8 @@ words_of (GuestRead vm vcpu gfn offset len) = codes "gread" ∷ decimal vm ∷ d
 words_of (GuestWrite vm vcpu gfn offset bytes) = codes "gwrite" ∷ decimal vm ∷ decimal vcpu ∷ decimal gfn ∷ decimal offset ∷ encode_lower bytes ∷ []
 words_of (Grant vm vcpu gfn) = codes "grant" ∷ decimal vm ∷ decimal vcpu ∷ decimal gfn ∷ []
 words_of (Revoke vm vcpu gfn) = codes "revoke" ∷ decimal vm ∷ decimal vcpu ∷ decimal gfn ∷ []
+words_of (GrantRange vm vcpu gfn count) = codes "grantr" ∷ decimal vm ∷ decimal vcpu ∷ decimal gfn ∷ decimal count ∷ []
+words_of (RevokeRange vm vcpu gfn count) = codes "revoker" ∷ decimal vm ∷ decimal vcpu ∷ decimal gfn ∷ decimal count ∷ []
 words_of (Drop vm vcpu gfn) = codes "drop" ∷ decimal vm ∷ decimal vcpu ∷ decimal gfn ∷ []
 words_of (Clear vm) = codes "clear" ∷ decimal vm ∷ []
 
@@ -38,10 +42,30 @@ longest_call = 8244
 abbrev pub lines_of : List Call → List ℕ
 lines_of calls = flat_map (λ call. line_of call ++ 10 ∷ []) calls
 
--- the first line of each trace, with its newline
-abbrev pub header : List ℕ
-header = codes "kcore-trace 1" ++ 10 ∷ []
+-- whether the call stands in texts of the second version alone
+abbrev pub is_new : Call → Bool
+is_new (GrantRange vm vcpu gfn count) = true
+is_new (RevokeRange vm vcpu gfn count) = true
+is_new _ = false
 
--- the one spelling of a list of calls
+-- whether the call may stand in a text of this version
+abbrev pub stands_in : Version → Call → Bool
+stands_in One call = not (is_new call)
+stands_in Two call = true
+
+-- the first line of each trace, with its newline
+abbrev pub header : Version → List ℕ
+header One = codes "kcore-trace 1" ++ 10 ∷ []
+header Two = codes "kcore-trace 2" ++ 10 ∷ []
+
+-- the text of some calls under the header of a version
+abbrev pub text_of : Version → List Call → List ℕ
+text_of version calls = header version ++ lines_of calls
+
+-- the first version in which all of these calls may stand
+unfoldable pub version_of : List Call → Version
+version_of calls = if list_any is_new calls then Two else One
+
+-- the text that is written for a list of calls
 abbrev pub trace_of : List Call → List ℕ
-trace_of calls = header ++ lines_of calls
+trace_of calls = text_of (version_of calls) calls

@@ -2,10 +2,10 @@
 ghost use Rattle.std.specs.Prelude.{◌≡◌, IfOk, option_map};
 ghost use Rattle.serde_json.specs.View.{view, items_view};
 ghost use Rattle.serde_json.specs.Find.{as_object};
-ghost use Rattle.kc_trace.specs.ConfigText.{value_in, number_in, digest_in, digests_in, member_count, fields_in, shape_in, configured, config_in, Gives};
+ghost use Rattle.kc_trace.specs.ConfigText.{value_in, number_in, digest_in, digests_in, member_count, fields_in, version_in, shape_in, configured, config_in, Gives};
 
 use hex::FromHex;
-use kc_types::{Config, ConfigFault};
+use kc_types::{Config, ConfigFault, Version};
 use serde_json::Value;
 use serde_json::error::Category;
 use std::alloc::{AllocError, Global};
@@ -18,7 +18,8 @@ pub enum ConfigTextFault {
     /// The bytes are not UTF-8 or not JSON, or arrays and objects nest deeper than 127.
     #[error("configuration is not JSON")]
     NotJson,
-    /// A JSON value that is no object of the five keys, or with another kind of value under one of them.
+    /// A JSON value that is no object of the five keys, or of these and `version`, or with another kind of value
+    /// under one of them.
     #[error("configuration has a wrong shape")]
     BadShape,
     /// There is no configuration of these numbers and digests.
@@ -29,9 +30,10 @@ pub enum ConfigTextFault {
     Memory,
 }
 
-/// What an object of the five keys holds, before it is judged.
+/// What an object of these keys holds, before it is judged.
 #[derive(Drop)]
 struct Fields {
+    version: Version,
     frames: u32,
     core: u32,
     host: u32,
@@ -44,13 +46,17 @@ impl Model for Fields {
 
     ghost Value = { Configuration };
 
-    ghost view = { λ f. record { frames = f.frames; core = f.core; host = f.host; leaves = f.leaves; approved = f.approved.items } };
+    ghost view = { λ f. record { version = f.version; frames = f.frames; core = f.core; host = f.host; leaves = f.leaves; approved = f.approved.items } };
 }
 
 impl Fields {
     /// The fields under their keys, whatever other keys there are.
-    fn of_members(alloc: Global, value: &Value) -> Result<Option<Fields>, AllocError>
-        ensures { IfOk result (λ found. found ≡ fields_in (view value.now)) }
+    fn of_members(
+        alloc: Global,
+        version: Version,
+        value: &Value,
+    ) -> Result<Option<Fields>, AllocError>
+        ensures { IfOk result (λ found. found ≡ fields_in version (view value.now)) }
     {
         let Some(frames) = number_under(value, "frames") else {
             return Ok(None);
@@ -71,6 +77,7 @@ impl Fields {
             return Ok(None);
         };
         Ok(Some(Fields {
+            version,
             frames,
             core,
             host,
@@ -83,22 +90,36 @@ impl Fields {
     fn of_value(alloc: Global, value: &Value) -> Result<Option<Fields>, AllocError>
         ensures { IfOk result (λ found. found ≡ shape_in (view value.now)) }
     {
-        if count_members(value) != Some(5) {
+        let Some(version) = version_of_value(value) else {
             return Ok(None);
-        }
-        Fields::of_members(alloc, value)
+        };
+        Fields::of_members(alloc, version, value)
     }
 
     fn into_config(self) -> Result<Config, ConfigTextFault>
         ensures { Gives result (configured self) }
     {
-        match Config::try_new(
-            self.frames,
-            self.core,
-            self.host,
-            self.leaves,
-            self.approved,
-        ) {
+        let made = match self.version {
+            Version::One => {
+                Config::try_new(
+                    self.frames,
+                    self.core,
+                    self.host,
+                    self.leaves,
+                    self.approved,
+                )
+            },
+            Version::Two => {
+                Config::try_new2(
+                    self.frames,
+                    self.core,
+                    self.host,
+                    self.leaves,
+                    self.approved,
+                )
+            },
+        };
+        match made {
             Ok(config) => Ok(config),
             Err(fault) => Err(ConfigTextFault::Config(fault)),
         }
@@ -140,6 +161,21 @@ fn count_members(value: &Value) -> Option<usize>
     }
 }
 
+/// The version of an object of five members, or of six, of which one is `version`.
+fn version_of_value(value: &Value) -> Option<Version>
+    ensures { result ≡ version_in (view value.now) (option_map member_count (as_object (view value.now))) }
+{
+    match count_members(value)? {
+        5 => Some(Version::One),
+        6 => match number_under(value, "version")? {
+            1 => Some(Version::One),
+            2 => Some(Version::Two),
+            _ => None,
+        },
+        _ => None,
+    }
+}
+
 /// The value that bytes are, or `None` where they are not JSON.
 fn value_of(alloc: Global, bytes: &[u8]) -> Result<Option<Value>, AllocError>
     ensures { IfOk result (λ found. option_map view found ≡ value_in bytes.now) }
@@ -155,7 +191,7 @@ fn value_of(alloc: Global, bytes: &[u8]) -> Result<Option<Value>, AllocError>
 
 /// The configuration that a JSON text says: an object of exactly the keys `frames`, `core`, `host` and `leaves`
 /// with whole numbers of 32 bits, and `approved` with an array of texts of 64 hexadecimal digits each, upper or
-/// lower case. Of a key that stands twice the last value counts. A number with a fraction or an exponent is no
+/// lower case; a key `version` may stand beside them, with 1 or 2, and without it the version is 1. Of a key that stands twice the last value counts. A number with a fraction or an exponent is no
 /// whole number.
 #[tactic(auto, unfolding(crate::specs::ConfigText::config_in))]
 pub fn read_config(alloc: Global, bytes: &[u8]) -> Result<Config, ConfigTextFault>

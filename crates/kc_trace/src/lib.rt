@@ -17,4 +17,4 @@ pub use config_text::{ConfigTextFault, read_config};
 pub use fault::TraceFault;
 pub use reader::{TraceReader, read_trace};
 pub use reply_writer::{LONGEST_REPLY, push_reply, write_replies};
-pub use writer::{LONGEST_CALL, push_call, push_header, write_trace};
+pub use writer::{LONGEST_CALL, push_call, push_header, version_of, write_trace};

@@ -1,7 +1,7 @@
 //! One line as a call.
 ghost use Rattle.std.specs.Prelude.{◌≡◌, ◌==◌, [], ◌∷◌, IfOk, MatchOption};
 ghost use Rattle.std.specs.List.{slice_split};
-ghost use Rattle.kc_trace.specs.Reading.{one_word, with_one_number, with_two_numbers, with_three_numbers, two_words, three_words, host_access, four_words, guest_access, six_words, call_of_words, call_of};
+ghost use Rattle.kc_trace.specs.Reading.{one_word, with_one_number, with_two_numbers, with_three_numbers, with_four_numbers, two_words, three_words, host_access, four_words, five_words, guest_access, six_words, call_of_words, call_of};
 
 use crate::data_word::read_data;
 use crate::number::read_number;
@@ -100,6 +100,28 @@ fn with_three_numbers(name: &[u8], first: u32, second: u32, third: u32) -> Optio
     }
 }
 
+fn with_four_numbers(name: &[u8], first: u32, second: u32, third: u32, fourth: u32) -> Option<Call>
+    ensures { result ≡ with_four_numbers name.now first second third fourth }
+{
+    if name == b"grantr".as_slice() {
+        Some(Call::GrantRange {
+            vm: first,
+            vcpu: second,
+            gfn: third,
+            count: fourth,
+        })
+    } else if name == b"revoker".as_slice() {
+        Some(Call::RevokeRange {
+            vm: first,
+            vcpu: second,
+            gfn: third,
+            count: fourth,
+        })
+    } else {
+        None
+    }
+}
+
 fn read_two_words(name: &[u8], first: &[u8]) -> Option<Call>
     ensures { result ≡ two_words name.now first.now }
 {
@@ -181,6 +203,24 @@ fn read_four_words(
     read_host_access(alloc, name, first, second, third)
 }
 
+fn read_five_words(
+    name: &[u8],
+    first: &[u8],
+    second: &[u8],
+    third: &[u8],
+    fourth: &[u8],
+) -> Option<Call>
+    ensures { result ≡ five_words name.now first.now second.now third.now fourth.now }
+{
+    with_four_numbers(
+        name,
+        read_number(first)?,
+        read_number(second)?,
+        read_number(third)?,
+        read_number(fourth)?,
+    )
+}
+
 fn read_six_words(
     alloc: Global,
     name: &[u8],
@@ -230,7 +270,7 @@ pub fn call_of_line(alloc: Global, line: &[u8]) -> Result<Option<Call>, AllocErr
         return read_four_words(alloc, name, first, second, rest);
     };
     let Some((fourth, rest)) = split_word(rest) else {
-        return Ok(None);
+        return Ok(read_five_words(name, first, second, third, rest));
     };
     let None = split_word(rest) else {
         return Ok(None);

@@ -4,13 +4,14 @@ ghost use Rattle.std.specs.Option.{option_to_list};
 ghost use Rattle.kc_types.specs.Limits.{call_limit};
 ghost use Rattle.kc_types.specs.declared.call.Call.{Call};
 ghost use Rattle.kc_trace.specs.Trace.{IsOneLine, IsTrace, IsRefused};
-ghost use Rattle.kc_trace.specs.Machine.{Gives, Fails, start, with_front, feed, fed, ended, reading, call_in, longer_each};
+ghost use Rattle.kc_trace.specs.Machine.{Gives, Fails, start, with_front, feed, fed, ended, reading, told, standing, call_of_kept, call_in, longer_each};
 
 use crate::fault::TraceFault;
 use crate::line::call_of_line;
 use crate::search::first_at;
+use crate::writer::stands_in;
 use arrayvec::ArrayVec;
-use kc_types::Call;
+use kc_types::{Call, Version};
 use std::alloc::{AllocError, Global};
 use std::marker::Model;
 
@@ -31,9 +32,37 @@ fn split_line(bytes: &[u8]) -> Option<(&[u8], &[u8])>
     }
 }
 
+/// The version that the header tells, where this byte is to come of the first version's: the digit 2 may stand for
+/// its 1.
+fn told(next: u8, byte: u8, version: Version) -> Option<Version>
+    ensures { result ≡ told next byte version }
+{
+    if byte == next {
+        Some(version)
+    } else if next == b'1' && byte == b'2' {
+        Some(Version::Two)
+    } else {
+        None
+    }
+}
+
+/// The call, if it may stand in a text of this version.
+fn standing(version: Version, call: Option<Call>) -> Option<Call>
+    ensures { result ≡ standing version call }
+{
+    match call {
+        Some(call) => if stands_in(version, &call) {
+            Some(call)
+        } else {
+            None
+        },
+        None => None,
+    }
+}
+
 /// The call that a line is, if it is one.
 fn call_of_whole(alloc: Global, line: &[u8]) -> Result<Option<Call>, AllocError>
-    ensures { IfOk result (λ call. call ≡ call_in (longer_each (Some []) line.now)) }
+    ensures { IfOk result (λ call. call ≡ call_of_kept (longer_each (Some []) line.now)) }
 {
     if line.len() > LONGEST_LINE {
         return Ok(None);
@@ -41,10 +70,12 @@ fn call_of_whole(alloc: Global, line: &[u8]) -> Result<Option<Call>, AllocError>
     call_of_line(alloc, line)
 }
 
-/// How far a trace has been read: what is still to come of the header, how many calls came, and the line begun.
+/// How far a trace has been read: what is still to come of the header, the version that it tells, how many calls
+/// came, and the line begun.
 #[derive(Drop)]
 struct Progress {
     header_left: &'static [u8],
+    version: Version,
     calls: u32,
     line: ArrayVec<u8, LONGEST_LINE>,
     is_too_long: bool,
@@ -57,7 +88,7 @@ impl Model for Progress {
 
     ghost Value = { Seen };
 
-    ghost view = { λ p. record { header_left = p.header_left.now; calls = p.calls; line = if p.is_too_long then None else Some p.line.items } };
+    ghost view = { λ p. record { header_left = p.header_left.now; version = p.version; calls = p.calls; line = if p.is_too_long then None else Some p.line.items } };
 
     ghost invariant = { λ p. p.calls ≤ call_limit };
 }
@@ -68,6 +99,7 @@ impl Progress {
     {
         Progress {
             header_left: HEADER,
+            version: Version::One,
             calls: 0,
             line: ArrayVec::new(),
             is_too_long: false,
@@ -82,6 +114,7 @@ impl Progress {
         line.try_extend_from_slice(self.line.as_slice()).unwrap();
         Progress {
             header_left: self.header_left,
+            version: self.version,
             calls: self.calls,
             line,
             is_too_long: self.is_too_long,
@@ -102,18 +135,18 @@ impl Progress {
     /// The call that the line is, whose last bytes these are. It is read where it lies, unless it began in an
     /// earlier piece.
     fn call(&mut self, alloc: Global, last: &[u8]) -> Result<Option<Call>, AllocError>
-        ensures call { IfOk result (λ call. call ≡ call_in (longer_each self.old.line last.now)) }
+        ensures call { IfOk result (λ call. call ≡ call_in self.old.version (longer_each self.old.line last.now)) }
         ensures others { self.new ≡ record self.old { line = self.new.line } }
         ensures line { (self.new.line ≡ self.old.line) ⊎ (self.new.line ≡ longer_each self.old.line last.now) }
     {
         if self.line.is_empty() && !self.is_too_long {
-            return call_of_whole(alloc, last);
+            return Ok(standing(self.version, call_of_whole(alloc, last)?));
         }
         self.push_each(last);
         if self.is_too_long {
             return Ok(None);
         }
-        call_of_line(alloc, self.line.as_slice())
+        Ok(standing(self.version, call_of_line(alloc, self.line.as_slice())?))
     }
 
     /// The next line begins.
@@ -160,10 +193,11 @@ impl Progress {
         ensures same { MatchResult result (λ taken. feed self.old bytes.now ≡ with_front (option_to_list taken.0) (feed self.new taken.1.now)) (λ fault. Fails fault (feed self.old bytes.now)) }
     {
         if let [next, left @ ..] = self.header_left {
-            if bytes[0] != *next {
+            let Some(version) = told(*next, bytes[0], self.version) else {
                 return Err(TraceFault::NoHeader);
-            }
+            };
             self.header_left = left;
+            self.version = version;
             return Ok((None, &bytes[1..]));
         }
         if self.calls >= CALL_LIMIT {

@@ -1,13 +1,13 @@
 //! Calls as text.
 ghost use Rattle.std.specs.Prelude.{◌≡◌, ◌≤◌, ◌+◌, ◌++◌, ◌∷◌, [], codes, length, vec_len, vec_capacity, IfOk};
-ghost use Rattle.std.specs.List.{join_with_byte};
+ghost use Rattle.std.specs.List.{list_any, join_with_byte};
 ghost use Rattle.std.specs.Fmt.{decimal};
 ghost use Rattle.hex.specs.Hex.{encode_lower};
 ghost use Rattle.kc_types.specs.Limits.{call_limit};
-ghost use Rattle.kc_trace.specs.Spelling.{header, line_of, longest_call, trace_of};
+ghost use Rattle.kc_trace.specs.Spelling.{is_new, stands_in, version_of, header, line_of, longest_call, trace_of};
 
 use crate::room::{push_bytes, push_digits, push_number};
-use kc_types::{Call, Data, Memory};
+use kc_types::{Call, Data, Memory, Version};
 use std::alloc::Global;
 
 /// The bytes of the longest line of a call, with its newline: `gwrite`, four numbers and 4,096 bytes.
@@ -55,6 +55,17 @@ fn push_three(text: &mut Vec<u8>, name: &str, first: u32, second: u32, third: u3
 {
     push_two(text, name, first, second);
     push_number(text, third);
+}
+
+/// Appends a name and four numbers.
+fn push_four(text: &mut Vec<u8>, name: &str, first: u32, second: u32, third: u32, fourth: u32)
+    requires { vec_len text.old + (length name.now + 44) ≤ vec_capacity text.old }
+    ensures items { text.new.items ≡ text.old.items ++ join_with_byte 32 (name.now ∷ decimal first ∷ decimal second ∷ decimal third ∷ decimal fourth ∷ []) }
+    ensures len { vec_len text.new ≤ vec_len text.old + (length name.now + 44) }
+    ensures capacity { vec_capacity text.old ≤ vec_capacity text.new }
+{
+    push_three(text, name, first, second, third);
+    push_number(text, fourth);
 }
 
 /// Appends the line of a call.
@@ -107,6 +118,18 @@ fn push_line(text: &mut Vec<u8>, call: &Call)
         }
         Call::Grant { vm, vcpu, gfn } => push_three(text, "grant", *vm, *vcpu, *gfn),
         Call::Revoke { vm, vcpu, gfn } => push_three(text, "revoke", *vm, *vcpu, *gfn),
+        Call::GrantRange {
+            vm,
+            vcpu,
+            gfn,
+            count,
+        } => push_four(text, "grantr", *vm, *vcpu, *gfn, *count),
+        Call::RevokeRange {
+            vm,
+            vcpu,
+            gfn,
+            count,
+        } => push_four(text, "revoker", *vm, *vcpu, *gfn, *count),
         Call::Drop { vm, vcpu, gfn } => push_three(text, "drop", *vm, *vcpu, *gfn),
         Call::Clear { vm } => push_one(text, "clear", *vm),
     }
@@ -122,24 +145,62 @@ pub fn push_call(text: &mut Vec<u8>, call: &Call)
     push_bytes(text, b"\n");
 }
 
-/// Appends the first line of a trace and its newline, for which there is room.
-pub fn push_header(text: &mut Vec<u8>)
-    requires { vec_len text.old + length header ≤ vec_capacity text.old }
-    ensures line { text.new.items ≡ text.old.items ++ header }
-    ensures capacity { vec_capacity text.old ≤ vec_capacity text.new }
+/// Whether a call stands in texts of the second version alone.
+fn is_new(call: &Call) -> bool
+    ensures { result ≡ is_new call.now }
 {
-    push_bytes(text, b"kcore-trace 1\n");
+    matches!(call, Call::GrantRange { .. } | Call::RevokeRange { .. })
 }
 
-/// The text of at most 65,536 calls: the header, and a line for each call. Each line ends with a
-/// newline.
+/// Whether the call may stand in a text of this version.
+pub fn stands_in(version: Version, call: &Call) -> bool
+    ensures { result ≡ stands_in version call.now }
+{
+    match version {
+        Version::One => !is_new(call),
+        Version::Two => true,
+    }
+}
+
+fn any_is_new(calls: &[Call]) -> bool
+    ensures { result ≡ list_any is_new calls.now }
+{
+    calls.iter().any(|call| is_new(call))
+}
+
+/// The first version in which all of these calls may stand.
+#[tactic(auto, unfolding(crate::specs::Spelling::version_of))]
+pub fn version_of(calls: &[Call]) -> Version
+    ensures { result ≡ version_of calls.now }
+{
+    if any_is_new(calls) {
+        Version::Two
+    } else {
+        Version::One
+    }
+}
+
+/// Appends the first line of a trace of this version and its newline, for which there is room.
+pub fn push_header(text: &mut Vec<u8>, version: Version)
+    requires { vec_len text.old + 14 ≤ vec_capacity text.old }
+    ensures line { text.new.items ≡ text.old.items ++ header version }
+    ensures capacity { vec_capacity text.old ≤ vec_capacity text.new }
+{
+    match version {
+        Version::One => push_bytes(text, b"kcore-trace 1\n"),
+        Version::Two => push_bytes(text, b"kcore-trace 2\n"),
+    }
+}
+
+/// The text of at most 65,536 calls: the header of the first version in which they may all stand, and a line for
+/// each call. Each line ends with a newline.
 pub fn write_trace(alloc: Global, calls: &[Call]) -> Result<Vec<u8>, Memory>
     requires { length calls.now ≤ call_limit }
     // No clause can rule out want of memory: tests write traces.
     ensures { IfOk result (λ text. text.items ≡ trace_of calls.now) }
 {
     let mut text = Vec::with_capacity(alloc, LONGEST_CALL)?;
-    push_header(&mut text);
+    push_header(&mut text, version_of(calls));
     for call in calls {
         text.reserve(LONGEST_CALL)?;
         push_call(&mut text, call);

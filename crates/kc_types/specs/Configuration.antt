@@ -1,10 +1,22 @@
 -- What the core is started with.
 use Rattle.std.specs.Prelude.{ℕ, ◌+◌, ◌≤◌, ◌<◌, List, length}
-use Rattle.kc_types.specs.Limits.{frame_limit, slot_limit, leaf_limit, digest_limit}
+use Rattle.kc_types.specs.Limits.{leaf_limit, digest_limit}
+use Rattle.kc_types.specs.declared.version.Version.{Version}
+use Rattle.kc_types.specs.declared.version.Version.TheVariants.{One, Two}
 
--- `frames` are all frames, the first `core` of them are the core's for ever, the next `host` are the host's at boot;
+-- the most frames of a configuration
+abbrev pub most_frames : Version → ℕ
+most_frames One = 8192
+most_frames Two = 65536
+
+abbrev pub slots_of : Version → ℕ
+slots_of One = 16
+slots_of Two = 64
+
+-- `version` sets the limits; `frames` are all frames, the first `core` of them are the core's for ever, the next `host` are the host's at boot;
 -- `leaves` are the leaf tables of each VM; `approved` are the SHA-256 digests of boot images that may run
 pub record Configuration : Type 0 where
+  pub version : Version
   pub frames : ℕ
   pub core : ℕ
   pub host : ℕ
@@ -13,12 +25,12 @@ pub record Configuration : Type 0 where
 
 -- how many VM slots there are
 unfoldable pub slot_count : Configuration → ℕ
-slot_count c = slot_limit
+slot_count c = slots_of c.version
 
 -- what every configuration keeps
 pub record IsConfiguration (c : Configuration) : Type 0 where
   pub some_frames : 0 < c.frames
-  pub few_frames : c.frames ≤ frame_limit
+  pub few_frames : c.frames ≤ most_frames c.version
   pub room : c.core + c.host ≤ c.frames
   pub some_leaves : 0 < c.leaves
   pub few_leaves : c.leaves ≤ leaf_limit

@@ -7,11 +7,11 @@ page_size = 4096
 
 -- frame numbers are below this
 abbrev pub frame_limit : ℕ
-frame_limit = 8192
+frame_limit = 65536
 
 -- slot numbers are below this
 abbrev pub slot_limit : ℕ
-slot_limit = 16
+slot_limit = 64
 
 -- numbers of virtual processors within a VM are below this
 abbrev pub vcpu_limit : ℕ
@@ -20,6 +20,10 @@ vcpu_limit = 8
 -- guest frame numbers are below this
 abbrev pub gfn_limit : ℕ
 gfn_limit = 262144
+
+-- the most guest frames that one call names
+abbrev pub range_limit : ℕ
+range_limit = 64
 
 -- the most leaf tables of a VM
 abbrev pub leaf_limit : ℕ

@@ -90,6 +90,20 @@ pub enum Call {
         vcpu: u32,
         gfn: u32,
     },
+    /// A virtual processor grants the host access to each of `count` guest frames from `gfn` on once more.
+    GrantRange {
+        vm: u32,
+        vcpu: u32,
+        gfn: u32,
+        count: u32,
+    },
+    /// A virtual processor takes one grant back at each of `count` guest frames from `gfn` on.
+    RevokeRange {
+        vm: u32,
+        vcpu: u32,
+        gfn: u32,
+        count: u32,
+    },
     /// A virtual processor gives up a guest frame, which is zeroed and becomes free.
     Drop {
         vm: u32,
@@ -119,6 +133,8 @@ pub fn actor_of(call: &Call) -> Actor
         | Call::GuestWrite { vm, vcpu, .. }
         | Call::Grant { vm, vcpu, .. }
         | Call::Revoke { vm, vcpu, .. }
+        | Call::GrantRange { vm, vcpu, .. }
+        | Call::RevokeRange { vm, vcpu, .. }
         | Call::Drop { vm, vcpu, .. } => Actor::Vcpu(*vm, *vcpu),
         _ => Actor::Host,
     }
@@ -204,6 +220,28 @@ impl Call {
                 vm: *vm,
                 vcpu: *vcpu,
                 gfn: *gfn,
+            },
+            Call::GrantRange {
+                vm,
+                vcpu,
+                gfn,
+                count,
+            } => Call::GrantRange {
+                vm: *vm,
+                vcpu: *vcpu,
+                gfn: *gfn,
+                count: *count,
+            },
+            Call::RevokeRange {
+                vm,
+                vcpu,
+                gfn,
+                count,
+            } => Call::RevokeRange {
+                vm: *vm,
+                vcpu: *vcpu,
+                gfn: *gfn,
+                count: *count,
             },
             Call::Drop { vm, vcpu, gfn } => Call::Drop {
                 vm: *vm,

@@ -1,10 +1,10 @@
 //! What the core is started with.
 ghost use Rattle.std.specs.Prelude.{◌≡◌, ◌<◌, ◌≤◌, ◌↔◌, IsSome, IfSome, IfOk};
 ghost use Rattle.kc_types.specs.Limits.{frame_limit, slot_limit, leaf_limit};
-ghost use Rattle.kc_types.specs.Configuration.{IsConfiguration, slot_count};
+ghost use Rattle.kc_types.specs.Configuration.{IsConfiguration, most_frames, slot_count};
 ghost use Rattle.kc_types.specs.ConfigFaults.{Configures};
 
-use crate::{FrameNo, Memory, VmId};
+use crate::{FrameNo, Memory, Version, VmId};
 use std::marker::Model;
 use thiserror::Error;
 
@@ -40,6 +40,7 @@ impl PartialEq for Digests {
 /// The trusted configuration of the core. Two are equal where their numbers and digests are.
 #[derive(Debug, Drop, PartialEq)]
 pub struct Config {
+    version: Version,
     frames: u32,
     core: u32,
     host: u32,
@@ -52,17 +53,17 @@ impl Model for Config {
 
     ghost Value = { Configuration };
 
-    ghost view = { λ c. record { frames = c.frames; core = c.core; host = c.host; leaves = c.leaves; approved = c.approved } };
+    ghost view = { λ c. record { version = c.version; frames = c.frames; core = c.core; host = c.host; leaves = c.leaves; approved = c.approved } };
 
-    ghost invariant = { λ c. IsConfiguration (record { frames = c.frames; core = c.core; host = c.host; leaves = c.leaves; approved = c.approved }) };
+    ghost invariant = { λ c. IsConfiguration (record { version = c.version; frames = c.frames; core = c.core; host = c.host; leaves = c.leaves; approved = c.approved }) };
 
-    ghost inverse = { λ v. record { frames = v.frames; core = v.core; host = v.host; leaves = v.leaves; approved = v.approved } };
+    ghost inverse = { λ v. record { version = v.version; frames = v.frames; core = v.core; host = v.host; leaves = v.leaves; approved = v.approved } };
 }
 
 /// Why there is no such configuration; the first that applies is answered.
 #[derive(Clone, Copy, Debug, PartialEq, Eq, Error)]
 pub enum ConfigFault {
-    /// The number of frames is 0 or above 8,192.
+    /// The number of frames is 0 or above 8,192, in version 2 above 65,536.
     #[error("frames")]
     Frames,
     /// The core's and the host's frames together are more than there are.
@@ -76,20 +77,30 @@ pub enum ConfigFault {
     TooManyDigests,
 }
 
+impl Version {
+    /// The most frames of a configuration.
+    fn most_frames(self) -> u32
+        ensures { result ≡ most_frames self }
+    {
+        match self {
+            Version::One => 8_192,
+            Version::Two => 65_536,
+        }
+    }
+}
+
 impl Config {
-    /// A configuration of `frames` frames of 4,096 bytes, the first `core` of them the core's for ever and
-    /// the next `host` the host's at boot; of `leaves` leaf tables for each VM; and of the SHA-256 digests
-    /// (FIPS 180-4) of the boot images that are approved.
-    pub fn try_new(
+    fn make(
+        version: Version,
         frames: u32,
         core: u32,
         host: u32,
         leaves: u32,
         approved: Vec<[u8; 32]>,
     ) -> Result<Config, ConfigFault>
-        ensures { Configures result (record { frames = frames; core = core; host = host; leaves = leaves; approved = approved.items }) }
+        ensures { Configures result (record { version = version; frames = frames; core = core; host = host; leaves = leaves; approved = approved.items }) }
     {
-        if frames == 0 || frames > 8_192 {
+        if frames == 0 || frames > version.most_frames() {
             return Err(ConfigFault::Frames);
         }
         if core > frames || host > frames - core {
@@ -102,6 +113,7 @@ impl Config {
             return Err(ConfigFault::TooManyDigests);
         }
         Ok(Config {
+            version,
             frames,
             core,
             host,
@@ -110,7 +122,42 @@ impl Config {
         })
     }
 
-    /// The number of frames, 1 to 8,192.
+    /// A configuration of version 1, with `frames` frames of 4,096 bytes, the first `core` of them the core's for
+    /// ever and the next `host` the host's at boot; with `leaves` leaf tables for each VM; and with the SHA-256
+    /// digests (FIPS 180-4) of the boot images that are approved.
+    pub fn try_new(
+        frames: u32,
+        core: u32,
+        host: u32,
+        leaves: u32,
+        approved: Vec<[u8; 32]>,
+    ) -> Result<Config, ConfigFault>
+        ensures { Configures result (record { version = Version.One; frames = frames; core = core; host = host; leaves = leaves; approved = approved.items }) }
+    {
+        Config::make(Version::One, frames, core, host, leaves, approved)
+    }
+
+    /// The same of version 2, which has up to 65,536 frames, and 64 slots.
+    pub fn try_new2(
+        frames: u32,
+        core: u32,
+        host: u32,
+        leaves: u32,
+        approved: Vec<[u8; 32]>,
+    ) -> Result<Config, ConfigFault>
+        ensures { Configures result (record { version = Version.Two; frames = frames; core = core; host = host; leaves = leaves; approved = approved.items }) }
+    {
+        Config::make(Version::Two, frames, core, host, leaves, approved)
+    }
+
+    /// The version.
+    pub fn version(&self) -> Version
+        ensures { result ≡ self.now.version }
+    {
+        self.version
+    }
+
+    /// The number of frames, 1 to 8,192, in version 2 to 65,536.
     pub fn frames(&self) -> u32
         ensures value { result ≡ self.now.frames }
         ensures some { 0 < result }
@@ -145,13 +192,16 @@ impl Config {
         self.leaves
     }
 
-    /// The number of VM slots: 16.
+    /// The number of VM slots: 16, in version 2 64.
     #[tactic(auto, unfolding(crate::specs::Configuration::slot_count))]
     pub fn slots(&self) -> u32
         ensures value { result ≡ slot_count self.now }
         ensures few { result ≤ slot_limit }
     {
-        16
+        match self.version {
+            Version::One => 16,
+            Version::Two => 64,
+        }
     }
 
     /// The frame of this number; `None` where there is none.
@@ -191,6 +241,7 @@ impl Config {
         ensures { IfOk result (λ made. made ≡ self.now) }
     {
         Ok(Config {
+            version: self.version,
             frames: self.frames,
             core: self.core,
             host: self.host,

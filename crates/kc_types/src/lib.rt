@@ -13,6 +13,7 @@ mod reply;
 mod resource;
 mod slot;
 mod spare;
+mod version;
 
 pub use call::{Actor, Call, actor_of};
 pub use config::{Config, ConfigFault};
@@ -26,3 +27,4 @@ pub use reply::Reply;
 pub use resource::Resource;
 pub use slot::{Image, Phase, Vcpu};
 pub use spare::Spare;
+pub use version::Version;

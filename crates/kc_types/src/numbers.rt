@@ -4,7 +4,7 @@ ghost use Rattle.kc_types.specs.Limits.{frame_limit, slot_limit, vcpu_limit, gfn
 
 use std::marker::Model;
 
-/// The number of a frame of 4,096 bytes, 0 to 8,191. Whether the frame exists is a matter of the
+/// The number of a frame of 4,096 bytes, 0 to 65,535. Whether the frame exists is a matter of the
 /// configuration.
 #[derive(Clone, Copy, Debug, PartialEq, Eq)]
 pub struct FrameNo {
@@ -22,12 +22,12 @@ impl Model for FrameNo {
 }
 
 impl FrameNo {
-    /// The frame of this number, or `None` from 8,192 on.
+    /// The frame of this number, or `None` from 65,536 on.
     pub fn try_new(number: u32) -> Option<FrameNo>
         ensures valid { IsSome result ↔ (number < frame_limit) }
         ensures value { IfSome result (λ frame. frame ≡ number) }
     {
-        if number < 8_192 {
+        if number < 65_536 {
             Some(FrameNo {
                 number: number as u16,
             })
@@ -53,7 +53,8 @@ impl FrameNo {
     }
 }
 
-/// The number of a VM slot, 0 to 15.
+/// The number of a VM slot, 0 to 63. Whether the slot exists is a matter of the
+/// configuration.
 #[derive(Clone, Copy, Debug, PartialEq, Eq)]
 pub struct VmId {
     number: u8,
@@ -70,12 +71,12 @@ impl Model for VmId {
 }
 
 impl VmId {
-    /// The slot of this number, or `None` from 16 on.
+    /// The slot of this number, or `None` from 64 on.
     pub fn try_new(number: u32) -> Option<VmId>
         ensures valid { IsSome result ↔ (number < slot_limit) }
         ensures value { IfSome result (λ vm. vm ≡ number) }
     {
-        if number < 16 {
+        if number < 64 {
             Some(VmId {
                 number: number as u8,
             })

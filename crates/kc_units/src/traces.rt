@@ -59,7 +59,7 @@ fn faults(rt: HostRuntime) -> Result<(), Fail> {
         "",
         "kcore-trace 1",
         "kcore-trace 01\n",
-        "kcore-trace 2\n",
+        "kcore-trace 3\n",
         "kcore-trace 1\r\n",
     ] {
         let found = refusal(read_trace(alloc, text.as_bytes()))?;

@@ -4,6 +4,7 @@ use Rattle.std.proofs.lemmas.List.{take_at}
 use Rattle.std.proofs.lemmas.List.Elements.{All-set, All-push}
 use Rattle.std.proofs.lemmas.Bool.{leb-false}
 use Rattle.std.specs.List.{list_any, refill}
+use Rattle.kc_types.specs.declared.version.Version.TheVariants.{One}
 use Rattle.kc_types.specs.declared.slot.Phase.{Phase}
 use Rattle.kc_types.specs.declared.slot.Phase.TheVariants.{Empty}
 use Rattle.kc_types.specs.declared.refusal.Refusal.TheVariants.{NoImage, ImageFull}
@@ -19,7 +20,7 @@ use Rattle.kc_vms.specs.Refusals.{no_vm, not_booting, next_page_refusal}
 
 pub slot-empty : IsSlot Empty no_vcpus []
 slot-empty =
-    let is = lawful-empty_slot (record { frames = 0; core = 0; host = 0; leaves = 0; approved = [] }) in
+    let is = lawful-empty_slot (record { version = One; frames = 0; core = 0; host = 0; leaves = 0; approved = [] }) in
     record {
       vcpu_count = is.vcpus;
       each_vcpu = is.each_vcpu;

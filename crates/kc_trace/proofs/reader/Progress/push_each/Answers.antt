@@ -12,10 +12,10 @@ pub returns-then-remaining_capacity-run : goal.returns-then-remaining_capacity-r
 returns-then-remaining_capacity-run c =
     let few : length c.self.inside.line.items ≤ longest_line = omega (arith, c.remaining_capacity.ensures) in
     let over : longest_line < length c.self.inside.line.items + length c.args.run.now = omega (arith, c.remaining_capacity.ensures, c.if-remaining_capacity-run.true) in
-    rw (← c.self.view_is) (with_line _ _ _ _ (longer_over c.self.inside.is_too_long c.self.inside.line.items c.args.run.now few over))
+    rw (← c.self.view_is) (with_line _ _ _ _ _ (longer_over c.self.inside.is_too_long c.self.inside.line.items c.args.run.now few over))
 
 pub returns-else-remaining_capacity-run : goal.returns-else-remaining_capacity-run
 returns-else-remaining_capacity-run c =
     let fits : length c.self.inside.line.items + length c.args.run.now ≤ longest_line = omega (arith, c.remaining_capacity.ensures, c.if-remaining_capacity-run.false) in
     let pushed = on_ok c.try_extend_from_slice.result _ (c.try_extend_from_slice.ensures.variant.1 fits) c.try_extend_from_slice.ensures.ok in
-    rw (← c.self.view_is) (with_line _ _ _ _ (longer_fits c.self.inside.is_too_long c.self.inside.line.items c.args.run.now c.try_extend_from_slice.new.self.items pushed fits))
+    rw (← c.self.view_is) (with_line _ _ _ _ _ (longer_fits c.self.inside.is_too_long c.self.inside.line.items c.args.run.now c.try_extend_from_slice.new.self.items pushed fits))

@@ -1,13 +1,14 @@
+use Rattle.std.proofs.Common.{sym, ◌∙◌}
 use Rattle.kc_trace.proofs.Runs.{next_of_header, not_of_header, one_too_many, tail_is}
 use Rattle.kc_trace.proofs.reader.Progress.take_some.Goals as goal
 
-pub returns-then-bytes-next-clause-same : goal.returns-then-bytes-next-clause-same
-returns-then-bytes-next-clause-same c = rw (← c.self.view_is) (not_of_header _ c.args.bytes.now c.in-len1-up.len_at_least c.requires.some c.if-bytes-next.true)
+pub returns-in_default-told-clause-same : goal.returns-in_default-told-clause-same
+returns-in_default-told-clause-same c = rw (← c.self.view_is) (not_of_header _ c.args.bytes.now c.in-len1-up.len_at_least c.requires.some (sym c.in_default-told.is ∙ c.told.ensures))
 
 pub returns-in-len1-up-clause-same : goal.returns-in-len1-up-clause-same
 returns-in-len1-up-clause-same c =
     rw (← c.self.view_is, tail_is 1 c.args.bytes.now, tail_is 1 c.self.inside.header_left.now)
-    (next_of_header _ c.args.bytes.now c.in-len1-up.len_at_least c.requires.some c.if-bytes-next.false)
+    (next_of_header _ c.args.bytes.now _ c.in-len1-up.len_at_least c.requires.some (sym c.in-Some.is ∙ c.told.ensures))
 
 pub returns-then-self-ge-CALL_LIMIT-clause-same : goal.returns-then-self-ge-CALL_LIMIT-clause-same
 returns-then-self-ge-CALL_LIMIT-clause-same c = rw (← c.self.view_is) (one_too_many _ c.args.bytes.now c.in_default.len_below c.if-self-ge-CALL_LIMIT.true c.requires.some)

@@ -1,0 +1,70 @@
+-- Granting and revoking on parts, one guest frame after another.
+use Rattle.std.proofs.Common.{ℕ, suc, ◌≡◌, ◌<◌, ◌≤◌, ◌+◌, inl, inr, true, nat_le, None, Some, List, [], ◌∷◌, get_or, set, is_some, refl, ap, subst, ◌∙◌, arith, get_or-set_other}
+use Rattle.std.proofs.lemmas.Bool.{cases_eq, leb-false}
+use Rattle.std.specs.List.{range_with_len}
+use Rattle.std.specs.FinMap as map
+use Rattle.kc_types.specs.Configuration.{Configuration, slot_count}
+use Rattle.kc_types.specs.declared.call.Call.{Call}
+use Rattle.kc_types.specs.declared.call.Call.TheVariants.{GrantRange}
+use Rattle.kc_types.specs.declared.owner.Owner.TheVariants.{Core}
+use Rattle.kc_types.specs.declared.resource.Resource.TheVariants as resource
+use Rattle.kc_model.specs.State.{State, Frame, Slot, frame_at, mapped_at, untouched, empty_slot}
+use Rattle.kc_model.specs.Refusals.{refusal, backing, share_at}
+use Rattle.kc_model.specs.Effects.{with_each, granted}
+use Rattle.kc_model.specs.Resources.{slot_of}
+use Rattle.kc_model.proofs.Served.{when-none}
+use Rattle.kc_model.proofs.Each.{none-in}
+use Rattle.kc_model.proofs.RangeCalls.{guest_range-served}
+use Rattle.kc_model.proofs.Measured.{set-here}
+use Rattle.kc_parts.specs.Held.{Held, page_at}
+use Rattle.kc_parts.specs.States.{state_of}
+use Rattle.kc_calls.specs.Applying.{IsAble, IsSameRoom}
+use Rattle.kc_calls.specs.Sharing.{IsPageUnder}
+use Rattle.kc_calls.proofs.Needed.{mapped-needed}
+
+-- the frame at a guest frame is the one that was found
+pub found-here : (config : Configuration) (h : Held) (v g f : ℕ) → IsPageUnder config h v g → mapped_at (state_of config h) v g ≡ Some f → is_some (page_at h f) ≡ true
+found-here config h v g f is found =
+    let were = is.mapped in
+    let same : is.frame ≡ f = cc in
+    subst (λ x. is_some (page_at h x) ≡ true) same is.here
+
+-- the guest frame is mapped to a page that is here, also after calls that leave the slots and the places as they are
+pub page-under : (config : Configuration) (old now : Held) (call : Call) (v g : ℕ) → IsAble config old call → slot_of call ≡ Some v → v < slot_count config → mapped_at (state_of config old) v g ≡ Some (backing (mapped_at (state_of config old) v g))
+    → (state_of config now).slots ≡ (state_of config old).slots → IsSameRoom old now → IsPageUnder config now v g
+page-under config old now call v g able names low mapped slots room =
+    let f = backing (mapped_at (state_of config old) v g) in
+    record {
+      frame = f;
+      mapped = ap (λ (slots : List Slot). map.get (get_or slots v empty_slot).mapped g) slots ∙ mapped;
+      here = room.here (resource.Frame f) ∙ mapped-needed config old call able v g f names low mapped;
+    }
+
+-- one guest frame of the range is done
+pub one-done : (change : Frame → Frame) (m new goal : State) (v g n left : ℕ) → n ≡ suc left → new ≡ with_each m v (g ∷ []) change → with_each m v (range_with_len g n) change ≡ goal → with_each new v (range_with_len (g + 1) left) change ≡ goal
+one-done change m new goal v g n left more is to = rw is (rw more at to)
+
+-- none is left
+pub all-done : (change : Frame → Frame) (m goal : State) (v g n : ℕ) → n ≡ 0 → with_each m v (range_with_len g n) change ≡ goal → m ≡ goal
+all-done change m goal v g n none to = rw none at to
+
+-- a grant raises no share by more than one
+share-set : (frames : List Frame) (f before now : ℕ) → (get_or frames f (untouched Core)).share ≤ before → before + 1 ≤ now → (get_or (set frames f (granted (get_or frames f (untouched Core)))) f (untouched Core)).share ≤ now
+share-set frames f before now few more = elim (set-here frames f (granted (get_or frames f (untouched Core))) (untouched Core)) [
+  | inl here ↦ rw here (omega (arith, few, more))
+  | inr here ↦ rw here (omega arith)
+]
+
+pub share-more : (m new : State) (v g h before now : ℕ) → new ≡ with_each m v (g ∷ []) granted → share_at m v h ≤ before → before + 1 ≤ now → share_at new v h ≤ now
+share-more m new v g h before now is few more = rw is (by_frame (backing (mapped_at m v g)) (backing (mapped_at m v h)) few)
+  where
+    by_frame : (f k : ℕ) → (frame_at m k).share ≤ before → (get_or (set m.frames f (granted (frame_at m f))) k (untouched Core)).share ≤ now
+    by_frame f k few = elim (cases_eq k f) [
+      | inl same ↦ rw same (share-set m.frames f before now (rw same at few) more)
+      | inr other ↦ rw (get_or-set_other m.frames f k (granted (frame_at m f)) (untouched Core) other) (omega (arith, few, more))
+    ]
+
+-- each frame of a served grant is granted less than 100 times
+pub few-ranged : (m : State) (v c g n : ℕ) → refusal m (GrantRange v c g n) ≡ None → (h : ℕ) → g ≤ h → h < g + n → share_at m v h < 100
+few-ranged m v c g n served h low high =
+    leb-false 100 (share_at m v h) (none-in (λ h. nat_le 100 (share_at m v h)) g n h (when-none _ _ (guest_range-served m v c g n _ served).1) low high)
