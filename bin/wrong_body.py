@@ -1,0 +1,160 @@
+"""Reads the edits that give wrong bodies: of each the function that it turns, and where that one stands for rattle."""
+import dataclasses
+import pathlib
+import re
+
+FN = re.compile(r"( *)(?:pub(?:\([^)]*\))? )?(?:const )?(?:unsafe )?fn (\w+)")
+IMPL = re.compile(r"(?:unsafe )?impl(?:<.*?>)? (?:(\w+)(?:<(\w+).*>)? for )?(\w+)")
+
+
+class BadEdit(Exception):
+    """Why an edit gives no wrong body that could be tried."""
+
+
+@dataclasses.dataclass(frozen=True)
+class Function:
+    """A function of a file: the head of its impl or trait, and its lines, the first with its attributes, counted from 0."""
+
+    owner: str
+    name: str
+    first: int
+    last: int
+
+    def lines_of(self, text):
+        return text.split("\n")[self.first : self.last + 1]
+
+
+@dataclasses.dataclass(frozen=True)
+class Body:
+    """A wrong body: the whole text of a function, with the file that it stands in and its path below the crate."""
+
+    crate: pathlib.Path
+    edit: str
+    path: str
+    function: Function
+    lines: tuple
+    where: tuple
+
+    def __str__(self):
+        return f"{self.crate.name}/{self.edit}"
+
+    def is_of_trait(self):
+        return " for " in self.function.owner or "trait " in self.function.owner
+
+    def proof_folders(self, root, name):
+        """Returns the folders with the proof files of the function under a name, and of the closures in it."""
+        module = root.joinpath("proofs", *self.where[:-1])
+        return [module / name, module / "fn" / name]
+
+    def proof_files(self):
+        folders = self.proof_folders(self.crate, self.function.name)
+        return [file for folder in folders for file in folder.glob("**/*.antt")]
+
+
+def functions(text):
+    """Returns the functions of a file in rt fmt's layout."""
+    lines, found, owner, at = text.split("\n"), [], "", 0
+    while at < len(lines):
+        if re.match(r"(?:unsafe )?impl\b|(?:pub )?trait ", lines[at]):
+            owner = lines[at]
+        elif lines[at].startswith("}"):
+            owner = ""
+        head = FN.match(lines[at])
+        if head:
+            first, last = at, end_of(lines, at, head[1])
+            while is_of_attribute(lines[first - 1]):
+                first -= 1
+            found.append(Function(owner if head[1] else "", head[2], first, last))
+            at = last
+        at += 1
+    return found
+
+
+def is_of_attribute(line):
+    """Returns whether a line above a function's head is of its attributes."""
+    return bool(re.search(r"[^{};]$", line)) and not line.strip().startswith("//")
+
+
+def end_of(lines, start, depth):
+    """Returns the last line of a function: its brace, at the depth of its head, or the semicolon where it has no body."""
+    has_body = "{" in lines[start]
+    if has_body and lines[start].endswith("}"):
+        return start
+    for at in range(start, len(lines)):
+        has_body = has_body or lines[at].endswith("{")
+        if lines[at] == depth + "}" or lines[at].endswith(";") and not has_body:
+            return at
+    raise BadEdit(f"the function on line {start + 1} has no end")
+
+
+def bare(lines):
+    """Returns the code of lines without comments, and without space but in strings."""
+    code = re.sub(r"//[^\n]*", "", "\n".join(lines))
+    return re.sub(r'("(?:[^"\\]|\\.)*")|\s+', lambda it: it[1] or "", code)
+
+
+def head_of(lines):
+    """Returns a function's attributes, signature and clauses."""
+    depth = re.match(" *", lines[-1])[0]
+    opens = next((at for at, it in enumerate(lines) if it == depth + "{"), None)
+    return bare(lines[:opens]) if opens else bare("\n".join(lines).partition("{")[:1])
+
+
+def outside(text, found):
+    """Returns the code of a file but for these functions, which are marked."""
+    lines = text.split("\n")
+    for it in reversed(found):
+        lines[it.first : it.last + 1] = [f"fn {it.name}"]
+    return bare(lines)
+
+
+def applied(edit, crate):
+    """Returns the one file that an edit turns, and the text that it makes of it."""
+    path, old, text = None, None, None
+    for line in edit.read_text().split("\n"):
+        word, _, rest = line.partition(": ")
+        if word == "file":
+            if path not in (None, crate / rest.strip()) or not rest.startswith("src/"):
+                raise BadEdit("it turns another file than one of src/")
+            path = crate / rest.strip()
+        elif word == "old":
+            old = rest
+        elif word in ("new", "new:"):
+            text = path.read_text() if text is None else text
+            if not old or text.count(old) != 1:
+                raise BadEdit(f"an old text is in {path.name} {text.count(old) if old else 0} times, and not once")
+            text, old = text.replace(old, rest), None
+    if text is None:
+        raise BadEdit("it has no new text")
+    return path, text
+
+
+def wrong_body(edit, crate):
+    """Returns the wrong body that an edit makes of the one function whose body it turns."""
+    path, now = applied(edit, crate)
+    was = path.read_text()
+    old, new = functions(was), functions(now)
+    if outside(was, old) != outside(now, new):
+        raise BadEdit("it turns what is outside of functions: such stand in must-fail/")
+    both = [(it, it.lines_of(was), other.lines_of(now)) for it, other in zip(old, new)]
+    turned = [it for it in both if bare(it[1]) != bare(it[2])]
+    if len(turned) != 1:
+        raise BadEdit(f"it turns {len(turned)} functions")
+    function, right, wrong = turned[0]
+    if head_of(right) != head_of(wrong):
+        raise BadEdit("it turns a signature or a clause")
+    path = str(path.relative_to(crate))
+    return Body(crate, edit.name, path, function, tuple(wrong), place(crate, path, function))
+
+
+def place(crate, path, function):
+    """Returns a function's path below the crate. A method stands where its type is declared; one of a trait where the
+    impl is, under the names of the type, of the trait and of what the trait is applied to."""
+    owner = IMPL.match(function.owner)
+    if owner and not owner[1]:
+        declares = re.compile(rf"(?m)^(?:pub(?:\([^)]*\))? )?(?:struct|enum) {owner[3]}\b")
+        files = sorted((crate / "src").glob("**/*.rt"))
+        path = next((it.relative_to(crate) for it in files if declares.search(it.read_text())), path)
+    modules = [it for it in pathlib.PurePath(path).with_suffix("").parts[1:] if it not in ("lib", "main", "mod")]
+    names = [f"{owner[3]}{owner[1] or ''}{owner[2] or ''}"] if owner else []
+    return (*modules, *names, function.name)
