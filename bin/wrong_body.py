@@ -13,7 +13,7 @@ class BadEdit(Exception):
 
 @dataclasses.dataclass(frozen=True)
 class Function:
-    """A function of a file: the head of its impl or trait, and its lines, the first with its attributes, counted from 0."""
+    """A function of a file: the head of its impl or trait, and which lines are its own, from its attributes on."""
 
     owner: str
     name: str
@@ -76,7 +76,7 @@ def is_of_attribute(line):
 
 
 def end_of(lines, start, depth):
-    """Returns the last line of a function: its brace, at the depth of its head, or the semicolon where it has no body."""
+    """Returns the last line of a function: its brace at the depth of its head, or the semicolon where it has no body."""
     has_body = "{" in lines[start]
     if has_body and lines[start].endswith("}"):
         return start
@@ -120,9 +120,11 @@ def applied(edit, crate):
         elif word == "old":
             old = rest
         elif word in ("new", "new:"):
+            if not path or not old:
+                raise BadEdit("a new text has no file, or no old text, before it")
             text = path.read_text() if text is None else text
-            if not old or text.count(old) != 1:
-                raise BadEdit(f"an old text is in {path.name} {text.count(old) if old else 0} times, and not once")
+            if text.count(old) != 1:
+                raise BadEdit(f"an old text is in {path.name} {text.count(old)} times, and not once")
             text, old = text.replace(old, rest), None
     if text is None:
         raise BadEdit("it has no new text")
