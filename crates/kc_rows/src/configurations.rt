@@ -1,12 +1,11 @@
 //! Configurations that are refused.
-use crate::support::{SMALL, replayed};
+use crate::support::{SMALL, gives};
 use kc_cli::TextFault;
 use kc_trace::ConfigTextFault;
 use kc_types::{Config, ConfigFault};
-use std::test::Fail;
 
 #[test]
-fn refused_configurations(rt: HostRuntime) -> Result<(), Fail> {
+fn refused_configurations(rt: HostRuntime) {
     let cases = [
         (
             "{\"frames\":0,\"core\":0,\"host\":0,\"leaves\":1,\"approved\":[]}",
@@ -24,17 +23,17 @@ fn refused_configurations(rt: HostRuntime) -> Result<(), Fail> {
         ("{", ConfigTextFault::NotJson),
     ];
     for (config, fault) in cases {
-        let (outcome, written) = replayed(rt.alloc(), config, b"kcore-trace 1\n")?;
-        assert_eq!(rt; outcome, Err(TextFault::Config(fault)), "at {config}");
-        assert!(rt; written.is_empty());
+        let outcome = Err(TextFault::Config(fault));
+        assert!(rt;
+            gives(rt.alloc(), config, b"kcore-trace 1\n", outcome, b""),
+            "at {config}"
+        );
     }
-    let (outcome, _) = replayed(rt.alloc(), SMALL, b"kcore-trace 1\n")?;
-    assert_eq!(rt; outcome, Ok(()));
-    Ok(())
+    assert!(rt; gives(rt.alloc(), SMALL, b"kcore-trace 1\n", Ok(()), b""));
 }
 
 #[test]
-fn configurations_by_number(rt: HostRuntime) -> Result<(), Fail> {
+fn configurations_by_number(rt: HostRuntime) {
     let cases = [
         ((0, 0, 0, 1), Some(ConfigFault::Frames)),
         ((8_193, 0, 0, 1), Some(ConfigFault::Frames)),
@@ -51,5 +50,4 @@ fn configurations_by_number(rt: HostRuntime) -> Result<(), Fail> {
         let made = Config::try_new(frames, core, host, leaves, Vec::new(rt.alloc()));
         assert_eq!(rt; made.err(), fault);
     }
-    Ok(())
 }

@@ -1,27 +1,61 @@
 //! One copy of each type that has them.
-use kc_types::{Call, Config, Data, Reply};
+use kc_types::{Call, Config, Data, Memory, Reply};
+use std::alloc::Global;
 use std::test::Fail;
 
+fn abc(alloc: Global) -> Result<Data, Fail> {
+    let data = Data::try_new(Vec::from_slice(alloc, b"abc")?);
+    Ok(data.ok_or("no data")?)
+}
+
+fn is_copied_data(data: &Data) -> Result<bool, Memory> {
+    Ok(data.copy()? == *data)
+}
+
+fn is_copied_call(call: &Call) -> Result<bool, Memory> {
+    Ok(call.copy()? == *call)
+}
+
+fn is_copied_reply(reply: &Reply) -> Result<bool, Memory> {
+    Ok(reply.copy()? == *reply)
+}
+
+fn is_copied_config(config: &Config) -> Result<bool, Memory> {
+    Ok(config.copy()? == *config)
+}
+
 #[test]
-fn copies_are_equal(rt: HostRuntime) -> Result<(), Fail> {
-    let alloc = rt.alloc();
-    let data = Data::try_new(Vec::from_slice(alloc, b"abc")?).ok_or("no data")?;
-    assert_eq!(rt; data.copy()?, data);
+fn copies_of_data_are_equal(rt: HostRuntime) -> Result<(), Fail> {
+    let data = abc(rt.alloc())?;
+    assert!(rt; is_copied_data(&data)?);
+    Ok(())
+}
+
+#[test]
+fn copies_of_calls_are_equal(rt: HostRuntime) -> Result<(), Fail> {
     let call = Call::HostWrite {
         frame: 1,
         offset: 2,
-        data: data.copy()?,
+        data: abc(rt.alloc())?,
     };
-    assert_eq!(rt; call.copy()?, call);
-    let reply = Reply::Data(data);
-    assert_eq!(rt; reply.copy()?, reply);
-    let digest = [7; 32];
-    let mut approved = Vec::new(alloc);
-    approved.push(digest)?;
+    assert!(rt; is_copied_call(&call)?);
+    Ok(())
+}
+
+#[test]
+fn copies_of_replies_are_equal(rt: HostRuntime) -> Result<(), Fail> {
+    let reply = Reply::Data(abc(rt.alloc())?);
+    assert!(rt; is_copied_reply(&reply)?);
+    Ok(())
+}
+
+#[test]
+fn copies_of_configurations_are_equal(rt: HostRuntime) -> Result<(), Fail> {
+    let approved = Vec::from_slice(rt.alloc(), &[[7; 32]])?;
     let config = Config::try_new(8, 1, 4, 1, approved)
         .ok()
         .ok_or("no configuration")?;
-    assert_eq!(rt; config.copy()?, config);
+    assert!(rt; is_copied_config(&config)?);
     Ok(())
 }
 

@@ -13,7 +13,7 @@ const TURNS: u32 = 10_000;
 #[derive(Drop)]
 pub struct Script<'a, R: Clock + Sync> {
     pub rt: &'a R,
-    pub order: Vec<usize>,
+    pub order: &'a [usize],
     pub turn: AtomicU64,
     pub gave_up: AtomicBool,
 }

@@ -1,10 +1,9 @@
 //! Boot images of whole pages and of a byte more, the largest images, and the largest table.
-use crate::support::answers;
+use crate::support::{answer, answers};
 use kc_core::KCore;
 use kc_types::{Call, Config, Data, Refusal, Reply};
 use sha2::{Digest, Sha256};
 use std::alloc::Global;
-use std::test::Fail;
 
 /// This many bytes of `ff`.
 fn filled(alloc: Global, len: usize) -> Option<Vec<u8>> {
@@ -27,22 +26,23 @@ fn core_of(alloc: Global, frames: u32, host: u32, leaves: u32, len: usize) -> Op
     KCore::boot(alloc, config).ok()
 }
 
-/// A frame of the host's is filled with `ff`, and handed over as the next page of an image.
-fn hand_over(alloc: Global, core: &mut KCore, image: u32, frame: u32) -> Option<Reply> {
+/// A frame of the host's is filled with `ff`.
+fn fill(alloc: Global, core: &mut KCore, frame: u32) -> Option<Reply> {
     let data = Data::try_new(filled(alloc, 4_096)?)?;
-    core.call(&Call::HostFault { frame }).ok()?;
-    core.call(&Call::HostWrite {
+    answer(core, &Call::HostFault { frame })?;
+    let write = Call::HostWrite {
         frame,
         offset: 0,
         data,
-    })
-    .ok()?;
-    core.call(&Call::Remap {
-        vm: 0,
-        image,
-        frame,
-    })
-    .ok()
+    };
+    answer(core, &write)
+}
+
+/// A frame of the host's is filled with `ff`, and handed over as the next page of an image.
+fn hand_over(alloc: Global, core: &mut KCore, image: u32, frame: u32) -> Option<Reply> {
+    fill(alloc, core, frame)?;
+    let vm = 0;
+    answer(core, &Call::Remap { vm, image, frame })
 }
 
 /// Hands over the frames from one on as the pages of an image.
@@ -59,14 +59,16 @@ fn hand_over_pages(
     Some(())
 }
 
-/// A VM whose one image fills these frames from 1 on with this many bytes of `ff`, and what verifying it answers.
-fn booted(alloc: Global, len: u32, pages: u32) -> Option<(KCore, Reply)> {
+/// A VM whose one image fills these frames from 1 on with this many bytes of `ff`, and which runs.
+fn booted(alloc: Global, len: u32, pages: u32) -> Option<KCore> {
     let mut core = core_of(alloc, 4, 3, 1, len as usize)?;
     let lines = format!(in alloc; "regvm 0\nsetboot 0 0 {len}\n").ok()?;
     answers(alloc, &mut core, lines.as_str())?;
     hand_over_pages(alloc, &mut core, 0, 1, pages)?;
-    let reply = core.call(&Call::Verify { vm: 0 }).ok()?;
-    Some((core, reply))
+    match answer(&mut core, &Call::Verify { vm: 0 })? {
+        Reply::Done => Some(core),
+        _ => None,
+    }
 }
 
 /// How many bytes of `ff` the frame begins with, where all the others are zero.
@@ -80,25 +82,21 @@ fn filled_bytes(core: &KCore, frame: u32) -> Option<usize> {
     }
 }
 
+/// How many bytes of `ff` a frame begins with once the VM of such an image runs.
+fn kept(alloc: Global, len: u32, pages: u32, frame: u32) -> Option<usize> {
+    let core = booted(alloc, len, pages)?;
+    filled_bytes(&core, frame)
+}
+
 #[test]
 fn a_whole_page_stays(rt: HostRuntime) {
-    let found = booted(rt.alloc(), 4_096, 1);
-    assert!(rt; found.is_some());
-    if let Some((core, reply)) = found {
-        assert_eq!(rt; reply, Reply::Done);
-        assert_eq!(rt; filled_bytes(&core, 1), Some(4_096));
-    }
+    assert_eq!(rt; kept(rt.alloc(), 4_096, 1, 1), Some(4_096));
 }
 
 #[test]
 fn a_byte_more_leaves_a_byte_of_the_second_page(rt: HostRuntime) {
-    let found = booted(rt.alloc(), 4_097, 2);
-    assert!(rt; found.is_some());
-    if let Some((core, reply)) = found {
-        assert_eq!(rt; reply, Reply::Done);
-        assert_eq!(rt; filled_bytes(&core, 1), Some(4_096));
-        assert_eq!(rt; filled_bytes(&core, 2), Some(1));
-    }
+    assert_eq!(rt; kept(rt.alloc(), 4_097, 2, 1), Some(4_096));
+    assert_eq!(rt; kept(rt.alloc(), 4_097, 2, 2), Some(1));
 }
 
 /// What verifying four images of the greatest length answers.
@@ -110,7 +108,7 @@ fn four_largest_images(alloc: Global) -> Option<Reply> {
     for image in 0..4 {
         hand_over_pages(alloc, &mut core, image, image * 256 + 1, 256)?;
     }
-    core.call(&Call::Verify { vm: 0 }).ok()
+    answer(&mut core, &Call::Verify { vm: 0 })
 }
 
 #[test]

@@ -36,6 +36,15 @@ fn with_takes(alloc: Global, actors: &[(Actor, &str); 2], takes: u32) -> Option<
     Some(programs)
 }
 
+/// What stops a run of some programs.
+fn stop_of<R: Threads + Wait + Sync>(
+    rt: &R,
+    alloc: Global,
+    programs: Vec<Program>,
+) -> Option<LiveStop> {
+    run_live(rt, alloc, small_config(alloc)?, programs, &OpenGate).err()
+}
+
 /// Why programs do not run, of which the second takes a frame so often more.
 fn cause<R: Threads + Wait + Sync>(
     rt: &R,
@@ -44,15 +53,11 @@ fn cause<R: Threads + Wait + Sync>(
     takes: u32,
 ) -> Option<LiveCause> {
     let programs = with_takes(alloc, actors, takes)?;
-    match run_live(rt, alloc, small_config(alloc)?, programs, &OpenGate) {
-        Err(
-            LiveStop {
-                cause,
-                history: None,
-            },
-        ) => Some(cause),
-        _ => None,
+    let LiveStop { cause, history } = stop_of(rt, alloc, programs)?;
+    if history.is_some() {
+        return None;
     }
+    Some(cause)
 }
 
 /// An actor runs once, its slot and its virtual processor exist, its calls are its own, and a history has no more than

@@ -3,6 +3,7 @@
 use crate::support::{after, answers, has_frames};
 use kc_core::KCore;
 use kc_types::{FrameNo, Owner};
+use std::process::Abort;
 
 /// A free frame is taken, and frame 2 given.
 const MOVES: &str = "take\ngive 2\n";
@@ -24,17 +25,28 @@ fn has_neighbours(core: &KCore, frame: u32, prev: Option<u32>, next: Option<u32>
     }
 }
 
+fn check_neighbours(rt: &impl Abort, core: &KCore) {
+    assert!(rt; has_neighbours(core, 6, None, Some(7)));
+    assert!(rt; has_neighbours(core, 7, Some(6), Some(2)));
+    assert!(rt; has_neighbours(core, 2, Some(7), None));
+    assert!(rt; has_neighbours(core, 5, None, None));
+    assert!(rt; !has_neighbours(core, 8, None, None));
+}
+
 #[test]
 fn records_have_neighbours(rt: HostRuntime) {
     let core = after(rt.alloc(), MOVES);
     assert!(rt; core.is_some());
     if let Some(core) = core {
-        assert!(rt; has_neighbours(&core, 6, None, Some(7)));
-        assert!(rt; has_neighbours(&core, 7, Some(6), Some(2)));
-        assert!(rt; has_neighbours(&core, 2, Some(7), None));
-        assert!(rt; has_neighbours(&core, 5, None, None));
-        assert!(rt; !has_neighbours(&core, 8, None, None));
+        check_neighbours(&rt, &core);
     }
+}
+
+fn check_owners(rt: &impl Abort, core: &KCore) {
+    assert!(rt; has_frames(core, Owner::Free, &[6, 7, 2]));
+    assert!(rt; has_frames(core, Owner::Host, &[1, 3, 4, 5]));
+    assert!(rt; has_frames(core, Owner::Core, &[0]));
+    assert_eq!(rt; core.pages().len(), 8);
 }
 
 #[test]
@@ -42,10 +54,7 @@ fn owners_have_frames(rt: HostRuntime) {
     let core = after(rt.alloc(), MOVES);
     assert!(rt; core.is_some());
     if let Some(core) = core {
-        assert!(rt; has_frames(&core, Owner::Free, &[6, 7, 2]));
-        assert!(rt; has_frames(&core, Owner::Host, &[1, 3, 4, 5]));
-        assert!(rt; has_frames(&core, Owner::Core, &[0]));
-        assert_eq!(rt; core.pages().len(), 8);
+        check_owners(&rt, &core);
     }
 }
 
@@ -78,6 +87,12 @@ fn is_present(core: &KCore, frame: u32) -> bool {
     }
 }
 
+fn check_wiped(rt: &impl Abort, core: &KCore) {
+    assert!(rt; begins_with(core, 1, b"\0\0\0\0"));
+    assert!(rt; is_present(core, 1));
+    assert!(rt; core.bytes(8).is_none());
+}
+
 /// Frame 1 is mapped and begins with `abc`.
 #[test]
 fn wiping_leaves_records(rt: HostRuntime) {
@@ -86,8 +101,6 @@ fn wiping_leaves_records(rt: HostRuntime) {
     if let Some(mut core) = core {
         assert!(rt; begins_with(&core, 1, b"abc\0"));
         core.wipe();
-        assert!(rt; begins_with(&core, 1, b"\0\0\0\0"));
-        assert!(rt; is_present(&core, 1));
-        assert!(rt; core.bytes(8).is_none());
+        check_wiped(&rt, &core);
     }
 }

@@ -5,7 +5,9 @@ use crate::support::SMALL;
 use kc_cli::{FailAt, Failed, Mem, Sink, live_text, replay_text};
 use kc_replay::OpenGate;
 use std::alloc::Global;
+use std::sync::Wait;
 use std::test::Fail;
+use std::thread::Threads;
 
 /// How many pages are written, or read: enough for a text of more than two pieces of 65,536 bytes.
 const PAGES: usize = 17;
@@ -76,45 +78,57 @@ fn writes(alloc: Global) -> Result<Vec<u8>, Fail> {
     Ok(text)
 }
 
+/// Whether the replies went out to a sink that takes few bytes at a time and fails after so many, and what it took.
+fn replied_until(alloc: Global, left: usize) -> Result<(bool, Vec<u8>), Fail> {
+    let mut config = Mem::with_bytes(SMALL.as_bytes().to_vec(alloc)?);
+    let mut trace = Mem::with_bytes(reads(alloc)?);
+    let inner = Few {
+        inner: Mem::new(alloc),
+    };
+    let mut out = FailAt::new(inner, left);
+    let outcome = replay_text(alloc, &mut config, &mut trace, &mut out, 1);
+    Ok((outcome.is_ok(), out.inner.inner.bytes))
+}
+
 /// A sink that takes few bytes at a time is given all replies, and one that fails has taken a beginning of them,
 /// wherever it fails.
 #[test]
 fn replies_go_out_whole_or_to_where_the_sink_fails(rt: HostRuntime) -> Result<(), Fail> {
-    let alloc = rt.alloc();
-    let wanted = replies(alloc)?;
+    let wanted = replies(rt.alloc())?;
     let whole = wanted.len();
     assert_eq!(rt; whole, 139_624);
     for left in [
         0, 1, 9, 10, 8_207, 8_212, 32_830, 65_535, 65_537, 131_073, 139_623, 139_624, 139_625,
     ] {
-        let mut config = Mem::with_bytes(SMALL.as_bytes().to_vec(alloc)?);
-        let mut trace = Mem::with_bytes(reads(alloc)?);
-        let inner = Few {
-            inner: Mem::new(alloc),
-        };
-        let mut out = FailAt::new(inner, left);
-        let outcome = replay_text(alloc, &mut config, &mut trace, &mut out, 1);
-        assert_eq!(rt; outcome.is_ok(), left >= whole, "{left}");
-        let taken = out.inner.inner.bytes;
+        let (is_whole, taken) = replied_until(rt.alloc(), left)?;
+        assert_eq!(rt; is_whole, left >= whole, "{left}");
         assert!(rt; taken.as_slice() == &wanted[..left.min(whole)], "{left}");
     }
     Ok(())
 }
 
+/// Whether the trace of a live run went out to a sink that fails after so many bytes, and what it took.
+fn traced_until<R: Threads + Wait + Sync>(
+    rt: &R,
+    alloc: Global,
+    left: usize,
+) -> Result<(bool, Vec<u8>), Fail> {
+    let mut config = Mem::with_bytes(SMALL.as_bytes().to_vec(alloc)?);
+    let mut trace = Mem::with_bytes(writes(alloc)?);
+    let mut out = FailAt::new(Mem::new(alloc), left);
+    let outcome = live_text(rt, alloc, &mut config, &mut trace, &mut out, 1, &OpenGate);
+    Ok((outcome.is_ok(), out.inner.bytes))
+}
+
 /// So does the trace that a live run writes.
 #[test]
 fn a_trace_goes_out_whole_or_to_where_the_sink_fails(rt: HostRuntime) -> Result<(), Fail> {
-    let alloc = rt.alloc();
-    let wanted = writes(alloc)?;
+    let wanted = writes(rt.alloc())?;
     let whole = wanted.len();
     assert_eq!(rt; whole, 139_491);
     for left in [0, 13, 22, 8_227, 65_535, 65_537, 131_073, 139_490, 139_491] {
-        let mut config = Mem::with_bytes(SMALL.as_bytes().to_vec(alloc)?);
-        let mut trace = Mem::with_bytes(writes(alloc)?);
-        let mut out = FailAt::new(Mem::new(alloc), left);
-        let outcome = live_text(&rt, alloc, &mut config, &mut trace, &mut out, 1, &OpenGate);
-        assert_eq!(rt; outcome.is_ok(), left >= whole, "{left}");
-        let taken = out.inner.bytes;
+        let (is_whole, taken) = traced_until(&rt, rt.alloc(), left)?;
+        assert_eq!(rt; is_whole, left >= whole, "{left}");
         assert!(rt; taken.as_slice() == &wanted[..left.min(whole)], "{left}");
     }
     Ok(())

@@ -13,21 +13,30 @@ fn read(frame: u32) -> Call {
     }
 }
 
-/// The history of a mapping and a reading of frame 1.
-fn history(alloc: Global) -> Result<History, Fail> {
-    let mut book = Book::new(alloc, config(alloc, 8, 4).ok_or("no configuration")?)?;
-    let mapping = Ready::new(alloc, Call::HostFault { frame: 1 })?;
-    let reading = Ready::new(alloc, read(1))?;
-    if book.step(mapping).is_err() || book.step(reading).is_err() {
-        return Err(Fail::from("no step"));
+/// Whether a call was made and written into the book.
+fn is_made(alloc: Global, book: &mut Book, call: Call) -> bool {
+    match Ready::new(alloc, call) {
+        Ok(ready) => book.step(ready).is_ok(),
+        Err(_) => false,
     }
-    Ok(book.close())
+}
+
+/// The history of a mapping and a reading of frame 1.
+fn history(alloc: Global) -> Option<History> {
+    let mut book = Book::new(alloc, config(alloc, 8, 4)?).ok()?;
+    if is_made(alloc, &mut book, Call::HostFault { frame: 1 })
+        && is_made(alloc, &mut book, read(1))
+    {
+        Some(book.close())
+    } else {
+        None
+    }
 }
 
 /// Whether these rows are the receipts of that history.
-fn settles(alloc: Global, rows: &[Vec<Receipt>]) -> Result<bool, Fail> {
+fn settles(alloc: Global, rows: &[Vec<Receipt>]) -> Option<bool> {
     let history = history(alloc)?;
-    Ok(settle(alloc, &history, rows)?)
+    settle(alloc, &history, rows).ok()
 }
 
 /// The receipt of the mapping.
@@ -68,7 +77,7 @@ fn first_and(alloc: Global, receipt: Receipt) -> Result<Vec<Receipt>, AllocError
 fn the_receipts_of_a_history_settle(rt: HostRuntime) -> Result<(), Fail> {
     let alloc = rt.alloc();
     let together = [first_and(alloc, second(alloc, 1, 1, 0)?)?];
-    assert!(rt; settles(alloc, &together)?);
+    assert!(rt; settles(alloc, &together) == Some(true));
     Ok(())
 }
 
@@ -76,7 +85,7 @@ fn the_receipts_of_a_history_settle(rt: HostRuntime) -> Result<(), Fail> {
 fn a_lone_receipt_does_not(rt: HostRuntime) -> Result<(), Fail> {
     let alloc = rt.alloc();
     let lone = [row(alloc, first())?];
-    assert!(rt; !settles(alloc, &lone)?);
+    assert!(rt; settles(alloc, &lone) == Some(false));
     Ok(())
 }
 
@@ -84,7 +93,7 @@ fn a_lone_receipt_does_not(rt: HostRuntime) -> Result<(), Fail> {
 fn another_byte_does_not(rt: HostRuntime) -> Result<(), Fail> {
     let alloc = rt.alloc();
     let forged = [first_and(alloc, second(alloc, 1, 1, 1)?)?];
-    assert!(rt; !settles(alloc, &forged)?);
+    assert!(rt; settles(alloc, &forged) == Some(false));
     Ok(())
 }
 
@@ -92,7 +101,7 @@ fn another_byte_does_not(rt: HostRuntime) -> Result<(), Fail> {
 fn another_number_does_not(rt: HostRuntime) -> Result<(), Fail> {
     let alloc = rt.alloc();
     let forged = [first_and(alloc, second(alloc, 2, 1, 0)?)?];
-    assert!(rt; !settles(alloc, &forged)?);
+    assert!(rt; settles(alloc, &forged) == Some(false));
     Ok(())
 }
 
@@ -100,6 +109,6 @@ fn another_number_does_not(rt: HostRuntime) -> Result<(), Fail> {
 fn another_call_does_not(rt: HostRuntime) -> Result<(), Fail> {
     let alloc = rt.alloc();
     let forged = [first_and(alloc, second(alloc, 1, 2, 0)?)?];
-    assert!(rt; !settles(alloc, &forged)?);
+    assert!(rt; settles(alloc, &forged) == Some(false));
     Ok(())
 }

@@ -1,6 +1,6 @@
 //! Each condition that refuses a call: alone where it can be alone, and with the next one of its call where both can
 //! hold, so that the first is answered; and that the core shows the same before and after.
-use crate::support::{answers, calls_of, small};
+use crate::support::{answer, answers, calls_of, small};
 use kc_core::KCore;
 use kc_types::{FrameNo, Owner, Refusal, Reply, VmId};
 use std::alloc::Global;
@@ -66,15 +66,22 @@ fn after(alloc: Global, lines: &str) -> Option<KCore> {
     }
 }
 
-/// Whether two cores show the same of a frame.
-fn has_same_frame(one: &KCore, other: &KCore, frame: u32) -> bool {
+/// Whether a frame has the same bytes in two cores.
+fn has_same_bytes(one: &KCore, other: &KCore, frame: u32) -> bool {
     match (one.bytes(frame), other.bytes(frame)) {
-        (Some(bytes), Some(others)) => {
-            bytes.as_slice() == others.as_slice()
-                && one.page_record(frame) == other.page_record(frame)
-        },
+        (Some(bytes), Some(others)) => bytes.as_slice() == others.as_slice(),
         _ => false,
     }
+}
+
+/// Whether a frame has the same record in two cores.
+fn has_same_record(one: &KCore, other: &KCore, frame: u32) -> bool {
+    one.page_record(frame) == other.page_record(frame)
+}
+
+/// Whether two cores show the same of a frame.
+fn has_same_frame(one: &KCore, other: &KCore, frame: u32) -> bool {
+    has_same_bytes(one, other, frame) && has_same_record(one, other, frame)
 }
 
 /// Whether two cores show the same of all frames.
@@ -174,15 +181,24 @@ fn answer_the_same(alloc: Global, one: &mut KCore, other: &mut KCore) -> bool {
     }
 }
 
+/// What a core answers to the first call of a trace, whose header is left out.
+fn first_answer(alloc: Global, core: &mut KCore, lines: &str) -> Option<Reply> {
+    let calls = calls_of(alloc, lines)?;
+    answer(core, calls.first()?)
+}
+
+/// Whether two cores show and answer the same.
+fn are_the_same(alloc: Global, one: &mut KCore, other: &mut KCore) -> bool {
+    look_the_same(one, other) && answer_the_same(alloc, one, other)
+}
+
 /// What a core answers to a call after others, and whether it then shows and answers the same as a core without
 /// that call.
 fn outcome(alloc: Global, before: &str, call: &str) -> Option<(Reply, bool)> {
     let mut still = after(alloc, before)?;
     let mut core = after(alloc, before)?;
-    let calls = calls_of(alloc, call)?;
-    let reply = core.call(calls.first()?).ok()?;
-    let is_same = look_the_same(&still, &core) && answer_the_same(alloc, &mut still, &mut core);
-    Some((reply, is_same))
+    let reply = first_answer(alloc, &mut core, call)?;
+    Some((reply, are_the_same(alloc, &mut still, &mut core)))
 }
 
 /// Whether a call after others is refused so, and nothing is seen to change.

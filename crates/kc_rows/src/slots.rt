@@ -20,6 +20,39 @@ fn is_host(core: &KCore, frame: u32) -> bool {
     }
 }
 
+/// Whether a VM slot is in a phase.
+fn is_in(core: &KCore, vm: u32, phase: Phase) -> bool {
+    core.phase(vm) == Some(phase)
+}
+
+/// Whether a guest frame of the VM in slot 0 is mapped to a frame.
+fn is_mapped(core: &KCore, gfn: u32, frame: u32) -> bool {
+    core.lookup(0, gfn) == FrameNo::try_new(frame)
+}
+
+/// Whether root slot 0 alone has a leaf in the table of the VM in slot 0.
+fn has_first_leaf(core: &KCore) -> bool {
+    core.leaves(0) == Some([0].as_slice())
+}
+
+/// Whether the first virtual processor of the VM in slot 0 waits for a guest frame.
+fn waits_for(core: &KCore, gfn: u32) -> bool {
+    core.fault(0, 0) == Gfn::try_new(gfn)
+}
+
+/// Whether nothing is shown of a slot.
+fn is_nowhere(core: &KCore, vm: u32) -> bool {
+    core.phase(vm).is_none()
+        && core.leaves(vm).is_none()
+        && core.fault(vm, 0).is_none()
+        && core.lookup(vm, 0).is_none()
+}
+
+/// Whether a virtual processor and a guest frame of slot 0 are not there.
+fn has_neither(core: &KCore, vcpu: u32, gfn: u32) -> bool {
+    core.fault(0, vcpu).is_none() && core.lookup(0, gfn).is_none()
+}
+
 /// Pages that come out of order stand in the list in their order of arrival, and a VM that is not approved keeps
 /// them.
 #[test]
@@ -29,10 +62,10 @@ fn a_rejected_vm_is_dead(rt: HostRuntime) {
     let core = after(rt.alloc(), lines);
     assert!(rt; core.is_some());
     if let Some(core) = core {
-        assert_eq!(rt; core.phase(0), Some(Phase::Dead));
+        assert!(rt; is_in(&core, 0, Phase::Dead));
         assert!(rt; vm_has_frames(&core, &[2, 1]));
-        assert_eq!(rt; core.lookup(0, 0), FrameNo::try_new(1));
-        assert_eq!(rt; core.lookup(0, 1), FrameNo::try_new(2));
+        assert!(rt; is_mapped(&core, 0, 1));
+        assert!(rt; is_mapped(&core, 1, 2));
     }
 }
 
@@ -49,7 +82,7 @@ fn after_drops(alloc: Global, drops: &str) -> Option<KCore> {
 /// Whether these are the VM's frames after some were given up, and root slot 0 still has its leaf.
 fn keeps(alloc: Global, drops: &str, numbers: &[u32]) -> bool {
     match after_drops(alloc, drops) {
-        Some(core) => { vm_has_frames(&core, numbers) && core.leaves(0) == Some([0].as_slice()) },
+        Some(core) => vm_has_frames(&core, numbers) && has_first_leaf(&core),
         None => false,
     }
 }
@@ -80,8 +113,8 @@ fn a_refused_page_stays_the_hosts(rt: HostRuntime) {
     if let Some(core) = core {
         assert!(rt; is_host(&core, 2));
         assert!(rt; vm_has_frames(&core, &[1]));
-        assert_eq!(rt; core.leaves(0), Some([0].as_slice()));
-        assert_eq!(rt; core.phase(0), Some(Phase::Booting));
+        assert!(rt; has_first_leaf(&core));
+        assert!(rt; is_in(&core, 0, Phase::Booting));
     }
 }
 
@@ -94,8 +127,8 @@ fn a_refused_map_leaves_the_fault(rt: HostRuntime) {
     assert!(rt; core.is_some());
     if let Some(core) = core {
         assert!(rt; is_host(&core, 2));
-        assert_eq!(rt; core.fault(0, 0), Gfn::try_new(512));
-        assert_eq!(rt; core.phase(0), Some(Phase::Active));
+        assert!(rt; waits_for(&core, 512));
+        assert!(rt; is_in(&core, 0, Phase::Active));
         assert!(rt; vm_has_frames(&core, &[1]));
     }
 }
@@ -105,9 +138,8 @@ fn what_does_not_exist(rt: HostRuntime) {
     let core = after(rt.alloc(), "");
     assert!(rt; core.is_some());
     if let Some(core) = core {
-        assert_eq!(rt; core.phase(15), Some(Phase::Empty));
-        assert!(rt; core.phase(16).is_none() && core.leaves(16).is_none());
-        assert!(rt; core.fault(16, 0).is_none() && core.fault(0, 8).is_none());
-        assert!(rt; core.lookup(0, 262_144).is_none() && core.lookup(16, 0).is_none());
+        assert!(rt; is_in(&core, 15, Phase::Empty));
+        assert!(rt; is_nowhere(&core, 16));
+        assert!(rt; has_neither(&core, 8, 262_144));
     }
 }

@@ -5,7 +5,6 @@ use kc_trace::read_trace;
 use kc_types::{Call, Config, Owner, Reply};
 use std::alloc::{AllocError, Global};
 use std::process::Abort;
-use std::test::Fail;
 
 /// The calls of a trace, and the replies that they get.
 #[derive(Drop)]
@@ -54,6 +53,11 @@ pub fn answers(alloc: Global, core: &mut KCore, lines: &str) -> Option<Vec<Reply
     core.run(alloc, calls.as_slice()).ok()
 }
 
+/// What a core answers to a call.
+pub fn answer(core: &mut KCore, call: &Call) -> Option<Reply> {
+    core.call(call).ok()
+}
+
 /// The small core after the calls of a trace, whose header is left out.
 pub fn after(alloc: Global, lines: &str) -> Option<KCore> {
     let mut core = small(alloc)?;
@@ -86,25 +90,35 @@ pub fn replayed(
     Ok((outcome, out.bytes))
 }
 
-/// Each example's calls, after others, get its replies after theirs.
-pub fn hold(
-    rt: &impl Abort,
+/// Whether the engine answers so to a configuration and a trace, and writes this.
+pub fn gives(
     alloc: Global,
     config: &str,
-    before: &Example,
-    examples: &[Example],
-) -> Result<(), Fail> {
+    trace: &[u8],
+    outcome: Result<(), TextFault>,
+    text: &[u8],
+) -> bool {
+    match replayed(alloc, config, trace) {
+        Ok((answered, written)) => answered == outcome && written.as_slice() == text,
+        Err(_) => false,
+    }
+}
+
+/// Whether an example's calls, after others, get its replies after theirs.
+fn holds(alloc: Global, config: &str, before: &Example, example: &Example) -> Option<bool> {
+    let trace = format!(in alloc; "kcore-trace 1\n{}{}", before.calls, example.calls).ok()?;
+    let replies = format!(in alloc; "{}{}", before.replies, example.replies).ok()?;
+    let found = gives(alloc, config, trace.as_bytes(), Ok(()), replies.as_bytes());
+    Some(found)
+}
+
+/// Each example's calls, after others, get its replies after theirs.
+pub fn hold(rt: &impl Abort, alloc: Global, config: &str, before: &Example, examples: &[Example]) {
     for example in examples {
-        let trace = format!(in alloc; "kcore-trace 1\n{}{}", before.calls, example.calls)?;
-        let replies = format!(in alloc; "{}{}", before.replies, example.replies)?;
-        let (outcome, written) = replayed(alloc, config, trace.as_bytes())?;
-        assert_eq!(rt; outcome, Ok(()));
-        assert_eq!(rt;
-            written.as_slice(),
-            replies.as_bytes(),
+        assert!(rt;
+            holds(alloc, config, before, example) == Some(true),
             "at {}",
             example.calls
         );
     }
-    Ok(())
 }

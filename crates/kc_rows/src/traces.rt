@@ -1,5 +1,5 @@
 //! Traces and their replies.
-use crate::support::{Example, NOTHING, SMALL, hold, replayed};
+use crate::support::{Example, NOTHING, SMALL, gives, hold, replayed};
 use kc_cli::TextFault;
 use kc_trace::TraceFault;
 use std::test::Fail;
@@ -54,12 +54,12 @@ const EXAMPLES: [Example; 10] = [
 ];
 
 #[test]
-fn replies_to_traces(rt: HostRuntime) -> Result<(), Fail> {
-    hold(&rt, rt.alloc(), SMALL, &NOTHING, &EXAMPLES)
+fn replies_to_traces(rt: HostRuntime) {
+    hold(&rt, rt.alloc(), SMALL, &NOTHING, &EXAMPLES);
 }
 
 #[test]
-fn refused_traces_write_nothing(rt: HostRuntime) -> Result<(), Fail> {
+fn refused_traces_write_nothing(rt: HostRuntime) {
     let cases = [
         ("", TraceFault::NoHeader),
         ("kcore-trace 1", TraceFault::NoHeader),
@@ -71,11 +71,12 @@ fn refused_traces_write_nothing(rt: HostRuntime) -> Result<(), Fail> {
         ("kcore-trace 1\nhfault 1", TraceFault::NoNewline),
     ];
     for (trace, fault) in cases {
-        let (outcome, written) = replayed(rt.alloc(), SMALL, trace.as_bytes())?;
-        assert_eq!(rt; outcome, Err(TextFault::Trace(fault)), "at {trace:?}");
-        assert!(rt; written.is_empty());
+        let outcome = Err(TextFault::Trace(fault));
+        assert!(rt;
+            gives(rt.alloc(), SMALL, trace.as_bytes(), outcome, b""),
+            "at {trace:?}"
+        );
     }
-    Ok(())
 }
 
 /// A trace cut anywhere: before its header's end, behind a line, or within one.

@@ -1,5 +1,5 @@
 //! Stories of VMs: their images, their faults, what they share.
-use crate::support::{Example, NOTHING, SMALL, hold, replayed};
+use crate::support::{Example, NOTHING, SMALL, gives, hold};
 use std::test::Fail;
 
 /// Two leaves in the place of one.
@@ -88,33 +88,33 @@ const GUESTS: [Example; 6] = [
 ];
 
 #[test]
-fn boots(rt: HostRuntime) -> Result<(), Fail> {
-    hold(&rt, rt.alloc(), SMALL, &NOTHING, &BOOTS)
+fn boots(rt: HostRuntime) {
+    hold(&rt, rt.alloc(), SMALL, &NOTHING, &BOOTS);
 }
 
 #[test]
-fn guests(rt: HostRuntime) -> Result<(), Fail> {
-    hold(&rt, rt.alloc(), SMALL, &BOOTED, &GUESTS)
+fn guests(rt: HostRuntime) {
+    hold(&rt, rt.alloc(), SMALL, &BOOTED, &GUESTS);
 }
 
 /// Two virtual processors wait for one guest frame, and each for itself.
 #[test]
-fn two_wait_for_one_guest_frame(rt: HostRuntime) -> Result<(), Fail> {
+fn two_wait_for_one_guest_frame(rt: HostRuntime) {
     let example = Example {
         calls: "hfault 1\nhwrite 1 0 616263\nregvm 0\nregvcpu 0 0\nregvcpu 0 1\nsetboot 0 0 3\nremap 0 0 1\nverify 0\ngread 0 0 7 0 1\ngread 0 1 7 0 1\nmap 0 0 2\nmap 0 1 3\ngread 0 1 7 0 1\nmap 0 1 3\ngive 3\n",
         replies: "done\ndone\ndone\ndone\ndone\nimage 0\ndone\ndone\nfault 7\nfault 7\ndone\nrefused mapped\ndata 00\nrefused no-fault\ndone\n",
     };
-    hold(&rt, rt.alloc(), SMALL, &NOTHING, &[example])
+    hold(&rt, rt.alloc(), SMALL, &NOTHING, &[example]);
 }
 
 /// A refused `map` has taken no leaf, so the two leaves go to the two guest frames that are served.
 #[test]
-fn a_refused_map_takes_no_leaf(rt: HostRuntime) -> Result<(), Fail> {
+fn a_refused_map_takes_no_leaf(rt: HostRuntime) {
     let example = Example {
         calls: "gread 0 0 512 0 1\nmap 0 0 0\nmap 0 0 5\ngread 0 0 1024 0 1\nmap 0 0 2\ngread 0 0 512 0 1\nmap 0 0 3\n",
         replies: "fault 512\nrefused not-host\nrefused not-host\nfault 1024\ndone\nfault 512\nrefused tables-full\n",
     };
-    hold(&rt, rt.alloc(), TWO_LEAVES, &BOOTED, &[example])
+    hold(&rt, rt.alloc(), TWO_LEAVES, &BOOTED, &[example]);
 }
 
 /// A VM that waits for guest frame 7, gets frame 2 there and writes a byte.
@@ -126,23 +126,18 @@ const WRITTEN: &str = "fault 7\ndone\ndone\ndata 2a\n";
 #[test]
 fn a_hundred_grants(rt: HostRuntime) -> Result<(), Fail> {
     let alloc = rt.alloc();
-    let mut trace = format!(in alloc; "kcore-trace 1\n{}{WRITE}", BOOTED.calls)?;
-    let mut replies = format!(in alloc; "{}{WRITTEN}", BOOTED.replies)?;
-    for _ in 0..100 {
-        trace.push_str("grant 0 0 7\n")?;
-        replies.push_str("done\n")?;
-    }
-    trace.push_str("grant 0 0 7\nhfault 2\nhread 2 0 1\n")?;
-    replies.push_str("refused share-full\ndone\ndata 2a\n")?;
-    for _ in 0..100 {
-        trace.push_str("revoke 0 0 7\n")?;
-        replies.push_str("done\n")?;
-    }
-    trace.push_str("hread 2 0 1\nrevoke 0 0 7\n")?;
-    replies.push_str("refused not-present\nrefused not-shared\n")?;
-    let (outcome, written) = replayed(rt.alloc(), SMALL, trace.as_bytes())?;
-    assert_eq!(rt; outcome, Ok(()));
-    assert_eq!(rt; written.as_slice(), replies.as_bytes());
+    let grants = "grant 0 0 7\n".repeat(alloc, 100)?;
+    let revokes = "revoke 0 0 7\n".repeat(alloc, 100)?;
+    let done = "done\n".repeat(alloc, 100)?;
+    let trace = format!(in alloc;
+        "kcore-trace 1\n{}{WRITE}{grants}grant 0 0 7\nhfault 2\nhread 2 0 1\n{revokes}hread 2 0 1\nrevoke 0 0 7\n",
+        BOOTED.calls
+    )?;
+    let replies = format!(in alloc;
+        "{}{WRITTEN}{done}refused share-full\ndone\ndata 2a\n{done}refused not-present\nrefused not-shared\n",
+        BOOTED.replies
+    )?;
+    assert!(rt; gives(alloc, SMALL, trace.as_bytes(), Ok(()), replies.as_bytes()));
     Ok(())
 }
 
@@ -171,16 +166,16 @@ const ENDS: [Example; 4] = [
 ];
 
 #[test]
-fn ends(rt: HostRuntime) -> Result<(), Fail> {
-    hold(&rt, rt.alloc(), SMALL, &BOOTED, &ENDS)
+fn ends(rt: HostRuntime) {
+    hold(&rt, rt.alloc(), SMALL, &BOOTED, &ENDS);
 }
 
 /// A leaf stays taken where its last guest frame was given up, and comes back when the slot is cleared.
 #[test]
-fn leaves_come_back_when_the_slot_is_cleared(rt: HostRuntime) -> Result<(), Fail> {
+fn leaves_come_back_when_the_slot_is_cleared(rt: HostRuntime) {
     let example = Example {
         calls: "gread 0 0 512 0 1\nmap 0 0 2\ndrop 0 0 512\ngread 0 0 1024 0 1\nmap 0 0 3\nclear 0\ntake\ntake\ntake\ntake\ntake\n",
         replies: "fault 512\ndone\ndone\nfault 1024\nrefused tables-full\ndone\nframe 5\nframe 6\nframe 7\nframe 2\nframe 1\n",
     };
-    hold(&rt, rt.alloc(), TWO_LEAVES, &BOOTED, &[example])
+    hold(&rt, rt.alloc(), TWO_LEAVES, &BOOTED, &[example]);
 }

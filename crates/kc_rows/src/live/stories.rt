@@ -1,8 +1,7 @@
 //! VMs that run live.
-use crate::live::programs;
 use kc_live::{History, Program};
 use kc_trace::{LONGEST_CALL, LONGEST_REPLY, push_call, push_reply};
-use kc_types::{Actor, Call};
+use kc_types::{Actor, Call, Data, Reply};
 use std::alloc::Global;
 
 /// Calls 0 to 9: a VM of two virtual processors boots, and each is supplied with a frame.
@@ -26,12 +25,25 @@ pub const STORY: [(Actor, &str); 3] = [
 pub const STORY_REPLIES: &str =
     "done\ndone\ndone\ndone\ndone\nimage 0\ndone\ndone\nfault 7\nfault 8\ndone\ndone\ndone\ndone\ndata 2a\ndata 2b\n";
 
+/// Appends the line of a call.
+fn push_call_line(text: &mut Vec<u8>, call: &Call) -> Option<()> {
+    text.reserve(LONGEST_CALL).ok()?;
+    push_call(text, call);
+    Some(())
+}
+
+/// Appends the line of a reply.
+fn push_reply_line(text: &mut Vec<u8>, reply: &Reply) -> Option<()> {
+    text.reserve(LONGEST_REPLY).ok()?;
+    push_reply(text, reply);
+    Some(())
+}
+
 /// The calls of a history, as they are written in a trace.
 fn calls_in(alloc: Global, history: &History) -> Option<Vec<u8>> {
     let mut text = Vec::new(alloc);
     for entry in history.entries() {
-        text.reserve(LONGEST_CALL).ok()?;
-        push_call(&mut text, &entry.call);
+        push_call_line(&mut text, &entry.call)?;
     }
     Some(text)
 }
@@ -48,8 +60,7 @@ pub fn has_calls(alloc: Global, history: &History, lines: &str) -> bool {
 fn replies_in(alloc: Global, history: &History) -> Option<Vec<u8>> {
     let mut text = Vec::new(alloc);
     for entry in history.entries() {
-        text.reserve(LONGEST_REPLY).ok()?;
-        push_reply(&mut text, &entry.reply);
+        push_reply_line(&mut text, &entry.reply)?;
     }
     Some(text)
 }
@@ -78,45 +89,67 @@ fn busy(alloc: Global, vm: u32, vcpu: u32) -> Option<Program> {
     Some(guest)
 }
 
-/// A VM of eight virtual processors boots from the frame after its number.
-fn push_boot(lines: &mut String, alloc: Global, vm: u32) -> Option<()> {
-    let frame = vm.checked_add(1)?;
-    let boot = format!(in alloc; "hfault {frame}\nhwrite {frame} 0 616263\nregvm {vm}\n").ok()?;
-    lines.push_str(&boot).ok()?;
-    for vcpu in 0..8 {
-        let vcpu = format!(in alloc; "regvcpu {vm} {vcpu}\n").ok()?;
-        lines.push_str(&vcpu).ok()?;
-    }
-    let image = format!(in alloc; "setboot {vm} 0 3\nremap {vm} 0 {frame}\nverify {vm}\n").ok()?;
-    lines.push_str(&image).ok()
+/// A frame of the host's gets the bytes `abc`.
+fn add_write(host: &mut Program, alloc: Global, frame: u32) -> Option<()> {
+    let data = Data::try_new(Vec::from_slice(alloc, b"abc").ok()?)?;
+    host.add(Call::HostFault { frame }).ok()?;
+    host.add(Call::HostWrite {
+        frame,
+        offset: 0,
+        data,
+    })
+    .ok()
 }
 
-/// Each of the eight virtual processors of a VM is supplied with a frame.
-fn push_maps(lines: &mut String, alloc: Global, vm: u32) -> Option<()> {
-    for vcpu in 0..8u32 {
-        let frame = vm.checked_mul(8)?.checked_add(vcpu)?.checked_add(17)?;
-        let map = format!(in alloc; "map {vm} {vcpu} {frame}\n").ok()?;
-        lines.push_str(&map).ok()?;
+/// A slot gets a VM of eight virtual processors.
+fn add_vm(host: &mut Program, vm: u32) -> Option<()> {
+    host.add(Call::RegisterVm { vm }).ok()?;
+    for vcpu in 0..8 {
+        host.add(Call::RegisterVcpu { vm, vcpu }).ok()?;
     }
     Some(())
 }
 
-/// The host boots 16 VMs and supplies each of their virtual processors once.
-fn busy_host(alloc: Global) -> Option<String> {
-    let mut lines = String::new(alloc);
+/// A VM boots from an image of three bytes in a frame.
+fn add_boot(host: &mut Program, vm: u32, frame: u32) -> Option<()> {
+    let image = 0;
+    let boot = Call::SetBoot {
+        vm,
+        base: 0,
+        len: 3,
+    };
+    host.add(boot).ok()?;
+    host.add(Call::Remap { vm, image, frame }).ok()?;
+    host.add(Call::Verify { vm }).ok()
+}
+
+/// Each of the eight virtual processors of a VM is supplied with a frame, from one on.
+fn add_maps(host: &mut Program, vm: u32, first: u32) -> Option<()> {
+    for vcpu in 0..8u32 {
+        let frame = first.checked_add(vcpu)?;
+        host.add(Call::Map { vm, vcpu, frame }).ok()?;
+    }
+    Some(())
+}
+
+/// The host boots 16 VMs, each from the frame after its number, and supplies each of their virtual processors once.
+fn busy_host(alloc: Global) -> Option<Program> {
+    let mut host = Program::new(Actor::Host, Vec::new(alloc));
     for vm in 0..16 {
-        push_boot(&mut lines, alloc, vm)?;
+        add_write(&mut host, alloc, vm + 1)?;
+        add_vm(&mut host, vm)?;
+        add_boot(&mut host, vm, vm + 1)?;
     }
     for vm in 0..16 {
-        push_maps(&mut lines, alloc, vm)?;
+        add_maps(&mut host, vm, vm * 8 + 17)?;
     }
-    Some(lines)
+    Some(host)
 }
 
 /// 16 VMs of 8 virtual processors, each of which makes 500 calls.
 pub fn busy_vms(alloc: Global) -> Option<Vec<Program>> {
-    let lines = busy_host(alloc)?;
-    let mut programs = programs(alloc, &[(Actor::Host, &lines)])?;
+    let mut programs = Vec::new(alloc);
+    programs.push(busy_host(alloc)?).ok()?;
     for vm in 0..16 {
         for vcpu in 0..8 {
             programs.push(busy(alloc, vm, vcpu)?).ok()?;
