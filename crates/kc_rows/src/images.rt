@@ -59,16 +59,24 @@ fn hand_over_pages(
     Some(())
 }
 
-/// A VM whose one image fills these frames from 1 on with this many bytes of `ff`, and which runs.
-fn booted(alloc: Global, len: u32, pages: u32) -> Option<KCore> {
+/// A VM with an image of this many bytes, of which no page is handed over.
+fn with_image(alloc: Global, len: u32) -> Option<KCore> {
     let mut core = core_of(alloc, 4, 3, 1, len as usize)?;
     let lines = format!(in alloc; "regvm 0\nsetboot 0 0 {len}\n").ok()?;
     answers(alloc, &mut core, lines.as_str())?;
+    Some(core)
+}
+
+/// Whether the images are measured and the VM runs.
+fn runs(core: &mut KCore) -> bool {
+    matches!(answer(core, &Call::Verify { vm: 0 }), Some(Reply::Done))
+}
+
+/// A VM whose one image fills these frames from 1 on with this many bytes of `ff`, and which runs.
+fn booted(alloc: Global, len: u32, pages: u32) -> Option<KCore> {
+    let mut core = with_image(alloc, len)?;
     hand_over_pages(alloc, &mut core, 0, 1, pages)?;
-    match answer(&mut core, &Call::Verify { vm: 0 })? {
-        Reply::Done => Some(core),
-        _ => None,
-    }
+    if runs(&mut core) { Some(core) } else { None }
 }
 
 /// How many bytes of `ff` the frame begins with, where all the others are zero.
