@@ -17,11 +17,11 @@ use Rattle.kc_model.specs.Effects.{effect, changed_each, frames_under, with_each
 use Rattle.kc_model.specs.Lawful.{IsLawful, same_owner, holds}
 use Rattle.kc_model.specs.Blind.{Secret, has_gfn, is_secret, hidden_frame, is_running, hidden, names_secret, hidden_call, reads_secret, grants_secret, IsPrivate}
 use Rattle.kc_model.proofs.Frames.{part-set}
-use Rattle.kc_model.proofs.Served.{host_fault-served, host_access-served, when-none, positive, none-of}
+use Rattle.kc_model.proofs.Served.{host_fault-served, host_access-served, none-of}
 use Rattle.kc_model.proofs.Answered.{vm-in, was-host, was-empty}
 use Rattle.kc_model.proofs.Changes.{slot-elsewhere}
 use Rattle.kc_model.proofs.Moves.{first_free}
-use Rattle.kc_model.proofs.GuestCalls.{guest_access-served, guest_frame-served, owner-mapped}
+use Rattle.kc_model.proofs.GuestCalls.{guest_access-served, owner-mapped}
 use Rattle.kc_model.proofs.HandCalls.{remap-served, map-served}
 use Rattle.kc_model.proofs.Verifies.{HasLastPage, last_gfn, each_last_page, verify-served, backing-of, lawful-trimmed}
 use Rattle.kc_model.proofs.Clears.{after, slot-kept}

@@ -1,5 +1,5 @@
 -- A virtual processor's grants and revokes of the guest frames of a range keep the state lawful.
-use Rattle.std.proofs.Common.{ℕ, zero, suc, ◌≡◌, ◌<◌, ◌≤◌, ◌+◌, ◌-◌, inl, inr, false, IsTrue, cond, Option, None, Some, nat_eq, nat_le, nat_lt, sym, ap, subst, ◌∙◌, arith}
+use Rattle.std.proofs.Common.{ℕ, zero, suc, ◌≡◌, ◌<◌, ◌≤◌, ◌+◌, ◌-◌, inl, inr, false, IsTrue, cond, Option, None, Some, nat_eq, nat_le, nat_lt, sym, subst, arith}
 use Rattle.std.specs.List.{range_with_len}
 use Rattle.std.proofs.lemmas.Grind.{common_steps}
 use Rattle.std.proofs.lemmas.Bool.{leb-false, or_parts}

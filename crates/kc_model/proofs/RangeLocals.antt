@@ -8,7 +8,7 @@ use Rattle.kc_types.specs.declared.owner.Owner.TheVariants.{Core}
 use Rattle.kc_types.specs.declared.refusal.Refusal.{Refusal}
 use Rattle.kc_types.specs.declared.reply.Reply.TheVariants as reply
 use Rattle.kc_types.specs.declared.refusal.Refusal.TheVariants.{BadGfn, BadRange, NotMapped, ShareFull, NotShared}
-use Rattle.kc_model.specs.State.{State, Frame, Slot, slot_at, mapped_at, untouched}
+use Rattle.kc_model.specs.State.{State, Frame, slot_at, mapped_at, untouched}
 use Rattle.kc_model.specs.Refusals.{when, first_of_these, bad_vm, bad_vcpu, no_vm, not_active, no_vcpu, share_at, any_from, guest_range, backing}
 use Rattle.kc_model.specs.Effects.{changed_each, frames_under, with_each, granted, revoked}
 use Rattle.kc_model.specs.Resources.{Resources, pick, merged, is_in}

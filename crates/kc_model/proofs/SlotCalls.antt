@@ -1,5 +1,5 @@
 -- The calls that set up a slot keep the state lawful.
-use Rattle.std.proofs.Common.{ℕ, ◌≡◌, ◌<◌, ◌+◌, true, false, Option, None, Some, [], ◌∷◌, ◌++◌, length, nat_eq, nat_lt, refl, arith}
+use Rattle.std.proofs.Common.{ℕ, ◌≡◌, ◌<◌, ◌+◌, true, false, Option, None, Some, [], ◌∷◌, ◌++◌, length, nat_eq, nat_lt, nat_le, refl, arith}
 use Rattle.std.proofs.lemmas.Bool.{leb-false, ltb-false, or_parts}
 use Rattle.std.specs.List.{list_any}
 use Rattle.kc_types.specs.declared.call.Call.TheVariants.{RegisterVm, RegisterVcpu, SetBoot}
@@ -13,6 +13,7 @@ use Rattle.kc_model.proofs.Answered.{vm-in, vcpu-in, was-empty, was-booting}
 use Rattle.kc_model.proofs.Slots.{lawful-registered, lawful-with_vcpu, lawful-with_image, waits-not}
 use Rattle.kc_model.proofs.Changes.{lawful-with_slot}
 use Rattle.kc_types.specs.Configuration.{slot_count}
+use Rattle.kc_types.specs.Limits.{gfn_limit, image_size_limit, vcpu_limit}
 
 pub lawful-register_vm : (m : State) (v : ℕ) → IsLawful m → refusal m (RegisterVm v) ≡ None → IsLawful (effect m (RegisterVm v)).1
 lawful-register_vm m v is served =
@@ -22,7 +23,7 @@ lawful-register_vm m v is served =
     lawful-with_slot m v (record (slot_at m v) { phase = Booting }) is v_in refl refl (lawful-registered m.config (slot_at m v) (is.each_slot v v_in) empty) (λ h. absurd cc)
 
 -- a virtual processor's fault
-pub lawful-with_fault : (m : State) (v c : ℕ) (fault : Option ℕ) → IsLawful m → v < slot_count m.config → c < 8 → (slot_at m v).phase ≡ Active → (vcpu_at m v c).registered ≡ true → ((g : ℕ) → fault ≡ Some g → g < 262144) → IsLawful (with_fault m v c fault)
+pub lawful-with_fault : (m : State) (v c : ℕ) (fault : Option ℕ) → IsLawful m → v < slot_count m.config → c < vcpu_limit → (slot_at m v).phase ≡ Active → (vcpu_at m v c).registered ≡ true → ((g : ℕ) → fault ≡ Some g → g < gfn_limit) → IsLawful (with_fault m v c fault)
 lawful-with_fault m v c fault is v_in c_in active registered ranged =
     lawful-with_slot m v (with_vcpu (slot_at m v) c (record (vcpu_at m v c) { fault = fault })) is v_in refl refl
     (lawful-with_vcpu m.config (slot_at m v) c (record (vcpu_at m v c) { fault = fault }) (is.each_slot v v_in) (λ h. cc) c_in (record { registered = λ g h. registered; active = λ g h. active; gfn = ranged })) (λ h. h)
@@ -40,8 +41,8 @@ pub lawful-set_boot : (m : State) (v base len : ℕ) → IsLawful m → refusal 
 lawful-set_boot m v base len is served =
     let none = none-of (conditions m (SetBoot v base len)) served in
     let v_in = vm-in m v (none 0) in
-    let placed = or_parts (nat_lt 262143 base) (nat_lt 262144 (base + pages_of len)) (when-none _ _ (none 1)) in
-    let sized = or_parts (nat_eq len 0) (nat_lt 1048576 len) (when-none _ _ (none 2)) in
+    let placed = or_parts (nat_le gfn_limit base) (nat_lt gfn_limit (base + pages_of len)) (when-none _ _ (none 1)) in
+    let sized = or_parts (nat_eq len 0) (nat_lt image_size_limit len) (when-none _ _ (none 2)) in
     let booting = was-booting m v (none 4) in
     let few : length (slot_at m v).images < 4 = leb-false _ _ (when-none _ _ (none 5)) in
     let apart : list_any (overlaps base len) (slot_at m v).images ≡ false = when-none _ _ (none 6) in

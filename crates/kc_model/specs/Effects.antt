@@ -5,6 +5,7 @@ use Rattle.std.specs.Option.{option_map}
 use Rattle.std.specs.Ordering.{nat_cmp}
 use Rattle.std.specs.FinMap as map
 use Rattle.sha2.specs.Sha256.{sha256}
+use Rattle.kc_types.specs.Limits.{page_size, leaf_entries}
 use Rattle.kc_types.specs.declared.call.Call.{Call}
 use Rattle.kc_types.specs.declared.call.Call.TheVariants.{Take, Give, HostFault, HostRead, HostWrite, RegisterVm, RegisterVcpu, SetBoot, Remap, Verify, Map, GuestRead, GuestWrite, Grant, Revoke, GrantRange, RevokeRange, Drop, Clear}
 use Rattle.kc_types.specs.declared.reply.Reply.{Reply}
@@ -38,7 +39,7 @@ given m f = record (with_frame m f (record (frame_at m f) { owner = Free; presen
 
 -- the leaves with the root slot of the guest frame among them
 abbrev pub with_leaf : List ℕ → ℕ → List ℕ
-with_leaf leaves g = if list_any (λ root. root == g / 512) leaves then leaves else leaves ++ g / 512 ∷ []
+with_leaf leaves g = if list_any (λ root. root == g / leaf_entries) leaves then leaves else leaves ++ g / leaf_entries ∷ []
 
 -- the frame becomes the slot's, at a guest frame
 abbrev pub hand : State → ℕ → ℕ → ℕ → State
@@ -77,8 +78,8 @@ is_approved m v image = list_any (λ digest. same_bytes digest (sha256 (image_by
 abbrev pub trimmed : State → ℕ → Image → State
 trimmed m v image =
     let f = backing (mapped_at m v (image.base + pages_of image.len - 1)) in
-    let kept = (image.len - 1) % 4096 + 1 in
-    with_frame m f (record (frame_at m f) { bytes = take kept (frame_at m f).bytes ++ replicate (4096 - kept) 0 })
+    let kept = (image.len - 1) % page_size + 1 in
+    with_frame m f (record (frame_at m f) { bytes = take kept (frame_at m f).bytes ++ replicate (page_size - kept) 0 })
 
 abbrev pub all_trimmed : State → ℕ → List Image → State
 all_trimmed m v [] = m

@@ -2,6 +2,7 @@
 use Rattle.std.specs.Prelude.{ℕ, ◌+◌, ◌/◌, ◌≡◌, ◌≤◌, ◌<◌, ◌⊎◌, ◌↔◌, ◌==◌, ◌&&◌, nat_le, nat_lt, Bool, true, false, List, [], ◌∷◌, length, Some, is_some, IsTrue, All, slice_index_or, if◌then◌else◌}
 use Rattle.std.specs.List.{list_any}
 use Rattle.std.specs.FinMap as map
+use Rattle.kc_types.specs.Limits.{page_size, share_limit, gfn_limit, image_limit, image_size_limit, leaf_entries, vcpu_limit}
 use Rattle.kc_types.specs.Configuration.{Configuration, IsConfiguration, slot_count}
 use Rattle.kc_types.specs.declared.owner.Owner.{Owner}
 use Rattle.kc_types.specs.declared.owner.Owner.TheVariants.{Core, Host, Free, Vm}
@@ -30,9 +31,9 @@ times_in (x ∷ xs) f = (if x == f then 1 else 0) + times_in xs f
 abbrev pub ListsOnce : State → Owner → List ℕ → Type 0
 ListsOnce m owner frames = (f : ℕ) → times_in frames f ≡ (if same_owner (frame_at m f).owner owner then 1 else 0)
 
--- 4,096 bytes
+-- a page's number of bytes
 pub record IsPage (bytes : List ℕ) : Type 0 where
-  pub whole : length bytes ≡ 4096
+  pub whole : length bytes ≡ page_size
   pub each_byte : All (λ b. b < 256) bytes
 
 -- what the frame of this number keeps by itself
@@ -41,7 +42,7 @@ pub record IsLawfulFrame (config : Configuration) (f : ℕ) (frame : Frame) : Ty
   pub core : (frame.owner ≡ Core) ↔ (f < config.core)
   -- only a VM's frame is mapped, and each is
   pub mapped : is_some frame.gfn ≡ is_vm frame.owner
-  pub shared : frame.share ≤ 100
+  pub shared : frame.share ≤ share_limit
   pub sharer : 0 < frame.share → IsTrue (is_vm frame.owner)
   -- the host reaches only its own frames and those shared with it
   pub reached : IsTrue frame.present → (frame.owner ≡ Host) ⊎ (0 < frame.share)
@@ -49,7 +50,7 @@ pub record IsLawfulFrame (config : Configuration) (f : ℕ) (frame : Frame) : Ty
   pub page : IsPage frame.bytes
   -- the slot and the guest frame that it names exist
   pub slot : (v : ℕ) → frame.owner ≡ Vm v → v < slot_count config
-  pub gfn : (g : ℕ) → frame.gfn ≡ Some g → g < 262144
+  pub gfn : (g : ℕ) → frame.gfn ≡ Some g → g < gfn_limit
 
 -- whether the guest frame is one of the image's pages so far
 abbrev pub holds : ℕ → Image → Bool
@@ -57,8 +58,8 @@ holds g image = nat_le image.base g && nat_lt g (image.base + image.pages)
 
 pub record IsLawfulImage (image : Image) : Type 0 where
   pub some : 0 < image.len
-  pub small : image.len ≤ 1048576
-  pub within : image.base + pages_of image.len ≤ 262144
+  pub small : image.len ≤ image_size_limit
+  pub within : image.base + pages_of image.len ≤ gfn_limit
   pub pages : image.pages ≤ pages_of image.len
 
 -- no two images have a guest frame in common
@@ -70,22 +71,22 @@ Apart (image ∷ images) = (list_any (overlaps image.base image.len) images ≡ 
 pub record IsLawfulVcpu (phase : Phase) (vcpu : Vcpu) : Type 0 where
   pub registered : (g : ℕ) → vcpu.fault ≡ Some g → vcpu.registered ≡ true
   pub active : (g : ℕ) → vcpu.fault ≡ Some g → phase ≡ Active
-  pub gfn : (g : ℕ) → vcpu.fault ≡ Some g → g < 262144
+  pub gfn : (g : ℕ) → vcpu.fault ≡ Some g → g < gfn_limit
 
 -- whether the root slot of the guest frame has a leaf
 abbrev pub has_leaf : List ℕ → ℕ → Bool
-has_leaf leaves g = list_any (λ root. root == g / 512) leaves
+has_leaf leaves g = list_any (λ root. root == g / leaf_entries) leaves
 
 -- what a slot keeps by itself
 pub record IsLawfulSlot (config : Configuration) (slot : Slot) : Type 0 where
-  pub vcpus : length slot.vcpus ≡ 8
+  pub vcpus : length slot.vcpus ≡ vcpu_limit
   pub each_vcpu : (c : ℕ) → IsLawfulVcpu slot.phase (slice_index_or slot.vcpus c absent_vcpu)
-  pub few_images : length slot.images ≤ 4
+  pub few_images : length slot.images ≤ image_limit
   pub each_image : All IsLawfulImage slot.images
   pub apart : Apart slot.images
   pub few_leaves : length slot.leaves ≤ config.leaves
   pub leaves_once : (root : ℕ) → times_in slot.leaves root ≤ 1
-  pub each_leaf : All (λ root. root < 512) slot.leaves
+  pub each_leaf : All (λ root. root < leaf_entries) slot.leaves
   -- a mapped guest frame has a leaf
   pub rooted : (g f : ℕ) → map.get slot.mapped g ≡ Some f → has_leaf slot.leaves g ≡ true
   -- while booting the images' pages so far are mapped, and nothing else

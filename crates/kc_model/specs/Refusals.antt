@@ -1,5 +1,5 @@
 -- Why a call is refused: the first condition of its row that holds.
-use Rattle.std.specs.Prelude.{ℕ, ◌+◌, ◌/◌, Bool, true, false, not, ◌&&◌, ◌||◌, ◌==◌, nat_lt, nat_le, List, [], ◌∷◌, length, if◌then◌else◌, Option, Some, None, is_some, is_none}
+use Rattle.std.specs.Prelude.{ℕ, ◌+◌, ◌-◌, ◌/◌, Bool, true, false, not, ◌&&◌, ◌||◌, ◌==◌, nat_lt, nat_le, List, [], ◌∷◌, length, if◌then◌else◌, Option, Some, None, is_some, is_none}
 use Rattle.std.specs.List.{list_any, range_with_len}
 use Rattle.kc_types.specs.declared.call.Call.{Call}
 use Rattle.kc_types.specs.declared.call.Call.TheVariants.{Take, Give, HostFault, HostRead, HostWrite, RegisterVm, RegisterVcpu, SetBoot, Remap, Verify, Map, GuestRead, GuestWrite, Grant, Revoke, GrantRange, RevokeRange, Drop, Clear}
@@ -11,7 +11,7 @@ use Rattle.kc_types.specs.declared.slot.Phase.{Phase}
 use Rattle.kc_types.specs.declared.slot.Phase.TheVariants.{Empty, Booting, Active}
 use Rattle.kc_model.specs.State.{State, Image, frame_at, slot_at, vcpu_at, image_at, mapped_at}
 use Rattle.kc_types.specs.Configuration.{slot_count}
-use Rattle.kc_types.specs.Limits.{vcpu_limit, gfn_limit, range_limit}
+use Rattle.kc_types.specs.Limits.{page_size, vcpu_limit, gfn_limit, leaf_entries, image_limit, image_size_limit, share_limit, range_limit}
 
 -- the refusal where the condition holds
 abbrev pub when : Bool → Refusal → Option Refusal
@@ -42,7 +42,7 @@ is_active Active = true
 is_active _ = false
 
 abbrev pub pages_of : ℕ → ℕ
-pages_of len = (len + 4095) / 4096
+pages_of len = (len + (page_size - 1)) / page_size
 
 -- the conditions that several calls share
 abbrev pub bad_vm : State → ℕ → Option Refusal
@@ -58,7 +58,7 @@ abbrev pub bad_gfn : ℕ → Option Refusal
 bad_gfn g = when (nat_le gfn_limit g) BadGfn
 
 abbrev pub bad_range : ℕ → ℕ → Option Refusal
-bad_range off len = when (len == 0 || nat_lt 4096 (off + len)) BadRange
+bad_range off len = when (len == 0 || nat_lt page_size (off + len)) BadRange
 
 abbrev pub no_vm : State → ℕ → Option Refusal
 no_vm m v = when (is_empty (slot_at m v).phase) NoVm
@@ -91,7 +91,7 @@ share_at m v g = (frame_at m (backing (mapped_at m v g))).share
 
 -- the root slot of the guest frame has no leaf and the pool has none left
 abbrev pub tables_full : State → ℕ → ℕ → Option Refusal
-tables_full m v g = when (not (list_any (λ root. root == g / 512) (slot_at m v).leaves) && nat_le m.config.leaves (length (slot_at m v).leaves)) TablesFull
+tables_full m v g = when (not (list_any (λ root. root == g / leaf_entries) (slot_at m v).leaves) && nat_le m.config.leaves (length (slot_at m v).leaves)) TablesFull
 
 -- the guest frames of two images have one in common
 abbrev pub overlaps : ℕ → ℕ → Image → Bool
@@ -139,10 +139,10 @@ conditions m (HostWrite f off bytes) = bad_frame m f ∷ bad_range off (length b
 conditions m (RegisterVm v) = bad_vm m v ∷ when (not (is_empty (slot_at m v).phase)) SlotUsed ∷ []
 conditions m (RegisterVcpu v c) = bad_vm m v ∷ bad_vcpu c ∷ no_vm m v ∷ not_booting m v ∷ when (vcpu_at m v c).registered VcpuUsed ∷ []
 conditions m (SetBoot v base len) = bad_vm m v
-    ∷ when (nat_lt 262143 base || nat_lt 262144 (base + pages_of len)) BadGfn
-    ∷ when (len == 0 || nat_lt 1048576 len) BadRange
+    ∷ when (nat_le gfn_limit base || nat_lt gfn_limit (base + pages_of len)) BadGfn
+    ∷ when (len == 0 || nat_lt image_size_limit len) BadRange
     ∷ no_vm m v ∷ not_booting m v
-    ∷ when (nat_le 4 (length (slot_at m v).images)) ImagesFull
+    ∷ when (nat_le image_limit (length (slot_at m v).images)) ImagesFull
     ∷ when (list_any (overlaps base len) (slot_at m v).images) Overlap ∷ []
 conditions m (Remap v i f) = bad_vm m v ∷ bad_frame m f ∷ no_vm m v ∷ not_booting m v
     ∷ when (nat_le (length (slot_at m v).images) i) NoImage
@@ -156,9 +156,9 @@ conditions m (Map v c f) = bad_vm m v ∷ bad_vcpu c ∷ bad_frame m f ∷ no_vm
     ∷ not_host m f ∷ tables_full m v (pending m v c) ∷ []
 conditions m (GuestRead v c g off len) = guest_access m v c g off len
 conditions m (GuestWrite v c g off bytes) = guest_access m v c g off (length bytes)
-conditions m (Grant v c g) = guest_frame m v c g (when (nat_le 100 (share_at m v g)) ShareFull)
+conditions m (Grant v c g) = guest_frame m v c g (when (nat_le share_limit (share_at m v g)) ShareFull)
 conditions m (Revoke v c g) = guest_frame m v c g (when (share_at m v g == 0) NotShared)
-conditions m (GrantRange v c g n) = guest_range m v c g n (when (any_from g n (λ h. nat_le 100 (share_at m v h))) ShareFull)
+conditions m (GrantRange v c g n) = guest_range m v c g n (when (any_from g n (λ h. nat_le share_limit (share_at m v h))) ShareFull)
 conditions m (RevokeRange v c g n) = guest_range m v c g n (when (any_from g n (λ h. share_at m v h == 0)) NotShared)
 conditions m (Drop v c g) = guest_frame m v c g (when (nat_lt 0 (share_at m v g)) Shared)
 conditions m (Clear v) = bad_vm m v ∷ no_vm m v ∷ []

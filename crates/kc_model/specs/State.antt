@@ -2,6 +2,7 @@
 use Rattle.std.specs.Prelude.{ℕ, ◌+◌, Bool, false, List, [], length, replicate, take, drop, ◌++◌, slice_index_or, slice_set, Option, None}
 use Rattle.std.specs.Ordering.{nat_cmp}
 use Rattle.std.specs.FinMap as map
+use Rattle.kc_types.specs.Limits.{page_size, vcpu_limit}
 use Rattle.kc_types.specs.Configuration.{Configuration}
 use Rattle.kc_types.specs.declared.owner.Owner.{Owner}
 use Rattle.kc_types.specs.declared.owner.Owner.TheVariants.{Core}
@@ -35,7 +36,7 @@ pub record State : Type 0 where
 
 -- a page of zero bytes. It does not unfold by itself, since it is 4,096 long
 unfoldable pub zero_page : List ℕ
-zero_page = replicate 4096 0
+zero_page = replicate page_size 0
 
 -- a frame that nothing was done to
 abbrev pub untouched : Owner → Frame
@@ -45,7 +46,7 @@ abbrev pub absent_vcpu : Vcpu
 absent_vcpu = record { registered = false; fault = None }
 
 unfoldable pub no_vcpus : List Vcpu
-no_vcpus = replicate 8 absent_vcpu
+no_vcpus = replicate vcpu_limit absent_vcpu
 
 -- a slot as at boot
 abbrev pub empty_slot : Slot

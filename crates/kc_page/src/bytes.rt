@@ -4,7 +4,7 @@ ghost use Rattle.kc_types.specs.Limits.{page_size};
 ghost use Rattle.kc_model.specs.State.{zero_page, overwritten};
 ghost use Rattle.kc_page.specs.Bytes.{zeroed_from};
 
-use kc_types::{Data, Memory, Spare};
+use kc_types::{Data, Memory, PAGE_SIZE, Spare};
 use std::alloc::Global;
 use std::marker::Model;
 
@@ -19,7 +19,7 @@ impl Model for PageBytes {
 
     ghost view = { λ p. p.bytes.items };
 
-    ghost invariant = { λ p. vec_len p.bytes ≡ 4096 };
+    ghost invariant = { λ p. vec_len p.bytes ≡ page_size };
 }
 
 impl PageBytes {
@@ -30,7 +30,7 @@ impl PageBytes {
         ensures { IfOk result (λ page. page ≡ zero_page) }
     {
         Ok(PageBytes {
-            bytes: vec![in alloc; 0; 4_096]?,
+            bytes: vec![in alloc; 0; PAGE_SIZE as usize]?,
         })
     }
 

@@ -1,5 +1,6 @@
 //! The number of a leaf.
 ghost use Rattle.std.specs.Prelude.{◌≡◌, ℕ, ◌<◌};
+ghost use Rattle.kc_types.specs.Limits.{leaf_limit};
 
 use std::marker::Model;
 
@@ -14,14 +15,14 @@ impl Model for LeafNo {
 
     ghost view = { λ l. l.number };
 
-    ghost invariant = { λ l. l.number < 64 };
+    ghost invariant = { λ l. l.number < leaf_limit };
 
     ghost inverse = { λ n. record { number = n } };
 }
 
 impl LeafNo {
     pub(crate) fn of(number: u8) -> LeafNo
-        requires { number < 64 }
+        requires { number < leaf_limit }
         ensures { result ≡ number }
     {
         LeafNo { number }
@@ -30,7 +31,7 @@ impl LeafNo {
     /// The number as an index.
     pub fn index(self) -> usize
         ensures value { result ≡ self }
-        ensures within { result < 64 }
+        ensures within { result < leaf_limit }
     {
         self.number as usize
     }

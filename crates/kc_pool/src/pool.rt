@@ -1,9 +1,10 @@
 //! The pool that a VM's leaf tables come from.
 ghost use Rattle.std.specs.Prelude.{◌≡◌, ℕ, ◌+◌, ◌*◌, ◌<◌, ◌≤◌, Option, Some, None, length, map, IfOk, MatchOption, vec_len};
+ghost use Rattle.kc_types.specs.Limits.{leaf_entries, leaf_limit};
 ghost use Rattle.kc_pool.specs.Pool.{Pool, IsPool, new_pool, entry_at, with_entry, with_leaf, emptied};
 
 use crate::LeafNo;
-use kc_types::{FrameNo, Memory};
+use kc_types::{FrameNo, LEAF_ENTRIES, Memory};
 use std::alloc::Global;
 use std::marker::Model;
 
@@ -30,12 +31,12 @@ impl TablePool {
     /// This many leaves, none of them taken, or `Memory` where a growth was refused. Nothing else takes memory.
     #[tactic(auto, unfolding(crate::specs::Pool::no_entries))]
     pub fn try_new(alloc: Global, leaves: u8) -> Result<TablePool, Memory>
-        requires { leaves ≤ 64 }
+        requires { leaves ≤ leaf_limit }
         ensures value { IfOk result (λ pool. pool ≡ new_pool leaves) }
         ensures kept { IfOk result IsPool }
     {
         Ok(TablePool {
-            entries: vec![in alloc; None; leaves as usize * 512]?,
+            entries: vec![in alloc; None; leaves as usize * LEAF_ENTRIES]?,
             taken: 0,
             room: leaves,
         })
@@ -65,20 +66,20 @@ impl TablePool {
     /// What stands at a place of a leaf that is taken.
     pub fn entry(&self, leaf: LeafNo, at: usize) -> Option<FrameNo>
         requires taken { leaf < self.now.taken }
-        requires within { at < 512 }
+        requires within { at < leaf_entries }
         ensures { result ≡ entry_at self.now leaf at }
     {
-        self.entries[leaf.index() * 512 + at]
+        self.entries[leaf.index() * LEAF_ENTRIES + at]
     }
 
     /// Sets what stands at a place of a leaf that is taken.
     pub fn set_entry(&mut self, leaf: LeafNo, at: usize, frame: Option<FrameNo>)
         requires taken { leaf < self.old.taken }
-        requires within { at < 512 }
+        requires within { at < leaf_entries }
         ensures value { self.new ≡ with_entry self.old leaf at frame }
         ensures kept { IsPool self.new }
     {
-        self.entries[leaf.index() * 512 + at] = frame;
+        self.entries[leaf.index() * LEAF_ENTRIES + at] = frame;
     }
 
     /// All leaves come back.

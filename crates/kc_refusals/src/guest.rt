@@ -8,7 +8,7 @@ ghost use Rattle.kc_refusals.specs.LookUps.{AnswersMapped};
 
 use crate::look_ups::{mapped_at, phase_at, record_at, vcpu_at};
 use kc_parts::Parts;
-use kc_types::{Config, FrameNo, Gfn, Phase, Refusal, VcpuId};
+use kc_types::{Config, FrameNo, Gfn, PAGE_SIZE, Phase, Refusal, SHARE_LIMIT, VcpuId};
 
 /// Why a virtual processor can make no call: there is no VM in the slot, or it isn't active, or the virtual
 /// processor isn't registered.
@@ -47,7 +47,7 @@ pub fn guest_access_refusal(
     if Gfn::try_new(gfn).is_none() {
         return Some(Refusal::BadGfn);
     }
-    if len == 0 || len > 4096 || offset > 4096 - len {
+    if len == 0 || len > PAGE_SIZE || offset > PAGE_SIZE - len {
         return Some(Refusal::BadRange);
     }
     vcpu_refusal(parts, config, vm, vcpu)
@@ -92,7 +92,7 @@ pub fn grant_refusal(
     ensures { result ≡ refusal (state_of config.now parts.now) (Grant vm vcpu gfn) }
 {
     match mapped_frame(parts, config, vm, vcpu, gfn) {
-        Ok(frame) => if record_at(parts, config, frame.number()).share >= 100 {
+        Ok(frame) => if record_at(parts, config, frame.number()).share >= SHARE_LIMIT {
             Some(Refusal::ShareFull)
         } else {
             None

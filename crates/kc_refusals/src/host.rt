@@ -6,7 +6,7 @@ ghost use Rattle.kc_parts.specs.States.{state_of, IsLinked};
 
 use crate::look_ups::record_at;
 use kc_parts::Parts;
-use kc_types::{Config, Owner, Refusal};
+use kc_types::{Config, Owner, PAGE_SIZE, Refusal};
 
 /// Why no frame can be taken.
 pub fn take_refusal(parts: &Parts, config: &Config) -> Option<Refusal>
@@ -63,7 +63,7 @@ pub fn host_access_refusal(
     if frame >= config.frames() {
         return Some(Refusal::BadFrame);
     }
-    if len == 0 || len > 4096 || offset > 4096 - len {
+    if len == 0 || len > PAGE_SIZE || offset > PAGE_SIZE - len {
         return Some(Refusal::BadRange);
     }
     if !record_at(parts, config, frame).present {

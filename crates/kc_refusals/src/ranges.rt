@@ -1,6 +1,6 @@
 //! Why a virtual processor's calls on the guest frames of a range are refused.
 ghost use Rattle.std.specs.Prelude.{◌≡◌, ◌+◌, ◌<◌, ◌≤◌, ◌==◌, nat_le, is_none, MatchOption, true, false};
-ghost use Rattle.kc_types.specs.Limits.{gfn_limit};
+ghost use Rattle.kc_types.specs.Limits.{gfn_limit, share_limit};
 ghost use Rattle.kc_types.specs.declared.call.Call.TheVariants.{GrantRange, RevokeRange};
 ghost use Rattle.kc_model.specs.State.{mapped_at};
 ghost use Rattle.kc_model.specs.Refusals.{refusal, any_from, share_at};
@@ -10,7 +10,7 @@ ghost use Rattle.kc_refusals.specs.LookUps.{AnswersRange};
 use crate::guest::vcpu_refusal;
 use crate::look_ups::{mapped_at, record_at};
 use kc_parts::Parts;
-use kc_types::{Config, FrameNo, Gfn, Refusal, VcpuId};
+use kc_types::{Config, FrameNo, GFN_LIMIT, Gfn, RANGE_LIMIT, Refusal, SHARE_LIMIT, VcpuId};
 
 /// The frame at a guest frame of a slot, by its number.
 pub fn mapped_under(parts: &Parts, config: &Config, vm: u32, gfn: u32) -> Option<FrameNo>
@@ -43,9 +43,9 @@ fn share_under(parts: &Parts, config: &Config, vm: u32, gfn: u32) -> u32
 /// Whether one of the frames is granted 100 times.
 fn any_full(parts: &Parts, config: &Config, vm: u32, gfn: u32, count: u32) -> bool
     requires { gfn + count ≤ gfn_limit }
-    ensures { result ≡ any_from gfn count (λ h. nat_le 100 (share_at (state_of config.now parts.now) vm h)) }
+    ensures { result ≡ any_from gfn count (λ h. nat_le share_limit (share_at (state_of config.now parts.now) vm h)) }
 {
-    (gfn..gfn + count).any(|at| share_under(parts, config, vm, at) >= 100)
+    (gfn..gfn + count).any(|at| share_under(parts, config, vm, at) >= SHARE_LIMIT)
 }
 
 /// Whether one of the frames is not granted.
@@ -74,10 +74,10 @@ fn range_refusal(
     let Some(vcpu) = VcpuId::try_new(vcpu) else {
         return Some(Refusal::BadVcpu);
     };
-    if gfn >= 262_144 || count > 262_144 - gfn {
+    if gfn >= GFN_LIMIT || count > GFN_LIMIT - gfn {
         return Some(Refusal::BadGfn);
     }
-    if count == 0 || count > 64 {
+    if count == 0 || count > RANGE_LIMIT {
         return Some(Refusal::BadRange);
     }
     if let Some(refusal) = vcpu_refusal(parts, config, vm, vcpu) {

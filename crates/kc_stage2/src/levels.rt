@@ -1,12 +1,13 @@
 //! The root and the leaves as they stand in memory.
 ghost use Rattle.std.specs.Prelude.{◌≡◌, ℕ, ◌+◌, ◌/◌, ◌<◌, ◌≤◌, Some, List, [], length, map, replicate, IfOk, MatchOption, slice_index_or, None};
+ghost use Rattle.kc_types.specs.Limits.{leaf_entries, leaf_limit};
 ghost use Rattle.kc_pool.specs.Pool.{emptied};
 ghost use Rattle.kc_stage2.specs.Table.{Table, new_table};
 ghost use Rattle.kc_stage2.specs.Levels.{look_up};
 ghost use Rattle.kc_stage2.specs.TwoLevels.{IsLevels, table_of, Led};
 
 use kc_pool::{LeafNo, TablePool};
-use kc_types::Memory;
+use kc_types::{LEAF_ENTRIES, Memory};
 use std::alloc::Global;
 
 /// The root, the root slots in the order in which they took leaves, and the pool.
@@ -20,12 +21,12 @@ pub struct Levels {
 impl Levels {
     /// Levels without leaves, and room for so many; `Memory` where a growth was refused.
     pub fn try_new(alloc: Global, leaves: u8) -> Result<Levels, Memory>
-        requires { leaves ≤ 64 }
+        requires { leaves ≤ leaf_limit }
         ensures kept { IfOk result IsLevels }
         ensures value { IfOk result (λ levels. table_of levels ≡ new_table leaves) }
     {
         Ok(Levels {
-            root: no_leaves(alloc, 512)?,
+            root: no_leaves(alloc, LEAF_ENTRIES)?,
             leaves: Vec::with_capacity(alloc, leaves as usize)?,
             pool: TablePool::try_new(alloc, leaves)?,
         })
@@ -34,7 +35,7 @@ impl Levels {
     /// The leaf of a root slot.
     pub fn leaf_at(&self, slot: usize) -> Option<LeafNo>
         requires kept { IsLevels self.now }
-        requires within { slot < 512 }
+        requires within { slot < leaf_entries }
         ensures { result ≡ slice_index_or self.now.root.items slot None }
     {
         self.root[slot]
@@ -43,7 +44,7 @@ impl Levels {
     /// The leaf of a root slot, which takes one where it has none.
     pub fn leaf_for(&mut self, slot: usize) -> Option<LeafNo>
         requires kept { IsLevels self.old }
-        requires within { slot < 512 }
+        requires within { slot < leaf_entries }
         ensures kept { IsLevels self.new }
         ensures leaf { Led self.old self.new slot result }
     {

@@ -2,11 +2,12 @@
 ghost use Rattle.std.specs.Prelude.{◌≡◌, ℕ, ◌/◌, ◌≤◌, IfOk, OnOk, OnErr};
 ghost use Rattle.std.specs.Ordering.{nat_cmp};
 ghost use Rattle.std.specs.FinMap as finite;
+ghost use Rattle.kc_types.specs.Limits.{leaf_limit};
 ghost use Rattle.kc_stage2.specs.Table.{Table, new_table, with_entry, fits};
 ghost use Rattle.kc_stage2.specs.Faults.{Answers, fault_of};
 
 use crate::levels::Levels;
-use kc_types::{FrameNo, Gfn, Memory};
+use kc_types::{FrameNo, Gfn, LEAF_ENTRIES, Memory};
 use std::alloc::Global;
 use std::marker::Model;
 
@@ -41,7 +42,7 @@ impl Model for Stage2 {
 impl Stage2 {
     /// An empty table with room for this many leaves of 512 entries, or `Memory` where a growth was refused.
     pub fn try_new(alloc: Global, leaves: u8) -> Result<Stage2, Memory>
-        requires { leaves ≤ 64 }
+        requires { leaves ≤ leaf_limit }
         ensures { IfOk result (λ table. table ≡ new_table leaves) }
     {
         Ok(Stage2 {
@@ -54,8 +55,8 @@ impl Stage2 {
         ensures { result ≡ finite.get self.now.mapped gfn }
     {
         let number = gfn.number() as usize;
-        let leaf = self.levels.leaf_at(number / 512)?;
-        self.levels.pool.entry(leaf, number % 512)
+        let leaf = self.levels.leaf_at(number / LEAF_ENTRIES)?;
+        self.levels.pool.entry(leaf, number % LEAF_ENTRIES)
     }
 
     /// The root slots that have leaves, in the order in which they took them.
@@ -69,7 +70,7 @@ impl Stage2 {
     pub fn fits(&self, gfn: Gfn) -> bool
         ensures { result ≡ fits self.now gfn }
     {
-        let slot = gfn.number() as usize / 512;
+        let slot = gfn.number() as usize / LEAF_ENTRIES;
         self.levels.leaf_at(slot).is_some()
             || self.levels.leaves.len() < self.levels.pool.room() as usize
     }
@@ -85,10 +86,11 @@ impl Stage2 {
             return Err(MapFault::Mapped);
         }
         let number = gfn.number() as usize;
-        let Some(leaf) = self.levels.leaf_for(number / 512) else {
+        let Some(leaf) = self.levels.leaf_for(number / LEAF_ENTRIES) else {
             return Err(MapFault::TablesFull);
         };
-        self.levels.pool.set_entry(leaf, number % 512, Some(frame));
+        let at = number % LEAF_ENTRIES;
+        self.levels.pool.set_entry(leaf, at, Some(frame));
         Ok(())
     }
 
@@ -98,9 +100,10 @@ impl Stage2 {
         ensures table { self.new ≡ record self.old { mapped = finite.remove self.old.mapped gfn } }
     {
         let number = gfn.number() as usize;
-        let leaf = self.levels.leaf_at(number / 512)?;
-        let frame = self.levels.pool.entry(leaf, number % 512);
-        self.levels.pool.set_entry(leaf, number % 512, None);
+        let leaf = self.levels.leaf_at(number / LEAF_ENTRIES)?;
+        let at = number % LEAF_ENTRIES;
+        let frame = self.levels.pool.entry(leaf, at);
+        self.levels.pool.set_entry(leaf, at, None);
         frame
     }
 

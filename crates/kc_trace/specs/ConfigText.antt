@@ -1,5 +1,5 @@
 -- What a configuration's text says.
-use Rattle.std.specs.Prelude.{◌≡◌, ◌^◌, ◌==◌, nat_lt, Bool, false, ℕ, suc, List, [], ◌∷◌, codes, Option, Some, None, option_map, option_and_then, Result, Ok, Err, if◌then◌else◌}
+use Rattle.std.specs.Prelude.{◌≡◌, ◌^◌, ◌==◌, nat_lt, ℕ, suc, List, [], ◌∷◌, codes, Option, Some, None, option_map, option_and_then, Result, Ok, Err, if◌then◌else◌}
 use Rattle.std.specs.Result.{result_ok}
 use Rattle.std.specs.Str.{is_utf8}
 use Rattle.serde_json.specs.Data.{Data, Items, no_items, item, Members, no_members, member}

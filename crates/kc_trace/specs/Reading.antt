@@ -1,11 +1,12 @@
 -- What a line of words is read as.
-use Rattle.std.specs.Prelude.{◌+◌, ◌%◌, ◌^◌, ◌==◌, ◌&&◌, ◌||◌, not, nat_lt, nat_le, ℕ, Bool, List, [], ◌∷◌, length, slice_index, codes, Option, Some, None, option_map, option_and_then, if◌then◌else◌}
+use Rattle.std.specs.Prelude.{◌+◌, ◌*◌, ◌%◌, ◌^◌, ◌==◌, ◌&&◌, ◌||◌, not, nat_lt, nat_le, ℕ, Bool, List, [], ◌∷◌, length, slice_index, codes, Option, Some, None, option_map, option_and_then, if◌then◌else◌}
 use Rattle.std.specs.List.{list_all, slice_split}
 use Rattle.std.specs.Result.{result_ok}
 use Rattle.std.specs.Str.{bytes_eq}
 use Rattle.std.specs.Char.{is_ascii_digit}
 use Rattle.std.specs.Str.Parse.{digits_value}
 use Rattle.hex.specs.Hex.{decode_of}
+use Rattle.kc_types.specs.Limits.{page_size}
 use Rattle.kc_types.specs.declared.call.Call.{Call}
 use Rattle.kc_types.specs.declared.call.Call.TheVariants.{Take, Give, HostFault, HostRead, HostWrite, RegisterVm, RegisterVcpu, SetBoot, Remap, Verify, Map, GuestRead, GuestWrite, Grant, Revoke, GrantRange, RevokeRange, Drop, Clear}
 
@@ -27,7 +28,7 @@ digit_value c = if nat_lt c 97 then c % 16 else (c % 16 + 9) % 16
 
 -- from 1 to 8,192 lower case digits
 abbrev pub is_data_word : List ℕ → Bool
-is_data_word word = list_all is_lower_digit word && not (length word == 0) && nat_le (length word) 8192
+is_data_word word = list_all is_lower_digit word && not (length word == 0) && nat_le (length word) (2 * page_size)
 
 -- from 1 to 4,096 bytes, in lower case digits
 unfoldable pub data_of : List ℕ → Option (List ℕ)

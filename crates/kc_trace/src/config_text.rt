@@ -191,8 +191,8 @@ fn value_of(alloc: Global, bytes: &[u8]) -> Result<Option<Value>, AllocError>
 
 /// The configuration that a JSON text says: an object of exactly the keys `frames`, `core`, `host` and `leaves`
 /// with whole numbers of 32 bits, and `approved` with an array of texts of 64 hexadecimal digits each, upper or
-/// lower case; a key `version` may stand beside them, with 1 or 2, and without it the version is 1. Of a key that stands twice the last value counts. A number with a fraction or an exponent is no
-/// whole number.
+/// lower case; a key `version` may stand beside them, with 1 or 2, and without it the version is 1. Of a key that
+/// stands twice the last value counts. A number with a fraction or an exponent is no whole number.
 #[tactic(auto, unfolding(crate::specs::ConfigText::config_in))]
 pub fn read_config(alloc: Global, bytes: &[u8]) -> Result<Config, ConfigTextFault>
     // The configuration or the fault of the text, unless memory runs out.

@@ -2,9 +2,10 @@
 ghost use Rattle.std.specs.Prelude.{◌≡◌, ◌==◌, ◌*◌, ◌%◌, ◌<◌, ◌&&◌, not, nat_le, length, All, IfOk, IsTrue};
 ghost use Rattle.std.specs.List.{list_all};
 ghost use Rattle.hex.specs.Hex.{encode_lower};
+ghost use Rattle.kc_types.specs.Limits.{page_size};
 ghost use Rattle.kc_trace.specs.Reading.{is_lower_digit, digit_value, data_of};
 
-use kc_types::Data;
+use kc_types::{Data, PAGE_SIZE};
 use std::alloc::{AllocError, Global};
 
 fn is_lower_digit(byte: u8) -> bool
@@ -27,9 +28,9 @@ fn digit_value(byte: u8) -> u8
 
 /// Whether a word is as long as two digits for each of 1 to 4,096 bytes.
 fn has_data_length(word: &[u8]) -> bool
-    ensures { result ≡ (not (length word.now == 0) && nat_le (length word.now) 8192 && (length word.now % 2 == 0)) }
+    ensures { result ≡ (not (length word.now == 0) && nat_le (length word.now) (2 * page_size) && (length word.now % 2 == 0)) }
 {
-    !word.is_empty() && word.len() <= 8_192 && word.len() % 2 == 0
+    !word.is_empty() && word.len() <= 2 * PAGE_SIZE as usize && word.len() % 2 == 0
 }
 
 /// Writes the bytes of a word of lower case digits, and says whether it is one. There is no early end, so that

@@ -11,7 +11,7 @@ use crate::line::call_of_line;
 use crate::search::first_at;
 use crate::writer::stands_in;
 use arrayvec::ArrayVec;
-use kc_types::{Call, Version};
+use kc_types::{CALL_LIMIT, Call, Version};
 use std::alloc::{AllocError, Global};
 use std::marker::Model;
 
@@ -19,8 +19,6 @@ const HEADER: &[u8; 14] = b"kcore-trace 1\n";
 
 /// The bytes of the longest line of a call, without its newline.
 const LONGEST_LINE: usize = 8_243;
-
-const CALL_LIMIT: u32 = 65_536;
 
 /// What stands in front of the first newline and what behind it, where there is one.
 fn split_line(bytes: &[u8]) -> Option<(&[u8], &[u8])>
@@ -200,7 +198,7 @@ impl Progress {
             self.version = version;
             return Ok((None, &bytes[1..]));
         }
-        if self.calls >= CALL_LIMIT {
+        if self.calls >= CALL_LIMIT as u32 {
             return Err(TraceFault::TooManyCalls);
         }
         self.take_line(alloc, bytes)
@@ -321,7 +319,8 @@ impl TraceReader {
     /// Whether the text may end here. It is the fault met before, else `NoHeader` within the header and
     /// `NoNewline` within a line.
     pub fn finish(self) -> Result<(), TraceFault>
-        ensures { MatchOption self.fault (result ≡ ended self.progress.header_left self.progress.line) (λ fault. result ≡ Err fault) }
+        ensures fault { MatchOption self.fault (result ≡ ended self.progress.header_left self.progress.line) (λ fault. result ≡ Err fault) }
+        ensures told { result ≢ Err TraceFault.Memory }
     {
         match self.fault {
             Some(fault) => Err(fault),

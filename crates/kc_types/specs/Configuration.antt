@@ -1,17 +1,18 @@
 -- What the core is started with.
 use Rattle.std.specs.Prelude.{ℕ, ◌+◌, ◌≤◌, ◌<◌, List, length}
-use Rattle.kc_types.specs.Limits.{leaf_limit, digest_limit}
+use Rattle.kc_types.specs.Limits.{frame_limit, first_frame_limit, slot_limit, first_slot_limit, leaf_limit, digest_limit}
 use Rattle.kc_types.specs.declared.version.Version.{Version}
 use Rattle.kc_types.specs.declared.version.Version.TheVariants.{One, Two}
 
 -- the most frames of a configuration
 abbrev pub most_frames : Version → ℕ
-most_frames One = 8192
-most_frames Two = 65536
+most_frames One = first_frame_limit
+most_frames Two = frame_limit
 
+-- the VM slots of a core
 abbrev pub slots_of : Version → ℕ
-slots_of One = 16
-slots_of Two = 64
+slots_of One = first_slot_limit
+slots_of Two = slot_limit
 
 -- `version` sets the limits; `frames` are all frames, the first `core` of them are the core's for ever, the next `host` are the host's at boot;
 -- `leaves` are the leaf tables of each VM; `approved` are the SHA-256 digests of boot images that may run

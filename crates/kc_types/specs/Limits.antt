@@ -1,38 +1,48 @@
--- The limits that types keep, each named once.
+-- The limits of `src/limits.rt`, as definitions name them.
 use Rattle.std.specs.Prelude.{ℕ}
+use Rattle.kc_types.specs.declared.limits.TheConstants.{PAGE_SIZE, FRAME_LIMIT, FIRST_FRAME_LIMIT, SLOT_LIMIT, FIRST_SLOT_LIMIT, VCPU_LIMIT, GFN_LIMIT, LEAF_ENTRIES, LEAF_LIMIT, IMAGE_LIMIT, IMAGE_SIZE_LIMIT, DIGEST_LIMIT, SHARE_LIMIT, RANGE_LIMIT, CALL_LIMIT}
 
--- the bytes of a page
 abbrev pub page_size : ℕ
-page_size = 4096
+page_size = PAGE_SIZE
 
--- frame numbers are below this
 abbrev pub frame_limit : ℕ
-frame_limit = 65536
+frame_limit = FRAME_LIMIT
 
--- slot numbers are below this
+abbrev pub first_frame_limit : ℕ
+first_frame_limit = FIRST_FRAME_LIMIT
+
 abbrev pub slot_limit : ℕ
-slot_limit = 64
+slot_limit = SLOT_LIMIT
 
--- numbers of virtual processors within a VM are below this
+abbrev pub first_slot_limit : ℕ
+first_slot_limit = FIRST_SLOT_LIMIT
+
 abbrev pub vcpu_limit : ℕ
-vcpu_limit = 8
+vcpu_limit = VCPU_LIMIT
 
--- guest frame numbers are below this
 abbrev pub gfn_limit : ℕ
-gfn_limit = 262144
+gfn_limit = GFN_LIMIT
 
--- the most guest frames that one call names
-abbrev pub range_limit : ℕ
-range_limit = 64
+abbrev pub leaf_entries : ℕ
+leaf_entries = LEAF_ENTRIES
 
--- the most leaf tables of a VM
 abbrev pub leaf_limit : ℕ
-leaf_limit = 64
+leaf_limit = LEAF_LIMIT
 
--- the most approved digests
+abbrev pub image_limit : ℕ
+image_limit = IMAGE_LIMIT
+
+abbrev pub image_size_limit : ℕ
+image_size_limit = IMAGE_SIZE_LIMIT
+
 abbrev pub digest_limit : ℕ
-digest_limit = 64
+digest_limit = DIGEST_LIMIT
 
--- the most calls of a trace
+abbrev pub share_limit : ℕ
+share_limit = SHARE_LIMIT
+
+abbrev pub range_limit : ℕ
+range_limit = RANGE_LIMIT
+
 abbrev pub call_limit : ℕ
-call_limit = 65536
+call_limit = CALL_LIMIT

@@ -1,10 +1,10 @@
 //! What the core is started with.
 ghost use Rattle.std.specs.Prelude.{◌≡◌, ◌<◌, ◌≤◌, ◌↔◌, IsSome, IfSome, IfOk};
 ghost use Rattle.kc_types.specs.Limits.{frame_limit, slot_limit, leaf_limit};
-ghost use Rattle.kc_types.specs.Configuration.{IsConfiguration, most_frames, slot_count};
+ghost use Rattle.kc_types.specs.Configuration.{IsConfiguration, slot_count};
 ghost use Rattle.kc_types.specs.ConfigFaults.{Configures};
 
-use crate::{FrameNo, Memory, Version, VmId};
+use crate::{DIGEST_LIMIT, FrameNo, LEAF_LIMIT, Memory, Version, VmId};
 use std::marker::Model;
 use thiserror::Error;
 
@@ -77,18 +77,6 @@ pub enum ConfigFault {
     TooManyDigests,
 }
 
-impl Version {
-    /// The most frames of a configuration.
-    fn most_frames(self) -> u32
-        ensures { result ≡ most_frames self }
-    {
-        match self {
-            Version::One => 8_192,
-            Version::Two => 65_536,
-        }
-    }
-}
-
 impl Config {
     fn make(
         version: Version,
@@ -106,10 +94,10 @@ impl Config {
         if core > frames || host > frames - core {
             return Err(ConfigFault::CoreHost);
         }
-        if leaves == 0 || leaves > 64 {
+        if leaves == 0 || leaves > LEAF_LIMIT {
             return Err(ConfigFault::Leaves);
         }
-        if approved.len() > 64 {
+        if approved.len() > DIGEST_LIMIT {
             return Err(ConfigFault::TooManyDigests);
         }
         Ok(Config {
@@ -198,10 +186,7 @@ impl Config {
         ensures value { result ≡ slot_count self.now }
         ensures few { result ≤ slot_limit }
     {
-        match self.version {
-            Version::One => 16,
-            Version::Two => 64,
-        }
+        self.version.slots()
     }
 
     /// The frame of this number; `None` where there is none.

@@ -3,7 +3,7 @@ ghost use Rattle.std.specs.Prelude.{◌≡◌, ℕ, ◌<◌, ◌≤◌, List, le
 ghost use Rattle.kc_types.specs.Limits.{page_size};
 ghost use Rattle.kc_types.specs.Bytes.{IsData};
 
-use crate::Memory;
+use crate::{Memory, PAGE_SIZE};
 use std::marker::Model;
 
 /// One byte to a whole page of 4,096 bytes, seen as the list of them. Two are equal where their bytes are.
@@ -26,7 +26,7 @@ impl Data {
         ensures valid { IsSome result ↔ ((0 < length bytes.items) × (length bytes.items ≤ page_size)) }
         ensures value { IfSome result (λ made. made ≡ bytes.items) }
     {
-        if bytes.is_empty() || bytes.len() > 4_096 {
+        if bytes.is_empty() || bytes.len() > PAGE_SIZE as usize {
             None
         } else {
             Some(Data { bytes })

@@ -4,6 +4,7 @@
 mod call;
 mod config;
 mod data;
+mod limits;
 mod link;
 mod memory;
 mod numbers;
@@ -18,6 +19,11 @@ mod version;
 pub use call::{Actor, Call, actor_of};
 pub use config::{Config, ConfigFault};
 pub use data::Data;
+pub use limits::{
+    CALL_LIMIT, DIGEST_LIMIT, FIRST_FRAME_LIMIT, FIRST_SLOT_LIMIT, FRAME_LIMIT, GFN_LIMIT,
+    IMAGE_LIMIT, IMAGE_SIZE_LIMIT, LEAF_ENTRIES, LEAF_LIMIT, PAGE_SIZE, RANGE_LIMIT, SHARE_LIMIT,
+    SLOT_LIMIT, VCPU_LIMIT,
+};
 pub use link::{Ends, Link};
 pub use memory::Memory;
 pub use numbers::{FrameNo, Gfn, VcpuId, VmId};

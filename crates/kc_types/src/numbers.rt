@@ -2,6 +2,7 @@
 ghost use Rattle.std.specs.Prelude.{◌≡◌, ℕ, ◌<◌, ◌↔◌, IsSome, IfSome};
 ghost use Rattle.kc_types.specs.Limits.{frame_limit, slot_limit, vcpu_limit, gfn_limit};
 
+use crate::{FRAME_LIMIT, GFN_LIMIT, SLOT_LIMIT, VCPU_LIMIT};
 use std::marker::Model;
 
 /// The number of a frame of 4,096 bytes, 0 to 65,535. Whether the frame exists is a matter of the
@@ -27,7 +28,7 @@ impl FrameNo {
         ensures valid { IsSome result ↔ (number < frame_limit) }
         ensures value { IfSome result (λ frame. frame ≡ number) }
     {
-        if number < 65_536 {
+        if number < FRAME_LIMIT {
             Some(FrameNo {
                 number: number as u16,
             })
@@ -76,7 +77,7 @@ impl VmId {
         ensures valid { IsSome result ↔ (number < slot_limit) }
         ensures value { IfSome result (λ vm. vm ≡ number) }
     {
-        if number < 64 {
+        if number < SLOT_LIMIT {
             Some(VmId {
                 number: number as u8,
             })
@@ -116,7 +117,7 @@ impl VcpuId {
         ensures valid { IsSome result ↔ (number < vcpu_limit) }
         ensures value { IfSome result (λ vcpu. vcpu ≡ number) }
     {
-        if number < 8 {
+        if number < VCPU_LIMIT as u32 {
             Some(VcpuId {
                 number: number as u8,
             })
@@ -156,7 +157,7 @@ impl Gfn {
         ensures valid { IsSome result ↔ (number < gfn_limit) }
         ensures value { IfSome result (λ gfn. gfn ≡ number) }
     {
-        if number < 262_144 {
+        if number < GFN_LIMIT {
             Some(Gfn { number })
         } else {
             None

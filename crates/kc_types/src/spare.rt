@@ -3,7 +3,7 @@ ghost use Rattle.std.specs.Prelude.{◌≡◌, ◌<◌, ◌≤◌, length, IfOk,
 ghost use Rattle.kc_types.specs.Limits.{page_size};
 ghost use Rattle.kc_types.specs.Room.{bytes_in, readable, room_of};
 
-use crate::{Call, Data, Memory, Reply};
+use crate::{Call, Data, Memory, PAGE_SIZE, Reply};
 use std::alloc::Global;
 use std::marker::Model;
 
@@ -25,7 +25,7 @@ impl Model for Spare {
 
 impl Spare {
     /// Room for no bytes, which takes no memory.
-    fn none(alloc: Global) -> Spare {
+    pub fn none(alloc: Global) -> Spare {
         Spare {
             room: Vec::new(alloc),
         }
@@ -58,7 +58,7 @@ impl Spare {
 fn readable(len: u32) -> usize
     ensures { result ≡ readable len }
 {
-    if len <= 4_096 { len as usize } else { 0 }
+    if len <= PAGE_SIZE { len as usize } else { 0 }
 }
 
 impl Call {

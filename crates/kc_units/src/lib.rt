@@ -11,6 +11,8 @@ mod images;
 #[cfg(test)]
 mod interrupted;
 #[cfg(test)]
+mod limits;
+#[cfg(test)]
 mod parts;
 #[cfg(test)]
 mod streams;

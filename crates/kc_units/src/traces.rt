@@ -1,6 +1,6 @@
 //! Texts of traces and replies, whole and in pieces.
 use kc_trace::{LONGEST_REPLY, TraceFault, TraceReader, read_trace, write_replies, write_trace};
-use kc_types::{Call, Data, Refusal, Reply};
+use kc_types::{CALL_LIMIT, Call, Data, Refusal, Reply};
 use std::alloc::Global;
 use std::test::Fail;
 
@@ -95,10 +95,10 @@ fn faults(rt: HostRuntime) -> Result<(), Fail> {
 fn call_limit(rt: HostRuntime) -> Result<(), Fail> {
     let alloc = rt.alloc();
     let mut text = b"kcore-trace 1\n".to_vec(alloc)?;
-    for _ in 0..65_536 {
+    for _ in 0..CALL_LIMIT {
         text.extend_from_slice(b"take\n")?;
     }
-    assert_eq!(rt; read_trace(alloc, &text)?.len(), 65_536);
+    assert_eq!(rt; read_trace(alloc, &text)?.len(), CALL_LIMIT);
     text.push(b'x')?;
     assert_eq!(rt;
         refusal(read_trace(alloc, &text))?,
@@ -145,7 +145,7 @@ fn replies(rt: HostRuntime) -> Result<(), Fail> {
     Ok(())
 }
 
-/// A line of each of the 17 calls.
+/// A line of each of the first version's 17 calls.
 #[test]
 fn spellings(rt: HostRuntime) -> Result<(), Fail> {
     let alloc = rt.alloc();
@@ -221,6 +221,31 @@ fn spellings(rt: HostRuntime) -> Result<(), Fail> {
         "gread 1 2 3 4 5\ngwrite 1 2 3 4 0a\ngrant 1 2 3\nrevoke 1 2 3\ndrop 1 2 3\nclear 1\n";
     let wanted = format!(in alloc; "kcore-trace 1\n{host}{boot}{guest}")?;
     assert_eq!(rt; text.as_slice(), wanted.as_bytes());
+    Ok(())
+}
+
+/// A line of each of the second version's two calls, and of one of the first beside them.
+#[test]
+fn spellings_of_ranges(rt: HostRuntime) -> Result<(), Fail> {
+    let alloc = rt.alloc();
+    let calls = [
+        Call::Take,
+        Call::GrantRange {
+            vm: 1,
+            vcpu: 2,
+            gfn: 3,
+            count: 4,
+        },
+        Call::RevokeRange {
+            vm: 63,
+            vcpu: 7,
+            gfn: 262_143,
+            count: 4_294_967_295,
+        },
+    ];
+    let text = write_trace(alloc, &calls)?;
+    let wanted = b"kcore-trace 2\ntake\ngrantr 1 2 3 4\nrevoker 63 7 262143 4294967295\n";
+    assert_eq!(rt; text.as_slice(), wanted.as_slice());
     Ok(())
 }
 

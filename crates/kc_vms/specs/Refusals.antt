@@ -1,6 +1,7 @@
 -- Why a call on a slot is refused, in the order of the conditions, whatever the rest of the core is.
 use Rattle.std.specs.Prelude.{ℕ, ◌≡◌, not, nat_le, [], ◌∷◌, length, Option, Some, None, Result, Ok, Err}
 use Rattle.std.specs.List.{list_any}
+use Rattle.kc_types.specs.Limits.{image_limit}
 use Rattle.kc_types.specs.declared.refusal.Refusal.{Refusal}
 use Rattle.kc_types.specs.declared.refusal.Refusal.TheVariants.{SlotUsed, NoVm, WrongPhase, VcpuUsed, ImagesFull, Overlap, NoImage, ImageFull}
 use Rattle.kc_model.specs.Refusals.{when, first_of_these, is_empty, is_booting, overlaps, is_short}
@@ -26,7 +27,7 @@ add_vcpu_refusal slot c = first_of_these (no_vm slot ∷ not_booting slot ∷ wh
 
 abbrev pub add_image_refusal : LinkedSlot → ℕ → ℕ → Option Refusal
 add_image_refusal slot base len = first_of_these (no_vm slot ∷ not_booting slot
-    ∷ when (nat_le 4 (length slot.images)) ImagesFull
+    ∷ when (nat_le image_limit (length slot.images)) ImagesFull
     ∷ when (list_any (overlaps base len) slot.images) Overlap ∷ [])
 
 abbrev pub next_page_refusal : LinkedSlot → ℕ → Option Refusal

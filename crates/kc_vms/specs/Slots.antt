@@ -1,5 +1,6 @@
 -- A VM slot as a value, what it keeps by itself, and how it changes.
 use Rattle.std.specs.Prelude.{ℕ, ◌≡◌, ◌≤◌, ◌+◌, List, [], ◌∷◌, ◌++◌, length, All, Option, slice_index_or, slice_set}
+use Rattle.kc_types.specs.Limits.{vcpu_limit, image_limit}
 use Rattle.kc_types.specs.declared.slot.Phase.{Phase}
 use Rattle.kc_types.specs.declared.slot.Phase.TheVariants.{Empty}
 use Rattle.kc_model.specs.State.{Vcpu, Image, absent_vcpu, no_vcpus, empty_slot}
@@ -14,10 +15,10 @@ pub record VmSlot : Type 0 where
 
 -- what a slot keeps by itself, whatever its list and its table are
 pub record IsSlot (phase : Phase) (vcpus : List Vcpu) (images : List Image) : Type 0 where
-  pub vcpu_count : length vcpus ≡ 8
+  pub vcpu_count : length vcpus ≡ vcpu_limit
   -- only a registered virtual processor of an active slot waits
   pub each_vcpu : (c : ℕ) → IsLawfulVcpu phase (slice_index_or vcpus c absent_vcpu)
-  pub few_images : length images ≤ 4
+  pub few_images : length images ≤ image_limit
   pub each_image : All IsLawfulImage images
   -- no guest frame is in two images
   pub apart : Apart images

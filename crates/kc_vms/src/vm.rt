@@ -2,7 +2,7 @@
 ghost use Rattle.std.specs.Prelude.{◌≡◌, ◌+◌, ◌<◌, ◌≤◌, Some, None, true, [], ◌∷◌, length, IfOk, OnOk, OnErr};
 ghost use Rattle.std.specs.List.{list_any};
 ghost use Rattle.std.specs.Borrow.{sem};
-ghost use Rattle.kc_types.specs.Limits.{gfn_limit, leaf_limit};
+ghost use Rattle.kc_types.specs.Limits.{gfn_limit, image_size_limit, leaf_limit};
 ghost use Rattle.kc_model.specs.State.{no_vcpus};
 ghost use Rattle.kc_model.specs.Refusals.{pages_of, first_of_these, overlaps};
 ghost use Rattle.kc_vms.specs.Slots.{IsVm, empty_vm, vcpu_of, next_gfn_of, with_phase, with_vcpu, with_fault, with_image, with_page, table_of};
@@ -11,7 +11,7 @@ ghost use Rattle.kc_vms.specs.Refusals.{Answers, no_vm, not_booting, register_re
 use arrayvec::ArrayVec;
 use kc_image::{Image, pages_of};
 use kc_stage2::Stage2;
-use kc_types::{Ends, Gfn, Memory, Phase, Refusal, Vcpu, VcpuId};
+use kc_types::{Ends, Gfn, IMAGE_LIMIT, Memory, Phase, Refusal, VCPU_LIMIT, Vcpu, VcpuId};
 use std::alloc::Global;
 use std::marker::Model;
 
@@ -20,8 +20,8 @@ use std::marker::Model;
 #[derive(Drop)]
 pub struct Vm {
     phase: Phase,
-    vcpus: ArrayVec<Vcpu, 8>,
-    images: ArrayVec<Image, 4>,
+    vcpus: ArrayVec<Vcpu, VCPU_LIMIT>,
+    images: ArrayVec<Image, IMAGE_LIMIT>,
     list: Ends,
     table: Stage2,
 }
@@ -162,7 +162,7 @@ impl Vm {
     /// where a guest frame of the image belongs to one of them.
     pub fn add_image(&mut self, base: u32, len: u32) -> Result<u32, Refusal>
         requires some { 0 < len }
-        requires small { len ≤ 1048576 }
+        requires small { len ≤ image_size_limit }
         requires within { base + pages_of len ≤ gfn_limit }
         ensures answer { Answers result (add_image_refusal self.old.slot base len) }
         ensures number { IfOk result (λ number. number ≡ length self.old.slot.images) }
@@ -254,12 +254,12 @@ impl Vm {
     }
 }
 
-/// Eight virtual processors, none of them registered.
+/// The virtual processors of a VM, none of them registered.
 #[tactic(auto, unfolding(kc_model::specs::State::no_vcpus))]
-fn absent_vcpus() -> ArrayVec<Vcpu, 8>
+fn absent_vcpus() -> ArrayVec<Vcpu, VCPU_LIMIT>
     ensures { result.items ≡ no_vcpus }
 {
-    ArrayVec::from([Vcpu::default(); 8])
+    ArrayVec::from([Vcpu::default(); VCPU_LIMIT])
 }
 
 /// Whether an image of `len` bytes at guest frame `base` has a guest frame of this image.

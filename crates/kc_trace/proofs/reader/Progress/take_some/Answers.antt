@@ -10,5 +10,5 @@ returns-in-len1-up-clause-same c =
     rw (← c.self.view_is, tail_is 1 c.args.bytes.now, tail_is 1 c.self.inside.header_left.now)
     (next_of_header _ c.args.bytes.now _ c.in-len1-up.len_at_least c.requires.some (sym c.in-Some.is ∙ c.told.ensures))
 
-pub returns-then-self-ge-CALL_LIMIT-clause-same : goal.returns-then-self-ge-CALL_LIMIT-clause-same
-returns-then-self-ge-CALL_LIMIT-clause-same c = rw (← c.self.view_is) (one_too_many _ c.args.bytes.now c.in_default.len_below c.if-self-ge-CALL_LIMIT.true c.requires.some)
+pub returns-then-self-clause-same : goal.returns-then-self-clause-same
+returns-then-self-clause-same c = rw (← c.self.view_is) (one_too_many _ c.args.bytes.now c.in_default.len_below c.if-self.true c.requires.some)
