@@ -1,9 +1,10 @@
 -- A frame that a slot gives up.
-use Rattle.std.proofs.Common.{ℕ, ◌≡◌, ◌<◌, false, List, [], ◌∷◌, ◌++◌, Some, None, refl, sym, ap, ◌∙◌}
+use Rattle.std.proofs.Common.{ℕ, ◌≡◌, ◌<◌, false, List, [], ◌∷◌, ◌++◌, Some, None, is_some, refl, sym, ap, ◌∙◌}
 use Rattle.std.specs.FinMap as map
 use Rattle.std.proofs.lemmas.List.{set-set}
 use Rattle.kc_types.specs.Configuration.{Configuration, slot_count}
-use Rattle.kc_types.specs.declared.owner.Owner.TheVariants.{Free}
+use Rattle.kc_types.specs.declared.owner.Owner.TheVariants.{Free, Vm}
+use Rattle.kc_types.specs.declared.resource.Resource.TheVariants as resource
 use Rattle.kc_model.specs.State.{State, Slot, slot_at, mapped_at, with_frame, with_slot, frame_at, zero_page}
 use Rattle.kc_model.specs.Refusals.{backing}
 use Rattle.kc_model.specs.Effects.{freed, without, dropped}
@@ -16,12 +17,12 @@ use Rattle.kc_stage2.specs.Table.{Table}
 use Rattle.kc_vms.specs.Slots.{VmSlot, table_of, with_table}
 use Rattle.kc_links.specs.Ending.{listed}
 use Rattle.kc_parts.specs.Held.{Held, page_at, vm_at, with_page, with_vm, link_of, links_of}
-use Rattle.kc_parts.specs.States.{list_in, unlinked_slot, state_of, free_of, frames_of, IsLinked, IsFreeMove, IsSlotMove}
+use Rattle.kc_parts.specs.States.{list_in, unlinked_slot, state_of, owner_at, is_away, free_of, frames_of, IsLinked, IsFreeMove, IsSlotMove}
 use Rattle.kc_parts.proofs.Pages.{links-kept}
 use Rattle.kc_parts.proofs.SlotChanges.{vm-set, state-vm, linked-vm}
-use Rattle.kc_parts.proofs.SlotLists.{frames-here}
+use Rattle.kc_parts.proofs.SlotLists.{frames-here, slot-owned}
 use Rattle.kc_calls.specs.Applying.{IsSameRoom}
-use Rattle.kc_calls.proofs.Frames.{changed, room-vm, room-through}
+use Rattle.kc_calls.proofs.Frames.{changed, room-vm, room-slot_move, room-through, owned-near}
 use Rattle.kc_refusals.proofs.Looked.{slot-is}
 
 -- a page becomes free, and its frame the last of the free ones
@@ -91,7 +92,13 @@ module _ (config : Configuration) (old : Held) (v g f : ℕ) (vm : VmSlot) (tabl
       after = unlinked_slot unmapped_vm.slot (without fs f)
 
   pub room-unlinked : (mid : Held) → IsSlotMove v unmapped mid → IsSameRoom old mid
-  room-unlinked mid move = room-through old unmapped mid (room-vm old v vm unmapped_vm is.at) (record { numbers = move.numbers; filled = move.filled; here = move.here })
+  room-unlinked mid move = room-through old unmapped mid (room-vm old v vm unmapped_vm is.at) (room-slot_move v unmapped mid move)
+
+  -- the list that it was in is here
+  pub near-unlinked : (mid : Held) → IsSlotMove v unmapped mid → is_away mid f ≡ false
+  near-unlinked mid move =
+      let mine : owner_at unmapped f ≡ Vm v = slot-owned unmapped v unmapped_vm linked-unmapped.lists vm-unmapped f (rw frames-unmapped at inside-unmapped) in
+      owned-near mid v f (move.owners f ∙ mine) (move.here (resource.Vm v) ∙ ap is_some vm-unmapped)
 
 -- the frame that the slot's table has is the state's
 pub mapped-is : (config : Configuration) (h : Held) (v g : ℕ) (vm : VmSlot) → v < slot_count config → vm_at h v ≡ Some vm → map.get vm.slot.mapped g ≡ mapped_at (state_of config h) v g

@@ -32,7 +32,7 @@ use Rattle.kc_parts.proofs.Seen.{frame-seen, state-page, linked-moved}
 use Rattle.kc_parts.proofs.SlotChanges.{vm-set, state-vm, linked-vm}
 use Rattle.kc_parts.proofs.SlotLists.{frames-here}
 use Rattle.kc_calls.specs.Applying.{IsSameRoom}
-use Rattle.kc_calls.proofs.Frames.{frame-is, room-page, room-vm, room-through}
+use Rattle.kc_calls.proofs.Frames.{frame-is, room-page, room-vm, room-slot_move, room-through, host-near}
 use Rattle.kc_calls.proofs.Hosts.{loose-host, loose-page}
 use Rattle.kc_refusals.proofs.Looked.{fits-seen, slot-is}
 
@@ -112,7 +112,7 @@ module _ (config : Configuration) (old : Held) (v g f : ℕ) (vm : VmSlot) (tabl
       frames-owned = frames-here owned v mapped_vm vm-owned ∙ ap (λ links. listed links vm.slot.ends) (links-kept mapped f page new_page is.at is.same)
 
   pub room-handed : (new : Held) → IsSlotMove v owned new → IsSameRoom old new
-  room-handed new move = room-through old owned new (room-through old mapped owned (room-vm old v vm mapped_vm is.at_vm) (room-page mapped f page new_page is.at)) (record { numbers = move.numbers; filled = move.filled; here = move.here })
+  room-handed new move = room-through old owned new (room-through old mapped owned (room-vm old v vm mapped_vm is.at_vm) (room-page mapped f page new_page is.at is.same (λ away. let near = host-near mapped f is.host in let no = sym near ∙ away in cc))) (room-slot_move v owned new move)
 
 -- an answer without a refusal
 pub answers-ok : {X : Type 0} (answer : Result X Refusal) (why : Option Refusal) → why ≡ None → refusals.Answers answer why → IsOk answer

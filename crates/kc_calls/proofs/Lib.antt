@@ -12,3 +12,4 @@ pub mod FirstFailing
 pub mod Drops
 pub mod Clears
 pub mod Sharing
+pub mod Reading

@@ -1,5 +1,5 @@
 -- Granting and revoking on parts, one guest frame after another.
-use Rattle.std.proofs.Common.{ℕ, suc, ◌≡◌, ◌<◌, ◌≤◌, ◌+◌, inl, inr, true, nat_le, None, Some, List, [], ◌∷◌, get_or, set, is_some, refl, ap, subst, ◌∙◌, arith, get_or-set_other}
+use Rattle.std.proofs.Common.{ℕ, suc, ◌≡◌, ◌<◌, ◌≤◌, ◌+◌, inl, inr, true, nat_le, None, Some, List, [], ◌∷◌, get_or, set, is_some, ap, subst, ◌∙◌, arith, get_or-set_other}
 use Rattle.std.proofs.lemmas.Bool.{cases_eq, leb-false}
 use Rattle.std.specs.List.{range_with_len}
 use Rattle.std.specs.FinMap as map

@@ -1,8 +1,8 @@
 -- The calls that change a slot alone.
-use Rattle.std.proofs.Common.{ℕ, ◌≡◌, ◌<◌, ◌≤◌, ◌+◌, ◌++◌, ◌∷◌, [], ◌⊎◌, inl, inr, true, ◌||◌, ◌==◌, nat_lt, None, Some, Option, List, length, refl, ap, ◌∙◌, arith}
+use Rattle.std.proofs.Common.{ℕ, ◌≡◌, ◌<◌, ◌≤◌, ◌+◌, ◌++◌, ◌∷◌, [], ◌⊎◌, inl, inr, true, ◌||◌, ◌==◌, nat_lt, nat_le, None, Some, Option, List, length, refl, ap, ◌∙◌, arith}
 use Rattle.std.proofs.lemmas.Grind.{common_steps}
 use Rattle.kc_types.specs.Configuration.{Configuration, slot_count}
-use Rattle.kc_types.specs.Limits.{vcpu_limit}
+use Rattle.kc_types.specs.Limits.{vcpu_limit, gfn_limit, image_size_limit}
 use Rattle.kc_types.specs.declared.call.Call.TheVariants.{RegisterVm, RegisterVcpu, SetBoot}
 use Rattle.kc_types.specs.declared.refusal.Refusal.{Refusal}
 use Rattle.kc_types.specs.declared.refusal.Refusal.TheVariants.{BadVm, BadVcpu, BadGfn, BadRange}
@@ -42,21 +42,21 @@ refusal-register_vm m v slot frames low is = rw (vm-fits m v low, is) (or_else-l
 pub refusal-register_vcpu : (m : State) (v c : ℕ) (slot : LinkedSlot) (frames : List ℕ) → v < slot_count m.config → c < vcpu_limit → slot_at m v ≡ unlinked_slot slot frames → refusal m (RegisterVcpu v c) ≡ add_vcpu_refusal slot c
 refusal-register_vcpu m v c slot frames low vcpu_low is = rw (vm-fits m v low, vcpu-fits c vcpu_low, is) refl
 
-gfn-fits : (base len : ℕ) → base ≤ 262143 → base + pages_of len ≤ 262144 → when (nat_lt 262143 base || nat_lt 262144 (base + pages_of len)) BadGfn ≡ None
+gfn-fits : (base len : ℕ) → base < gfn_limit → base + pages_of len ≤ gfn_limit → when (nat_le gfn_limit base || nat_lt gfn_limit (base + pages_of len)) BadGfn ≡ None
 gfn-fits base len base_low within = grind (arith, common_steps, base_low, within)
 
 -- an image within the guest frames, of a length that a boot image may have
 pub record IsFitting (base len : ℕ) : Type 0 where
-  pub base_low : base ≤ 262143
-  pub within : base + pages_of len ≤ 262144
+  pub base_low : base < gfn_limit
+  pub within : base + pages_of len ≤ gfn_limit
   pub some : 0 < len
-  pub small : len ≤ 1048576
+  pub small : len ≤ image_size_limit
 
 pub refusal-set_boot : (m : State) (v base len : ℕ) (slot : LinkedSlot) (frames : List ℕ) → v < slot_count m.config → IsFitting base len → slot_at m v ≡ unlinked_slot slot frames
     → refusal m (SetBoot v base len) ≡ add_image_refusal slot base len
 refusal-set_boot m v base len slot frames low fits is = rw (vm-fits m v low, gfn-fits base len fits.base_low fits.within, range-fits, is) refl
   where
-    range-fits : when ((len == 0) || nat_lt 1048576 len) BadRange ≡ None
+    range-fits : when ((len == 0) || nat_lt image_size_limit len) BadRange ≡ None
     range-fits = let some = fits.some in let small = fits.small in grind (arith, common_steps, some, small)
 
 -- the slot registers
@@ -90,14 +90,14 @@ answer-set_boot config h v base len number vm new linked low fits at served coun
     (ap (λ (slot : Slot). (reply.Image (length slot.images), with_slot m v (record slot { images = slot.images ++ record { base = base; len = len; pages = 0 } ∷ [] }))) there))
 
 -- an image that is refused before its slot is looked at
-pub refusal-bad_gfn : (m : State) (v base len : ℕ) → v < slot_count m.config → (262143 < base) ⊎ (262144 < base + pages_of len) → refusal m (SetBoot v base len) ≡ Some BadGfn
+pub refusal-bad_gfn : (m : State) (v base len : ℕ) → v < slot_count m.config → (gfn_limit ≤ base) ⊎ (gfn_limit < base + pages_of len) → refusal m (SetBoot v base len) ≡ Some BadGfn
 refusal-bad_gfn m v base len low past = rw (vm-fits m v low, bad) refl
   where
-    bad : when (nat_lt 262143 base || nat_lt 262144 (base + pages_of len)) BadGfn ≡ Some BadGfn
+    bad : when (nat_le gfn_limit base || nat_lt gfn_limit (base + pages_of len)) BadGfn ≡ Some BadGfn
     bad = elim past [ inl high ↦ grind (arith, common_steps, high) | inr long ↦ grind (arith, common_steps, long) ]
 
-pub refusal-bad_range : (m : State) (v base len : ℕ) → v < slot_count m.config → base ≤ 262143 → base + pages_of len ≤ 262144 → (len ≡ 0) ⊎ (1048576 < len) → refusal m (SetBoot v base len) ≡ Some BadRange
+pub refusal-bad_range : (m : State) (v base len : ℕ) → v < slot_count m.config → base < gfn_limit → base + pages_of len ≤ gfn_limit → (len ≡ 0) ⊎ (image_size_limit < len) → refusal m (SetBoot v base len) ≡ Some BadRange
 refusal-bad_range m v base len low base_low within past = rw (vm-fits m v low, gfn-fits base len base_low within, bad) refl
   where
-    bad : when ((len == 0) || nat_lt 1048576 len) BadRange ≡ Some BadRange
+    bad : when ((len == 0) || nat_lt image_size_limit len) BadRange ≡ Some BadRange
     bad = elim past [ inl none ↦ rw none refl | inr long ↦ grind (arith, common_steps, long) ]

@@ -1,20 +1,21 @@
 //! The call by which a slot gives up one of its frames.
-ghost use Rattle.std.specs.Prelude.{◌≡◌, None, true, is_some};
+ghost use Rattle.std.specs.Prelude.{◌≡◌, None, true, false, is_some};
 ghost use Rattle.kc_types.specs.declared.call.Call.TheVariants.{Drop};
 ghost use Rattle.kc_model.specs.Refusals.{refusal};
 ghost use Rattle.kc_model.specs.Effects.{effect, freed};
 ghost use Rattle.kc_parts.specs.Held.{page_at};
-ghost use Rattle.kc_parts.specs.States.{state_of, IsLinked, IsLoose};
+ghost use Rattle.kc_parts.specs.States.{state_of, IsLinked, IsLoose, is_away};
 ghost use Rattle.kc_calls.specs.Applying.{IsSameRoom, IsAble};
 
 use kc_parts::Parts;
 use kc_types::{Config, FrameNo, Gfn, Owner, Reply};
 
-/// A frame that is in no list becomes the last of the free ones, with zero bytes.
+/// A frame that left its owner's list, whose ends are here, becomes the last of the free ones, with zero bytes.
 fn free_frame(parts: &mut Parts, config: &Config, frame: FrameNo)
     requires linked { IsLinked config.now parts.old }
     requires here { is_some (page_at parts.old frame) ≡ true }
     requires loose { IsLoose parts.old frame }
+    requires near { is_away parts.old frame ≡ false }
     requires free { is_some parts.old.free ≡ true }
     ensures state { state_of config.now parts.new ≡ freed (state_of config.now parts.old) frame }
     ensures linked { IsLinked config.now parts.new }

@@ -2,14 +2,13 @@
 ghost use Rattle.std.specs.Prelude.{◌≡◌, ◌<◌, ◌≤◌, ◌+◌, Some, None, is_some, true, length};
 ghost use Rattle.kc_types.specs.Configuration.{slot_count};
 ghost use Rattle.kc_types.specs.Limits.{page_size};
-ghost use Rattle.kc_types.specs.Room.{readable};
 ghost use Rattle.kc_types.specs.declared.call.Call.TheVariants.{GuestRead, GuestWrite};
 ghost use Rattle.kc_model.specs.State.{slot_at, vcpu_at};
 ghost use Rattle.kc_model.specs.Refusals.{refusal};
 ghost use Rattle.kc_model.specs.Effects.{effect, with_fault, written};
 ghost use Rattle.kc_parts.specs.Held.{page_at, vm_at};
 ghost use Rattle.kc_parts.specs.States.{state_of, IsLinked};
-ghost use Rattle.kc_calls.specs.Applying.{IsAble, IsSameRoom};
+ghost use Rattle.kc_calls.specs.Applying.{IsAble, IsSameRoom, room_for};
 
 use kc_parts::Parts;
 use kc_refusals::mapped_at;
@@ -58,7 +57,7 @@ pub fn guest_read(
 ) -> Reply
     requires served { refusal (state_of config.now parts.old) (GuestRead vm vcpu gfn offset len) ≡ None }
     requires able { IsAble config.now parts.old (GuestRead vm vcpu gfn offset len) }
-    requires room { readable len ≤ room }
+    requires room { room_for (state_of config.now parts.old) (GuestRead vm vcpu gfn offset len) ≤ room }
     ensures reply { result ≡ (effect (state_of config.now parts.old) (GuestRead vm vcpu gfn offset len)).0 }
     ensures state { state_of config.now parts.new ≡ (effect (state_of config.now parts.old) (GuestRead vm vcpu gfn offset len)).1 }
     ensures linked { IsLinked config.now parts.new }

@@ -12,4 +12,4 @@ mod shares;
 mod slots;
 mod verify;
 
-pub use dispatch::apply;
+pub use dispatch::{answer, apply};

@@ -4,7 +4,7 @@ ghost use Rattle.kc_calls.specs.Applying.{IsAble, IsAnswer};
 
 use kc_image::pages_of;
 use kc_parts::Parts;
-use kc_types::{Config, Refusal, Reply, VcpuId};
+use kc_types::{Config, GFN_LIMIT, IMAGE_SIZE_LIMIT, Refusal, Reply, VcpuId};
 
 /// An empty slot becomes booting.
 pub fn register_vm(parts: &mut Parts, config: &Config, vm: u32) -> Reply
@@ -47,10 +47,10 @@ pub fn set_boot(parts: &mut Parts, config: &Config, vm: u32, base: u32, len: u32
     let Some(vm) = config.vm(vm) else {
         return Reply::Refused(Refusal::BadVm);
     };
-    if base > 262_143 || pages_of(len) > 262_144 - base {
+    if base >= GFN_LIMIT || pages_of(len) > GFN_LIMIT - base {
         return Reply::Refused(Refusal::BadGfn);
     }
-    if len == 0 || len > 1_048_576 {
+    if len == 0 || len > IMAGE_SIZE_LIMIT {
         return Reply::Refused(Refusal::BadRange);
     }
     let slot = parts.vm_mut(vm).unwrap();

@@ -18,7 +18,7 @@ use kc_image::{Approved, Measure, pages_of};
 use kc_page::Page;
 use kc_parts::Parts;
 use kc_stage2::Stage2;
-use kc_types::{Config, FrameNo, Gfn, Image, Reply, VmId};
+use kc_types::{Config, FrameNo, Gfn, Image, PAGE_SIZE, Reply, VmId};
 
 /// The frame at a mapped guest frame.
 fn frame_under(table: &Stage2, gfn: u32) -> FrameNo
@@ -50,7 +50,7 @@ fn digest_of(parts: &Parts, table: &Stage2, image: &Image) -> [u8; 32]
     let mut measure = Measure::new();
     let mut left = image.len;
     for gfn in image.base..image.base + pages_of(image.len) {
-        let used = left.min(4_096);
+        let used = left.min(PAGE_SIZE);
         measure.page(&page_under(parts, table, gfn).bytes, used as usize);
         left -= used;
     }
@@ -101,7 +101,8 @@ fn trim_image(parts: &mut Parts, config: &Config, vm: VmId, image: &Image)
     let slot = parts.vm(vm).unwrap();
     let frame = frame_under(slot.table(), image.base + (pages_of(image.len) - 1));
     let page = parts.frame_mut(frame).unwrap();
-    page.bytes.zero_from((image.len as usize - 1) % 4_096 + 1);
+    let used = (image.len - 1) % PAGE_SIZE + 1;
+    page.bytes.zero_from(used as usize);
 }
 
 /// Zeroes the bytes past the end of each of a slot's images.

@@ -1,5 +1,5 @@
 -- A core keeps its parts whole, and calls find what they need in them.
-use Rattle.std.proofs.Common.{ℕ, ◌≡◌, ◌<◌, Bool, true, false, ◌&&◌, ◌||◌, nat_lt, nat_eq, Option, Some, None, is_some, refl, ap, ◌∙◌}
+use Rattle.std.proofs.Common.{ℕ, ◌≡◌, ◌<◌, Bool, true, false, ◌&&◌, ◌||◌, nat_lt, nat_eq, Option, Some, None, is_some, Result, Ok, Err, OnOk, OnErr, refl, ap, ◌∙◌}
 use Rattle.std.proofs.lemmas.Bool.{ltb-true, eqb-true, and_parts}
 use Rattle.kc_types.specs.Configuration.{Configuration, slot_count}
 use Rattle.kc_types.specs.declared.call.Call.{Call}
@@ -9,7 +9,10 @@ use Rattle.kc_types.specs.declared.resource.Resource.{Resource}
 use Rattle.kc_types.specs.declared.resource.Resource.TheVariants as resource
 use Rattle.kc_model.specs.State.{State, frame_at}
 use Rattle.kc_model.specs.Lawful.{IsLawful, same_owner}
+use Rattle.kc_model.specs.Next.{next}
+use Rattle.kc_model.specs.Ranged.{IsRanged}
 use Rattle.kc_model.specs.Resources.{need, names_frame, slot_of, uses_free, of_slot, exists_slot, listed_in, is_in}
+use Rattle.kc_model.proofs.Keeps.{lawful-next}
 use Rattle.kc_model.proofs.Orderly.{listed-owned}
 use Rattle.kc_model.proofs.Changes.{exists}
 use Rattle.kc_model.proofs.LawfulTraces.{orderly-is}
@@ -76,3 +79,9 @@ core-kept config old new is lawful linked room = record {
     free = room.here resource.Free ∙ is.whole.free;
   };
 }
+
+-- a call that is answered, or that meets want of memory, leaves the state lawful
+pub lawful-left : {X E : Type 0} (answer : Result X E) (config : Configuration) (old new : Held) (call : Call) → IsRanged call → IsLawful (state_of config old)
+    → OnOk answer (state_of config new ≡ (next (state_of config old) call).1) → OnErr answer (new ≡ old) → IsLawful (state_of config new)
+lawful-left (Ok reply) config old new call ranged is state same = rw state (lawful-next _ call ranged is)
+lawful-left (Err refused) config old new call ranged is state same = rw same is

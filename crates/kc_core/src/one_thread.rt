@@ -1,6 +1,6 @@
 //! The core, seen as a state that is lawful after every call.
-ghost use Rattle.std.specs.Prelude.{◌≡◌, ℕ, ◌+◌, ◌<◌, ◌≤◌, List, length, take, map, All, IsSome, IfSome, ◌↔◌, IfOk, IfErr, OnOk, OnErr, IsOk};
-ghost use Rattle.kc_types.specs.Room.{room_of};
+ghost use Rattle.std.specs.Prelude.{◌≡◌, ℕ, ◌+◌, ◌<◌, ◌≤◌, List, length, take, map, All, IsSome, IfSome, ◌↔◌, IfOk, IfErr, IsErr, OnOk, OnErr, true};
+ghost use Rattle.kc_types.specs.Room.{is_data, room_of};
 ghost use Rattle.kc_model.specs.Boot.{boot};
 ghost use Rattle.kc_model.specs.Next.{next, replies_from, state_after};
 ghost use Rattle.kc_model.specs.Lawful.{IsLawful};
@@ -18,7 +18,7 @@ ghost use Rattle.kc_core.specs.Cores.{IsCore};
 
 use crate::look_ups::{frames_of, page_record};
 use crate::ranged::{read_all_numbers, read_numbers};
-use kc_calls::apply;
+use kc_calls::{answer, apply};
 use kc_page::{Page, PageBytes, PageRecord, scrub_each};
 use kc_parts::Parts;
 use kc_types::{Call, Config, FrameNo, Gfn, Memory, Owner, Phase, Reply, Spare, VcpuId};
@@ -105,20 +105,20 @@ impl KCore {
         ensures lawful { IsLawful self.new }
     {
         read_numbers(call);
-        apply(&mut self.parts, &self.config, call, room)
+        answer(&mut self.parts, &self.config, call, room)
     }
 
-    /// Makes room for the reply and answers a call. `Memory` where a growth was refused, which comes for reads
-    /// alone, and then nothing has changed.
+    /// Answers a call. `Memory` where a growth was refused, which comes only where the reply would be bytes, and then
+    /// nothing has changed.
     pub fn call(&mut self, call: &Call) -> Result<Reply, Memory>
         ensures reply { IfOk result (λ reply. reply ≡ (next self.old call.now).0) }
         ensures state { OnOk result (self.new ≡ (next self.old call.now).1) }
         ensures err { OnErr result (self.new ≡ self.old) }
         ensures lawful { IsLawful self.new }
-        ensures steady { room_of call.now ≡ 0 → IsOk result }
+        ensures memory { IsErr result → is_data (next self.old call.now).0 ≡ true }
     {
-        let room = call.spare(self.alloc)?;
-        Ok(self.answer(call, room))
+        read_numbers(call);
+        apply(self.alloc, &mut self.parts, &self.config, call)
     }
 
     /// Answers a trace, call by call, and gives the replies in order.

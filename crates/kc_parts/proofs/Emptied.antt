@@ -1,5 +1,5 @@
 -- A slot that is emptied, and its frames, which become untouched and free.
-use Rattle.std.proofs.Common.{ℕ, zero, suc, ◌≡◌, ◌≢◌, ◌<◌, inl, inr, true, IsSome, List, [], ◌∷◌, ◌++◌, slice_index_or, Option, Some, None, is_some, cond, Bool, false, nat_lt, set, refl, sym, ap, ◌∙◌, arith}
+use Rattle.std.proofs.Common.{ℕ, zero, suc, ◌≡◌, ◌≢◌, ◌<◌, ◌+◌, inl, inr, true, IsSome, List, [], ◌∷◌, ◌++◌, slice_index_or, Option, Some, None, is_some, is_none, cond, Bool, false, nat_lt, set, refl, sym, ap, ◌∙◌, arith}
 use Rattle.std.specs.Option.{option_map}
 use Rattle.std.proofs.lemmas.Bool.{cases_eq}
 use Rattle.kc_types.specs.Limits.{frame_limit}
@@ -20,7 +20,7 @@ use Rattle.kc_links.specs.Ending.{listed, IsList}
 use Rattle.kc_links.proofs.Times.{times-same, times-other}
 use Rattle.kc_links.proofs.Steps.{inside-held}
 use Rattle.kc_parts.specs.Held.{Held, page_at, vm_at, links_of, ends_at, with_page, with_vm, link_of}
-use Rattle.kc_parts.specs.States.{frame_in, unlinked_slot, state_of, here_of, owner_at, frames_of, AreLists, IsLinked}
+use Rattle.kc_parts.specs.States.{frame_in, unlinked_slot, state_of, here_of, owner_at, lacks_list, is_away, frames_of, AreLists, IsLinked}
 use Rattle.kc_parts.specs.Emptying.{untouched_page, with_untouched, with_scrubbed, all_scrubbed, IsEmptied}
 use Rattle.kc_parts.proofs.Pages.{page-set, page-other, links-kept}
 use Rattle.kc_parts.proofs.Seen.{state-page, here-page, linked-moved}
@@ -106,6 +106,20 @@ owners-scrubbed h (f ∷ fs) here g some = elim (cases_eq g f) [
   | inl same ↦ owner-kept (with_scrubbed h f) fs g (rw same (owner-scrubbed h f (here-first h f fs here)))
   | inr other ↦ owners-scrubbed (with_scrubbed h f) fs (here-rest h f fs here) g (rw (times-other f fs g other) at some)
 ]
+
+-- frames that are not scrubbed keep their owner
+owner-other : (h : Held) (f g : ℕ) → g ≢ f → owner_at (with_scrubbed h f) g ≡ owner_at h g
+owner-other h f g other = by_page (page_at h f) refl
+  where
+    by_page : (at : Option Page) → page_at h f ≡ at → owner_at (with_untouched h f at) g ≡ owner_at h g
+    by_page None is = refl
+    by_page (Some page) is = ap (λ there. (frame_in there).owner) (page-other h f g page (untouched_page page) is other)
+
+owners-others : (h : Held) (fs : List ℕ) (g : ℕ) → times_in fs g ≡ 0 → owner_at (all_scrubbed h fs) g ≡ owner_at h g
+owners-others h [] g none = refl
+owners-others h (f ∷ fs) g none =
+    let other : g ≢ f = λ same. let one : times_in (g ∷ fs) g ≡ 1 + times_in fs g = times-same g fs in let here : times_in (g ∷ fs) g ≡ 0 = ap (λ x. times_in (x ∷ fs) g) same ∙ none in omega (arith, one, here) in
+    owners-others (with_scrubbed h f) fs g (sym (times-other f fs g other) ∙ none) ∙ owner-other h f g other
 
 -- each of the frames is as at boot
 state-one : (config : Configuration) (h : Held) (f : ℕ) → is_some (page_at h f) ≡ true → state_of config (with_scrubbed h f) ≡ with_frame (state_of config h) f (untouched Free)
@@ -274,11 +288,19 @@ module _ (old : Held) (v : ℕ) (vm : VmSlot) (at : vm_at old v ≡ Some vm) whe
         links = kept.links;
         here = here-all;
         owners = λ config linked f some. owners-scrubbed reset fs (here-listed linked.lists) f (rw same at some);
+        away = λ config linked f away. owners-others reset fs f (no-away linked.lists f away (times_in fs f) refl);
         state = λ config linked low. state-scrubbed config reset fs (here-listed linked.lists) ∙ ap (λ (m : State). record m { frames = scrubbed m.frames fs }) (state-reset config)
             ∙ ap (λ fs. record (state_of config old) { frames = scrubbed (state_of config old).frames fs; slots = set (state_of config old).slots v empty_slot }) (sym same);
         linked = λ config linked. linked-scrubbed config reset fs (linked-reset config linked) (absent-listed linked.lists);
       }
     where
+      -- a frame whose list is elsewhere is not among those of the slot, whose ends are here
+      no-away : AreLists (links_of old) (ends_at old) (owner_at old) → (f : ℕ) → is_away old f ≡ true → (n : ℕ) → times_in fs f ≡ n → n ≡ 0
+      no-away are f away zero count = refl
+      no-away are f away (suc n) count =
+          let own = slot-owned old v vm are at f (rw count (omega arith)) in
+          let no : false ≡ true = sym (ap (lacks_list old) own ∙ ap is_none at) ∙ away in cc
+
       here-all : (r : Resource) → here_of emptied r ≡ here_of old r
       here-all (resource.Frame f) = (scrubbing reset fs).pages f
       here-all (resource.Vm w) = ap (λ vms. is_some (slice_index_or vms w None)) (scrubbing reset fs).vms ∙ here-vm old v vm (empty_vm vm.room) at (resource.Vm w)

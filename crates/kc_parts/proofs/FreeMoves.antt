@@ -1,5 +1,5 @@
 -- The free list takes a frame in, or gives one out.
-use Rattle.std.proofs.Common.{ℕ, ◌≡◌, ◌≢◌, ◌<◌, inl, inr, List, [], ◌∷◌, ◌++◌, Option, Some, None, is_some, IfSome, MatchOption, refl, sym, ap, ◌∙◌, arith}
+use Rattle.std.proofs.Common.{ℕ, ◌≡◌, ◌≢◌, ◌<◌, inl, inr, List, [], ◌∷◌, ◌++◌, Option, Some, None, is_some, is_none, IfSome, MatchOption, refl, sym, ap, ◌∙◌, arith}
 use Rattle.std.specs.List.{range_with_len}
 use Rattle.std.specs.Option.{option_map}
 use Rattle.std.proofs.lemmas.Bool.{cases_eq}
@@ -21,7 +21,7 @@ use Rattle.kc_parts.specs.Held.{Held, page_at, vm_at, links_of, ends_at}
 use Rattle.kc_parts.specs.States.{frame_in, slot_in, owner_at, here_of, AreLists, IsLoose, IsFreeMove}
 use Rattle.kc_parts.specs.Linking.{IsSameRest}
 use Rattle.kc_parts.proofs.Moving.{lists-moved, lists-same}
-use Rattle.kc_parts.proofs.Relinked.{frames-stay, vms-stay, here-stays, slot-stays, absent-others}
+use Rattle.kc_parts.proofs.Relinked.{frames-stay, vms-stay, here-stays, slot-stays, absent-others, away-stays}
 use Rattle.kc_parts.proofs.Seen.{table-same}
 
 module _ (old mid : Held) (e e' : Ends) (frames : List ℕ) (rest : IsSameRest old mid) (free_is : old.free ≡ Some e) (are : AreLists (links_of old) (ends_at old) (owner_at old))
@@ -47,6 +47,7 @@ module _ (old mid : Held) (e e' : Ends) (frames : List ℕ) (rest : IsSameRest o
     filled = rest.here;
     here = here-all;
     owners = owners-same;
+    away = away-stays old mid Free frames rest are keeps owned (ap is_none free_is);
     state = λ config i. record {
       config = config;
       frames = table-same (λ f. frame_in (page_at old f)) (λ f. frame_in (page_at moved f)) (range_with_len 0 config.frames) (frames-stay old mid Free frames rest are keeps owned) i;

@@ -1,5 +1,5 @@
 -- Parts whose links changed among the frames of one owner, whose list changed: what is seen of all else stays.
-use Rattle.std.proofs.Common.{ℕ, zero, suc, ◌≡◌, ◌≢◌, ◌<◌, List, Option, Some, None, is_some, slice_index_or, refl, sym, ap, ◌∙◌, arith}
+use Rattle.std.proofs.Common.{ℕ, zero, suc, ◌≡◌, ◌≢◌, ◌<◌, true, false, List, Option, Some, None, is_some, slice_index_or, refl, sym, ap, ◌∙◌, arith}
 use Rattle.std.specs.Option.{option_map}
 use Rattle.kc_types.specs.declared.link.Ends.{Ends}
 use Rattle.kc_types.specs.declared.owner.Owner.{Owner}
@@ -13,7 +13,7 @@ use Rattle.kc_page.specs.Pages.{frame_of}
 use Rattle.kc_vms.specs.Slots.{VmSlot}
 use Rattle.kc_links.specs.Ending.{listed, KeepsOthers}
 use Rattle.kc_parts.specs.Held.{Held, page_at, vm_at, links_of, ends_at}
-use Rattle.kc_parts.specs.States.{frame_in, list_in, slot_in, unlinked_slot, owner_at, here_of, AreLists}
+use Rattle.kc_parts.specs.States.{frame_in, list_in, slot_in, unlinked_slot, owner_at, lacks_list, is_away, here_of, AreLists}
 use Rattle.kc_parts.specs.Linking.{IsSameRest}
 use Rattle.kc_parts.proofs.Moving.{list-kept}
 
@@ -70,3 +70,11 @@ module _ (old new : Held) (mine : Owner) (frames : List ℕ) (rest : IsSameRest 
       by_count : (n : ℕ) → times_in (listed (links_of old) e) f ≡ n → n ≡ 0
       by_count zero count = refl
       by_count (suc n) count = absurd (other (sym (are.owned p e f is (rw count (omega arith))) ∙ own))
+
+  -- where the ends of the changed list are here, frames whose list is elsewhere keep their links
+  pub away-stays : lacks_list old mine ≡ false → (f : ℕ) → is_away old f ≡ true → links_of new f ≡ links_of old f
+  away-stays here f away = by_count (times_in frames f) refl
+    where
+      by_count : (n : ℕ) → times_in frames f ≡ n → links_of new f ≡ links_of old f
+      by_count zero count = keeps f count
+      by_count (suc n) count = let own = owned f (rw count (omega arith)) in let no : false ≡ true = sym (ap (lacks_list old) own ∙ here) ∙ away in cc

@@ -1,5 +1,5 @@
 -- The list of a slot takes a frame in, or gives one out.
-use Rattle.std.proofs.Common.{ℕ, ◌≡◌, ◌≢◌, ◌<◌, inl, inr, List, Option, Some, None, IfSome, slice_index_or, refl, sym, ap, ◌∙◌, arith}
+use Rattle.std.proofs.Common.{ℕ, ◌≡◌, ◌≢◌, ◌<◌, inl, inr, List, Option, Some, None, is_none, IfSome, slice_index_or, refl, sym, ap, ◌∙◌, arith}
 use Rattle.std.specs.List.{range_with_len}
 use Rattle.std.specs.Option.{option_map}
 use Rattle.std.proofs.lemmas.Bool.{cases_eq}
@@ -20,7 +20,7 @@ use Rattle.kc_parts.specs.Held.{Held, page_at, vm_at, links_of, ends_at, with_vm
 use Rattle.kc_parts.specs.States.{frame_in, slot_in, unlinked_slot, owner_at, here_of, frames_of, AreLists, IsLoose, IsSlotMove}
 use Rattle.kc_parts.specs.Linking.{IsSameRest}
 use Rattle.kc_parts.proofs.Moving.{same_or_other, lists-moved, lists-same}
-use Rattle.kc_parts.proofs.Relinked.{frames-stay, vms-stay, here-stays, free-stays, slot-stays, absent-others}
+use Rattle.kc_parts.proofs.Relinked.{frames-stay, vms-stay, here-stays, free-stays, slot-stays, absent-others, away-stays}
 use Rattle.kc_parts.proofs.Seen.{table-same, table-set}
 use Rattle.kc_parts.proofs.SlotChanges.{vm-set, vm-other, here-vm}
 
@@ -73,6 +73,7 @@ module _ (old mid : Held) (v : ℕ) (vm : VmSlot) (e' : Ends) (frames : List ℕ
     filled = rest.here;
     here = here-all;
     owners = owners-same;
+    away = away-stays old mid (Vm v) frames rest are keeps owned (ap is_none at);
     state = λ config was at_was i. record {
       config = config;
       frames = table-same (λ f. frame_in (page_at old f)) (λ f. frame_in (page_at moved f)) (range_with_len 0 config.frames) (frames-stay old mid (Vm v) frames rest are keeps owned) i;

@@ -1,10 +1,10 @@
 -- Parts seen as a state, with the untouched value where a part is not here.
-use Rattle.std.specs.Prelude.{ℕ, ◌≡◌, ◌<◌, true, is_some, List, [], map, Option, Some, None}
+use Rattle.std.specs.Prelude.{ℕ, ◌≡◌, ◌<◌, Bool, true, false, is_some, is_none, List, [], map, Option, Some, None}
 use Rattle.std.specs.List.{range_with_len}
 use Rattle.kc_types.specs.Configuration.{Configuration, slot_count}
 use Rattle.kc_types.specs.declared.link.Ends.{Ends}
 use Rattle.kc_types.specs.declared.owner.Owner.{Owner}
-use Rattle.kc_types.specs.declared.owner.Owner.TheVariants.{Core, Host}
+use Rattle.kc_types.specs.declared.owner.Owner.TheVariants.{Core, Host, Free, Vm}
 use Rattle.kc_types.specs.declared.resource.Resource.TheVariants as resource
 use Rattle.kc_model.specs.State.{State, Frame, Slot, untouched, empty_slot, with_slot}
 use Rattle.kc_model.specs.Resources.{Resource, Resources}
@@ -51,6 +51,17 @@ here_of h resource.Free = is_some h.free
 abbrev pub owner_at : Held → ℕ → Owner
 owner_at h f = (frame_in (page_at h f)).owner
 
+-- the ends of the owner's list are not here; the host's frames are in no list, and the core's no call may touch
+abbrev pub lacks_list : Held → Owner → Bool
+lacks_list h Core = true
+lacks_list h Host = false
+lacks_list h Free = is_none h.free
+lacks_list h (Vm v) = is_none (vm_at h v)
+
+-- the ends of the frame's list are elsewhere: whoever has them counts on its owner and its links
+abbrev pub is_away : Held → ℕ → Bool
+is_away h f = lacks_list h (owner_at h f)
+
 -- the links of the frames spell each owner's list whose ends are here
 pub record AreLists (links : Links) (ends_at : Owner → Option Ends) (owner_at : ℕ → Owner) : Type 0 where
   pub spelled : (owner : Owner) (ends : Ends) → ends_at owner ≡ Some ends → IsList links ends
@@ -80,6 +91,7 @@ pub record IsFreeMove (old new : Held) : Type 0 where
   pub filled : new.here ≡ old.here
   pub here : (r : Resource) → here_of new r ≡ here_of old r
   pub owners : (f : ℕ) → owner_at new f ≡ owner_at old f
+  pub away : (f : ℕ) → is_away old f ≡ true → links_of new f ≡ links_of old f
   pub state : (config : Configuration) → state_of config new ≡ record (state_of config old) { free = free_of new }
   pub linked : (config : Configuration) → IsLinked config old → IsLinked config new
 
@@ -93,5 +105,6 @@ pub record IsSlotMove (v : ℕ) (old new : Held) : Type 0 where
   pub filled : new.here ≡ old.here
   pub here : (r : Resource) → here_of new r ≡ here_of old r
   pub owners : (f : ℕ) → owner_at new f ≡ owner_at old f
+  pub away : (f : ℕ) → is_away old f ≡ true → links_of new f ≡ links_of old f
   pub state : (config : Configuration) (vm : VmSlot) → vm_at old v ≡ Some vm → state_of config new ≡ with_slot (state_of config old) v (unlinked_slot vm.slot (frames_of new v))
   pub linked : (config : Configuration) → IsLinked config old → IsLinked config new

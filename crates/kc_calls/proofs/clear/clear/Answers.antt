@@ -6,6 +6,7 @@ use Rattle.kc_parts.specs.Held.{vm_at}
 use Rattle.kc_parts.specs.States.{state_of}
 use Rattle.kc_calls.specs.Applying.{IsAble}
 use Rattle.kc_calls.proofs.Needed.{slot-needed}
+use Rattle.kc_calls.proofs.Frames.{room-emptied, room-move, room-through}
 use Rattle.kc_calls.proofs.Clears.{IsClearing, clear-served, the-slot, list-cleared, owned-cleared, apart-cleared, state-cleared}
 use Rattle.kc_calls.proofs.clear.clear.Goals as goal
 use Rattle.kc_calls.proofs.clear.clear.Goals.{After-unwrap-vm, After-empty_slot-list}
@@ -52,3 +53,6 @@ returns-clause-state c =
 
 pub returns-clause-linked : goal.returns-clause-linked
 returns-clause-linked c = c.append_list.ensures.rest.linked _ (c.empty_slot-list.ensures.rest.linked _ c.requires.able.linked)
+
+pub returns-clause-room : goal.returns-clause-room
+returns-clause-room c = room-through _ _ _ (room-emptied _ _ _ _ c.requires.able.linked c.empty_slot-list.ensures.rest) (room-move _ _ c.append_list.ensures.rest)

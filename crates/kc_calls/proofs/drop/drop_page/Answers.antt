@@ -10,7 +10,7 @@ use Rattle.kc_parts.specs.States.{state_of}
 use Rattle.kc_calls.specs.Applying.{IsAble}
 use Rattle.kc_calls.proofs.Frames.{some-lent, room-through}
 use Rattle.kc_calls.proofs.Needed.{slot-needed}
-use Rattle.kc_calls.proofs.Drops.{IsUnmapping, linked-unmapped, inside-unmapped, state-dropped, room-unlinked, mapped-is}
+use Rattle.kc_calls.proofs.Drops.{IsUnmapping, linked-unmapped, inside-unmapped, state-dropped, room-unlinked, mapped-is, near-unlinked}
 use Rattle.kc_calls.proofs.drop.drop_page.Goals as goal
 use Rattle.kc_calls.proofs.drop.drop_page.Goals.{After-unwrap-gfn, After-unwrap-slot, After-unmap, After-unwrap-frame}
 
@@ -68,6 +68,11 @@ free_frame-requires-clause-linked c = c.unlink_vm.ensures.rest.linked _ (linked-
 
 pub free_frame-requires-clause-free : goal.free_frame-requires-clause-free
 free_frame-requires-clause-free c = c.unlink_vm.ensures.rest.here resource.Free ∙ c.requires.able.here resource.Free refl
+
+pub free_frame-requires-clause-near : goal.free_frame-requires-clause-near
+free_frame-requires-clause-near c =
+    let k = goal.at.free_frame-requires-clause-near c in
+    near-unlinked _ _ _ _ _ _ _ (unmapping k.After-unwrap-frame) c.unlink_vm.new.self c.unlink_vm.ensures.rest
 
 pub returns-clause-state : goal.returns-clause-state
 returns-clause-state c =

@@ -1,4 +1,4 @@
-use Rattle.std.proofs.Common.{◌≡◌, Some, is_some, refl, sym, ap}
+use Rattle.std.proofs.Common.{◌≡◌, Some, is_some, refl, sym, ap, ◌∙◌}
 use Rattle.kc_parts.specs.Held.{page_at}
 use Rattle.kc_parts.specs.States.{frame_in}
 use Rattle.kc_parts.proofs.Pages.{page-set}
@@ -36,4 +36,4 @@ returns-clause-linked c =
     c.append_free.ensures.rest.linked _ (linked-moved _ _ _ _ _ c.requires.linked (at k) refl c.requires.loose.absent (λ host. c.requires.loose.alone))
 
 pub returns-clause-room : goal.returns-clause-room
-returns-clause-room c = room-through _ _ _ (room-page _ _ _ _ (at (goal.at.returns-clause-room c).After-unwrap-page)) (room-move _ _ c.append_free.ensures.rest)
+returns-clause-room c = room-through _ _ _ (room-page _ _ _ _ (at (goal.at.returns-clause-room c).After-unwrap-page) refl (λ away. let no = sym c.requires.near ∙ away in cc)) (room-move _ _ c.append_free.ensures.rest)

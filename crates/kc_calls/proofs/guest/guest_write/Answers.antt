@@ -6,6 +6,7 @@ use Rattle.kc_parts.specs.Held.{vm_at}
 use Rattle.kc_parts.specs.States.{state_of}
 use Rattle.kc_calls.proofs.Needed.{slot-needed, mapped-needed}
 use Rattle.kc_calls.proofs.Guests.{slot-named}
+use Rattle.kc_calls.proofs.Frames.{room-through}
 use Rattle.kc_calls.proofs.guest.guest_write.Goals as goal
 use Rattle.kc_calls.proofs.guest.guest_write.Goals.{Start}
 
@@ -27,3 +28,6 @@ spend_fault-requires-clause-here c = c.write_frame.ensures.room.here (resource.V
 
 pub set_fault-requires-clause-here : goal.set_fault-requires-clause-here
 set_fault-requires-clause-here c = here (goal.at.set_fault-requires-clause-here c).Start
+
+pub returns-in-Some-clause-room : goal.returns-in-Some-clause-room
+returns-in-Some-clause-room c = room-through _ _ _ c.write_frame.ensures.room c.spend_fault.ensures.room

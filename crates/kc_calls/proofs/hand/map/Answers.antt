@@ -5,6 +5,7 @@ use Rattle.kc_parts.specs.Held.{vm_at}
 use Rattle.kc_parts.specs.States.{state_of}
 use Rattle.kc_calls.proofs.Needed.{slot-needed, frame-needed}
 use Rattle.kc_calls.proofs.Hands.{host-owner}
+use Rattle.kc_calls.proofs.Frames.{room-through}
 use Rattle.kc_calls.proofs.hand.map.Goals as goal
 use Rattle.kc_calls.proofs.hand.map.Goals.{After-unwrap-frame}
 
@@ -35,3 +36,6 @@ hand-requires-clause-host c =
 
 pub spend_fault-requires-clause-here : goal.spend_fault-requires-clause-here
 spend_fault-requires-clause-here c = c.hand.ensures.room.here (resource.Vm c.args.vm) ∙ slot-here (goal.at.spend_fault-requires-clause-here c).After-unwrap-frame
+
+pub returns-clause-room : goal.returns-clause-room
+returns-clause-room c = room-through _ _ _ c.hand.ensures.room c.spend_fault.ensures.room

@@ -2,10 +2,10 @@ use Rattle.std.proofs.Common.{◌≡◌, ◌<◌, Some, refl, sym, ap, ◌∙◌
 use Rattle.kc_model.specs.State.{Frame, frame_at}
 use Rattle.kc_types.specs.declared.owner.Owner.TheVariants.{Host}
 use Rattle.kc_parts.specs.Held.{page_at}
-use Rattle.kc_parts.specs.States.{state_of, frame_in, IsLoose}
+use Rattle.kc_parts.specs.States.{state_of, frame_in, owner_at, IsLoose}
 use Rattle.kc_parts.proofs.Pages.{page-set}
 use Rattle.kc_parts.proofs.Seen.{linked-moved, frame-seen}
-use Rattle.kc_calls.proofs.Frames.{some-lent, there, room-page, room-move, room-through}
+use Rattle.kc_calls.proofs.Frames.{some-lent, there, room-page, room-move, room-through, host-near}
 use Rattle.kc_calls.proofs.Hosts.{give-served, give-touched, loose-host, loose-page, state-given}
 use Rattle.kc_calls.proofs.host.give.Goals as goal
 use Rattle.kc_calls.proofs.host.give.Goals.{After-unwrap-frame, After-unwrap-page}
@@ -17,8 +17,11 @@ is_frame c = rw c.unwrap-frame.ensures at c.frame.ensures.value
 seen : (c : After-unwrap-frame) → (c.unwrap-frame.result < c.args.config.now.frames) × ((frame_at (state_of c.args.config.now c.args.parts.now) c.unwrap-frame.result).owner ≡ Host)
 seen c = rw (is_frame c) (give-served (state_of c.args.config.now c.args.parts.now) _ c.requires.served)
 
+owner : (c : After-unwrap-frame) → owner_at c.args.parts.now c.unwrap-frame.result ≡ Host
+owner c = sym (ap (λ (frame : Frame). frame.owner) (frame-seen c.args.config.now c.args.parts.now _ (seen c).0)) ∙ (seen c).1
+
 loose : (c : After-unwrap-frame) → IsLoose c.args.parts.now c.unwrap-frame.result
-loose c = loose-host _ _ _ c.requires.linked (sym (ap (λ (frame : Frame). frame.owner) (frame-seen c.args.config.now c.args.parts.now _ (seen c).0)) ∙ (seen c).1)
+loose c = loose-host _ _ _ c.requires.linked (owner c)
 
 at : (c : After-unwrap-page) → page_at c.args.parts.now c.unwrap-frame.result ≡ Some c.unwrap-page.result.now
 at c = sym (rw c.unwrap-page.ensures at c.frame_mut.ensures.value)
@@ -55,4 +58,7 @@ returns-clause-linked c =
     c.append_free.ensures.rest.linked _ (linked-moved _ _ _ _ _ c.requires.linked (at k.After-unwrap-page) refl is.absent (λ host. is.alone))
 
 pub returns-clause-room : goal.returns-clause-room
-returns-clause-room c = room-through _ _ _ (room-page _ _ _ _ (at (goal.at.returns-clause-room c).After-unwrap-page)) (room-move _ _ c.append_free.ensures.rest)
+returns-clause-room c =
+    let k = goal.at.returns-clause-room c in
+    let near = host-near c.args.parts.now c.unwrap-frame.result (owner k.After-unwrap-frame) in
+    room-through _ _ _ (room-page _ _ _ _ (at k.After-unwrap-page) refl (λ away. let no = sym near ∙ away in cc)) (room-move _ _ c.append_free.ensures.rest)

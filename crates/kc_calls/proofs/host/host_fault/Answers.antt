@@ -31,4 +31,4 @@ pub returns-clause-linked : goal.returns-clause-linked
 returns-clause-linked c = linked-kept _ _ _ _ _ c.requires.linked (at (goal.at.returns-clause-linked c).After-unwrap-page) refl refl
 
 pub returns-clause-room : goal.returns-clause-room
-returns-clause-room c = room-page _ _ _ _ (at (goal.at.returns-clause-room c).After-unwrap-page)
+returns-clause-room c = room-page _ _ _ _ (at (goal.at.returns-clause-room c).After-unwrap-page) refl (λ away. refl)

@@ -1,7 +1,7 @@
-use Rattle.std.proofs.Common.{◌≡◌, ◌<◌, ◌∷◌, Some, is_some, refl, sym, ap}
+use Rattle.std.proofs.Common.{◌≡◌, ◌<◌, ◌∷◌, Some, is_some, refl, sym, ap, ◌∙◌}
 use Rattle.kc_parts.specs.Held.{page_at}
 use Rattle.kc_parts.specs.States.{free_of, IsLoose}
-use Rattle.kc_calls.proofs.Frames.{room-page, room-move, room-through}
+use Rattle.kc_calls.proofs.Frames.{room-page, room-move, room-through, taken-near}
 use Rattle.kc_calls.proofs.Hosts.{state-taken, linked-taken}
 use Rattle.kc_calls.proofs.host.take.Goals as goal
 use Rattle.kc_calls.proofs.host.take.Goals.{After-unwrap-page}
@@ -23,4 +23,6 @@ returns-clause-linked c =
 
 pub returns-clause-room : goal.returns-clause-room
 returns-clause-room c =
-    room-through c.args.parts.now c.pop_free.new.self _ (room-move _ _ c.pop_free.ensures.rest) (room-page c.pop_free.new.self _ _ _ (at (goal.at.returns-clause-room c).After-unwrap-page))
+    let first : free_of c.args.parts.now ≡ c.unwrap-frame.result ∷ free_of c.pop_free.new.self = rw c.unwrap-frame.ensures at c.pop_free.ensures.frames in
+    let near = taken-near c.args.config.now c.args.parts.now c.pop_free.new.self c.unwrap-frame.result c.requires.linked c.pop_free.ensures.rest first in
+    room-through c.args.parts.now c.pop_free.new.self _ (room-move _ _ c.pop_free.ensures.rest) (room-page c.pop_free.new.self _ _ _ (at (goal.at.returns-clause-room c).After-unwrap-page) refl (λ away. let no = sym near ∙ away in cc))

@@ -1,4 +1,4 @@
-use Rattle.std.proofs.Common.{◌≡◌, ◌+◌, refl, arith}
+use Rattle.std.proofs.Common.{refl, arith}
 use Rattle.kc_model.proofs.GuestCalls.{IsMappedCall, guest_frame-served}
 use Rattle.kc_parts.specs.States.{state_of}
 use Rattle.kc_calls.proofs.Frames.{room-same}

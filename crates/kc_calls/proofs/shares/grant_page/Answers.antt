@@ -1,4 +1,4 @@
-use Rattle.std.proofs.Common.{◌≡◌, ◌+◌, Some, refl, sym, ◌∙◌, arith}
+use Rattle.std.proofs.Common.{◌≡◌, Some, refl, sym, ◌∙◌, arith}
 use Rattle.kc_model.specs.State.{mapped_at}
 use Rattle.kc_model.specs.Effects.{granted}
 use Rattle.kc_parts.specs.Held.{page_at}
@@ -35,4 +35,4 @@ pub returns-clause-linked : goal.returns-clause-linked
 returns-clause-linked c = linked-kept _ _ _ _ _ c.requires.linked (at (goal.at.returns-clause-linked c).After-unwrap-page) refl refl
 
 pub returns-clause-room : goal.returns-clause-room
-returns-clause-room c = room-page _ _ _ _ (at (goal.at.returns-clause-room c).After-unwrap-page)
+returns-clause-room c = room-page _ _ _ _ (at (goal.at.returns-clause-room c).After-unwrap-page) refl (λ away. refl)

@@ -1,4 +1,4 @@
-use Rattle.std.proofs.Common.{◌≡◌, ◌≤◌, ◌+◌, ◌-◌, refl, ap, ◌∙◌, arith}
+use Rattle.std.proofs.Common.{◌+◌, ◌-◌, refl, ap, ◌∙◌, arith}
 use Rattle.kc_model.specs.State.{State}
 use Rattle.kc_model.specs.Effects.{granted}
 use Rattle.kc_model.proofs.RangeCalls.{IsRangeCall, guest_range-served}

@@ -1,4 +1,4 @@
-use Rattle.std.proofs.Common.{ℕ, ◌≡◌, ◌≤◌, ◌+◌, ◌-◌}
+use Rattle.std.proofs.Common.{◌≡◌, ◌≤◌, ◌+◌, ◌-◌}
 use Rattle.std.specs.List.{range_with_len}
 use Rattle.kc_model.specs.Effects.{with_each, revoked}
 use Rattle.kc_parts.specs.States.{state_of, IsLinked}

@@ -2,13 +2,13 @@ use Rattle.kc_model.proofs.Keeps.{lawful-next}
 use Rattle.kc_core.proofs.Cored.{able, core-kept}
 use Rattle.kc_core.proofs.one_thread.KCore.answer.Goals as goal
 
-pub apply-requires-clause-able : goal.apply-requires-clause-able
-apply-requires-clause-able c = able c.self.inside.config c.self.inside.parts c.self.invariant c.args.call.now
+pub answer-requires-clause-able : goal.answer-requires-clause-able
+answer-requires-clause-able c = able c.self.inside.config c.self.inside.parts c.self.invariant c.args.call.now
 
 pub invariant_of-self : goal.invariant_of-self
-invariant_of-self c = core-kept c.self.inside.config c.self.inside.parts c.apply.new.parts c.self.invariant
-    (rw c.apply.ensures.state (lawful-next _ c.args.call.now c.read_numbers.ensures c.self.invariant.lawful))
-    c.apply.ensures.linked c.apply.ensures.room
+invariant_of-self c = core-kept c.self.inside.config c.self.inside.parts c.answer.new.parts c.self.invariant
+    (rw c.answer.ensures.state (lawful-next _ c.args.call.now c.read_numbers.ensures c.self.invariant.lawful))
+    c.answer.ensures.linked c.answer.ensures.room
 
 pub returns-clause-lawful : goal.returns-clause-lawful
-returns-clause-lawful c = rw c.apply.ensures.state (lawful-next _ c.args.call.now c.read_numbers.ensures c.self.invariant.lawful)
+returns-clause-lawful c = rw c.answer.ensures.state (lawful-next _ c.args.call.now c.read_numbers.ensures c.self.invariant.lawful)
