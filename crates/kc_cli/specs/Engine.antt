@@ -8,6 +8,8 @@ use Rattle.kc_model.specs.Next.{replies_from}
 use Rattle.kc_trace.specs.ConfigText.{config_in}
 use Rattle.kc_trace.specs.Trace.{IsTrace}
 use Rattle.kc_trace.specs.ReplyText.{reply_text_of}
+use Rattle.kc_trace.specs.declared.config_text.ConfigTextFault.TheVariants as configs
+use Rattle.kc_trace.specs.declared.fault.TraceFault.TheVariants as traces
 use Rattle.kc_cli.specs.declared.fault.TextFault.{TextFault}
 use Rattle.kc_cli.specs.declared.fault.TextFault.TheVariants as texts
 
@@ -26,6 +28,10 @@ pub record HaveRead (config_source trace_source : Option (List ℕ)) (config : C
   pub configured : IfSome config_source (λ text. config_in text ≡ Ok config)
   pub traced : IfSome trace_source (λ text. IsTrace text calls)
 
+-- want of memory is told as that, and never as a fault of a text
+abbrev pub IsTold : TextFault → Type 0
+IsTold fault = (fault ≢ texts.Config configs.Memory) × (fault ≢ texts.Trace traces.Memory)
+
 -- reading ends in a fault of an end, of a text or of memory
 pub record IsReadingFault (fault : TextFault) : Type 0 where
   pub workers : fault ≢ texts.Workers
@@ -33,6 +39,7 @@ pub record IsReadingFault (fault : TextFault) : Type 0 where
   pub unsettled : fault ≢ texts.Unsettled
   pub actor : (program : ℕ) → fault ≢ texts.BadActor program
   pub write : fault ≢ texts.Write
+  pub told : IsTold fault
 
 -- the text is that of the replies of one thread, which takes the trace's calls in order from the boot state of the configuration
 abbrev pub IsReplyText : List ℕ → List ℕ → List ℕ → Type 0

@@ -8,6 +8,7 @@ use Rattle.kc_live.specs.declared.fault.LiveCause.TheVariants.{BadActor}
 use Rattle.kc_live.specs.Cuts.{KeepsOrders, MayRun, StopsTrace}
 use Rattle.kc_trace.specs.declared.config_text.ConfigTextFault.{ConfigTextFault}
 use Rattle.kc_trace.specs.declared.fault.TraceFault.{TraceFault}
+use Rattle.kc_trace.specs.declared.fault.TraceFault.TheVariants as traces
 use Rattle.kc_trace.specs.Spelling.{trace_of}
 use Rattle.kc_cli.specs.Engine.{AreRead}
 use Rattle.kc_cli.specs.declared.fault.TextFault.{TextFault}
@@ -53,7 +54,7 @@ pub record IsLiveFault (machine : Configuration) (calls : List Call) (fault : Te
   pub read : fault ≢ texts.Read
   pub write : fault ≢ texts.Write
   pub config : (said : ConfigTextFault) → fault ≢ texts.Config said
-  pub trace : (said : TraceFault) → fault ≡ texts.Trace said → call_limit < length calls
+  pub trace : (said : TraceFault) → fault ≡ texts.Trace said → (said ≡ traces.TooManyCalls) × (call_limit < length calls)
   pub actor : (program : ℕ) → fault ≡ texts.BadActor program → StopsTrace machine calls (BadActor program)
   pub started : fault ≡ texts.Start → MayRun machine calls
   pub unsettled : fault ≡ texts.Unsettled → MayRun machine calls

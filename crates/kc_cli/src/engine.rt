@@ -1,5 +1,5 @@
 //! The engine that replays a trace, over any ends.
-ghost use Rattle.std.specs.Prelude.{◌≡◌, ◌≢◌, ◌⊎◌, ◌↔◌, ℕ, true, false, IfOk, IfSome, OnOk, OnErr, Err, IsErrOf};
+ghost use Rattle.std.specs.Prelude.{◌≡◌, ◌≢◌, ◌⊎◌, ◌↔◌, ℕ, true, false, IfOk, IfErr, IfSome, OnOk, OnErr, Err, IsErrOf};
 ghost use Rattle.std.specs.Io.KnownBytes.{IsAtEnd};
 ghost use Rattle.kc_model.specs.Boot.{boot};
 ghost use Rattle.kc_model.specs.Next.{replies_from};
@@ -9,7 +9,7 @@ ghost use Rattle.kc_trace.specs.ConfigText.{config_in};
 ghost use Rattle.kc_trace.specs.Trace.{IsRefused};
 ghost use Rattle.kc_trace.specs.ReplyText.{reply_text_of};
 ghost use Rattle.kc_ends.specs.Ends.{ReadFailed};
-ghost use Rattle.kc_cli.specs.Engine.{IsConfigured, Replays, BeginsReplay};
+ghost use Rattle.kc_cli.specs.Engine.{IsConfigured, IsTold, Replays, BeginsReplay};
 
 use crate::TextFault;
 use crate::reading::read_both;
@@ -64,6 +64,9 @@ pub fn replay_text<C: Source, T: Source, K: Sink>(
     ensures behind { (trace.new ≡ trace.old) ⊎ IsConfigured (C.left config.old) }
     ensures configured { (fault : TraceFault) → result ≡ Err (TextFault.Trace fault) → IsConfigured (C.left config.old) }
     ensures others { OnErr result ((result ≢ Err TextFault.Start) × (result ≢ Err TextFault.Unsettled) × ((program : ℕ) → result ≢ Err (TextFault.BadActor program))) }
+
+    // Want of memory is told as that, and never as a fault of a text.
+    ensures told { IfErr result IsTold }
 
     // Every fault but that of a write leaves the sink as it was.
     ensures untouched { OnErr result ((out.new ≡ out.old) ⊎ (result ≡ Err TextFault.Write)) }

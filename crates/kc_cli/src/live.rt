@@ -11,7 +11,7 @@ ghost use Rattle.kc_trace.specs.declared.fault.TraceFault.{TraceFault};
 ghost use Rattle.kc_trace.specs.ConfigText.{config_in};
 ghost use Rattle.kc_trace.specs.Trace.{IsRefused};
 ghost use Rattle.kc_ends.specs.Ends.{ReadFailed};
-ghost use Rattle.kc_cli.specs.Engine.{IsConfigured};
+ghost use Rattle.kc_cli.specs.Engine.{IsConfigured, IsTold};
 ghost use Rattle.kc_cli.specs.Faults.{live_fault};
 ghost use Rattle.kc_cli.specs.Live.{IsLiveFault, CouldRun, RunsLive, BeginsLive, HasBadActor};
 
@@ -173,6 +173,9 @@ pub fn live_text<C: Source, T: Source, K: Sink, G: Gate + Sync, R: Threads + Wai
     ensures configured { (fault : TraceFault) → result ≡ Err (TextFault.Trace fault) → IsConfigured (C.left config.old) }
     ensures started { result ≡ Err TextFault.Start → CouldRun (C.left config.old) (T.left trace.old) }
     ensures unsettled { result ≡ Err TextFault.Unsettled → CouldRun (C.left config.old) (T.left trace.old) }
+
+    // Want of memory is told as that, and never as a fault of a text.
+    ensures told { IfErr result IsTold }
 
     // Every fault but that of a write leaves the sink as it was.
     ensures untouched { OnErr result ((out.new ≡ out.old) ⊎ (result ≡ Err TextFault.Write)) }

@@ -6,12 +6,9 @@ use crate::fault::LiveFault;
 use crate::ready::Ready;
 use crate::receipt::{Entry, Receipt};
 use kc_core::KCore;
-use kc_types::{Config, Memory};
+use kc_types::{CALL_LIMIT, Config, Memory};
 use std::alloc::Global;
 use std::marker::Model;
-
-/// The most calls that a history holds.
-pub const MOST_CALLS: usize = 65_536;
 
 /// The core of one thread and the history of all calls that were made of it. Every value of it is legal: each reply
 /// is the one that a single thread gets at that point, from the boot state of the configuration on, and the core
@@ -36,7 +33,7 @@ impl Model for Book {
 }
 
 impl Book {
-    ghost use Rattle.kc_history.specs.Logs.{longer, receipt_of, new_log};
+    ghost use Rattle.kc_history.specs.Logs.{IsLegal, longer, receipt_of, new_log};
 
     /// The core in the boot state of its configuration, no calls, and room for as many as there can be; `Memory`
     /// where a growth was refused.
@@ -48,7 +45,7 @@ impl Book {
         Ok(Book {
             config: kept,
             core: KCore::boot(alloc, config)?,
-            entries: Vec::with_capacity(alloc, MOST_CALLS)?,
+            entries: Vec::with_capacity(alloc, CALL_LIMIT)?,
         })
     }
 
@@ -61,7 +58,7 @@ impl Book {
         ensures fault { IfErr result (λ fault. fault ≡ LiveFault.HistoryFull) }
         ensures err { OnErr result (self.new ≡ self.old) }
     {
-        if self.entries.len() >= MOST_CALLS {
+        if self.entries.len() >= CALL_LIMIT {
             return Err(LiveFault::HistoryFull);
         }
         let number = self.entries.len() as u32;
@@ -72,7 +69,8 @@ impl Book {
 
     /// Ends the history.
     pub fn close(self) -> History
-        ensures { result ≡ self }
+        ensures same { result ≡ self }
+        ensures legal { IsLegal result }
     {
         let Book {
             config,

@@ -9,10 +9,10 @@ mod receipt;
 mod seat;
 mod settling;
 
-pub use book::{Book, History, MOST_CALLS};
+pub use book::{Book, History};
 pub use fault::LiveFault;
 pub use live_core::LiveCore;
 pub use ready::Ready;
 pub use receipt::{Entry, Receipt};
 pub use seat::Seat;
-pub use settling::settle;
+pub use settling::{Marks, settle};

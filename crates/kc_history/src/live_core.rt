@@ -1,6 +1,7 @@
 //! The core under its one lock.
 ghost use Rattle.std.specs.Prelude.{◌≡◌, ◌≢◌, ◌↔◌, Err, OnOk, OnErr};
 ghost use Rattle.kc_types.specs.Actors.{actor as actor_made};
+ghost use Rattle.kc_history.specs.Logs.{IsLegal};
 ghost use Rattle.kc_history.specs.Seats.{GainsReceipt};
 
 use crate::book::{Book, History};
@@ -41,8 +42,10 @@ impl LiveCore {
     }
 
     /// Ends the history and hands it out. It waits for nobody.
-    // A fresh history is as good to any clause: tests settle what is handed out.
-    pub fn close(self) -> History {
+    // A fresh history is legal too: tests settle what is handed out.
+    pub fn close(self) -> History
+        ensures { IsLegal result }
+    {
         let LiveCore { alloc: _, book } = self;
         book.into_inner().close()
     }

@@ -1,5 +1,5 @@
 //! Whether the receipts of all callers are the history's, each once.
-ghost use Rattle.std.specs.Prelude.{◌≡◌, ◌↔◌, length, map, replicate, false, IsTrue, IfOk};
+ghost use Rattle.std.specs.Prelude.{◌≡◌, ◌↔◌, ◌≤◌, length, map, IsTrue, IfOk};
 ghost use Rattle.std.specs.Bool.{OnTrue};
 ghost use Rattle.kc_history.specs.Logs.{entry as entry_of};
 ghost use Rattle.kc_history.specs.Settling.{Fits, RowFits, RowsFit, IsSettled, marked};
@@ -8,6 +8,7 @@ use crate::book::History;
 use crate::receipt::{Entry, Receipt};
 use kc_types::{Call, Memory, Reply};
 use std::alloc::Global;
+use std::marker::Model;
 
 fn is_same_call(call: &Call, other: &Call) -> bool
     ensures { IsTrue result ↔ (call.now ≡ other.now) }
@@ -77,23 +78,51 @@ fn mark_rows(entries: &[Entry], seen: &mut [bool], rows: &[Vec<Receipt>]) -> boo
     seen.iter().all(|is_seen| *is_seen)
 }
 
-/// A table in which no entry is marked.
-fn unmarked(alloc: Global, len: usize) -> Result<Vec<bool>, Memory>
-    ensures { IfOk result (λ v. v.items ≡ replicate len false) }
-{
-    let mut seen = Vec::new(alloc);
-    seen.resize(len, false)?;
-    Ok(seen)
+/// Room in which a history is settled, made before the history is there. Seen as how many calls it has room for.
+#[derive(Debug, Drop)]
+pub struct Marks {
+    seen: Vec<bool>,
 }
 
-/// Whether the receipts are just those of the history: each entry's number stands in exactly one receipt and no other
-/// number does, each receipt says what its entry says, and numbers rise in each row. `Memory` where a growth was
-/// refused.
+impl Model for Marks {
+    ghost use Rattle.std.specs.Prelude.{◌≡◌, ℕ, replicate, false, vec_len};
+
+    ghost Value = { ℕ };
+
+    ghost view = { λ m. vec_len m.seen };
+
+    ghost invariant = { λ m. m.seen.items ≡ replicate (vec_len m.seen) false };
+}
+
+impl Marks {
+    /// Room for a history of this many calls; `Memory` where a growth was refused.
+    pub fn with_room(alloc: Global, calls: usize) -> Result<Marks, Memory>
+        // No clause can rule out want of memory: tests settle.
+        ensures { IfOk result (λ marks. marks ≡ calls) }
+    {
+        let mut seen = Vec::new(alloc);
+        seen.resize(calls, false)?;
+        Ok(Marks { seen })
+    }
+
+    /// Whether the receipts are just those of a history's entries: each entry's number stands in exactly one receipt
+    /// and no other number does, each receipt says what its entry says, and numbers rise in each row. It takes no
+    /// memory.
+    pub fn settle(self, entries: &[Entry], rows: &[Vec<Receipt>]) -> bool
+        requires { length entries.now ≤ self }
+        ensures { IsTrue result ↔ IsSettled entries.now (map (λ v. v.items) rows.now) }
+    {
+        let Marks { mut seen } = self;
+        mark_rows(entries, &mut seen[..entries.len()], rows)
+    }
+}
+
+/// The same as `Marks::settle`, in room made for it; `Memory` where a growth was refused.
 pub fn settle(alloc: Global, history: &History, rows: &[Vec<Receipt>]) -> Result<bool, Memory>
     // No clause can rule out want of memory: tests settle.
     ensures { IfOk result (λ yes. IsTrue yes ↔ IsSettled history.now.entries (map (λ v. v.items) rows.now)) }
 {
     let entries = history.entries();
-    let mut seen = unmarked(alloc, entries.len())?;
-    Ok(mark_rows(entries, seen.as_mut_slice(), rows))
+    let marks = Marks::with_room(alloc, entries.len())?;
+    Ok(marks.settle(entries, rows))
 }

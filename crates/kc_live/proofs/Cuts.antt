@@ -1,5 +1,5 @@
 -- Programs with one call more, and the history of a trace.
-use Rattle.std.proofs.Common.{◌≡◌, ◌≢◌, ℕ, zero, suc, ◌+◌, ◌<◌, Bool, true, false, cond, not, Option, Some, None, List, [], ◌∷◌, ◌++◌, length, take, set, get_or, refl, ap, sym, ◌∙◌, arith, length-append, inl, inr}
+use Rattle.std.proofs.Common.{◌≡◌, ◌≢◌, ℕ, zero, suc, ◌+◌, ◌<◌, Bool, true, false, cond, not, Option, Some, None, IfSome, List, [], ◌∷◌, ◌++◌, length, take, set, get_or, refl, ap, sym, ◌∙◌, arith, length-append, inl, inr}
 use Rattle.std.specs.List.{position_from}
 use Rattle.std.proofs.lemmas.List.{append-nil}
 use Rattle.std.proofs.lemmas.List.Sums.{sum_by-cons}
@@ -170,3 +170,8 @@ stops-trace config calls ps HistoryFull cut stops = let count = cut.count in let
 stops-trace config calls ps Memory cut stops = tt
 stops-trace config calls ps Start cut stops = (ps, cut, stops)
 stops-trace config calls ps Unsettled cut stops = (ps, cut, stops)
+
+-- what is so of all that is there, is so of what is there
+pub where_some : {X : Type 0} {P Q : X → Type 0} (found : Option X) → ((x : X) → P x → Q x) → IfSome found P → IfSome found Q
+where_some (Some x) then_ held = then_ x held
+where_some None then_ held = tt

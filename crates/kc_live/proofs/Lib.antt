@@ -2,4 +2,5 @@ pub mod Configs
 pub mod Actors
 pub mod Planning
 pub mod Runs
+pub mod Beginnings
 pub mod Cuts

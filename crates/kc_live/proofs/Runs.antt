@@ -1,5 +1,5 @@
 -- The calls of each program stand in the history.
-use Rattle.std.proofs.Common.{◌≡◌, ℕ, zero, suc, ◌+◌, ◌<◌, Bool, true, false, cond, Option, Some, None, List, [], ◌∷◌, length, get_or, map, refl, ap, sym, ◌∙◌, not, arith}
+use Rattle.std.proofs.Common.{◌≡◌, ℕ, zero, suc, ◌+◌, ◌<◌, Bool, true, false, cond, Option, Some, None, List, [], ◌∷◌, length, get_or, map, take, refl, ap, sym, ◌∙◌, not, arith}
 use Rattle.std.specs.List.{position_from}
 use Rattle.std.specs.Option.{option_map_or}
 use Rattle.std.proofs.lemmas.Iterator.Adapters.{position_from-zero}
@@ -10,10 +10,10 @@ use Rattle.kc_history.specs.declared.receipt.Entry.{Entry}
 use Rattle.kc_history.specs.declared.receipt.Receipt.{Receipt}
 use Rattle.kc_live.specs.Programs.{ProgramView}
 use Rattle.kc_history.specs.Settling.{IsSettled}
-use Rattle.kc_live.specs.Programs.{calls_in, NoneIs, Apart, actors_of, HasCalls}
-use Rattle.kc_model.specs.Histories.{same_actor, calls_by}
+use Rattle.kc_live.specs.Programs.{calls_in, Apart, actors_of, HasCalls, HasBeginnings, HasNoOthers}
+use Rattle.kc_live.specs.Threads.{AreBeginnings}
+use Rattle.kc_model.specs.Histories.{same_actor}
 use Rattle.kc_live.specs.Plans.{stranger_in, stranger_from}
-use Rattle.kc_history.specs.Logs.{calls_of}
 use Rattle.kc_live.proofs.Actors.{OwnedBy, OwnedRows, AllBy, same_actor-true, settled_by_actors}
 
 none_first : (b : Bool) (i : ℕ) (rest : Option ℕ) → cond (not b) (Some i) rest ≡ None → (b ≡ true) × (rest ≡ None)
@@ -30,17 +30,27 @@ own_row a i (r ∷ rs) h =
     let both = none_first (same_actor a (actor r.call)) i (position_from (λ c. not (same_actor a (actor c))) (i + 1) (calls_in rs)) h in
     (sym (same_actor-true a (actor r.call) both.0), own_row a (i + 1) rs both.1)
 
-own_rows : (i : ℕ) (ps : List ProgramView) (rows : List (List Receipt)) → map calls_in rows ≡ map (λ p. p.calls) ps → stranger_from i ps ≡ None → OwnedRows (actors_of ps) rows
-own_rows i [] [] same none = tt
-own_rows i [] (row ∷ rows) same none = cc
-own_rows i (p ∷ ps) [] same none = cc
-own_rows i (p ∷ ps) (row ∷ rows) same none =
+none_here : (b : Bool) (i : ℕ) (rest : Option ℕ) → cond b (Some i) rest ≡ None → (b ≡ false) × (rest ≡ None)
+none_here false i rest h = (refl, h)
+none_here true i rest h = cc
+
+-- what no call is, no call of a beginning is
+none_taken : (test : Call → Bool) (i n : ℕ) (calls : List Call) → position_from test i calls ≡ None → position_from test i (take n calls) ≡ None
+none_taken test i zero calls none = refl
+none_taken test i (suc n) [] none = refl
+none_taken test i (suc n) (call ∷ calls) none =
+    let both = none_here (test call) i (position_from test (i + 1) calls) none in
+    let rest = none_taken test (i + 1) n calls both.1 in rw (both.0, rest) refl
+
+own_rows : (i : ℕ) (ps : List ProgramView) (rows : List (List Receipt)) → AreBeginnings (map calls_in rows) (map (λ p. p.calls) ps) → stranger_from i ps ≡ None → OwnedRows (actors_of ps) rows
+own_rows i [] [] begun none = tt
+own_rows i [] (row ∷ rows) begun none = absurd begun
+own_rows i (p ∷ ps) [] begun none = absurd begun
+own_rows i (p ∷ ps) (row ∷ rows) begun none =
     let both = none_of (stranger_in p) i (stranger_from (i + 1) ps) none in
-    let first : calls_in row ≡ p.calls = cc in
-    let rest : map calls_in rows ≡ map (λ p. p.calls) ps = cc in
     let test = λ (c : Call). not (same_actor p.actor (actor c)) in
-    let from : position_from test 0 (calls_in row) ≡ None = ap (position_from test 0) first ∙ (sym (position_from-zero test p.calls) ∙ both.0) in
-    (own_row p.actor 0 row from, own_rows (i + 1) ps rows rest both.1)
+    let from : position_from test 0 (calls_in row) ≡ None = ap (position_from test 0) begun.0.1 ∙ none_taken test 0 begun.0.0 p.calls (sym (position_from-zero test p.calls) ∙ both.0) in
+    (own_row p.actor 0 row from, own_rows (i + 1) ps rows begun.1 both.1)
 
 has_calls : (h : List Entry) (ps : List ProgramView) (rows : List (List Receipt)) → map calls_in rows ≡ map (λ p. p.calls) ps → AllBy h (actors_of ps) rows → HasCalls h ps
 has_calls h [] rows same all = tt
@@ -60,22 +70,33 @@ own_call p n call none lt is =
     let test = λ (c : Call). not (same_actor p.actor (actor c)) in
     sym (same_actor-true p.actor (actor call) (own_from p.actor 0 p.calls n call (sym (position_from-zero test p.calls) ∙ none) lt is))
 
--- in a settled history with a row for each program, each actor's calls are those of its program
-pub settled_calls : (h : List Entry) (ps : List ProgramView) (rows : List (List Receipt)) → IsSettled h rows → map calls_in rows ≡ map (λ p. p.calls) ps → stranger_from 0 ps ≡ None → Apart (actors_of ps) → HasCalls h ps
-settled_calls h ps rows settled same own apart =
-    has_calls h ps rows same (settled_by_actors h (actors_of ps) rows settled (own_rows 0 ps rows same own) apart)
+has_beginnings : (h : List Entry) (ps : List ProgramView) (rows : List (List Receipt)) → AreBeginnings (map calls_in rows) (map (λ p. p.calls) ps) → AllBy h (actors_of ps) rows → HasBeginnings h ps
+has_beginnings h [] rows begun all = tt
+has_beginnings h (p ∷ ps) [] begun all = absurd begun
+has_beginnings h (p ∷ ps) (row ∷ rows) begun all = ((begun.0.0, all.0 ∙ begun.0.1), has_beginnings h ps rows begun.1 all.1)
 
 calls_in_rows : {X : Type 0} (items : X → List Receipt) (rows : List X) → map calls_in (map items rows) ≡ map (λ row. calls_in (items row)) rows
 calls_in_rows items [] = refl
 calls_in_rows items (row ∷ rows) = ap (λ rest. calls_in (items row) ∷ rest) (calls_in_rows items rows)
 
-pub run_calls : {X : Type 0} (items : X → List Receipt) (h : List Entry) (ps : List ProgramView) (rows : List X) → IsSettled h (map items rows) → map (λ row. calls_in (items row)) rows ≡ map (λ p. p.calls) ps
-    → stranger_from 0 ps ≡ None → Apart (actors_of ps) → HasCalls h ps
-run_calls items h ps rows settled same own apart = settled_calls h ps (map items rows) settled (calls_in_rows items rows ∙ same) own apart
+-- the receipts of a settled history, a row for each program, each row of a beginning of the program's own calls
+module _ {X : Type 0} (items : X → List Receipt) (h : List Entry) (ps : List ProgramView) (rows : List X) (settled : IsSettled h (map items rows))
+    (begun : AreBeginnings (map (λ row. calls_in (items row)) rows) (map (λ p. p.calls) ps)) (own : stranger_from 0 ps ≡ None) (apart : Apart (actors_of ps)) where
+  owned : OwnedRows (actors_of ps) (map items rows)
+  owned = own_rows 0 ps (map items rows) (rw (calls_in_rows items rows) begun) own
 
--- and an actor that has no program has no calls
-pub run_others : {X : Type 0} (items : X → List Receipt) (h : List Entry) (ps : List ProgramView) (rows : List X) → IsSettled h (map items rows) → map (λ row. calls_in (items row)) rows ≡ map (λ p. p.calls) ps
-    → stranger_from 0 ps ≡ None → Apart (actors_of ps) → (a : Actor) → NoneIs a (actors_of ps) → calls_by a (calls_of h) ≡ []
-run_others items h ps rows settled same own apart a none =
-    let beside : IsSettled h ([] ∷ map items rows) = record { once = settled.once; match = ((tt, tt), settled.match) } in
-    (settled_by_actors h (a ∷ actors_of ps) ([] ∷ map items rows) beside (tt, own_rows 0 ps (map items rows) (calls_in_rows items rows ∙ same) own) (none, apart)).0
+  by_actors : AllBy h (actors_of ps) (map items rows)
+  by_actors = settled_by_actors h (actors_of ps) (map items rows) settled owned apart
+
+  -- where a row has all calls of its program, so has the history
+  pub run_calls : map (λ row. calls_in (items row)) rows ≡ map (λ p. p.calls) ps → HasCalls h ps
+  run_calls same = has_calls h ps (map items rows) (calls_in_rows items rows ∙ same) by_actors
+
+  pub run_begun : HasBeginnings h ps
+  run_begun = has_beginnings h ps (map items rows) (rw (calls_in_rows items rows) begun) by_actors
+
+  -- an actor that has no program has no calls
+  pub run_others : HasNoOthers h ps
+  run_others a none =
+      let beside : IsSettled h ([] ∷ map items rows) = record { once = settled.once; match = ((tt, tt), settled.match) } in
+      (settled_by_actors h (a ∷ actors_of ps) ([] ∷ map items rows) beside (tt, owned) (none, apart)).0

@@ -9,7 +9,9 @@ use Rattle.kc_model.specs.Histories.{same_actor, calls_by}
 use Rattle.kc_live.specs.declared.fault.LiveCause.{LiveCause}
 use Rattle.kc_live.specs.declared.fault.LiveCause.TheVariants.{NotYours, HistoryFull, Memory, Start, Unsettled, BadActor}
 use Rattle.kc_live.specs.Programs.{ProgramView, NoneIs, Apart, actors_of}
+use Rattle.kc_history.specs.Logs.{Log}
 use Rattle.kc_live.specs.Plans.{IsFirstBad, IsSound, count_of}
+use Rattle.kc_live.specs.Stops.{IsLeft}
 
 -- the calls of the actor's program; none where it has no program
 abbrev pub program_of : Actor → List ProgramView → List Call
@@ -76,3 +78,7 @@ StopsTrace config calls HistoryFull = call_limit < length calls
 StopsTrace config calls Memory = Unit {0}
 StopsTrace config calls Start = MayRun config calls
 StopsTrace config calls Unsettled = MayRun config calls
+
+-- the history that a run of a trace left, for the programs that the trace is cut into
+abbrev pub IsLeftOf : Configuration → List Call → LiveCause → Log → Type 0
+IsLeftOf config calls cause left = (ps : List ProgramView) × IsCut calls ps × IsLeft config ps cause left

@@ -1,4 +1,5 @@
 pub mod Programs
 pub mod Plans
+pub mod Threads
 pub mod Stops
 pub mod Cuts

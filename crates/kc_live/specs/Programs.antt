@@ -1,5 +1,5 @@
 -- Programs: the calls that each actor is to make.
-use Rattle.std.specs.Prelude.{◌≡◌, ◌≢◌, List, [], ◌∷◌, map}
+use Rattle.std.specs.Prelude.{◌≡◌, ◌≢◌, ℕ, List, [], ◌∷◌, map, take}
 use Rattle.kc_types.specs.declared.call.Call.{Call}
 use Rattle.kc_types.specs.declared.call.Actor.{Actor}
 use Rattle.kc_model.specs.Histories.{calls_by}
@@ -33,6 +33,11 @@ Apart (a ∷ rest) = NoneIs a rest × Apart rest
 abbrev pub HasCalls : List Entry → List ProgramView → Type 0
 HasCalls h [] = Unit {0}
 HasCalls h (p ∷ ps) = (calls_by p.actor (calls_of h) ≡ p.calls) × HasCalls h ps
+
+-- each program's calls in the history are a beginning of its own
+abbrev pub HasBeginnings : List Entry → List ProgramView → Type 0
+HasBeginnings h [] = Unit {0}
+HasBeginnings h (p ∷ ps) = ((n : ℕ) × (calls_by p.actor (calls_of h) ≡ take n p.calls)) × HasBeginnings h ps
 
 -- an actor that has no program has no calls in the history
 abbrev pub HasNoOthers : List Entry → List ProgramView → Type 0

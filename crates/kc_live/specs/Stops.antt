@@ -1,14 +1,15 @@
 -- Why a run gives no answer.
-use Rattle.std.specs.Prelude.{Bool, true, false, ◌≡◌, ◌<◌, Some, None, List}
+use Rattle.std.specs.Prelude.{Bool, true, false, ◌≡◌, ◌≢◌, ◌<◌, Some, None, List}
 use Rattle.kc_types.specs.Configuration.{Configuration}
 use Rattle.kc_types.specs.Limits.{call_limit}
 use Rattle.kc_history.specs.declared.fault.LiveFault.{LiveFault}
 use Rattle.kc_history.specs.declared.fault.LiveFault.TheVariants as faults
 use Rattle.kc_live.specs.declared.fault.LiveCause.{LiveCause}
 use Rattle.kc_live.specs.declared.fault.LiveCause.TheVariants.{NotYours, HistoryFull, Memory, Start, Unsettled, BadActor}
-use Rattle.kc_live.specs.declared.threads.ThreadStop.{ThreadStop}
-use Rattle.kc_live.specs.declared.threads.ThreadStop.TheVariants as stops
-use Rattle.kc_live.specs.Programs.{ProgramView}
+use Rattle.kc_live.specs.declared.program.ThreadStop.{ThreadStop}
+use Rattle.kc_live.specs.declared.program.ThreadStop.TheVariants as stops
+use Rattle.kc_history.specs.Logs.{Log, IsLegal}
+use Rattle.kc_live.specs.Programs.{ProgramView, HasBeginnings, HasNoOthers}
 use Rattle.kc_live.specs.Plans.{HaveActors, IsFirstBad, stranger_from, count_of, IsSound}
 
 -- the programs are such that this is the cause: a bad actor goes before a call of another, and this before too many calls; programs with none of the three may run
@@ -37,6 +38,13 @@ FitsHistory HistoryFull is_there = is_there ≡ false
 FitsHistory Memory is_there = Unit {0}
 FitsHistory Start is_there = is_there ≡ true
 FitsHistory Unsettled is_there = is_there ≡ true
+
+-- the history of a run that gave no answer: it is legal, and where the receipts settled it is of the configuration handed in, has of each program's calls a beginning, and no others
+pub record IsLeft (machine : Configuration) (ps : List ProgramView) (cause : LiveCause) (left : Log) : Type 0 where
+  pub legal : IsLegal left
+  pub config : cause ≢ Unsettled → left.config ≡ machine
+  pub begun : cause ≢ Unsettled → HasBeginnings left.entries ps
+  pub others : cause ≢ Unsettled → HasNoOthers left.entries ps
 
 -- the cause that a call which a thread did not make is: want of memory is told as that, and with programs that were judged any other fault settles nothing
 abbrev pub fault_cause : LiveFault → LiveCause

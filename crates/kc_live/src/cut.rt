@@ -1,9 +1,9 @@
 //! A trace that is cut into programs and run.
-ghost use Rattle.std.specs.Prelude.{◌≡◌, [], ◌∷◌, is_some, IfOk, IfErr, OnOk, MatchOption, IsTrue, ◌↔◌};
+ghost use Rattle.std.specs.Prelude.{◌≡◌, [], ◌∷◌, is_some, IfSome, IfOk, IfErr, OnOk, MatchOption, IsTrue, ◌↔◌};
 ghost use Rattle.kc_types.specs.Actors.{actor as actor_made};
 ghost use Rattle.kc_history.specs.Logs.{calls_of};
 ghost use Rattle.kc_live.specs.Programs.{NoneIs, actors_of};
-ghost use Rattle.kc_live.specs.Cuts.{IsCut, IsPlaceOf, KeepsOrders, MayRun, StopsTrace, with_call};
+ghost use Rattle.kc_live.specs.Cuts.{IsCut, IsLeftOf, IsPlaceOf, KeepsOrders, MayRun, StopsTrace, with_call};
 ghost use Rattle.kc_live.specs.Stops.{FitsHistory};
 
 use crate::fault::{LiveCause, LiveStop};
@@ -86,6 +86,7 @@ pub fn run_trace<G: Gate + Sync, R: Threads + Wait + Sync>(
     ensures sound { OnOk result (MayRun config calls.items) }
     ensures stop { IfErr result (λ stop. StopsTrace config calls.items stop.cause) }
     ensures history { IfErr result (λ stop. FitsHistory stop.cause (is_some stop.history)) }
+    ensures left { IfErr result (λ stop. IfSome stop.history (IsLeftOf config calls.items stop.cause)) }
 
     // The history is of the configuration handed in, and has each actor's calls in order.
     ensures config { IfOk result (λ history. history.config ≡ config) }

@@ -7,8 +7,7 @@ ghost use Rattle.kc_live.specs.Programs.{NoneIs, actors_of};
 ghost use Rattle.kc_live.specs.Plans.{IsActor, HaveActors, MayJoin, IsFirstBad, stranger_from, stranger_in, count_of};
 
 use crate::program::Program;
-use kc_history::MOST_CALLS;
-use kc_types::{Actor, Call, Config, VcpuId, actor_of};
+use kc_types::{Actor, CALL_LIMIT, Call, Config, VcpuId, actor_of};
 
 /// Whether none of the programs has this actor.
 fn is_free(programs: &[Program], actor: Actor) -> bool
@@ -94,7 +93,7 @@ pub fn has_too_many(programs: &[Program]) -> bool
     let mut count = 0usize;
     for program in programs {
         let more = program.calls().len();
-        if more > MOST_CALLS - count {
+        if more > CALL_LIMIT - count {
             return true;
         }
         count += more;

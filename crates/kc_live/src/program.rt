@@ -1,6 +1,6 @@
 //! The calls of one actor, and the thread that makes them.
-ghost use Rattle.std.specs.Prelude.{◌≡◌, ◌≢◌, None, Err, IfOk, OnOk, OnErr};
-ghost use Rattle.kc_live.specs.Programs.{calls_in};
+ghost use Rattle.std.specs.Prelude.{◌≡◌, ◌≢◌, Some, None, OnOk, OnErr};
+ghost use Rattle.kc_live.specs.Threads.{IsRun};
 ghost use Rattle.kc_live.specs.Plans.{stranger_in};
 ghost use Rattle.kc_live.specs.Cuts.{grown};
 
@@ -11,7 +11,7 @@ use std::alloc::Global;
 use std::marker::Model;
 use std::snapshot::Snapshot;
 use std::sync::Wait;
-use std::thread::{Promise, PromisedHandle};
+use std::thread::Promise;
 
 /// The calls that one actor is to make, in order.
 #[derive(Debug, Drop)]
@@ -28,19 +28,32 @@ impl Model for Program {
     ghost view = { λ p. record { actor = p.actor; calls = p.calls.items } };
 }
 
-/// A thread's receipts are those of these calls, in order.
+/// Why a thread made no more calls of its program.
+#[derive(Clone, Copy, Debug, PartialEq, Eq)]
+pub enum ThreadStop {
+    /// The thread could not be started.
+    Start,
+    /// A call was not made.
+    Fault(LiveFault),
+}
+
+/// What a thread made of its program: the receipts of the calls that it made, in order, and why it made no more where
+/// it did not make all.
+#[derive(Drop)]
+pub struct Ran {
+    pub receipts: Vec<Receipt>,
+    pub stop: Option<ThreadStop>,
+}
+
+/// A thread makes these calls, in order.
 #[derive(Drop)]
 pub struct MakesCalls(pub Snapshot<Vec<Call>>);
 
-impl Promise<Result<Vec<Receipt>, LiveFault>> for MakesCalls {
-    ghost use Rattle.std.specs.Prelude.{◌≡◌, IfOk};
-    ghost use Rattle.kc_live.specs.Programs.{calls_in};
+impl Promise<Ran> for MakesCalls {
+    ghost use Rattle.kc_live.specs.Threads.{IsRun};
 
-    ghost kept_by = { λ p r. IfOk r (λ v. calls_in v.items ≡ p.0.value.items) };
+    ghost kept_by = { λ p r. IsRun p.0.value.items r.receipts.items r.stop };
 }
-
-/// A thread that makes the calls of a program.
-pub type Running = PromisedHandle<Result<Vec<Receipt>, LiveFault>, MakesCalls>;
 
 impl Program {
     /// A program of an actor. Whether the calls are this actor's is judged when the program is to run.
@@ -91,9 +104,10 @@ pub fn run_program<G: Gate, R: Wait>(
     gate: &G,
     first: usize,
     program: Program,
-) -> Result<Vec<Receipt>, LiveFault>
-    ensures made { IfOk result (λ v. calls_in v.items ≡ program.calls) }
-    ensures yours { stranger_in program ≡ None → result ≢ Err LiveFault.NotYours }
+) -> Ran
+    ensures made { IsRun program.calls result.receipts.items result.stop }
+    ensures started { result.stop ≢ Some ThreadStop.Start }
+    ensures yours { stranger_in program ≡ None → result.stop ≢ Some (ThreadStop.Fault LiveFault.NotYours) }
 {
     let Program { actor, calls } = program;
     let mut seat = Seat::new(alloc, actor);
@@ -102,8 +116,16 @@ pub fn run_program<G: Gate, R: Wait>(
         gate.before(number);
         let made = core.call(rt, &mut seat, call);
         gate.after(number);
-        made?;
+        if let Err(fault) = made {
+            return Ran {
+                receipts: seat.into_receipts(),
+                stop: Some(ThreadStop::Fault(fault)),
+            };
+        }
         number = number.wrapping_add(1);
     }
-    Ok(seat.into_receipts())
+    Ran {
+        receipts: seat.into_receipts(),
+        stop: None,
+    }
 }

@@ -1,17 +1,18 @@
 //! A whole live run: from programs to a closed history with its receipts.
-ghost use Rattle.std.specs.Prelude.{◌≡◌, ◌↔◌, map, true, false, is_some, IfOk, IfErr, OnOk, IfSome, MatchOption, IsTrue};
+ghost use Rattle.std.specs.Prelude.{◌≡◌, ◌↔◌, ◌≤◌, map, true, false, is_some, IfOk, IfErr, OnOk, IfSome, MatchOption, IsTrue};
+ghost use Rattle.kc_types.specs.Limits.{call_limit};
 ghost use Rattle.kc_live.specs.Programs.{calls_in, HasCalls, HasNoOthers};
 ghost use Rattle.kc_history.specs.Settling.{IsSettled};
 ghost use Rattle.kc_live.specs.Plans.{IsSound};
-ghost use Rattle.kc_live.specs.Stops.{StopsFor, IsLate, FitsHistory, thread_cause};
+ghost use Rattle.kc_live.specs.Stops.{StopsFor, IsLate, IsLeft, FitsHistory, thread_cause};
 
 use crate::early::{first_bad, first_stranger, has_too_many};
 use crate::fault::{LiveCause, LiveStop};
-use crate::program::Program;
-use crate::threads::{ThreadStop, make_calls};
-use kc_history::{History, LiveCore, LiveFault, Receipt, settle};
+use crate::program::{Program, ThreadStop};
+use crate::threads::{Made, Places, make_calls};
+use kc_history::{History, LiveCore, LiveFault, Marks, Receipt};
 use kc_replay::Gate;
-use kc_types::{Config, Memory};
+use kc_types::{CALL_LIMIT, Config, Memory};
 use std::alloc::Global;
 use std::sync::Wait;
 use std::thread::Threads;
@@ -36,13 +37,22 @@ fn stopped(cause: LiveCause, history: History) -> LiveStop
     }
 }
 
-/// The copy of the configuration that is kept beside the run, and the core.
-fn open(alloc: Global, config: Config) -> Result<(Config, LiveCore), Memory>
-    ensures { IfOk result (λ r. r.0 ≡ config) }
+/// All that a run takes of memory beside its calls, made before it begins: a copy of the configuration, the core, room
+/// to settle its history, and places for the threads of this many programs.
+fn open(
+    alloc: Global,
+    config: Config,
+    programs: usize,
+) -> Result<(Config, LiveCore, Marks, Places), Memory>
+    ensures config { IfOk result (λ r. r.0 ≡ config) }
+    ensures marks { IfOk result (λ r. r.2 ≡ call_limit) }
+    ensures places { IfOk result (λ r. programs ≤ r.3) }
 {
     let kept = config.copy()?;
     let core = LiveCore::new(alloc, config)?;
-    Ok((kept, core))
+    let marks = Marks::with_room(alloc, CALL_LIMIT)?;
+    let places = Places::with_room(alloc, programs)?;
+    Ok((kept, core, marks, places))
 }
 
 /// What is wrong with the programs.
@@ -82,26 +92,19 @@ fn is_same_config(config: &Config, other: &Config) -> bool
 }
 
 /// Whether the rows are those of the history, and this is of the configuration.
-fn is_answer(
-    alloc: Global,
-    config: &Config,
-    history: &History,
-    rows: &[Vec<Receipt>],
-) -> Result<bool, Memory>
-    ensures { IfOk result (λ yes. IsTrue yes ↔ ((history.now.config ≡ config.now) × IsSettled history.now.entries (map (λ v. v.items) rows.now))) }
+fn is_answer(config: &Config, history: &History, marks: Marks, rows: &[Vec<Receipt>]) -> bool
+    requires { marks ≡ call_limit }
+    ensures { IsTrue result ↔ ((history.now.config ≡ config.now) × IsSettled history.now.entries (map (λ v. v.items) rows.now)) }
 {
-    if !is_same_config(history.config(), config) {
-        return Ok(false);
-    }
-    settle(alloc, history, rows)
+    is_same_config(history.config(), config) && marks.settle(history.entries(), rows)
 }
 
 /// Runs each program in a thread of its own, and answers the closed history and each program's receipts.
 ///
 /// Before the run the programs are judged: `BadActor`, `NotYours` and `HistoryFull` come in this order. Each thread is
 /// joined, whatever comes; a program that meets want of memory makes no more calls, one whose thread could not be
-/// started makes none, and the others go on to their ends. Then `Start` goes before `Memory`, and this before
-/// `Unsettled`. The gate is told call `j` of program `p` by the number `j` plus the lengths of the programs before
+/// started makes none, and the others go on to their ends. Then the receipts are settled with the history: `Unsettled`
+/// where they are not its. Else `Start` goes before `Memory`. The gate is told call `j` of program `p` by the number `j` plus the lengths of the programs before
 /// `p`, outside the lock.
 pub fn run_live<G: Gate + Sync, R: Threads + Wait + Sync>(
     rt: &R,
@@ -114,6 +117,7 @@ pub fn run_live<G: Gate + Sync, R: Threads + Wait + Sync>(
     ensures sound { OnOk result (IsSound config programs.items) }
     ensures stop { IfErr result (λ stop. StopsFor config programs.items stop.cause) }
     ensures history { IfErr result (λ stop. FitsHistory stop.cause (is_some stop.history)) }
+    ensures left { IfErr result (λ stop. IfSome stop.history (IsLeft config programs.items stop.cause)) }
 
     // The history is of the configuration handed in, and the receipts are just those of it.
     ensures config { IfOk result (λ r. r.0.config ≡ config) }
@@ -127,18 +131,16 @@ pub fn run_live<G: Gate + Sync, R: Threads + Wait + Sync>(
     if let Some(cause) = early_stop(&config, programs.as_slice()) {
         return Err(refused(cause));
     }
-    let Ok((config, core)) = open(alloc, config) else {
+    let Ok((config, core, marks, places)) = open(alloc, config, programs.len()) else {
         return Err(refused(LiveCause::Memory));
     };
-    let made = make_calls(rt, alloc, &core, gate, programs);
+    let Made { rows, stop } = make_calls(rt, alloc, &core, gate, programs, places);
     let history = core.close();
-    let rows = match made {
-        Ok(rows) => rows,
-        Err(stop) => return Err(stopped(cause_of(stop), history)),
-    };
-    match is_answer(alloc, &config, &history, rows.as_slice()) {
-        Ok(true) => Ok((history, rows)),
-        Ok(false) => Err(stopped(LiveCause::Unsettled, history)),
-        Err(_) => Err(stopped(LiveCause::Memory, history)),
+    if !is_answer(&config, &history, marks, rows.as_slice()) {
+        return Err(stopped(LiveCause::Unsettled, history));
+    }
+    match stop {
+        Some(stop) => Err(stopped(cause_of(stop), history)),
+        None => Ok((history, rows)),
     }
 }

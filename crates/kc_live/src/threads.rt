@@ -1,106 +1,172 @@
 //! One thread for each program.
-ghost use Rattle.std.specs.Prelude.{◌≡◌, ◌≢◌, ◌≤◌, [], map, vec_len, vec_capacity, Some, IfOk};
+ghost use Rattle.std.specs.Prelude.{◌≡◌, ◌≤◌, [], length, map, vec_capacity, None, IfOk, IfSome};
 ghost use Rattle.kc_live.specs.Programs.{calls_in};
+ghost use Rattle.kc_live.specs.Threads.{IsRun, AreBeginnings, graver};
 
-use crate::program::{Program, Running, run_program};
+use crate::program::{MakesCalls, Program, Ran, ThreadStop, run_program};
 use kc_history::{LiveCore, LiveFault, Receipt};
 use kc_replay::Gate;
+use kc_types::Memory;
 use std::alloc::Global;
+use std::marker::Model;
 use std::sync::Wait;
 use std::thread;
-use std::thread::Threads;
+use std::thread::{PromisedHandle, Threads};
 
-/// Why some calls were not made.
-#[derive(Clone, Copy, Debug, PartialEq, Eq)]
-pub enum ThreadStop {
-    /// A thread could not be started.
-    Start,
-    /// A call was not made.
-    Fault(LiveFault),
+/// The thread of a program, where it could be started. Seen as the calls that it is to make.
+#[derive(Drop)]
+struct Running {
+    promise: MakesCalls,
+    handle: Option<PromisedHandle<Ran, MakesCalls>>,
 }
 
-/// The fault that is told of two threads': want of memory goes first.
-fn graver(met: Option<LiveFault>, fault: LiveFault) -> LiveFault
-    ensures memory { met ≡ Some LiveFault.Memory → result ≡ LiveFault.Memory }
-    ensures other { met ≢ Some LiveFault.Memory → result ≡ fault }
-{
-    if met == Some(LiveFault::Memory) {
-        LiveFault::Memory
-    } else {
-        fault
+impl Model for Running {
+    ghost use Rattle.std.specs.Prelude.{◌≡◌, List, IfSome};
+    ghost use Rattle.kc_types.specs.declared.call.Call.{Call as Made};
+
+    ghost Value = { List Made };
+
+    ghost view = { λ r. r.promise.0.value.items };
+
+    ghost invariant = { λ r. IfSome r.handle (λ h. h.promise.0.value.items ≡ r.promise.0.value.items) };
+}
+
+impl Running {
+    fn new(promise: MakesCalls, handle: Option<PromisedHandle<Ran, MakesCalls>>) -> Running
+        requires { IfSome handle (λ h. h.promise.0.value.items ≡ promise.0.value.items) }
+        ensures { result ≡ promise.0.value.items }
+    {
+        Running { promise, handle }
     }
-}
 
-/// Waits for all threads. The rows are the receipts of the calls that they were to make.
-fn join_all<R: Threads>(
-    rt: &R,
-    handles: Vec<Running>,
-    rows: Vec<Vec<Receipt>>,
-) -> Result<Vec<Vec<Receipt>>, LiveFault>
-    requires empty { rows.items ≡ [] }
-    requires room { vec_len handles ≤ vec_capacity rows }
-    ensures { IfOk result (λ v. map (λ row. calls_in row.items) v.items ≡ map (λ h. h.promise.0.value.items) handles.items) }
-{
-    let mut rows = rows;
-    let mut fault = None;
-    for handle in handles {
-        match handle.join(rt) {
-            Ok(row) => rows.push_reserved(row),
-            Err(met) => fault = Some(graver(fault, met)),
+    /// Waits for the thread's end.
+    fn join<R: Threads>(self, rt: &R, alloc: Global) -> Ran
+        ensures { IsRun self result.receipts.items result.stop }
+    {
+        let Running { promise: _, handle } = self;
+        match handle {
+            Some(handle) => handle.join(rt),
+            None => Ran {
+                receipts: Vec::new(alloc),
+                stop: Some(ThreadStop::Start),
+            },
         }
     }
-    match fault {
-        Some(met) => Err(met),
-        None => Ok(rows),
+}
+
+/// Places for the threads of a run and for their receipts, made before the run begins.
+#[derive(Drop)]
+pub struct Places {
+    threads: Vec<Running>,
+    rows: Vec<Vec<Receipt>>,
+}
+
+impl Model for Places {
+    ghost use Rattle.std.specs.Prelude.{◌≡◌, ℕ, [], min, vec_capacity};
+
+    ghost Value = { ℕ };
+
+    ghost view = { λ p. min (vec_capacity p.threads) (vec_capacity p.rows) };
+
+    ghost invariant = { λ p. (p.threads.items ≡ []) × (p.rows.items ≡ []) };
+}
+
+impl Places {
+    /// Places for this many programs; `Memory` where a growth was refused.
+    pub fn with_room(alloc: Global, programs: usize) -> Result<Places, Memory>
+        // No clause can rule out want of memory: tests run programs.
+        ensures { IfOk result (λ places. programs ≤ places) }
+    {
+        Ok(Places {
+            threads: Vec::with_capacity(alloc, programs)?,
+            rows: Vec::with_capacity(alloc, programs)?,
+        })
+    }
+
+    fn into_parts(self) -> (Vec<Running>, Vec<Vec<Receipt>>)
+        ensures none { (result.0.items ≡ []) × (result.1.items ≡ []) }
+        ensures room { (self ≤ vec_capacity result.0) × (self ≤ vec_capacity result.1) }
+    {
+        let Places { threads, rows } = self;
+        (threads, rows)
     }
 }
 
-/// Makes the calls of each program in a thread of its own. Each thread that starts runs to its end and is joined.
+/// What the threads of a run made: each program's receipts, and why not all calls were made, where that is so.
+#[derive(Drop)]
+pub struct Made {
+    pub rows: Vec<Vec<Receipt>>,
+    pub stop: Option<ThreadStop>,
+}
+
+/// What is told of two threads: a start that was refused goes first, then want of memory.
+fn graver(met: Option<ThreadStop>, stop: Option<ThreadStop>) -> Option<ThreadStop>
+    ensures { result ≡ graver met stop }
+{
+    match (met, stop) {
+        (Some(ThreadStop::Start), _) | (_, Some(ThreadStop::Start)) => Some(ThreadStop::Start),
+        (Some(ThreadStop::Fault(LiveFault::Memory)), _) => met,
+        (_, Some(_)) => stop,
+        (_, None) => met,
+    }
+}
+
+/// Waits for all threads.
+fn join_all<R: Threads>(
+    rt: &R,
+    alloc: Global,
+    threads: Vec<Running>,
+    rows: Vec<Vec<Receipt>>,
+) -> Made
+    requires empty { rows.items ≡ [] }
+    requires room { length threads.items ≤ vec_capacity rows }
+    ensures begun { AreBeginnings (map (λ row. calls_in row.items) result.rows.items) threads.items }
+    ensures whole { result.stop ≡ None → map (λ row. calls_in row.items) result.rows.items ≡ threads.items }
+{
+    let mut rows = rows;
+    let mut stop = None;
+    for thread in threads {
+        let ran = thread.join(rt, alloc);
+        rows.push_reserved(ran.receipts);
+        stop = graver(stop, ran.stop);
+    }
+    Made { rows, stop }
+}
+
+/// Makes the calls of each program in a thread of its own. Each thread that starts runs to its end and is joined; a
+/// program whose thread could not be started makes no calls.
 pub fn make_calls<G: Gate + Sync, R: Threads + Wait + Sync>(
     rt: &R,
     alloc: Global,
     core: &LiveCore,
     gate: &G,
     programs: Vec<Program>,
-) -> Result<Vec<Vec<Receipt>>, ThreadStop>
-    ensures { IfOk result (λ v. map (λ row. calls_in row.items) v.items ≡ map (λ p. p.calls) programs.items) }
+    places: Places,
+) -> Made
+    requires { length programs.items ≤ places }
+    ensures begun { AreBeginnings (map (λ row. calls_in row.items) result.rows.items) (map (λ p. p.calls) programs.items) }
+    ensures whole { result.stop ≡ None → map (λ row. calls_in row.items) result.rows.items ≡ map (λ p. p.calls) programs.items }
 {
     thread::scope(
         thread::scope_env(),
         rt,
-        |scope| -> Result<Vec<Vec<Receipt>>, ThreadStop>
-            ensures { IfOk result (λ v. map (λ row. calls_in row.items) v.items ≡ map (λ p. p.calls) programs.items) }
+        |scope| -> Made
+            requires { length programs.items ≤ places }
+            ensures begun { AreBeginnings (map (λ row. calls_in row.items) result.rows.items) (map (λ p. p.calls) programs.items) }
+            ensures whole { result.stop ≡ None → map (λ row. calls_in row.items) result.rows.items ≡ map (λ p. p.calls) programs.items }
         {
-            let count = programs.len();
-            let Ok(handles) = Vec::with_capacity(alloc, count) else {
-                return Err(ThreadStop::Fault(LiveFault::Memory));
-            };
-            let Ok(rows) = Vec::with_capacity(alloc, count) else {
-                return Err(ThreadStop::Fault(LiveFault::Memory));
-            };
-            let mut handles: Vec<Running> = handles;
+            let (mut threads, rows) = places.into_parts();
             let mut first = 0usize;
-            let mut all_started = true;
             for program in programs {
                 let number = first;
                 first = first.wrapping_add(program.calls().len());
                 let promise = program.promise();
-                let started = scope.spawn_with(promise, move || {
+                let started = scope.spawn_with(program.promise(), move || {
                     run_program(rt, alloc, core, gate, number, program)
                 });
-                match started {
-                    Ok(handle) => handles.push_reserved(handle),
-                    Err(_) => all_started = false,
-                }
+                threads.push_reserved(Running::new(promise, started.ok()));
             }
-            let joined = join_all(rt, handles, rows);
-            if !all_started {
-                return Err(ThreadStop::Start);
-            }
-            match joined {
-                Ok(rows) => Ok(rows),
-                Err(fault) => Err(ThreadStop::Fault(fault)),
-            }
+            join_all(rt, alloc, threads, rows)
         },
     )
 }

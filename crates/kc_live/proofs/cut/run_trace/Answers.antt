@@ -1,4 +1,4 @@
-use Rattle.kc_live.proofs.Cuts.{keeps-orders, stops-trace}
+use Rattle.kc_live.proofs.Cuts.{keeps-orders, stops-trace, where_some}
 use Rattle.kc_live.proofs.cut.run_trace.Goals as goal
 
 pub returns-in-Err-clause-stop : goal.returns-in-Err-clause-stop
@@ -10,3 +10,6 @@ returns-in-Ok-run_live-clause-order g c =
 
 pub returns-in-Ok-run_live-clause-sound : goal.returns-in-Ok-run_live-clause-sound
 returns-in-Ok-run_live-clause-sound g c = (c.in-Ok.programs.items, c.in-Ok.ensures, c.in-Ok-run_live.ensures.sound)
+
+pub returns-in-Err-clause-left : goal.returns-in-Err-clause-left
+returns-in-Err-clause-left g c = where_some c.in-Err.stop.history (λ left is. (c.in-Ok.programs.items, c.in-Ok.ensures, is)) c.in-Err.ensures.left

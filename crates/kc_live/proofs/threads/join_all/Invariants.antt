@@ -1,11 +1,12 @@
-use Rattle.std.proofs.Common.{◌≡◌, ◌≤◌, length, map, vec_len, vec_capacity}
-use Rattle.std.specs.Prelude.{IfNone}
+use Rattle.std.proofs.Common.{◌≡◌, ◌≤◌, length, map, vec_len, vec_capacity, None}
 use Rattle.kc_live.specs.Programs.{calls_in}
+use Rattle.kc_live.specs.Threads.{AreBeginnings}
 use Rattle.kc_live.proofs.threads.join_all.Given as goal
 
-abbrev pub invariant-loop-handle : goal.invariant-loop-handle
-invariant-loop-handle g l = record {
+abbrev pub invariant-loop-thread : goal.invariant-loop-thread
+invariant-loop-thread g l = record {
   count : vec_len l.rows ≤ length l.yielded;
   room : vec_capacity l.rows ≡ vec_capacity l.initial.rows;
-  made : IfNone l.fault (map (λ row. calls_in row.items) l.rows.items ≡ map (λ h. h.promise.0.value.items) l.yielded);
+  begun : AreBeginnings (map (λ row. calls_in row.items) l.rows.items) l.yielded;
+  whole : l.stop ≡ None → map (λ row. calls_in row.items) l.rows.items ≡ l.yielded;
 }

@@ -56,7 +56,7 @@ returns-in-Ok-finish-clause-ok g c =
     let before = c.loop-n.invariant.fed in
     let piece = take c.in-Ok.n c.read.new.buffer in
     let none : length piece ≡ 0 = omega (arith, length-take c.in-Ok.n c.read.new.buffer, c.if-n-eq0.true) in
-    read_is_trace _ c.loop-n.calls.items (rw c.in-Ok-finish.is at (finished _ _ _ before.0 piece c.loop-n.reader c.loop-n.calls.items c.loop-n.total c.finish.result before.1 c.in-Ok.ensures.bytes.0 none (c.in-Ok.ensures.bytes.1 c.if-n-eq0.true (search rules)) c.finish.ensures))
+    read_is_trace _ c.loop-n.calls.items (rw c.in-Ok-finish.is at (finished _ _ _ before.0 piece c.loop-n.reader c.loop-n.calls.items c.loop-n.total c.finish.result before.1 c.in-Ok.ensures.bytes.0 none (c.in-Ok.ensures.bytes.1 c.if-n-eq0.true (search rules)) c.finish.ensures.fault))
 
 pub returns-in-Err-finish-clause-trace : goal.returns-in-Err-finish-clause-trace
 returns-in-Err-finish-clause-trace g c =
@@ -65,4 +65,4 @@ returns-in-Err-finish-clause-trace g c =
     let none : length piece ≡ 0 = omega (arith, length-take c.in-Ok.n c.read.new.buffer, c.if-n-eq0.true) in
     λ fault e. let same : c.in-Err-finish.fault ≡ fault = cc in
     let end = c.in-Ok.ensures.bytes.1 c.if-n-eq0.true (search rules) in
-    (read_is_refused _ fault (rw (c.in-Err-finish.is, same) at (finished _ _ _ before.0 piece c.loop-n.reader c.loop-n.calls.items c.loop-n.total c.finish.result before.1 c.in-Ok.ensures.bytes.0 none end c.finish.ensures)), end)
+    (read_is_refused _ fault (rw (c.in-Err-finish.is, same) at (finished _ _ _ before.0 piece c.loop-n.reader c.loop-n.calls.items c.loop-n.total c.finish.result before.1 c.in-Ok.ensures.bytes.0 none end c.finish.ensures.fault)), end)
