@@ -1,5 +1,5 @@
 //! One copy of each type that has them.
-use kc_types::{Call, Config, Data, Memory, Reply};
+use kc_types::{Call, Config, Data, Memory, PAGE_SIZE, Reply};
 use std::alloc::Global;
 use std::test::Fail;
 
@@ -64,7 +64,7 @@ fn room_holds_a_reply(rt: HostRuntime) -> Result<(), Fail> {
     let call = Call::HostRead {
         frame: 1,
         offset: 0,
-        len: 4_096,
+        len: PAGE_SIZE,
     };
     let spare = call.spare(rt.alloc())?;
     assert_eq!(rt; Reply::Fault(7).copy_into(spare), Reply::Fault(7));

@@ -1,5 +1,5 @@
 //! Boot images of whole pages and of a byte more, the largest images, and the largest table.
-use crate::support::{answer, answers};
+use crate::support::{answer, answers, runs};
 use kc_core::KCore;
 use kc_types::{Call, Config, Data, Refusal, Reply};
 use sha2::{Digest, Sha256};
@@ -59,24 +59,24 @@ fn hand_over_pages(
     Some(())
 }
 
-/// A VM with an image of this many bytes, of which no page is handed over.
-fn with_image(alloc: Global, len: u32) -> Option<KCore> {
-    let mut core = core_of(alloc, 4, 3, 1, len as usize)?;
-    let lines = format!(in alloc; "regvm 0\nsetboot 0 0 {len}\n").ok()?;
-    answers(alloc, &mut core, lines.as_str())?;
-    Some(core)
+/// A VM gets an image of this many bytes, of which no page is handed over.
+fn sets_image(alloc: Global, core: &mut KCore, len: u32) -> bool {
+    match format!(in alloc; "regvm 0\nsetboot 0 0 {len}\n") {
+        Ok(lines) => runs(alloc, core, lines.as_str()),
+        Err(_) => false,
+    }
 }
 
 /// Whether the images are measured and the VM runs.
-fn runs(core: &mut KCore) -> bool {
+fn is_verified(core: &mut KCore) -> bool {
     matches!(answer(core, &Call::Verify { vm: 0 }), Some(Reply::Done))
 }
 
-/// A VM whose one image fills these frames from 1 on with this many bytes of `ff`, and which runs.
-fn booted(alloc: Global, len: u32, pages: u32) -> Option<KCore> {
-    let mut core = with_image(alloc, len)?;
-    hand_over_pages(alloc, &mut core, 0, 1, pages)?;
-    if runs(&mut core) { Some(core) } else { None }
+/// Whether a VM runs whose one image fills these frames from 1 on with this many bytes of `ff`.
+fn boots(alloc: Global, core: &mut KCore, len: u32, pages: u32) -> bool {
+    sets_image(alloc, core, len)
+        && hand_over_pages(alloc, core, 0, 1, pages).is_some()
+        && is_verified(core)
 }
 
 /// How many bytes of `ff` the frame begins with, where all the others are zero.
@@ -92,8 +92,12 @@ fn filled_bytes(core: &KCore, frame: u32) -> Option<usize> {
 
 /// How many bytes of `ff` a frame begins with once the VM of such an image runs.
 fn kept(alloc: Global, len: u32, pages: u32, frame: u32) -> Option<usize> {
-    let core = booted(alloc, len, pages)?;
-    filled_bytes(&core, frame)
+    let mut core = core_of(alloc, 4, 3, 1, len as usize)?;
+    if boots(alloc, &mut core, len, pages) {
+        filled_bytes(&core, frame)
+    } else {
+        None
+    }
 }
 
 #[test]
@@ -108,15 +112,21 @@ fn a_byte_more_leaves_a_byte_of_the_second_page(rt: HostRuntime) {
 }
 
 /// What verifying four images of the greatest length answers.
-fn four_largest_images(alloc: Global) -> Option<Reply> {
-    let mut core = core_of(alloc, 1_025, 1_024, 2, 1_048_576)?;
+fn verified_four(alloc: Global, core: &mut KCore) -> Option<Reply> {
     let lines =
         "regvm 0\nsetboot 0 0 1048576\nsetboot 0 256 1048576\nsetboot 0 512 1048576\nsetboot 0 768 1048576\n";
-    answers(alloc, &mut core, lines)?;
-    for image in 0..4 {
-        hand_over_pages(alloc, &mut core, image, image * 256 + 1, 256)?;
+    if !runs(alloc, core, lines) {
+        return None;
     }
-    answer(&mut core, &Call::Verify { vm: 0 })
+    for image in 0..4 {
+        hand_over_pages(alloc, core, image, image * 256 + 1, 256)?;
+    }
+    answer(core, &Call::Verify { vm: 0 })
+}
+
+/// The same of a core with room for them.
+fn four_largest_images(alloc: Global) -> Option<Reply> {
+    verified_four(alloc, &mut core_of(alloc, 1_025, 1_024, 2, 1_048_576)?)
 }
 
 #[test]
@@ -124,13 +134,11 @@ fn four_images_of_the_greatest_length(rt: HostRuntime) {
     assert_eq!(rt; four_largest_images(rt.alloc()), Some(Reply::Done));
 }
 
-/// An active VM with an image of one byte at guest frame 0, and its first virtual processor.
-fn active(alloc: Global) -> Option<KCore> {
-    let mut core = core_of(alloc, 67, 66, 64, 1)?;
-    answers(alloc, &mut core, "regvm 0\nregvcpu 0 0\nsetboot 0 0 1\n")?;
-    hand_over(alloc, &mut core, 0, 1)?;
-    answers(alloc, &mut core, "verify 0\n")?;
-    Some(core)
+/// Whether a VM with its first virtual processor runs, from an image of one byte at guest frame 0.
+fn is_active(alloc: Global, core: &mut KCore) -> bool {
+    runs(alloc, core, "regvm 0\nregvcpu 0 0\nsetboot 0 0 1\n")
+        && hand_over(alloc, core, 0, 1).is_some()
+        && is_verified(core)
 }
 
 /// Touches the second guest frame of a root slot, and supplies a frame there.
@@ -150,16 +158,26 @@ fn supplied(alloc: Global, core: &mut KCore) -> Option<u32> {
     None
 }
 
+/// How many root slots of an active VM were supplied, and what supplying one more is answered.
+fn supplied_and_one_more(alloc: Global, core: &mut KCore) -> Option<(u32, Reply)> {
+    let count = supplied(alloc, core)?;
+    Some((count, supply(alloc, core, 64, 66)?))
+}
+
+/// The same of a VM that has just booted, with 64 leaves.
+fn leaves(alloc: Global) -> Option<(u32, Reply)> {
+    let mut core = core_of(alloc, 67, 66, 64, 1)?;
+    if is_active(alloc, &mut core) {
+        supplied_and_one_more(alloc, &mut core)
+    } else {
+        None
+    }
+}
+
 #[test]
 fn a_leaf_for_each_of_64_root_slots(rt: HostRuntime) {
-    let alloc = rt.alloc();
-    let core = active(alloc);
-    assert!(rt; core.is_some());
-    if let Some(mut core) = core {
-        assert_eq!(rt; supplied(alloc, &mut core), Some(64));
-        assert_eq!(rt;
-            supply(alloc, &mut core, 64, 66),
-            Some(Reply::Refused(Refusal::TablesFull))
-        );
-    }
+    assert_eq!(rt;
+        leaves(rt.alloc()),
+        Some((64, Reply::Refused(Refusal::TablesFull)))
+    );
 }

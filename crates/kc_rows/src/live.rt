@@ -2,7 +2,7 @@
 use crate::support::{calls_of, config};
 use kc_live::{LiveCause, LiveCore, LiveFault, LiveStop, Program, Seat, run_live};
 use kc_replay::OpenGate;
-use kc_types::{Actor, Call, Config};
+use kc_types::{Actor, CALL_LIMIT, Call, Config};
 use std::alloc::Global;
 use std::sync::Wait;
 use std::test::Fail;
@@ -27,7 +27,7 @@ fn programs(alloc: Global, actors: &[(Actor, &str)]) -> Option<Vec<Program>> {
 }
 
 /// Programs of which the second takes a frame so often more.
-fn with_takes(alloc: Global, actors: &[(Actor, &str); 2], takes: u32) -> Option<Vec<Program>> {
+fn with_takes(alloc: Global, actors: &[(Actor, &str); 2], takes: usize) -> Option<Vec<Program>> {
     let mut programs = programs(alloc, actors)?;
     let second = programs.last_mut()?;
     for _ in 0..takes {
@@ -50,7 +50,7 @@ fn cause<R: Threads + Wait + Sync>(
     rt: &R,
     alloc: Global,
     actors: &[(Actor, &str); 2],
-    takes: u32,
+    takes: usize,
 ) -> Option<LiveCause> {
     let programs = with_takes(alloc, actors, takes)?;
     let LiveStop { cause, history } = stop_of(rt, alloc, programs)?;
@@ -71,12 +71,12 @@ fn programs_that_do_not_run(rt: HostRuntime) {
         ([takes, (Actor::Vcpu(0, 8), "")], 0, LiveCause::BadActor(1)),
         (
             [takes, (Actor::Vcpu(0, 0), "")],
-            65_537,
+            CALL_LIMIT + 1,
             LiveCause::NotYours(1, 0),
         ),
         (
             [(Actor::Vcpu(0, 0), ""), takes],
-            65_536,
+            CALL_LIMIT,
             LiveCause::HistoryFull,
         ),
     ];
@@ -86,7 +86,7 @@ fn programs_that_do_not_run(rt: HostRuntime) {
 }
 
 /// Makes so many calls of one seat, each of which is refused.
-fn call_often<R: Wait>(rt: &R, core: &LiveCore, seat: &mut Seat, count: u32) -> bool {
+fn call_often<R: Wait>(rt: &R, core: &LiveCore, seat: &mut Seat, count: usize) -> bool {
     for _ in 0..count {
         if core.call(rt, seat, Call::HostFault { frame: 0 }).is_err() {
             return false;
@@ -100,10 +100,10 @@ fn a_seat_has_no_more_than_65_536_calls(rt: HostRuntime) -> Result<(), Fail> {
     let alloc = rt.alloc();
     let core = LiveCore::new(alloc, small_config(alloc).ok_or("no configuration")?)?;
     let mut seat = Seat::new(alloc, Actor::Host);
-    assert!(rt; call_often(&rt, &core, &mut seat, 65_536));
+    assert!(rt; call_often(&rt, &core, &mut seat, CALL_LIMIT));
     let once_more = core.call(&rt, &mut seat, Call::HostFault { frame: 0 });
     assert_eq!(rt; once_more, Err(LiveFault::HistoryFull));
-    assert_eq!(rt; seat.receipts().len(), 65_536);
+    assert_eq!(rt; seat.receipts().len(), CALL_LIMIT);
     Ok(())
 }
 

@@ -55,14 +55,11 @@ fn is_unrefused(replies: &[Reply]) -> bool {
     true
 }
 
-/// The small core after calls of which none is refused.
-fn after(alloc: Global, lines: &str) -> Option<KCore> {
-    let mut core = small(alloc)?;
-    let replies = answers(alloc, &mut core, lines)?;
-    if is_unrefused(replies.as_slice()) {
-        Some(core)
-    } else {
-        None
+/// Whether a core refuses none of the calls of a trace, whose header is left out.
+fn takes_all(alloc: Global, core: &mut KCore, lines: &str) -> bool {
+    match answers(alloc, core, lines) {
+        Some(replies) => is_unrefused(replies.as_slice()),
+        None => false,
     }
 }
 
@@ -192,13 +189,31 @@ fn are_the_same(alloc: Global, one: &mut KCore, other: &mut KCore) -> bool {
     look_the_same(one, other) && answer_the_same(alloc, one, other)
 }
 
+/// What one of two equal cores answers to a call after others, none of which is refused, and whether it then shows and
+/// answers the same as the other after those.
+fn compared(
+    alloc: Global,
+    core: &mut KCore,
+    still: &mut KCore,
+    before: &str,
+    call: &str,
+) -> Option<(Reply, bool)> {
+    if !takes_all(alloc, core, before) || !takes_all(alloc, still, before) {
+        return None;
+    }
+    let reply = first_answer(alloc, core, call)?;
+    Some((reply, are_the_same(alloc, still, core)))
+}
+
+/// The same of a small core beside another, each of which a function of its own holds.
+fn beside(alloc: Global, core: &mut KCore, before: &str, call: &str) -> Option<(Reply, bool)> {
+    compared(alloc, core, &mut small(alloc)?, before, call)
+}
+
 /// What a core answers to a call after others, and whether it then shows and answers the same as a core without
 /// that call.
 fn outcome(alloc: Global, before: &str, call: &str) -> Option<(Reply, bool)> {
-    let mut still = after(alloc, before)?;
-    let mut core = after(alloc, before)?;
-    let reply = first_answer(alloc, &mut core, call)?;
-    Some((reply, are_the_same(alloc, &mut still, &mut core)))
+    beside(alloc, &mut small(alloc)?, before, call)
 }
 
 /// Whether a call after others is refused so, and nothing is seen to change.

@@ -79,7 +79,7 @@ fn frames(rt: HostRuntime) -> Result<(), Fail> {
     let second = Config::try_new2(65_537, 0, 0, 1, Vec::new(alloc));
     assert!(rt; second.err() == Some(ConfigFault::Frames));
     let most = Config::try_new2(65_536, 1, 4, 1, Vec::new(alloc))?;
-    assert!(rt; most.slots() == 64);
+    assert_eq!(rt; most.slots(), 64);
     Ok(())
 }
 

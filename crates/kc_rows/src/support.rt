@@ -58,11 +58,19 @@ pub fn answer(core: &mut KCore, call: &Call) -> Option<Reply> {
     core.call(call).ok()
 }
 
+/// Whether a core answers each call of a trace, whose header is left out.
+pub fn runs(alloc: Global, core: &mut KCore, lines: &str) -> bool {
+    answers(alloc, core, lines).is_some()
+}
+
 /// The small core after the calls of a trace, whose header is left out.
 pub fn after(alloc: Global, lines: &str) -> Option<KCore> {
     let mut core = small(alloc)?;
-    answers(alloc, &mut core, lines)?;
-    Some(core)
+    if runs(alloc, &mut core, lines) {
+        Some(core)
+    } else {
+        None
+    }
 }
 
 /// Whether the owner's frames are these.

@@ -176,6 +176,6 @@ fn rows_and_calls<R: Threads + Wait + Sync>(rt: &R, alloc: Global) -> Option<(us
 #[test]
 fn many_virtual_processors(rt: HostRuntime) {
     for _ in 0..10 {
-        assert!(rt; rows_and_calls(&rt, rt.alloc()) == Some((129, 64_352)));
+        assert_eq!(rt; rows_and_calls(&rt, rt.alloc()), Some((129, 64_352)));
     }
 }

@@ -1,5 +1,5 @@
 //! Why a virtual processor's calls are refused.
-use crate::refusals::{ACTIVE, BOOT, Case, DEAD, HANDED, after, first_failure, is_refused};
+use crate::refusals::{ACTIVE, BOOT, Case, DEAD, HANDED, first_failure, is_refused};
 use kc_types::Refusal;
 use std::alloc::Global;
 
