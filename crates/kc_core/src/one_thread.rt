@@ -175,6 +175,14 @@ impl KCore {
         Ok(replies)
     }
 
+    /// What the core was started with.
+    pub fn config(&self) -> &Config
+        ensures value { result.now ≡ self.now.config }
+        ensures lawful { IsLawful self.now }
+    {
+        &self.config
+    }
+
     /// The record of a frame, with its neighbours in the list of its owner; `None` for a frame that does not
     /// exist.
     pub fn page_record(&self, frame: u32) -> Option<PageRecord>
