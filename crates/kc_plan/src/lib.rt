@@ -2,3 +2,15 @@
 #![tactic(auto)]
 
 pub mod laws;
+mod names;
+mod owned;
+mod plan;
+mod planner;
+mod reach_set;
+mod reaches;
+mod rows;
+mod trace;
+
+pub use plan::Plan;
+pub use rows::Footprints;
+pub use trace::footprints;

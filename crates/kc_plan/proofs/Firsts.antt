@@ -1,0 +1,204 @@
+use Rattle.std.proofs.Common.{◌≡◌, ℕ, zero, suc, ◌+◌, ◌<◌, ◌≤◌, Bool, true, false, ◌||◌, List, [], ◌∷◌, ◌++◌, length, take, get_or, refl, sym, ◌∙◌, ap, subst, arith, inl, inr}
+use Rattle.std.specs.Prelude.{◌⊎◌, slice_get}
+use Rattle.std.proofs.lemmas.Bool.{cases_lt}
+use Rattle.std.proofs.lemmas.List.Folds.{list_any-append}
+use Rattle.kc_model.specs.Resources.{Resource}
+use Rattle.kc_types.specs.declared.resource.Resource.TheVariants as resource
+use Rattle.kc_plan.proofs.Shapes.{or_left, or_right, or_cases, equal, same_number}
+use Rattle.kc_plan.specs.declared.rows.Span.{Span}
+use Rattle.kc_parts.specs.Cuts.{is_wanted, same}
+use Rattle.kc_plan.specs.Rows.{IsListed, IsPut, HasFrame, HasOther, has_frame, is_reached, is_slot, is_free, IsSpan}
+use Rattle.std.specs.Prelude.{eqb, nat_lt, Option, Some, None, position}
+use Rattle.std.specs.List.{position_or_len}
+use Rattle.std.proofs.lemmas.Bool.Decides.{nat_tests}
+use Rattle.kc_plan.specs.Reach.{is_in, is_at}
+
+lt_suc : (a b : ℕ) → nat_lt (1 + a) (suc b) ≡ nat_lt a b
+lt_suc a b = grind (arith, nat_tests)
+
+-- whether the first n hold f, by the place of f
+pub first_by_place : (xs : List ℕ) (f n : ℕ) → n ≤ length xs → is_in (take n xs) f ≡ nat_lt (position_or_len (eqb f) xs) n
+first_by_place [] f n low = let e : n ≡ 0 = omega arith in rw e refl
+first_by_place (x ∷ xs) f zero low = let e : nat_lt (position_or_len (eqb f) (x ∷ xs)) 0 ≡ false = grind (arith, nat_tests) in sym e
+first_by_place (x ∷ xs) f (suc n) low = by x xs f n (eqb f x) refl (first_by_place xs f n (omega arith))
+  where
+  by : (x : ℕ) (xs : List ℕ) (f n : ℕ) (b : Bool) → eqb f x ≡ b → is_in (take n xs) f ≡ nat_lt (position_or_len (eqb f) xs) n → is_in (take (suc n) (x ∷ xs)) f ≡ nat_lt (position_or_len (eqb f) (x ∷ xs)) (suc n)
+  by x xs f n true e ih = rw e (let z : nat_lt 0 (suc n) ≡ true = grind (arith, nat_tests) in sym z)
+  by x xs f n false e ih = rw e (ih ∙ sym (lt_suc (position_or_len (eqb f) xs) n))
+
+pub some_place : (xs : List ℕ) (f n i : ℕ) → Some i ≡ position (eqb f) xs → n ≤ length xs → nat_lt i n ≡ is_in (take n xs) f
+some_place xs f n i e low = case (nat_lt (position_or_len (eqb f) xs) (length xs)) refl
+  where
+  case : (b : Bool) → nat_lt (position_or_len (eqb f) xs) (length xs) ≡ b → nat_lt i n ≡ is_in (take n xs) f
+  case true t = let is : Some i ≡ Some (position_or_len (eqb f) xs) = rw t at e in let j : i ≡ position_or_len (eqb f) xs = cc in rw j (sym (first_by_place xs f n low))
+  case false t = let is : Some i ≡ None = rw t at e in cc
+
+pub no_place : (xs : List ℕ) (f n : ℕ) → None ≡ position (eqb f) xs → n ≤ length xs → false ≡ is_in (take n xs) f
+no_place xs f n e low = case (nat_lt (position_or_len (eqb f) xs) (length xs)) refl
+  where
+  case : (b : Bool) → nat_lt (position_or_len (eqb f) xs) (length xs) ≡ b → false ≡ is_in (take n xs) f
+  case true t = let is : None ≡ Some (position_or_len (eqb f) xs) = rw t at e in cc
+  case false t = let past : nat_lt (position_or_len (eqb f) xs) n ≡ false = grind (arith, nat_tests) in sym (first_by_place xs f n low ∙ past)
+
+pub same_resource : (r t : Resource) → same r t ≡ true → r ≡ t
+same_resource (resource.Frame f) (resource.Frame g) h = ap resource.Frame (same_number f g h)
+same_resource (resource.Frame f) (resource.Vm w) h = cc
+same_resource (resource.Frame f) resource.Free h = cc
+same_resource (resource.Vm v) (resource.Frame g) h = cc
+same_resource (resource.Vm v) (resource.Vm w) h = ap resource.Vm (same_number v w h)
+same_resource (resource.Vm v) resource.Free h = cc
+same_resource resource.Free (resource.Frame g) h = cc
+same_resource resource.Free (resource.Vm w) h = cc
+same_resource resource.Free resource.Free h = refl
+
+pub wanted_more : (rs : List Resource) (x r : Resource) → is_wanted (rs ++ x ∷ []) r ≡ (is_wanted rs r || same r x)
+wanted_more rs x r = list_any-append (same r) rs (x ∷ []) ∙ ap (λ (b : Bool). is_wanted rs r || b) (or_false (same r x))
+  where
+  or_false : (a : Bool) → (a || false) ≡ a
+  or_false true = refl
+  or_false false = refl
+
+pub listed_put : (sets : List (List ℕ)) (p n : ℕ) (frame : Option ℕ) (other : Option Span) (before mid after : List Resource) (m : ℕ) → get_or (get_or sets p []) n 0 ≡ m
+    → after ≡ mid ++ resource.Frame m ∷ [] → IsListed sets p n frame other before mid → IsListed sets p (n + 1) frame other before after
+listed_put sets p n frame other before mid after m is put so_far = rw put record {
+  keeps = λ r h. wanted_more mid (resource.Frame m) r ∙ or_left (is_wanted mid r) (same r (resource.Frame m)) (so_far.keeps r h);
+  only = λ r h.
+    elim (or_cases (is_wanted mid r) (same r (resource.Frame m)) (sym (wanted_more mid (resource.Frame m) r) ∙ h)) [
+      | inl old ↦
+          elim (so_far.only r old) [
+            | inl first ↦ inl first
+            | inr it ↦ inr (it.0, (let l = it.1 in omega arith), it.2)
+          ]
+      | inr new ↦ inr (n, omega arith, same_resource r (resource.Frame m) new ∙ ap resource.Frame (sym is))
+    ];
+  there = λ i low.
+    elim (cases_lt i n) [
+      | inl under ↦
+          elim (so_far.there i under) [
+            | inl old ↦ inl (wanted_more mid (resource.Frame m) (resource.Frame (get_or (get_or sets p []) i 0)) ∙ or_left (is_wanted mid (resource.Frame (get_or (get_or sets p []) i 0))) (eqb (get_or (get_or sets p []) i 0) m) old)
+            | inr why ↦ inr why
+          ]
+      | inr past ↦
+          (let e : n ≡ i = omega arith in
+          let at : get_or (get_or sets p []) i 0 ≡ m = subst (λ (x : ℕ). get_or (get_or sets p []) x 0 ≡ m) e is in
+          inl (wanted_more mid (resource.Frame m) (resource.Frame (get_or (get_or sets p []) i 0)) ∙ or_right (is_wanted mid (resource.Frame (get_or (get_or sets p []) i 0))) (eqb (get_or (get_or sets p []) i 0) m)
+            (subst (λ (x : ℕ). eqb (get_or (get_or sets p []) i 0) x ≡ true) at (equal (get_or (get_or sets p []) i 0)))))
+    ]
+}
+
+pub listed_skip : (sets : List (List ℕ)) (p n : ℕ) (frame : Option ℕ) (other : Option Span) (before mid : List Resource) (m : ℕ) → get_or (get_or sets p []) n 0 ≡ m
+    → (is_at frame m ≡ true) ⊎ (has_frame sets other m ≡ true) → IsListed sets p n frame other before mid → IsListed sets p (n + 1) frame other before mid
+listed_skip sets p n frame other before mid m is why so_far = record {
+  keeps = so_far.keeps;
+  only = λ r h. elim (so_far.only r h) [ inl first ↦ inl first | inr it ↦ inr (it.0, (let l = it.1 in omega arith), it.2) ];
+  there = λ i low.
+    elim (cases_lt i n) [
+      | inl under ↦ so_far.there i under
+      | inr past ↦
+          (let e : n ≡ i = omega arith in
+          let at : m ≡ get_or (get_or sets p []) i 0 = sym (subst (λ (x : ℕ). get_or (get_or sets p []) x 0 ≡ m) e is) in
+          inr (subst (λ (x : ℕ). (is_at frame x ≡ true) ⊎ (has_frame sets other x ≡ true)) at why))
+    ]
+}
+
+pub some_at : (xs : List ℕ) (i x : ℕ) → slice_get xs i ≡ Some x → get_or xs i 0 ≡ x
+some_at [] i x e = cc
+some_at (y ∷ xs) zero x e = cc
+some_at (y ∷ xs) (suc i) x e = some_at xs i x e
+
+-- a member of the first n has a place, and the other way round
+place_in : (xs : List ℕ) (n f : ℕ) → is_in (take n xs) f ≡ true → n ≤ length xs → (i : ℕ) × (i < n) × (get_or xs i 0 ≡ f)
+place_in xs zero f h low = cc
+place_in [] (suc n) f h low = absurd (omega arith)
+place_in (x ∷ xs) (suc n) f h low =
+    elim (or_cases (eqb f x) (is_in (take n xs) f) h) [
+      | inl here ↦ (0, omega arith, sym (same_number f x here))
+      | inr later ↦ (let it = place_in xs n f later (omega arith) in (suc it.0, (let l = it.1 in omega arith), it.2))
+    ]
+
+in_place : (xs : List ℕ) (n i : ℕ) → i < n → n ≤ length xs → is_in (take n xs) (get_or xs i 0) ≡ true
+in_place xs zero i low all = absurd (omega arith)
+in_place [] (suc n) i low all = absurd (omega arith)
+in_place (x ∷ xs) (suc n) zero low all = or_left (eqb x x) (is_in (take n xs) x) (equal x)
+in_place (x ∷ xs) (suc n) (suc i) low all = or_right (eqb (get_or xs i 0) x) (is_in (take n xs) (get_or xs i 0)) (in_place xs n i (omega arith) (omega arith))
+
+both_ways : (a b : Bool) → (a ≡ true → b ≡ true) → (b ≡ true → a ≡ true) → a ≡ b
+both_ways true b f g = sym (f refl)
+both_ways false true f g = g refl
+both_ways false false f g = refl
+
+-- all is listed
+pub listed_all : (sets : List (List ℕ)) (s : Span) (frame : Option ℕ) (other : Option Span) (before after : List Resource) → IsSpan sets s
+    → HasFrame frame before → HasOther sets other before → IsListed sets s.principal s.length frame other before after → IsPut (is_reached sets (Some s)) before after
+listed_all sets s frame other before after span framed othered listed r =
+    both_ways (is_wanted after r) (is_wanted before r || is_reached sets (Some s) r) (forth r) (back r)
+  where
+  set : List ℕ
+  set = get_or sets s.principal []
+  forth : (r : Resource) → is_wanted after r ≡ true → (is_wanted before r || is_reached sets (Some s) r) ≡ true
+  forth r h =
+      elim (listed.only r h) [
+        | inl old ↦ or_left (is_wanted before r) (is_reached sets (Some s) r) old
+        | inr new ↦ (let is = new.2 in or_right (is_wanted before r) (is_reached sets (Some s) r) (rw is (in_place (get_or sets s.principal []) s.length new.0 new.1 span.within)))
+      ]
+  back : (r : Resource) → (is_wanted before r || is_reached sets (Some s) r) ≡ true → is_wanted after r ≡ true
+  back r h = elim (or_cases (is_wanted before r) (is_reached sets (Some s) r) h) [ | inl old ↦ listed.keeps r old | inr new ↦ reached r new ]
+    where
+    reached : (r : Resource) → is_reached sets (Some s) r ≡ true → is_wanted after r ≡ true
+    reached (resource.Frame f) new =
+        let it = place_in (get_or sets s.principal []) s.length f new span.within in
+        let is : get_or (get_or sets s.principal []) it.0 0 ≡ f = it.2 in
+        subst (λ (x : ℕ). is_wanted after (resource.Frame x) ≡ true) is
+          (elim (listed.there it.0 it.1) [
+            | inl done ↦ done
+            | inr why ↦ elim why [
+              | inl named ↦ listed.keeps (resource.Frame (get_or (get_or sets s.principal []) it.0 0)) (framed (get_or (get_or sets s.principal []) it.0 0) named)
+              | inr had ↦ listed.keeps (resource.Frame (get_or (get_or sets s.principal []) it.0 0)) (othered (get_or (get_or sets s.principal []) it.0 0) had)
+            ]
+          ])
+    reached (resource.Vm v) new = cc
+    reached resource.Free new = cc
+
+named_too : (frame : Option ℕ) (before : List Resource) (x : Resource) → HasFrame frame before → HasFrame frame (before ++ x ∷ [])
+named_too frame before x h f named = wanted_more before x (resource.Frame f) ∙ or_left (is_wanted before (resource.Frame f)) (same (resource.Frame f) x) (h f named)
+
+other_too : (sets : List (List ℕ)) (other : Option Span) (before : List Resource) (x : Resource) → HasOther sets other before → HasOther sets other (before ++ x ∷ [])
+other_too sets other before x h f had = wanted_more before x (resource.Frame f) ∙ or_left (is_wanted before (resource.Frame f)) (same (resource.Frame f) x) (h f had)
+
+turned : (a b : ℕ) → eqb a b ≡ eqb b a
+turned a b = both_ways (eqb a b) (eqb b a) (λ h. let e : a ≡ b = same_number a b h in rw e (equal b)) (λ h. let e : b ≡ a = same_number b a h in rw e (equal a))
+
+left_false : (a b : Bool) → ((a || false) || b) ≡ (a || b)
+left_false true b = refl
+left_false false b = refl
+
+right_false : (a b : Bool) → ((a || b) || false) ≡ (a || b)
+right_false true b = refl
+right_false false true = refl
+right_false false false = refl
+
+-- a slot and what it may have
+pub slot_put : (sets : List (List ℕ)) (s : Span) (frame : Option ℕ) (before mid after : List Resource) → IsSpan sets s → HasFrame frame before
+    → mid ≡ before ++ resource.Vm s.principal ∷ [] → IsListed sets s.principal s.length frame None mid after → IsPut (is_slot sets (Some s)) before after
+slot_put sets s frame before mid after span framed put listed r =
+    let l = rw put at listed in
+    listed_all sets s frame None (before ++ resource.Vm s.principal ∷ []) after span (named_too frame before (resource.Vm s.principal) framed) (λ f had. cc) l r
+      ∙ (ap (λ (b : Bool). b || is_reached sets (Some s) r) (wanted_more before (resource.Vm s.principal) r) ∙ by r)
+  where
+  by : (r : Resource) → ((is_wanted before r || same r (resource.Vm s.principal)) || is_reached sets (Some s) r) ≡ (is_wanted before r || is_slot sets (Some s) r)
+  by (resource.Frame f) = left_false (is_wanted before (resource.Frame f)) (is_reached sets (Some s) (resource.Frame f))
+  by (resource.Vm v) = right_false (is_wanted before (resource.Vm v)) (eqb v s.principal) ∙ ap (λ (b : Bool). is_wanted before (resource.Vm v) || b) (turned v s.principal)
+  by resource.Free = left_false (is_wanted before resource.Free) false
+
+-- the free list and what it may have
+pub free_put : (sets : List (List ℕ)) (s : Span) (frame : Option ℕ) (other : Option Span) (before mid after : List Resource) → IsSpan sets s → HasFrame frame before → HasOther sets other before
+    → mid ≡ before ++ resource.Free ∷ [] → IsListed sets s.principal s.length frame other mid after → IsPut (is_free sets (Some s)) before after
+free_put sets s frame other before mid after span framed othered put listed r =
+    let l = rw put at listed in
+    listed_all sets s frame other (before ++ resource.Free ∷ []) after span (named_too frame before resource.Free framed) (other_too sets other before resource.Free othered) l r
+      ∙ (ap (λ (b : Bool). b || is_reached sets (Some s) r) (wanted_more before resource.Free r) ∙ by r)
+  where
+  by : (r : Resource) → ((is_wanted before r || same r resource.Free) || is_reached sets (Some s) r) ≡ (is_wanted before r || is_free sets (Some s) r)
+  by (resource.Frame f) = left_false (is_wanted before (resource.Frame f)) (is_reached sets (Some s) (resource.Frame f))
+  by (resource.Vm v) = left_false (is_wanted before (resource.Vm v)) false
+  by resource.Free = right_false (is_wanted before resource.Free) true

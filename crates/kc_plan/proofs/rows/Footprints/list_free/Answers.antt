@@ -1,0 +1,8 @@
+use Rattle.kc_plan.specs.Rows.{IsSpan}
+use Rattle.kc_plan.proofs.Firsts.{free_put}
+use Rattle.kc_plan.proofs.rows.Footprints.list_free.Goals as goal
+
+pub returns-in_ok-list : goal.returns-in_ok-list
+returns-in_ok-list c =
+    let span : IsSpan c.args.self.now.sets c.in-Some.span = rw c.in-Some.is at c.requires.free in
+    rw c.in-Some.is (free_put c.args.self.now.sets c.in-Some.span c.args.frame c.args.slot c.args.footprint.now.items c.push.new.self.items c.list.new.footprint.items span c.requires.frame c.requires.other c.in_ok-push.ensures.items c.in_ok-list.ensures)

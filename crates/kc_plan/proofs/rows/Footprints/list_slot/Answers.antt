@@ -1,0 +1,9 @@
+use Rattle.kc_plan.specs.Rows.{IsSpan}
+use Rattle.kc_plan.proofs.Firsts.{slot_put}
+use Rattle.kc_plan.proofs.rows.Footprints.list_slot.Goals as goal
+
+pub returns-in_ok-list : goal.returns-in_ok-list
+returns-in_ok-list c =
+    let span : IsSpan c.args.self.now.sets c.in-Some.span = rw c.in-Some.is at c.requires.slot in
+    let pushed = rw c.slot_of.ensures at c.in_ok-push.ensures.items in
+    rw c.in-Some.is (slot_put c.args.self.now.sets c.in-Some.span c.args.frame c.args.footprint.now.items c.push.new.self.items c.list.new.footprint.items span c.requires.frame pushed c.in_ok-list.ensures)

@@ -1,0 +1,151 @@
+-- What the planner keeps.
+use Rattle.std.specs.Prelude.{◌≡◌, ℕ, ◌+◌, ◌<◌, ◌≤◌, Bool, true, false, ◌&&◌, ◌||◌, eqb, List, [], length, get_or, set, take, Option, Some, None, IfSome, ◌⊎◌}
+use Rattle.std.specs.List.{list_any}
+use Rattle.kc_plan.specs.declared.names.Names.{Names}
+use Rattle.kc_plan.specs.Reach.{is_in, is_at, names_principal, gains_by, names_at, reach, touches}
+use Rattle.waves.specs.Planned.{ComesJustAfter}
+use Rattle.kc_plan.specs.Tracks.{IsFound, IsNoted, AreTracked}
+use Rattle.kc_plan.specs.Members.{added}
+
+pub record Held : Type 0 where
+  pub sets : List (List ℕ)
+  pub near : List (List Bool)
+  pub freed : List ℕ
+
+pub record Stamps : Type 0 where
+  pub own : List ℕ
+  pub all : List ℕ
+  pub top : List ℕ
+
+abbrev pub wave_of : List ℕ → ℕ → ℕ
+wave_of waves k = get_or waves k 0
+
+abbrev pub members_of : Held → ℕ → List ℕ
+members_of h p = get_or h.sets p []
+
+abbrev pub is_near : Held → ℕ → ℕ → Bool
+is_near h p q = get_or (get_or h.near p []) q false
+
+abbrev pub hit_frame : Option ℕ → List ℕ → Bool
+hit_frame None members = false
+hit_frame (Some f) members = is_in members f
+
+abbrev pub hit_slot : Option ℕ → List Bool → Bool
+hit_slot None near = false
+hit_slot (Some v) near = get_or near v false
+
+-- whether a call touches the principal p or what it may have
+abbrev pub is_hit : ℕ → Names → Held → ℕ → Bool
+is_hit free n h p = hit_frame n.frame (members_of h p) || (hit_slot n.slot (get_or h.near p []) || (n.free && is_near h p free))
+
+-- the numbers that a call names are there
+pub record IsInRange (frames free : ℕ) (n : Names) : Type 0 where
+  pub frame : IfSome n.frame (λ f. f < frames)
+  pub slot : IfSome n.slot (λ v. v < free)
+
+-- the relation is exact, and the counts are right; size is the number of principals, free that of the free list
+pub record IsExact (size free : ℕ) (h : Held) : Type 0 where
+  pub sets_len : length h.sets ≡ size
+  pub near_len : length h.near ≡ size
+  pub rows_len : (p : ℕ) → p < size → length (get_or h.near p []) ≡ size
+  pub freed_len : length h.freed ≡ size
+  pub freed_in : (p i : ℕ) → p < size → i < get_or h.freed p 0 → is_in (members_of h free) (get_or (members_of h p) i 0) ≡ true
+  pub freed_low : (p : ℕ) → p < size → get_or h.freed p 0 ≤ length (members_of h p)
+  pub shared_or_same : (p q : ℕ) → p < size → q < size → is_near h p q ≡ true → (p ≡ q) ⊎ ((f : ℕ) × (is_in (members_of h p) f ≡ true) × (is_in (members_of h q) f ≡ true))
+  pub itself : (p : ℕ) → p < size → is_near h p p ≡ true
+  pub shared : (p q f : ℕ) → p < size → q < size → is_in (members_of h p) f ≡ true → is_in (members_of h q) f ≡ true → is_near h p q ≡ true
+
+-- the last wave of a call that touched the frame f, as far as own and the first n of all tell
+pub record IsLastOf (n f : ℕ) (h : Held) (s : Stamps) (high : ℕ) : Type 0 where
+  pub named : get_or s.own f 0 ≤ high
+  pub had : (p : ℕ) → p < n → is_in (members_of h p) f ≡ true → get_or s.all p 0 ≤ high
+  pub got : (get_or s.own f 0 ≡ high) ⊎ ((p : ℕ) × (p < n) × (is_in (members_of h p) f ≡ true) × (get_or s.all p 0 ≡ high))
+
+-- high is the highest wave of a call that shares something with a call of these names
+abbrev pub IsHigh : ℕ → ℕ → Names → Held → Stamps → ℕ → Type 0
+IsHigh size free n h s high =
+    IsFound (λ k f. is_at n.frame f) (λ k p. names_principal free n p) (λ k p f. is_in (members_of h p) f) (λ k r. false) size 0 high
+      (λ f. get_or s.own f 0) (λ p. get_or s.all p 0) (λ p. get_or s.top p 0)
+
+-- the top waves of the first n principals are raised to w where the call touches them or what they may have
+pub record IsTop (n free w : ℕ) (names : Names) (h : Held) (before after : List ℕ) : Type 0 where
+  pub more : (p : ℕ) → get_or before p 0 ≤ get_or after p 0
+  pub hit : (p : ℕ) → p < n → is_hit free names h p ≡ true → w ≤ get_or after p 0
+  pub is : (p : ℕ) → (get_or after p 0 ≡ get_or before p 0) ⊎ ((get_or after p 0 ≡ w) × (is_hit free names h p ≡ true))
+
+-- a call of these names, of wave w, is written down
+abbrev pub IsWritten : ℕ → ℕ → Names → ℕ → Held → Stamps → Stamps → Type 0
+IsWritten size free n w h s t =
+    IsNoted (λ k f. is_at n.frame f) (λ k p. names_principal free n p) (λ k p f. is_in (members_of h p) f) (λ k r. false) size 0 w (is_near h)
+      (λ f. get_or s.own f 0) (λ p. get_or s.all p 0) (λ p. get_or s.top p 0) (λ f. get_or t.own f 0) (λ p. get_or t.all p 0) (λ p. get_or t.top p 0)
+
+-- the principal p is related to each that may have the frame f, both ways
+pub record IsRelated (n p f : ℕ) (a b : Held) : Type 0 where
+  pub sets : b.sets ≡ a.sets
+  pub freed : b.freed ≡ a.freed
+  pub near_len : length b.near ≡ length a.near
+  pub rows_len : (q : ℕ) → length (get_or b.near q []) ≡ length (get_or a.near q [])
+  pub old : (q r : ℕ) → is_near a q r ≡ true → is_near b q r ≡ true
+  pub there : (q : ℕ) → q < n → is_in (members_of a q) f ≡ true → is_near b p q ≡ true
+  pub back : (q : ℕ) → q < n → is_in (members_of a q) f ≡ true → is_near b q p ≡ true
+  pub only : (q r : ℕ) → is_near b q r ≡ true → (is_near a q r ≡ true) ⊎ (((q ≡ p) × (is_in (members_of a r) f ≡ true)) ⊎ ((r ≡ p) × (is_in (members_of a q) f ≡ true)))
+
+-- what principals may have comes behind what they may have already
+abbrev pub IsGrown : Held → Held → Type 0
+IsGrown a b = (p n : ℕ) → n ≤ length (members_of a p) → (n ≤ length (members_of b p)) × (take n (members_of b p) ≡ take n (members_of a p))
+
+pub record AreFreed (size free v : ℕ) (a b : Held) : Type 0 where
+  pub exact : IsExact size free b
+  pub sets : (p f : ℕ) → p < size → is_in (members_of b p) f ≡ (is_in (members_of a p) f || (eqb free p && is_in (members_of a v) f))
+  pub grown : IsGrown a b
+
+-- the first n of what the slot v may have, the free list may have
+pub record IsFreeing (size free v n : ℕ) (a b : Held) : Type 0 where
+  pub exact : IsExact size free b
+  pub freed : b.freed ≡ a.freed
+  pub slot_same : members_of b v ≡ members_of a v
+  pub keeps : (p f : ℕ) → is_in (members_of a p) f ≡ true → is_in (members_of b p) f ≡ true
+  pub only : (p f : ℕ) → is_in (members_of b p) f ≡ true → (is_in (members_of a p) f ≡ true) ⊎ ((free ≡ p) × (is_in (members_of a v) f ≡ true))
+  pub there : (i : ℕ) → i < n → is_in (members_of b free) (get_or (members_of a v) i 0) ≡ true
+  pub grown : IsGrown a b
+
+pub record IsJoined (size free p f : ℕ) (a b : Held) : Type 0 where
+  pub exact : IsExact size free b
+  pub sets : b.sets ≡ set a.sets p (added (get_or a.sets p []) f)
+  pub freed : b.freed ≡ a.freed
+
+-- each principal p gets the frames f that pass the test, and no others
+pub record IsWider (size free : ℕ) (test : ℕ → ℕ → Bool) (a b : Held) : Type 0 where
+  pub exact : IsExact size free b
+  pub sets : (p f : ℕ) → p < size → is_in (members_of b p) f ≡ (is_in (members_of a p) f || test p f)
+  pub grown : IsGrown a b
+
+abbrev pub AreGained : ℕ → ℕ → Names → Held → Held → Type 0
+AreGained size free n a b = IsWider size free (λ p f. gains_by free (λ q g. is_in (members_of a q) g) n n.gain p f) a b
+
+abbrev pub set_at : Option ℕ → ℕ → List ℕ → List ℕ
+set_at None w xs = xs
+set_at (Some i) w xs = set xs i w
+
+-- the pairs of a principal and a frame
+abbrev pub has_pair : List (ℕ × ℕ) → ℕ → ℕ → Bool
+has_pair pairs p f = list_any (λ x. eqb x.0 p && eqb x.1 f) pairs
+
+pub record IsStart (size free : ℕ) (pairs : List (ℕ × ℕ)) (h : Held) : Type 0 where
+  pub exact : IsExact size free h
+  pub sets : (p f : ℕ) → p < size → is_in (members_of h p) f ≡ has_pair pairs p f
+
+-- the waves of the first calls are planned, whatever those of the later ones are, and h and s are what the planner keeps then
+pub record IsGoing (frames free : ℕ) (start : ℕ → ℕ → Bool) (cs : List Names) (waves : List ℕ) (h : Held) (s : Stamps) : Type 0 where
+  pub planned : (wave : ℕ → ℕ) → ((j : ℕ) → j < length waves → wave j ≡ get_or waves j 0) → (k : ℕ) → k < length waves → ComesJustAfter (touches free start cs) wave k
+  pub tracked : (wave : ℕ → ℕ) → ((j : ℕ) → j < length waves → wave j ≡ get_or waves j 0)
+      → AreTracked (λ k f. is_at (names_at cs k).frame f) (λ k p. names_principal free (names_at cs k) p) (reach free start cs) (touches free start cs) wave
+          (free + 1) (length waves) (λ f. get_or s.own f 0) (λ p. get_or s.all p 0) (λ p. get_or s.top p 0)
+  pub sets : (p f : ℕ) → p < free + 1 → is_in (members_of h p) f ≡ reach free start cs (length waves) p f
+  pub exact : IsExact (free + 1) free h
+  pub own_low : (f : ℕ) → get_or s.own f 0 ≤ length waves
+  pub all_low : (p : ℕ) → get_or s.all p 0 ≤ length waves
+  pub top_low : (p : ℕ) → p < free + 1 → get_or s.top p 0 ≤ length waves
+  pub own_len : length s.own ≡ frames
+  pub all_len : length s.all ≡ free + 1
+  pub top_len : length s.top ≡ free + 1

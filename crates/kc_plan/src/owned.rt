@@ -1,0 +1,35 @@
+//! Which slot owns a frame at the start of a trace, or that the free list does.
+ghost use Rattle.std.specs.Prelude.{◌≡◌, ℕ, ◌+◌, ◌<◌, length, get_or, IfOk};
+ghost use Rattle.kc_types.specs.Configuration.{slot_count};
+ghost use Rattle.kc_plan.specs.Owned.{IsOwned, principal_of};
+
+use kc_core::KCore;
+use kc_types::{Memory, Owner};
+use std::alloc::Global;
+
+/// The number of an owner: a slot's is its own, that of the free list comes after them; others have none.
+fn principal_of(owner: Owner, slots: usize) -> Option<usize>
+    ensures { result ≡ principal_of slots owner }
+{
+    match owner {
+        Owner::Vm(vm) if vm.index() < slots => Some(vm.index()),
+        Owner::Free => Some(slots),
+        _ => None,
+    }
+}
+
+/// The frames of the slots and of the free list, each with the number of its owner.
+pub(crate) fn owned_frames(alloc: Global, core: &KCore) -> Result<Vec<(usize, u32)>, Memory>
+    ensures owned { IfOk result (λ pairs. IsOwned core.now pairs.items) }
+    ensures low { IfOk result (λ pairs. (i : ℕ) → i < length pairs.items → (get_or pairs.items i (0, 0)).0 < slot_count core.now.config + 1) }
+{
+    let slots = core.config().slots() as usize;
+    let mut pairs = Vec::new(alloc);
+    for frame in 0..core.config().frames() {
+        let Some(record) = core.page_record(frame) else { unreachable!() };
+        if let Some(principal) = principal_of(record.owner, slots) {
+            pairs.push((principal, frame))?;
+        }
+    }
+    Ok(pairs)
+}
