@@ -1,5 +1,6 @@
 -- The rows say what the definitions say.
 use Rattle.std.proofs.Common.{◌≡◌, ℕ, ◌+◌, ◌<◌, ◌≤◌, true, List, [], length, map, get_or, refl, sym, ◌∙◌, subst, arith, inl, inr}
+use Rattle.std.specs.List.{IsDistinct}
 use Rattle.std.specs.Prelude.{eqb, Option, Some, None, IfSome}
 use Rattle.std.proofs.lemmas.Bool.{cases_lt}
 use Rattle.std.proofs.lemmas.List.{get_or_past}
@@ -57,11 +58,11 @@ module _ (m : State) (calls : List Call) (pairs : List (ℕ × ℕ)) (owned : Is
   span_low n few None low = tt
   span_low n few (Some s) low = omega arith
 
-  -- and has only numbers of things that can be
+  -- and has only numbers of what can be, each once
   pub rows_are : IsLawful m → m.config.frames ≤ frame_limit → slot_count m.config ≤ slot_limit → length sets ≡ slot_count m.config + 1
       → ((p f : ℕ) → p < slot_count m.config + 1 → is_in (get_or sets p []) f ≡ reach (slot_count m.config) (has_pair pairs) (map (names_of m.config) calls) (length (map (names_of m.config) calls)) p f)
-      → AreRows sets rows
-  rows_are lawful frames slots size same = record { low = low; each = each }
+      → ((p : ℕ) → IsDistinct eqb (get_or sets p [])) → AreRows sets rows
+  rows_are lawful frames slots size same once = record { low = low; once = once; each = each }
     where
     low : (p i : ℕ) → i < length (get_or sets p []) → get_or (get_or sets p []) i 0 < frame_limit
     low p i under =

@@ -7,11 +7,14 @@ use Rattle.kc_types.specs.declared.resource.Resource.TheVariants as resource
 use Rattle.kc_plan.proofs.Shapes.{or_left, or_right, or_cases, equal, same_number}
 use Rattle.kc_plan.specs.declared.rows.Span.{Span}
 use Rattle.kc_parts.specs.Cuts.{is_wanted, same}
-use Rattle.kc_plan.specs.Rows.{IsListed, IsPut, HasFrame, HasOther, has_frame, is_reached, is_slot, is_free, IsSpan}
+use Rattle.kc_plan.specs.Rows.{IsListed, IsPut, IsWithout, HasFrame, HasOther, HasOnly, has_frame, is_named, is_named_or_slot, is_reached, is_slot, is_free, IsSpan}
 use Rattle.std.specs.Prelude.{eqb, nat_lt, Option, Some, None, position}
 use Rattle.std.specs.List.{position_or_len}
 use Rattle.std.proofs.lemmas.Bool.Decides.{nat_tests}
 use Rattle.kc_plan.specs.Reach.{is_in, is_at}
+use Rattle.std.specs.List.{IsDistinct}
+use Rattle.std.specs.Cmp.{IsEquivalence}
+use Rattle.std.proofs.lemmas.Map.Keys.{IsDistinct-push, IsDistinct-from_apart, apart_from_distinct}
 
 lt_suc : (a b : ℕ) → nat_lt (1 + a) (suc b) ≡ nat_lt a b
 lt_suc a b = grind (arith, nat_tests)
@@ -58,9 +61,41 @@ wanted_more rs x r = list_any-append (same r) rs (x ∷ []) ∙ ap (λ (b : Bool
   or_false true = refl
   or_false false = refl
 
+both_ways : (a b : Bool) → (a ≡ true → b ≡ true) → (b ≡ true → a ≡ true) → a ≡ b
+both_ways true b f g = sym (f refl)
+both_ways false true f g = g refl
+both_ways false false f g = refl
+
+equal_same : (r : Resource) → same r r ≡ true
+equal_same (resource.Frame f) = equal f
+equal_same (resource.Vm v) = equal v
+equal_same resource.Free = refl
+
+same_laws : IsEquivalence same
+same_laws = record {
+  refl = equal_same;
+  symm = λ r s. both_ways (same r s) (same s r) (λ h. rw (same_resource r s h) (equal_same s)) (λ h. rw (same_resource s r h) (equal_same r));
+  congr = λ r s t h. rw (same_resource r s h) refl
+}
+
+-- a resource more, which was not there
+pub once_more : (rs : List Resource) (r : Resource) → IsDistinct same rs → (is_wanted rs r ≡ true → ⊥) → IsDistinct same (rs ++ r ∷ [])
+once_more rs r once absent = IsDistinct-push same_laws rs r once (by (is_wanted rs r) refl)
+  where
+  by : (b : Bool) → is_wanted rs r ≡ b → b ≡ false
+  by true h = absurd (absent h)
+  by false h = refl
+
+pub none_once : (rs : List Resource) → rs ≡ [] → IsDistinct same rs
+none_once rs is = rw is (IsDistinct-from_apart same [] (λ i j d low below. absurd (omega arith)))
+
+pub one_once : (rs after : List Resource) (r : Resource) → rs ≡ [] → after ≡ rs ++ r ∷ [] → IsDistinct same after
+one_once rs after r is put = rw put (once_more rs r (none_once rs is) (λ h. let no : is_wanted [] r ≡ true = rw is at h in cc))
+
 pub listed_put : (sets : List (List ℕ)) (p n : ℕ) (frame : Option ℕ) (other : Option Span) (before mid after : List Resource) (m : ℕ) → get_or (get_or sets p []) n 0 ≡ m
-    → after ≡ mid ++ resource.Frame m ∷ [] → IsListed sets p n frame other before mid → IsListed sets p (n + 1) frame other before after
-listed_put sets p n frame other before mid after m is put so_far = rw put record {
+    → after ≡ mid ++ resource.Frame m ∷ [] → is_at frame m ≡ false → has_frame sets other m ≡ false → IsDistinct eqb (get_or sets p []) → n < length (get_or sets p [])
+    → IsListed sets p n frame other before mid → IsListed sets p (n + 1) frame other before after
+listed_put sets p n frame other before mid after m is put unnamed unhad each below so_far = rw put record {
   keeps = λ r h. wanted_more mid (resource.Frame m) r ∙ or_left (is_wanted mid r) (same r (resource.Frame m)) (so_far.keeps r h);
   only = λ r h.
     elim (or_cases (is_wanted mid r) (same r (resource.Frame m)) (sym (wanted_more mid (resource.Frame m) r) ∙ h)) [
@@ -83,7 +118,15 @@ listed_put sets p n frame other before mid after m is put so_far = rw put record
           let at : get_or (get_or sets p []) i 0 ≡ m = subst (λ (x : ℕ). get_or (get_or sets p []) x 0 ≡ m) e is in
           inl (wanted_more mid (resource.Frame m) (resource.Frame (get_or (get_or sets p []) i 0)) ∙ or_right (is_wanted mid (resource.Frame (get_or (get_or sets p []) i 0))) (eqb (get_or (get_or sets p []) i 0) m)
             (subst (λ (x : ℕ). eqb (get_or (get_or sets p []) i 0) x ≡ true) at (equal (get_or (get_or sets p []) i 0)))))
-    ]
+    ];
+  once = λ first only. once_more mid (resource.Frame m) (so_far.once first only) (λ h.
+    elim (so_far.only (resource.Frame m) h) [
+      | inl old ↦ elim (only m old) [ inl named ↦ cc | inr had ↦ cc ]
+      | inr it ↦
+          (let e : m ≡ get_or (get_or sets p []) it.0 0 = (let i = it.2 in cc) in
+          let apart : eqb (get_or (get_or sets p []) it.0 0) (get_or (get_or sets p []) n 0) ≡ false = apart_from_distinct eqb (get_or sets p []) it.0 n 0 each it.1 below in
+          let alike : eqb (get_or (get_or sets p []) it.0 0) (get_or (get_or sets p []) n 0) ≡ true = rw (is, sym e) (equal m) in cc)
+    ])
 }
 
 pub listed_skip : (sets : List (List ℕ)) (p n : ℕ) (frame : Option ℕ) (other : Option Span) (before mid : List Resource) (m : ℕ) → get_or (get_or sets p []) n 0 ≡ m
@@ -98,7 +141,8 @@ listed_skip sets p n frame other before mid m is why so_far = record {
           (let e : n ≡ i = omega arith in
           let at : m ≡ get_or (get_or sets p []) i 0 = sym (subst (λ (x : ℕ). get_or (get_or sets p []) x 0 ≡ m) e is) in
           inr (subst (λ (x : ℕ). (is_at frame x ≡ true) ⊎ (has_frame sets other x ≡ true)) at why))
-    ]
+    ];
+  once = so_far.once
 }
 
 pub some_at : (xs : List ℕ) (i x : ℕ) → slice_get xs i ≡ Some x → get_or xs i 0 ≡ x
@@ -121,11 +165,6 @@ in_place xs zero i low all = absurd (omega arith)
 in_place [] (suc n) i low all = absurd (omega arith)
 in_place (x ∷ xs) (suc n) zero low all = or_left (eqb x x) (is_in (take n xs) x) (equal x)
 in_place (x ∷ xs) (suc n) (suc i) low all = or_right (eqb (get_or xs i 0) x) (is_in (take n xs) (get_or xs i 0)) (in_place xs n i (omega arith) (omega arith))
-
-both_ways : (a b : Bool) → (a ≡ true → b ≡ true) → (b ≡ true → a ≡ true) → a ≡ b
-both_ways true b f g = sym (f refl)
-both_ways false true f g = g refl
-both_ways false false f g = refl
 
 -- all is listed
 pub listed_all : (sets : List (List ℕ)) (s : Span) (frame : Option ℕ) (other : Option Span) (before after : List Resource) → IsSpan sets s
@@ -190,6 +229,19 @@ slot_put sets s frame before mid after span framed put listed r =
   by (resource.Vm v) = right_false (is_wanted before (resource.Vm v)) (eqb v s.principal) ∙ ap (λ (b : Bool). is_wanted before (resource.Vm v) || b) (turned v s.principal)
   by resource.Free = left_false (is_wanted before resource.Free) false
 
+-- a slot that is not there yet, and what it may have, are there once
+pub slot_once : (sets : List (List ℕ)) (s : Span) (frame : Option ℕ) (before mid after : List Resource) → IsWithout (is_named frame) before → IsDistinct same before
+    → mid ≡ before ++ resource.Vm s.principal ∷ [] → IsListed sets s.principal s.length frame None mid after → IsDistinct same after
+slot_once sets s frame before mid after only once put listed =
+    listed.once (rw put (once_more before (resource.Vm s.principal) once (λ h. let no = only (resource.Vm s.principal) h in cc))) named
+  where
+  named : HasOnly sets frame None mid
+  named f h =
+      elim (or_cases (is_wanted before (resource.Frame f)) false (sym (wanted_more before (resource.Vm s.principal) (resource.Frame f)) ∙ rw put at h)) [
+        | inl old ↦ inl (only (resource.Frame f) old)
+        | inr new ↦ cc
+      ]
+
 -- the free list and what it may have
 pub free_put : (sets : List (List ℕ)) (s : Span) (frame : Option ℕ) (other : Option Span) (before mid after : List Resource) → IsSpan sets s → HasFrame frame before → HasOther sets other before
     → mid ≡ before ++ resource.Free ∷ [] → IsListed sets s.principal s.length frame other mid after → IsPut (is_free sets (Some s)) before after
@@ -202,3 +254,16 @@ free_put sets s frame other before mid after span framed othered put listed r =
   by (resource.Frame f) = left_false (is_wanted before (resource.Frame f)) (is_reached sets (Some s) (resource.Frame f))
   by (resource.Vm v) = left_false (is_wanted before (resource.Vm v)) false
   by resource.Free = right_false (is_wanted before resource.Free) true
+
+-- the free list, which is not there yet, and what it may have, are there once
+pub free_once : (sets : List (List ℕ)) (s : Span) (frame : Option ℕ) (slot : Option Span) (before mid after : List Resource) → IsWithout (is_named_or_slot sets frame slot) before → IsDistinct same before
+    → mid ≡ before ++ resource.Free ∷ [] → IsListed sets s.principal s.length frame slot mid after → IsDistinct same after
+free_once sets s frame slot before mid after only once put listed =
+    listed.once (rw put (once_more before resource.Free once (λ h. let no = only resource.Free h in cc))) named
+  where
+  named : HasOnly sets frame slot mid
+  named f h =
+      elim (or_cases (is_wanted before (resource.Frame f)) false (sym (wanted_more before resource.Free (resource.Frame f)) ∙ rw put at h)) [
+        | inl old ↦ or_cases (is_at frame f) (has_frame sets slot f) (only (resource.Frame f) old)
+        | inr new ↦ cc
+      ]

@@ -4,6 +4,9 @@ use Rattle.std.proofs.lemmas.Bool.Decides.{nat_tests}
 use Rattle.std.proofs.lemmas.Bool.{cases_lt}
 use Rattle.std.proofs.lemmas.List.{get_or-set_same, get_or-set_other, get_or_append_left}
 use Rattle.std.proofs.lemmas.List.Folds.{list_any-append, list_any_at}
+use Rattle.std.proofs.lemmas.Cmp.{nat_eq_equiv}
+use Rattle.std.proofs.lemmas.Map.Keys.{IsDistinct-push}
+use Rattle.std.specs.List.{IsDistinct}
 use Rattle.std.proofs.Math.ListN.{length-set}
 use Rattle.kc_plan.specs.Members.{added}
 use Rattle.kc_plan.specs.Reach.{is_in}
@@ -42,6 +45,13 @@ added_front xs f i low = by (is_in xs f)
   by true = refl
   by false = get_or_append_left xs (f ∷ []) 0 i low
 
+added_once : (xs : List ℕ) (f : ℕ) → IsDistinct eqb xs → IsDistinct eqb (added xs f)
+added_once xs f once = by (is_in xs f) refl
+  where
+  by : (b : Bool) → is_in xs f ≡ b → IsDistinct eqb (cond b xs (xs ++ f ∷ []))
+  by true has = once
+  by false has = IsDistinct-push nat_eq_equiv xs f once has
+
 module _ (size free p f : ℕ) (a b : Held) (low : p < size) (free_low : free < size) (exact : IsExact size free a) (sets : b.sets ≡ set a.sets p (added (get_or a.sets p []) f)) where
 
   same_set : (q : ℕ) → q ≢ p → members_of b q ≡ members_of a q
@@ -74,6 +84,13 @@ module _ (size free p f : ℕ) (a b : Held) (low : p < size) (free_low : free < 
         | inl old ↦ inl old
         | inr new ↦ inr (same_number p q (and_left (eqb p q) (eqb f g) new), same_number f g (and_right (eqb p q) (eqb f g) new))
       ]
+
+  each_once : (q : ℕ) → IsDistinct eqb (members_of b q)
+  each_once q = by (eqb p q) refl
+    where
+    by : (e : Bool) → eqb p q ≡ e → IsDistinct eqb (members_of b q)
+    by true e = subst (λ (x : ℕ). IsDistinct eqb (members_of b x)) (same_number p q e) (rw new_set (added_once (members_of a p) f (exact.once p)))
+    by false e = let s : members_of b q ≡ members_of a q = same_set q (λ is. let no : eqb p q ≡ true = rw is (equal p) in cc) in rw s (exact.once q)
 
   longer : (q : ℕ) → length (members_of a q) ≤ length (members_of b q)
   longer q = by (eqb p q) refl
@@ -144,7 +161,8 @@ module _ (size free p f : ℕ) (a b : Held) (low : p < size) (free_low : free < 
           | inr new ↦
               (let has_f : is_in (members_of b r) f ≡ true = subst (λ (x : ℕ). is_in (members_of b r) x ≡ true) (sym new.1) hr in
               subst (λ (x : ℕ). is_near b x r ≡ true) new.0 (related.there r (rw count br) (has_before r has_f)))
-        ]
+        ];
+      once = each_once
     }
 
 pub joined : (size free p f n : ℕ) (a m b : Held) → p < size → free < size → IsExact size free a → m.sets ≡ set a.sets p (added (get_or a.sets p []) f) → m.near ≡ a.near → m.freed ≡ a.freed
@@ -249,7 +267,8 @@ freed_all size free v n a b c low free_low before so_far all sets near freed = r
     freed_low = λ p below. freed_low_by p below (eqb v p) refl;
     shared_or_same = λ p q bp bq n. rw sets (so_far.exact.shared_or_same p q bp bq (rw near at n));
     itself = λ p bp. rw near (so_far.exact.itself p bp);
-    shared = λ p q f bp bq hp hq. rw near (so_far.exact.shared p q f bp bq (rw sets at hp) (rw sets at hq))
+    shared = λ p q f bp bq hp hq. rw near (so_far.exact.shared p q f bp bq (rw sets at hp) (rw sets at hq));
+    once = λ p. rw sets (so_far.exact.once p)
   };
   sets = λ p f below.
     same_true (is_in (members_of c p) f) (is_in (members_of a p) f || (eqb free p && is_in (members_of a v) f))

@@ -3,6 +3,7 @@ use Rattle.std.specs.Prelude.{◌⊎◌, eqb}
 use Rattle.std.proofs.lemmas.List.{get_or-set_same, get_or-set_other}
 use Rattle.std.proofs.lemmas.List.Folds.{list_any_more}
 use Rattle.std.proofs.Math.ListN.{length-set, length-replicate}
+use Rattle.std.proofs.lemmas.Map.Keys.{IsDistinct-from_apart}
 use Rattle.kc_plan.specs.Reach.{is_in}
 use Rattle.kc_plan.proofs.Shapes.{same_number, equal}
 use Rattle.kc_plan.specs.Tracked.{Held, members_of, is_near, IsStart, IsJoined}
@@ -25,11 +26,14 @@ empty_start n free h low sets freed near rows = record {
     freed_low = λ p below. let e = none_freed p in omega arith;
     shared_or_same = λ p q bp bq near_it. near_only p q bp near_it;
     itself = λ p below. rw (rows p below) (get_or-set_same (replicate n false) p true false (let l = length-replicate n false in omega arith));
-    shared = λ p q f bp bq hp hq. let no : is_in (members_of h p) f ≡ false = none p f in cc
+    shared = λ p q f bp bq hp hq. let no : is_in (members_of h p) f ≡ false = none p f in cc;
+    once = λ p. rw (nothing p) (IsDistinct-from_apart eqb [] (λ i j d low below. absurd (omega arith)))
   };
   sets = λ p f below. none p f
 }
   where
+  nothing : (p : ℕ) → members_of h p ≡ []
+  nothing p = rw sets (replicas {A = List ℕ} n p [])
   none : (p f : ℕ) → is_in (members_of h p) f ≡ false
   none p f = rw sets (let e : get_or (replicate n []) p [] ≡ [] = replicas {A = List ℕ} n p [] in rw e refl)
   none_freed : (p : ℕ) → get_or h.freed p 0 ≡ 0

@@ -3,7 +3,8 @@ use Rattle.std.specs.Prelude.{◌≡◌, ℕ, ◌<◌, ◌≤◌, Bool, true, fa
 use Rattle.kc_types.specs.Limits.{frame_limit, slot_limit}
 use Rattle.kc_model.specs.Resources.{Resource}
 use Rattle.kc_types.specs.declared.resource.Resource.TheVariants as resource
-use Rattle.kc_parts.specs.Cuts.{is_wanted}
+use Rattle.std.specs.List.{IsDistinct}
+use Rattle.kc_parts.specs.Cuts.{is_wanted, same}
 use Rattle.kc_plan.specs.declared.names.Names.{Names}
 use Rattle.kc_plan.specs.Reach.{is_in, is_at, reach_of, reach, names_at}
 use Rattle.kc_plan.specs.declared.rows.Row.{Row}
@@ -51,7 +52,12 @@ pub record IsRow (sets : List (List ℕ)) (row : Row) : Type 0 where
 
 pub record AreRows (sets : List (List ℕ)) (rows : List Row) : Type 0 where
   pub low : (p i : ℕ) → i < size_of (get_or sets p []) → get_or (get_or sets p []) i 0 < frame_limit
+  pub once : (p : ℕ) → IsDistinct eqb (get_or sets p [])
   pub each : (k : ℕ) → k < length rows → IsRow sets (get_or rows k no_row)
+
+-- the frames in the list are no others than the frame and what the other has
+abbrev pub HasOnly : List (List ℕ) → Option ℕ → Option Span → List Resource → Type 0
+HasOnly sets frame other before = (f : ℕ) → is_wanted before (resource.Frame f) ≡ true → (is_at frame f ≡ true) ⊎ (has_frame sets other f ≡ true)
 
 -- the first n of what the principal p may have are listed, but for the frame and for what the other has; and no other frame is
 pub record IsListed (sets : List (List ℕ)) (p n : ℕ) (frame : Option ℕ) (other : Option Span) (before after : List Resource) : Type 0 where
@@ -59,6 +65,7 @@ pub record IsListed (sets : List (List ℕ)) (p n : ℕ) (frame : Option ℕ) (o
   pub only : (r : Resource) → is_wanted after r ≡ true → (is_wanted before r ≡ true) ⊎ ((i : ℕ) × (i < n) × (r ≡ resource.Frame (get_or (get_or sets p []) i 0)))
   pub there : (i : ℕ) → i < n → (is_wanted after (resource.Frame (get_or (get_or sets p []) i 0)) ≡ true)
       ⊎ ((is_at frame (get_or (get_or sets p []) i 0) ≡ true) ⊎ (has_frame sets other (get_or (get_or sets p []) i 0) ≡ true))
+  pub once : IsDistinct same before → HasOnly sets frame other before → IsDistinct same after
 
 -- what the list has more
 abbrev pub IsPut : (Resource → Bool) → List Resource → List Resource → Type 0
@@ -90,6 +97,14 @@ HasFrame frame before = (f : ℕ) → is_at frame f ≡ true → is_wanted befor
 
 abbrev pub HasOther : List (List ℕ) → Option Span → List Resource → Type 0
 HasOther sets other before = (f : ℕ) → has_frame sets other f ≡ true → is_wanted before (resource.Frame f) ≡ true
+
+-- the list has nothing that does not pass the test
+abbrev pub IsWithout : (Resource → Bool) → List Resource → Type 0
+IsWithout test before = (r : Resource) → is_wanted before r ≡ true → test r ≡ true
+
+-- the frame that a call names, and a slot with what it may have
+abbrev pub is_named_or_slot : List (List ℕ) → Option ℕ → Option Span → Resource → Bool
+is_named_or_slot sets frame slot r = is_named frame r || is_slot sets slot r
 
 -- all that a principal may have
 abbrev pub span_of : List (List ℕ) → ℕ → Span

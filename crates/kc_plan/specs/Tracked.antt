@@ -1,6 +1,6 @@
 -- What the planner keeps.
 use Rattle.std.specs.Prelude.{◌≡◌, ℕ, ◌+◌, ◌<◌, ◌≤◌, Bool, true, false, ◌&&◌, ◌||◌, eqb, List, [], length, get_or, set, take, Option, Some, None, IfSome, ◌⊎◌}
-use Rattle.std.specs.List.{list_any}
+use Rattle.std.specs.List.{list_any, IsDistinct}
 use Rattle.kc_plan.specs.declared.names.Names.{Names}
 use Rattle.kc_plan.specs.Reach.{is_in, is_at, names_principal, gains_by, names_at, reach, touches}
 use Rattle.waves.specs.Planned.{ComesJustAfter}
@@ -54,6 +54,7 @@ pub record IsExact (size free : ℕ) (h : Held) : Type 0 where
   pub shared_or_same : (p q : ℕ) → p < size → q < size → is_near h p q ≡ true → (p ≡ q) ⊎ ((f : ℕ) × (is_in (members_of h p) f ≡ true) × (is_in (members_of h q) f ≡ true))
   pub itself : (p : ℕ) → p < size → is_near h p p ≡ true
   pub shared : (p q f : ℕ) → p < size → q < size → is_in (members_of h p) f ≡ true → is_in (members_of h q) f ≡ true → is_near h p q ≡ true
+  pub once : (p : ℕ) → IsDistinct eqb (members_of h p)
 
 -- the last wave of a call that touched the frame f, as far as own and the first n of all tell
 pub record IsLastOf (n f : ℕ) (h : Held) (s : Stamps) (high : ℕ) : Type 0 where

@@ -1,5 +1,6 @@
 //! A planner whose cost for a call does not grow with what the call may touch.
-ghost use Rattle.std.specs.Prelude.{◌≡◌, ℕ, ◌+◌, ◌<◌, ◌≤◌, ◌^◌, length, get_or, set, replicate, List, [], IfOk, IfSome, MatchOption, ◌⊎◌};
+ghost use Rattle.std.specs.Prelude.{◌≡◌, ℕ, ◌+◌, ◌<◌, ◌≤◌, ◌^◌, length, get_or, set, replicate, List, [], IfOk, IfSome, MatchOption, ◌⊎◌, eqb};
+ghost use Rattle.std.specs.List.{IsDistinct};
 ghost use Rattle.std.specs.Prelude.{if◌then◌else◌};
 ghost use Rattle.waves.specs.Planned.{ComesJustAfter};
 ghost use Rattle.kc_plan.specs.Reach.{is_in, reach, touches, names_at};
@@ -198,6 +199,7 @@ pub(crate) fn walk_calls(
     ensures rows { IfOk result (λ w. AreRowsOf free (has_pair pairs.now) calls.now w.sets.items w.rows.items) }
     ensures sets { IfOk result (λ w. (p f : ℕ) → p < free + 1 → is_in (get_or w.sets.items p []) f ≡ reach free (has_pair pairs.now) calls.now (length calls.now) p f) }
     ensures size { IfOk result (λ w. length w.sets.items ≡ free + 1) }
+    ensures once { IfOk result (λ w. (p : ℕ) → IsDistinct eqb (get_or w.sets.items p [])) }
 {
     let mut reaches = start(alloc, free + 1, free, pairs)?;
     let mut planner = Planner::new(alloc, frames, free + 1)?;

@@ -1,10 +1,11 @@
 //! What each call of a trace may touch, kept as lengths into what slots and the free list may have.
-ghost use Rattle.std.specs.Prelude.{◌≡◌, ℕ, ◌<◌, ◌≤◌, true, length, get_or, List, IfOk, OnOk, IfSome};
+ghost use Rattle.std.specs.Prelude.{◌≡◌, ℕ, ◌<◌, ◌≤◌, true, length, get_or, List, [], eqb, IfOk, OnOk, IfSome};
 ghost use Rattle.kc_types.specs.Limits.{frame_limit, slot_limit};
 ghost use Rattle.kc_types.specs.declared.resource.Resource.TheVariants as resource;
-ghost use Rattle.kc_parts.specs.Cuts.{is_wanted};
+ghost use Rattle.std.specs.List.{IsDistinct};
+ghost use Rattle.kc_parts.specs.Cuts.{is_wanted, same};
 ghost use Rattle.kc_plan.specs.Reach.{is_at};
-ghost use Rattle.kc_plan.specs.Rows.{has_frame, row_touches, row_at, IsRow, IsSpan, IsListed, IsPut, HasFrame, HasOther, AreRows, AreCounted, is_named, is_reached, is_slot, is_free};
+ghost use Rattle.kc_plan.specs.Rows.{has_frame, row_touches, row_at, IsRow, IsSpan, IsListed, IsPut, HasFrame, HasOther, IsWithout, is_named_or_slot, AreRows, AreCounted, is_named, is_reached, is_slot, is_free};
 
 use crate::planner::Walk;
 use crate::reach_set::ReachSet;
@@ -101,6 +102,15 @@ impl Footprints {
         self.rows.len()
     }
 
+    /// The row of a call.
+    fn row(&self, number: usize) -> Row
+        requires { number < length self.now.rows }
+        ensures value { result ≡ row_at self.now number }
+        ensures sets { AreRows self.now.sets self.now.rows }
+    {
+        self.rows[number]
+    }
+
     /// Whether a frame is among the first of what a principal may have.
     fn has(&self, span: Option<Span>, frame: u32) -> bool
         requires { IfSome span (λ s. IsSpan self.now.sets s) }
@@ -119,6 +129,7 @@ impl Footprints {
     fn list(&self, footprint: &mut Vec<Resource>, span: Span, frame: Option<u32>, other: Option<Span>) -> Result<(), AllocError>
         requires span { IsSpan self.now.sets span }
         requires other { IfSome other (IsSpan self.now.sets) }
+        requires once { IsDistinct eqb (get_or self.now.sets span.principal []) }
         ensures { OnOk result (IsListed self.now.sets span.principal span.length frame other footprint.old.items footprint.new.items) }
     {
         let set = &self.sets[span.principal as usize];
@@ -138,7 +149,11 @@ impl Footprints {
         requires slot { IfSome slot (IsSpan self.now.sets) }
         requires low { IfSome slot (λ s. s.principal < slot_limit) }
         requires frame { HasFrame frame footprint.old.items }
-        ensures { OnOk result (IsPut (is_slot self.now.sets slot) footprint.old.items footprint.new.items) }
+        requires sets { AreRows self.now.sets self.now.rows }
+        requires only { IsWithout (is_named frame) footprint.old.items }
+        requires once { IsDistinct same footprint.old.items }
+        ensures put { OnOk result (IsPut (is_slot self.now.sets slot) footprint.old.items footprint.new.items) }
+        ensures once { OnOk result (IsDistinct same footprint.new.items) }
     {
         if let Some(span) = slot {
             footprint.push(slot_of(span.principal))?;
@@ -153,7 +168,11 @@ impl Footprints {
         requires slot { IfSome slot (IsSpan self.now.sets) }
         requires frame { HasFrame frame footprint.old.items }
         requires other { HasOther self.now.sets slot footprint.old.items }
-        ensures { OnOk result (IsPut (is_free self.now.sets free) footprint.old.items footprint.new.items) }
+        requires sets { AreRows self.now.sets self.now.rows }
+        requires only { IsWithout (is_named_or_slot self.now.sets frame slot) footprint.old.items }
+        requires once { IsDistinct same footprint.old.items }
+        ensures put { OnOk result (IsPut (is_free self.now.sets free) footprint.old.items footprint.new.items) }
+        ensures once { OnOk result (IsDistinct same footprint.new.items) }
     {
         if let Some(span) = free {
             footprint.push(Resource::Free)?;
@@ -163,8 +182,10 @@ impl Footprints {
     }
 
     fn list_frame(footprint: &mut Vec<Resource>, frame: Option<u32>) -> Result<(), AllocError>
-        requires { IfSome frame (λ f. f < frame_limit) }
-        ensures { OnOk result (IsPut (is_named frame) footprint.old.items footprint.new.items) }
+        requires frame { IfSome frame (λ f. f < frame_limit) }
+        requires empty { footprint.old.items ≡ [] }
+        ensures put { OnOk result (IsPut (is_named frame) footprint.old.items footprint.new.items) }
+        ensures once { OnOk result (IsDistinct same footprint.new.items) }
     {
         if let Some(frame) = frame {
             footprint.push(frame_of(frame))?;
@@ -175,9 +196,10 @@ impl Footprints {
     /// What a call may touch.
     pub fn of(&self, alloc: Global, number: usize) -> Result<Vec<Resource>, Memory>
         requires { number < length self.now.rows }
-        ensures { IfOk result (λ footprint. (r : _) → is_wanted footprint.items r ≡ row_touches self.now.sets (row_at self.now number) r) }
+        ensures members { IfOk result (λ footprint. (r : _) → is_wanted footprint.items r ≡ row_touches self.now.sets (row_at self.now number) r) }
+        ensures once { IfOk result (λ footprint. IsDistinct same footprint.items) }
     {
-        let row = self.rows[number];
+        let row = self.row(number);
         let mut footprint = Vec::new(alloc);
         Footprints::list_frame(&mut footprint, row.frame)?;
         self.list_slot(&mut footprint, row.slot, row.frame)?;

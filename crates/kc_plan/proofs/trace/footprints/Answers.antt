@@ -31,7 +31,7 @@ of_walk-requires-clause-rows c =
     let count : length c.in_ok-walk.walk.rows.items ≡ length c.args.calls.now = (rw names at c.in_ok-walk.ensures.count) ∙ length_names config c.args.calls.now in
     rows_are c.args.core.now c.args.calls.now c.in_ok-pairs.pairs.items c.in_ok-pairs.ensures.owned c.in_ok-walk.walk.sets.items c.in_ok-walk.walk.rows.items
       (rw (slots, pairs, names) at c.in_ok-walk.ensures.rows) count c.config-config.ensures.lawful few_frames few_slots
-      (rw slots at c.in_ok-walk.ensures.size) (rw (slots, pairs, names) at c.in_ok-walk.ensures.sets)
+      (rw slots at c.in_ok-walk.ensures.size) (rw (slots, pairs, names) at c.in_ok-walk.ensures.sets) c.in_ok-walk.ensures.once
 
 pub of_walk-requires-clause-waves : goal.of_walk-requires-clause-waves
 of_walk-requires-clause-waves c = λ k low.

@@ -12,7 +12,8 @@ loop-place-preserved c =
     elim c.if-not-named.branch [
       | then-not-named+then-not-had+in_ok-push w ↦
           rw w.footprint-is
-            (listed_put sets c.args.span.principal c.loop-place.place c.args.frame c.args.other c.args.footprint.now.items c.loop-place.footprint.items _ c.in-Some.member here (rw w.frame_of.ensures at w.in_ok-push.ensures.items) c.loop-place.invariant)
+            (listed_put sets c.args.span.principal c.loop-place.place c.args.frame c.args.other c.args.footprint.now.items c.loop-place.footprint.items _ c.in-Some.member here (rw w.frame_of.ensures at w.in_ok-push.ensures.items)
+              (grind (arith, common_steps)) (grind (arith, common_steps)) c.requires.once (let l = c.requires.span.within in omega arith) c.loop-place.invariant)
       | else-not-named w ↦
           rw w.footprint-is
             (listed_skip sets c.args.span.principal c.loop-place.place c.args.frame c.args.other c.args.footprint.now.items c.loop-place.footprint.items c.in-Some.member here

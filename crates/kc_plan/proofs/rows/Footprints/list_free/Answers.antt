@@ -1,8 +1,15 @@
 use Rattle.kc_plan.specs.Rows.{IsSpan}
-use Rattle.kc_plan.proofs.Firsts.{free_put}
+use Rattle.kc_plan.proofs.Firsts.{free_put, free_once}
 use Rattle.kc_plan.proofs.rows.Footprints.list_free.Goals as goal
 
-pub returns-in_ok-list : goal.returns-in_ok-list
-returns-in_ok-list c =
+pub returns-in_ok-list-clause-put : goal.returns-in_ok-list-clause-put
+returns-in_ok-list-clause-put c =
     let span : IsSpan c.args.self.now.sets c.in-Some.span = rw c.in-Some.is at c.requires.free in
     rw c.in-Some.is (free_put c.args.self.now.sets c.in-Some.span c.args.frame c.args.slot c.args.footprint.now.items c.push.new.self.items c.list.new.footprint.items span c.requires.frame c.requires.other c.in_ok-push.ensures.items c.in_ok-list.ensures)
+
+pub returns-in_ok-list-clause-once : goal.returns-in_ok-list-clause-once
+returns-in_ok-list-clause-once c =
+    free_once c.args.self.now.sets c.in-Some.span c.args.frame c.args.slot c.args.footprint.now.items c.push.new.self.items c.list.new.footprint.items c.requires.only c.requires.once c.in_ok-push.ensures.items c.in_ok-list.ensures
+
+pub list-requires-clause-once : goal.list-requires-clause-once
+list-requires-clause-once c = c.requires.sets.once c.in-Some.span.principal

@@ -1,9 +1,17 @@
 use Rattle.kc_plan.specs.Rows.{IsSpan}
-use Rattle.kc_plan.proofs.Firsts.{slot_put}
+use Rattle.kc_plan.proofs.Firsts.{slot_put, slot_once}
 use Rattle.kc_plan.proofs.rows.Footprints.list_slot.Goals as goal
 
-pub returns-in_ok-list : goal.returns-in_ok-list
-returns-in_ok-list c =
+pub returns-in_ok-list-clause-put : goal.returns-in_ok-list-clause-put
+returns-in_ok-list-clause-put c =
     let span : IsSpan c.args.self.now.sets c.in-Some.span = rw c.in-Some.is at c.requires.slot in
     let pushed = rw c.slot_of.ensures at c.in_ok-push.ensures.items in
     rw c.in-Some.is (slot_put c.args.self.now.sets c.in-Some.span c.args.frame c.args.footprint.now.items c.push.new.self.items c.list.new.footprint.items span c.requires.frame pushed c.in_ok-list.ensures)
+
+pub returns-in_ok-list-clause-once : goal.returns-in_ok-list-clause-once
+returns-in_ok-list-clause-once c =
+    let pushed = rw c.slot_of.ensures at c.in_ok-push.ensures.items in
+    slot_once c.args.self.now.sets c.in-Some.span c.args.frame c.args.footprint.now.items c.push.new.self.items c.list.new.footprint.items c.requires.only c.requires.once pushed c.in_ok-list.ensures
+
+pub list-requires-clause-once : goal.list-requires-clause-once
+list-requires-clause-once c = c.requires.sets.once c.in-Some.span.principal
