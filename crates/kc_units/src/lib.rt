@@ -15,6 +15,8 @@ mod limits;
 #[cfg(test)]
 mod parts;
 #[cfg(test)]
+mod plans;
+#[cfg(test)]
 mod streams;
 #[cfg(test)]
 mod traces;
