@@ -28,45 +28,47 @@ differs v n low = grind (arith, nat_tests)
 pub at_below : (n x y : ℕ) → is_at (below n (Some x)) y ≡ (nat_lt x n && eqb x y)
 at_below n x y = by (nat_lt x n)
   where
-  by : (b : Bool) → is_at (cond b (Some x) None) y ≡ (b && eqb x y)
-  by true = refl
-  by false = refl
+    by : (b : Bool) → is_at (cond b (Some x) None) y ≡ (b && eqb x y)
+    by true = refl
+    by false = refl
 
 swapped : (n x y : ℕ) → (nat_lt x n && eqb x y) ≡ (eqb x y && nat_lt y n)
 swapped n x y = by (eqb x y) refl
   where
-  by : (b : Bool) → eqb x y ≡ b → (nat_lt x n && b) ≡ (b && nat_lt y n)
-  by true e = let same : x ≡ y = same_number x y e in subst (λ (z : ℕ). (nat_lt x n && true) ≡ nat_lt z n) same (true_and (nat_lt x n))
-    where
-    true_and : (b : Bool) → (b && true) ≡ b
-    true_and true = refl
-    true_and false = refl
-  by false e = and_false (nat_lt x n)
-    where
-    and_false : (b : Bool) → (b && false) ≡ false
-    and_false true = refl
-    and_false false = refl
+    by : (b : Bool) → eqb x y ≡ b → (nat_lt x n && b) ≡ (b && nat_lt y n)
+    by true e = let same : x ≡ y = same_number x y e in subst (λ (z : ℕ). (nat_lt x n && true) ≡ nat_lt z n) same (true_and (nat_lt x n))
+      where
+        true_and : (b : Bool) → (b && true) ≡ b
+        true_and true = refl
+        true_and false = refl
+    by false e = and_false (nat_lt x n)
+      where
+        and_false : (b : Bool) → (b && false) ≡ false
+        and_false true = refl
+        and_false false = refl
 
 -- where the second is below, the first needs no asking
 pub low_too : (n x y : ℕ) → y < n → (nat_lt x n && eqb x y) ≡ eqb x y
 low_too n x y low = swapped n x y ∙ by (eqb x y)
   where
-  is_low : nat_lt y n ≡ true
-  is_low = grind (arith, nat_tests)
-  by : (b : Bool) → (b && nat_lt y n) ≡ b
-  by true = is_low
-  by false = refl
+    is_low : nat_lt y n ≡ true
+    is_low = grind (arith, nat_tests)
+
+    by : (b : Bool) → (b && nat_lt y n) ≡ b
+    by true = is_low
+    by false = refl
 
 -- nothing below n is n
 pub not_past : (n : ℕ) (o : Option ℕ) → is_at (below n o) n ≡ false
 not_past n None = refl
 not_past n (Some x) = at_below n x n ∙ (swapped n x n ∙ by (eqb x n))
   where
-  is_past : nat_lt n n ≡ false
-  is_past = grind (arith, nat_tests)
-  by : (b : Bool) → (b && nat_lt n n) ≡ false
-  by true = is_past
-  by false = refl
+    is_past : nat_lt n n ≡ false
+    is_past = grind (arith, nat_tests)
+
+    by : (b : Bool) → (b && nat_lt n n) ≡ false
+    by true = is_past
+    by false = refl
 
 named_is : (n : ℕ) (call : Call) (f : ℕ) → is_at (below n (frame_of call)) f ≡ (names_frame call f && nat_lt f n)
 named_is n (Give g) f = at_below n g f ∙ swapped n g f
@@ -91,13 +93,12 @@ named_is n (Clear v) f = refl
 
 module _ (config : Configuration) (held : Owner → ℕ → Bool) (r : ℕ → ℕ → Bool)
     (same_slot : (v f : ℕ) → v < slot_count config → r v f ≡ held (owner.Vm v) f) (same_free : (f : ℕ) → r (slot_count config) f ≡ held owner.Free f) where
-
   slot_reach : (v f : ℕ) → reach_of r (below (slot_count config) (Some v)) f ≡ (nat_lt v (slot_count config) && held (owner.Vm v) f)
   slot_reach v f = by (nat_lt v (slot_count config)) refl
     where
-    by : (b : Bool) → nat_lt v (slot_count config) ≡ b → reach_of r (cond b (Some v) None) f ≡ (b && held (owner.Vm v) f)
-    by true e = same_slot v f (ltb-true v (slot_count config) e)
-    by false e = refl
+      by : (b : Bool) → nat_lt v (slot_count config) ≡ b → reach_of r (cond b (Some v) None) f ≡ (b && held (owner.Vm v) f)
+      by true e = same_slot v f (ltb-true v (slot_count config) e)
+      by false e = refl
 
   reach_is : (o : Option ℕ) (f : ℕ) → reach_of r (below (slot_count config) o) f ≡ of_slot config held o f
   reach_is None f = refl
@@ -161,29 +162,29 @@ module _ (config : Configuration) (held : Owner → ℕ → Bool) (r : ℕ → �
   frame_is call f = rw (named_is config.frames call f, reach_is (slot_of call) f, same_free f)
       (grouped (names_frame call f && nat_lt f config.frames) (of_slot config held (slot_of call) f) (uses_free call && held owner.Free f))
     where
-    grouped : (a b c : Bool) → (a || (b || c)) ≡ ((a || b) || c)
-    grouped true b c = refl
-    grouped false b c = refl
+      grouped : (a b c : Bool) → (a || (b || c)) ≡ ((a || b) || c)
+      grouped true b c = refl
+      grouped false b c = refl
 
   slot_is : (o : Option ℕ) (b : Bool) (v : ℕ) → v < slot_count config → (is_at (below (slot_count config) o) v || (b && eqb (slot_count config) v)) ≡ exists_slot config o v
   slot_is None b v low = rw (differs v (slot_count config) low) (and_false b)
     where
-    and_false : (b : Bool) → (b && false) ≡ false
-    and_false true = refl
-    and_false false = refl
+      and_false : (b : Bool) → (b && false) ≡ false
+      and_false true = refl
+      and_false false = refl
   slot_is (Some x) b v low = rw (at_below (slot_count config) x v, differs v (slot_count config) low) (with_false (nat_lt x (slot_count config) && eqb x v) b)
     where
-    with_false : (a b : Bool) → (a || (b && false)) ≡ a
-    with_false true b = refl
-    with_false false true = refl
-    with_false false false = refl
+      with_false : (a b : Bool) → (a || (b && false)) ≡ a
+      with_false true b = refl
+      with_false false true = refl
+      with_false false false = refl
 
   free_is : (o : Option ℕ) (b : Bool) → (is_at (below (slot_count config) o) (slot_count config) || (b && eqb (slot_count config) (slot_count config))) ≡ b
   free_is o b = rw (not_past (slot_count config) o, equal (slot_count config)) (and_true b)
     where
-    and_true : (b : Bool) → (b && true) ≡ b
-    and_true true = refl
-    and_true false = refl
+      and_true : (b : Bool) → (b && true) ≡ b
+      and_true true = refl
+      and_true false = refl
 
   exists_low : (o : Option ℕ) (v : ℕ) → exists_slot config o v ≡ true → v < slot_count config
   exists_low None v h = cc
@@ -205,19 +206,19 @@ module _ (config : Configuration) (held : Owner → ℕ → Bool) (r : ℕ → �
   back call (Frame f) h = sym (frame_is call f) ∙ h
   back call (Principal p) h = by (eqb (slot_count config) p) refl
     where
-    by : (b : Bool) → eqb (slot_count config) p ≡ b → touched config held call (cond b resource.Free (resource.Vm p)) ≡ true
-    by true e =
-        let same : slot_count config ≡ p = same_number (slot_count config) p e in
-        let here : names_principal (slot_count config) (names_of config call) (slot_count config) ≡ true = subst (λ (x : ℕ). names_principal (slot_count config) (names_of config call) x ≡ true) (sym same) h in
-        sym (free_is (slot_of call) (uses_free call)) ∙ here
-    by false e =
-        let at : is_at (below (slot_count config) (slot_of call)) p ≡ true = no_free (is_at (below (slot_count config) (slot_of call)) p) (uses_free call) (rw e at h) in
-        sym (slot_is (slot_of call) (uses_free call) p (at_low (slot_of call) p at)) ∙ h
-      where
-      no_free : (a b : Bool) → (a || (b && false)) ≡ true → a ≡ true
-      no_free true b h = refl
-      no_free false true h = cc
-      no_free false false h = cc
+      by : (b : Bool) → eqb (slot_count config) p ≡ b → touched config held call (cond b resource.Free (resource.Vm p)) ≡ true
+      by true e =
+          let same : slot_count config ≡ p = same_number (slot_count config) p e in
+          let here : names_principal (slot_count config) (names_of config call) (slot_count config) ≡ true = subst (λ (x : ℕ). names_principal (slot_count config) (names_of config call) x ≡ true) (sym same) h in
+          sym (free_is (slot_of call) (uses_free call)) ∙ here
+      by false e =
+          let at : is_at (below (slot_count config) (slot_of call)) p ≡ true = no_free (is_at (below (slot_count config) (slot_of call)) p) (uses_free call) (rw e at h) in
+          sym (slot_is (slot_of call) (uses_free call) p (at_low (slot_of call) p at)) ∙ h
+        where
+          no_free : (a b : Bool) → (a || (b && false)) ≡ true → a ≡ true
+          no_free true b h = refl
+          no_free false true h = cc
+          no_free false false h = cc
 
 pub names_are : (config : Configuration) (calls : List Call) (k : ℕ) → k < length calls → names_at (map (names_of config) calls) k ≡ names_of config (call_at calls k)
 names_are config [] k low = absurd (omega arith)
@@ -242,20 +243,20 @@ module _ (m : State) (calls : List Call) (pairs : List (ℕ × ℕ)) (owned : Is
       let is = names_are m.config calls k (omega arith) in
       record {
         by_slot = λ v f there.
-          rw (is, so_far.by_slot v f there)
+            rw (is, so_far.by_slot v f there)
             (ap (λ (x : Bool). model.reach m calls k (owner.Vm v) f || x)
-              (gains_slot m.config (model.reach m calls k) (reach (slot_count m.config) (has_pair pairs) (map (names_of m.config) calls) k) so_far.by_slot so_far.by_free (call_at calls k) v f there));
+            (gains_slot m.config (model.reach m calls k) (reach (slot_count m.config) (has_pair pairs) (map (names_of m.config) calls) k) so_far.by_slot so_far.by_free (call_at calls k) v f there));
         by_free = λ f.
-          rw (is, so_far.by_free f)
+            rw (is, so_far.by_free f)
             (ap (λ (x : Bool). model.reach m calls k owner.Free f || x)
-              (gains_free m.config (model.reach m calls k) (reach (slot_count m.config) (has_pair pairs) (map (names_of m.config) calls) k) so_far.by_slot so_far.by_free (call_at calls k) f))
+            (gains_free m.config (model.reach m calls k) (reach (slot_count m.config) (has_pair pairs) (map (names_of m.config) calls) k) so_far.by_slot so_far.by_free (call_at calls k) f));
       }
 
   pub touches_forth : (k : ℕ) (x : Resource) → k < length calls → footprint m calls k x ≡ true → touches (slot_count m.config) (has_pair pairs) (map (names_of m.config) calls) k (numbered (slot_count m.config) x) ≡ true
   touches_forth k x low h =
       let so_far = same_reach k (omega arith) in
       rw (names_are m.config calls k low)
-        (forth m.config (model.reach m calls k) (reach (slot_count m.config) (has_pair pairs) (map (names_of m.config) calls) k) so_far.by_slot so_far.by_free (call_at calls k) x h)
+      (forth m.config (model.reach m calls k) (reach (slot_count m.config) (has_pair pairs) (map (names_of m.config) calls) k) so_far.by_slot so_far.by_free (call_at calls k) x h)
 
   pub touches_back : (k : ℕ) (t : Numbered) → k < length calls → touches (slot_count m.config) (has_pair pairs) (map (names_of m.config) calls) k t ≡ true → footprint m calls k (resource_of (slot_count m.config) t) ≡ true
   touches_back k t low h =
@@ -268,8 +269,8 @@ module _ (m : State) (calls : List Call) (pairs : List (ℕ × ℕ)) (owned : Is
   carried wave k low it = record {
     above = λ j x before tj tk. it.above j (numbered (slot_count m.config) x) before (touches_forth j x (omega arith) tj) (touches_forth k x low tk);
     just =
-      elim it.just [
-        | inl first ↦ inl first
-        | inr later ↦ inr (later.0, resource_of (slot_count m.config) later.1, later.2, touches_back later.0 later.1 (let l = later.2 in omega arith) later.3, touches_back k later.1 low later.4, later.5)
-      ]
+        elim it.just [
+          | inl first ↦ inl first
+          | inr later ↦ inr (later.0, resource_of (slot_count m.config) later.1, later.2, touches_back later.0 later.1 (let l = later.2 in omega arith) later.3, touches_back k later.1 low later.4, later.5)
+        ];
   }

@@ -16,17 +16,17 @@ use Rattle.kc_plan.specs.Tracked.{Held, members_of, is_near, IsExact, IsRelated,
 added_by : (xs : List ℕ) (f : ℕ) (b : Bool) → is_in xs f ≡ b → (g : ℕ) → is_in (cond b xs (xs ++ f ∷ [])) g ≡ (is_in xs g || eqb f g)
 added_by xs f true has g = case (eqb f g) refl
   where
-  case : (b : Bool) → eqb f g ≡ b → is_in xs g ≡ (is_in xs g || eqb f g)
-  case true e = let is : f ≡ g = same_number f g e in let there : is_in xs g ≡ true = subst (λ (x : ℕ). is_in xs x ≡ true) is has in rw there refl
-  case false e = rw e (sym (or_false (is_in xs g)))
-    where
-    or_false : (a : Bool) → (a || false) ≡ a
-    or_false true = refl
-    or_false false = refl
+    case : (b : Bool) → eqb f g ≡ b → is_in xs g ≡ (is_in xs g || eqb f g)
+    case true e = let is : f ≡ g = same_number f g e in let there : is_in xs g ≡ true = subst (λ (x : ℕ). is_in xs x ≡ true) is has in rw there refl
+    case false e = rw e (sym (or_false (is_in xs g)))
+      where
+        or_false : (a : Bool) → (a || false) ≡ a
+        or_false true = refl
+        or_false false = refl
 added_by xs f false has g = list_any-append (eqb g) xs (f ∷ []) ∙ ap (λ (b : Bool). is_in xs g || b) (last f g)
   where
-  last : (f g : ℕ) → (eqb g f || false) ≡ eqb f g
-  last f g = grind (arith, nat_tests)
+    last : (f g : ℕ) → (eqb g f || false) ≡ eqb f g
+    last f g = grind (arith, nat_tests)
 
 is_in_added : (xs : List ℕ) (f g : ℕ) → is_in (added xs f) g ≡ (is_in xs g || eqb f g)
 is_in_added xs f g = added_by xs f (is_in xs f) refl g
@@ -34,26 +34,25 @@ is_in_added xs f g = added_by xs f (is_in xs f) refl g
 length_added : (xs : List ℕ) (f : ℕ) → length xs ≤ length (added xs f)
 length_added xs f = by (is_in xs f)
   where
-  by : (b : Bool) → length xs ≤ length (cond b xs (xs ++ f ∷ []))
-  by true = omega arith
-  by false = omega (arith, length-append xs (f ∷ []))
+    by : (b : Bool) → length xs ≤ length (cond b xs (xs ++ f ∷ []))
+    by true = omega arith
+    by false = omega (arith, length-append xs (f ∷ []))
 
 added_front : (xs : List ℕ) (f i : ℕ) → i < length xs → get_or (added xs f) i 0 ≡ get_or xs i 0
 added_front xs f i low = by (is_in xs f)
   where
-  by : (b : Bool) → get_or (cond b xs (xs ++ f ∷ [])) i 0 ≡ get_or xs i 0
-  by true = refl
-  by false = get_or_append_left xs (f ∷ []) 0 i low
+    by : (b : Bool) → get_or (cond b xs (xs ++ f ∷ [])) i 0 ≡ get_or xs i 0
+    by true = refl
+    by false = get_or_append_left xs (f ∷ []) 0 i low
 
 added_once : (xs : List ℕ) (f : ℕ) → IsDistinct eqb xs → IsDistinct eqb (added xs f)
 added_once xs f once = by (is_in xs f) refl
   where
-  by : (b : Bool) → is_in xs f ≡ b → IsDistinct eqb (cond b xs (xs ++ f ∷ []))
-  by true has = once
-  by false has = IsDistinct-push nat_eq_equiv xs f once has
+    by : (b : Bool) → is_in xs f ≡ b → IsDistinct eqb (cond b xs (xs ++ f ∷ []))
+    by true has = once
+    by false has = IsDistinct-push nat_eq_equiv xs f once has
 
 module _ (size free p f : ℕ) (a b : Held) (low : p < size) (free_low : free < size) (exact : IsExact size free a) (sets : b.sets ≡ set a.sets p (added (get_or a.sets p []) f)) where
-
   same_set : (q : ℕ) → q ≢ p → members_of b q ≡ members_of a q
   same_set q ne = rw sets (get_or-set_other a.sets p q (added (get_or a.sets p []) f) [] ne)
 
@@ -63,14 +62,15 @@ module _ (size free p f : ℕ) (a b : Held) (low : p < size) (free_low : free < 
   pub members_joined : (q g : ℕ) → is_in (members_of b q) g ≡ (is_in (members_of a q) g || (eqb p q && eqb f g))
   members_joined q g = by (eqb p q) refl
     where
-    or_false : (a : Bool) → a ≡ (a || false)
-    or_false true = refl
-    or_false false = refl
-    by : (e : Bool) → eqb p q ≡ e → is_in (members_of b q) g ≡ (is_in (members_of a q) g || (eqb p q && eqb f g))
-    by true e =
-        let is : p ≡ q = same_number p q e in
-        rw e (subst (λ (x : ℕ). is_in (members_of b x) g ≡ (is_in (members_of a x) g || eqb f g)) is (ap (λ (xs : List ℕ). is_in xs g) new_set ∙ is_in_added (members_of a p) f g))
-    by false e = rw e (ap (λ (xs : List ℕ). is_in xs g) (same_set q (λ is. let no : eqb p q ≡ true = rw is (equal p) in cc)) ∙ or_false (is_in (members_of a q) g))
+      or_false : (a : Bool) → a ≡ (a || false)
+      or_false true = refl
+      or_false false = refl
+
+      by : (e : Bool) → eqb p q ≡ e → is_in (members_of b q) g ≡ (is_in (members_of a q) g || (eqb p q && eqb f g))
+      by true e =
+          let is : p ≡ q = same_number p q e in
+          rw e (subst (λ (x : ℕ). is_in (members_of b x) g ≡ (is_in (members_of a x) g || eqb f g)) is (ap (λ (xs : List ℕ). is_in xs g) new_set ∙ is_in_added (members_of a p) f g))
+      by false e = rw e (ap (λ (xs : List ℕ). is_in xs g) (same_set q (λ is. let no : eqb p q ≡ true = rw is (equal p) in cc)) ∙ or_false (is_in (members_of a q) g))
 
   keeps : (q g : ℕ) → is_in (members_of a q) g ≡ true → is_in (members_of b q) g ≡ true
   keeps q g has = members_joined q g ∙ or_left (is_in (members_of a q) g) (eqb p q && eqb f g) has
@@ -88,28 +88,27 @@ module _ (size free p f : ℕ) (a b : Held) (low : p < size) (free_low : free < 
   each_once : (q : ℕ) → IsDistinct eqb (members_of b q)
   each_once q = by (eqb p q) refl
     where
-    by : (e : Bool) → eqb p q ≡ e → IsDistinct eqb (members_of b q)
-    by true e = subst (λ (x : ℕ). IsDistinct eqb (members_of b x)) (same_number p q e) (rw new_set (added_once (members_of a p) f (exact.once p)))
-    by false e = let s : members_of b q ≡ members_of a q = same_set q (λ is. let no : eqb p q ≡ true = rw is (equal p) in cc) in rw s (exact.once q)
+      by : (e : Bool) → eqb p q ≡ e → IsDistinct eqb (members_of b q)
+      by true e = subst (λ (x : ℕ). IsDistinct eqb (members_of b x)) (same_number p q e) (rw new_set (added_once (members_of a p) f (exact.once p)))
+      by false e = let s : members_of b q ≡ members_of a q = same_set q (λ is. let no : eqb p q ≡ true = rw is (equal p) in cc) in rw s (exact.once q)
 
   longer : (q : ℕ) → length (members_of a q) ≤ length (members_of b q)
   longer q = by (eqb p q) refl
     where
-    by : (e : Bool) → eqb p q ≡ e → length (members_of a q) ≤ length (members_of b q)
-    by true e = subst (λ (x : ℕ). length (members_of a x) ≤ length (members_of b x)) (same_number p q e) (rw new_set (length_added (members_of a p) f))
-    by false e = let s : members_of b q ≡ members_of a q = same_set q (λ is. let no : eqb p q ≡ true = rw is (equal p) in cc) in rw s (omega arith)
+      by : (e : Bool) → eqb p q ≡ e → length (members_of a q) ≤ length (members_of b q)
+      by true e = subst (λ (x : ℕ). length (members_of a x) ≤ length (members_of b x)) (same_number p q e) (rw new_set (length_added (members_of a p) f))
+      by false e = let s : members_of b q ≡ members_of a q = same_set q (λ is. let no : eqb p q ≡ true = rw is (equal p) in cc) in rw s (omega arith)
 
   front : (q i : ℕ) → i < length (members_of a q) → get_or (members_of b q) i 0 ≡ get_or (members_of a q) i 0
   front q i below = by (eqb p q) refl
     where
-    by : (e : Bool) → eqb p q ≡ e → get_or (members_of b q) i 0 ≡ get_or (members_of a q) i 0
-    by true e =
-        let is : q ≡ p = sym (same_number p q e) in
-        rw is (rw new_set (added_front (members_of a p) f i (subst (λ (x : ℕ). i < length (members_of a x)) is below)))
-    by false e = ap (λ (xs : List ℕ). get_or xs i 0) (same_set q (λ is. let no : eqb p q ≡ true = rw is (equal p) in cc))
+      by : (e : Bool) → eqb p q ≡ e → get_or (members_of b q) i 0 ≡ get_or (members_of a q) i 0
+      by true e =
+          let is : q ≡ p = sym (same_number p q e) in
+          rw is (rw new_set (added_front (members_of a p) f i (subst (λ (x : ℕ). i < length (members_of a x)) is below)))
+      by false e = ap (λ (xs : List ℕ). get_or xs i 0) (same_set q (λ is. let no : eqb p q ≡ true = rw is (equal p) in cc))
 
   module _ (m : Held) (between : m.sets ≡ b.sets) (near_before : m.near ≡ a.near) (freed_before : m.freed ≡ a.freed) (n : ℕ) (count : n ≡ size) (related : IsRelated n p f m b) where
-
     near_old : (q r : ℕ) → is_near a q r ≡ true → is_near b q r ≡ true
     near_old q r n = related.old q r (rw near_before n)
 
@@ -126,43 +125,43 @@ module _ (size free p f : ℕ) (a b : Held) (low : p < size) (free_low : free < 
       rows_len = λ q below. related.rows_len q ∙ ap (λ (x : List (List Bool)). length (get_or x q [])) near_before ∙ exact.rows_len q below;
       freed_len = ap (λ (x : List ℕ). length x) (related.freed ∙ freed_before) ∙ exact.freed_len;
       freed_in = λ q i below under.
-        let e : b.freed ≡ a.freed = related.freed ∙ freed_before in
-        let u : i < get_or a.freed q 0 = rw e at under in
-        let l = exact.freed_low q below in
-        rw (front q i (omega arith)) (keeps free (get_or (members_of a q) i 0) (exact.freed_in q i below u));
+          let e : b.freed ≡ a.freed = related.freed ∙ freed_before in
+          let u : i < get_or a.freed q 0 = rw e at under in
+          let l = exact.freed_low q below in
+          rw (front q i (omega arith)) (keeps free (get_or (members_of a q) i 0) (exact.freed_in q i below u));
       freed_low = λ q below.
-        let e : b.freed ≡ a.freed = related.freed ∙ freed_before in
-        let l = exact.freed_low q below in
-        let m = longer q in rw e (omega arith);
+          let e : b.freed ≡ a.freed = related.freed ∙ freed_before in
+          let l = exact.freed_low q below in
+          let m = longer q in rw e (omega arith);
       shared_or_same = λ q r bq br n.
-        elim (related.only q r n) [
-          | inl old ↦
-              (let o : is_near a q r ≡ true = rw near_before at old in
-              elim (exact.shared_or_same q r bq br o) [
-                | inl same ↦ inl same
-                | inr it ↦ inr (it.0, keeps q it.0 it.1, keeps r it.0 it.2)
-              ])
-          | inr new ↦
-              elim new [
-                | inl forth ↦ (let e : p ≡ q = sym forth.0 in inr (f, subst (λ (x : ℕ). is_in (members_of b x) f ≡ true) e has_new, has_after r forth.1))
-                | inr back ↦ (let e : p ≡ r = sym back.0 in inr (f, has_after q back.1, subst (λ (x : ℕ). is_in (members_of b x) f ≡ true) e has_new))
-              ]
-        ];
+          elim (related.only q r n) [
+            | inl old ↦
+                (let o : is_near a q r ≡ true = rw near_before at old in
+                elim (exact.shared_or_same q r bq br o) [
+                  | inl same ↦ inl same
+                  | inr it ↦ inr (it.0, keeps q it.0 it.1, keeps r it.0 it.2)
+                ])
+            | inr new ↦
+                elim new [
+                  | inl forth ↦ (let e : p ≡ q = sym forth.0 in inr (f, subst (λ (x : ℕ). is_in (members_of b x) f ≡ true) e has_new, has_after r forth.1))
+                  | inr back ↦ (let e : p ≡ r = sym back.0 in inr (f, has_after q back.1, subst (λ (x : ℕ). is_in (members_of b x) f ≡ true) e has_new))
+                ]
+          ];
       itself = λ q below. near_old q q (exact.itself q below);
       shared = λ q r g bq br hq hr.
-        elim (old_or_new q g hq) [
-          | inl oq ↦
-              elim (old_or_new r g hr) [
-                | inl or_old ↦ near_old q r (exact.shared q r g bq br oq or_old)
-                | inr new ↦
-                    (let has_f : is_in (members_of b q) f ≡ true = subst (λ (x : ℕ). is_in (members_of b q) x ≡ true) (sym new.1) hq in
-                    subst (λ (x : ℕ). is_near b q x ≡ true) new.0 (related.back q (rw count bq) (has_before q has_f)))
-              ]
-          | inr new ↦
-              (let has_f : is_in (members_of b r) f ≡ true = subst (λ (x : ℕ). is_in (members_of b r) x ≡ true) (sym new.1) hr in
-              subst (λ (x : ℕ). is_near b x r ≡ true) new.0 (related.there r (rw count br) (has_before r has_f)))
-        ];
-      once = each_once
+          elim (old_or_new q g hq) [
+            | inl oq ↦
+                elim (old_or_new r g hr) [
+                  | inl or_old ↦ near_old q r (exact.shared q r g bq br oq or_old)
+                  | inr new ↦
+                      (let has_f : is_in (members_of b q) f ≡ true = subst (λ (x : ℕ). is_in (members_of b q) x ≡ true) (sym new.1) hq in
+                      subst (λ (x : ℕ). is_near b q x ≡ true) new.0 (related.back q (rw count bq) (has_before q has_f)))
+                ]
+            | inr new ↦
+                (let has_f : is_in (members_of b r) f ≡ true = subst (λ (x : ℕ). is_in (members_of b r) x ≡ true) (sym new.1) hr in
+                subst (λ (x : ℕ). is_near b x r ≡ true) new.0 (related.there r (rw count br) (has_before r has_f)))
+          ];
+      once = each_once;
     }
 
 pub joined : (size free p f n : ℕ) (a m b : Held) → p < size → free < size → IsExact size free a → m.sets ≡ set a.sets p (added (get_or a.sets p []) f) → m.near ≡ a.near → m.freed ≡ a.freed
@@ -179,23 +178,23 @@ take_front (x ∷ xs) ys (suc n) low = let rest = take_front xs ys n (omega arit
 front_kept : (xs : List ℕ) (f n : ℕ) → n ≤ length xs → (n ≤ length (added xs f)) × (take n (added xs f) ≡ take n xs)
 front_kept xs f n low = by (is_in xs f)
   where
-  by : (b : Bool) → (n ≤ length (cond b xs (xs ++ f ∷ []))) × (take n (cond b xs (xs ++ f ∷ [])) ≡ take n xs)
-  by true = (low, refl)
-  by false = take_front xs (f ∷ []) n low
+    by : (b : Bool) → (n ≤ length (cond b xs (xs ++ f ∷ []))) × (take n (cond b xs (xs ++ f ∷ [])) ≡ take n xs)
+    by true = (low, refl)
+    by false = take_front xs (f ∷ []) n low
 
 -- a join puts the frame behind
 pub joined_grown : (size free p f : ℕ) (a b : Held) → p < size → IsExact size free a → IsJoined size free p f a b → IsGrown a b
 joined_grown size free p f a b low exact j q n under = by (eqb p q) refl
   where
-  by : (c : Bool) → eqb p q ≡ c → (n ≤ length (members_of b q)) × (take n (members_of b q) ≡ take n (members_of a q))
-  by true e =
-      let is : p ≡ q = same_number p q e in
-      let here : members_of b p ≡ added (members_of a p) f = ap (λ (xs : List (List ℕ)). get_or xs p []) j.sets ∙ get_or-set_same a.sets p (added (get_or a.sets p []) f) [] (let l = exact.sets_len in omega arith) in
-      let there : members_of b q ≡ added (members_of a q) f = subst (λ (x : ℕ). members_of b x ≡ added (members_of a x) f) is here in
-      rw there (front_kept (members_of a q) f n under)
-  by false e =
-      let there : members_of b q ≡ members_of a q = ap (λ (xs : List (List ℕ)). get_or xs q []) j.sets ∙ get_or-set_other a.sets p q (added (get_or a.sets p []) f) [] (λ (is : q ≡ p). let no : eqb p q ≡ true = rw is (equal p) in cc) in
-      rw there (under, refl)
+    by : (c : Bool) → eqb p q ≡ c → (n ≤ length (members_of b q)) × (take n (members_of b q) ≡ take n (members_of a q))
+    by true e =
+        let is : p ≡ q = same_number p q e in
+        let here : members_of b p ≡ added (members_of a p) f = ap (λ (xs : List (List ℕ)). get_or xs p []) j.sets ∙ get_or-set_same a.sets p (added (get_or a.sets p []) f) [] (let l = exact.sets_len in omega arith) in
+        let there : members_of b q ≡ added (members_of a q) f = subst (λ (x : ℕ). members_of b x ≡ added (members_of a x) f) is here in
+        rw there (front_kept (members_of a q) f n under)
+    by false e =
+        let there : members_of b q ≡ members_of a q = ap (λ (xs : List (List ℕ)). get_or xs q []) j.sets ∙ get_or-set_other a.sets p q (added (get_or a.sets p []) f) [] (λ (is : q ≡ p). let no : eqb p q ≡ true = rw is (equal p) in cc) in
+        rw there (under, refl)
 
 -- a join as a test
 pub joined_wider : (size free p f : ℕ) (a b : Held) → p < size → free < size → IsExact size free a → IsJoined size free p f a b → IsWider size free (λ q g. eqb p q && eqb f g) a b
@@ -219,29 +218,29 @@ freeing_more size free v n f a b c low free_low so_far is has j = record {
   slot_same = slot_stays size free v f b c low free_low so_far.exact j ∙ so_far.slot_same;
   keeps = λ q g h. keeps size free free f b c free_low free_low so_far.exact j.sets q g (so_far.keeps q g h);
   only = λ q g h.
-    elim (old_or_new size free free f b c free_low free_low so_far.exact j.sets q g h) [
-      | inl old ↦ so_far.only q g old
-      | inr new ↦ inr (new.0, subst (λ (x : ℕ). is_in (members_of a v) x ≡ true) new.1 has)
-    ];
+      elim (old_or_new size free free f b c free_low free_low so_far.exact j.sets q g h) [
+        | inl old ↦ so_far.only q g old
+        | inr new ↦ inr (new.0, subst (λ (x : ℕ). is_in (members_of a v) x ≡ true) new.1 has)
+      ];
   there = λ i below.
-    elim (cases_lt i n) [
-      | inl under ↦ keeps size free free f b c free_low free_low so_far.exact j.sets free (get_or (members_of a v) i 0) (so_far.there i under)
-      | inr past ↦ (let e : i ≡ n = omega arith in rw (e, is) (has_new size free free f b c free_low free_low so_far.exact j.sets))
-    ];
+      elim (cases_lt i n) [
+        | inl under ↦ keeps size free free f b c free_low free_low so_far.exact j.sets free (get_or (members_of a v) i 0) (so_far.there i under)
+        | inr past ↦ (let e : i ≡ n = omega arith in rw (e, is) (has_new size free free f b c free_low free_low so_far.exact j.sets))
+      ];
   grown = λ p m under.
-    let first = so_far.grown p m under in
-    let second = joined_grown size free free f b c free_low so_far.exact j p m first.0 in
-    (second.0, second.1 ∙ first.1)
+      let first = so_far.grown p m under in
+      let second = joined_grown size free free f b c free_low so_far.exact j p m first.0 in
+      (second.0, second.1 ∙ first.1);
 }
 
 in_place : (xs : List ℕ) (f : ℕ) → is_in xs f ≡ true → (i : ℕ) × (i < length xs) × (get_or xs i 0 ≡ f)
 in_place [] f h = cc
 in_place (x ∷ xs) f h = in_place_by x xs f (eqb f x) refl (in_place xs f) h
   where
-  in_place_by : (x : ℕ) (xs : List ℕ) (f : ℕ) (b : Bool) → eqb f x ≡ b → (is_in xs f ≡ true → (i : ℕ) × (i < length xs) × (get_or xs i 0 ≡ f))
-      → is_in (x ∷ xs) f ≡ true → (i : ℕ) × (i < length (x ∷ xs)) × (get_or (x ∷ xs) i 0 ≡ f)
-  in_place_by x xs f true e rest h = (0, omega arith, sym (same_number f x e))
-  in_place_by x xs f false e rest h = let later : is_in xs f ≡ true = rw e at h in let p = rest later in (suc p.0, omega arith, p.2)
+    in_place_by : (x : ℕ) (xs : List ℕ) (f : ℕ) (b : Bool) → eqb f x ≡ b → (is_in xs f ≡ true → (i : ℕ) × (i < length xs) × (get_or xs i 0 ≡ f))
+        → is_in (x ∷ xs) f ≡ true → (i : ℕ) × (i < length (x ∷ xs)) × (get_or (x ∷ xs) i 0 ≡ f)
+    in_place_by x xs f true e rest h = (0, omega arith, sym (same_number f x e))
+    in_place_by x xs f false e rest h = let later : is_in xs f ≡ true = rw e at h in let p = rest later in (suc p.0, omega arith, p.2)
 
 at_place : (xs : List ℕ) (i : ℕ) → i < length xs → is_in xs (get_or xs i 0) ≡ true
 at_place xs i low = list_any_at (eqb (get_or xs i 0)) xs i 0 low (equal (get_or xs i 0))
@@ -268,54 +267,60 @@ freed_all size free v n a b c low free_low before so_far all sets near freed = r
     shared_or_same = λ p q bp bq n. rw sets (so_far.exact.shared_or_same p q bp bq (rw near at n));
     itself = λ p bp. rw near (so_far.exact.itself p bp);
     shared = λ p q f bp bq hp hq. rw near (so_far.exact.shared p q f bp bq (rw sets at hp) (rw sets at hq));
-    once = λ p. rw sets (so_far.exact.once p)
+    once = λ p. rw sets (so_far.exact.once p);
   };
   sets = λ p f below.
-    same_true (is_in (members_of c p) f) (is_in (members_of a p) f || (eqb free p && is_in (members_of a v) f))
+      same_true (is_in (members_of c p) f) (is_in (members_of a p) f || (eqb free p && is_in (members_of a v) f))
       (λ h.
-        let has : is_in (members_of b p) f ≡ true = rw sets at h in
-        elim (so_far.only p f has) [
-          | inl old ↦ or_left (is_in (members_of a p) f) (eqb free p && is_in (members_of a v) f) old
-          | inr new ↦ or_right (is_in (members_of a p) f) (eqb free p && is_in (members_of a v) f) (both (eqb free p) (is_in (members_of a v) f) (rw new.0 (equal p)) new.1)
-        ])
+      let has : is_in (members_of b p) f ≡ true = rw sets at h in
+      elim (so_far.only p f has) [
+        | inl old ↦ or_left (is_in (members_of a p) f) (eqb free p && is_in (members_of a v) f) old
+        | inr new ↦ or_right (is_in (members_of a p) f) (eqb free p && is_in (members_of a v) f) (both (eqb free p) (is_in (members_of a v) f) (rw new.0 (equal p)) new.1)
+      ])
       (λ h.
-        rw sets
-          (elim (or_cases (is_in (members_of a p) f) (eqb free p && is_in (members_of a v) f) h) [
-            | inl old ↦ so_far.keeps p f old
-            | inr new ↦
-                (let e : free ≡ p = same_number free p (and_left (eqb free p) (is_in (members_of a v) f) new) in
-                let it = in_place (members_of a v) f (and_right (eqb free p) (is_in (members_of a v) f) new) in
-                let got : is_in (members_of b free) (get_or (members_of a v) it.0 0) ≡ true = so_far.there it.0 (let l = it.1 in omega arith) in
-                subst (λ (x : ℕ). is_in (members_of b x) f ≡ true) e (subst (λ (x : ℕ). is_in (members_of b free) x ≡ true) it.2 got))
-          ]));
-  grown = λ p m under. rw sets (so_far.grown p m under)
+      rw sets
+      (elim (or_cases (is_in (members_of a p) f) (eqb free p && is_in (members_of a v) f) h) [
+        | inl old ↦ so_far.keeps p f old
+        | inr new ↦
+            (let e : free ≡ p = same_number free p (and_left (eqb free p) (is_in (members_of a v) f) new) in
+            let it = in_place (members_of a v) f (and_right (eqb free p) (is_in (members_of a v) f) new) in
+            let got : is_in (members_of b free) (get_or (members_of a v) it.0 0) ≡ true = so_far.there it.0 (let l = it.1 in omega arith) in
+            subst (λ (x : ℕ). is_in (members_of b x) f ≡ true) e (subst (λ (x : ℕ). is_in (members_of b free) x ≡ true) it.2 got))
+      ]));
+  grown = λ p m under. rw sets (so_far.grown p m under);
 }
   where
-  Of : ℕ → Type 0
-  Of p = get_or c.freed p 0 ≤ length (members_of c p)
-  set_here : (p : ℕ) → v ≡ p → get_or c.freed p 0 ≡ length (members_of a v)
-  set_here p e = rw freed (subst (λ (x : ℕ). get_or (set b.freed v (length (members_of a v))) x 0 ≡ length (members_of a v)) e
-      (get_or-set_same b.freed v (length (members_of a v)) 0 (let l = so_far.exact.freed_len in omega arith)))
-  set_there : (p : ℕ) → (p ≡ v → ⊥) → get_or c.freed p 0 ≡ get_or b.freed p 0
-  set_there p ne = rw freed (get_or-set_other b.freed v p (length (members_of a v)) 0 ne)
-  not_v : (p : ℕ) → eqb v p ≡ false → p ≡ v → ⊥
-  not_v p e is = let no : eqb v p ≡ true = rw is (equal v) in cc
-  slot_c : members_of c v ≡ members_of a v
-  slot_c = rw sets so_far.slot_same
-  freed_low_by : (p : ℕ) → p < size → (e : Bool) → eqb v p ≡ e → get_or c.freed p 0 ≤ length (members_of c p)
-  freed_low_by p below true e =
-      let is : v ≡ p = same_number v p e in
-      let s = set_here p is in
-      let l : length (members_of c p) ≡ length (members_of a v) = subst (λ (x : ℕ). length (members_of c x) ≡ length (members_of a v)) is (ap (λ (xs : List ℕ). length xs) slot_c) in omega arith
-  freed_low_by p below false e =
-      let s = set_there p (not_v p e) in
-      let l = so_far.exact.freed_low p below in rw sets (omega arith)
-  freed_in_by : (p i : ℕ) → p < size → (e : Bool) → eqb v p ≡ e → i < get_or c.freed p 0 → is_in (members_of c free) (get_or (members_of c p) i 0) ≡ true
-  freed_in_by p i below true e under =
-      let is : v ≡ p = same_number v p e in
-      let s = set_here p is in
-      let got : is_in (members_of b free) (get_or (members_of a v) i 0) ≡ true = so_far.there i (omega arith) in
-      let there : is_in (members_of c free) (get_or (members_of c v) i 0) ≡ true = rw slot_c (rw sets got) in
-      subst (λ (x : ℕ). is_in (members_of c free) (get_or (members_of c x) i 0) ≡ true) is there
-  freed_in_by p i below false e under =
-      let s = set_there p (not_v p e) in rw sets (so_far.exact.freed_in p i below (omega arith))
+    Of : ℕ → Type 0
+    Of p = get_or c.freed p 0 ≤ length (members_of c p)
+
+    set_here : (p : ℕ) → v ≡ p → get_or c.freed p 0 ≡ length (members_of a v)
+    set_here p e = rw freed (subst (λ (x : ℕ). get_or (set b.freed v (length (members_of a v))) x 0 ≡ length (members_of a v)) e
+        (get_or-set_same b.freed v (length (members_of a v)) 0 (let l = so_far.exact.freed_len in omega arith)))
+
+    set_there : (p : ℕ) → (p ≡ v → ⊥) → get_or c.freed p 0 ≡ get_or b.freed p 0
+    set_there p ne = rw freed (get_or-set_other b.freed v p (length (members_of a v)) 0 ne)
+
+    not_v : (p : ℕ) → eqb v p ≡ false → p ≡ v → ⊥
+    not_v p e is = let no : eqb v p ≡ true = rw is (equal v) in cc
+
+    slot_c : members_of c v ≡ members_of a v
+    slot_c = rw sets so_far.slot_same
+
+    freed_low_by : (p : ℕ) → p < size → (e : Bool) → eqb v p ≡ e → get_or c.freed p 0 ≤ length (members_of c p)
+    freed_low_by p below true e =
+        let is : v ≡ p = same_number v p e in
+        let s = set_here p is in
+        let l : length (members_of c p) ≡ length (members_of a v) = subst (λ (x : ℕ). length (members_of c x) ≡ length (members_of a v)) is (ap (λ (xs : List ℕ). length xs) slot_c) in omega arith
+    freed_low_by p below false e =
+        let s = set_there p (not_v p e) in
+        let l = so_far.exact.freed_low p below in rw sets (omega arith)
+
+    freed_in_by : (p i : ℕ) → p < size → (e : Bool) → eqb v p ≡ e → i < get_or c.freed p 0 → is_in (members_of c free) (get_or (members_of c p) i 0) ≡ true
+    freed_in_by p i below true e under =
+        let is : v ≡ p = same_number v p e in
+        let s = set_here p is in
+        let got : is_in (members_of b free) (get_or (members_of a v) i 0) ≡ true = so_far.there i (omega arith) in
+        let there : is_in (members_of c free) (get_or (members_of c v) i 0) ≡ true = rw slot_c (rw sets got) in
+        subst (λ (x : ℕ). is_in (members_of c free) (get_or (members_of c x) i 0) ≡ true) is there
+    freed_in_by p i below false e under =
+        let s = set_there p (not_v p e) in rw sets (so_far.exact.freed_in p i below (omega arith))

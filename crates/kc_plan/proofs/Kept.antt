@@ -28,7 +28,7 @@ module _ (a b : Held) (grown : IsGrown a b) (size : length b.sets ≡ length a.s
     slot_low = is.slot_low;
     free_has = λ f. has_kept row.free f is.free_span ∙ is.free_has f;
     free_is = is.free_is;
-    free_span = span_kept row.free is.free_span
+    free_span = span_kept row.free is.free_span;
   }
 
 take_all : (xs : List ℕ) → take (length xs) xs ≡ xs
@@ -51,30 +51,36 @@ module _ (free : ℕ) (before : ℕ → ℕ → Bool) (sets : List (List ℕ)) (
     slot_low = slot_low n.slot low;
     free_has = λ f. free_has n.free f;
     free_is = free_is n.free;
-    free_span = free_span n.free
+    free_span = free_span n.free;
   }
     where
-    slot : (o : Option ℕ) → IfSome o (λ v. v < free) → (f : ℕ) → has_frame sets (option_map (span_of sets) o) f ≡ reach_of before o f
-    slot None low f = refl
-    slot (Some v) low f = span_is v f (omega arith)
-    slot_is : (o : Option ℕ) (v : ℕ) → is_of (option_map (span_of sets) o) v ≡ is_at o v
-    slot_is None v = refl
-    slot_is (Some w) v = refl
-    slot_span : (o : Option ℕ) → IfSome o (λ v. v < free) → IfSome (option_map (span_of sets) o) (IsSpan sets)
-    slot_span None low = tt
-    slot_span (Some v) low = span_there v (omega arith)
-    slot_low : (o : Option ℕ) → IfSome o (λ v. v < free) → IfSome (option_map (span_of sets) o) (λ s. s.principal < free)
-    slot_low None low = tt
-    slot_low (Some v) low = low
-    free_has : (c : Bool) (f : ℕ) → has_frame sets (if c then Some (span_of sets free) else None) f ≡ (c && before free f)
-    free_has true f = span_is free f (omega arith)
-    free_has false f = refl
-    free_is : (c : Bool) → is_some (if c then Some (span_of sets free) else None) ≡ c
-    free_is true = refl
-    free_is false = refl
-    free_span : (c : Bool) → IfSome (if c then Some (span_of sets free) else None) (IsSpan sets)
-    free_span true = span_there free (omega arith)
-    free_span false = tt
+      slot : (o : Option ℕ) → IfSome o (λ v. v < free) → (f : ℕ) → has_frame sets (option_map (span_of sets) o) f ≡ reach_of before o f
+      slot None low f = refl
+      slot (Some v) low f = span_is v f (omega arith)
+
+      slot_is : (o : Option ℕ) (v : ℕ) → is_of (option_map (span_of sets) o) v ≡ is_at o v
+      slot_is None v = refl
+      slot_is (Some w) v = refl
+
+      slot_span : (o : Option ℕ) → IfSome o (λ v. v < free) → IfSome (option_map (span_of sets) o) (IsSpan sets)
+      slot_span None low = tt
+      slot_span (Some v) low = span_there v (omega arith)
+
+      slot_low : (o : Option ℕ) → IfSome o (λ v. v < free) → IfSome (option_map (span_of sets) o) (λ s. s.principal < free)
+      slot_low None low = tt
+      slot_low (Some v) low = low
+
+      free_has : (c : Bool) (f : ℕ) → has_frame sets (if c then Some (span_of sets free) else None) f ≡ (c && before free f)
+      free_has true f = span_is free f (omega arith)
+      free_has false f = refl
+
+      free_is : (c : Bool) → is_some (if c then Some (span_of sets free) else None) ≡ c
+      free_is true = refl
+      free_is false = refl
+
+      free_span : (c : Bool) → IfSome (if c then Some (span_of sets free) else None) (IsSpan sets)
+      free_span true = span_there free (omega arith)
+      free_span false = tt
 
 last_row : (rows : List Row) (row d : Row) → get_or (rows ++ row ∷ []) (length rows) d ≡ row
 last_row [] row d = refl
@@ -87,17 +93,17 @@ pub rows_more : (free : ℕ) (start : ℕ → ℕ → Bool) (cs : List Names) (a
     → AreRowsOf free start cs a.sets rows → AreRowsOf free start cs b.sets more
 rows_more free start cs a b rows more n is low same size_a size_b grown pushed so_far = rw pushed each
   where
-  each : (k : ℕ) → k < length (rows ++ row_of a.sets free n ∷ []) → IsRowOf free (reach free start cs k) (names_at cs k) b.sets (get_or (rows ++ row_of a.sets free n ∷ []) k no_row)
-  each k under =
-      let len : length (rows ++ row_of a.sets free n ∷ []) ≡ length rows + 1 = length-append rows (row_of a.sets free n ∷ []) in
-      elim (cases_lt k (length rows)) [
-        | inl old ↦
-            (let e = get_or_append_left rows (row_of a.sets free n ∷ []) no_row k old in
-            rw e (row_kept a b grown (size_b ∙ sym size_a) free (reach free start cs k) (names_at cs k) (get_or rows k no_row) (so_far k old)))
-        | inr past ↦
-            (let e : length rows ≡ k = omega arith in
-            subst (λ (x : ℕ). IsRowOf free (reach free start cs x) (names_at cs x) b.sets (get_or (rows ++ row_of a.sets free n ∷ []) x no_row)) e
+    each : (k : ℕ) → k < length (rows ++ row_of a.sets free n ∷ []) → IsRowOf free (reach free start cs k) (names_at cs k) b.sets (get_or (rows ++ row_of a.sets free n ∷ []) k no_row)
+    each k under =
+        let len : length (rows ++ row_of a.sets free n ∷ []) ≡ length rows + 1 = length-append rows (row_of a.sets free n ∷ []) in
+        elim (cases_lt k (length rows)) [
+          | inl old ↦
+              (let e = get_or_append_left rows (row_of a.sets free n ∷ []) no_row k old in
+              rw e (row_kept a b grown (size_b ∙ sym size_a) free (reach free start cs k) (names_at cs k) (get_or rows k no_row) (so_far k old)))
+          | inr past ↦
+              (let e : length rows ≡ k = omega arith in
+              subst (λ (x : ℕ). IsRowOf free (reach free start cs x) (names_at cs x) b.sets (get_or (rows ++ row_of a.sets free n ∷ []) x no_row)) e
               (rw (last_row rows (row_of a.sets free n) no_row, sym is)
-                (row_kept a b grown (size_b ∙ sym size_a) free (reach free start cs (length rows)) n (row_of a.sets free n)
-                  (row_new free (reach free start cs (length rows)) a.sets same size_a n low))))
-      ]
+              (row_kept a b grown (size_b ∙ sym size_a) free (reach free start cs (length rows)) n (row_of a.sets free n)
+              (row_new free (reach free start cs (length rows)) a.sets same size_a n low))))
+        ]

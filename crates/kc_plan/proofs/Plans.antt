@@ -40,7 +40,7 @@ going_start frames free pairs cs h s started own all top = record {
     all_bound = λ j p low. absurd (omega arith);
     all_got = λ p. inl (rw all (replicas (free + 1) p 0));
     top_bound = λ j p r below low. absurd (omega arith);
-    top_got = λ p low. inl (rw top (replicas (free + 1) p 0))
+    top_got = λ p low. inl (rw top (replicas (free + 1) p 0));
   };
   sets = started.sets;
   exact = started.exact;
@@ -49,11 +49,10 @@ going_start frames free pairs cs h s started own all top = record {
   top_low = λ p low. let e : get_or s.top p 0 ≡ 0 = rw top (replicas (free + 1) p 0) in omega arith;
   own_len = rw own (length-replicate frames 0);
   all_len = rw all (length-replicate (free + 1) 0);
-  top_len = rw top (length-replicate (free + 1) 0)
+  top_len = rw top (length-replicate (free + 1) 0);
 }
 
 module _ (frames free : ℕ) (start : ℕ → ℕ → Bool) (cs : List Names) (range : (k : ℕ) → IsInRange frames free (names_at cs k)) where
-
   slot_below : (o : Option ℕ) (p : ℕ) → IfSome o (λ v. v < free) → is_at o p ≡ true → p < free
   slot_below None p low is = cc
   slot_below (Some v) p low is = let e : v ≡ p = same_number v p is in omega arith
@@ -66,7 +65,6 @@ module _ (frames free : ℕ) (start : ℕ → ℕ → Bool) (cs : List Names) (r
       ]
 
   module _ (k : ℕ) (h : Held) (sets : (p f : ℕ) → p < free + 1 → is_in (members_of h p) f ≡ reach free start cs k p f) where
-
     forth : (p f : ℕ) → p < free + 1 → is_in (members_of h p) f ≡ true → reach free start cs k p f ≡ true
     forth p f low has = sym (sets p f low) ∙ has
 
@@ -76,39 +74,39 @@ module _ (frames free : ℕ) (start : ℕ → ℕ → Bool) (cs : List Names) (r
     near_at : IsExact (free + 1) free h → IsNear (λ j f. is_at (names_at cs j).frame f) (λ j p. names_principal free (names_at cs j) p) (reach free start cs) (touches free start cs) (free + 1) k (is_near h)
     near_at exact = record {
       shared_or_same = λ p q bp bq n.
-        elim (exact.shared_or_same p q bp bq n) [
-          | inl same ↦ inl same
-          | inr it ↦ inr (it.0, forth p it.0 bp it.1, forth q it.0 bq it.2)
-        ];
+          elim (exact.shared_or_same p q bp bq n) [
+            | inl same ↦ inl same
+            | inr it ↦ inr (it.0, forth p it.0 bp it.1, forth q it.0 bq it.2)
+          ];
       itself = exact.itself;
-      shared = λ p q f bp bq hp hq. exact.shared p q f bp bq (back p f bp hp) (back q f bq hq)
+      shared = λ p q f bp bq hp hq. exact.shared p q f bp bq (back p f bp hp) (back q f bq hq);
     }
 
     found_at : (s : Stamps) (high : ℕ) → IsHigh (free + 1) free (names_at cs k) h s high
         → IsFound (λ j f. is_at (names_at cs j).frame f) (λ j p. names_principal free (names_at cs j) p) (reach free start cs) (touches free start cs) (free + 1) k high
-            (λ f. get_or s.own f 0) (λ p. get_or s.all p 0) (λ p. get_or s.top p 0)
+        (λ f. get_or s.own f 0) (λ p. get_or s.all p 0) (λ p. get_or s.top p 0)
     found_at s high found = record {
       named = found.named;
       had = λ f p is low has. found.had f p is low (back p f low has);
       whole = found.whole;
       got =
-        elim found.got [
-          | inl none ↦ inl none
-          | inr some ↦
-              inr (elim some [
-                | inl own ↦ inl own
-                | inr more ↦
-                    inr (elim more [
-                      | inl all ↦ inl (all.0, all.1, all.2, all.3, forth all.1 all.0 all.3 all.4, all.5)
-                      | inr top ↦ inr top
-                    ])
-              ])
-        ]
+          elim found.got [
+            | inl none ↦ inl none
+            | inr some ↦
+                inr (elim some [
+                  | inl own ↦ inl own
+                  | inr more ↦
+                      inr (elim more [
+                        | inl all ↦ inl (all.0, all.1, all.2, all.3, forth all.1 all.0 all.3 all.4, all.5)
+                        | inr top ↦ inr top
+                      ])
+                ])
+          ];
     }
 
     noted_at : (s t : Stamps) (w : ℕ) → IsWritten (free + 1) free (names_at cs k) w h s t
         → IsNoted (λ j f. is_at (names_at cs j).frame f) (λ j p. names_principal free (names_at cs j) p) (reach free start cs) (touches free start cs) (free + 1) k w (is_near h)
-            (λ f. get_or s.own f 0) (λ p. get_or s.all p 0) (λ p. get_or s.top p 0) (λ f. get_or t.own f 0) (λ p. get_or t.all p 0) (λ p. get_or t.top p 0)
+        (λ f. get_or s.own f 0) (λ p. get_or s.all p 0) (λ p. get_or s.top p 0) (λ f. get_or t.own f 0) (λ p. get_or t.all p 0) (λ p. get_or t.top p 0)
     noted_at s t w noted = record {
       own_is = noted.own_is;
       all_is = noted.all_is;
@@ -116,14 +114,17 @@ module _ (frames free : ℕ) (start : ℕ → ℕ → Bool) (cs : List Names) (r
       top_named = λ p f low is has. noted.top_named p f low is (back p f low has);
       top_near = noted.top_near;
       top_is = λ p low.
-        elim (noted.top_is p low) [
-          | inl same ↦ inl same
-          | inr new ↦
-              inr (new.0, (elim new.1 [
-                | inl it ↦ inl (it.0, it.1, forth p it.0 low it.2)
-                | inr it ↦ inr it
-              ]))
-        ]
+          elim (noted.top_is p low) [
+            | inl same ↦ inl same
+            | inr new ↦
+                inr (
+                  new.0,
+                  (elim new.1 [
+                    | inl it ↦ inl (it.0, it.1, forth p it.0 low it.2)
+                    | inr it ↦ inr it
+                  ]),
+                )
+          ];
     }
 
   cond_low : (b : Bool) (w x n : ℕ) → w ≤ n → x ≤ n → cond b w x ≤ n
@@ -153,59 +154,68 @@ module _ (frames free : ℕ) (start : ℕ → ℕ → Bool) (cs : List Names) (r
       → length t.own ≡ frames → length t.all ≡ free + 1 → length t.top ≡ free + 1 → IsGoing frames free start cs more g t
   going_more waves more h g s t n high is pushed going found_n written_n gained_n own_len all_len top_len = rw pushed record {
     planned = λ wave agrees k low.
-      let step : k ≤ length waves = let l : k < suc (length waves) = rw len at low in omega arith in
-      elim (eq-or-lt_of_le step) [
-        | inl same ↦ subst (λ (x : ℕ). ComesJustAfter (touches free start cs) wave x) (sym same) (just_at wave agrees)
-        | inr below ↦ going.planned wave (earlier wave agrees) k below
-      ];
+        let step : k ≤ length waves = let l : k < suc (length waves) = rw len at low in omega arith in
+        elim (eq-or-lt_of_le step) [
+          | inl same ↦ subst (λ (x : ℕ). ComesJustAfter (touches free start cs) wave x) (sym same) (just_at wave agrees)
+          | inr below ↦ going.planned wave (earlier wave agrees) k below
+        ];
     tracked = λ wave agrees.
-      rw len
+        rw len
         (one_more (λ j f. is_at (names_at cs j).frame f) (λ j p. names_principal free (names_at cs j) p) (reach free start cs) (touches free start cs) (the_shape free start cs)
-          wave (free + 1) (length waves) (suc high) (is_near h) (λ f. get_or s.own f 0) (λ p. get_or s.all p 0) (λ p. get_or s.top p 0)
-          (λ f. get_or t.own f 0) (λ p. get_or t.all p 0) (λ p. get_or t.top p 0) named_below
-          (going.tracked wave (earlier wave agrees)) (near_at (length waves) h going.sets going.exact) noted (just_at wave agrees) (last_is wave agrees));
+        wave (free + 1) (length waves) (suc high) (is_near h) (λ f. get_or s.own f 0) (λ p. get_or s.all p 0) (λ p. get_or s.top p 0)
+        (λ f. get_or t.own f 0) (λ p. get_or t.all p 0) (λ p. get_or t.top p 0) named_below
+        (going.tracked wave (earlier wave agrees)) (near_at (length waves) h going.sets going.exact) noted (just_at wave agrees) (last_is wave agrees));
     sets = λ p f low. rw len (sets_by p f low);
     exact = gained_n.exact;
     own_low = λ f. rw len (rw (written_n.own_is f) (cond_low _ (suc high) (get_or s.own f 0) (suc (length waves)) w_low (let l = going.own_low f in omega arith)));
     all_low = λ p. rw len (rw (written_n.all_is p) (cond_low _ (suc high) (get_or s.all p 0) (suc (length waves)) w_low (let l = going.all_low p in omega arith)));
     top_low = λ p low.
-      rw len
+        rw len
         (elim (written_n.top_is p low) [
           | inl same ↦ (let l = going.top_low p low in omega arith)
           | inr new ↦ (let e = new.0 in let l = w_low in omega arith)
         ]);
     own_len = own_len;
     all_len = all_len;
-    top_len = top_len
+    top_len = top_len;
   }
     where
-    len : length (waves ++ suc high ∷ []) ≡ suc (length waves)
-    len = length-append waves (suc high ∷ []) ∙ omega arith
-    w_low : suc high ≤ suc (length waves)
-    w_low = let l = high_low waves h s n (length waves) high is going found_n in omega arith
-    found : IsFound (λ j f. is_at (names_at cs j).frame f) (λ j p. names_principal free (names_at cs j) p) (reach free start cs) (touches free start cs) (free + 1) (length waves) high
-            (λ f. get_or s.own f 0) (λ p. get_or s.all p 0) (λ p. get_or s.top p 0)
-    found = found_at (length waves) h going.sets s high (subst (λ (x : Names). IsHigh (free + 1) free x h s high) is found_n)
-    noted : IsNoted (λ j f. is_at (names_at cs j).frame f) (λ j p. names_principal free (names_at cs j) p) (reach free start cs) (touches free start cs) (free + 1) (length waves) (suc high) (is_near h)
-            (λ f. get_or s.own f 0) (λ p. get_or s.all p 0) (λ p. get_or s.top p 0) (λ f. get_or t.own f 0) (λ p. get_or t.all p 0) (λ p. get_or t.top p 0)
-    noted = noted_at (length waves) h going.sets s t (suc high) (subst (λ (x : Names). IsWritten (free + 1) free x (suc high) h s t) is written_n)
-    earlier : (wave : ℕ → ℕ) → ((j : ℕ) → j < length (waves ++ suc high ∷ []) → wave j ≡ get_or (waves ++ suc high ∷ []) j 0) → (j : ℕ) → j < length waves → wave j ≡ get_or waves j 0
-    earlier wave agrees j low = agrees j (rw len (omega arith)) ∙ get_or_append_left waves (suc high ∷ []) 0 j low
-    last_is : (wave : ℕ → ℕ) → ((j : ℕ) → j < length (waves ++ suc high ∷ []) → wave j ≡ get_or (waves ++ suc high ∷ []) j 0) → wave (length waves) ≡ suc high
-    last_is wave agrees = agrees (length waves) (rw len (omega arith)) ∙ get_or_last waves (suc high)
-    just_at : (wave : ℕ → ℕ) → ((j : ℕ) → j < length (waves ++ suc high ∷ []) → wave j ≡ get_or (waves ++ suc high ∷ []) j 0) → ComesJustAfter (touches free start cs) wave (length waves)
-    just_at wave agrees =
-        just_after (λ j f. is_at (names_at cs j).frame f) (λ j p. names_principal free (names_at cs j) p) (reach free start cs) (touches free start cs) (the_shape free start cs)
+      len : length (waves ++ suc high ∷ []) ≡ suc (length waves)
+      len = length-append waves (suc high ∷ []) ∙ omega arith
+
+      w_low : suc high ≤ suc (length waves)
+      w_low = let l = high_low waves h s n (length waves) high is going found_n in omega arith
+
+      found : IsFound (λ j f. is_at (names_at cs j).frame f) (λ j p. names_principal free (names_at cs j) p) (reach free start cs) (touches free start cs) (free + 1) (length waves) high
+          (λ f. get_or s.own f 0) (λ p. get_or s.all p 0) (λ p. get_or s.top p 0)
+      found = found_at (length waves) h going.sets s high (subst (λ (x : Names). IsHigh (free + 1) free x h s high) is found_n)
+
+      noted : IsNoted (λ j f. is_at (names_at cs j).frame f) (λ j p. names_principal free (names_at cs j) p) (reach free start cs) (touches free start cs) (free + 1) (length waves) (suc high) (is_near h)
+          (λ f. get_or s.own f 0) (λ p. get_or s.all p 0) (λ p. get_or s.top p 0) (λ f. get_or t.own f 0) (λ p. get_or t.all p 0) (λ p. get_or t.top p 0)
+      noted = noted_at (length waves) h going.sets s t (suc high) (subst (λ (x : Names). IsWritten (free + 1) free x (suc high) h s t) is written_n)
+
+      earlier : (wave : ℕ → ℕ) → ((j : ℕ) → j < length (waves ++ suc high ∷ []) → wave j ≡ get_or (waves ++ suc high ∷ []) j 0) → (j : ℕ) → j < length waves → wave j ≡ get_or waves j 0
+      earlier wave agrees j low = agrees j (rw len (omega arith)) ∙ get_or_append_left waves (suc high ∷ []) 0 j low
+
+      last_is : (wave : ℕ → ℕ) → ((j : ℕ) → j < length (waves ++ suc high ∷ []) → wave j ≡ get_or (waves ++ suc high ∷ []) j 0) → wave (length waves) ≡ suc high
+      last_is wave agrees = agrees (length waves) (rw len (omega arith)) ∙ get_or_last waves (suc high)
+
+      just_at : (wave : ℕ → ℕ) → ((j : ℕ) → j < length (waves ++ suc high ∷ []) → wave j ≡ get_or (waves ++ suc high ∷ []) j 0) → ComesJustAfter (touches free start cs) wave (length waves)
+      just_at wave agrees =
+          just_after (λ j f. is_at (names_at cs j).frame f) (λ j p. names_principal free (names_at cs j) p) (reach free start cs) (touches free start cs) (the_shape free start cs)
           wave (free + 1) (length waves) high (λ f. get_or s.own f 0) (λ p. get_or s.all p 0) (λ p. get_or s.top p 0) named_below
           (going.tracked wave (earlier wave agrees)) found (last_is wave agrees)
-    gained : AreGained (free + 1) free (names_at cs (length waves)) h g
-    gained = subst (λ (x : Names). AreGained (free + 1) free x h g) is gained_n
-    same_reach : (o : Option ℕ) (f : ℕ) → IfSome o (λ v. v < free) → reach_of (λ q x. is_in (members_of h q) x) o f ≡ reach_of (reach free start cs (length waves)) o f
-    same_reach None f low = refl
-    same_reach (Some v) f low = going.sets v f (omega arith)
-    sets_by : (p f : ℕ) → p < free + 1 → is_in (members_of g p) f ≡ reach free start cs (suc (length waves)) p f
-    sets_by p f low =
-        gained.sets p f low ∙ rw (going.sets p f low)
+
+      gained : AreGained (free + 1) free (names_at cs (length waves)) h g
+      gained = subst (λ (x : Names). AreGained (free + 1) free x h g) is gained_n
+
+      same_reach : (o : Option ℕ) (f : ℕ) → IfSome o (λ v. v < free) → reach_of (λ q x. is_in (members_of h q) x) o f ≡ reach_of (reach free start cs (length waves)) o f
+      same_reach None f low = refl
+      same_reach (Some v) f low = going.sets v f (omega arith)
+
+      sets_by : (p f : ℕ) → p < free + 1 → is_in (members_of g p) f ≡ reach free start cs (suc (length waves)) p f
+      sets_by p f low =
+          gained.sets p f low ∙ rw (going.sets p f low)
           (ap (λ (x : Bool). reach free start cs (length waves) p f || x)
-            (gains_same free (λ q x. is_in (members_of h q) x) (reach free start cs (length waves)) (names_at cs (length waves)) (names_at cs (length waves)).gain p f
-              (same_reach (names_at cs (length waves)).slot f (range (length waves)).slot)))
+          (gains_same free (λ q x. is_in (members_of h q) x) (reach free start cs (length waves)) (names_at cs (length waves)) (names_at cs (length waves)).gain p f
+          (same_reach (names_at cs (length waves)).slot f (range (length waves)).slot)))

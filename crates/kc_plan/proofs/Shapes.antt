@@ -47,9 +47,9 @@ named_reach free r slot named p f h has =
           or_right (reach_of r slot f) (named && r free f) (both named (r free f) (and_left named (eqb free p) is) g)
     ]
   where
-  by_slot : (s : Option ℕ) → is_at s p ≡ true → reach_of r s f ≡ true
-  by_slot None h = cc
-  by_slot (Some v) h = let e : v ≡ p = same_number v p h in subst (λ (x : ℕ). r x f ≡ true) (sym e) has
+    by_slot : (s : Option ℕ) → is_at s p ≡ true → reach_of r s f ≡ true
+    by_slot None h = cc
+    by_slot (Some v) h = let e : v ≡ p = same_number v p h in subst (λ (x : ℕ). r x f ≡ true) (sym e) has
 
 pub equal : (a : ℕ) → eqb a a ≡ true
 equal a = grind (arith, nat_tests)
@@ -63,9 +63,9 @@ reach_named free r slot named f h =
       | inr is ↦ (free, or_right (is_at slot free) (named && eqb free free) (both named (eqb free free) (and_left named (r free f) is) (equal free)), and_right named (r free f) is)
     ]
   where
-  by_slot : (s : Option ℕ) → reach_of r s f ≡ true → (p : ℕ) × ((is_at s p || (named && eqb free p)) ≡ true) × (r p f ≡ true)
-  by_slot None h = cc
-  by_slot (Some v) h = (v, or_left (eqb v v) (named && eqb free v) (equal v), h)
+    by_slot : (s : Option ℕ) → reach_of r s f ≡ true → (p : ℕ) × ((is_at s p || (named && eqb free p)) ≡ true) × (r p f ≡ true)
+    by_slot None h = cc
+    by_slot (Some v) h = (v, or_left (eqb v v) (named && eqb free v) (equal v), h)
 
 gained : (free : ℕ) (r : ℕ → ℕ → Bool) (n : Names) (g : Gain) (p f : ℕ) → gains_by free r n g p f ≡ true
     → (names_principal free n p ≡ true) × (touched free r n (Frame f) ≡ true)
@@ -74,32 +74,31 @@ gained free r n SlotTakesFrame p f h =
     (or_left (is_at n.slot p) _ (and_left (is_at n.slot p) (is_at n.frame f) h), or_left (is_at n.frame f) _ (and_right (is_at n.slot p) (is_at n.frame f) h))
 gained free r n FreeTakesFrame p f h =
     (or_right (is_at n.slot p) (n.free && eqb free p) (and_left (n.free && eqb free p) (is_at n.frame f) h), or_left (is_at n.frame f) _ (and_right (n.free && eqb free p) (is_at n.frame f) h))
-gained free r n FreeTakesReach p f h =
-    (or_right (is_at n.slot p) (n.free && eqb free p) (and_left (n.free && eqb free p) (reach_of r n.slot f) h),
-      or_right (is_at n.frame f) (reach_of r n.slot f || (n.free && r free f)) (or_left (reach_of r n.slot f) (n.free && r free f) (and_right (n.free && eqb free p) (reach_of r n.slot f) h)))
+gained free r n FreeTakesReach p f h = (
+  or_right (is_at n.slot p) (n.free && eqb free p) (and_left (n.free && eqb free p) (reach_of r n.slot f) h),
+  or_right (is_at n.frame f) (reach_of r n.slot f || (n.free && r free f)) (or_left (reach_of r n.slot f) (n.free && r free f) (and_right (n.free && eqb free p) (reach_of r n.slot f) h)),
+)
 
 pub the_shape : (free : ℕ) (start : ℕ → ℕ → Bool) (cs : List Names)
     → Shape (λ k f. is_at (names_at cs k).frame f) (λ k p. names_principal free (names_at cs k) p) (reach free start cs) (touches free start cs)
 the_shape free start cs = record {
   by_name = λ k f h. or_left (is_at (names_at cs k).frame f) _ h;
   by_reach = λ k p f named has.
-    let n : Names = names_at cs k in
-    or_right (is_at n.frame f) (reach_of (reach free start cs k) n.slot f || (n.free && reach free start cs k free f)) (named_reach free (reach free start cs k) n.slot n.free p f named has);
+      let n : Names = names_at cs k in
+      or_right (is_at n.frame f) (reach_of (reach free start cs k) n.slot f || (n.free && reach free start cs k free f)) (named_reach free (reach free start cs k) n.slot n.free p f named has);
   by_self = λ k p named. named;
   self_named = λ k p named. named;
   named_or_reached = λ k f h.
-    let n : Names = names_at cs k in
-    elim (or_cases (is_at n.frame f) (reach_of (reach free start cs k) n.slot f || (n.free && reach free start cs k free f)) h) [
-      | inl named ↦ inl named
-      | inr reached ↦ inr (reach_named free (reach free start cs k) n.slot n.free f reached)
-    ];
+      let n : Names = names_at cs k in
+      elim (or_cases (is_at n.frame f) (reach_of (reach free start cs k) n.slot f || (n.free && reach free start cs k free f)) h) [
+        | inl named ↦ inl named
+        | inr reached ↦ inr (reach_named free (reach free start cs k) n.slot n.free f reached)
+      ];
   grows = λ k p f h.
-    let n : Names = names_at cs k in
-    elim (or_cases (reach free start cs k p f) (gains_by free (reach free start cs k) n n.gain p f) h) [
-      | inl old ↦ inl old
-      | inr new ↦ inr (gained free (reach free start cs k) n n.gain p f new)
-    ];
-  keeps = λ k p f h. or_left (reach free start cs k p f) _ h
+      let n : Names = names_at cs k in
+      elim (or_cases (reach free start cs k p f) (gains_by free (reach free start cs k) n n.gain p f) h) [
+        | inl old ↦ inl old
+        | inr new ↦ inr (gained free (reach free start cs k) n n.gain p f new)
+      ];
+  keeps = λ k p f h. or_left (reach free start cs k p f) _ h;
 }
-
-

@@ -7,7 +7,6 @@ use Rattle.kc_plan.specs.Tracks.{Shape, Has, IsNear, AreTracked, IsFound, IsNote
 
 module _ (names_frame names_principal : ℕ → ℕ → Bool) (reach : ℕ → ℕ → ℕ → Bool) (touches : ℕ → Numbered → Bool)
     (shape : Shape names_frame names_principal reach touches) where
-
   -- what a principal may have at a time it may have later
   later : (d k p f : ℕ) → reach k p f ≡ true → reach (d + k) p f ≡ true
   later zero k p f h = let e : 0 + k ≡ k = omega arith in rw e h
@@ -18,7 +17,6 @@ module _ (names_frame names_principal : ℕ → ℕ → Bool) (reach : ℕ → �
 
   module _ (wave : ℕ → ℕ) (size k high : ℕ) (own all top : ℕ → ℕ) (named_below : (j p : ℕ) → names_principal j p ≡ true → p < size)
       (tracked : AreTracked names_frame names_principal reach touches wave size k own all top) (found : IsFound names_frame names_principal reach touches size k high own all top) where
-
     below_by_name : (j f : ℕ) → j < k → touches j (Frame f) ≡ true → names_frame k f ≡ true
         → (names_frame j f ≡ true) ⊎ ((p : ℕ) × (names_principal j p ≡ true) × (reach j p f ≡ true)) → wave j ≤ high
     below_by_name j f low tj nk (inl named) = let a = tracked.own_bound j f low named in let b = found.named f nk in omega arith
@@ -49,37 +47,36 @@ module _ (names_frame names_principal : ℕ → ℕ → Bool) (reach : ℕ → �
     just_after is = record {
       above = λ j r low tj tk. let a = below j r low tj tk in omega arith;
       just =
-        elim found.got [
-          | inl none ↦ inl (omega arith)
-          | inr some ↦
-              elim some [
-                | inl by_own ↦
-                    elim (tracked.own_got by_own.0) [
-                      | inl zero_own ↦ inl (let e = by_own.2 in omega arith)
-                      | inr it ↦ inr (it.0, Frame by_own.0, it.1, shape.by_name it.0 by_own.0 it.2, shape.by_name k by_own.0 by_own.1, (let e = by_own.2 in let f = it.3 in omega arith))
-                    ]
-                | inr more ↦
-                    elim more [
-                      | inl by_all ↦
-                          elim (tracked.all_got by_all.1) [
-                            | inl zero_all ↦ inl (let e = by_all.5 in omega arith)
-                            | inr it ↦ inr (it.0, Frame by_all.0, it.1, it.3 by_all.0 by_all.4, shape.by_name k by_all.0 by_all.2, (let e = by_all.5 in let f = it.4 in omega arith))
-                          ]
-                      | inr by_top ↦
-                          elim (tracked.top_got by_top.0 (named_below k by_top.0 by_top.1)) [
-                            | inl zero_top ↦ inl (let e = by_top.2 in omega arith)
-                            | inr it ↦ inr (it.0, it.1, it.2, it.4, has_touched by_top.0 it.1 by_top.1 it.3, (let e = by_top.2 in let f = it.5 in omega arith))
-                          ]
-                    ]
-              ]
-        ]
+          elim found.got [
+            | inl none ↦ inl (omega arith)
+            | inr some ↦
+                elim some [
+                  | inl by_own ↦
+                      elim (tracked.own_got by_own.0) [
+                        | inl zero_own ↦ inl (let e = by_own.2 in omega arith)
+                        | inr it ↦ inr (it.0, Frame by_own.0, it.1, shape.by_name it.0 by_own.0 it.2, shape.by_name k by_own.0 by_own.1, (let e = by_own.2 in let f = it.3 in omega arith))
+                      ]
+                  | inr more ↦
+                      elim more [
+                        | inl by_all ↦
+                            elim (tracked.all_got by_all.1) [
+                              | inl zero_all ↦ inl (let e = by_all.5 in omega arith)
+                              | inr it ↦ inr (it.0, Frame by_all.0, it.1, it.3 by_all.0 by_all.4, shape.by_name k by_all.0 by_all.2, (let e = by_all.5 in let f = it.4 in omega arith))
+                            ]
+                        | inr by_top ↦
+                            elim (tracked.top_got by_top.0 (named_below k by_top.0 by_top.1)) [
+                              | inl zero_top ↦ inl (let e = by_top.2 in omega arith)
+                              | inr it ↦ inr (it.0, it.1, it.2, it.4, has_touched by_top.0 it.1 by_top.1 it.3, (let e = by_top.2 in let f = it.5 in omega arith))
+                            ]
+                      ]
+                ]
+          ];
     }
 
   module _ (wave : ℕ → ℕ) (size k w : ℕ) (near : ℕ → ℕ → Bool) (own all top own_after all_after top_after : ℕ → ℕ) (named_below : (j p : ℕ) → names_principal j p ≡ true → p < size)
       (tracked : AreTracked names_frame names_principal reach touches wave size k own all top) (is_near : IsNear names_frame names_principal reach touches size k near)
       (noted : IsNoted names_frame names_principal reach touches size k w near own all top own_after all_after top_after)
       (planned : ComesJustAfter touches wave k) (is : wave k ≡ w) where
-
     own_bound_by : (j f : ℕ) → j < suc k → names_frame j f ≡ true → (b : Bool) → names_frame k f ≡ b → wave j ≤ own_after f
     own_bound_by j f low nj b nk =
         let step : j ≤ k = omega arith in
@@ -91,13 +88,13 @@ module _ (names_frame names_principal : ℕ → ℕ → Bool) (reach : ℕ → �
           | inr below ↦ own_earlier j f below nj b nk
         ]
       where
-      own_earlier : (j f : ℕ) → j < k → names_frame j f ≡ true → (b : Bool) → names_frame k f ≡ b → wave j ≤ own_after f
-      own_earlier j f low nj true nk =
-          let e : own_after f ≡ w = noted.own_is f ∙ rw nk refl in
-          let x : wave j < wave k = planned.above j (Frame f) low (shape.by_name j f nj) (shape.by_name k f nk) in omega arith
-      own_earlier j f low nj false nk =
-          let e : own_after f ≡ own f = noted.own_is f ∙ rw nk refl in
-          let x : wave j ≤ own f = tracked.own_bound j f low nj in omega arith
+        own_earlier : (j f : ℕ) → j < k → names_frame j f ≡ true → (b : Bool) → names_frame k f ≡ b → wave j ≤ own_after f
+        own_earlier j f low nj true nk =
+            let e : own_after f ≡ w = noted.own_is f ∙ rw nk refl in
+            let x : wave j < wave k = planned.above j (Frame f) low (shape.by_name j f nj) (shape.by_name k f nk) in omega arith
+        own_earlier j f low nj false nk =
+            let e : own_after f ≡ own f = noted.own_is f ∙ rw nk refl in
+            let x : wave j ≤ own f = tracked.own_bound j f low nj in omega arith
 
     own_got_by : (f : ℕ) (b : Bool) → names_frame k f ≡ b → (own_after f ≡ 0) ⊎ ((j : ℕ) × (j < suc k) × (names_frame j f ≡ true) × (wave j ≡ own_after f))
     own_got_by f true nk = let e : own_after f ≡ w = noted.own_is f ∙ rw nk refl in inr (k, omega arith, nk, omega arith)
@@ -213,5 +210,5 @@ module _ (names_frame names_principal : ℕ → ℕ → Bool) (reach : ℕ → �
       all_bound = all_bound_by;
       all_got = λ p. all_got_by p (names_principal k p) refl;
       top_bound = top_bound_by;
-      top_got = top_got_by
+      top_got = top_got_by;
     }

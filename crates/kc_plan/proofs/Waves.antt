@@ -21,9 +21,9 @@ pub below_low : (n : ℕ) (o : Option ℕ) → IfSome (below n o) (λ x. x < n)
 below_low n None = tt
 below_low n (Some x) = by (nat_lt x n) refl
   where
-  by : (b : Bool) → nat_lt x n ≡ b → IfSome (cond b (Some x) None) (λ y. y < n)
-  by true e = grind (arith, nat_tests)
-  by false e = tt
+    by : (b : Bool) → nat_lt x n ≡ b → IfSome (cond b (Some x) None) (λ y. y < n)
+    by true e = grind (arith, nat_tests)
+    by false e = tt
 
 pub length_names : (config : Configuration) (calls : List Call) → length (map (names_of config) calls) ≡ length calls
 length_names config [] = refl
@@ -40,7 +40,7 @@ pub waves_are : (m : State) (calls : List Call) (pairs : List (ℕ × ℕ)) (wav
     → IsWaves m calls wave
 waves_are m calls pairs wave owned each =
     is_plan (footprint m calls) wave (λ k r. r) (length calls)
-      (λ k low. carried m calls pairs owned wave k low (each k (let e = length_names m.config calls in rw e low)))
+    (λ k low. carried m calls pairs owned wave k low (each k (let e = length_names m.config calls in rw e low)))
 
 -- waves count from 1
 pub waves_some : (m : State) (calls : List Call) (wave : ℕ → ℕ) → IsWaves m calls wave → (k : ℕ) → k < length calls → 0 < wave k

@@ -35,5 +35,5 @@ names_of config call = record {
   frame = below config.frames (frame_of call);
   slot = below (slot_count config) (slot_of call);
   free = uses_free call;
-  gain = gain_of call
+  gain = gain_of call;
 }

@@ -66,7 +66,7 @@ pub record IsLastOf (n f : ℕ) (h : Held) (s : Stamps) (high : ℕ) : Type 0 wh
 abbrev pub IsHigh : ℕ → ℕ → Names → Held → Stamps → ℕ → Type 0
 IsHigh size free n h s high =
     IsFound (λ k f. is_at n.frame f) (λ k p. names_principal free n p) (λ k p f. is_in (members_of h p) f) (λ k r. false) size 0 high
-      (λ f. get_or s.own f 0) (λ p. get_or s.all p 0) (λ p. get_or s.top p 0)
+    (λ f. get_or s.own f 0) (λ p. get_or s.all p 0) (λ p. get_or s.top p 0)
 
 -- the top waves of the first n principals are raised to w where the call touches them or what they may have
 pub record IsTop (n free w : ℕ) (names : Names) (h : Held) (before after : List ℕ) : Type 0 where
@@ -78,7 +78,7 @@ pub record IsTop (n free w : ℕ) (names : Names) (h : Held) (before after : Lis
 abbrev pub IsWritten : ℕ → ℕ → Names → ℕ → Held → Stamps → Stamps → Type 0
 IsWritten size free n w h s t =
     IsNoted (λ k f. is_at n.frame f) (λ k p. names_principal free n p) (λ k p f. is_in (members_of h p) f) (λ k r. false) size 0 w (is_near h)
-      (λ f. get_or s.own f 0) (λ p. get_or s.all p 0) (λ p. get_or s.top p 0) (λ f. get_or t.own f 0) (λ p. get_or t.all p 0) (λ p. get_or t.top p 0)
+    (λ f. get_or s.own f 0) (λ p. get_or s.all p 0) (λ p. get_or s.top p 0) (λ f. get_or t.own f 0) (λ p. get_or t.all p 0) (λ p. get_or t.top p 0)
 
 -- the principal p is related to each that may have the frame f, both ways
 pub record IsRelated (n p f : ℕ) (a b : Held) : Type 0 where
@@ -141,7 +141,7 @@ pub record IsGoing (frames free : ℕ) (start : ℕ → ℕ → Bool) (cs : List
   pub planned : (wave : ℕ → ℕ) → ((j : ℕ) → j < length waves → wave j ≡ get_or waves j 0) → (k : ℕ) → k < length waves → ComesJustAfter (touches free start cs) wave k
   pub tracked : (wave : ℕ → ℕ) → ((j : ℕ) → j < length waves → wave j ≡ get_or waves j 0)
       → AreTracked (λ k f. is_at (names_at cs k).frame f) (λ k p. names_principal free (names_at cs k) p) (reach free start cs) (touches free start cs) wave
-          (free + 1) (length waves) (λ f. get_or s.own f 0) (λ p. get_or s.all p 0) (λ p. get_or s.top p 0)
+      (free + 1) (length waves) (λ f. get_or s.own f 0) (λ p. get_or s.all p 0) (λ p. get_or s.top p 0)
   pub sets : (p f : ℕ) → p < free + 1 → is_in (members_of h p) f ≡ reach free start cs (length waves) p f
   pub exact : IsExact (free + 1) free h
   pub own_low : (f : ℕ) → get_or s.own f 0 ≤ length waves

@@ -5,7 +5,6 @@ use Rattle.kc_plan.specs.Reach.{Numbered, Frame, Principal}
 -- names_frame k f: call k names the frame f;  names_principal k p: it names the principal p;
 -- reach k p f: before call k the principal p may have the frame f;  touches k r: call k touches the resource r
 module _ (names_frame names_principal : ℕ → ℕ → Bool) (reach : ℕ → ℕ → ℕ → Bool) (touches : ℕ → Numbered → Bool) where
-
   -- how the four hang together
   pub record Shape : Type 0 where
     pub by_name : (k f : ℕ) → names_frame k f ≡ true → touches k (Frame f) ≡ true

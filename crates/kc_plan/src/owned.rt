@@ -26,7 +26,9 @@ pub(crate) fn owned_frames(alloc: Global, core: &KCore) -> Result<Vec<(usize, u3
     let slots = core.config().slots() as usize;
     let mut pairs = Vec::new(alloc);
     for frame in 0..core.config().frames() {
-        let Some(record) = core.page_record(frame) else { unreachable!() };
+        let Some(record) = core.page_record(frame) else {
+            unreachable!()
+        };
         if let Some(principal) = principal_of(record.owner, slots) {
             pairs.push((principal, frame))?;
         }

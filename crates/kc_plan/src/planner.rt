@@ -7,10 +7,10 @@ ghost use Rattle.kc_plan.specs.Reach.{is_in, reach, touches, names_at};
 ghost use Rattle.kc_plan.specs.Rows.{AreRowsOf};
 ghost use Rattle.kc_plan.specs.Tracked.{IsLastOf, IsHigh, IsWritten, IsExact, has_pair, IsInRange, wave_of, IsTop, set_at};
 
-use crate::rows::Row;
 use crate::names::Names;
 use crate::reach_set::ReachSet;
 use crate::reaches::{Reaches, start};
+use crate::rows::Row;
 use std::alloc::{AllocError, Global};
 use std::marker::Model;
 
@@ -41,7 +41,11 @@ fn larger(a: u32, b: u32) -> u32
 }
 
 impl Planner {
-    pub(crate) fn new(alloc: Global, frames: usize, principals: usize) -> Result<Planner, AllocError>
+    pub(crate) fn new(
+        alloc: Global,
+        frames: usize,
+        principals: usize,
+    ) -> Result<Planner, AllocError>
         ensures own { IfOk result (λ p. p.own ≡ replicate frames 0) }
         ensures all { IfOk result (λ p. p.all ≡ replicate principals 0) }
         ensures top { IfOk result (λ p. p.top ≡ replicate principals 0) }

@@ -30,7 +30,9 @@ impl ReachSet {
     pub(crate) fn new(alloc: Global) -> ReachSet
         ensures { result ≡ [] }
     {
-        ReachSet { members: IndexSet::new(alloc) }
+        ReachSet {
+            members: IndexSet::new(alloc),
+        }
     }
 
     pub(crate) fn len(&self) -> usize

@@ -4,9 +4,9 @@ ghost use Rattle.kc_plan.specs.Reach.{is_in, is_at, reach_of};
 ghost use Rattle.kc_plan.specs.Rows.{span_of, row_of};
 ghost use Rattle.kc_plan.specs.Tracked.{is_hit, members_of, IsExact, IsJoined, AreGained, IsStart, has_pair, IsRelated, AreFreed, IsWider};
 
-use crate::rows::{Row, Span};
 use crate::names::{Gain, Names};
 use crate::reach_set::ReachSet;
+use crate::rows::{Row, Span};
 use std::alloc::{AllocError, Global};
 use std::marker::Model;
 
@@ -28,7 +28,9 @@ impl Flags {
     pub(crate) fn new(alloc: Global, count: usize) -> Result<Flags, AllocError>
         ensures { IfOk result (λ f. f ≡ replicate count false) }
     {
-        Ok(Flags { flags: vec![in alloc; false; count]? })
+        Ok(Flags {
+            flags: vec![in alloc; false; count]?,
+        })
     }
 
     pub(crate) fn get(&self, number: usize) -> bool
@@ -120,7 +122,11 @@ impl Reaches {
             Some(slot) => Some(self.span(slot)),
             None => None,
         };
-        let free = if names.free { Some(self.span(free as u32)) } else { None };
+        let free = if names.free {
+            Some(self.span(free as u32))
+        } else {
+            None
+        };
         Row {
             frame: names.frame,
             slot,
@@ -129,7 +135,11 @@ impl Reaches {
     }
 
     /// With nothing in them: each principal is near itself alone.
-    pub(crate) fn empty(alloc: Global, principals: usize, free: usize) -> Result<Reaches, AllocError>
+    pub(crate) fn empty(
+        alloc: Global,
+        principals: usize,
+        free: usize,
+    ) -> Result<Reaches, AllocError>
         requires { free < principals }
         ensures { IfOk result (λ h. IsStart principals free [] h) }
     {
@@ -141,7 +151,11 @@ impl Reaches {
             near.push(row)?;
             sets.push(ReachSet::new(alloc))?;
         }
-        Ok(Reaches { sets, near, freed: vec![in alloc; 0usize; principals]? })
+        Ok(Reaches {
+            sets,
+            near,
+            freed: vec![in alloc; 0usize; principals]?,
+        })
     }
 
     /// Raises the relation of a principal to each that may have the frame, both ways.
@@ -160,7 +174,12 @@ impl Reaches {
     }
 
     /// Lets a principal have a frame.
-    pub(crate) fn join(&mut self, principal: usize, frame: u32, free: usize) -> Result<(), AllocError>
+    pub(crate) fn join(
+        &mut self,
+        principal: usize,
+        frame: u32,
+        free: usize,
+    ) -> Result<(), AllocError>
         requires principal { principal < length self.old.sets }
         requires free { free < length self.old.sets }
         requires exact { IsExact (length self.old.sets) free self.old }
@@ -180,7 +199,9 @@ impl Reaches {
     {
         let count = self.sets[slot].len();
         for place in self.freed[slot]..count {
-            let Some(frame) = self.sets[slot].at(place) else { unreachable!() };
+            let Some(frame) = self.sets[slot].at(place) else {
+                unreachable!()
+            };
             self.join(free, frame, free)?;
         }
         self.freed[slot] = count;
@@ -203,7 +224,12 @@ impl Reaches {
     }
 
     /// Lets a slot have a frame, where both are named.
-    pub(crate) fn join_named(&mut self, slot: Option<u32>, frame: Option<u32>, free: usize) -> Result<(), AllocError>
+    pub(crate) fn join_named(
+        &mut self,
+        slot: Option<u32>,
+        frame: Option<u32>,
+        free: usize,
+    ) -> Result<(), AllocError>
         requires free { free < length self.old.sets }
         requires slot { IfSome slot (λ v. v < free) }
         requires exact { IsExact (length self.old.sets) free self.old }
@@ -216,7 +242,12 @@ impl Reaches {
     }
 
     /// Lets the free list have a frame, where both are named.
-    pub(crate) fn join_free(&mut self, named: bool, frame: Option<u32>, free: usize) -> Result<(), AllocError>
+    pub(crate) fn join_free(
+        &mut self,
+        named: bool,
+        frame: Option<u32>,
+        free: usize,
+    ) -> Result<(), AllocError>
         requires free { free < length self.old.sets }
         requires exact { IsExact (length self.old.sets) free self.old }
         ensures { OnOk result (IsWider (length self.old.sets) free (λ p f. (named && eqb free p) && is_at frame f) self.old self.new) }
@@ -228,7 +259,12 @@ impl Reaches {
     }
 
     /// Lets the free list have what a slot may have, where both are named.
-    pub(crate) fn join_reach(&mut self, named: bool, slot: Option<u32>, free: usize) -> Result<(), AllocError>
+    pub(crate) fn join_reach(
+        &mut self,
+        named: bool,
+        slot: Option<u32>,
+        free: usize,
+    ) -> Result<(), AllocError>
         requires free { free < length self.old.sets }
         requires slot { IfSome slot (λ v. v < free) }
         requires exact { IsExact (length self.old.sets) free self.old }
@@ -242,7 +278,12 @@ impl Reaches {
 }
 
 /// What the principals may have at the start.
-pub(crate) fn start(alloc: Global, principals: usize, free: usize, pairs: &[(usize, u32)]) -> Result<Reaches, AllocError>
+pub(crate) fn start(
+    alloc: Global,
+    principals: usize,
+    free: usize,
+    pairs: &[(usize, u32)],
+) -> Result<Reaches, AllocError>
     requires free { free < principals }
     requires pairs { (i : ℕ) → i < length pairs.now → (get_or pairs.now i (0, 0)).0 < principals }
     ensures { IfOk result (λ h. IsStart principals free pairs.now h) }
@@ -253,4 +294,3 @@ pub(crate) fn start(alloc: Global, principals: usize, free: usize, pairs: &[(usi
     }
     Ok(reaches)
 }
-

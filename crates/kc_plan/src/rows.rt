@@ -59,7 +59,9 @@ fn frame_of(number: u32) -> Resource
     requires { number < frame_limit }
     ensures { result ≡ resource.Frame number }
 {
-    let Some(frame) = FrameNo::try_new(number) else { unreachable!() };
+    let Some(frame) = FrameNo::try_new(number) else {
+        unreachable!()
+    };
     Resource::Frame(frame)
 }
 
@@ -67,7 +69,9 @@ fn slot_of(number: u32) -> Resource
     requires { number < slot_limit }
     ensures { result ≡ resource.Vm number }
 {
-    let Some(vm) = VmId::try_new(number) else { unreachable!() };
+    let Some(vm) = VmId::try_new(number) else {
+        unreachable!()
+    };
     Resource::Vm(vm)
 }
 
@@ -126,7 +130,13 @@ impl Footprints {
     }
 
     /// Lists the first of what a principal may have, but for the frame and for what the other principal has.
-    fn list(&self, footprint: &mut Vec<Resource>, span: Span, frame: Option<u32>, other: Option<Span>) -> Result<(), AllocError>
+    fn list(
+        &self,
+        footprint: &mut Vec<Resource>,
+        span: Span,
+        frame: Option<u32>,
+        other: Option<Span>,
+    ) -> Result<(), AllocError>
         requires span { IsSpan self.now.sets span }
         requires other { IfSome other (IsSpan self.now.sets) }
         requires once { IsDistinct eqb (get_or self.now.sets span.principal []) }
@@ -134,7 +144,9 @@ impl Footprints {
     {
         let set = &self.sets[span.principal as usize];
         for place in 0..span.length {
-            let Some(member) = set.at(place) else { unreachable!() };
+            let Some(member) = set.at(place) else {
+                unreachable!()
+            };
             let named = is_frame(frame, member);
             let had = self.has(other, member);
             if !named && !had {
@@ -145,7 +157,12 @@ impl Footprints {
     }
 
     /// Lists a slot and the first of what it may have, where the frame is listed already.
-    fn list_slot(&self, footprint: &mut Vec<Resource>, slot: Option<Span>, frame: Option<u32>) -> Result<(), AllocError>
+    fn list_slot(
+        &self,
+        footprint: &mut Vec<Resource>,
+        slot: Option<Span>,
+        frame: Option<u32>,
+    ) -> Result<(), AllocError>
         requires slot { IfSome slot (IsSpan self.now.sets) }
         requires low { IfSome slot (λ s. s.principal < slot_limit) }
         requires frame { HasFrame frame footprint.old.items }
@@ -163,7 +180,13 @@ impl Footprints {
     }
 
     /// Lists the free list and the first of what it may have, where the frame is listed already, and what the slot may have.
-    fn list_free(&self, footprint: &mut Vec<Resource>, free: Option<Span>, frame: Option<u32>, slot: Option<Span>) -> Result<(), AllocError>
+    fn list_free(
+        &self,
+        footprint: &mut Vec<Resource>,
+        free: Option<Span>,
+        frame: Option<u32>,
+        slot: Option<Span>,
+    ) -> Result<(), AllocError>
         requires free { IfSome free (IsSpan self.now.sets) }
         requires slot { IfSome slot (IsSpan self.now.sets) }
         requires frame { HasFrame frame footprint.old.items }

@@ -3,10 +3,10 @@ ghost use Rattle.std.specs.Prelude.{◌≡◌, ℕ, ◌<◌, ◌^◌, length, If
 ghost use Rattle.kc_plan.specs.Footprints.{AreFootprints};
 ghost use Rattle.kc_plan.specs.Naming.{names_of};
 
-use crate::rows::Footprints;
 use crate::names::{Names, names_of};
 use crate::owned::owned_frames;
 use crate::planner::walk_calls;
+use crate::rows::Footprints;
 use kc_core::KCore;
 use kc_types::{Call, Config, Memory};
 use std::alloc::Global;

@@ -18,25 +18,25 @@ loop-names-preserved c =
     let found : IsHigh (c.args.free + 1) c.args.free n c.loop-names.reaches c.loop-names.planner high = rw going.top_len at c.highest-wave.ensures in
     let raw : IsWritten (length c.loop-names.planner.top) c.args.free n (high + 1) c.loop-names.reaches c.loop-names.planner c.note.new.self = c.note.ensures.written in
     let written : IsWritten (c.args.free + 1) c.args.free n (suc high) c.loop-names.reaches c.loop-names.planner c.note.new.self =
-      subst (λ (x : ℕ). IsWritten (c.args.free + 1) c.args.free n x c.loop-names.reaches c.loop-names.planner c.note.new.self) plus
-        (subst (λ (x : ℕ). IsWritten x c.args.free n (high + 1) c.loop-names.reaches c.loop-names.planner c.note.new.self) going.top_len raw) in
+    subst (λ (x : ℕ). IsWritten (c.args.free + 1) c.args.free n x c.loop-names.reaches c.loop-names.planner c.note.new.self) plus
+    (subst (λ (x : ℕ). IsWritten x c.args.free n (high + 1) c.loop-names.reaches c.loop-names.planner c.note.new.self) going.top_len raw) in
     let got : AreGained (length c.loop-names.reaches.sets) c.args.free n c.loop-names.reaches c.gain.new.self = c.in_ok-gain.ensures in
     let gained : AreGained (c.args.free + 1) c.args.free n c.loop-names.reaches c.gain.new.self =
-      subst (λ (x : ℕ). AreGained x c.args.free n c.loop-names.reaches c.gain.new.self) going.exact.sets_len got in
+    subst (λ (x : ℕ). AreGained x c.args.free n c.loop-names.reaches c.gain.new.self) going.exact.sets_len got in
     let is : n ≡ names_at c.args.calls.now (length waves) = ap (names_at c.args.calls.now) (sym len) in
     let range = in_range_all c.args.frames c.args.free c.args.calls.now c.requires.range in
     record {
       going = going_more c.args.frames c.args.free (has_pair c.args.pairs.now) c.args.calls.now range waves c.push.new.self.items c.loop-names.reaches c.gain.new.self
-        c.loop-names.planner c.note.new.self n high is pushed going found written gained
-        (c.note.ensures.own ∙ going.own_len) (c.note.ensures.all ∙ going.all_len) (c.note.ensures.top ∙ going.top_len);
+          c.loop-names.planner c.note.new.self n high is pushed going found written gained
+          (c.note.ensures.own ∙ going.own_len) (c.note.ensures.all ∙ going.all_len) (c.note.ensures.top ∙ going.top_len);
       len = rw pushed (length-append waves (suc high ∷ []) ∙ omega arith);
       rows = rows_more c.args.free (has_pair c.args.pairs.now) c.args.calls.now c.loop-names.reaches c.gain.new.self c.loop-names.rows.items c.push-in-loop-names.new.self.items n
-        (ap (names_at c.args.calls.now) (sym c.loop-names.invariant.count)) (in_range_all c.args.frames c.args.free c.args.calls.now c.requires.range c.loop-names.names-index).slot
-        (λ p f low. let same : length waves ≡ length c.loop-names.rows.items = len ∙ sym c.loop-names.invariant.count in
+          (ap (names_at c.args.calls.now) (sym c.loop-names.invariant.count)) (in_range_all c.args.frames c.args.free c.args.calls.now c.requires.range c.loop-names.names-index).slot
+          (λ p f low. let same : length waves ≡ length c.loop-names.rows.items = len ∙ sym c.loop-names.invariant.count in
           subst (λ (x : ℕ). is_in (members_of c.loop-names.reaches p) f ≡ reach c.args.free (has_pair c.args.pairs.now) c.args.calls.now x p f) same (going.sets p f low))
-        going.exact.sets_len gained.exact.sets_len gained.grown
-        (rw c.row-row.ensures at c.in_ok-push-2.ensures.items) c.loop-names.invariant.rows;
-      count = rw c.in_ok-push-2.ensures.items (length-append c.loop-names.rows.items (c.row-row.result ∷ []) ∙ (let e : length c.loop-names.rows.items ≡ c.loop-names.names-index = c.loop-names.invariant.count in omega arith))
+          going.exact.sets_len gained.exact.sets_len gained.grown
+          (rw c.row-row.ensures at c.in_ok-push-2.ensures.items) c.loop-names.invariant.rows;
+      count = rw c.in_ok-push-2.ensures.items (length-append c.loop-names.rows.items (c.row-row.result ∷ []) ∙ (let e : length c.loop-names.rows.items ≡ c.loop-names.names-index = c.loop-names.invariant.count in omega arith));
     }
 
 pub returns-clause-plan : goal.returns-clause-plan

@@ -14,7 +14,7 @@ walk_calls-requires-clause-range c = λ k low.
     let frames : c.frames.result ≡ config.frames = c.frames.ensures.value ∙ ap (λ (x : Configuration). x.frames) is in
     let slots : c.slots.result ≡ slot_count config = c.slots.ensures.value ∙ ap slot_count is in
     let names : c.as_slice-2.result.now ≡ map (names_of config) c.args.calls.now =
-      c.as_slice-2.ensures.value ∙ (c.in_ok-names.ensures ∙ ap (λ (x : Configuration). map (names_of x) c.args.calls.now) is) in
+    c.as_slice-2.ensures.value ∙ (c.in_ok-names.ensures ∙ ap (λ (x : Configuration). map (names_of x) c.args.calls.now) is) in
     rw (frames, slots, names) (names_range config c.args.calls.now k (rw names at low))
 
 pub of_walk-requires-clause-rows : goal.of_walk-requires-clause-rows
@@ -26,12 +26,12 @@ of_walk-requires-clause-rows c =
     let few_frames : config.frames ≤ frame_limit = rw frames at c.frames.ensures.few in
     let few_slots : slot_count config ≤ slot_limit = rw slots at c.slots.ensures.few in
     let names : c.as_slice-2.result.now ≡ map (names_of config) c.args.calls.now =
-      c.as_slice-2.ensures.value ∙ (c.in_ok-names.ensures ∙ ap (λ (x : Configuration). map (names_of x) c.args.calls.now) is) in
+    c.as_slice-2.ensures.value ∙ (c.in_ok-names.ensures ∙ ap (λ (x : Configuration). map (names_of x) c.args.calls.now) is) in
     let pairs : c.as_slice.result.now ≡ c.in_ok-pairs.pairs.items = c.as_slice.ensures.value in
     let count : length c.in_ok-walk.walk.rows.items ≡ length c.args.calls.now = (rw names at c.in_ok-walk.ensures.count) ∙ length_names config c.args.calls.now in
     rows_are c.args.core.now c.args.calls.now c.in_ok-pairs.pairs.items c.in_ok-pairs.ensures.owned c.in_ok-walk.walk.sets.items c.in_ok-walk.walk.rows.items
-      (rw (slots, pairs, names) at c.in_ok-walk.ensures.rows) count c.config-config.ensures.lawful few_frames few_slots
-      (rw slots at c.in_ok-walk.ensures.size) (rw (slots, pairs, names) at c.in_ok-walk.ensures.sets) c.in_ok-walk.ensures.once
+    (rw (slots, pairs, names) at c.in_ok-walk.ensures.rows) count c.config-config.ensures.lawful few_frames few_slots
+    (rw slots at c.in_ok-walk.ensures.size) (rw (slots, pairs, names) at c.in_ok-walk.ensures.sets) c.in_ok-walk.ensures.once
 
 pub of_walk-requires-clause-waves : goal.of_walk-requires-clause-waves
 of_walk-requires-clause-waves c = λ k low.
@@ -39,12 +39,12 @@ of_walk-requires-clause-waves c = λ k low.
     let is : c.config-config.result.now ≡ config = c.config-config.ensures.value in
     let slots : c.slots.result ≡ slot_count config = c.slots.ensures.value ∙ ap slot_count is in
     let names : c.as_slice-2.result.now ≡ map (names_of config) c.args.calls.now =
-      c.as_slice-2.ensures.value ∙ (c.in_ok-names.ensures ∙ ap (λ (x : Configuration). map (names_of x) c.args.calls.now) is) in
+    c.as_slice-2.ensures.value ∙ (c.in_ok-names.ensures ∙ ap (λ (x : Configuration). map (names_of x) c.args.calls.now) is) in
     let pairs : c.as_slice.result.now ≡ c.in_ok-pairs.pairs.items = c.as_slice.ensures.value in
     waves_some c.args.core.now c.args.calls.now (wave_of c.in_ok-walk.walk.waves.items)
-      (waves_are c.args.core.now c.args.calls.now c.in_ok-pairs.pairs.items (wave_of c.in_ok-walk.walk.waves.items) c.in_ok-pairs.ensures.owned
-        (rw (slots, pairs, names) at c.in_ok-walk.ensures.plan))
-      k (let len : length c.in_ok-walk.walk.waves.items ≡ length c.args.calls.now = (rw names at c.in_ok-walk.ensures.len) ∙ length_names config c.args.calls.now in rw len at low)
+    (waves_are c.args.core.now c.args.calls.now c.in_ok-pairs.pairs.items (wave_of c.in_ok-walk.walk.waves.items) c.in_ok-pairs.ensures.owned
+    (rw (slots, pairs, names) at c.in_ok-walk.ensures.plan))
+    k (let len : length c.in_ok-walk.walk.waves.items ≡ length c.args.calls.now = (rw names at c.in_ok-walk.ensures.len) ∙ length_names config c.args.calls.now in rw len at low)
 
 pub returns : goal.returns
 returns c =
@@ -52,18 +52,18 @@ returns c =
     let is : c.config-config.result.now ≡ config = c.config-config.ensures.value in
     let slots : c.slots.result ≡ slot_count config = c.slots.ensures.value ∙ ap slot_count is in
     let names : c.as_slice-2.result.now ≡ map (names_of config) c.args.calls.now =
-      c.as_slice-2.ensures.value ∙ (c.in_ok-names.ensures ∙ ap (λ (x : Configuration). map (names_of x) c.args.calls.now) is) in
+    c.as_slice-2.ensures.value ∙ (c.in_ok-names.ensures ∙ ap (λ (x : Configuration). map (names_of x) c.args.calls.now) is) in
     let pairs : c.as_slice.result.now ≡ c.in_ok-pairs.pairs.items = c.as_slice.ensures.value in
     let count : length c.in_ok-walk.walk.rows.items ≡ length c.args.calls.now = (rw names at c.in_ok-walk.ensures.count) ∙ length_names config c.args.calls.now in
     record {
       count = rw c.of_walk.ensures.rows count;
       touches = λ k r low.
-        rw (c.of_walk.ensures.sets, c.of_walk.ensures.rows)
+          rw (c.of_walk.ensures.sets, c.of_walk.ensures.rows)
           (row_touches_is c.args.core.now c.args.calls.now c.in_ok-pairs.pairs.items c.in_ok-pairs.ensures.owned c.in_ok-walk.walk.sets.items c.in_ok-walk.walk.rows.items
-            (rw (slots, pairs, names) at c.in_ok-walk.ensures.rows) count k r low);
+          (rw (slots, pairs, names) at c.in_ok-walk.ensures.rows) count k r low);
       waves_count = rw c.of_walk.ensures.waves ((rw names at c.in_ok-walk.ensures.len) ∙ length_names config c.args.calls.now);
       waves =
-        rw c.of_walk.ensures.waves
+          rw c.of_walk.ensures.waves
           (waves_are c.args.core.now c.args.calls.now c.in_ok-pairs.pairs.items (wave_of c.in_ok-walk.walk.waves.items) c.in_ok-pairs.ensures.owned
-            (rw (slots, pairs, names) at c.in_ok-walk.ensures.plan))
+          (rw (slots, pairs, names) at c.in_ok-walk.ensures.plan));
     }

@@ -5,5 +5,5 @@ abbrev pub invariant-loop-principal : goal.invariant-loop-principal
 invariant-loop-principal l = record {
   sets : l.sets.items ≡ replicate l.principal [];
   near : length l.near.items ≡ l.principal;
-  rows : (p : ℕ) → p < l.principal → get_or l.near.items p [] ≡ set (replicate l.principals false) p true
+  rows : (p : ℕ) → p < l.principal → get_or l.near.items p [] ≡ set (replicate l.principals false) p true;
 }

@@ -9,4 +9,4 @@ returns c =
     let inside = c.self.inside in
     let m : Held = record { sets = set inside.sets.items c.args.principal c.add.new.self; near = inside.near.items; freed = inside.freed.items } in
     joined (length c.args.self.now.sets) c.args.free c.args.principal c.args.frame (length m.sets) c.args.self.now m c.relate.new.self (search rules) (search rules) c.requires.exact
-      (grind (arith, common_steps)) (search rules) (search rules) (grind (arith, common_steps)) c.relate.ensures
+    (grind (arith, common_steps)) (search rules) (search rules) (grind (arith, common_steps)) c.relate.ensures

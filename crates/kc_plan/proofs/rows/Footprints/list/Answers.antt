@@ -8,18 +8,18 @@ pub loop-place-preserved : goal.loop-place-preserved
 loop-place-preserved c =
     let sets : List (List ℕ) = c.args.self.now.sets in
     let here : get_or (get_or sets c.args.span.principal []) c.loop-place.place 0 ≡ c.in-Some.member =
-      some_at (get_or sets c.args.span.principal []) c.loop-place.place c.in-Some.member (grind (arith, common_steps)) in
+    some_at (get_or sets c.args.span.principal []) c.loop-place.place c.in-Some.member (grind (arith, common_steps)) in
     elim c.if-not-named.branch [
       | then-not-named+then-not-had+in_ok-push w ↦
           rw w.footprint-is
-            (listed_put sets c.args.span.principal c.loop-place.place c.args.frame c.args.other c.args.footprint.now.items c.loop-place.footprint.items _ c.in-Some.member here (rw w.frame_of.ensures at w.in_ok-push.ensures.items)
-              (grind (arith, common_steps)) (grind (arith, common_steps)) c.requires.once (let l = c.requires.span.within in omega arith) c.loop-place.invariant)
+          (listed_put sets c.args.span.principal c.loop-place.place c.args.frame c.args.other c.args.footprint.now.items c.loop-place.footprint.items _ c.in-Some.member here (rw w.frame_of.ensures at w.in_ok-push.ensures.items)
+          (grind (arith, common_steps)) (grind (arith, common_steps)) c.requires.once (let l = c.requires.span.within in omega arith) c.loop-place.invariant)
       | else-not-named w ↦
           rw w.footprint-is
-            (listed_skip sets c.args.span.principal c.loop-place.place c.args.frame c.args.other c.args.footprint.now.items c.loop-place.footprint.items c.in-Some.member here
-              (elim w.else-not-named.branch [
-                | else-not-named-via-then-not-named+else-not-had v ↦ inr (grind (arith, common_steps))
-                | else-not-named-via-else-not-named v ↦ inl (grind (arith, common_steps))
-              ])
-              c.loop-place.invariant)
+          (listed_skip sets c.args.span.principal c.loop-place.place c.args.frame c.args.other c.args.footprint.now.items c.loop-place.footprint.items c.in-Some.member here
+          (elim w.else-not-named.branch [
+            | else-not-named-via-then-not-named+else-not-had v ↦ inr (grind (arith, common_steps))
+            | else-not-named-via-else-not-named v ↦ inl (grind (arith, common_steps))
+          ])
+          c.loop-place.invariant)
     ]
