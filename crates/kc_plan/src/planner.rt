@@ -18,6 +18,7 @@ use std::marker::Model;
 /// that touched a principal or what it may have.
 #[derive(Drop)]
 pub(crate) struct Planner {
+    // By frame; the others by principal. 0 is no wave.
     own: Vec<u32>,
     all: Vec<u32>,
     top: Vec<u32>,

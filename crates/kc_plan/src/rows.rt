@@ -216,7 +216,8 @@ impl Footprints {
         Ok(())
     }
 
-    /// What a call may touch.
+    /// What a call may touch, each member once, in no order to rely on. A call's number is its place in the trace, from 0.
+    /// `Memory` where a growth was refused.
     pub fn of(&self, alloc: Global, number: usize) -> Result<Vec<Resource>, Memory>
         requires { number < length self.now.rows }
         ensures members { IfOk result (λ footprint. (r : _) → is_wanted footprint.items r ≡ row_touches self.now.sets (row_at self.now number) r) }

@@ -22,7 +22,8 @@ fn names_of_all(alloc: Global, config: &Config, calls: &[Call]) -> Result<Vec<Na
     Ok(names)
 }
 
-/// What the calls of a trace may touch that starts from this core, and their waves, which count from 1.
+/// What the calls of a trace may touch that starts from this core, and their waves, which count from 1; `Memory` where
+/// a growth was refused.
 pub fn footprints(alloc: Global, core: &KCore, calls: &[Call]) -> Result<Footprints, Memory>
     requires { length calls.now < 2 ^ 32 }
     ensures { IfOk result (AreFootprints core.now calls.now) }
