@@ -1,6 +1,6 @@
 -- What principals may have before a call, and what calls touch: from names and the start alone.
 use Rattle.std.specs.Prelude.{ℕ, zero, suc, Bool, false, ◌&&◌, ◌||◌, eqb, List, get_or, Option, Some, None}
-use Rattle.std.specs.List.{list_any}
+pub use Rattle.kc_plan.specs.Members.{is_in}
 use Rattle.kc_plan.specs.declared.names.Gain.{Gain}
 use Rattle.kc_plan.specs.declared.names.Gain.TheVariants.{Nothing, SlotTakesFrame, FreeTakesFrame, FreeTakesReach}
 use Rattle.kc_plan.specs.declared.names.Names.{Names}
@@ -9,9 +9,6 @@ use Rattle.kc_plan.specs.declared.names.Names.{Names}
 pub data Numbered : Type 0 where
   Frame : ℕ → Numbered
   Principal : ℕ → Numbered
-
-abbrev pub is_in : List ℕ → ℕ → Bool
-is_in xs f = list_any (eqb f) xs
 
 abbrev pub is_at : Option ℕ → ℕ → Bool
 is_at None x = false
