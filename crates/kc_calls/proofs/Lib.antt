@@ -13,3 +13,4 @@ pub mod Drops
 pub mod Clears
 pub mod Sharing
 pub mod Reading
+pub mod Restricted

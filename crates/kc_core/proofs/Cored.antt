@@ -1,5 +1,5 @@
 -- A core keeps its parts whole, and calls find what they need in them.
-use Rattle.std.proofs.Common.{ℕ, ◌≡◌, ◌<◌, Bool, true, false, ◌&&◌, ◌||◌, nat_lt, nat_eq, Option, Some, None, is_some, Result, Ok, Err, OnOk, OnErr, refl, ap, ◌∙◌}
+use Rattle.std.proofs.Common.{ℕ, ◌≡◌, ◌<◌, Bool, true, false, ◌&&◌, ◌||◌, nat_lt, nat_eq, Option, Some, None, is_some, Result, Ok, Err, OnOk, OnErr, refl, sym, ap, ◌∙◌}
 use Rattle.std.proofs.lemmas.Bool.{ltb-true, eqb-true, and_parts}
 use Rattle.kc_types.specs.Configuration.{Configuration, slot_count}
 use Rattle.kc_types.specs.declared.call.Call.{Call}
@@ -73,9 +73,9 @@ core-kept config old new is lawful linked room = record {
   linked = linked;
   whole = record {
     numbers = room.numbers ∙ is.whole.numbers;
-    filled = room.filled ∙ is.whole.filled;
     frames = λ f low. room.here (resource.Frame f) ∙ is.whole.frames f low;
     vms = λ v low. room.here (resource.Vm v) ∙ is.whole.vms v low;
+    past = λ v some. is.whole.past v (sym (room.here (resource.Vm v)) ∙ some);
     free = room.here resource.Free ∙ is.whole.free;
   };
 }

@@ -24,26 +24,11 @@ use Rattle.kc_page.specs.Pages.{frame_of, IsRecordOf}
 use Rattle.kc_vms.specs.Slots.{VmSlot}
 use Rattle.kc_links.specs.Chain.{Links, IsLinked as IsLinkedFrom, first_or}
 use Rattle.kc_links.specs.Ending.{listed, IsList}
-use Rattle.kc_links.proofs.Times.{times-other}
+use Rattle.kc_links.proofs.Neighbours.{link_in-linked}
 use Rattle.kc_parts.specs.Held.{Held, page_at, vm_at, link_of, links_of}
 use Rattle.kc_parts.specs.States.{frame_in, slot_in, list_in, state_of}
 use Rattle.kc_parts.proofs.Seen.{frame-seen, slot-seen}
 use Rattle.kc_core.specs.Cores.{IsCore, shown, ShowsRecord}
-
--- a frame's link in a list is its link in the store
-link_in-linked : (links : Links) (before : Option ℕ) (fs : List ℕ) (f : ℕ) → IsLinkedFrom links before fs None → 0 < times_in fs f → links f ≡ Some (link_after before fs f)
-link_in-linked links before [] f linked some = absurd (omega (arith, some))
-link_in-linked links before (x ∷ xs) f linked some = elim (cases_eq x f) [
-  | inl same ↦ rw (eq-eqb x f same) (ap links (sym same) ∙ linked.0 ∙ ap (λ next. Some (linking before next)) (first-is xs))
-  | inr other ↦ rw (ne_eqb x f other) (link_in-linked links (Some x) xs f linked.1 (rw (times-other x xs f (λ e. other (sym e))) at some))
-]
-  where
-    linking : Option ℕ → Option ℕ → Link
-    linking prev next = record { prev = prev; next = next }
-
-    first-is : (xs : List ℕ) → first_or None xs ≡ first_of xs
-    first-is [] = refl
-    first-is (x ∷ xs) = refl
 
 one-of : (there : Bool) (n : ℕ) → there ≡ true → n ≡ cond there 1 0 → 0 < n
 one-of true n is e = omega (arith, e)

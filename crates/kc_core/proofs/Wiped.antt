@@ -81,9 +81,9 @@ module _ (config : Configuration) (h : Held) where
     };
     whole = record {
       numbers = is.whole.numbers;
-      filled = is.whole.filled;
       frames = λ f low. some-at f ∙ is.whole.frames f low;
       vms = is.whole.vms;
+      past = is.whole.past;
       free = is.whole.free;
     };
   }

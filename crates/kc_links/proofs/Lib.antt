@@ -4,3 +4,4 @@ pub mod Once
 pub mod Chains
 pub mod Steps
 pub mod Others
+pub mod Neighbours

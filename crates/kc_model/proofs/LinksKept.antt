@@ -21,7 +21,8 @@ pub record ListsAll (m : State) : Type 0 where
   pub free : (f : ℕ) → (frame_at m f).owner ≡ Free → is_in m.free f ≡ true
   pub slots : (v f : ℕ) → v < slot_count m.config → (frame_at m f).owner ≡ Vm v → is_in (slot_at m v).frames f ≡ true
 
-needs-free : (m : State) (call : Call) (f : ℕ) → uses_free call ≡ true → is_in m.free f ≡ true → need m call (resource.Frame f) ≡ true
+-- a call that needs the free list needs its frames, and one that needs a slot the slot's
+pub needs-free : (m : State) (call : Call) (f : ℕ) → uses_free call ≡ true → is_in m.free f ≡ true → need m call (resource.Frame f) ≡ true
 needs-free m call f uses listed = by_free (names_frame call f) (nat_lt f m.config.frames) (of_slot m.config (listed_in m) (slot_of call) f) (uses_free call && is_in m.free f) (and_from (uses_free call) (is_in m.free f) uses listed)
 
 of-named : (m : State) (named : Option ℕ) (v f : ℕ) → exists_slot m.config named v ≡ true → is_in (slot_at m v).frames f ≡ true → of_slot m.config (listed_in m) named f ≡ true
@@ -31,7 +32,7 @@ of-named m (Some w) v f names listed =
     let same : w ≡ v = eqb-true w v parts.1 in
     and_from (nat_lt w (slot_count m.config)) (is_in (slot_at m w).frames f) parts.0 (subst (λ x. is_in (slot_at m x).frames f ≡ true) (sym same) listed)
 
-needs-slot : (m : State) (call : Call) (v f : ℕ) → need m call (resource.Vm v) ≡ true → is_in (slot_at m v).frames f ≡ true → need m call (resource.Frame f) ≡ true
+pub needs-slot : (m : State) (call : Call) (v f : ℕ) → need m call (resource.Vm v) ≡ true → is_in (slot_at m v).frames f ≡ true → need m call (resource.Frame f) ≡ true
 needs-slot m call v f names listed = by_slot (names_frame call f) (nat_lt f m.config.frames) (of_slot m.config (listed_in m) (slot_of call) f) (uses_free call && is_in m.free f) (of-named m (slot_of call) v f names listed)
 
 low-named : (m : State) (named : Option ℕ) (v : ℕ) → exists_slot m.config named v ≡ true → v < slot_count m.config

@@ -1,10 +1,11 @@
 -- Blanks at the places that are not filled.
-use Rattle.std.proofs.Common.{ℕ, zero, suc, ◌≡◌, ◌<◌, inl, inr, Bool, true, false, cond, nat_eq, List, take, drop, [], ◌∷◌, ◌++◌, length, get_or, set, replicate, refl, sym, ◌∙◌, ap, arith, length-set, length-append, length-take, length-drop}
+use Rattle.std.proofs.Common.{map, ℕ, zero, suc, ◌≡◌, ◌<◌, inl, inr, Bool, true, false, cond, nat_eq, List, take, drop, [], ◌∷◌, ◌++◌, length, get_or, set, replicate, refl, sym, ◌∙◌, ap, arith, length-set, length-append, length-take, length-drop}
 use Rattle.std.specs.Prelude.{Some, None}
 use Rattle.std.proofs.lemmas.Bool.{cases_lt}
-use Rattle.std.proofs.lemmas.List.{get_or_past, get_or_default}
+use Rattle.std.proofs.lemmas.List.{get_or_past, get_or_default, length-map}
 use Rattle.std.proofs.lemmas.Option.{slice_get-get_or}
 use Rattle.kc_page.specs.declared.page.Page.{Page}
+use Rattle.kc_page.specs.Pages.{scrubbed_page}
 use Rattle.kc_parts.specs.Held.{Held, IsHeld, AreBlanks, blank_page, place_of, is_filled}
 use Rattle.kc_parts.specs.Cuts.{IsFull}
 use Rattle.kc_parts.specs.Moves.{page_among}
@@ -115,4 +116,19 @@ held-refilled h n ps held full is = record {
   here = held.here;
   pages = simp (length-take, length-append, length-drop) (omega (arith, is, held.pages));
   blanks = full-blanks h (take n (ps ++ drop (length ps) h.pages)) held full;
+}
+
+-- blanks have no bytes but zeros, so they stay blanks where all pages are scrubbed
+blank-scrubbed : (ps : List Page) (i : ℕ) → get_or ps i blank_page ≡ blank_page → get_or (map scrubbed_page ps) i blank_page ≡ blank_page
+blank-scrubbed [] i e = refl
+blank-scrubbed (p ∷ ps) zero e = ap scrubbed_page e
+blank-scrubbed (p ∷ ps) (suc i) e = blank-scrubbed ps i e
+
+pub held-scrubbed : (numbers : List ℕ) (filled : List Bool) (pages : List Page) → IsHeld numbers filled pages → IsHeld numbers filled (map scrubbed_page pages)
+held-scrubbed numbers filled pages is = record {
+  rising = is.rising;
+  frames = is.frames;
+  here = is.here;
+  pages = length-map pages scrubbed_page ∙ is.pages;
+  blanks = λ i e. blank-scrubbed pages i (is.blanks i e);
 }

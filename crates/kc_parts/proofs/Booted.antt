@@ -228,9 +228,12 @@ module _ (config : Configuration) (is : IsConfiguration config) where
   pub whole-boot : IsWhole config booted
   whole-boot = record {
     numbers = refl;
-    filled = refl;
     frames = λ f lt. ap is_some (page-boot f lt);
     vms = λ v lt. ap is_some (get_or-same (slot_count config) v (empty_vm config.leaves) lt);
+    past = λ v some. elim (cases_lt v (slot_count config)) [
+      | inl low ↦ low
+      | inr past ↦ let none : vm_at booted v ≡ None = get_or_past (replicate (slot_count config) (Some (empty_vm config.leaves))) v None (rw (length-replicate (slot_count config) (Some (empty_vm config.leaves))) past) in let no = rw none at some in cc
+    ];
     free = refl;
   }
 

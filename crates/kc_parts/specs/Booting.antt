@@ -32,10 +32,10 @@ boot_ends config = record {
   count = config.frames - first_free config;
 }
 
--- all that the configuration has is here, in the places of its numbers
+-- all that the configuration has is here, in the places of its numbers, and no slot past its last
 pub record IsWhole (config : Configuration) (h : Held) : Type 0 where
   pub numbers : h.numbers ≡ range_with_len 0 config.frames
-  pub filled : h.here ≡ replicate config.frames true
   pub frames : (f : ℕ) → f < config.frames → is_some (page_at h f) ≡ true
   pub vms : (v : ℕ) → v < slot_count config → is_some (vm_at h v) ≡ true
+  pub past : (v : ℕ) → is_some (vm_at h v) ≡ true → v < slot_count config
   pub free : is_some h.free ≡ true

@@ -6,3 +6,4 @@ pub mod Lending
 pub mod Cuts
 pub mod Moves
 pub mod Emptying
+pub mod Restricted

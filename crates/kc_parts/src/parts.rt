@@ -3,6 +3,7 @@ ghost use Rattle.std.specs.Prelude.{◌≡◌, ◌↔◌, ℕ, ◌<◌, IsTrue, 
 ghost use Rattle.std.specs.Option.{option_copied, option_copied_mut};
 ghost use Rattle.std.specs.Borrow.{sem};
 ghost use Rattle.kc_types.specs.declared.resource.Resource.TheVariants as resource;
+ghost use Rattle.kc_page.specs.Pages.{scrubbed_page};
 ghost use Rattle.kc_parts.specs.Held.{IsRising, place_of};
 
 use crate::Room;
@@ -10,7 +11,7 @@ use crate::blank::Blank;
 use crate::boot::{all_filled, all_numbers, boot_ends, boot_pages, boot_vms};
 use crate::slots::{lay_slots, move_slots};
 use crate::wanted::{empty_slots, slots_up_to, wanted_frames, wants_free};
-use kc_page::Page;
+use kc_page::{Page, scrub_each};
 use kc_types::{Config, Ends, FrameNo, Memory, Resource, VmId};
 use kc_vms::Vm;
 use std::alloc::Global;
@@ -189,6 +190,13 @@ impl Parts {
         ensures each { (i : ℕ) → i < length self.old.numbers → slice_get result.now i ≡ page_at self.old (get_or self.old.numbers i 0) }
     {
         self.pages.as_mut_slice()
+    }
+
+    /// Zeroes the bytes of all pages and changes nothing else.
+    pub fn wipe(&mut self)
+        ensures { self.new ≡ record self.old { pages = map scrubbed_page self.old.pages } }
+    {
+        scrub_each(self.pages.as_mut_slice());
     }
 
     /// Whether a resource is here.
