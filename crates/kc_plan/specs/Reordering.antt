@@ -1,12 +1,13 @@
 -- The calls of a trace in another order.
-use Rattle.std.specs.Prelude.{ℕ, ◌≡◌, false, List, [], ◌∷◌, All, length}
+use Rattle.std.specs.Prelude.{ℕ, ◌≡◌, Bool, false, List, [], ◌∷◌, All, length}
 use Rattle.kc_types.specs.declared.call.Call.{Call}
 use Rattle.kc_model.specs.State.{State}
 use Rattle.kc_model.specs.Lawful.{IsLawful}
 use Rattle.kc_model.specs.Ranged.{IsRanged}
+use Rattle.kc_model.specs.Resources.{need, IsWithin}
 use Rattle.kc_model.specs.Next.{next, state_after}
 use Rattle.kc_model.specs.Footprints.{call_at, reply_at, footprint}
-use Rattle.waves.specs.Reorder.{IsReordering, IsByWaves}
+use Rattle.waves.specs.Reorder.{IsDue, IsTaken, IsReordering, IsByWaves}
 use Rattle.kc_plan.specs.Commuting.{IsWaves}
 
 -- the store after the calls of these numbers, in this order
@@ -28,3 +29,8 @@ IsOrderFree = (m : State) (calls : List Call) (order : List ℕ) → IsLawful m 
 abbrev pub IsWaveOrderFree : Type 0
 IsWaveOrderFree = (m : State) (calls : List Call) (wave : ℕ → ℕ) (order : List ℕ) → IsLawful m → All IsRanged calls → IsWaves m calls wave → IsByWaves wave (length calls) (λ k. false) order
     → AnswersAlike m calls m order × (after_order calls m order ≡ state_after m calls)
+
+-- in the store that calls in such an order leave, a call that is due needs no more than its footprint
+abbrev pub IsReady : Type 0
+IsReady = (m : State) (calls : List Call) (order : List ℕ) (done : ℕ → Bool) (k : ℕ) → IsLawful m → All IsRanged calls → IsTaken (footprint m calls) (length calls) (λ j. false) order done → IsDue (footprint m calls) (length calls) done k
+    → IsWithin (need (after_order calls m order) (call_at calls k)) (footprint m calls k)

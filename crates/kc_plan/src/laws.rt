@@ -1,7 +1,7 @@
 //! Laws over the definitions alone.
 
 ghost use Rattle.kc_plan.specs.Commuting.{IsCommuting, IsCommutingLinked, HasNeeds, IsStepping};
-ghost use Rattle.kc_plan.specs.Reordering.{IsOrderFree, IsWaveOrderFree};
+ghost use Rattle.kc_plan.specs.Reordering.{IsReady, IsOrderFree, IsWaveOrderFree};
 
 /// What a call needs lies in its footprint.
 pub fn needs()
@@ -24,4 +24,9 @@ pub fn commuting()
 pub fn reordering()
     ensures any { IsOrderFree }
     ensures by_waves { IsWaveOrderFree }
+{}
+
+/// In the store before a wave each of its calls needs no more than its footprint.
+pub fn readiness()
+    ensures { IsReady }
 {}
