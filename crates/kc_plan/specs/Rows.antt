@@ -126,7 +126,3 @@ pub record IsRowOf (free : ℕ) (before : ℕ → ℕ → Bool) (n : Names) (set
 
 abbrev pub AreRowsOf : ℕ → (ℕ → ℕ → Bool) → List Names → List (List ℕ) → List Row → Type 0
 AreRowsOf free start cs sets rows = (k : ℕ) → k < length rows → IsRowOf free (reach free start cs k) (names_at cs k) sets (get_or rows k no_row)
-
--- waves count from 1
-abbrev pub AreCounted : List ℕ → Type 0
-AreCounted waves = (k : ℕ) → k < length waves → 0 < get_or waves k 0

@@ -17,9 +17,6 @@ pub record Stamps : Type 0 where
   pub all : List ℕ
   pub top : List ℕ
 
-abbrev pub wave_of : List ℕ → ℕ → ℕ
-wave_of waves k = get_or waves k 0
-
 abbrev pub members_of : Held → ℕ → List ℕ
 members_of h p = get_or h.sets p []
 

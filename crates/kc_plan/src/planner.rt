@@ -3,9 +3,10 @@ ghost use Rattle.std.specs.Prelude.{◌≡◌, ℕ, ◌+◌, ◌<◌, ◌≤◌,
 ghost use Rattle.std.specs.List.{IsDistinct};
 ghost use Rattle.std.specs.Prelude.{if◌then◌else◌};
 ghost use Rattle.waves.specs.Planned.{ComesJustAfter};
+ghost use Rattle.kc_plan.specs.Plans.{wave_of};
 ghost use Rattle.kc_plan.specs.Reach.{is_in, reach, touches, names_at};
 ghost use Rattle.kc_plan.specs.Rows.{AreRowsOf};
-ghost use Rattle.kc_plan.specs.Tracked.{IsLastOf, IsHigh, IsWritten, IsExact, has_pair, IsInRange, wave_of, IsTop, set_at};
+ghost use Rattle.kc_plan.specs.Tracked.{IsLastOf, IsHigh, IsWritten, IsExact, has_pair, IsInRange, IsTop, set_at};
 
 use crate::names::Names;
 use crate::reach_set::ReachSet;

@@ -5,7 +5,7 @@ ghost use Rattle.kc_types.specs.declared.resource.Resource.TheVariants as resour
 ghost use Rattle.std.specs.List.{IsDistinct};
 ghost use Rattle.kc_parts.specs.Cuts.{is_wanted, same};
 ghost use Rattle.kc_plan.specs.Reach.{is_at};
-ghost use Rattle.kc_plan.specs.Rows.{has_frame, row_touches, row_at, IsRow, IsSpan, IsListed, IsPut, HasFrame, HasOther, IsWithout, is_named_or_slot, AreRows, AreCounted, is_named, is_reached, is_slot, is_free};
+ghost use Rattle.kc_plan.specs.Rows.{has_frame, row_touches, row_at, IsRow, IsSpan, IsListed, IsPut, HasFrame, HasOther, IsWithout, is_named_or_slot, AreRows, is_named, is_reached, is_slot, is_free};
 
 use crate::planner::Walk;
 use crate::reach_set::ReachSet;
@@ -37,13 +37,13 @@ pub struct Footprints {
 }
 
 impl Model for Footprints {
-    ghost use Rattle.kc_plan.specs.Rows.{Rows, AreRows, AreCounted};
+    ghost use Rattle.kc_plan.specs.Rows.{Rows, AreRows};
 
     ghost Value = { Rows };
 
     ghost view = { λ f. record { sets = f.sets.items; rows = f.rows.items; waves = f.waves.items } };
 
-    ghost invariant = { λ f. AreRows f.sets.items f.rows.items × AreCounted f.waves.items };
+    ghost invariant = { λ f. AreRows f.sets.items f.rows.items };
 }
 
 fn is_frame(frame: Option<u32>, number: u32) -> bool
@@ -78,8 +78,7 @@ fn slot_of(number: u32) -> Resource
 impl Footprints {
     /// What a walk over the calls has found.
     pub(crate) fn of_walk(walk: Walk) -> Footprints
-        requires rows { AreRows walk.sets.items walk.rows.items }
-        requires waves { AreCounted walk.waves.items }
+        requires { AreRows walk.sets.items walk.rows.items }
         ensures sets { result.sets ≡ walk.sets.items }
         ensures rows { result.rows ≡ walk.rows.items }
         ensures waves { result.waves ≡ walk.waves.items }
@@ -93,8 +92,7 @@ impl Footprints {
 
     /// The wave of each call, from 1 on.
     pub(crate) fn waves(&self) -> &[u32]
-        ensures value { result.now ≡ self.now.waves }
-        ensures counted { AreCounted self.now.waves }
+        ensures { result.now ≡ self.now.waves }
     {
         self.waves.as_slice()
     }
