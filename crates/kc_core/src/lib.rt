@@ -6,3 +6,4 @@ mod one_thread;
 mod ranged;
 
 pub use one_thread::{KCore, RunStop};
+pub use ranged::read_all_numbers;

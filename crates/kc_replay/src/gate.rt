@@ -8,6 +8,11 @@ pub trait Gate {
 
     /// Runs just after call `number`, counted from 0 over all calls of the run.
     fn after(&self, number: usize);
+
+    /// Whether a call may have to wait for another call's. Where none does, a wave may be taken on one thread.
+    fn may_wait(&self) -> bool {
+        true
+    }
 }
 
 /// A gate that is always open: it does nothing.
@@ -18,4 +23,8 @@ impl Gate for OpenGate {
     fn before(&self, _number: usize) {}
 
     fn after(&self, _number: usize) {}
+
+    fn may_wait(&self) -> bool {
+        false
+    }
 }

@@ -1,6 +1,15 @@
-//! Workers that answer calls, and what runs around each call.
+//! The calls of a trace taken by workers, wave after wave, with what one thread gives that takes them in order.
 #![tactic(auto)]
 
+mod deal;
+mod fault;
 mod gate;
+mod lanes;
+mod task;
+mod trace;
+mod wave;
+mod work;
 
+pub use fault::ReplayFault;
 pub use gate::{Gate, OpenGate};
+pub use trace::{Outcome, replay};

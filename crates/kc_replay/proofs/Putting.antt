@@ -1,0 +1,238 @@
+-- What the calls of a wave left goes back into the store.
+use Rattle.std.proofs.Common.{ℕ, suc, ◌≡◌, ◌≢◌, ◌<◌, ◌≤◌, ◌+◌, ◌⊎◌, inl, inr, Bool, true, false, cond, nat_lt, List, [], ◌∷◌, ◌++◌, length, length-append, All, get_or, set, map, Option, Some, None, is_some, refl, sym, ap, ◌∙◌, subst, arith}
+use Rattle.std.specs.List.{AllZip, range_with_len, slice_get}
+use Rattle.std.specs.Option.{option_map}
+use Rattle.std.proofs.lemmas.Bool.{ltb-true, lt-ltb, cases_eq}
+use Rattle.std.proofs.lemmas.Option.{same_Some}
+use Rattle.std.proofs.lemmas.List.{get_or-set_same, get_or-set_other}
+use Rattle.kc_types.specs.declared.reply.Reply.{Reply}
+use Rattle.kc_types.specs.declared.reply.Reply.TheVariants.{Done}
+use Rattle.std.proofs.lemmas.List.FromFn.{get_or-range_with_len, length-range_with_len}
+use Rattle.kc_types.specs.Configuration.{Configuration, slot_count}
+use Rattle.kc_types.specs.declared.call.Call.{Call}
+use Rattle.kc_types.specs.declared.link.Ends.{Ends}
+use Rattle.kc_types.specs.declared.owner.Owner.{Owner}
+use Rattle.kc_types.specs.declared.owner.Owner.TheVariants.{Core, Host, Free, Vm}
+use Rattle.kc_types.specs.declared.resource.Resource.TheVariants as resource
+use Rattle.kc_model.specs.State.{State, frame_at, untouched, empty_slot, zero_page}
+use Rattle.kc_model.specs.Lawful.{IsLawful}
+use Rattle.kc_model.specs.Resources.{Resource, Resources, is_in, pick}
+use Rattle.kc_model.specs.Local.{cut}
+use Rattle.kc_model.specs.Links.{list_of}
+use Rattle.kc_model.specs.Linked.{LinkedPart, linked_part_of}
+use Rattle.kc_model.specs.Footprints.{state_at, reply_at}
+use Rattle.kc_model.proofs.LawfulTraces.{lawful-at}
+use Rattle.kc_page.specs.declared.page.Page.{Page}
+use Rattle.kc_page.specs.Pages.{scrubbed_page}
+use Rattle.kc_vms.specs.Slots.{VmSlot}
+use Rattle.kc_parts.specs.Cuts.{HeldPart, held_at, IsJoin, FitsInto}
+use Rattle.kc_parts.specs.Cuts.HeldPart.{page_part, slot_part, ends_part}
+use Rattle.kc_parts.specs.Held.{Held, IsRising, place_of, is_filled, page_at, vm_at}
+use Rattle.kc_parts.specs.States.{state_of, here_of, IsLinked}
+use Rattle.kc_parts.proofs.Places.{place-found, filled-at}
+use Rattle.kc_core.specs.Cores.{IsCore}
+use Rattle.kc_core.proofs.Wiped.{page-clean}
+use Rattle.kc_model.proofs.Changes.{exists}
+use Rattle.kc_parts.specs.Restricted.{seen_part, exists_in, IsRestricted, IsClosed}
+use Rattle.kc_replay.specs.Wave.{IsLeft, HasPlaces, HasNoBytes, down_from, calls_of, feet_at, IsWave, IsTaskAt, IsFinishedAt}
+use Rattle.kc_replay.specs.declared.task.Finished.{Finished}
+use Rattle.kc_model.proofs.Orderly.{owned-is}
+use Rattle.kc_parts.proofs.Restricting.{linked-cut, state-cut, here-is}
+use Rattle.kc_replay.proofs.Apart.{config-at, all-out, back}
+use Rattle.kc_replay.proofs.Taking.{out-earlier, out-all, wave-ranged, low-in, wave-length, range-more, able-at, finished-at}
+use Rattle.kc_replay.proofs.Zips.{zip_last, zip_get, zip_through}
+use Rattle.kc_replay.specs.Working.{IsTaskOf, Answers, AnswersAll}
+use Rattle.kc_replay.specs.declared.task.Task.{Task}
+
+seen-none : (there : Option HeldPart) → option_map seen_part there ≡ None → there ≡ None
+seen-none None e = refl
+seen-none (Some x) e = cc
+
+-- what is held is in the foot
+held-here : (b : Bool) (there : Option HeldPart) (x : HeldPart) (l : LinkedPart) → option_map seen_part there ≡ cond b (Some l) None → there ≡ Some x → b ≡ true
+held-here true there x l seen is = refl
+held-here false None x l seen is = cc
+held-here false (Some y) x l seen is = cc
+
+rising-range : (n : ℕ) → IsRising (range_with_len 0 n)
+rising-range n i j less within =
+    let low : j < n = rw (length-range_with_len 0 n) at within in
+    let first : get_or (range_with_len 0 n) i 0 ≡ i = get_or-range_with_len 0 n i 0 (omega (arith, less, low)) ∙ omega arith in
+    let second : get_or (range_with_len 0 n) j 0 ≡ j = get_or-range_with_len 0 n j 0 low ∙ omega arith in
+    omega (arith, first, second, less)
+
+place-low : (n f : ℕ) → f < n → place_of (range_with_len 0 n) f < length (range_with_len 0 n)
+place-low n f low =
+    let len = length-range_with_len 0 n in
+    let is : place_of (range_with_len 0 n) f ≡ f = place-found (range_with_len 0 n) f f (rising-range n) (rw len low) (get_or-range_with_len 0 n f 0 low ∙ omega arith) in
+    rw (is, len) low
+
+page-none : (there : Option Page) → option_map page_part there ≡ None → there ≡ None
+page-none None e = refl
+page-none (Some x) e = cc
+
+slot-none : (there : Option VmSlot) → option_map slot_part there ≡ None → there ≡ None
+slot-none None e = refl
+slot-none (Some x) e = cc
+
+ends-none : (there : Option Ends) → option_map ends_part there ≡ None → there ≡ None
+ends-none None e = refl
+ends-none (Some x) e = cc
+
+get-past : {X : Type 0} (xs : List X) → slice_get xs (length xs) ≡ None
+get-past [] = refl
+get-past (x ∷ xs) = get-past xs
+
+-- a listed frame exists
+listed-low : (m : State) → IsLawful m → (p : Owner) (f : ℕ) → is_in (list_of m p) f ≡ true → f < m.config.frames
+listed-low m is Core f inside = cc
+listed-low m is Host f inside = cc
+listed-low m is Free f inside = rw is.frames at (exists m f (λ core. let own : (frame_at m f).owner ≡ Free = owned-is m is Free f inside in let no = sym core ∙ own in cc))
+listed-low m is (Vm v) f inside = rw is.frames at (exists m f (λ core. let own : (frame_at m f).owner ≡ Vm v = owned-is m is (Vm v) f inside in let no = sym core ∙ own in cc))
+
+pick-whole : {X : Type 0} (test : ℕ → Bool) (d : X) (xs : List X) → ((i : ℕ) → i < length xs → test i ≡ true) → pick test d xs [] ≡ xs
+pick-whole test d [] all = refl
+pick-whole test d (x ∷ xs) all = rw (all 0 (omega arith), pick-whole (λ i. test (suc i)) d xs (λ i low. all (suc i) (omega (arith, low)))) refl
+
+-- the cut of all that there is is the state
+cut-whole : (m : State) → IsLawful m → cut m (exists_in m.config) ≡ m
+cut-whole m is = λ i. record {
+  config = m.config;
+  frames = pick-whole (λ f. nat_lt f m.config.frames) (untouched Core) m.frames (λ f low. lt-ltb f m.config.frames (rw is.frames at low)) i;
+  free = m.free;
+  slots = pick-whole (λ v. nat_lt v (slot_count m.config)) empty_slot m.slots (λ v low. lt-ltb v (slot_count m.config) (rw is.slots at low)) i;
+}
+
+module _ (m : State) (calls : List Call) (feet : ℕ → Resources) (members : List ℕ) (wave : IsWave m calls feet members) where
+  abbrev pub last : State
+  last = state_at m (calls_of calls members) (length (calls_of calls members))
+
+  -- all of the wave's calls are out
+  pub switched : (h : Held) → IsLeft m (feet_at feet members) (down_from (length members)) h → IsLeft (state_at m (calls_of calls members) (length (calls_of calls members))) (feet_at feet members) (down_from (length members)) h
+  switched h left =
+      all-out m (calls_of calls members) (feet_at feet members) wave.lawful (wave-ranged m calls feet members wave) wave.feet_are (down_from (length members)) h
+      (λ k r low e. out-all m (calls_of calls members) (feet_at feet members) wave.feet_are (length members) k r (let l = low in let n = wave-length calls members in omega (arith, l, n)) e) left
+
+  module _ (i : ℕ) (h : Held) (done : Finished) (low : i < length members) (left : IsLeft (state_at m (calls_of calls members) (length (calls_of calls members))) (feet_at feet members) (down_from (i + 1)) h) (at : IsFinishedAt m calls feet members i done) where
+    -- what is held of a call's parts is not in the store
+    absent : (r : Resource) → feet_at feet members i r ≡ true → held_at h r ≡ None
+    absent r e = seen-none (held_at h r) (left.parts r ∙ ap (λ b. cond b None (cond (exists_in (state_at m (calls_of calls members) (length (calls_of calls members))).config r) (Some (linked_part_of (state_at m (calls_of calls members) (length (calls_of calls members))) r)) None))
+        (out-all m (calls_of calls members) (feet_at feet members) wave.feet_are (i + 1) i r (omega arith) e))
+
+    foot : (r : Resource) (x : HeldPart) → held_at done.left.parts r ≡ Some x → feet_at feet members i r ≡ true
+    foot r x e = held-here (feet_at feet members i r) (held_at done.left.parts r) x (linked_part_of (state_at m (calls_of calls members) (suc i)) r) (at.parts.parts r) e
+
+    there : (r : Resource) → feet_at feet members i r ≡ true → exists_in m.config r ≡ true
+    there r e = wave.feet_are.exist i (low-in m calls feet members wave i low) r e
+
+    pub fits-wave : HasPlaces m.config h → FitsInto h done.left.parts
+    fits-wave places = record {
+      pages = λ f page e.
+          let t = foot (resource.Frame f) (page_part page) (ap (option_map page_part) e) in
+          (rw places.numbers (place-low m.config.frames f (ltb-true f m.config.frames (there (resource.Frame f) t))), page-none (page_at h f) (absent (resource.Frame f) t));
+      slots = λ v vm e.
+          let t = foot (resource.Vm v) (slot_part vm) (ap (option_map slot_part) e) in
+          (let l = ltb-true v (slot_count m.config) (there (resource.Vm v) t) in let n = places.slots in omega (arith, l, n), slot-none (vm_at h v) (absent (resource.Vm v) t));
+      ends = λ ends e.
+          let t = foot resource.Free (ends_part ends) (ap (option_map ends_part) e) in
+          ends-none h.free (absent resource.Free t);
+    }
+
+    pub back-wave : (joined : Held) → IsJoin h done.left.parts joined → IsLeft (state_at m (calls_of calls members) (length (calls_of calls members))) (feet_at feet members) (down_from i) joined
+    back-wave joined join =
+        let e : i + 1 ≡ suc i = omega arith in
+        back m (calls_of calls members) (feet_at feet members) wave.lawful (wave-ranged m calls feet members wave) wave.feet_are (down_from i) i h done.left.parts joined (low-in m calls feet members wave i low)
+        (λ r t. out-earlier m (calls_of calls members) (feet_at feet members) wave.feet_are i i r (omega arith) (low-in m calls feet members wave i low) t) (rw e at left) at.parts join
+
+  lawful-last : IsLawful (state_at m (calls_of calls members) (length (calls_of calls members)))
+  lawful-last = lawful-at m (calls_of calls members) wave.lawful (wave-ranged m calls feet members wave) (length (calls_of calls members)) (omega arith)
+
+  config-last : (state_at m (calls_of calls members) (length (calls_of calls members))).config ≡ m.config
+  config-last = config-at m (calls_of calls members) (feet_at feet members) wave.lawful (wave-ranged m calls feet members wave) wave.feet_are (length (calls_of calls members))
+
+  module _ (h : Held) (left : IsLeft (state_at m (calls_of calls members) (length (calls_of calls members))) (feet_at feet members) [] h) where
+    restricted : IsRestricted (state_at m (calls_of calls members) (length (calls_of calls members))) (exists_in (state_at m (calls_of calls members) (length (calls_of calls members))).config) h
+    restricted = record { parts = left.parts; rooms = left.rooms }
+
+    low-listed : (p : Owner) (f : ℕ) → is_in (list_of (state_at m (calls_of calls members) (length (calls_of calls members))) p) f ≡ true → f < (state_at m (calls_of calls members) (length (calls_of calls members))).config.frames
+    low-listed p f inside = listed-low (state_at m (calls_of calls members) (length (calls_of calls members))) lawful-last p f inside
+
+    closed : IsClosed (state_at m (calls_of calls members) (length (calls_of calls members))) (exists_in (state_at m (calls_of calls members) (length (calls_of calls members))).config)
+    closed = record { exist = λ r e. e; lists = λ p f ends inside. lt-ltb f (state_at m (calls_of calls members) (length (calls_of calls members))).config.frames (low-listed p f inside) }
+
+    pub linked-last : IsLinked m.config h
+    linked-last = subst (λ config. IsLinked config h) config-last (linked-cut (state_at m (calls_of calls members) (length (calls_of calls members))) (exists_in (state_at m (calls_of calls members) (length (calls_of calls members))).config) h lawful-last closed restricted)
+
+    state-last : state_of m.config h ≡ state_at m (calls_of calls members) (length (calls_of calls members))
+    state-last =
+        let end : State = state_at m (calls_of calls members) (length (calls_of calls members)) in
+        subst (λ config. state_of config h ≡ end) config-last (state-cut end (exists_in end.config) h lawful-last closed restricted ∙ cut-whole end lawful-last)
+
+    here-last : (r : Resource) → exists_in m.config r ≡ true → here_of h r ≡ true
+    here-last r e = here-is (state_at m (calls_of calls members) (length (calls_of calls members))) (exists_in (state_at m (calls_of calls members) (length (calls_of calls members))).config) h lawful-last closed restricted r ∙ ap (λ config. exists_in config r) config-last ∙ e
+
+    -- a whole core is left
+    pub core-last : HasPlaces m.config h → IsCore m.config h × (state_of m.config h ≡ state_at m (calls_of calls members) (length (calls_of calls members)))
+    core-last places = (
+      record {
+        lawful = subst IsLawful (sym state-last) lawful-last;
+        linked = linked-last;
+        whole = record {
+          numbers = places.numbers;
+          frames = λ f low. here-last (resource.Frame f) (lt-ltb f m.config.frames low);
+          vms = λ v low. here-last (resource.Vm v) (lt-ltb v (slot_count m.config) low);
+          past = λ v some. ltb-true v (slot_count m.config) (sym (ap (λ config. exists_in config (resource.Vm v)) config-last) ∙ sym (here-is (state_at m (calls_of calls members) (length (calls_of calls members))) (exists_in (state_at m (calls_of calls members) (length (calls_of calls members))).config) h lawful-last closed restricted (resource.Vm v)) ∙ some);
+          free = here-last resource.Free refl;
+        };
+      },
+      state-last,
+    )
+
+-- one result fewer
+module _ (R : ℕ → Finished → Type 0) (all rest : List Finished) (one : Finished) (items : all ≡ rest ++ one ∷ []) (zip : AllZip R (range_with_len 0 (length all)) all) where
+  len-one : length all ≡ length rest + 1
+  len-one = ap length items ∙ length-append rest (one ∷ [])
+
+  pub popped : AllZip R (range_with_len 0 (length rest)) rest × R (length rest) one
+  popped =
+      zip_last R (range_with_len 0 (length rest)) rest (length rest) one
+      (subst (λ xs. AllZip R xs (rest ++ one ∷ [])) (range-more (length rest)) (subst (λ n. AllZip R (range_with_len 0 n) (rest ++ one ∷ [])) len-one (subst (λ xs. AllZip R (range_with_len 0 (length all)) xs) items zip)))
+
+  pub len-popped : length all ≡ length rest + 1
+  len-popped = len-one
+
+module _ (m : State) (calls : List Call) (feet : ℕ → Resources) (members : List ℕ) (wave : IsWave m calls feet members) (tasks : List Task) (zip : AllZip (IsTaskAt m calls feet members) (range_with_len 0 (length members)) tasks) where
+  -- each task can be done
+  pub all-able : All (IsTaskOf m.config calls) tasks
+  all-able k d low =
+      let at = zip_get (IsTaskAt m calls feet members) (range_with_len 0 (length members)) tasks zip k 0 d low in
+      able-at m calls feet members wave (get_or (range_with_len 0 (length members)) k 0) (get_or tasks k d) at.within at
+
+  -- and what is left of each is what its call leaves
+  pub all-finished : (done : List Finished) → AnswersAll m.config calls tasks done → AllZip (IsFinishedAt m calls feet members) (range_with_len 0 (length members)) done
+  all-finished done answers =
+      zip_through (IsTaskAt m calls feet members) (Answers m.config calls) (IsFinishedAt m calls feet members)
+      (λ i task one at is. finished-at m calls feet members wave i task one at.within at is) (range_with_len 0 (length members)) tasks done zip answers
+
+-- one more reply is written
+module _ (m : State) (calls : List Call) (feet : ℕ → Resources) (members : List ℕ) (wave : IsWave m calls feet members) (replies : List Reply) (j number : ℕ) (reply : Reply) (low : j < length members) (is : number ≡ get_or members j 0) (within : number < length replies) where
+  pub back-more : reply ≡ reply_at m (calls_of calls members) j → ((i : ℕ) → j + 1 ≤ i → i < length members → get_or replies (get_or members i 0) Done ≡ reply_at m (calls_of calls members) i)
+      → (i : ℕ) → j ≤ i → i < length members → get_or (set replies number reply) (get_or members i 0) Done ≡ reply_at m (calls_of calls members) i
+  back-more given before i from below = by_place (cases_eq i j)
+    where
+      by_place : ((i ≡ j) ⊎ (i ≢ j)) → get_or (set replies number reply) (get_or members i 0) Done ≡ reply_at m (calls_of calls members) i
+      by_place (inl same) = rw (same, ← is) (get_or-set_same replies number reply Done within ∙ given)
+      by_place (inr other) =
+          let more : j < i = omega (arith, from, other) in
+          get_or-set_other replies number (get_or members i 0) reply Done (λ e. wave.once i j below (omega (arith, more, below)) other (e ∙ is)) ∙ before i (omega (arith, more)) below
+
+  pub kept-more : (k : ℕ) → ((i : ℕ) → i < length members → get_or members i 0 ≢ k) → get_or (set replies number reply) k Done ≡ get_or replies k Done
+  kept-more k none = get_or-set_other replies number k reply Done (λ e. none j low (sym is ∙ sym e))
+
+-- pages that were wiped have no bytes but zeros
+wiped-page : (there : Option Page) (page : Page) → option_map scrubbed_page there ≡ Some page → page.bytes ≡ zero_page
+wiped-page None page e = cc
+wiped-page (Some p) page e = ap (λ (x : Page). x.bytes) (sym (same_Some (scrubbed_page p) page e))
+
+pub no-bytes : (config : Configuration) (h : Held) → HasNoBytes (record h { pages = map scrubbed_page h.pages })
+no-bytes config h f page e = wiped-page (page_at h f) page (sym (page-clean config h f) ∙ e)

@@ -1,0 +1,3 @@
+pub mod Wave
+pub mod Working
+pub mod Replay

@@ -1,0 +1,97 @@
+-- The calls of one wave over a store: each on its own parts.
+use Rattle.std.specs.Prelude.{ℕ, zero, suc, ◌≡◌, ◌≢◌, ◌<◌, ◌≤◌, true, cond, List, [], ◌∷◌, length, map, All, slice_index_or, Some, None}
+use Rattle.std.specs.List.{list_any, range_with_len}
+use Rattle.kc_types.specs.Configuration.{Configuration, slot_count}
+use Rattle.kc_types.specs.declared.call.Call.{Call}
+use Rattle.kc_types.specs.declared.resource.Resource.TheVariants as resource
+use Rattle.kc_model.specs.State.{State, zero_page}
+use Rattle.kc_model.specs.Resources.{Resource, Resources, IsWithin, need}
+use Rattle.kc_model.specs.Linked.{linked_part_of}
+use Rattle.kc_types.specs.declared.reply.Reply.{Reply}
+use Rattle.kc_types.specs.declared.reply.Reply.TheVariants.{Done}
+use Rattle.kc_model.specs.Lawful.{IsLawful}
+use Rattle.kc_model.specs.Ranged.{IsRanged}
+use Rattle.kc_model.specs.Footprints.{call_at, state_at, reply_at}
+use Rattle.kc_plan.specs.Rows.{Rows, row_touches, row_at}
+use Rattle.kc_vms.specs.Slots.{VmSlot}
+use Rattle.kc_page.specs.declared.page.Page.{Page}
+use Rattle.kc_parts.specs.Held.{Held, page_at, vm_at}
+use Rattle.kc_parts.specs.Restricted.{seen_at, exists_in, IsRestricted}
+use Rattle.kc_replay.specs.declared.task.Task.{Task}
+use Rattle.kc_replay.specs.declared.task.Finished.{Finished}
+
+-- each call of a wave has a foot that holds what it needs, and no two feet share a resource
+pub record AreFeet (m : State) (calls : List Call) (feet : ℕ → Resources) : Type 0 where
+  pub needs : (k : ℕ) → k < length calls → IsWithin (need m (call_at calls k)) (feet k)
+  pub exist : (k : ℕ) → k < length calls → IsWithin (feet k) (exists_in m.config)
+  -- a foot has no list but those that its call needs
+  pub slots : (k v : ℕ) → k < length calls → feet k (resource.Vm v) ≡ true → need m (call_at calls k) (resource.Vm v) ≡ true
+  pub free : (k : ℕ) → k < length calls → feet k resource.Free ≡ true → need m (call_at calls k) resource.Free ≡ true
+  pub apart : (j k : ℕ) (r : Resource) → j < length calls → k < length calls → j ≢ k → feet j r ≡ true → feet k r ≡ true → ⊥
+
+-- one of the calls may touch the resource
+abbrev pub out : (ℕ → Resources) → List ℕ → Resources
+out feet ks r = list_any (λ k. feet k r) ks
+
+-- the store lacks what the calls may touch, and has all else of the state
+pub record IsLeft (m : State) (feet : ℕ → Resources) (ks : List ℕ) (h : Held) : Type 0 where
+  pub parts : (r : Resource) → seen_at h r ≡ cond (out feet ks r) None (cond (exists_in m.config r) (Some (linked_part_of m r)) None)
+  pub rooms : (v : ℕ) (vm : VmSlot) → vm_at h v ≡ Some vm → vm.room ≡ m.config.leaves
+
+-- the store has a place for all of the configuration
+pub record HasPlaces (config : Configuration) (h : Held) : Type 0 where
+  pub numbers : h.numbers ≡ range_with_len 0 config.frames
+  pub slots : slot_count config ≤ length h.vms
+
+-- a wave: the state that it starts from, the calls of the trace, what each may touch, and which of them are the wave's
+pub record Wave : Type 0 where
+  pub start : State
+  pub calls : List Call
+  pub feet : ℕ → Resources
+  pub members : List ℕ
+
+-- the calls of the wave
+abbrev pub calls_of : List Call → List ℕ → List Call
+calls_of calls members = map (λ k. call_at calls k) members
+
+-- the foot of each call of a trace
+abbrev pub foot_of : Rows → ℕ → Resources
+foot_of feet k r = row_touches feet.sets (row_at feet k) r
+
+-- the foot of the wave's i-th call
+abbrev pub feet_at : (ℕ → Resources) → List ℕ → ℕ → Resources
+feet_at feet members i = feet (slice_index_or members i 0)
+
+-- what is known of a wave that starts in a state
+pub record IsWave (m : State) (calls : List Call) (feet : ℕ → Resources) (members : List ℕ) : Type 0 where
+  pub lawful : IsLawful m
+  pub ranged : All IsRanged calls
+  pub within : (i : ℕ) → i < length members → slice_index_or members i 0 < length calls
+  pub feet_are : AreFeet m (calls_of calls members) (feet_at feet members)
+  -- no call stands twice
+  pub once : (i j : ℕ) → i < length members → j < length members → i ≢ j → slice_index_or members i 0 ≢ slice_index_or members j 0
+
+-- the first numbers, the highest first
+abbrev pub down_from : ℕ → List ℕ
+down_from zero = []
+down_from (suc i) = i ∷ down_from i
+
+pub record IsTaskAt (m : State) (calls : List Call) (feet : ℕ → Resources) (members : List ℕ) (i : ℕ) (task : Task) : Type 0 where
+  pub within : i < length members
+  pub number : task.number ≡ slice_index_or members i 0
+  pub parts : IsRestricted (state_at m (calls_of calls members) i) (feet_at feet members i) task.parts
+
+pub record IsFinishedAt (m : State) (calls : List Call) (feet : ℕ → Resources) (members : List ℕ) (i : ℕ) (done : Finished) : Type 0 where
+  pub number : done.left.number ≡ slice_index_or members i 0
+  pub reply : done.reply ≡ reply_at m (calls_of calls members) i
+  pub parts : IsRestricted (state_at m (calls_of calls members) (suc i)) (feet_at feet members i) done.left.parts
+
+-- the wave's calls have their replies, and all else is as before
+pub record AreReplied (m : State) (calls : List Call) (members : List ℕ) (old new : List Reply) : Type 0 where
+  pub given : (i : ℕ) → i < length members → slice_index_or new (slice_index_or members i 0) Done ≡ reply_at m (calls_of calls members) i
+  pub kept : (k : ℕ) → ((i : ℕ) → i < length members → slice_index_or members i 0 ≢ k) → slice_index_or new k Done ≡ slice_index_or old k Done
+  pub size : length new ≡ length old
+
+-- no page that is here has bytes but zeros
+abbrev pub HasNoBytes : Held → Type 0
+HasNoBytes h = (f : ℕ) (page : Page) → page_at h f ≡ Some page → page.bytes ≡ zero_page

@@ -1,0 +1,195 @@
+//! Calls on parts of their own, by workers.
+ghost use Rattle.std.specs.Prelude.{◌≡◌, ◌<◌, ◌≤◌, [], ◌∷◌, ◌++◌, length, vec_len, vec_capacity, IfOk, All};
+ghost use Rattle.std.specs.List.{AllZip};
+ghost use Rattle.std.specs.Prelude.{List};
+ghost use Rattle.kc_types.specs.Configuration.{Configuration};
+ghost use Rattle.kc_types.specs.declared.call.Call.{Call};
+ghost use Rattle.kc_replay.specs.Working.{Answers, AnswersAll, IsTaskOf, no_config};
+
+use crate::Gate;
+use crate::fault::ReplayFault;
+use crate::task::{Finished, Task};
+use kc_calls::apply;
+use kc_types::{Call, Config, Memory};
+use std::alloc::Global;
+use std::marker::{Brand, PhantomData};
+use std::snapshot::Snapshot;
+use std::sync::Wait;
+use std::thread;
+use std::thread::{Promise, PromisedHandle, Scope, Threads};
+
+/// Makes one call on its parts.
+fn finish<G: Gate>(
+    alloc: Global,
+    config: &Config,
+    calls: &[Call],
+    task: Task,
+    gate: &G,
+) -> Result<Finished, Memory>
+    requires { IsTaskOf config.now calls.now task }
+    ensures { IfOk result (Answers config.now calls.now task) }
+{
+    let mut left = task;
+    gate.before(left.number);
+    let reply = apply(alloc, &mut left.parts, config, &calls[left.number]);
+    gate.after(left.number);
+    Ok(Finished {
+        reply: reply?,
+        left,
+    })
+}
+
+/// Makes the calls of the tasks in their order.
+fn work<G: Gate>(
+    alloc: Global,
+    config: &Config,
+    calls: &[Call],
+    tasks: Vec<Task>,
+    gate: &G,
+) -> Result<Vec<Finished>, Memory>
+    requires { All (IsTaskOf config.now calls.now) tasks.items }
+    ensures { IfOk result (λ done. AnswersAll config.now calls.now tasks.items done.items) }
+{
+    let mut done = Vec::with_capacity(alloc, tasks.len())?;
+    for task in tasks {
+        let finished = finish(alloc, config, calls, task, gate)?;
+        done.push(finished)?;
+    }
+    Ok(done)
+}
+
+/// Stands for the configuration and the trace that workers are given, which their promise names.
+pub(crate) trait Setting {
+    ghost config: { Configuration };
+
+    ghost calls: { List Call };
+}
+
+impl Setting for Brand {
+    ghost config = { no_config };
+
+    ghost calls = { [] };
+}
+
+/// What a worker promises of its tasks.
+#[derive(Drop)]
+struct TasksOf<S: Setting>(Snapshot<Vec<Task>>, PhantomData<S>);
+
+impl<S: Setting> Promise<Result<Vec<Finished>, Memory>> for TasksOf<S> {
+    ghost kept_by = { λ p r. IfOk r (λ done. AnswersAll S.config S.calls p.0.value.items done.items) };
+}
+
+/// A worker that runs.
+type Running<S> = PromisedHandle<Result<Vec<Finished>, Memory>, TasksOf<S>>;
+
+/// Waits for all workers.
+fn join_lanes<R: Threads, S: Setting>(
+    rt: &R,
+    handles: Vec<Running<S>>,
+    all: Vec<Vec<Finished>>,
+) -> Result<Vec<Vec<Finished>>, Memory>
+    requires empty { all.items ≡ [] }
+    requires room { vec_len handles < vec_capacity all }
+    ensures done { IfOk result (λ v. AllZip (λ h f. AnswersAll S.config S.calls h.promise.0.value.items f.items) handles.items v.items) }
+    ensures room { IfOk result (λ v. vec_len v < vec_capacity v) }
+{
+    let mut all = all;
+    let mut short = false;
+    for handle in handles {
+        match handle.join(rt) {
+            Ok(done) => all.push_reserved(done),
+            Err(_) => short = true,
+        }
+    }
+    if short { Err(Memory) } else { Ok(all) }
+}
+
+/// Has the calls of each lane made by a worker of its own, those of the last by the calling thread, and joins them all.
+/// `Start` where a worker could not be started, else `Memory` where a growth was refused.
+pub(crate) fn run_lanes<R: Threads + Wait + Sync, G: Gate + Sync>(
+    rt: &R,
+    alloc: Global,
+    config: &Config,
+    calls: &[Call],
+    lanes: Vec<Vec<Task>>,
+    gate: &G,
+) -> Result<Vec<Vec<Finished>>, ReplayFault>
+    requires { All (λ lane. All (IsTaskOf config.now calls.now) lane.items) lanes.items }
+    ensures { IfOk result (λ done. AllZip (λ lane f. AnswersAll config.now calls.now lane.items f.items) lanes.items done.items) }
+{
+    let mut lanes = lanes;
+    let Some(mine) = lanes.pop() else {
+        return Ok(Vec::new(alloc));
+    };
+    run_beside::<R, G, Brand>(rt, alloc, config, calls, lanes, mine, gate)
+}
+
+/// Starts a worker for a lane of tasks.
+fn start_lane<'s, E, G: Gate + Sync, S: Setting>(
+    scope: &Scope<'s, E>,
+    alloc: Global,
+    config: &'s Config,
+    calls: &'s [Call],
+    lane: Vec<Task>,
+    gate: &'s G,
+) -> Result<Running<S>, ReplayFault>
+    requires setting { (S.config ≡ config.now) × (S.calls ≡ calls.now) }
+    requires tasks { All (IsTaskOf config.now calls.now) lane.items }
+    ensures { IfOk result (λ h. h.promise.0.value ≡ lane) }
+{
+    let promise = TasksOf(Snapshot::of(&lane), PhantomData);
+    match scope.spawn_with(promise, move || work(alloc, config, calls, lane, gate)) {
+        Ok(handle) => Ok(handle),
+        Err(_) => Err(ReplayFault::Start),
+    }
+}
+
+/// Has the calls of each lane made by a worker of its own, and those of one by the calling thread, and joins them all.
+fn run_beside<R: Threads + Wait + Sync, G: Gate + Sync, S: Setting>(
+    rt: &R,
+    alloc: Global,
+    config: &Config,
+    calls: &[Call],
+    lanes: Vec<Vec<Task>>,
+    mine: Vec<Task>,
+    gate: &G,
+) -> Result<Vec<Vec<Finished>>, ReplayFault>
+    requires setting { (S.config ≡ config.now) × (S.calls ≡ calls.now) }
+    requires lanes { All (λ lane. All (IsTaskOf config.now calls.now) lane.items) lanes.items }
+    requires mine { All (IsTaskOf config.now calls.now) mine.items }
+    ensures { IfOk result (λ done. AllZip (λ lane f. AnswersAll config.now calls.now lane.items f.items) (lanes.items ++ mine ∷ []) done.items) }
+{
+    let handles = Vec::with_capacity(alloc, lanes.len())?;
+    let all = Vec::with_capacity(alloc, lanes.len() + 1)?;
+    thread::scope(
+        thread::scope_env(),
+        rt,
+        |scope| -> Result<Vec<Vec<Finished>>, ReplayFault>
+            requires setting { (S.config ≡ config.now) × (S.calls ≡ calls.now) }
+            requires lanes { All (λ lane. All (IsTaskOf config.now calls.now) lane.items) lanes.items }
+            requires mine { All (IsTaskOf config.now calls.now) mine.items }
+            requires empty { (all.items ≡ []) × (handles.items ≡ []) }
+            requires room { (vec_len lanes ≤ vec_capacity handles) × (vec_len lanes < vec_capacity all) }
+            ensures { IfOk result (λ done. AllZip (λ lane f. AnswersAll config.entry.now calls.entry.now lane.items f.items) (lanes.items ++ mine ∷ []) done.items) }
+        {
+            let mut handles: Vec<Running<S>> = handles;
+            let mut refused = false;
+            for lane in lanes {
+                if !refused {
+                    match start_lane(scope, alloc, config, calls, lane, gate) {
+                        Ok(handle) => handles.push_reserved(handle),
+                        Err(_) => refused = true,
+                    }
+                }
+            }
+            if refused {
+                let _ = join_lanes(rt, handles, all);
+                return Err(ReplayFault::Start);
+            }
+            let own = work(alloc, config, calls, mine, gate);
+            let mut joined = join_lanes(rt, handles, all)?;
+            joined.push_reserved(own?);
+            Ok(joined)
+        },
+    )
+}
