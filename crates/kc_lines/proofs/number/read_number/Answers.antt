@@ -1,6 +1,6 @@
 use Rattle.std.proofs.Common.{sym, ◌∙◌}
-use Rattle.kc_trace.proofs.Numbers.{parsed_is, numeral_is_text}
-use Rattle.kc_trace.proofs.number.read_number.Goals as goal
+use Rattle.kc_lines.proofs.Numbers.{parsed_is, numeral_is_text}
+use Rattle.kc_lines.proofs.number.read_number.Goals as goal
 
 pub returns-in-Err : goal.returns-in-Err
 returns-in-Err c = absurd (c.in-Err.ensures.cases.0 (numeral_is_text c.args.word.now (sym c.is_numeral.ensures ∙ c.if-not-is_numeral.false)))

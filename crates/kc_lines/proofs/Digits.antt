@@ -10,7 +10,7 @@ use Rattle.hex.specs.declared.error.FromHexError.{FromHexError}
 use Rattle.hex.specs.Hex.{encode_lower, encode_with, decode_of, decode_pairs, lower_digits, hex_digit_value, digit_or_error, value_at, pair_value, IsBytes, ◌>>=◌}
 use Rattle.hex.proofs.HexLemmas.{decode_of-ok, decode_of-encode_lower, decode_of-even, length-encode_with}
 use Rattle.kc_types.specs.Bytes.{IsData}
-use Rattle.kc_trace.specs.Reading.{is_lower_digit, digit_value, is_data_word, data_of}
+use Rattle.kc_lines.specs.Words.{is_lower_digit, digit_value, is_data_word, data_of}
 
 pub record IsDataWord (word : List ℕ) : Type 0 where
   pub digits : list_all is_lower_digit word ≡ true

@@ -1,7 +1,7 @@
 use Rattle.std.proofs.Common.{sym, arith}
 use Rattle.std.proofs.lemmas.Grind.{common_steps}
-use Rattle.kc_trace.proofs.Words.{split_at_space, no_space}
-use Rattle.kc_trace.proofs.line.split_word.Goals as goal
+use Rattle.kc_lines.proofs.Words.{split_at_space, no_space}
+use Rattle.kc_lines.proofs.cuts.split_word.Goals as goal
 
 pub returns-in-None : goal.returns-in-None
 returns-in-None c = no_space c.args.line.now (sym c.in-None.ensures)

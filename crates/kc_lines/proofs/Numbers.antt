@@ -11,7 +11,7 @@ use Rattle.std.proofs.lemmas.Str.Parse.{IsNumeralModel, numerals_by_value, parse
 use Rattle.std.proofs.lemmas.Str.{IsUtf8-from_ascii}
 use Rattle.std.proofs.lemmas.Fmt.{decimal-digits_value, digits_decimal, digits_value-decimal, decimal_nonempty, first_decimal, decimal_digit, IsAscii-from_digits}
 use Rattle.std.proofs.lemmas.Bool.{ltb-true, lt-ltb, le-ltb, eqb-true, eqb-false, ne_eqb, cases_lt}
-use Rattle.kc_trace.specs.Reading.{is_numeral, number_of}
+use Rattle.kc_lines.specs.Words.{is_numeral, number_of}
 
 abbrev pub AreDigits : List ℕ → Type 0
 AreDigits word = list_all is_ascii_digit word ≡ true

@@ -1,6 +1,6 @@
 -- Words joined by spaces, and cut at them again.
 use Rattle.std.proofs.Common.{◌≡◌, ◌⊎◌, ◌<◌, ◌+◌, ℕ, Bool, true, false, cond, List, [], ◌∷◌, ◌++◌, length, take, drop, Some, None, refl, ap, ◌∙◌, arith, inl, inr, length-append}
-use Rattle.std.specs.Prelude.{◌&&◌, ◌==◌, not, nat_le, position, nat_lt}
+use Rattle.std.specs.Prelude.{◌^◌, ◌&&◌, ◌==◌, not, nat_le, position, nat_lt}
 use Rattle.std.specs.List.{list_all, slice_split, join_with_byte, position_or_len}
 use Rattle.std.specs.Char.{is_ascii_digit}
 use Rattle.std.specs.Fmt.{decimal}
@@ -10,11 +10,10 @@ use Rattle.std.proofs.lemmas.List.Sums.{fails_before_first}
 use Rattle.std.proofs.lemmas.Fmt.{digits_decimal}
 use Rattle.hex.specs.Hex.{encode_lower}
 use Rattle.kc_types.specs.Bytes.{IsData}
-use Rattle.kc_model.specs.Ranged.{IsWord}
-use Rattle.kc_trace.specs.Reading.{is_lower_digit}
-use Rattle.kc_trace.specs.Trace.{IsOneLine}
-use Rattle.kc_trace.proofs.Numbers.{own}
-use Rattle.kc_trace.proofs.Digits.{encoded_is_lower}
+use Rattle.kc_lines.specs.Words.{is_lower_digit}
+use Rattle.kc_lines.specs.Lines.{IsOneLine}
+use Rattle.kc_lines.proofs.Numbers.{own}
+use Rattle.kc_lines.proofs.Digits.{encoded_is_lower}
 
 abbrev pub is_space : ℕ → Bool
 is_space b = b == 32
@@ -104,7 +103,7 @@ lower_is_plain c e =
       | inr h ↦ range_is_plain 97 102 c (omega arith) h
     ]
 
-pub decimal_is_word : (n : ℕ) → IsWord n → is_word (decimal n) ≡ true
+pub decimal_is_word : (n : ℕ) → n < 2 ^ 32 → is_word (decimal n) ≡ true
 decimal_is_word n lt = all_weaker is_ascii_digit is_plain (λ c e. range_is_plain 48 57 c (omega arith) e) (decimal n) (digits_decimal own n (omega arith))
 
 pub encoded_is_word : (bytes : List ℕ) → IsData bytes → is_word (encode_lower bytes) ≡ true

@@ -3,7 +3,7 @@ ghost use Rattle.std.specs.Prelude.{◌≡◌, ◌==◌, ◌*◌, ◌%◌, ◌<�
 ghost use Rattle.std.specs.List.{list_all};
 ghost use Rattle.hex.specs.Hex.{encode_lower};
 ghost use Rattle.kc_types.specs.Limits.{page_size};
-ghost use Rattle.kc_trace.specs.Reading.{is_lower_digit, digit_value, data_of};
+ghost use Rattle.kc_lines.specs.Words.{is_lower_digit, digit_value, data_of};
 
 use kc_types::{Data, PAGE_SIZE};
 use std::alloc::{AllocError, Global};
@@ -35,7 +35,7 @@ fn has_data_length(word: &[u8]) -> bool
 
 /// Writes the bytes of a word of lower case digits, and says whether it is one. There is no early end, so that
 /// many bytes are read at once.
-fn decode_into(word: &[u8], bytes: &mut [u8]) -> bool
+pub fn decode_into(word: &[u8], bytes: &mut [u8]) -> bool
     requires { length word.now ≡ 2 * length bytes.old }
     ensures valid { result ≡ list_all is_lower_digit word.now }
     ensures spelled { IsTrue result → word.now ≡ encode_lower bytes.new }

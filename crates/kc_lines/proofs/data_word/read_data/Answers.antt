@@ -1,6 +1,6 @@
 use Rattle.std.proofs.Common.{length, ap, sym, ◌∙◌, arith}
-use Rattle.kc_trace.proofs.Digits.{has_length, no_length, no_digits, written_over, data_is_made}
-use Rattle.kc_trace.proofs.data_word.read_data.Goals as goal
+use Rattle.kc_lines.proofs.Digits.{has_length, no_length, no_digits, written_over, data_is_made}
+use Rattle.kc_lines.proofs.data_word.read_data.Goals as goal
 
 pub returns-then-not-has_data_length : goal.returns-then-not-has_data_length
 returns-then-not-has_data_length c = sym (no_length c.args.word.now (sym c.has_data_length.ensures ∙ c.if-not-has_data_length.true))

@@ -1,7 +1,7 @@
 use Rattle.std.proofs.Common.{arith, refl}
 use Rattle.std.proofs.lemmas.List.{get_or_default}
-use Rattle.kc_trace.proofs.Digits.{none_decoded, next_decoded}
-use Rattle.kc_trace.proofs.data_word.decode_into.Goals as goal
+use Rattle.kc_lines.proofs.Digits.{none_decoded, next_decoded}
+use Rattle.kc_lines.proofs.data_word.decode_into.Goals as goal
 
 pub loop-i-init : goal.loop-i-init
 loop-i-init c = none_decoded c.args.word.now c.args.bytes.now (λ k. omega (arith, c.type_inv.bytes k))
