@@ -13,3 +13,5 @@ pub mod Fitting
 mod LinesRead
 pub mod Ranged
 mod WholeText
+mod Told
+mod Followed

@@ -48,7 +48,7 @@ no-cut [] (y ∷ a) c h e = absurd cc
 no-cut (x ∷ xs) [] c h e = newline-in x xs h (let z : x ≡ 10 = cc in z)
 no-cut (x ∷ xs) (y ∷ a) c h e = no-cut xs a c (rest-one x xs h) (let z : xs ≡ a ++ 10 ∷ c = cc in z)
 
-spelled-cut : (l : DumpLine) (more : List ℕ) → spell l ++ more ≡ bare l ++ 10 ∷ more
+pub spelled-cut : (l : DumpLine) (more : List ℕ) → spell l ++ more ≡ bare l ++ 10 ∷ more
 spelled-cut l more = ap (λ (s : List ℕ). s ++ more) (spell-bare l) ∙ append_assoc (bare l) (10 ∷ []) more
 
 -- a text whose first line these bytes are begins with the line of no other

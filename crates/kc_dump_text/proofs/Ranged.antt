@@ -37,7 +37,7 @@ record EntriesIn (version : Version) (frames v : ℕ) (entries : List (ℕ × �
   rising : (n : ℕ) → suc n < length entries → (get_or entries n (0, 0)).0 < (get_or entries (suc n) (0, 0)).0
   stage : IsEntryStage frames s
 
-some-same : (s t : Stage) → Some s ≡ Some t → s ≡ t
+pub some-same : (s t : Stage) → Some s ≡ Some t → s ≡ t
 some-same s t e = cc
 
 module _ (version : Version) where
@@ -46,7 +46,7 @@ module _ (version : Version) where
   none-runs (l ∷ lines) t e = absurd cc
 
   -- the stage behind the first line
-  first : (s : Stage) (l : DumpLine) (lines : List DumpLine) (t : Stage) → runs version (Some s) (l ∷ lines) ≡ Some t → (next : Stage) × (after version s l ≡ Some next) × (runs version (Some next) lines ≡ Some t)
+  pub first : (s : Stage) (l : DumpLine) (lines : List DumpLine) (t : Stage) → runs version (Some s) (l ∷ lines) ≡ Some t → (next : Stage) × (after version s l ≡ Some next) × (runs version (Some next) lines ≡ Some t)
   first s l lines t e = by_next (after version s l) refl e
     where
       by_next : (o : Option Stage) → after version s l ≡ o → runs version o lines ≡ Some t → (next : Stage) × (after version s l ≡ Some next) × (runs version (Some next) lines ≡ Some t)

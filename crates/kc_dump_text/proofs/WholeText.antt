@@ -20,7 +20,7 @@ use Rattle.kc_dump_text.specs.Refused.{IsRefused}
 use Rattle.kc_dump_text.proofs.Ranged.{in-range}
 use Rattle.kc_dump_text.proofs.ReadLines.{bare, spell-bare}
 
-many : (lines : List DumpLine) → length lines ≤ length (flat_map spell lines)
+pub many : (lines : List DumpLine) → length lines ≤ length (flat_map spell lines)
 many [] = omega arith
 many (l ∷ lines) =
     let a = length-append (spell l) (flat_map spell lines) in

@@ -1,6 +1,8 @@
 //! Reading a dump.
 ghost use Rattle.std.specs.Prelude.{ℕ, List, ◌≡◌, ◌≤◌, ◌++◌, length, MatchOption, MatchResult};
 ghost use Rattle.kc_types.specs.declared.version.Version.{Version};
+ghost use Rattle.kc_dump.specs.Dumps.{Dumped};
+ghost use Rattle.kc_dump_text.specs.declared.fault.DumpFault.TheVariants.{Memory};
 ghost use Rattle.kc_dump_text.specs.DumpText.{header};
 ghost use Rattle.kc_dump_text.specs.Grammar.{due, frames_at, IsDumpText};
 ghost use Rattle.kc_dump_text.specs.Building.{IsWhole, IsStuck, end_fault, due_fault, line_fault};
@@ -144,7 +146,11 @@ fn behind_header(text: &[u8]) -> Option<(Version, &[u8])>
 /// The dump that a text is, of at most 1,073,741,824 bytes. Memory is the only fault that says nothing of the text.
 pub fn read_dump(alloc: Global, text: &[u8]) -> Result<Dump, DumpFault>
     requires { length text.now ≤ 1073741824 }
-    ensures { MatchResult result (λ dump. IsDumpText text.now dump) (λ fault. IsRefused text.now fault) }
+    // What is read is a dump, and what is refused is none, for its first fault.
+    ensures found { MatchResult result (λ dump. IsDumpText text.now dump) (λ fault. IsRefused text.now fault) }
+
+    // A dump's text is read as that dump, unless memory runs out.
+    ensures only { (dump : Dumped) → IsDumpText text.now dump → MatchResult result (λ read. read ≡ dump) (λ fault. fault ≡ Memory) }
 {
     let Some((version, rest)) = behind_header(text) else {
         return Err(DumpFault::NoHeader);

@@ -2,6 +2,8 @@
 ghost use Rattle.std.specs.Prelude.{◌≡◌, ◌≤◌, ◌+◌, ◌++◌, ℕ, length, slice_index_or, IfOk, OnOk};
 ghost use Rattle.kc_types.specs.Limits.{frame_limit, slot_limit};
 ghost use Rattle.kc_dump.specs.Dumps.{empty_dump};
+ghost use Rattle.kc_dump.specs.Ranges.{IsDump};
+ghost use Rattle.kc_dump_text.specs.Grammar.{IsDumpText};
 ghost use Rattle.kc_dump_text.specs.DumpText.{dump_text, header, size_line, free_line, vm_lines, leaf_lines, all_leaf_lines, entry_lines, all_entry_lines, frame_lines};
 
 use crate::lines::{LONGEST_LINE, push_frame_line, push_free_line, push_three, push_vm_line};
@@ -106,10 +108,10 @@ fn push_header(text: &mut Vec<u8>, version: Version) -> Result<(), Memory>
     Ok(())
 }
 
-/// The one text of a dump.
-pub fn write_dump(alloc: Global, dump: &Dump) -> Result<Vec<u8>, Memory>
-    // No clause can rule out want of memory: a test writes dumps.
-    ensures { IfOk result (λ text. text.items ≡ dump_text dump.now) }
+/// The text of a dump, whose numbers are in range.
+fn text_of(alloc: Global, dump: &Dump) -> Result<Vec<u8>, Memory>
+    ensures text { IfOk result (λ text. text.items ≡ dump_text dump.now) }
+    ensures kept { OnOk result (IsDump dump.now) }
 {
     let mut text = Vec::new(alloc);
     push_header(&mut text, dump.version())?;
@@ -119,5 +121,15 @@ pub fn write_dump(alloc: Global, dump: &Dump) -> Result<Vec<u8>, Memory>
     push_all_leaves(&mut text, dump.slots())?;
     push_all_entries(&mut text, dump.slots())?;
     push_frames(&mut text, dump.frames())?;
+    Ok(text)
+}
+
+/// The one text of a dump, which is read as that dump. `Memory` where a growth was refused.
+pub fn write_dump(alloc: Global, dump: &Dump) -> Result<Vec<u8>, Memory>
+    // No clause can rule out want of memory: a test writes dumps.
+    ensures text { IfOk result (λ text. text.items ≡ dump_text dump.now) }
+    ensures read { IfOk result (λ text. IsDumpText text.items dump.now) }
+{
+    let text = text_of(alloc, dump)?;
     Ok(text)
 }
