@@ -18,14 +18,20 @@ use kc_ends::{Sink, Source};
 use kc_streams::{empty_piece, give_replies};
 use kc_types::{Call, Config, Memory, Reply};
 use std::alloc::Global;
+use std::thread::Threads;
 
 /// The replies to some calls. The core is wiped before it goes, whatever the outcome.
-fn replies_to(alloc: Global, config: Config, calls: Vec<Call>) -> Result<Vec<Reply>, Memory>
+fn replies_to(
+    rt: &(impl Threads + Sync),
+    alloc: Global,
+    config: Config,
+    calls: Vec<Call>,
+) -> Result<Vec<Reply>, Memory>
     ensures { IfOk result (λ replies. replies.items ≡ replies_from (boot config) calls.items) }
 {
     let mut core = KCore::boot(alloc, config)?;
     let outcome = core.answer_all(alloc, calls);
-    core.wipe();
+    core.wipe(rt);
     outcome
 }
 
@@ -34,7 +40,8 @@ fn replies_to(alloc: Global, config: Config, calls: Vec<Call>) -> Result<Vec<Rep
 ///
 /// Nothing is written but after the whole trace was read and answered. A source that fails, or that has more
 /// than 1,073,741,824 bytes, is `Read`, also where its bytes so far are refused already.
-pub fn replay_text<C: Source, T: Source, K: Sink>(
+pub fn replay_text<C: Source, T: Source, K: Sink, R: Threads + Sync>(
+    rt: &R,
     alloc: Global,
     config: &mut C,
     trace: &mut T,
@@ -75,7 +82,7 @@ pub fn replay_text<C: Source, T: Source, K: Sink>(
         return Err(TextFault::Workers);
     }
     let (config, calls) = read_both(alloc, config, trace)?;
-    let Ok(replies) = replies_to(alloc, config, calls) else {
+    let Ok(replies) = replies_to(rt, alloc, config, calls) else {
         return Err(TextFault::Memory);
     };
     // All memory that writing takes is there before the first byte is written.

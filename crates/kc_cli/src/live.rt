@@ -64,25 +64,30 @@ fn make_each(core: &mut KCore, calls: &[Call]) -> Result<(), Memory>
 }
 
 /// Makes the calls on one thread, and gives the core that they leave, wiped.
-fn replay(alloc: Global, config: Config, calls: &[Call]) -> Result<KCore, Memory>
+fn replay(
+    rt: &(impl Threads + Sync),
+    alloc: Global,
+    config: Config,
+    calls: &[Call],
+) -> Result<KCore, Memory>
     ensures { IfOk result (λ core. core ≡ wiped (state_after (boot config) calls.now)) }
 {
     let mut core = KCore::boot(alloc, config)?;
     let outcome = make_each(&mut core, calls);
-    core.wipe();
+    core.wipe(rt);
     outcome?;
     Ok(core)
 }
 
 /// The cause of a run that gave no answer. The core that it left, if any, is wiped.
-fn wiped(stop: LiveStop) -> LiveCause
+fn wiped(rt: &(impl Threads + Sync), stop: LiveStop) -> LiveCause
     ensures { result ≡ stop.cause }
 {
     let LiveStop { cause, history } = stop;
     match history {
         Some(history) => {
             let (_entries, mut core) = history.into_parts();
-            core.wipe();
+            core.wipe(rt);
         }
         None => {}
     }
@@ -90,20 +95,25 @@ fn wiped(stop: LiveStop) -> LiveCause
 }
 
 /// The entries of a history, whose core is wiped.
-fn entries_of(history: History) -> Vec<Entry>
+fn entries_of(rt: &(impl Threads + Sync), history: History) -> Vec<Entry>
     ensures { result.items ≡ history.entries }
 {
     let (entries, mut core) = history.into_parts();
-    core.wipe();
+    core.wipe(rt);
     entries
 }
 
 /// The calls of a history, which is replayed first. Both cores are wiped.
-fn replayed(alloc: Global, config: Config, history: History) -> Result<Vec<Call>, Memory>
+fn replayed(
+    rt: &(impl Threads + Sync),
+    alloc: Global,
+    config: Config,
+    history: History,
+) -> Result<Vec<Call>, Memory>
     ensures { IfOk result (λ calls. calls.items ≡ calls_of history.entries) }
 {
-    let calls = calls_in(alloc, entries_of(history))?;
-    let _core = replay(alloc, config, &calls)?;
+    let calls = calls_in(alloc, entries_of(rt, history))?;
+    let _core = replay(rt, alloc, config, &calls)?;
     Ok(calls)
 }
 
@@ -124,9 +134,9 @@ fn made_live<G: Gate + Sync, R: Threads + Wait + Sync>(
     };
     let history = match run_trace(rt, alloc, config, calls, gate) {
         Ok(history) => history,
-        Err(stop) => return Err(fault_of(wiped(stop))),
+        Err(stop) => return Err(fault_of(wiped(rt, stop))),
     };
-    match replayed(alloc, kept, history) {
+    match replayed(rt, alloc, kept, history) {
         Ok(made) => Ok(made),
         Err(_) => Err(fault_of(LiveCause::Memory)),
     }

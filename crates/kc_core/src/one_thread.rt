@@ -9,8 +9,10 @@ ghost use Rattle.kc_model.specs.Safety.{IsSafe};
 ghost use Rattle.kc_model.specs.Blind.{ShowsNothing};
 ghost use Rattle.kc_types.specs.Configuration.{slot_count};
 ghost use Rattle.kc_types.specs.Limits.{vcpu_limit, gfn_limit};
+ghost use Rattle.std.specs.FinMap as finite;
 ghost use Rattle.kc_model.specs.State.{frame_at, slot_at, vcpu_at, mapped_at};
 ghost use Rattle.kc_model.specs.Links.{frames_of};
+ghost use Rattle.kc_model.specs.Linked.{ends_of};
 ghost use Rattle.kc_model.specs.Wiped.{wiped};
 ghost use Rattle.kc_page.specs.Pages.{frame_of, IsRecordOf};
 ghost use Rattle.kc_parts.specs.States.{state_of, unlinked_slot};
@@ -19,12 +21,13 @@ ghost use Rattle.kc_core.specs.Cores.{IsCore};
 use crate::look_ups::{frames_of, page_record};
 use crate::ranged::{read_all_numbers, read_numbers};
 use kc_calls::{answer, apply};
-use kc_page::{Page, PageBytes, PageRecord, scrub_each};
+use kc_page::{Page, PageBytes, PageRecord, scrub_all};
 use kc_parts::Parts;
-use kc_types::{Call, Config, FrameNo, Gfn, Memory, Owner, Phase, Reply, Spare, VcpuId};
+use kc_types::{Call, Config, Ends, FrameNo, Gfn, Memory, Owner, Phase, Reply, Spare, VcpuId};
 use kc_vms::Vm;
 use std::alloc::Global;
 use std::marker::Model;
+use std::thread::Threads;
 
 /// The trusted core, seen as its state. Every value of it is lawful, and no call makes it otherwise.
 #[derive(Drop)]
@@ -211,11 +214,42 @@ impl KCore {
         frames_of(self.alloc, &self.parts, &self.config, owner)
     }
 
+    /// The ends of the free list.
+    pub fn free_ends(&self) -> Ends
+        ensures { result ≡ ends_of self.now.free }
+    {
+        match self.parts.free() {
+            Some(ends) => *ends,
+            None => Ends::empty(),
+        }
+    }
+
+    /// The ends of the list of a VM slot's frames; `None` for a slot that does not exist.
+    pub fn slot_ends(&self, vm: u32) -> Option<Ends>
+        ensures exists { IsSome result ↔ (vm < slot_count self.now.config) }
+        ensures value { IfSome result (λ ends. ends ≡ ends_of (slot_at self.now vm).frames) }
+    {
+        Some(*self.slot(vm)?.list())
+    }
+
+    /// The mapped guest frames of a VM slot with their frames, by rising guest frame; none for a slot that does not
+    /// exist. `Memory` where a growth was refused.
+    pub fn entries(&self, alloc: Global, vm: u32) -> Result<Vec<(Gfn, FrameNo)>, Memory>
+        // No clause can rule out want of memory: a test lists entries.
+        ensures { IfOk result (λ entries. entries.items ≡ finite.entries (slot_at self.now vm).mapped) }
+    {
+        match self.slot(vm) {
+            Some(slot) => slot.table().entries(alloc),
+            None => Ok(Vec::new(alloc)),
+        }
+    }
+
     /// The VM slot of this number, which is the state's but for the list of its frames; `None` where there is none.
     fn slot(&self, vm: u32) -> Option<&Vm>
         ensures exists { IsSome result ↔ (vm < slot_count self.now.config) }
         ensures value { IfSome result (λ slot. slot_at self.now vm ≡ unlinked_slot slot.now.slot (slot_at self.now vm).frames) }
         ensures lawful { IsLawful self.now }
+        ensures linked { IfSome result (λ slot. slot.now.slot.ends ≡ ends_of (slot_at self.now vm).frames) }
     {
         self.parts.vm(self.config.vm(vm)?)
     }
@@ -264,10 +298,11 @@ impl KCore {
         self.parts.pages()
     }
 
-    /// Zeroes all bytes and changes nothing else.
-    pub fn wipe(&mut self)
+    /// Zeroes all bytes, by several threads, and changes nothing else. It is never refused: where no thread can be
+    /// started, this one does all.
+    pub fn wipe(&mut self, rt: &(impl Threads + Sync))
         ensures { self.new ≡ wiped self.old }
     {
-        scrub_each(self.parts.pages_mut());
+        scrub_all(rt, self.parts.pages_mut());
     }
 }

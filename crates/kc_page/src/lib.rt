@@ -5,4 +5,4 @@ mod bytes;
 mod page;
 
 pub use bytes::PageBytes;
-pub use page::{Page, PageRecord, scrub_each};
+pub use page::{Page, PageRecord, scrub_all, scrub_each};

@@ -4,6 +4,8 @@ ghost use Rattle.kc_page.specs.Pages.{scrubbed_page};
 
 use crate::PageBytes;
 use kc_types::{FrameNo, Gfn, Owner};
+use rayon::prelude::par_chunks_mut_for_each;
+use std::thread::Threads;
 
 /// What the core keeps of a frame beside its bytes.
 #[derive(Clone, Copy, Debug, PartialEq, Eq)]
@@ -35,4 +37,22 @@ pub fn scrub_each(pages: &mut [Page])
     for page in pages.iter_mut() {
         page.bytes.scrub();
     }
+}
+
+/// Some 100 microseconds of work for a thread.
+const PAGES_A_CHUNK: usize = 256;
+
+/// Zeroes the bytes of all pages and keeps their records, by several threads. It is never refused: where no thread
+/// can be started, this one does all.
+pub fn scrub_all(rt: &(impl Threads + Sync), pages: &mut [Page])
+    ensures { pages.new ≡ map scrubbed_page pages.old }
+{
+    par_chunks_mut_for_each(
+        rt,
+        pages,
+        PAGES_A_CHUNK,
+        |_start: usize, chunk: &mut [Page]|
+            ensures { chunk.exit.now ≡ map scrubbed_page chunk.entry.now }
+        { scrub_each(chunk) },
+    );
 }

@@ -25,11 +25,11 @@ fn refused_configurations(rt: HostRuntime) {
     for (config, fault) in cases {
         let outcome = Err(TextFault::Config(fault));
         assert!(rt;
-            gives(rt.alloc(), config, b"kcore-trace 1\n", outcome, b""),
+            gives(&rt, rt.alloc(), config, b"kcore-trace 1\n", outcome, b""),
             "at {config}"
         );
     }
-    assert!(rt; gives(rt.alloc(), SMALL, b"kcore-trace 1\n", Ok(()), b""));
+    assert!(rt; gives(&rt, rt.alloc(), SMALL, b"kcore-trace 1\n", Ok(()), b""));
 }
 
 #[test]

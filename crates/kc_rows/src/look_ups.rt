@@ -100,7 +100,7 @@ fn wiping_leaves_records(rt: HostRuntime) {
     assert!(rt; core.is_some());
     if let Some(mut core) = core {
         assert!(rt; begins_with(&core, 1, b"abc\0"));
-        core.wipe();
+        core.wipe(&rt);
         check_wiped(&rt, &core);
     }
 }

@@ -79,14 +79,18 @@ fn writes(alloc: Global) -> Result<Vec<u8>, Fail> {
 }
 
 /// Whether the replies went out to a sink that takes few bytes at a time and fails after so many, and what it took.
-fn replied_until(alloc: Global, left: usize) -> Result<(bool, Vec<u8>), Fail> {
+fn replied_until(
+    rt: &(impl Threads + Sync),
+    alloc: Global,
+    left: usize,
+) -> Result<(bool, Vec<u8>), Fail> {
     let mut config = Mem::with_bytes(SMALL.as_bytes().to_vec(alloc)?);
     let mut trace = Mem::with_bytes(reads(alloc)?);
     let inner = Few {
         inner: Mem::new(alloc),
     };
     let mut out = FailAt::new(inner, left);
-    let outcome = replay_text(alloc, &mut config, &mut trace, &mut out, 1);
+    let outcome = replay_text(rt, alloc, &mut config, &mut trace, &mut out, 1);
     Ok((outcome.is_ok(), out.inner.inner.bytes))
 }
 
@@ -100,7 +104,7 @@ fn replies_go_out_whole_or_to_where_the_sink_fails(rt: HostRuntime) -> Result<()
     for left in [
         0, 1, 9, 10, 8_207, 8_212, 32_830, 65_535, 65_537, 131_073, 139_623, 139_624, 139_625,
     ] {
-        let (is_whole, taken) = replied_until(rt.alloc(), left)?;
+        let (is_whole, taken) = replied_until(&rt, rt.alloc(), left)?;
         assert_eq!(rt; is_whole, left >= whole, "{left}");
         assert!(rt; taken.as_slice() == &wanted[..left.min(whole)], "{left}");
     }

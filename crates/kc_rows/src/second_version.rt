@@ -26,7 +26,16 @@ fn ranges(rt: HostRuntime) -> Result<(), Fail> {
     let replies = format!(in alloc;
         "{BOOTED}fault 1\ndone\ndone\ndone\ndone\ndata 616263\nrefused not-mapped\ndone\nrefused not-shared\ndata 61\ndone\nrefused not-present\n"
     )?;
-    assert!(rt; gives(alloc, SMALL, calls.as_bytes(), Ok(()), replies.as_bytes()));
+    assert!(rt;
+        gives(
+            &rt,
+            alloc,
+            SMALL,
+            calls.as_bytes(),
+            Ok(()),
+            replies.as_bytes()
+        )
+    );
     Ok(())
 }
 
@@ -40,7 +49,16 @@ fn refused_ranges(rt: HostRuntime) -> Result<(), Fail> {
     let replies = format!(in alloc;
         "{BOOTED}refused bad-vm\nrefused bad-vcpu\nrefused bad-gfn\nrefused bad-range\nrefused bad-range\nrefused not-mapped\nrefused bad-gfn\nrefused bad-gfn\nrefused no-vm\nrefused no-vcpu\nrefused not-shared\n"
     )?;
-    assert!(rt; gives(alloc, SMALL, calls.as_bytes(), Ok(()), replies.as_bytes()));
+    assert!(rt;
+        gives(
+            &rt,
+            alloc,
+            SMALL,
+            calls.as_bytes(),
+            Ok(()),
+            replies.as_bytes()
+        )
+    );
     Ok(())
 }
 
@@ -56,7 +74,16 @@ fn all_or_nothing(rt: HostRuntime) -> Result<(), Fail> {
     let replies = format!(in alloc;
         "{BOOTED}fault 1\ndone\n{done}refused share-full\nrefused protected\nrefused not-shared\n"
     )?;
-    assert!(rt; gives(alloc, SMALL, calls.as_bytes(), Ok(()), replies.as_bytes()));
+    assert!(rt;
+        gives(
+            &rt,
+            alloc,
+            SMALL,
+            calls.as_bytes(),
+            Ok(()),
+            replies.as_bytes()
+        )
+    );
     Ok(())
 }
 
@@ -65,9 +92,9 @@ fn all_or_nothing(rt: HostRuntime) -> Result<(), Fail> {
 fn slots(rt: HostRuntime) {
     let calls = b"kcore-trace 1\nregvm 16\nregvm 64\n";
     let first = b"refused bad-vm\nrefused bad-vm\n";
-    assert!(rt; gives(rt.alloc(), SMALL, calls, Ok(()), first));
+    assert!(rt; gives(&rt, rt.alloc(), SMALL, calls, Ok(()), first));
     let second = b"done\nrefused bad-vm\n";
-    assert!(rt; gives(rt.alloc(), SECOND, calls, Ok(()), second));
+    assert!(rt; gives(&rt, rt.alloc(), SECOND, calls, Ok(()), second));
 }
 
 /// It sets its frames too.
@@ -88,7 +115,7 @@ fn frames(rt: HostRuntime) -> Result<(), Fail> {
 fn versions(rt: HostRuntime) {
     let third = "{\"version\":3,\"frames\":8,\"core\":1,\"host\":4,\"leaves\":1,\"approved\":[]}";
     let outcome = Err(TextFault::Config(ConfigTextFault::BadShape));
-    assert!(rt; gives(rt.alloc(), third, b"kcore-trace 1\n", outcome, b""));
+    assert!(rt; gives(&rt, rt.alloc(), third, b"kcore-trace 1\n", outcome, b""));
 }
 
 /// The two calls stand behind the second header alone, and there is no third.

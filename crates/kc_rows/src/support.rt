@@ -5,6 +5,7 @@ use kc_trace::read_trace;
 use kc_types::{Call, Config, Owner, Reply};
 use std::alloc::{AllocError, Global};
 use std::process::Abort;
+use std::thread::Threads;
 
 /// The calls of a trace, and the replies that they get.
 #[derive(Drop)]
@@ -87,6 +88,7 @@ pub fn has_frames(core: &KCore, owner: Owner, numbers: &[u32]) -> bool {
 
 /// What the engine answers to a configuration and a trace, and what it wrote.
 pub fn replayed(
+    rt: &(impl Threads + Sync),
     alloc: Global,
     config: &str,
     trace: &[u8],
@@ -94,37 +96,57 @@ pub fn replayed(
     let mut config = Mem::with_bytes(Vec::from_slice(alloc, config.as_bytes())?);
     let mut trace = Mem::with_bytes(Vec::from_slice(alloc, trace)?);
     let mut out = Mem::new(alloc);
-    let outcome = replay_text(alloc, &mut config, &mut trace, &mut out, 1);
+    let outcome = replay_text(rt, alloc, &mut config, &mut trace, &mut out, 1);
     Ok((outcome, out.bytes))
 }
 
 /// Whether the engine answers so to a configuration and a trace, and writes this.
 pub fn gives(
+    rt: &(impl Threads + Sync),
     alloc: Global,
     config: &str,
     trace: &[u8],
     outcome: Result<(), TextFault>,
     text: &[u8],
 ) -> bool {
-    match replayed(alloc, config, trace) {
+    match replayed(rt, alloc, config, trace) {
         Ok((answered, written)) => answered == outcome && written.as_slice() == text,
         Err(_) => false,
     }
 }
 
 /// Whether an example's calls, after others, get its replies after theirs.
-fn holds(alloc: Global, config: &str, before: &Example, example: &Example) -> Option<bool> {
+fn holds(
+    rt: &(impl Threads + Sync),
+    alloc: Global,
+    config: &str,
+    before: &Example,
+    example: &Example,
+) -> Option<bool> {
     let trace = format!(in alloc; "kcore-trace 1\n{}{}", before.calls, example.calls).ok()?;
     let replies = format!(in alloc; "{}{}", before.replies, example.replies).ok()?;
-    let found = gives(alloc, config, trace.as_bytes(), Ok(()), replies.as_bytes());
+    let found = gives(
+        rt,
+        alloc,
+        config,
+        trace.as_bytes(),
+        Ok(()),
+        replies.as_bytes(),
+    );
     Some(found)
 }
 
 /// Each example's calls, after others, get its replies after theirs.
-pub fn hold(rt: &impl Abort, alloc: Global, config: &str, before: &Example, examples: &[Example]) {
+pub fn hold(
+    rt: &(impl Abort + Threads + Sync),
+    alloc: Global,
+    config: &str,
+    before: &Example,
+    examples: &[Example],
+) {
     for example in examples {
         assert!(rt;
-            holds(alloc, config, before, example) == Some(true),
+            holds(rt, alloc, config, before, example) == Some(true),
             "at {}",
             example.calls
         );

@@ -73,7 +73,7 @@ fn refused_traces_write_nothing(rt: HostRuntime) {
     for (trace, fault) in cases {
         let outcome = Err(TextFault::Trace(fault));
         assert!(rt;
-            gives(rt.alloc(), SMALL, trace.as_bytes(), outcome, b""),
+            gives(&rt, rt.alloc(), SMALL, trace.as_bytes(), outcome, b""),
             "at {trace:?}"
         );
     }
@@ -92,7 +92,7 @@ fn a_cut_trace(rt: HostRuntime) -> Result<(), Fail> {
         } else {
             Err(TextFault::Trace(TraceFault::NoNewline))
         };
-        let (outcome, _) = replayed(rt.alloc(), SMALL, part)?;
+        let (outcome, _) = replayed(&rt, rt.alloc(), SMALL, part)?;
         assert_eq!(rt; outcome, wanted, "at {end}");
     }
     Ok(())

@@ -137,7 +137,16 @@ fn a_hundred_grants(rt: HostRuntime) -> Result<(), Fail> {
         "{}{WRITTEN}{done}refused share-full\ndone\ndata 2a\n{done}refused not-present\nrefused not-shared\n",
         BOOTED.replies
     )?;
-    assert!(rt; gives(alloc, SMALL, trace.as_bytes(), Ok(()), replies.as_bytes()));
+    assert!(rt;
+        gives(
+            &rt,
+            alloc,
+            SMALL,
+            trace.as_bytes(),
+            Ok(()),
+            replies.as_bytes()
+        )
+    );
     Ok(())
 }
 

@@ -6,6 +6,7 @@ ghost use Rattle.kc_types.specs.Limits.{leaf_limit};
 ghost use Rattle.kc_stage2.specs.Table.{Table, new_table, with_entry, fits};
 ghost use Rattle.kc_stage2.specs.Faults.{Answers, fault_of};
 
+use crate::entries::entries_of;
 use crate::levels::Levels;
 use kc_types::{FrameNo, Gfn, LEAF_ENTRIES, Memory};
 use std::alloc::Global;
@@ -64,6 +65,15 @@ impl Stage2 {
         ensures { result.now ≡ self.now.leaves }
     {
         self.levels.leaves.as_slice()
+    }
+
+    /// All mapped guest frames with their frames, by rising guest frame. Only the leaves that are taken are read.
+    /// `Memory` where a growth was refused.
+    pub fn entries(&self, alloc: Global) -> Result<Vec<(Gfn, FrameNo)>, Memory>
+        // No clause can rule out want of memory: a test lists entries.
+        ensures { IfOk result (λ entries. entries.items ≡ finite.entries self.now.mapped) }
+    {
+        entries_of(alloc, &self.levels)
     }
 
     /// Whether the guest frame's root slot has a leaf or can take one.

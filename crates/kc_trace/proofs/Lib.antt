@@ -1,7 +1,3 @@
-pub mod Searches
-pub mod Numbers
-pub mod Digits
-pub mod Words
 pub mod Lines
 pub mod Spelled
 pub mod Runs

@@ -14,10 +14,10 @@ use Rattle.kc_model.specs.Ranged.{IsWord, IsRanged}
 use Rattle.kc_trace.specs.Spelling.{words_of, line_of}
 use Rattle.kc_trace.specs.Reading.{with_three_numbers, four_words, call_of_words, call_of}
 use Rattle.kc_trace.specs.Machine.{longest_line}
-use Rattle.kc_trace.specs.Trace.{IsOneLine}
-use Rattle.kc_trace.proofs.Numbers.{number_of-decimal}
-use Rattle.kc_trace.proofs.Digits.{data_of-encode_lower}
-use Rattle.kc_trace.proofs.Words.{is_space, is_word, width, split_join, join_is_one_line, length-join, decimal_is_word, encoded_is_word}
+use Rattle.kc_lines.specs.Lines.{IsOneLine}
+use Rattle.kc_lines.proofs.Numbers.{number_of-decimal}
+use Rattle.kc_lines.proofs.Digits.{data_of-encode_lower}
+use Rattle.kc_lines.proofs.Words.{is_space, is_word, width, split_join, join_is_one_line, length-join, decimal_is_word, encoded_is_word}
 
 -- ---- the words of a call, read
 

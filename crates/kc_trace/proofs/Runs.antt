@@ -11,46 +11,13 @@ use Rattle.kc_types.specs.declared.call.Call.{Call}
 use Rattle.kc_trace.specs.declared.fault.TraceFault.{TraceFault}
 use Rattle.kc_trace.specs.declared.fault.TraceFault.TheVariants.{NoHeader, BadLine, TooManyCalls}
 use Rattle.kc_trace.specs.Machine.{◌>>=◌, Progress, told, longest_line, longer, longer_each, call_in, after_line, with_front, step, feed}
-use Rattle.kc_trace.specs.Trace.{IsOneLine}
-use Rattle.kc_trace.proofs.Words.{chosen}
+use Rattle.kc_lines.specs.Lines.{IsOneLine}
+use Rattle.kc_lines.proofs.Newlines.{tail_is}
 
 pub is_done : (front : List Call) (p : Progress) (rest : List ℕ) (total : Result (Progress × List Call) TraceFault) → length rest ≡ 0 → with_front front (feed p rest) ≡ total → total ≡ Ok (p, front)
 unfolding feed
 is_done front p [] total none so_far = sym so_far ∙ ap (λ (cs : List Call). Ok (p, cs)) (append-nil front)
 is_done front p (byte ∷ left) total none so_far = absurd (omega arith)
-
--- ---- bytes in front of a newline, in one go
-
-prefix_holds : (q : ℕ → Bool) (n : ℕ) (xs : List ℕ) → n ≤ prefix_len q xs → list_all q (take n xs) ≡ true
-prefix_holds q zero xs le = refl
-prefix_holds q (suc n) [] le = refl
-prefix_holds q (suc n) (x ∷ xs) le =
-    elim (cases_Bool (q x)) [
-      | inl h ↦ let more : suc n ≤ 1 + prefix_len q xs = rw h at le in and_from (q x) (list_all q (take n xs)) h (prefix_holds q n xs (omega arith))
-      | inr h ↦ let none : suc n ≤ 0 = rw h at le in absurd (omega arith)
-    ]
-
-abbrev is_newline : ℕ → Bool
-is_newline b = b == 10
-
--- a line, and what stands behind its newline
-pub line_ends_at : (xs : List ℕ) (at : ℕ) → position is_newline xs ≡ Some at → IsOneLine (take at xs) × (xs ≡ take at xs ++ 10 ∷ drop (at + 1) xs)
-line_ends_at xs at e =
-    elim (chosen (nat_lt (position_or_len is_newline xs) (length xs)) (Some (position_or_len is_newline xs)) None (Some at) e) [
-      | inl h ↦
-          let same : position_or_len is_newline xs ≡ at = cc in
-          let within = ltb-true _ _ h.0 in
-          let newline : get_or xs at 0 ≡ 10 = rw same at (eqb-true _ _ (passes_at_first is_newline xs 0 within)) in
-          (prefix_holds (λ b. not (b == 10)) at xs (omega arith), rw newline at (rw same at (split_at_first is_newline xs 0 within)))
-      | inr h ↦ absurd cc
-    ]
-
-pub no_newline : (xs : List ℕ) → position is_newline xs ≡ None → IsOneLine xs
-no_newline xs e =
-    elim (chosen (nat_lt (position_or_len is_newline xs) (length xs)) (Some (position_or_len is_newline xs)) None None e) [
-      | inl h ↦ absurd cc
-      | inr h ↦ rw (take_all (length xs) xs (omega arith)) at (prefix_holds (λ b. not (b == 10)) (length xs) xs (ltb-false _ _ h.0))
-    ]
 
 -- a line that is longer than any call stays so
 none_longer : (run : List ℕ) → longer_each None run ≡ None
@@ -122,10 +89,6 @@ whole_fits line fits = fits_longer [] line (omega arith)
 
 pub whole_over : (line : List ℕ) → longest_line < length line → longer_each (Some []) line ≡ None
 whole_over line over = over_longer [] line (omega arith) (omega arith)
-
--- what stands behind the first so many bytes
-pub tail_is : (n : ℕ) (xs : List ℕ) → take (length xs - n) (drop n xs) ≡ drop n xs
-tail_is n xs = take_all (length xs - n) (drop n xs) (omega (arith, length-drop n xs))
 
 pub nothing_behind : (xs : List ℕ) → take (length xs - length xs) (drop (length xs) xs) ≡ []
 nothing_behind xs = tail_is (length xs) xs ∙ drop_all (length xs) xs (omega arith)

@@ -12,10 +12,11 @@ use Rattle.kc_types.specs.declared.call.Call.{Call}
 use Rattle.kc_types.specs.declared.call.Call.TheVariants.{Take, Give, HostFault, HostRead, HostWrite, RegisterVm, RegisterVcpu, SetBoot, Remap, Verify, Map, GuestRead, GuestWrite, Grant, Revoke, GrantRange, RevokeRange, Drop, Clear}
 use Rattle.kc_model.specs.Ranged.{IsWord, IsRanged}
 use Rattle.kc_trace.specs.Spelling.{words_of, line_of}
-use Rattle.kc_trace.specs.Reading.{number_of, data_of, one_word, with_one_number, with_two_numbers, with_three_numbers, with_four_numbers, host_access, guest_access, two_words, three_words, four_words, five_words, six_words, call_of_words, call_of}
-use Rattle.kc_trace.proofs.Numbers.{number_is_decimal}
-use Rattle.kc_trace.proofs.Digits.{data_is_spelled}
-use Rattle.kc_trace.proofs.Words.{is_space, chosen}
+use Rattle.kc_lines.specs.Words.{number_of, data_of}
+use Rattle.kc_trace.specs.Reading.{one_word, with_one_number, with_two_numbers, with_three_numbers, with_four_numbers, host_access, guest_access, two_words, three_words, four_words, five_words, six_words, call_of_words, call_of}
+use Rattle.kc_lines.proofs.Numbers.{number_is_decimal}
+use Rattle.kc_lines.proofs.Digits.{data_is_spelled}
+use Rattle.kc_lines.proofs.Words.{is_space, chosen}
 
 -- these are the words of the call, and it is in range
 record IsSpelled (words : List (List ℕ)) (call : Call) : Type 0 where

@@ -13,7 +13,8 @@ use Rattle.kc_trace.specs.declared.fault.TraceFault.{TraceFault}
 use Rattle.kc_trace.specs.declared.fault.TraceFault.TheVariants.{NoHeader, BadLine, NoNewline, TooManyCalls, Memory}
 use Rattle.kc_trace.specs.Spelling.{line_of, lines_of, header, stands_in}
 use Rattle.kc_trace.specs.Machine.{◌>>=◌, Gives, Fails, Progress, longest_line, start, longer, told, standing, call_of_kept, call_in, after_line, step, feed, feed_each, line_ended, ended, reading}
-use Rattle.kc_trace.specs.Trace.{IsOneLine, IsCallOf, AreCalls, StopsAt, IsTrace, IsRefused}
+use Rattle.kc_lines.specs.Lines.{IsOneLine}
+use Rattle.kc_trace.specs.Trace.{IsCallOf, AreCalls, StopsAt, IsTrace, IsRefused}
 use Rattle.kc_trace.proofs.Lines.{line_fits, line_is_one, call_of-line_of}
 use Rattle.kc_trace.proofs.Spelled.{line_is_spelled}
 

@@ -1,38 +1,10 @@
 -- What a line of words is read as.
-use Rattle.std.specs.Prelude.{◌+◌, ◌*◌, ◌%◌, ◌^◌, ◌==◌, ◌&&◌, ◌||◌, not, nat_lt, nat_le, ℕ, Bool, List, [], ◌∷◌, length, slice_index, codes, Option, Some, None, option_map, option_and_then, if◌then◌else◌}
-use Rattle.std.specs.List.{list_all, slice_split}
-use Rattle.std.specs.Result.{result_ok}
+use Rattle.std.specs.Prelude.{◌==◌, ℕ, List, [], ◌∷◌, codes, Option, Some, None, option_map, option_and_then, if◌then◌else◌}
+use Rattle.std.specs.List.{slice_split}
 use Rattle.std.specs.Str.{bytes_eq}
-use Rattle.std.specs.Char.{is_ascii_digit}
-use Rattle.std.specs.Str.Parse.{digits_value}
-use Rattle.hex.specs.Hex.{decode_of}
-use Rattle.kc_types.specs.Limits.{page_size}
 use Rattle.kc_types.specs.declared.call.Call.{Call}
 use Rattle.kc_types.specs.declared.call.Call.TheVariants.{Take, Give, HostFault, HostRead, HostWrite, RegisterVm, RegisterVcpu, SetBoot, Remap, Verify, Map, GuestRead, GuestWrite, Grant, Revoke, GrantRange, RevokeRange, Drop, Clear}
-
--- digits with no leading zero
-abbrev pub is_numeral : List ℕ → Bool
-is_numeral word = list_all is_ascii_digit word && not (length word == 0) && (length word == 1 || not (slice_index word 0 == 48))
-
--- a number of 32 bits
-unfoldable pub number_of : List ℕ → Option ℕ
-number_of word = if is_numeral word && nat_lt (digits_value 10 word) (2 ^ 32) then Some (digits_value 10 word) else None
-
--- a lower case hexadecimal digit
-abbrev pub is_lower_digit : ℕ → Bool
-is_lower_digit c = (nat_le 48 c && nat_le c 57) || (nat_le 97 c && nat_le c 102)
-
--- the value of a lower case digit
-abbrev pub digit_value : ℕ → ℕ
-digit_value c = if nat_lt c 97 then c % 16 else (c % 16 + 9) % 16
-
--- from 1 to 8,192 lower case digits
-abbrev pub is_data_word : List ℕ → Bool
-is_data_word word = list_all is_lower_digit word && not (length word == 0) && nat_le (length word) (2 * page_size)
-
--- from 1 to 4,096 bytes, in lower case digits
-unfoldable pub data_of : List ℕ → Option (List ℕ)
-data_of word = if is_data_word word then result_ok (decode_of word) else None
+use Rattle.kc_lines.specs.Words.{number_of, data_of}
 
 -- ---- a name and so many numbers
 

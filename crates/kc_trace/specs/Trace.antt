@@ -1,17 +1,14 @@
 -- Which text is which list of calls, and why a text is none.
-use Rattle.std.specs.Prelude.{◌≡◌, ◌+◌, ◌<◌, ◌≤◌, ◌==◌, not, true, ℕ, List, ◌∷◌, ◌++◌, length}
-use Rattle.std.specs.List.{list_all, AllByRecursion}
+use Rattle.std.specs.Prelude.{◌≡◌, ◌+◌, ◌<◌, ◌≤◌, true, ℕ, List, ◌∷◌, ◌++◌, length}
+use Rattle.std.specs.List.{AllByRecursion}
 use Rattle.kc_types.specs.Limits.{call_limit}
 use Rattle.kc_types.specs.declared.version.Version.{Version}
 use Rattle.kc_types.specs.declared.call.Call.{Call}
 use Rattle.kc_model.specs.Ranged.{IsRanged}
+use Rattle.kc_lines.specs.Lines.{IsOneLine}
 use Rattle.kc_trace.specs.declared.fault.TraceFault.{TraceFault}
 use Rattle.kc_trace.specs.declared.fault.TraceFault.TheVariants.{NoHeader, BadLine, NoNewline, TooManyCalls, Memory}
 use Rattle.kc_trace.specs.Spelling.{line_of, lines_of, header, text_of, stands_in}
-
--- the bytes hold no newline
-abbrev pub IsOneLine : List ℕ → Type 0
-IsOneLine bytes = list_all (λ b. not (b == 10)) bytes ≡ true
 
 -- a call that a trace of this version may have: its numbers and bytes are in range
 abbrev pub IsCallOf : Version → Call → Type 0

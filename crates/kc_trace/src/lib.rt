@@ -2,15 +2,11 @@
 #![tactic(auto)]
 
 mod config_text;
-mod data_word;
 mod fault;
 pub mod laws;
 mod line;
-mod number;
 mod reader;
 mod reply_writer;
-mod room;
-mod search;
 mod writer;
 
 pub use config_text::{ConfigTextFault, read_config};

@@ -3,9 +3,7 @@ ghost use Rattle.std.specs.Prelude.{◌≡◌, ◌==◌, [], ◌∷◌, IfOk, Ma
 ghost use Rattle.std.specs.List.{slice_split};
 ghost use Rattle.kc_trace.specs.Reading.{one_word, with_one_number, with_two_numbers, with_three_numbers, with_four_numbers, two_words, three_words, host_access, four_words, five_words, guest_access, six_words, call_of_words, call_of};
 
-use crate::data_word::read_data;
-use crate::number::read_number;
-use crate::search::first_at;
+use kc_lines::{read_data, read_number, split_word};
 use kc_types::Call;
 use std::alloc::{AllocError, Global};
 
@@ -239,17 +237,6 @@ fn read_six_words(
         return Ok(None);
     };
     read_guest_access(alloc, name, (first, second, third, fourth), fifth)
-}
-
-/// The first word of a line and what stands behind the space after it, or nothing where the line is one word.
-fn split_word(line: &[u8]) -> Option<(&[u8], &[u8])>
-    ensures { MatchOption result (slice_split (λ b. b == 32) line.now ≡ line.now ∷ [])
-        (λ cut. slice_split (λ b. b == 32) line.now ≡ cut.0.now ∷ slice_split (λ b. b == 32) cut.1.now) }
-{
-    match first_at(b' ', line) {
-        Some(at) => Some((&line[..at], &line[at + 1..])),
-        None => None,
-    }
 }
 
 /// The call that a line is, without its newline.

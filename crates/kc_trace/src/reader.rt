@@ -3,14 +3,14 @@ ghost use Rattle.std.specs.Prelude.{◌≡◌, ◌≢◌, ◌⊎◌, ◌+◌, �
 ghost use Rattle.std.specs.Option.{option_to_list};
 ghost use Rattle.kc_types.specs.Limits.{call_limit};
 ghost use Rattle.kc_types.specs.declared.call.Call.{Call};
-ghost use Rattle.kc_trace.specs.Trace.{IsOneLine, IsTrace, IsRefused};
+ghost use Rattle.kc_trace.specs.Trace.{IsTrace, IsRefused};
 ghost use Rattle.kc_trace.specs.Machine.{Gives, Fails, start, with_front, feed, fed, ended, reading, told, standing, call_of_kept, call_in, longer_each};
 
 use crate::fault::TraceFault;
 use crate::line::call_of_line;
-use crate::search::first_at;
 use crate::writer::stands_in;
 use arrayvec::ArrayVec;
+use kc_lines::split_line;
 use kc_types::{CALL_LIMIT, Call, Version};
 use std::alloc::{AllocError, Global};
 use std::marker::Model;
@@ -19,16 +19,6 @@ const HEADER: &[u8; 14] = b"kcore-trace 1\n";
 
 /// The bytes of the longest line of a call, without its newline.
 const LONGEST_LINE: usize = 8_243;
-
-/// What stands in front of the first newline and what behind it, where there is one.
-fn split_line(bytes: &[u8]) -> Option<(&[u8], &[u8])>
-    ensures { MatchOption result (IsOneLine bytes.now) (λ cut. IsOneLine cut.0.now × (bytes.now ≡ cut.0.now ++ 10 ∷ cut.1.now)) }
-{
-    match first_at(b'\n', bytes) {
-        Some(at) => Some((&bytes[..at], &bytes[at + 1..])),
-        None => None,
-    }
-}
 
 /// The version that the header tells, where this byte is to come of the first version's: the digit 2 may stand for
 /// its 1.

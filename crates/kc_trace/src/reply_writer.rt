@@ -5,8 +5,8 @@ ghost use Rattle.std.specs.Fmt.{decimal};
 ghost use Rattle.hex.specs.Hex.{encode_lower};
 ghost use Rattle.kc_trace.specs.ReplyText.{longest_reply, reply_line_of, reply_text_of};
 
-use crate::room::{push_bytes, push_digits};
 use itoa::Buffer;
+use kc_lines::{push_bytes, push_digits};
 use kc_types::{Data, Memory, Reply};
 use std::alloc::Global;
 

@@ -6,7 +6,7 @@ ghost use Rattle.hex.specs.Hex.{encode_lower};
 ghost use Rattle.kc_types.specs.Limits.{call_limit};
 ghost use Rattle.kc_trace.specs.Spelling.{is_new, stands_in, version_of, header, line_of, longest_call, trace_of};
 
-use crate::room::{push_bytes, push_digits, push_number};
+use kc_lines::{push_bytes, push_digits, push_number};
 use kc_types::{Call, Data, Memory, Version};
 use std::alloc::Global;
 

@@ -23,7 +23,7 @@ fn fail(rt: &HostRuntime, fault: TextFault) -> u8 {
 }
 
 /// Replays the trace on standard input onto standard output, and answers the exit status.
-fn replay(rt: &HostRuntime, config: Option<&str>) -> u8 {
+fn replay<R: Threads + Sync>(rt: &HostRuntime, threads: &R, config: Option<&str>) -> u8 {
     let alloc = rt.alloc();
     let mut trace = Std::new(rt.stdin());
     let mut out = Std::new(rt.stdout());
@@ -32,13 +32,15 @@ fn replay(rt: &HostRuntime, config: Option<&str>) -> u8 {
             let Ok(file) = File::open(rt, path) else {
                 return fail(rt, TextFault::Read);
             };
-            replay_text(alloc, &mut Std::new(file), &mut trace, &mut out, 1)
+            let config = &mut Std::new(file);
+            replay_text(threads, alloc, config, &mut trace, &mut out, 1)
         },
         None => {
             let Ok(bytes) = Vec::from_slice(alloc, DEFAULT_CONFIG) else {
                 return fail(rt, TextFault::Memory);
             };
-            replay_text(alloc, &mut Mem::with_bytes(bytes), &mut trace, &mut out, 1)
+            let config = &mut Mem::with_bytes(bytes);
+            replay_text(threads, alloc, config, &mut trace, &mut out, 1)
         },
     };
     match outcome {
@@ -132,7 +134,7 @@ fn run<R: Threads + Wait + Sync>(rt: &HostRuntime, threads: &R) -> u8 {
         return fail(rt, TextFault::Memory);
     };
     match job_of(rt.alloc(), words.as_slice()) {
-        Ok(Job::Replay { config }) => replay(rt, config),
+        Ok(Job::Replay { config }) => replay(rt, threads, config),
         Ok(Job::Live { config }) => live(rt, threads, config),
         Err(fault) => refuse(rt, fault),
     }

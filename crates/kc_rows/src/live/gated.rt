@@ -137,9 +137,9 @@ fn has_three_receipts(rows: &[Vec<Receipt>]) -> bool {
 }
 
 /// How many calls a history has whose core was wiped.
-fn calls_when_wiped(history: History) -> usize {
+fn calls_when_wiped(rt: &(impl Threads + Sync), history: History) -> usize {
     let (entries, mut core) = history.into_parts();
-    core.wipe();
+    core.wipe(rt);
     entries.len()
 }
 
@@ -149,7 +149,7 @@ fn a_program_may_make_no_calls(rt: HostRuntime) -> Result<(), Fail> {
     let (history, rows) = run(&rt, rt.alloc(), &actors, &OpenGate).ok_or("no answer")?;
     assert_eq!(rt; history.entries().len(), 3);
     assert!(rt; has_three_receipts(&rows));
-    assert_eq!(rt; calls_when_wiped(history), 3);
+    assert_eq!(rt; calls_when_wiped(&rt, history), 3);
     Ok(())
 }
 

@@ -1,5 +1,6 @@
 use Rattle.std.proofs.Common.{sym, ◌∙◌}
-use Rattle.kc_trace.proofs.Runs.{next_of_header, not_of_header, one_too_many, tail_is}
+use Rattle.kc_lines.proofs.Newlines.{tail_is}
+use Rattle.kc_trace.proofs.Runs.{next_of_header, not_of_header, one_too_many}
 use Rattle.kc_trace.proofs.reader.Progress.take_some.Goals as goal
 
 pub returns-in_default-told-clause-same : goal.returns-in_default-told-clause-same

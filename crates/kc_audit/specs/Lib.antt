@@ -1,0 +1,5 @@
+pub mod Verdicts
+pub mod Findings
+pub mod Walking
+pub mod Counts
+pub mod Marks

@@ -1,0 +1,55 @@
+//! The audit of a dump.
+ghost use Rattle.std.specs.Prelude.{◌≡◌, ◌+◌, ◌≤◌, ◌↔◌, [], length, map, IfOk};
+ghost use Rattle.std.specs.List.{range_with_len};
+ghost use Rattle.kc_types.specs.Limits.{frame_limit, slot_limit};
+ghost use Rattle.kc_audit.specs.Findings.{AreFindings, AreLists, AreListsFrom, verdicts_of, verdict_of};
+ghost use Rattle.kc_dump.specs.Sound.{IsSound};
+
+use crate::Finding;
+use crate::collect::findings;
+use crate::counts::counts;
+use crate::frames::{judge_frames, zero_digest};
+use crate::lists::judge_lists;
+use crate::marks::marks;
+use crate::verdict::FrameVerdict;
+use kc_dump::Dump;
+use kc_types::Memory;
+use std::alloc::Global;
+
+fn verdicts(alloc: Global, dump: &Dump) -> Result<Vec<FrameVerdict>, Memory>
+    ensures verdicts { IfOk result (λ verdicts. verdicts.items ≡ verdicts_of dump.now) }
+    ensures few { IfOk result (λ verdicts. length verdicts.items ≤ frame_limit) }
+{
+    let marks = marks(alloc, dump)?;
+    let mut verdicts = vec![in alloc; FrameVerdict::default(); dump.frames().len()]?;
+    judge_frames(
+        dump,
+        marks.as_slice(),
+        &zero_digest(),
+        0,
+        verdicts.as_mut_slice(),
+    );
+    Ok(verdicts)
+}
+
+fn lists(alloc: Global, dump: &Dump) -> Result<Vec<bool>, Memory>
+    ensures lists { IfOk result (λ lists. AreLists dump.now lists.items) }
+    ensures few { IfOk result (λ lists. length lists.items ≤ slot_limit + 1) }
+{
+    let counts = counts(alloc, dump)?;
+    let mut lists = vec![in alloc; false; dump.slots().len() + 1]?;
+    judge_lists(dump, counts.as_slice(), 0, lists.as_mut_slice());
+    Ok(lists)
+}
+
+/// What is wrong with a dump: the kinds of finding in their order, and within a kind by slot, guest frame or frame,
+/// rising. `Memory` where a growth was refused.
+pub fn audit(alloc: Global, dump: &Dump) -> Result<Vec<Finding>, Memory>
+    // No clause can rule out want of memory: a test audits dumps.
+    ensures found { IfOk result (λ found. AreFindings dump.now found.items) }
+    ensures sound { IfOk result (λ found. (found.items ≡ []) ↔ IsSound dump.now) }
+{
+    let verdicts = verdicts(alloc, dump)?;
+    let lists = lists(alloc, dump)?;
+    findings(alloc, dump, verdicts.as_slice(), lists.as_slice())
+}

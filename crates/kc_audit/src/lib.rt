@@ -1,0 +1,21 @@
+//! The audit of dumps: what is found in a dump that no core in order shows. Dumps are handed on from `kc_dump`, the
+//! digests of pages from `kc_digests`.
+#![tactic(auto)]
+
+mod auditing;
+mod chain;
+mod collect;
+mod counts;
+mod finding;
+mod frames;
+mod leaves;
+mod lists;
+mod marks;
+mod parallel;
+mod verdict;
+
+pub use auditing::audit;
+pub use finding::Finding;
+pub use kc_digests::frame_digests;
+pub use kc_dump::{Dump, FrameLine, SlotDump, dump};
+pub use parallel::audit_parallel;

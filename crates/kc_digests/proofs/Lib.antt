@@ -1,0 +1,4 @@
+mod LaneLemmas
+mod Maj
+mod PageHash
+mod Places

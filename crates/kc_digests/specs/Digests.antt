@@ -1,0 +1,8 @@
+-- The digest of a page.
+use Rattle.std.specs.Prelude.{ℕ, List}
+use Rattle.sha2.specs.Sha256.{sha256}
+use Rattle.kc_page.specs.declared.page.Page.{Page}
+
+-- the SHA-256 of the page's bytes
+abbrev pub digest_of : Page → List ℕ
+digest_of page = sha256 page.bytes

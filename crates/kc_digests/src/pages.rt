@@ -1,0 +1,59 @@
+//! The digests of many pages.
+ghost use Rattle.std.specs.Prelude.{◌≡◌, ◌+◌, ◌≤◌, IfOk, length, map, slice_range};
+ghost use Rattle.kc_digests.specs.Digests.{digest_of};
+
+use crate::four::digest_four;
+use kc_page::Page;
+use kc_types::Memory;
+use rayon::prelude::par_chunks_mut_for_each;
+use sha2::{Digest, Sha256};
+use std::alloc::Global;
+use std::thread::Threads;
+
+/// A multiple of four, so that only the last chunk has pages that are hashed one by one; some 300 microseconds of
+/// work for a thread.
+const PAGES_A_CHUNK: usize = 64;
+
+/// Writes the digest of each page, in order.
+fn write_digests(pages: &[Page], out: &mut [[u8; 32]])
+    requires { length out.old ≡ length pages.now }
+    ensures { out.new ≡ map digest_of pages.now }
+{
+    let fours = pages.len() / 4;
+    'fours: for i in 0..fours {
+        let at = 4 * i;
+        let digests = digest_four([
+            pages[at].bytes.as_slice(),
+            pages[at + 1].bytes.as_slice(),
+            pages[at + 2].bytes.as_slice(),
+            pages[at + 3].bytes.as_slice(),
+        ]);
+        out[at..at + 4].copy_from_slice(&digests);
+    }
+    'rest: for i in 4 * fours..pages.len() {
+        out[i] = Sha256::digest(pages[i].bytes.as_slice());
+    }
+}
+
+/// The SHA-256 digest (FIPS 180-4) of each page, in order, by several threads. `Memory` where a growth was refused;
+/// where no thread can be started, this one does all.
+pub fn frame_digests(
+    rt: &(impl Threads + Sync),
+    alloc: Global,
+    pages: &[Page],
+) -> Result<Vec<[u8; 32]>, Memory>
+    // No clause can rule out want of memory: a test hashes pages.
+    ensures { IfOk result (λ digests. digests.items ≡ map digest_of pages.now) }
+{
+    let mut digests = vec![in alloc; [0u8; 32]; pages.len()]?;
+    par_chunks_mut_for_each(
+        rt,
+        digests.as_mut_slice(),
+        PAGES_A_CHUNK,
+        |start: usize, out: &mut [[u8; 32]]|
+            requires { start + length out.now ≤ length pages.now }
+            ensures { out.exit.now ≡ map digest_of (slice_range pages.entry.now start (start + length out.entry.now)) }
+        { write_digests(&pages[start..start + out.len()], out) },
+    );
+    Ok(digests)
+}

@@ -1,0 +1,47 @@
+-- The dump of a state.
+use Rattle.std.specs.Prelude.{ℕ, List, map}
+use Rattle.std.specs.List.{range_with_len}
+use Rattle.std.specs.FinMap as finite
+use Rattle.sha2.specs.Sha256.{sha256}
+use Rattle.kc_model.specs.State.{State, Frame, Slot, frame_at, slot_at}
+use Rattle.kc_model.specs.Links.{Link, link_at}
+use Rattle.kc_model.specs.Linked.{ends_of}
+use Rattle.kc_dump.specs.declared.line.FrameLine.{FrameLine}
+use Rattle.kc_dump.specs.Dumps.{Dumped, SlotDump}
+
+-- a frame with its neighbours
+abbrev pub line_of : Frame → Link → FrameLine
+line_of frame link = record {
+  owner = frame.owner;
+  share = frame.share;
+  gfn = frame.gfn;
+  present = frame.present;
+  prev = link.prev;
+  next = link.next;
+  digest = sha256 frame.bytes;
+}
+
+-- the digest of each frame's page
+abbrev pub digests_of : State → List (List ℕ)
+digests_of m = map (λ (frame : Frame). sha256 frame.bytes) m.frames
+
+-- the first frames, so many of them
+abbrev pub lines_of : State → ℕ → List FrameLine
+lines_of m n = map (λ f. line_of (frame_at m f) (link_at m f)) (range_with_len 0 n)
+
+abbrev pub slot_dump : Slot → SlotDump
+slot_dump slot = record { phase = slot.phase; list = ends_of slot.frames; leaves = slot.leaves; entries = finite.entries slot.mapped }
+
+-- the first slots, so many of them
+abbrev pub slots_of : State → ℕ → List SlotDump
+slots_of m n = map (λ v. slot_dump (slot_at m v)) (range_with_len 0 n)
+
+abbrev pub dump_of : State → Dumped
+dump_of m = record {
+  version = m.config.version;
+  core = m.config.core;
+  leaves = m.config.leaves;
+  free = ends_of m.free;
+  slots = map slot_dump m.slots;
+  frames = lines_of m m.config.frames;
+}

@@ -1,0 +1,6 @@
+pub mod Dumps
+pub mod Ranges
+pub mod Lists
+pub mod Sums
+pub mod Sound
+pub mod Dumping

@@ -1,0 +1,17 @@
+pub mod SpelledLines
+mod Limits
+mod Runs
+pub mod Ordered
+mod DigestWords
+mod LongLines
+mod ReadWords
+pub mod ReadLines
+mod Gathered
+mod Bytes
+mod Steps
+pub mod Fitting
+mod LinesRead
+pub mod Ranged
+mod WholeText
+mod Told
+mod Followed

@@ -1,0 +1,6 @@
+use Rattle.std.proofs.Common.{◌≡◌, ◌++◌, drop}
+use Rattle.kc_dump_text.specs.DumpText.{vm_lines}
+use Rattle.kc_dump_text.proofs.writer.push_vms.Given as goal
+
+abbrev pub invariant-loop-i : goal.invariant-loop-i
+invariant-loop-i l = l.text.items ++ vm_lines l.i (drop l.i l.slots) ≡ l.initial.text.items ++ vm_lines 0 l.slots

@@ -1,0 +1,18 @@
+//! Dumps as text.
+#![tactic(auto)]
+
+mod begun;
+mod dump_line;
+mod fault;
+mod line_reader;
+mod lines;
+mod reader;
+mod stage;
+mod words;
+mod writer;
+
+pub use dump_line::DumpLine;
+pub use fault::DumpFault;
+pub use reader::read_dump;
+pub use stage::Stage;
+pub use writer::write_dump;

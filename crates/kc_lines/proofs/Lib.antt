@@ -1,0 +1,5 @@
+pub mod Searches
+pub mod Numbers
+pub mod Digits
+pub mod Words
+pub mod Newlines
