@@ -28,6 +28,12 @@ pub record HaveRead (config_source trace_source : Option (List ℕ)) (config : C
   pub configured : IfSome config_source (λ text. config_in text ≡ Ok config)
   pub traced : IfSome trace_source (λ text. IsTrace text calls)
 
+-- both texts were read, where the sources tell them
+abbrev pub AreBothRead : Option (List ℕ) → Option (List ℕ) → Type 0
+AreBothRead None trace = Unit {0}
+AreBothRead (Some config) None = Unit {0}
+AreBothRead (Some config_text) (Some trace_text) = (config : Configuration) × (calls : List Call) × AreRead config_text trace_text config calls
+
 -- want of memory is told as that, and never as a fault of a text
 abbrev pub IsTold : TextFault → Type 0
 IsTold fault = (fault ≢ texts.Config configs.Memory) × (fault ≢ texts.Trace traces.Memory)

@@ -1,6 +1,7 @@
 //! The engine that replays a trace, over any ends.
-ghost use Rattle.std.specs.Prelude.{◌≡◌, ◌≢◌, ◌⊎◌, ◌↔◌, ℕ, true, false, IfOk, IfErr, IfSome, OnOk, OnErr, Err, IsErrOf};
+ghost use Rattle.std.specs.Prelude.{◌≡◌, ◌≢◌, ◌<◌, ◌≤◌, ◌⊎◌, ◌↔◌, ℕ, length, true, false, IfOk, IfErr, IfSome, OnOk, OnErr, Err, IsErrOf};
 ghost use Rattle.std.specs.Io.KnownBytes.{IsAtEnd};
+ghost use Rattle.kc_types.specs.Limits.{call_limit};
 ghost use Rattle.kc_model.specs.Boot.{boot};
 ghost use Rattle.kc_model.specs.Next.{replies_from};
 ghost use Rattle.kc_trace.specs.declared.config_text.ConfigTextFault.{ConfigTextFault};
@@ -9,19 +10,22 @@ ghost use Rattle.kc_trace.specs.ConfigText.{config_in};
 ghost use Rattle.kc_trace.specs.Trace.{IsRefused};
 ghost use Rattle.kc_trace.specs.ReplyText.{reply_text_of};
 ghost use Rattle.kc_ends.specs.Ends.{ReadFailed};
-ghost use Rattle.kc_cli.specs.Engine.{IsConfigured, IsTold, Replays, BeginsReplay};
+ghost use Rattle.kc_cli.specs.Engine.{IsConfigured, IsTold, AreBothRead, Replays, BeginsReplay};
 
 use crate::TextFault;
 use crate::reading::read_both;
 use kc_core::KCore;
 use kc_ends::{Sink, Source};
+use kc_replay::{OpenGate, Outcome, ReplayFault, replay};
 use kc_streams::{empty_piece, give_replies};
 use kc_types::{Call, Config, Memory, Reply};
 use std::alloc::Global;
+use std::sync::Wait;
 use std::thread::Threads;
 
-/// The replies to some calls. The core is wiped before it goes, whatever the outcome.
-fn replies_to(
+/// The replies to some calls, which this thread makes in their order. The core is wiped before it goes, whatever the
+/// outcome.
+fn replies_in_order(
     rt: &(impl Threads + Sync),
     alloc: Global,
     config: Config,
@@ -35,12 +39,56 @@ fn replies_to(
     outcome
 }
 
-/// Reads a configuration and a trace, each to its end, and writes the reply text of the trace. The number of
-/// workers is 1, and judged before anything is read.
+/// The replies to some calls, which so many workers make. The core is wiped before it goes, whatever the outcome.
+fn replies_by_workers<R: Threads + Wait + Sync>(
+    rt: &R,
+    alloc: Global,
+    config: Config,
+    calls: &[Call],
+    workers: u32,
+) -> Result<Vec<Reply>, TextFault>
+    requires workers { (0 < workers) × (workers ≤ 64) }
+    requires short { length calls.now ≤ call_limit }
+    ensures replies { IfOk result (λ replies. replies.items ≡ replies_from (boot config) calls.now) }
+    ensures fault { IfErr result (λ fault. (fault ≡ TextFault.Memory) ⊎ (fault ≡ TextFault.Start)) }
+{
+    match replay(rt, alloc, config, calls, workers as usize, &OpenGate) {
+        Ok(outcome) => {
+            let Outcome { replies, mut core } = outcome;
+            core.wipe(rt);
+            Ok(replies)
+        },
+        Err(ReplayFault::Start) => Err(TextFault::Start),
+        Err(_) => Err(TextFault::Memory),
+    }
+}
+
+/// The replies to some calls, which 1 to 64 workers make.
+fn replies_to<R: Threads + Wait + Sync>(
+    rt: &R,
+    alloc: Global,
+    config: Config,
+    calls: Vec<Call>,
+    workers: u32,
+) -> Result<Vec<Reply>, TextFault>
+    requires workers { (0 < workers) × (workers ≤ 64) }
+    requires short { length calls.items ≤ call_limit }
+    ensures replies { IfOk result (λ replies. replies.items ≡ replies_from (boot config) calls.items) }
+    ensures fault { IfErr result (λ fault. (fault ≡ TextFault.Memory) ⊎ (fault ≡ TextFault.Start)) }
+    ensures started { workers ≡ 1 → result ≢ Err TextFault.Start }
+{
+    if workers == 1 {
+        return replies_in_order(rt, alloc, config, calls).map_err(|_| TextFault::Memory);
+    }
+    replies_by_workers(rt, alloc, config, &calls, workers)
+}
+
+/// Reads a configuration and a trace, each to its end, and writes the reply text of the trace, whose calls 1 to 64
+/// workers make. The number of workers is judged before anything is read.
 ///
 /// Nothing is written but after the whole trace was read and answered. A source that fails, or that has more
 /// than 1,073,741,824 bytes, is `Read`, also where its bytes so far are refused already.
-pub fn replay_text<C: Source, T: Source, K: Sink, R: Threads + Sync>(
+pub fn replay_text<C: Source, T: Source, K: Sink, R: Threads + Wait + Sync>(
     rt: &R,
     alloc: Global,
     config: &mut C,
@@ -57,7 +105,7 @@ pub fn replay_text<C: Source, T: Source, K: Sink, R: Threads + Sync>(
     ensures ended { OnOk result (IsAtEnd (C.left config.new) × IsAtEnd (T.left trace.new)) }
 
     // Each fault is that of all the bytes that its source held, and comes where it should.
-    ensures workers { IsErrOf result TextFault.Workers ↔ (workers ≢ 1) }
+    ensures workers { IsErrOf result TextFault.Workers ↔ ((workers ≡ 0) ⊎ (64 < workers)) }
     ensures config { (fault : ConfigTextFault) → result ≡ Err (TextFault.Config fault) → IfSome (C.left config.old) (λ text. config_in text ≡ Err fault) × IsAtEnd (C.left config.new) × (trace.new ≡ trace.old) }
     ensures trace { (fault : TraceFault) → result ≡ Err (TextFault.Trace fault) → IfSome (T.left trace.old) (λ text. IsRefused text fault) × IsAtEnd (T.left trace.new) }
     ensures read { result ≡ Err TextFault.Read → ReadFailed (C.failed config.new) (C.left config.old) (C.left config.new) ⊎ ReadFailed (T.failed trace.new) (T.left trace.old) (T.left trace.new) }
@@ -67,10 +115,12 @@ pub fn replay_text<C: Source, T: Source, K: Sink, R: Threads + Sync>(
     ensures source { (C.failed config.new ≡ true) ⊎ (T.failed trace.new ≡ true) → result ≡ Err TextFault.Read }
     ensures sink { K.failed out.new ≡ true → result ≡ Err TextFault.Write }
 
-    // The trace is read and judged only behind a configuration, and no fault of a live run comes.
+    // The trace is read and judged only behind a configuration, a worker is started only behind both and where there is
+    // more than one, and no fault of a live run comes.
     ensures behind { (trace.new ≡ trace.old) ⊎ IsConfigured (C.left config.old) }
     ensures configured { (fault : TraceFault) → result ≡ Err (TextFault.Trace fault) → IsConfigured (C.left config.old) }
-    ensures others { OnErr result ((result ≢ Err TextFault.Start) × (result ≢ Err TextFault.Unsettled) × ((program : ℕ) → result ≢ Err (TextFault.BadActor program))) }
+    ensures started { result ≡ Err TextFault.Start → (1 < workers) × AreBothRead (C.left config.old) (T.left trace.old) }
+    ensures others { OnErr result ((result ≢ Err TextFault.Unsettled) × ((program : ℕ) → result ≢ Err (TextFault.BadActor program))) }
 
     // Want of memory is told as that, and never as a fault of a text.
     ensures told { IfErr result IsTold }
@@ -78,13 +128,11 @@ pub fn replay_text<C: Source, T: Source, K: Sink, R: Threads + Sync>(
     // Every fault but that of a write leaves the sink as it was.
     ensures untouched { OnErr result ((out.new ≡ out.old) ⊎ (result ≡ Err TextFault.Write)) }
 {
-    if workers != 1 {
+    if workers == 0 || workers > 64 {
         return Err(TextFault::Workers);
     }
     let (config, calls) = read_both(alloc, config, trace)?;
-    let Ok(replies) = replies_to(rt, alloc, config, calls) else {
-        return Err(TextFault::Memory);
-    };
+    let replies = replies_to(rt, alloc, config, calls, workers)?;
     // All memory that writing takes is there before the first byte is written.
     let Ok(piece) = empty_piece(alloc) else {
         return Err(TextFault::Memory);

@@ -1,6 +1,7 @@
 //! The engine that runs a trace live, over any ends.
-ghost use Rattle.std.specs.Prelude.{◌≡◌, ◌≢◌, ◌⊎◌, ◌↔◌, ℕ, map, false, true, IfOk, IfErr, IfSome, OnOk, OnErr, Err, IsErrOf};
+ghost use Rattle.std.specs.Prelude.{◌≡◌, ◌≢◌, ◌<◌, ◌≤◌, ◌⊎◌, ◌↔◌, ℕ, length, map, false, true, IfOk, IfErr, IfSome, OnOk, OnErr, Err, IsErrOf};
 ghost use Rattle.std.specs.Io.KnownBytes.{IsAtEnd};
+ghost use Rattle.kc_types.specs.Limits.{call_limit};
 ghost use Rattle.kc_model.specs.Boot.{boot};
 ghost use Rattle.kc_model.specs.Next.{state_after};
 ghost use Rattle.kc_model.specs.Wiped.{wiped};
@@ -20,7 +21,7 @@ use crate::reading::read_both;
 use kc_core::KCore;
 use kc_ends::{Sink, Source};
 use kc_live::{Entry, History, LiveCause, LiveStop, run_trace};
-use kc_replay::Gate;
+use kc_replay::{Gate, OpenGate, Outcome, ReplayFault, replay};
 use kc_streams::{empty_piece, give_trace};
 use kc_trace::TraceFault;
 use kc_types::{Call, Config, Memory};
@@ -53,30 +54,28 @@ fn calls_in(alloc: Global, entries: Vec<Entry>) -> Result<Vec<Call>, Memory>
     Ok(calls)
 }
 
-/// Makes the calls in order, and lets each reply go.
-fn make_each(core: &mut KCore, calls: &[Call]) -> Result<(), Memory>
-    ensures { OnOk result (core.new ≡ state_after core.old calls.now) }
-{
-    for call in calls {
-        core.call(call)?;
-    }
-    Ok(())
-}
-
-/// Makes the calls on one thread, and gives the core that they leave, wiped.
-fn replay(
-    rt: &(impl Threads + Sync),
+/// Makes the calls by so many workers, and gives the core that they leave, wiped.
+fn replay_wiped<R: Threads + Wait + Sync>(
+    rt: &R,
     alloc: Global,
     config: Config,
     calls: &[Call],
-) -> Result<KCore, Memory>
-    ensures { IfOk result (λ core. core ≡ wiped (state_after (boot config) calls.now)) }
+    workers: u32,
+) -> Result<KCore, LiveCause>
+    requires workers { (0 < workers) × (workers ≤ 64) }
+    requires short { length calls.now ≤ call_limit }
+    ensures core { IfOk result (λ core. core ≡ wiped (state_after (boot config) calls.now)) }
+    ensures cause { IfErr result (λ cause. (cause ≡ LiveCause.Memory) ⊎ (cause ≡ LiveCause.Start)) }
 {
-    let mut core = KCore::boot(alloc, config)?;
-    let outcome = make_each(&mut core, calls);
-    core.wipe(rt);
-    outcome?;
-    Ok(core)
+    match replay(rt, alloc, config, calls, workers as usize, &OpenGate) {
+        Ok(outcome) => {
+            let Outcome { mut core, .. } = outcome;
+            core.wipe(rt);
+            Ok(core)
+        },
+        Err(ReplayFault::Start) => Err(LiveCause::Start),
+        Err(_) => Err(LiveCause::Memory),
+    }
 }
 
 /// The cause of a run that gave no answer. The core that it left, if any, is wiped.
@@ -96,35 +95,44 @@ fn wiped(rt: &(impl Threads + Sync), stop: LiveStop) -> LiveCause
 
 /// The entries of a history, whose core is wiped.
 fn entries_of(rt: &(impl Threads + Sync), history: History) -> Vec<Entry>
-    ensures { result.items ≡ history.entries }
+    ensures entries { result.items ≡ history.entries }
+    ensures short { length result.items ≤ call_limit }
 {
     let (entries, mut core) = history.into_parts();
     core.wipe(rt);
     entries
 }
 
-/// The calls of a history, which is replayed first. Both cores are wiped.
-fn replayed(
-    rt: &(impl Threads + Sync),
+/// The calls of a history, which so many workers replay first. Both cores are wiped.
+fn replayed<R: Threads + Wait + Sync>(
+    rt: &R,
     alloc: Global,
     config: Config,
     history: History,
-) -> Result<Vec<Call>, Memory>
-    ensures { IfOk result (λ calls. calls.items ≡ calls_of history.entries) }
+    workers: u32,
+) -> Result<Vec<Call>, LiveCause>
+    requires workers { (0 < workers) × (workers ≤ 64) }
+    ensures calls { IfOk result (λ calls. calls.items ≡ calls_of history.entries) }
+    ensures cause { IfErr result (λ cause. (cause ≡ LiveCause.Memory) ⊎ (cause ≡ LiveCause.Start)) }
 {
-    let calls = calls_in(alloc, entries_of(rt, history))?;
-    let _core = replay(rt, alloc, config, &calls)?;
+    let Ok(calls) = calls_in(alloc, entries_of(rt, history)) else {
+        return Err(LiveCause::Memory);
+    };
+    let _core = replay_wiped(rt, alloc, config, &calls, workers)?;
     Ok(calls)
 }
 
-/// The calls of the history of a live run of some calls. The cores are wiped before they go, whatever the outcome.
+/// The calls of the history of a live run of some calls, which so many workers replay. The cores are wiped before they
+/// go, whatever the outcome.
 fn made_live<G: Gate + Sync, R: Threads + Wait + Sync>(
     rt: &R,
     alloc: Global,
     config: Config,
     calls: Vec<Call>,
+    workers: u32,
     gate: &G,
 ) -> Result<Vec<Call>, TextFault>
+    requires { (0 < workers) × (workers ≤ 64) }
     ensures sound { OnOk result (MayRun config calls.items) }
     ensures made { IfOk result (λ made. KeepsOrders made.items calls.items) }
     ensures fault { IfErr result (IsLiveFault config calls.items) }
@@ -136,14 +144,15 @@ fn made_live<G: Gate + Sync, R: Threads + Wait + Sync>(
         Ok(history) => history,
         Err(stop) => return Err(fault_of(wiped(rt, stop))),
     };
-    match replayed(rt, alloc, kept, history) {
+    match replayed(rt, alloc, kept, history, workers) {
         Ok(made) => Ok(made),
-        Err(_) => Err(fault_of(LiveCause::Memory)),
+        Err(cause) => Err(fault_of(cause)),
     }
 }
 
 /// Reads a configuration and a trace, each to its end, makes the trace's calls live, each actor's in a thread of its
-/// own, replays the history and writes it as a trace. The number of workers is 1, and judged before anything is read.
+/// own, has 1 to 64 workers replay the history, and writes it as a trace. The number of workers is judged before anything
+/// is read.
 ///
 /// Nothing is written but after the whole run. A source that fails, or that has more than 1,073,741,824 bytes, is
 /// `Read`, also where its bytes so far are refused already.
@@ -166,7 +175,7 @@ pub fn live_text<C: Source, T: Source, K: Sink, G: Gate + Sync, R: Threads + Wai
     ensures ended { OnOk result (IsAtEnd (C.left config.new) × IsAtEnd (T.left trace.new)) }
 
     // Each fault is that of all the bytes that its source held, and comes where it should.
-    ensures workers { IsErrOf result TextFault.Workers ↔ (workers ≢ 1) }
+    ensures workers { IsErrOf result TextFault.Workers ↔ ((workers ≡ 0) ⊎ (64 < workers)) }
     ensures config { (fault : ConfigTextFault) → result ≡ Err (TextFault.Config fault) → IfSome (C.left config.old) (λ text. config_in text ≡ Err fault) × IsAtEnd (C.left config.new) × (trace.new ≡ trace.old) }
     ensures trace { (fault : TraceFault) → result ≡ Err (TextFault.Trace fault) → IfSome (T.left trace.old) (λ text. IsRefused text fault) × IsAtEnd (T.left trace.new) }
     ensures actor { (program : ℕ) → result ≡ Err (TextFault.BadActor program) → HasBadActor (C.left config.old) (T.left trace.old) program }
@@ -190,11 +199,11 @@ pub fn live_text<C: Source, T: Source, K: Sink, G: Gate + Sync, R: Threads + Wai
     // Every fault but that of a write leaves the sink as it was.
     ensures untouched { OnErr result ((out.new ≡ out.old) ⊎ (result ≡ Err TextFault.Write)) }
 {
-    if workers != 1 {
+    if workers == 0 || workers > 64 {
         return Err(TextFault::Workers);
     }
     let (config, calls) = read_both(alloc, config, trace)?;
-    let made = made_live(rt, alloc, config, calls, gate)?;
+    let made = made_live(rt, alloc, config, calls, workers, gate)?;
     // All memory that writing takes is there before the first byte is written.
     let Ok(piece) = empty_piece(alloc) else {
         return Err(TextFault::Memory);

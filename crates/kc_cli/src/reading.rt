@@ -1,6 +1,7 @@
 //! The configuration and the trace that an engine starts from.
-ghost use Rattle.std.specs.Prelude.{◌≡◌, ◌⊎◌, false, true, IfOk, IfErr, IfSome, OnOk, Err};
+ghost use Rattle.std.specs.Prelude.{◌≡◌, ◌≤◌, ◌⊎◌, length, false, true, IfOk, IfErr, IfSome, OnOk, Err};
 ghost use Rattle.std.specs.Io.KnownBytes.{IsAtEnd};
+ghost use Rattle.kc_types.specs.Limits.{call_limit};
 ghost use Rattle.kc_trace.specs.declared.config_text.ConfigTextFault.{ConfigTextFault};
 ghost use Rattle.kc_trace.specs.declared.fault.TraceFault.{TraceFault};
 ghost use Rattle.kc_trace.specs.ConfigText.{config_in};
@@ -24,6 +25,7 @@ pub(crate) fn read_both<C: Source, T: Source>(
     requires config { C.failed config.old ≡ false }
     requires trace { T.failed trace.old ≡ false }
     ensures ok { IfOk result (λ read. HaveRead (C.left config.old) (T.left trace.old) read.0 read.1.items) }
+    ensures short { IfOk result (λ read. length read.1.items ≤ call_limit) }
     ensures ended { OnOk result (IsAtEnd (C.left config.new) × IsAtEnd (T.left trace.new)) }
     ensures fault { IfErr result IsReadingFault }
     ensures config { (fault : ConfigTextFault) → result ≡ Err (TextFault.Config fault) → IfSome (C.left config.old) (λ text. config_in text ≡ Err fault) × IsAtEnd (C.left config.new) × (trace.new ≡ trace.old) }

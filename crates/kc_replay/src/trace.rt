@@ -127,7 +127,7 @@ fn take_wave<R: Threads + Wait + Sync, G: Gate + Sync>(
     }
     let mut core = core;
     if answer_wave(&mut core, calls, members, replies, gate).is_err() {
-        core.wipe();
+        core.wipe(rt);
         return Err(ReplayFault::Memory);
     }
     Ok(core)

@@ -24,6 +24,8 @@ mod receipts;
 #[cfg(test)]
 mod refusals;
 #[cfg(test)]
+mod replays;
+#[cfg(test)]
 mod second_version;
 #[cfg(test)]
 mod slots;

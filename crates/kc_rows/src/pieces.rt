@@ -80,7 +80,7 @@ fn writes(alloc: Global) -> Result<Vec<u8>, Fail> {
 
 /// Whether the replies went out to a sink that takes few bytes at a time and fails after so many, and what it took.
 fn replied_until(
-    rt: &(impl Threads + Sync),
+    rt: &(impl Threads + Wait + Sync),
     alloc: Global,
     left: usize,
 ) -> Result<(bool, Vec<u8>), Fail> {

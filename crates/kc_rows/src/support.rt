@@ -1,10 +1,12 @@
 //! What the tests share.
+use crate::replays::by_workers;
 use kc_cli::{Mem, TextFault, replay_text};
 use kc_core::KCore;
 use kc_trace::read_trace;
 use kc_types::{Call, Config, Owner, Reply};
 use std::alloc::{AllocError, Global};
 use std::process::Abort;
+use std::sync::Wait;
 use std::thread::Threads;
 
 /// The calls of a trace, and the replies that they get.
@@ -88,7 +90,7 @@ pub fn has_frames(core: &KCore, owner: Owner, numbers: &[u32]) -> bool {
 
 /// What the engine answers to a configuration and a trace, and what it wrote.
 pub fn replayed(
-    rt: &(impl Threads + Sync),
+    rt: &(impl Threads + Wait + Sync),
     alloc: Global,
     config: &str,
     trace: &[u8],
@@ -102,7 +104,7 @@ pub fn replayed(
 
 /// Whether the engine answers so to a configuration and a trace, and writes this.
 pub fn gives(
-    rt: &(impl Threads + Sync),
+    rt: &(impl Threads + Wait + Sync),
     alloc: Global,
     config: &str,
     trace: &[u8],
@@ -115,9 +117,9 @@ pub fn gives(
     }
 }
 
-/// Whether an example's calls, after others, get its replies after theirs.
-fn holds(
-    rt: &(impl Threads + Sync),
+/// Whether an example's calls, after others, get its replies after theirs, whoever makes them.
+fn holds<R: Threads + Wait + Sync>(
+    rt: &R,
     alloc: Global,
     config: &str,
     before: &Example,
@@ -125,20 +127,15 @@ fn holds(
 ) -> Option<bool> {
     let trace = format!(in alloc; "kcore-trace 1\n{}{}", before.calls, example.calls).ok()?;
     let replies = format!(in alloc; "{}{}", before.replies, example.replies).ok()?;
-    let found = gives(
-        rt,
-        alloc,
-        config,
-        trace.as_bytes(),
-        Ok(()),
-        replies.as_bytes(),
-    );
-    Some(found)
+    let (trace, replies) = (trace.as_bytes(), replies.as_bytes());
+    let by_one = gives(rt, alloc, config, trace, Ok(()), replies);
+    let by_any = by_workers(rt, alloc, config, trace, replies)?;
+    Some(by_one && by_any)
 }
 
 /// Each example's calls, after others, get its replies after theirs.
 pub fn hold(
-    rt: &(impl Abort + Threads + Sync),
+    rt: &(impl Abort + Threads + Wait + Sync),
     alloc: Global,
     config: &str,
     before: &Example,

@@ -1,9 +1,10 @@
 -- A reader that is fed in pieces.
-use Rattle.std.proofs.Common.{◌≡◌, ◌+◌, ℕ, List, [], ◌++◌, length, Option, Some, None, Result, Ok, Err, refl, ap, ◌∙◌, arith, length-append}
+use Rattle.std.proofs.Common.{◌≡◌, ◌≤◌, ◌+◌, ℕ, List, [], ◌++◌, length, Option, Some, None, Result, Ok, Err, refl, ap, ◌∙◌, arith, length-append}
 use Rattle.std.specs.Prelude.{MatchOption, IfSome}
 use Rattle.std.proofs.lemmas.List.{append-nil, nil_from_length}
 use Rattle.std.proofs.KnownBytes.{Consumes-trans}
 use Rattle.std.specs.Io.KnownBytes.{Consumes, IsAtEnd}
+use Rattle.kc_types.specs.Limits.{call_limit}
 use Rattle.kc_types.specs.declared.call.Call.{Call}
 use Rattle.kc_trace.specs.declared.fault.TraceFault.{TraceFault}
 use Rattle.kc_trace.specs.declared.fault.TraceFault.TheVariants.{NoHeader, BadLine, NoNewline, TooManyCalls, Memory}
@@ -89,3 +90,11 @@ read_is_trace (Some text) calls h = let e : Reads text (Ok calls) = rw h at (rea
 pub read_is_refused : (known : Option (List ℕ)) (fault : TraceFault) → IfSome known (λ text. reading text ≡ Err fault) → IfSome known (λ text. IsRefused text fault)
 read_is_refused None fault h = tt
 read_is_refused (Some text) fault h = let e : Reads text (Err fault) = rw h at (reading_reads text) in e
+
+-- however the source tells its bytes, what was read has no more calls than a trace may have
+pub few_read : (bytes : List ℕ) (r : Reader) (calls : List Call) (result : Result (Unit {0}) TraceFault) (u : Unit {0}) → feed start bytes ≡ Answer r.fault r.progress calls → MatchOption r.fault (result ≡ ended r.progress.header_left r.progress.line) (λ f. result ≡ Err f) → result ≡ Ok u
+    → length calls ≤ call_limit
+few_read bytes r calls result u so_far e ok =
+    let is : reading bytes ≡ Ok calls = reading_of bytes r.fault r.progress calls result so_far e ∙ ap (λ (x : Result (Unit {0}) TraceFault). x >>= λ v. Ok calls) ok in
+    let trace : Reads bytes (Ok calls) = rw is at (reading_reads bytes) in
+    trace.few

@@ -1,6 +1,7 @@
 //! A trace, read from a source in pieces.
 ghost use Rattle.std.specs.Prelude.{◌≡◌, ◌≢◌, ◌≤◌, false, true, length, IfOk, OnOk, IfSome, Err};
 ghost use Rattle.std.specs.Io.KnownBytes.{IsAtEnd};
+ghost use Rattle.kc_types.specs.Limits.{call_limit};
 ghost use Rattle.kc_trace.specs.declared.fault.TraceFault.{TraceFault};
 ghost use Rattle.kc_trace.specs.Trace.{IsTrace, IsRefused};
 ghost use Rattle.kc_ends.specs.Ends.{ReadFailed, byte_limit};
@@ -30,6 +31,7 @@ pub enum StreamFault {
 pub fn read_calls<T: Source>(alloc: Global, source: &mut T) -> Result<Vec<Call>, StreamFault>
     requires { T.failed source.old ≡ false }
     ensures ok { IfOk result (λ calls. IfSome (T.left source.old) (λ text. IsTrace text calls.items)) }
+    ensures short { IfOk result (λ calls. length calls.items ≤ call_limit) }
     ensures ended { OnOk result (IsAtEnd (T.left source.new)) }
     ensures trace { (fault : TraceFault) → result ≡ Err (StreamFault.Trace fault) → IfSome (T.left source.old) (λ text. IsRefused text fault) × IsAtEnd (T.left source.new) }
     ensures read { result ≡ Err StreamFault.Read → ReadFailed (T.failed source.new) (T.left source.old) (T.left source.new) }

@@ -2,7 +2,7 @@ use Rattle.std.proofs.Common.{◌≡◌, ◌++◌, length, take, refl, arith, in
 use Rattle.std.proofs.lemmas.List.{length-take}
 use Rattle.std.proofs.KnownBytes.{Consumes-nil, Consumes-trans}
 use Rattle.kc_trace.specs.Machine.{start}
-use Rattle.kc_streams.proofs.Fed.{feed_nothing, is_fed_ok, is_fed_err, finished, read_is_trace, read_is_refused}
+use Rattle.kc_streams.proofs.Fed.{feed_nothing, is_fed_ok, is_fed_err, finished, read_is_trace, read_is_refused, few_read}
 use Rattle.kc_streams.proofs.stream.read_calls.Goals as goal
 
 pub loop-n-init : goal.loop-n-init
@@ -66,3 +66,7 @@ returns-in-Err-finish-clause-trace g c =
     λ fault e. let same : c.in-Err-finish.fault ≡ fault = cc in
     let end = c.in-Ok.ensures.bytes.1 c.if-n-eq0.true (search rules) in
     (read_is_refused _ fault (rw (c.in-Err-finish.is, same) at (finished _ _ _ before.0 piece c.loop-n.reader c.loop-n.calls.items c.loop-n.total c.finish.result before.1 c.in-Ok.ensures.bytes.0 none end c.finish.ensures.fault)), end)
+
+pub returns-in-Ok-finish-clause-short : goal.returns-in-Ok-finish-clause-short
+returns-in-Ok-finish-clause-short g c =
+    few_read c.loop-n.invariant.fed.0 c.loop-n.reader c.loop-n.calls.items c.finish.result _ c.loop-n.invariant.fed.1.so_far c.finish.ensures.fault c.in-Ok-finish.is
