@@ -22,25 +22,39 @@ fn fail(rt: &HostRuntime, fault: TextFault) -> u8 {
     tell(&fault, &mut Std::new(rt.stderr()))
 }
 
-/// Replays the trace on standard input onto standard output, and answers the exit status.
-fn replay<R: Threads + Sync>(rt: &HostRuntime, threads: &R, config: Option<&str>) -> u8 {
-    let alloc = rt.alloc();
+/// Replays the trace on standard input in a configuration, and writes the replies onto standard output.
+fn replay_in<C: Source, R: Threads + Wait + Sync>(
+    rt: &HostRuntime,
+    threads: &R,
+    config: &mut C,
+    workers: u32,
+) -> Result<(), TextFault>
+    requires { C.failed config.old ≡ false }
+{
     let mut trace = Std::new(rt.stdin());
     let mut out = Std::new(rt.stdout());
+    replay_text(threads, rt.alloc(), config, &mut trace, &mut out, workers)
+}
+
+/// Replays the trace, and answers the exit status.
+fn replay<R: Threads + Wait + Sync>(
+    rt: &HostRuntime,
+    threads: &R,
+    config: Option<&str>,
+    workers: u32,
+) -> u8 {
     let outcome = match config {
         Some(path) => {
             let Ok(file) = File::open(rt, path) else {
                 return fail(rt, TextFault::Read);
             };
-            let config = &mut Std::new(file);
-            replay_text(threads, alloc, config, &mut trace, &mut out, 1)
+            replay_in(rt, threads, &mut Std::new(file), workers)
         },
         None => {
-            let Ok(bytes) = Vec::from_slice(alloc, DEFAULT_CONFIG) else {
+            let Ok(bytes) = Vec::from_slice(rt.alloc(), DEFAULT_CONFIG) else {
                 return fail(rt, TextFault::Memory);
             };
-            let config = &mut Mem::with_bytes(bytes);
-            replay_text(threads, alloc, config, &mut trace, &mut out, 1)
+            replay_in(rt, threads, &mut Mem::with_bytes(bytes), workers)
         },
     };
     match outcome {
@@ -54,6 +68,7 @@ fn run_live_in<C: Source, R: Threads + Wait + Sync>(
     rt: &HostRuntime,
     threads: &R,
     config: &mut C,
+    workers: u32,
 ) -> Result<(), TextFault>
     requires { C.failed config.old ≡ false }
 {
@@ -65,25 +80,30 @@ fn run_live_in<C: Source, R: Threads + Wait + Sync>(
         config,
         &mut trace,
         &mut out,
-        1,
+        workers,
         &OpenGate,
     )
 }
 
 /// Runs the trace live, and answers the exit status.
-fn live<R: Threads + Wait + Sync>(rt: &HostRuntime, threads: &R, config: Option<&str>) -> u8 {
+fn live<R: Threads + Wait + Sync>(
+    rt: &HostRuntime,
+    threads: &R,
+    config: Option<&str>,
+    workers: u32,
+) -> u8 {
     let outcome = match config {
         Some(path) => {
             let Ok(file) = File::open(rt, path) else {
                 return fail(rt, TextFault::Read);
             };
-            run_live_in(rt, threads, &mut Std::new(file))
+            run_live_in(rt, threads, &mut Std::new(file), workers)
         },
         None => {
             let Ok(bytes) = Vec::from_slice(rt.alloc(), DEFAULT_CONFIG) else {
                 return fail(rt, TextFault::Memory);
             };
-            run_live_in(rt, threads, &mut Mem::with_bytes(bytes))
+            run_live_in(rt, threads, &mut Mem::with_bytes(bytes), workers)
         },
     };
     match outcome {
@@ -134,8 +154,8 @@ fn run<R: Threads + Wait + Sync>(rt: &HostRuntime, threads: &R) -> u8 {
         return fail(rt, TextFault::Memory);
     };
     match job_of(rt.alloc(), words.as_slice()) {
-        Ok(Job::Replay { config }) => replay(rt, threads, config),
-        Ok(Job::Live { config }) => live(rt, threads, config),
+        Ok(Job::Replay { config, workers }) => replay(rt, threads, config, workers),
+        Ok(Job::Live { config, workers }) => live(rt, threads, config, workers),
         Err(fault) => refuse(rt, fault),
     }
 }
