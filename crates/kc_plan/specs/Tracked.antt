@@ -1,5 +1,5 @@
 -- What the planner keeps.
-use Rattle.std.specs.Prelude.{◌≡◌, ℕ, ◌+◌, ◌<◌, ◌≤◌, Bool, true, false, ◌&&◌, ◌||◌, eqb, List, [], length, get_or, set, take, Option, Some, None, IfSome, ◌⊎◌}
+use Rattle.std.specs.Prelude.{◌≡◌, ℕ, ◌+◌, ◌<◌, ◌≤◌, Bool, true, false, ◌&&◌, ◌||◌, eqb, List, [], length, get_or, set, take, replicate, Option, Some, None, IfSome, ◌⊎◌}
 use Rattle.std.specs.List.{list_any, IsDistinct}
 use Rattle.kc_plan.specs.declared.names.Names.{Names}
 use Rattle.kc_plan.specs.Reach.{is_in, is_at, names_principal, gains_by, names_at, reach, touches}
@@ -128,6 +128,21 @@ set_at (Some i) w xs = set xs i w
 -- the pairs of a principal and a frame
 abbrev pub has_pair : List (ℕ × ℕ) → ℕ → ℕ → Bool
 has_pair pairs p f = list_any (λ x. eqb x.0 p && eqb x.1 f) pairs
+
+-- no frame has two owners
+pub record HasOneOwner (pairs : List (ℕ × ℕ)) : Type 0 where
+  pub same : (p q f : ℕ) → has_pair pairs p f ≡ true → has_pair pairs q f ≡ true → p ≡ q
+
+-- each of the principals is near itself alone
+pub record AreApart (size : ℕ) (near : List (List Bool)) : Type 0 where
+  pub count : length near ≡ size
+  pub row : (p : ℕ) → p < size → get_or near p [] ≡ set (replicate size false) p true
+
+-- what the pairs have so far
+pub record AreOwned (size : ℕ) (pairs : List (ℕ × ℕ)) (sets : List (List ℕ)) : Type 0 where
+  pub count : length sets ≡ size
+  pub has : (p f : ℕ) → is_in (get_or sets p []) f ≡ has_pair pairs p f
+  pub once : (p : ℕ) → IsDistinct eqb (get_or sets p [])
 
 pub record IsStart (size free : ℕ) (pairs : List (ℕ × ℕ)) (h : Held) : Type 0 where
   pub exact : IsExact size free h

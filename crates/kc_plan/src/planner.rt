@@ -6,7 +6,7 @@ ghost use Rattle.waves.specs.Planned.{ComesJustAfter};
 ghost use Rattle.kc_plan.specs.Plans.{wave_of};
 ghost use Rattle.kc_plan.specs.Reach.{is_in, reach, touches, names_at};
 ghost use Rattle.kc_plan.specs.Rows.{AreRowsOf};
-ghost use Rattle.kc_plan.specs.Tracked.{IsLastOf, IsHigh, IsWritten, IsExact, has_pair, IsInRange, IsTop, set_at};
+ghost use Rattle.kc_plan.specs.Tracked.{IsLastOf, IsHigh, IsWritten, IsExact, HasOneOwner, has_pair, IsInRange, IsTop, set_at};
 
 use crate::names::Names;
 use crate::reach_set::ReachSet;
@@ -199,6 +199,7 @@ pub(crate) fn walk_calls(
     requires free { free + 1 < 2 ^ 32 }
     requires few { length calls.now < 2 ^ 32 }
     requires pairs { (i : ℕ) → i < length pairs.now → (get_or pairs.now i (0, 0)).0 < free + 1 }
+    requires one { HasOneOwner pairs.now }
     ensures len { IfOk result (λ w. length w.waves.items ≡ length calls.now) }
     ensures plan { IfOk result (λ w. (k : ℕ) → k < length calls.now → ComesJustAfter (touches free (has_pair pairs.now) calls.now) (wave_of w.waves.items) k) }
     ensures count { IfOk result (λ w. length w.rows.items ≡ length calls.now) }
@@ -207,7 +208,7 @@ pub(crate) fn walk_calls(
     ensures size { IfOk result (λ w. length w.sets.items ≡ free + 1) }
     ensures once { IfOk result (λ w. (p : ℕ) → IsDistinct eqb (get_or w.sets.items p [])) }
 {
-    let mut reaches = start(alloc, free + 1, free, pairs)?;
+    let mut reaches = start(alloc, frames, free + 1, free, pairs)?;
     let mut planner = Planner::new(alloc, frames, free + 1)?;
     let mut waves = Vec::with_capacity(alloc, calls.len())?;
     let mut rows = Vec::with_capacity(alloc, calls.len())?;

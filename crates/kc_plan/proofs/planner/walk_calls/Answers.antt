@@ -1,10 +1,20 @@
-use Rattle.std.proofs.Common.{◌≡◌, ◌+◌, ◌<◌, suc, arith, refl, length, sym, ◌∙◌, ap, get_or, ℕ, List, ◌∷◌, ◌++◌, [], subst, length-append}
+use Rattle.std.proofs.Common.{◌≡◌, ◌+◌, ◌<◌, suc, arith, refl, length, sym, ◌∙◌, ap, get_or, ℕ, List, ◌∷◌, ◌++◌, [], subst, length-append, rules}
 use Rattle.kc_plan.specs.declared.names.Names.{Names}
 use Rattle.kc_plan.specs.Reach.{is_in, names_at, reach}
 use Rattle.kc_plan.specs.Tracked.{IsHigh, IsWritten, AreGained, has_pair, members_of}
-use Rattle.kc_plan.proofs.Plans.{going_more, in_range_all}
+use Rattle.kc_plan.proofs.Plans.{going_start, going_more, in_range_all}
 use Rattle.kc_plan.proofs.Kept.{rows_more}
 use Rattle.kc_plan.proofs.planner.walk_calls.Goals as goal
+
+pub loop-names-init : goal.loop-names-init
+loop-names-init c = record {
+  going =
+      rw c.in_ok-waves.ensures.items
+      (going_start c.args.frames c.args.free c.args.pairs.now c.args.calls.now c.in_ok-reaches.reaches c.in_ok-planner.planner c.in_ok-reaches.ensures c.in_ok-planner.ensures.own c.in_ok-planner.ensures.all c.in_ok-planner.ensures.top);
+  len = search rules;
+  rows = rw c.in_ok-rows.ensures.items (λ k low. absurd (omega arith));
+  count = search rules;
+}
 
 pub loop-names-preserved : goal.loop-names-preserved
 loop-names-preserved c =
@@ -45,3 +55,10 @@ returns-clause-plan c = λ k low.
     let len : length waves ≡ c.loop-names.names-index = c.loop-names.invariant.len in
     let below : k < length waves = omega arith in
     c.loop-names.invariant.going.planned (λ j. get_or waves j 0) (λ j l. refl) k below
+
+pub returns-clause-sets : goal.returns-clause-sets
+returns-clause-sets c = λ p f low.
+    let len : length c.loop-names.waves.items ≡ c.loop-names.names-index = c.loop-names.invariant.len in
+    let all : length c.loop-names.waves.items ≡ length c.args.calls.now = omega arith in
+    rw c.into_sets.ensures
+    (subst (λ (x : ℕ). is_in (members_of c.loop-names.reaches p) f ≡ reach c.args.free (has_pair c.args.pairs.now) c.args.calls.now x p f) all (c.loop-names.invariant.going.sets p f low))
