@@ -11,7 +11,7 @@ use Rattle.std.proofs.lemmas.Map.Keys.{IsDistinct-push}
 use Rattle.std.proofs.lemmas.Nat.{same_from_place}
 use Rattle.std.proofs.Math.ListN.{length-set, length-replicate}
 use Rattle.kc_plan.specs.Members.{is_in, added, AreFlags, AreSame}
-use Rattle.kc_plan.proofs.Shapes.{same_number, equal, and_left, and_right, both}
+use Rattle.kc_plan.proofs.Shapes.{same_number, equal, and_left, and_right, both, or_false, or_true}
 
 added_by : (xs : List ℕ) (f : ℕ) (b : Bool) → is_in xs f ≡ b → (g : ℕ) → is_in (cond b xs (xs ++ f ∷ [])) g ≡ (is_in xs g || eqb f g)
 added_by xs f true has g = case (eqb f g) refl
@@ -19,10 +19,6 @@ added_by xs f true has g = case (eqb f g) refl
     case : (b : Bool) → eqb f g ≡ b → is_in xs g ≡ (is_in xs g || eqb f g)
     case true e = let is : f ≡ g = same_number f g e in let there : is_in xs g ≡ true = subst (λ (x : ℕ). is_in xs x ≡ true) is has in rw there refl
     case false e = rw e (sym (or_false (is_in xs g)))
-      where
-        or_false : (a : Bool) → (a || false) ≡ a
-        or_false true = refl
-        or_false false = refl
 added_by xs f false has g = list_any-append (eqb g) xs (f ∷ []) ∙ ap (λ (b : Bool). is_in xs g || b) (last f g)
   where
     last : (f g : ℕ) → (eqb g f || false) ≡ eqb f g
@@ -63,15 +59,11 @@ module _ (p f : ℕ) (a b : List (List ℕ)) (low : p < length a) (sets : b ≡ 
   pub set_has : (q g : ℕ) → is_in (get_or b q []) g ≡ (is_in (get_or a q []) g || (eqb p q && eqb f g))
   set_has q g = by (eqb p q) refl
     where
-      or_false : (a : Bool) → a ≡ (a || false)
-      or_false true = refl
-      or_false false = refl
-
       by : (e : Bool) → eqb p q ≡ e → is_in (get_or b q []) g ≡ (is_in (get_or a q []) g || (eqb p q && eqb f g))
       by true e =
           let is : p ≡ q = same_number p q e in
           rw e (subst (λ (x : ℕ). is_in (get_or b x []) g ≡ (is_in (get_or a x []) g || eqb f g)) is (ap (λ (xs : List ℕ). is_in xs g) this_set ∙ is_in_added (get_or a p []) f g))
-      by false e = rw e (ap (λ (xs : List ℕ). is_in xs g) (other_set q (λ is. let no : eqb p q ≡ true = rw is (equal p) in cc)) ∙ or_false (is_in (get_or a q []) g))
+      by false e = rw e (ap (λ (xs : List ℕ). is_in xs g) (other_set q (λ is. let no : eqb p q ≡ true = rw is (equal p) in cc)) ∙ sym (or_false (is_in (get_or a q []) g)))
 
   pub set_once : (q : ℕ) → IsDistinct eqb (get_or a q []) → IsDistinct eqb (get_or b q [])
   set_once q once = by (eqb p q) refl
@@ -127,19 +119,11 @@ flags_added sets flags p f low room are =
         by true e =
             let is_p : p ≡ q = same_number p q (and_left (eqb p q) (eqb f g) e) in
             let is_f : f ≡ g = same_number f g (and_right (eqb p q) (eqb f g) e) in
-            rw (e, ← is_p, ← is_f) (get_or-set_same flags (f * length sets + p) true false room ∙ or_true (is_in (get_or sets p []) f))
-          where
-            or_true : (a : Bool) → true ≡ (a || true)
-            or_true true = refl
-            or_true false = refl
+            rw (e, ← is_p, ← is_f) (get_or-set_same flags (f * length sets + p) true false room ∙ sym (or_true (is_in (get_or sets p []) f)))
         by false e =
             rw e
             (get_or-set_other flags (f * length sets + p) (g * length sets + q) true false
             (λ (same : g * length sets + q ≡ f * length sets + p).
             let is = same_from_place g q f p (length sets) there low same in
             let yes : (eqb p q && eqb f g) ≡ true = rw (is.0, is.1) (both (eqb p p) (eqb f f) (equal p) (equal f)) in cc)
-            ∙ are.has q g there ∙ or_false (is_in (get_or sets q []) g))
-          where
-            or_false : (a : Bool) → a ≡ (a || false)
-            or_false true = refl
-            or_false false = refl
+            ∙ are.has q g there ∙ sym (or_false (is_in (get_or sets q []) g)))

@@ -12,7 +12,7 @@ use Rattle.kc_plan.specs.Members.{added}
 use Rattle.kc_plan.specs.Reach.{is_in}
 use Rattle.kc_plan.proofs.Added.{length_added, added_front, set_has, set_once}
 use Rattle.kc_plan.proofs.Shapes.{or_left, or_right, or_cases, both, and_left, and_right, same_number, equal}
-use Rattle.kc_plan.specs.Tracked.{Held, members_of, is_near, IsExact, IsRelated, IsJoined, AreFreed, IsWider, IsFreeing, IsGrown}
+use Rattle.kc_plan.specs.Planner.{Held, members_of, is_near, IsExact, IsRelated, IsJoined, AreFreed, IsWider, IsFreeing, IsGrown}
 
 module _ (size free p f : ℕ) (a b : Held) (low : p < size) (free_low : free < size) (exact : IsExact size free a) (sets : b.sets ≡ set a.sets p (added (get_or a.sets p []) f)) where
   there : p < length a.sets

@@ -5,7 +5,7 @@ use Rattle.std.proofs.lemmas.Bool.{cases_lt}
 use Rattle.std.proofs.lemmas.List.{get_or-set_same, get_or-set_other}
 use Rattle.std.proofs.Math.ListN.{length-set}
 use Rattle.kc_plan.specs.Reach.{is_in}
-use Rattle.kc_plan.specs.Tracked.{Held, members_of, is_near, IsRelated}
+use Rattle.kc_plan.specs.Planner.{Held, members_of, is_near, IsRelated}
 use Rattle.kc_plan.proofs.Shapes.{or_left, or_right, or_cases, both, and_left, and_right, same_number, equal}
 
 -- the flag at row p and column q is raised

@@ -7,7 +7,7 @@ use Rattle.std.proofs.lemmas.Map.Keys.{IsDistinct-from_apart}
 use Rattle.kc_plan.specs.Reach.{is_in}
 use Rattle.kc_plan.proofs.Shapes.{same_number, equal}
 use Rattle.kc_plan.specs.Members.{added}
-use Rattle.kc_plan.specs.Tracked.{Held, is_near, HasOneOwner, AreApart, AreOwned, IsStart}
+use Rattle.kc_plan.specs.Planner.{Held, is_near, HasOneOwner, AreApart, AreOwned, IsStart}
 use Rattle.kc_plan.proofs.Added.{set_has, set_once}
 
 pub replicas : {A : Type 0} → (n i : ℕ) (z : A) → get_or (replicate n z) i z ≡ z

@@ -2,7 +2,7 @@
 ghost use Rattle.std.specs.Prelude.{◌≡◌, ℕ, ◌+◌, ◌<◌, length, get_or, IfOk};
 ghost use Rattle.kc_types.specs.Configuration.{slot_count};
 ghost use Rattle.kc_plan.specs.Owned.{IsOwned, principal_of};
-ghost use Rattle.kc_plan.specs.Tracked.{HasOneOwner};
+ghost use Rattle.kc_plan.specs.Planner.{HasOneOwner};
 
 use kc_core::KCore;
 use kc_types::{Memory, Owner};

@@ -2,7 +2,7 @@
 ghost use Rattle.std.specs.Prelude.{◌≡◌, ℕ, ◌+◌, ◌<◌, ◌^◌, ◌||◌, ◌&&◌, Bool, false, true, length, get_or, set, replicate, List, IfOk, OnOk, [], IfSome, eqb};
 ghost use Rattle.kc_plan.specs.Reach.{is_in, is_at, reach_of};
 ghost use Rattle.kc_plan.specs.Rows.{span_of, row_of};
-ghost use Rattle.kc_plan.specs.Tracked.{is_hit, members_of, IsExact, IsJoined, AreGained, IsStart, AreApart, HasOneOwner, has_pair, IsRelated, AreFreed, IsWider};
+ghost use Rattle.kc_plan.specs.Planner.{is_hit, members_of, IsExact, IsJoined, AreGained, IsStart, AreApart, HasOneOwner, has_pair, IsRelated, AreFreed, IsWider};
 
 use crate::names::{Gain, Names};
 use crate::reach_set::ReachSet;
@@ -58,7 +58,7 @@ pub(crate) struct Reaches {
 }
 
 impl Model for Reaches {
-    ghost use Rattle.kc_plan.specs.Tracked.{Held};
+    ghost use Rattle.kc_plan.specs.Planner.{Held};
 
     ghost Value = { Held };
 

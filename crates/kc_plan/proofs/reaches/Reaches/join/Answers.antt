@@ -1,6 +1,6 @@
 use Rattle.std.proofs.Common.{arith, rules, length}
 use Rattle.std.proofs.lemmas.Grind.{common_steps}
-use Rattle.kc_plan.specs.Tracked.{Held}
+use Rattle.kc_plan.specs.Planner.{Held}
 use Rattle.kc_plan.proofs.Joins.{joined}
 use Rattle.kc_plan.proofs.reaches.Reaches.join.Goals as goal
 

@@ -1,7 +1,7 @@
 use Rattle.std.proofs.Common.{◌≡◌, arith, length, ap, set, ℕ, List}
 use Rattle.std.specs.Prelude.{slice_get, Some}
 use Rattle.std.proofs.lemmas.Grind.{common_steps}
-use Rattle.kc_plan.specs.Tracked.{Held, members_of}
+use Rattle.kc_plan.specs.Planner.{Held, members_of}
 use Rattle.kc_plan.proofs.Joins.{freeing_more, freed_all, some_at}
 use Rattle.kc_plan.proofs.reaches.Reaches.join_all.Goals as goal
 

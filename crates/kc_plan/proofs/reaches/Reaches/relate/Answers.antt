@@ -3,7 +3,7 @@ use Rattle.std.proofs.lemmas.Grind.{common_steps}
 use Rattle.std.proofs.lemmas.List.{get_or_read}
 use Rattle.std.proofs.Math.ListN.{length-set}
 use Rattle.kc_plan.specs.Members.{is_in}
-use Rattle.kc_plan.specs.Tracked.{Held}
+use Rattle.kc_plan.specs.Planner.{Held}
 use Rattle.kc_plan.proofs.Related.{raised, related_more}
 use Rattle.kc_plan.proofs.reaches.Reaches.relate.Goals as goal
 use Rattle.kc_plan.proofs.reaches.Reaches.relate.Goals.{then-contains, else-contains}

@@ -1,4 +1,4 @@
-use Rattle.kc_plan.specs.Tracked.{IsRelated}
+use Rattle.kc_plan.specs.Planner.{IsRelated}
 use Rattle.kc_plan.proofs.reaches.Reaches.relate.Given as goal
 
 abbrev pub invariant-loop-other : goal.invariant-loop-other
