@@ -19,8 +19,8 @@ use Rattle.kc_plan.specs.Naming.{frame_of, gain_of, below, names_of}
 use Rattle.kc_plan.specs.Reach.{Numbered, Frame, Principal, is_at, names_at, names_principal, reach_of, gains_by, reach, touches}
 use Rattle.kc_plan.specs.Reach as planner
 use Rattle.kc_plan.specs.Owned.{numbered, resource_of, IsOwned}
-use Rattle.kc_plan.specs.Tracked.{has_pair}
-use Rattle.kc_plan.proofs.Shapes.{and_left, and_right, same_number, equal}
+use Rattle.kc_plan.specs.Planner.{has_pair}
+use Rattle.kc_plan.proofs.Shapes.{and_left, and_right, and_false, same_number, equal}
 
 pub differs : (v n : ℕ) → v < n → eqb n v ≡ false
 differs v n low = grind (arith, nat_tests)
@@ -42,10 +42,6 @@ swapped n x y = by (eqb x y) refl
         true_and true = refl
         true_and false = refl
     by false e = and_false (nat_lt x n)
-      where
-        and_false : (b : Bool) → (b && false) ≡ false
-        and_false true = refl
-        and_false false = refl
 
 -- where the second is below, the first needs no asking
 pub low_too : (n x y : ℕ) → y < n → (nat_lt x n && eqb x y) ≡ eqb x y
@@ -168,10 +164,6 @@ module _ (config : Configuration) (held : Owner → ℕ → Bool) (r : ℕ → �
 
   slot_is : (o : Option ℕ) (b : Bool) (v : ℕ) → v < slot_count config → (is_at (below (slot_count config) o) v || (b && eqb (slot_count config) v)) ≡ exists_slot config o v
   slot_is None b v low = rw (differs v (slot_count config) low) (and_false b)
-    where
-      and_false : (b : Bool) → (b && false) ≡ false
-      and_false true = refl
-      and_false false = refl
   slot_is (Some x) b v low = rw (at_below (slot_count config) x v, differs v (slot_count config) low) (with_false (nat_lt x (slot_count config) && eqb x v) b)
     where
       with_false : (a b : Bool) → (a || (b && false)) ≡ a

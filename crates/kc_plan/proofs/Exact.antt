@@ -21,7 +21,7 @@ use Rattle.kc_plan.specs.declared.rows.Span.{Span}
 use Rattle.kc_plan.specs.Naming.{below, frame_of, names_of}
 use Rattle.kc_plan.specs.Reach.{is_in, is_at, reach}
 use Rattle.kc_plan.specs.Owned.{IsOwned}
-use Rattle.kc_plan.specs.Tracked.{has_pair}
+use Rattle.kc_plan.specs.Planner.{has_pair}
 use Rattle.kc_plan.specs.Rows.{row_touches, no_row, IsRow, IsRowOf, AreRowsOf, AreRows}
 use Rattle.kc_plan.proofs.Shapes.{equal}
 use Rattle.kc_plan.proofs.Existing.{reach-low}

@@ -4,7 +4,7 @@ use Rattle.std.proofs.lemmas.Bool.{cases_lt}
 use Rattle.std.proofs.lemmas.List.Folds.{list_any-append}
 use Rattle.kc_model.specs.Resources.{Resource}
 use Rattle.kc_types.specs.declared.resource.Resource.TheVariants as resource
-use Rattle.kc_plan.proofs.Shapes.{or_left, or_right, or_cases, equal, same_number}
+use Rattle.kc_plan.proofs.Shapes.{or_left, or_right, or_cases, or_false, equal, same_number}
 use Rattle.kc_plan.specs.declared.rows.Span.{Span}
 use Rattle.kc_parts.specs.Cuts.{is_wanted, same}
 use Rattle.kc_plan.specs.Rows.{IsListed, IsPut, IsWithout, HasFrame, HasOther, HasOnly, has_frame, is_named, is_named_or_slot, is_reached, is_slot, is_free, IsSpan}
@@ -56,10 +56,6 @@ same_resource resource.Free resource.Free h = refl
 
 pub wanted_more : (rs : List Resource) (x r : Resource) → is_wanted (rs ++ x ∷ []) r ≡ (is_wanted rs r || same r x)
 wanted_more rs x r = list_any-append (same r) rs (x ∷ []) ∙ ap (λ (b : Bool). is_wanted rs r || b) (or_false (same r x))
-  where
-    or_false : (a : Bool) → (a || false) ≡ a
-    or_false true = refl
-    or_false false = refl
 
 both_ways : (a b : Bool) → (a ≡ true → b ≡ true) → (b ≡ true → a ≡ true) → a ≡ b
 both_ways true b f g = sym (f refl)

@@ -10,67 +10,22 @@ use Rattle.std.specs.List.{IsDistinct}
 use Rattle.std.proofs.Math.ListN.{length-set}
 use Rattle.kc_plan.specs.Members.{added}
 use Rattle.kc_plan.specs.Reach.{is_in}
+use Rattle.kc_plan.proofs.Added.{length_added, added_front, set_has, set_once}
 use Rattle.kc_plan.proofs.Shapes.{or_left, or_right, or_cases, both, and_left, and_right, same_number, equal}
-use Rattle.kc_plan.specs.Tracked.{Held, members_of, is_near, IsExact, IsRelated, IsJoined, AreFreed, IsWider, IsFreeing, IsGrown}
-
-added_by : (xs : List ℕ) (f : ℕ) (b : Bool) → is_in xs f ≡ b → (g : ℕ) → is_in (cond b xs (xs ++ f ∷ [])) g ≡ (is_in xs g || eqb f g)
-added_by xs f true has g = case (eqb f g) refl
-  where
-    case : (b : Bool) → eqb f g ≡ b → is_in xs g ≡ (is_in xs g || eqb f g)
-    case true e = let is : f ≡ g = same_number f g e in let there : is_in xs g ≡ true = subst (λ (x : ℕ). is_in xs x ≡ true) is has in rw there refl
-    case false e = rw e (sym (or_false (is_in xs g)))
-      where
-        or_false : (a : Bool) → (a || false) ≡ a
-        or_false true = refl
-        or_false false = refl
-added_by xs f false has g = list_any-append (eqb g) xs (f ∷ []) ∙ ap (λ (b : Bool). is_in xs g || b) (last f g)
-  where
-    last : (f g : ℕ) → (eqb g f || false) ≡ eqb f g
-    last f g = grind (arith, nat_tests)
-
-is_in_added : (xs : List ℕ) (f g : ℕ) → is_in (added xs f) g ≡ (is_in xs g || eqb f g)
-is_in_added xs f g = added_by xs f (is_in xs f) refl g
-
-length_added : (xs : List ℕ) (f : ℕ) → length xs ≤ length (added xs f)
-length_added xs f = by (is_in xs f)
-  where
-    by : (b : Bool) → length xs ≤ length (cond b xs (xs ++ f ∷ []))
-    by true = omega arith
-    by false = omega (arith, length-append xs (f ∷ []))
-
-added_front : (xs : List ℕ) (f i : ℕ) → i < length xs → get_or (added xs f) i 0 ≡ get_or xs i 0
-added_front xs f i low = by (is_in xs f)
-  where
-    by : (b : Bool) → get_or (cond b xs (xs ++ f ∷ [])) i 0 ≡ get_or xs i 0
-    by true = refl
-    by false = get_or_append_left xs (f ∷ []) 0 i low
-
-added_once : (xs : List ℕ) (f : ℕ) → IsDistinct eqb xs → IsDistinct eqb (added xs f)
-added_once xs f once = by (is_in xs f) refl
-  where
-    by : (b : Bool) → is_in xs f ≡ b → IsDistinct eqb (cond b xs (xs ++ f ∷ []))
-    by true has = once
-    by false has = IsDistinct-push nat_eq_equiv xs f once has
+use Rattle.kc_plan.specs.Planner.{Held, members_of, is_near, IsExact, IsRelated, IsJoined, AreFreed, IsWider, IsFreeing, IsGrown}
 
 module _ (size free p f : ℕ) (a b : Held) (low : p < size) (free_low : free < size) (exact : IsExact size free a) (sets : b.sets ≡ set a.sets p (added (get_or a.sets p []) f)) where
+  there : p < length a.sets
+  there = let l = exact.sets_len in omega arith
+
   same_set : (q : ℕ) → q ≢ p → members_of b q ≡ members_of a q
   same_set q ne = rw sets (get_or-set_other a.sets p q (added (get_or a.sets p []) f) [] ne)
 
   new_set : members_of b p ≡ added (members_of a p) f
-  new_set = rw sets (get_or-set_same a.sets p (added (get_or a.sets p []) f) [] (let l = exact.sets_len in omega arith))
+  new_set = rw sets (get_or-set_same a.sets p (added (get_or a.sets p []) f) [] there)
 
   pub members_joined : (q g : ℕ) → is_in (members_of b q) g ≡ (is_in (members_of a q) g || (eqb p q && eqb f g))
-  members_joined q g = by (eqb p q) refl
-    where
-      or_false : (a : Bool) → a ≡ (a || false)
-      or_false true = refl
-      or_false false = refl
-
-      by : (e : Bool) → eqb p q ≡ e → is_in (members_of b q) g ≡ (is_in (members_of a q) g || (eqb p q && eqb f g))
-      by true e =
-          let is : p ≡ q = same_number p q e in
-          rw e (subst (λ (x : ℕ). is_in (members_of b x) g ≡ (is_in (members_of a x) g || eqb f g)) is (ap (λ (xs : List ℕ). is_in xs g) new_set ∙ is_in_added (members_of a p) f g))
-      by false e = rw e (ap (λ (xs : List ℕ). is_in xs g) (same_set q (λ is. let no : eqb p q ≡ true = rw is (equal p) in cc)) ∙ or_false (is_in (members_of a q) g))
+  members_joined q g = set_has p f a.sets b.sets there sets q g
 
   keeps : (q g : ℕ) → is_in (members_of a q) g ≡ true → is_in (members_of b q) g ≡ true
   keeps q g has = members_joined q g ∙ or_left (is_in (members_of a q) g) (eqb p q && eqb f g) has
@@ -86,11 +41,7 @@ module _ (size free p f : ℕ) (a b : Held) (low : p < size) (free_low : free < 
       ]
 
   each_once : (q : ℕ) → IsDistinct eqb (members_of b q)
-  each_once q = by (eqb p q) refl
-    where
-      by : (e : Bool) → eqb p q ≡ e → IsDistinct eqb (members_of b q)
-      by true e = subst (λ (x : ℕ). IsDistinct eqb (members_of b x)) (same_number p q e) (rw new_set (added_once (members_of a p) f (exact.once p)))
-      by false e = let s : members_of b q ≡ members_of a q = same_set q (λ is. let no : eqb p q ≡ true = rw is (equal p) in cc) in rw s (exact.once q)
+  each_once q = set_once p f a.sets b.sets there sets q (exact.once q)
 
   longer : (q : ℕ) → length (members_of a q) ≤ length (members_of b q)
   longer q = by (eqb p q) refl

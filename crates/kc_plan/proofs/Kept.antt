@@ -7,7 +7,7 @@ use Rattle.kc_plan.specs.declared.names.Names.{Names}
 use Rattle.kc_plan.specs.declared.rows.Row.{Row}
 use Rattle.kc_plan.specs.declared.rows.Span.{Span}
 use Rattle.kc_plan.specs.Reach.{is_in, is_at, reach_of, reach, names_at}
-use Rattle.kc_plan.specs.Tracked.{Held, members_of, IsGrown}
+use Rattle.kc_plan.specs.Planner.{Held, members_of, IsGrown}
 use Rattle.kc_plan.specs.Rows.{has_frame, is_of, IsSpan, IsRowOf, AreRowsOf, span_of, row_of, no_row}
 
 module _ (a b : Held) (grown : IsGrown a b) (size : length b.sets ≡ length a.sets) where

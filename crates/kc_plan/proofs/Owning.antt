@@ -1,6 +1,6 @@
 -- The owners at the start.
 use Rattle.std.proofs.Common.{◌≡◌, ℕ, ◌+◌, ◌<◌, Bool, true, false, ◌&&◌, ◌||◌, nat_lt, cond, List, [], ◌∷◌, ◌++◌, length, get_or, refl, sym, ◌∙◌, ap, subst, arith, inl, inr, length-append}
-use Rattle.std.specs.Prelude.{eqb, Some, None}
+use Rattle.std.specs.Prelude.{eqb, Option, Some, None}
 use Rattle.std.proofs.lemmas.Bool.{cases_lt}
 use Rattle.std.proofs.lemmas.Bool.Decides.{nat_tests}
 use Rattle.std.proofs.lemmas.List.{get_or_append_left}
@@ -12,9 +12,9 @@ use Rattle.kc_model.specs.State.{State, frame_at}
 use Rattle.kc_model.specs.Lawful.{IsLawful, same_owner}
 use Rattle.kc_model.proofs.Changes.{exists}
 use Rattle.kc_plan.specs.Reach.{is_at}
-use Rattle.kc_plan.specs.Tracked.{has_pair}
+use Rattle.kc_plan.specs.Planner.{HasOneOwner, has_pair}
 use Rattle.kc_plan.specs.Owned.{IsOwned, IsOwnedBelow, principal_of}
-use Rattle.kc_plan.proofs.Shapes.{same_number, equal}
+use Rattle.kc_plan.proofs.Shapes.{same_number, equal, and_right, and_false}
 use Rattle.kc_plan.proofs.Carried.{at_below, low_too, not_past, differs}
 
 -- one frame more
@@ -29,10 +29,6 @@ none_more m n pairs none so_far = record { has = λ p f. so_far.has p f ∙ by p
         let same : n ≡ f = same_number n f e in
         let nothing : principal_of (slot_count m.config) (frame_at m f).owner ≡ None = subst (λ (x : ℕ). principal_of (slot_count m.config) (frame_at m x).owner ≡ None) same none in
         rw nothing (and_false (nat_lt f n) ∙ sym (and_false (nat_lt f (n + 1))))
-      where
-        and_false : (b : Bool) → (b && false) ≡ false
-        and_false true = refl
-        and_false false = refl
     by p f false e = let l : nat_lt f n ≡ nat_lt f (n + 1) = grind (arith, nat_tests) in ap (λ (x : Bool). x && is_at (principal_of (slot_count m.config) (frame_at m f).owner) p) l
 
 principal_low : (n : ℕ) (o : Owner) (q : ℕ) → principal_of n o ≡ Some q → q < n + 1
@@ -107,10 +103,6 @@ asked m lawful o differs f = by (same_owner (frame_at m f).owner o) refl
         let low : f < m.config.frames = rw lawful.frames at (exists m f (λ core. let no : same_owner (frame_at m f).owner o ≡ false = ap (λ x. same_owner x o) core ∙ differs in cc)) in
         let is : nat_lt f m.config.frames ≡ true = grind (arith, nat_tests) in rw is refl
     by false e = and_false (nat_lt f m.config.frames)
-      where
-        and_false : (b : Bool) → (b && false) ≡ false
-        and_false true = refl
-        and_false false = refl
 
 pub all_owned : (m : State) (n : ℕ) (pairs : List (ℕ × ℕ)) → IsLawful m → n ≡ m.config.frames → IsOwnedBelow m n pairs → IsOwned m pairs
 all_owned m n pairs lawful all so_far = record {
@@ -120,4 +112,16 @@ all_owned m n pairs lawful all so_far = record {
   by_free = λ f.
       let h : has_pair pairs (slot_count m.config) f ≡ (nat_lt f m.config.frames && is_at (principal_of (slot_count m.config) (frame_at m f).owner) (slot_count m.config)) = rw all at (so_far.has (slot_count m.config) f) in
       h ∙ (ap (λ (x : Bool). nat_lt f m.config.frames && x) (of_free (slot_count m.config) (frame_at m f).owner) ∙ asked m lawful owner.Free refl f);
+}
+
+same_at : (o : Option ℕ) (p q : ℕ) → is_at o p ≡ true → is_at o q ≡ true → p ≡ q
+same_at None p q h g = cc
+same_at (Some x) p q h g = sym (same_number x p h) ∙ same_number x q g
+
+pub one_owner : (m : State) (n : ℕ) (pairs : List (ℕ × ℕ)) → IsOwnedBelow m n pairs → HasOneOwner pairs
+one_owner m n pairs so_far = record {
+  same = λ p q f h g.
+      same_at (principal_of (slot_count m.config) (frame_at m f).owner) p q
+      (and_right (nat_lt f n) (is_at (principal_of (slot_count m.config) (frame_at m f).owner) p) (sym (so_far.has p f) ∙ h))
+      (and_right (nat_lt f n) (is_at (principal_of (slot_count m.config) (frame_at m f).owner) q) (sym (so_far.has q f) ∙ g));
 }

@@ -8,10 +8,10 @@ use Rattle.kc_plan.specs.declared.names.Gain.{Gain}
 use Rattle.kc_plan.specs.declared.names.Gain.TheVariants.{Nothing, SlotTakesFrame, FreeTakesFrame, FreeTakesReach}
 use Rattle.kc_plan.specs.declared.names.Names.{Names}
 use Rattle.kc_plan.specs.Reach.{is_in, is_at, names_principal, names_at, reach, touches, gains_by, reach_of}
-use Rattle.kc_plan.specs.Tracks.{IsNear, IsFound, IsNoted}
+use Rattle.kc_plan.specs.LastWaves.{IsNear, IsFound, IsNoted}
 use Rattle.kc_plan.proofs.Shapes.{same_number, or_cases, and_right, the_shape}
 use Rattle.kc_plan.proofs.Steps.{just_after, one_more}
-use Rattle.kc_plan.specs.Tracked.{Held, Stamps, members_of, is_near, IsExact, IsStart, IsHigh, IsWritten, AreGained, IsGoing, IsInRange, has_pair}
+use Rattle.kc_plan.specs.Planner.{Held, Stamps, members_of, is_near, IsExact, IsStart, IsHigh, IsWritten, AreGained, IsGoing, IsInRange, has_pair}
 use Rattle.kc_plan.proofs.Starts.{replicas}
 
 get_or_last : (xs : List ℕ) (y : ℕ) → get_or (xs ++ y ∷ []) (length xs) 0 ≡ y
@@ -31,25 +31,25 @@ gains_same free r t n FreeTakesReach p f e = rw e refl
 
 -- the start
 pub going_start : (frames free : ℕ) (pairs : List (ℕ × ℕ)) (cs : List Names) (h : Held) (s : Stamps) → IsStart (free + 1) free pairs h
-    → s.own ≡ replicate frames 0 → s.all ≡ replicate (free + 1) 0 → s.top ≡ replicate (free + 1) 0 → IsGoing frames free (has_pair pairs) cs [] h s
-going_start frames free pairs cs h s started own all top = record {
+    → s.frame_waves ≡ replicate frames 0 → s.principal_waves ≡ replicate (free + 1) 0 → s.reach_waves ≡ replicate (free + 1) 0 → IsGoing frames free (has_pair pairs) cs [] h s
+going_start frames free pairs cs h s started frame_waves principal_waves reach_waves = record {
   planned = λ wave agrees k low. absurd (omega arith);
   tracked = λ wave agrees. record {
-    own_bound = λ j f low. absurd (omega arith);
-    own_got = λ f. inl (rw own (replicas frames f 0));
-    all_bound = λ j p low. absurd (omega arith);
-    all_got = λ p. inl (rw all (replicas (free + 1) p 0));
-    top_bound = λ j p r below low. absurd (omega arith);
-    top_got = λ p low. inl (rw top (replicas (free + 1) p 0));
+    frame_bound = λ j f low. absurd (omega arith);
+    frame_got = λ f. inl (rw frame_waves (replicas frames f 0));
+    principal_bound = λ j p low. absurd (omega arith);
+    principal_got = λ p. inl (rw principal_waves (replicas (free + 1) p 0));
+    reach_bound = λ j p r below low. absurd (omega arith);
+    reach_got = λ p low. inl (rw reach_waves (replicas (free + 1) p 0));
   };
   sets = started.sets;
   exact = started.exact;
-  own_low = λ f. let e : get_or s.own f 0 ≡ 0 = rw own (replicas frames f 0) in omega arith;
-  all_low = λ p. let e : get_or s.all p 0 ≡ 0 = rw all (replicas (free + 1) p 0) in omega arith;
-  top_low = λ p low. let e : get_or s.top p 0 ≡ 0 = rw top (replicas (free + 1) p 0) in omega arith;
-  own_len = rw own (length-replicate frames 0);
-  all_len = rw all (length-replicate (free + 1) 0);
-  top_len = rw top (length-replicate (free + 1) 0);
+  frame_low = λ f. let e : get_or s.frame_waves f 0 ≡ 0 = rw frame_waves (replicas frames f 0) in omega arith;
+  principal_low = λ p. let e : get_or s.principal_waves p 0 ≡ 0 = rw principal_waves (replicas (free + 1) p 0) in omega arith;
+  reach_low = λ p low. let e : get_or s.reach_waves p 0 ≡ 0 = rw reach_waves (replicas (free + 1) p 0) in omega arith;
+  frame_len = rw frame_waves (length-replicate frames 0);
+  principal_len = rw principal_waves (length-replicate (free + 1) 0);
+  reach_len = rw reach_waves (length-replicate (free + 1) 0);
 }
 
 module _ (frames free : ℕ) (start : ℕ → ℕ → Bool) (cs : List Names) (range : (k : ℕ) → IsInRange frames free (names_at cs k)) where
@@ -84,7 +84,7 @@ module _ (frames free : ℕ) (start : ℕ → ℕ → Bool) (cs : List Names) (r
 
     found_at : (s : Stamps) (high : ℕ) → IsHigh (free + 1) free (names_at cs k) h s high
         → IsFound (λ j f. is_at (names_at cs j).frame f) (λ j p. names_principal free (names_at cs j) p) (reach free start cs) (touches free start cs) (free + 1) k high
-        (λ f. get_or s.own f 0) (λ p. get_or s.all p 0) (λ p. get_or s.top p 0)
+        (λ f. get_or s.frame_waves f 0) (λ p. get_or s.principal_waves p 0) (λ p. get_or s.reach_waves p 0)
     found_at s high found = record {
       named = found.named;
       had = λ f p is low has. found.had f p is low (back p f low has);
@@ -94,11 +94,11 @@ module _ (frames free : ℕ) (start : ℕ → ℕ → Bool) (cs : List Names) (r
             | inl none ↦ inl none
             | inr some ↦
                 inr (elim some [
-                  | inl own ↦ inl own
+                  | inl frame_waves ↦ inl frame_waves
                   | inr more ↦
                       inr (elim more [
-                        | inl all ↦ inl (all.0, all.1, all.2, all.3, forth all.1 all.0 all.3 all.4, all.5)
-                        | inr top ↦ inr top
+                        | inl principal_waves ↦ inl (principal_waves.0, principal_waves.1, principal_waves.2, principal_waves.3, forth principal_waves.1 principal_waves.0 principal_waves.3 principal_waves.4, principal_waves.5)
+                        | inr reach_waves ↦ inr reach_waves
                       ])
                 ])
           ];
@@ -106,15 +106,15 @@ module _ (frames free : ℕ) (start : ℕ → ℕ → Bool) (cs : List Names) (r
 
     noted_at : (s t : Stamps) (w : ℕ) → IsWritten (free + 1) free (names_at cs k) w h s t
         → IsNoted (λ j f. is_at (names_at cs j).frame f) (λ j p. names_principal free (names_at cs j) p) (reach free start cs) (touches free start cs) (free + 1) k w (is_near h)
-        (λ f. get_or s.own f 0) (λ p. get_or s.all p 0) (λ p. get_or s.top p 0) (λ f. get_or t.own f 0) (λ p. get_or t.all p 0) (λ p. get_or t.top p 0)
+        (λ f. get_or s.frame_waves f 0) (λ p. get_or s.principal_waves p 0) (λ p. get_or s.reach_waves p 0) (λ f. get_or t.frame_waves f 0) (λ p. get_or t.principal_waves p 0) (λ p. get_or t.reach_waves p 0)
     noted_at s t w noted = record {
-      own_is = noted.own_is;
-      all_is = noted.all_is;
-      top_more = noted.top_more;
-      top_named = λ p f low is has. noted.top_named p f low is (back p f low has);
-      top_near = noted.top_near;
-      top_is = λ p low.
-          elim (noted.top_is p low) [
+      frame_is = noted.frame_is;
+      principal_is = noted.principal_is;
+      reach_more = noted.reach_more;
+      reach_named = λ p f low is has. noted.reach_named p f low is (back p f low has);
+      reach_near = noted.reach_near;
+      reach_is = λ p low.
+          elim (noted.reach_is p low) [
             | inl same ↦ inl same
             | inr new ↦
                 inr (
@@ -137,13 +137,13 @@ module _ (frames free : ℕ) (start : ℕ → ℕ → Bool) (cs : List Names) (r
         | inl none ↦ omega arith
         | inr some ↦
             elim some [
-              | inl own ↦ (let l = going.own_low own.0 in let e = own.2 in omega arith)
+              | inl frame_waves ↦ (let l = going.frame_low frame_waves.0 in let e = frame_waves.2 in omega arith)
               | inr more ↦
                   elim more [
-                    | inl all ↦ (let l = going.all_low all.1 in let e = all.5 in omega arith)
-                    | inr top ↦
-                        (let at : names_principal free (names_at cs k) top.0 ≡ true = rw is at top.1 in
-                        let l = going.top_low top.0 (named_below k top.0 at) in let e = top.2 in omega arith)
+                    | inl principal_waves ↦ (let l = going.principal_low principal_waves.1 in let e = principal_waves.5 in omega arith)
+                    | inr reach_waves ↦
+                        (let at : names_principal free (names_at cs k) reach_waves.0 ≡ true = rw is at reach_waves.1 in
+                        let l = going.reach_low reach_waves.0 (named_below k reach_waves.0 at) in let e = reach_waves.2 in omega arith)
                   ]
             ]
       ]
@@ -151,8 +151,8 @@ module _ (frames free : ℕ) (start : ℕ → ℕ → Bool) (cs : List Names) (r
   -- one more call
   pub going_more : (waves more : List ℕ) (h g : Held) (s t : Stamps) (n : Names) (high : ℕ) → n ≡ names_at cs (length waves) → more ≡ waves ++ suc high ∷ []
       → IsGoing frames free start cs waves h s → IsHigh (free + 1) free n h s high → IsWritten (free + 1) free n (suc high) h s t → AreGained (free + 1) free n h g
-      → length t.own ≡ frames → length t.all ≡ free + 1 → length t.top ≡ free + 1 → IsGoing frames free start cs more g t
-  going_more waves more h g s t n high is pushed going found_n written_n gained_n own_len all_len top_len = rw pushed record {
+      → length t.frame_waves ≡ frames → length t.principal_waves ≡ free + 1 → length t.reach_waves ≡ free + 1 → IsGoing frames free start cs more g t
+  going_more waves more h g s t n high is pushed going found_n written_n gained_n frame_len principal_len reach_len = rw pushed record {
     planned = λ wave agrees k low.
         let step : k ≤ length waves = let l : k < suc (length waves) = rw len at low in omega arith in
         elim (eq-or-lt_of_le step) [
@@ -162,22 +162,22 @@ module _ (frames free : ℕ) (start : ℕ → ℕ → Bool) (cs : List Names) (r
     tracked = λ wave agrees.
         rw len
         (one_more (λ j f. is_at (names_at cs j).frame f) (λ j p. names_principal free (names_at cs j) p) (reach free start cs) (touches free start cs) (the_shape free start cs)
-        wave (free + 1) (length waves) (suc high) (is_near h) (λ f. get_or s.own f 0) (λ p. get_or s.all p 0) (λ p. get_or s.top p 0)
-        (λ f. get_or t.own f 0) (λ p. get_or t.all p 0) (λ p. get_or t.top p 0) named_below
+        wave (free + 1) (length waves) (suc high) (is_near h) (λ f. get_or s.frame_waves f 0) (λ p. get_or s.principal_waves p 0) (λ p. get_or s.reach_waves p 0)
+        (λ f. get_or t.frame_waves f 0) (λ p. get_or t.principal_waves p 0) (λ p. get_or t.reach_waves p 0) named_below
         (going.tracked wave (earlier wave agrees)) (near_at (length waves) h going.sets going.exact) noted (just_at wave agrees) (last_is wave agrees));
     sets = λ p f low. rw len (sets_by p f low);
     exact = gained_n.exact;
-    own_low = λ f. rw len (rw (written_n.own_is f) (cond_low _ (suc high) (get_or s.own f 0) (suc (length waves)) w_low (let l = going.own_low f in omega arith)));
-    all_low = λ p. rw len (rw (written_n.all_is p) (cond_low _ (suc high) (get_or s.all p 0) (suc (length waves)) w_low (let l = going.all_low p in omega arith)));
-    top_low = λ p low.
+    frame_low = λ f. rw len (rw (written_n.frame_is f) (cond_low _ (suc high) (get_or s.frame_waves f 0) (suc (length waves)) w_low (let l = going.frame_low f in omega arith)));
+    principal_low = λ p. rw len (rw (written_n.principal_is p) (cond_low _ (suc high) (get_or s.principal_waves p 0) (suc (length waves)) w_low (let l = going.principal_low p in omega arith)));
+    reach_low = λ p low.
         rw len
-        (elim (written_n.top_is p low) [
-          | inl same ↦ (let l = going.top_low p low in omega arith)
+        (elim (written_n.reach_is p low) [
+          | inl same ↦ (let l = going.reach_low p low in omega arith)
           | inr new ↦ (let e = new.0 in let l = w_low in omega arith)
         ]);
-    own_len = own_len;
-    all_len = all_len;
-    top_len = top_len;
+    frame_len = frame_len;
+    principal_len = principal_len;
+    reach_len = reach_len;
   }
     where
       len : length (waves ++ suc high ∷ []) ≡ suc (length waves)
@@ -187,11 +187,11 @@ module _ (frames free : ℕ) (start : ℕ → ℕ → Bool) (cs : List Names) (r
       w_low = let l = high_low waves h s n (length waves) high is going found_n in omega arith
 
       found : IsFound (λ j f. is_at (names_at cs j).frame f) (λ j p. names_principal free (names_at cs j) p) (reach free start cs) (touches free start cs) (free + 1) (length waves) high
-          (λ f. get_or s.own f 0) (λ p. get_or s.all p 0) (λ p. get_or s.top p 0)
+          (λ f. get_or s.frame_waves f 0) (λ p. get_or s.principal_waves p 0) (λ p. get_or s.reach_waves p 0)
       found = found_at (length waves) h going.sets s high (subst (λ (x : Names). IsHigh (free + 1) free x h s high) is found_n)
 
       noted : IsNoted (λ j f. is_at (names_at cs j).frame f) (λ j p. names_principal free (names_at cs j) p) (reach free start cs) (touches free start cs) (free + 1) (length waves) (suc high) (is_near h)
-          (λ f. get_or s.own f 0) (λ p. get_or s.all p 0) (λ p. get_or s.top p 0) (λ f. get_or t.own f 0) (λ p. get_or t.all p 0) (λ p. get_or t.top p 0)
+          (λ f. get_or s.frame_waves f 0) (λ p. get_or s.principal_waves p 0) (λ p. get_or s.reach_waves p 0) (λ f. get_or t.frame_waves f 0) (λ p. get_or t.principal_waves p 0) (λ p. get_or t.reach_waves p 0)
       noted = noted_at (length waves) h going.sets s t (suc high) (subst (λ (x : Names). IsWritten (free + 1) free x (suc high) h s t) is written_n)
 
       earlier : (wave : ℕ → ℕ) → ((j : ℕ) → j < length (waves ++ suc high ∷ []) → wave j ≡ get_or (waves ++ suc high ∷ []) j 0) → (j : ℕ) → j < length waves → wave j ≡ get_or waves j 0
@@ -203,7 +203,7 @@ module _ (frames free : ℕ) (start : ℕ → ℕ → Bool) (cs : List Names) (r
       just_at : (wave : ℕ → ℕ) → ((j : ℕ) → j < length (waves ++ suc high ∷ []) → wave j ≡ get_or (waves ++ suc high ∷ []) j 0) → ComesJustAfter (touches free start cs) wave (length waves)
       just_at wave agrees =
           just_after (λ j f. is_at (names_at cs j).frame f) (λ j p. names_principal free (names_at cs j) p) (reach free start cs) (touches free start cs) (the_shape free start cs)
-          wave (free + 1) (length waves) high (λ f. get_or s.own f 0) (λ p. get_or s.all p 0) (λ p. get_or s.top p 0) named_below
+          wave (free + 1) (length waves) high (λ f. get_or s.frame_waves f 0) (λ p. get_or s.principal_waves p 0) (λ p. get_or s.reach_waves p 0) named_below
           (going.tracked wave (earlier wave agrees)) found (last_is wave agrees)
 
       gained : AreGained (free + 1) free (names_at cs (length waves)) h g

@@ -6,7 +6,7 @@ use Rattle.kc_plan.specs.declared.names.Gain.{Gain}
 use Rattle.kc_plan.specs.declared.names.Gain.TheVariants.{Nothing, SlotTakesFrame, FreeTakesFrame, FreeTakesReach}
 use Rattle.kc_plan.specs.declared.names.Names.{Names}
 use Rattle.kc_plan.specs.Reach.{is_at, names_at, names_principal, reach_of, gains_by, reach, touched, touches}
-use Rattle.kc_plan.specs.Tracks.{Shape}
+use Rattle.kc_plan.specs.LastWaves.{Shape}
 
 pub or_left : (a b : Bool) → a ≡ true → (a || b) ≡ true
 or_left true b h = refl
@@ -31,6 +31,18 @@ and_left false b h = cc
 pub and_right : (a b : Bool) → (a && b) ≡ true → b ≡ true
 and_right true b h = h
 and_right false b h = cc
+
+pub or_false : (a : Bool) → (a || false) ≡ a
+or_false true = refl
+or_false false = refl
+
+pub or_true : (a : Bool) → (a || true) ≡ true
+or_true true = refl
+or_true false = refl
+
+pub and_false : (a : Bool) → (a && false) ≡ false
+and_false true = refl
+and_false false = refl
 
 pub same_number : (a b : ℕ) → eqb a b ≡ true → a ≡ b
 same_number a b h = grind (arith, nat_tests)

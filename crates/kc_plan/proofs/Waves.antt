@@ -14,7 +14,7 @@ use Rattle.kc_plan.specs.Commuting.{IsWaves}
 use Rattle.kc_plan.specs.Naming.{below, frame_of, names_of}
 use Rattle.kc_plan.specs.Reach.{names_at, touches}
 use Rattle.kc_plan.specs.Owned.{IsOwned}
-use Rattle.kc_plan.specs.Tracked.{IsInRange, has_pair}
+use Rattle.kc_plan.specs.Planner.{IsInRange, has_pair}
 use Rattle.kc_plan.proofs.Carried.{names_are, carried}
 
 pub below_low : (n : ℕ) (o : Option ℕ) → IfSome (below n o) (λ x. x < n)

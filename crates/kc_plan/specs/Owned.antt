@@ -9,7 +9,7 @@ use Rattle.kc_model.specs.Resources.{Resource}
 use Rattle.kc_types.specs.declared.resource.Resource.TheVariants as resource
 use Rattle.kc_plan.specs.Naming.{below}
 use Rattle.kc_plan.specs.Reach.{Numbered, Frame, Principal, is_at}
-use Rattle.kc_plan.specs.Tracked.{has_pair}
+use Rattle.kc_plan.specs.Planner.{has_pair}
 
 -- a resource in the planner's numbers
 abbrev pub numbered : ℕ → Resource → Numbered

@@ -7,6 +7,7 @@ mod owned;
 mod plan;
 mod planner;
 mod reach_set;
+mod reach_sets;
 mod reaches;
 mod rows;
 mod trace;

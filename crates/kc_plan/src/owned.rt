@@ -2,6 +2,7 @@
 ghost use Rattle.std.specs.Prelude.{◌≡◌, ℕ, ◌+◌, ◌<◌, length, get_or, IfOk};
 ghost use Rattle.kc_types.specs.Configuration.{slot_count};
 ghost use Rattle.kc_plan.specs.Owned.{IsOwned, principal_of};
+ghost use Rattle.kc_plan.specs.Planner.{HasOneOwner};
 
 use kc_core::KCore;
 use kc_types::{Memory, Owner};
@@ -21,6 +22,7 @@ fn principal_of(owner: Owner, slots: usize) -> Option<usize>
 /// The frames of the slots and of the free list, each with the number of its owner.
 pub(crate) fn owned_frames(alloc: Global, core: &KCore) -> Result<Vec<(usize, u32)>, Memory>
     ensures owned { IfOk result (λ pairs. IsOwned core.now pairs.items) }
+    ensures one { IfOk result (λ pairs. HasOneOwner pairs.items) }
     ensures low { IfOk result (λ pairs. (i : ℕ) → i < length pairs.items → (get_or pairs.items i (0, 0)).0 < slot_count core.now.config + 1) }
 {
     let slots = core.config().slots() as usize;

@@ -6,7 +6,7 @@ ghost use Rattle.waves.specs.Planned.{ComesJustAfter};
 ghost use Rattle.kc_plan.specs.Plans.{wave_of};
 ghost use Rattle.kc_plan.specs.Reach.{is_in, reach, touches, names_at};
 ghost use Rattle.kc_plan.specs.Rows.{AreRowsOf};
-ghost use Rattle.kc_plan.specs.Tracked.{IsLastOf, IsHigh, IsWritten, IsExact, has_pair, IsInRange, IsTop, set_at};
+ghost use Rattle.kc_plan.specs.Planner.{IsLastOf, IsHigh, IsWritten, IsExact, HasOneOwner, has_pair, IsInRange, IsTop, set_at};
 
 use crate::names::Names;
 use crate::reach_set::ReachSet;
@@ -20,17 +20,17 @@ use std::marker::Model;
 #[derive(Drop)]
 pub(crate) struct Planner {
     // By frame; the others by principal. 0 is no wave.
-    own: Vec<u32>,
-    all: Vec<u32>,
-    top: Vec<u32>,
+    frame_waves: Vec<u32>,
+    principal_waves: Vec<u32>,
+    reach_waves: Vec<u32>,
 }
 
 impl Model for Planner {
-    ghost use Rattle.kc_plan.specs.Tracked.{Stamps};
+    ghost use Rattle.kc_plan.specs.Planner.{Stamps};
 
     ghost Value = { Stamps };
 
-    ghost view = { λ p. record { own = p.own.items; all = p.all.items; top = p.top.items } };
+    ghost view = { λ p. record { frame_waves = p.frame_waves.items; principal_waves = p.principal_waves.items; reach_waves = p.reach_waves.items } };
 }
 
 /// The larger of two.
@@ -48,27 +48,27 @@ impl Planner {
         frames: usize,
         principals: usize,
     ) -> Result<Planner, AllocError>
-        ensures own { IfOk result (λ p. p.own ≡ replicate frames 0) }
-        ensures all { IfOk result (λ p. p.all ≡ replicate principals 0) }
-        ensures top { IfOk result (λ p. p.top ≡ replicate principals 0) }
+        ensures frame_waves { IfOk result (λ p. p.frame_waves ≡ replicate frames 0) }
+        ensures principal_waves { IfOk result (λ p. p.principal_waves ≡ replicate principals 0) }
+        ensures reach_waves { IfOk result (λ p. p.reach_waves ≡ replicate principals 0) }
     {
         Ok(Planner {
-            own: vec![in alloc; 0u32; frames]?,
-            all: vec![in alloc; 0u32; principals]?,
-            top: vec![in alloc; 0u32; principals]?,
+            frame_waves: vec![in alloc; 0u32; frames]?,
+            principal_waves: vec![in alloc; 0u32; principals]?,
+            reach_waves: vec![in alloc; 0u32; principals]?,
         })
     }
 
     /// The last wave of a call that touched a frame.
     pub(crate) fn last_of(&self, reaches: &Reaches, frame: u32) -> u32
-        requires frame { frame < length self.now.own }
-        requires sets { length reaches.now.sets ≡ length self.now.all }
-        ensures { IsLastOf (length self.now.all) frame reaches.now self.now result }
+        requires frame { frame < length self.now.frame_waves }
+        requires sets { length reaches.now.sets ≡ length self.now.principal_waves }
+        ensures { IsLastOf (length self.now.principal_waves) frame reaches.now self.now result }
     {
-        let mut highest = self.own[frame as usize];
-        for principal in 0..self.all.len() {
+        let mut highest = self.frame_waves[frame as usize];
+        for principal in 0..self.principal_waves.len() {
             if reaches.contains(principal, frame) {
-                highest = larger(highest, self.all[principal]);
+                highest = larger(highest, self.principal_waves[principal]);
             }
         }
         highest
@@ -76,11 +76,11 @@ impl Planner {
 
     /// The highest wave of a call that shares something with a call of these names.
     pub(crate) fn highest(&self, reaches: &Reaches, free: usize, names: &Names) -> u32
-        requires range { IsInRange (length self.now.own) free names.now }
-        requires free { free < length self.now.top }
-        requires all { length self.now.all ≡ length self.now.top }
-        requires sets { length reaches.now.sets ≡ length self.now.top }
-        ensures { IsHigh (length self.now.top) free names.now reaches.now self.now result }
+        requires range { IsInRange (length self.now.frame_waves) free names.now }
+        requires free { free < length self.now.reach_waves }
+        requires principal_waves { length self.now.principal_waves ≡ length self.now.reach_waves }
+        requires sets { length reaches.now.sets ≡ length self.now.reach_waves }
+        ensures { IsHigh (length self.now.reach_waves) free names.now reaches.now self.now result }
     {
         let by_frame = self.by_frame(reaches, names.frame);
         let by_slot = self.by_slot(names.slot);
@@ -89,9 +89,9 @@ impl Planner {
     }
 
     pub(crate) fn by_frame(&self, reaches: &Reaches, frame: Option<u32>) -> u32
-        requires frame { IfSome frame (λ f. f < length self.now.own) }
-        requires sets { length reaches.now.sets ≡ length self.now.all }
-        ensures { MatchOption frame (result ≡ 0) (λ f. IsLastOf (length self.now.all) f reaches.now self.now result) }
+        requires frame { IfSome frame (λ f. f < length self.now.frame_waves) }
+        requires sets { length reaches.now.sets ≡ length self.now.principal_waves }
+        ensures { MatchOption frame (result ≡ 0) (λ f. IsLastOf (length self.now.principal_waves) f reaches.now self.now result) }
     {
         match frame {
             Some(frame) => self.last_of(reaches, frame),
@@ -100,49 +100,49 @@ impl Planner {
     }
 
     pub(crate) fn by_slot(&self, slot: Option<u32>) -> u32
-        requires { IfSome slot (λ v. v < length self.now.top) }
-        ensures { MatchOption slot (result ≡ 0) (λ v. result ≡ get_or self.now.top v 0) }
+        requires { IfSome slot (λ v. v < length self.now.reach_waves) }
+        ensures { MatchOption slot (result ≡ 0) (λ v. result ≡ get_or self.now.reach_waves v 0) }
     {
         match slot {
-            Some(slot) => self.top[slot as usize],
+            Some(slot) => self.reach_waves[slot as usize],
             None => 0,
         }
     }
 
     pub(crate) fn by_free(&self, free: usize, named: bool) -> u32
-        requires { free < length self.now.top }
-        ensures { result ≡ (if named then get_or self.now.top free 0 else 0) }
+        requires { free < length self.now.reach_waves }
+        ensures { result ≡ (if named then get_or self.now.reach_waves free 0 else 0) }
     {
-        if named { self.top[free] } else { 0 }
+        if named { self.reach_waves[free] } else { 0 }
     }
 
-    /// Raises the top waves of the principals that a call touches, or what they may have.
+    /// Raises the highest waves of the principals that a call touches, or what they may have.
     pub(crate) fn raise(&mut self, reaches: &Reaches, free: usize, names: &Names, wave: u32)
         requires slot { IfSome names.now.slot (λ v. v < free) }
-        requires free { free < length self.old.top }
-        requires exact { IsExact (length self.old.top) free reaches.now }
-        ensures top { IsTop (length self.old.top) free wave names.now reaches.now self.old.top self.new.top }
-        ensures own { self.new.own ≡ self.old.own }
-        ensures all { self.new.all ≡ self.old.all }
-        ensures len { length self.new.top ≡ length self.old.top }
+        requires free { free < length self.old.reach_waves }
+        requires exact { IsExact (length self.old.reach_waves) free reaches.now }
+        ensures reach_waves { IsTop (length self.old.reach_waves) free wave names.now reaches.now self.old.reach_waves self.new.reach_waves }
+        ensures frame_waves { self.new.frame_waves ≡ self.old.frame_waves }
+        ensures principal_waves { self.new.principal_waves ≡ self.old.principal_waves }
+        ensures len { length self.new.reach_waves ≡ length self.old.reach_waves }
     {
-        for principal in 0..self.top.len() {
-            if self.top[principal] < wave && reaches.is_touched(free, names, principal) {
-                self.top[principal] = wave;
+        for principal in 0..self.reach_waves.len() {
+            if self.reach_waves[principal] < wave && reaches.is_touched(free, names, principal) {
+                self.reach_waves[principal] = wave;
             }
         }
     }
 
     /// Writes down the wave of a call of these names.
     pub(crate) fn note(&mut self, reaches: &Reaches, free: usize, names: &Names, wave: u32)
-        requires range { IsInRange (length self.old.own) free names.now }
-        requires free { free < length self.old.top }
-        requires all { length self.old.all ≡ length self.old.top }
-        requires exact { IsExact (length self.old.top) free reaches.now }
-        ensures written { IsWritten (length self.old.top) free names.now wave reaches.now self.old self.new }
-        ensures own { length self.new.own ≡ length self.old.own }
-        ensures all { length self.new.all ≡ length self.old.all }
-        ensures top { length self.new.top ≡ length self.old.top }
+        requires range { IsInRange (length self.old.frame_waves) free names.now }
+        requires free { free < length self.old.reach_waves }
+        requires principal_waves { length self.old.principal_waves ≡ length self.old.reach_waves }
+        requires exact { IsExact (length self.old.reach_waves) free reaches.now }
+        ensures written { IsWritten (length self.old.reach_waves) free names.now wave reaches.now self.old self.new }
+        ensures frame_waves { length self.new.frame_waves ≡ length self.old.frame_waves }
+        ensures principal_waves { length self.new.principal_waves ≡ length self.old.principal_waves }
+        ensures reach_waves { length self.new.reach_waves ≡ length self.old.reach_waves }
     {
         self.raise(reaches, free, names, wave);
         self.note_frame(names.frame, wave);
@@ -151,29 +151,29 @@ impl Planner {
     }
 
     pub(crate) fn note_frame(&mut self, frame: Option<u32>, wave: u32)
-        requires { IfSome frame (λ f. f < length self.old.own) }
-        ensures { self.new ≡ record { own = set_at frame wave self.old.own; all = self.old.all; top = self.old.top } }
+        requires { IfSome frame (λ f. f < length self.old.frame_waves) }
+        ensures { self.new ≡ record { frame_waves = set_at frame wave self.old.frame_waves; principal_waves = self.old.principal_waves; reach_waves = self.old.reach_waves } }
     {
         if let Some(frame) = frame {
-            self.own[frame as usize] = wave;
+            self.frame_waves[frame as usize] = wave;
         }
     }
 
     pub(crate) fn note_slot(&mut self, slot: Option<u32>, wave: u32)
-        requires { IfSome slot (λ v. v < length self.old.all) }
-        ensures { self.new ≡ record { own = self.old.own; all = set_at slot wave self.old.all; top = self.old.top } }
+        requires { IfSome slot (λ v. v < length self.old.principal_waves) }
+        ensures { self.new ≡ record { frame_waves = self.old.frame_waves; principal_waves = set_at slot wave self.old.principal_waves; reach_waves = self.old.reach_waves } }
     {
         if let Some(slot) = slot {
-            self.all[slot as usize] = wave;
+            self.principal_waves[slot as usize] = wave;
         }
     }
 
     pub(crate) fn note_free(&mut self, named: bool, free: usize, wave: u32)
-        requires { free < length self.old.all }
-        ensures { self.new ≡ record { own = self.old.own; all = (if named then set self.old.all free wave else self.old.all); top = self.old.top } }
+        requires { free < length self.old.principal_waves }
+        ensures { self.new ≡ record { frame_waves = self.old.frame_waves; principal_waves = (if named then set self.old.principal_waves free wave else self.old.principal_waves); reach_waves = self.old.reach_waves } }
     {
         if named {
-            self.all[free] = wave;
+            self.principal_waves[free] = wave;
         }
     }
 }
@@ -199,6 +199,7 @@ pub(crate) fn walk_calls(
     requires free { free + 1 < 2 ^ 32 }
     requires few { length calls.now < 2 ^ 32 }
     requires pairs { (i : ℕ) → i < length pairs.now → (get_or pairs.now i (0, 0)).0 < free + 1 }
+    requires one { HasOneOwner pairs.now }
     ensures len { IfOk result (λ w. length w.waves.items ≡ length calls.now) }
     ensures plan { IfOk result (λ w. (k : ℕ) → k < length calls.now → ComesJustAfter (touches free (has_pair pairs.now) calls.now) (wave_of w.waves.items) k) }
     ensures count { IfOk result (λ w. length w.rows.items ≡ length calls.now) }
@@ -207,7 +208,7 @@ pub(crate) fn walk_calls(
     ensures size { IfOk result (λ w. length w.sets.items ≡ free + 1) }
     ensures once { IfOk result (λ w. (p : ℕ) → IsDistinct eqb (get_or w.sets.items p [])) }
 {
-    let mut reaches = start(alloc, free + 1, free, pairs)?;
+    let mut reaches = start(alloc, frames, free + 1, free, pairs)?;
     let mut planner = Planner::new(alloc, frames, free + 1)?;
     let mut waves = Vec::with_capacity(alloc, calls.len())?;
     let mut rows = Vec::with_capacity(alloc, calls.len())?;

@@ -2,10 +2,11 @@
 ghost use Rattle.std.specs.Prelude.{◌≡◌, ℕ, ◌+◌, ◌<◌, ◌^◌, ◌||◌, ◌&&◌, Bool, false, true, length, get_or, set, replicate, List, IfOk, OnOk, [], IfSome, eqb};
 ghost use Rattle.kc_plan.specs.Reach.{is_in, is_at, reach_of};
 ghost use Rattle.kc_plan.specs.Rows.{span_of, row_of};
-ghost use Rattle.kc_plan.specs.Tracked.{is_hit, members_of, IsExact, IsJoined, AreGained, IsStart, has_pair, IsRelated, AreFreed, IsWider};
+ghost use Rattle.kc_plan.specs.Planner.{is_hit, members_of, IsExact, IsJoined, AreGained, IsStart, AreApart, HasOneOwner, has_pair, IsRelated, AreFreed, IsWider};
 
 use crate::names::{Gain, Names};
 use crate::reach_set::ReachSet;
+use crate::reach_sets::ReachSets;
 use crate::rows::{Row, Span};
 use std::alloc::{AllocError, Global};
 use std::marker::Model;
@@ -51,17 +52,17 @@ impl Flags {
 /// What each principal may have, which principals may have a frame in common, and how much of each slot's frames the free list may have.
 #[derive(Drop)]
 pub(crate) struct Reaches {
-    sets: Vec<ReachSet>,
+    sets: ReachSets,
     near: Vec<Flags>,
     freed: Vec<usize>,
 }
 
 impl Model for Reaches {
-    ghost use Rattle.kc_plan.specs.Tracked.{Held};
+    ghost use Rattle.kc_plan.specs.Planner.{Held};
 
     ghost Value = { Held };
 
-    ghost view = { λ r. record { sets = r.sets.items; near = r.near.items; freed = r.freed.items } };
+    ghost view = { λ r. record { sets = r.sets; near = r.near.items; freed = r.freed.items } };
 }
 
 impl Reaches {
@@ -70,7 +71,7 @@ impl Reaches {
         requires { principal < length self.now.sets }
         ensures { result ≡ is_in (members_of self.now principal) frame }
     {
-        self.sets[principal].contains(frame)
+        self.sets.contains(principal, frame)
     }
 
     /// Whether a call touches a principal or what it may have.
@@ -83,7 +84,7 @@ impl Reaches {
         ensures { result ≡ is_hit free names.now self.now principal }
     {
         let by_frame = match names.frame {
-            Some(frame) => self.sets[principal].contains(frame),
+            Some(frame) => self.sets.contains(principal, frame),
             None => false,
         };
         let by_slot = match names.slot {
@@ -98,7 +99,7 @@ impl Reaches {
     pub(crate) fn into_sets(self) -> Vec<ReachSet>
         ensures { result.items ≡ self.sets }
     {
-        self.sets
+        self.sets.into_sets()
     }
 
     fn span(&self, principal: u32) -> Span
@@ -107,7 +108,7 @@ impl Reaches {
     {
         Span {
             principal,
-            length: self.sets[principal as usize].len(),
+            length: self.sets.of(principal as usize).len(),
         }
     }
 
@@ -134,30 +135,6 @@ impl Reaches {
         }
     }
 
-    /// With nothing in them: each principal is near itself alone.
-    pub(crate) fn empty(
-        alloc: Global,
-        principals: usize,
-        free: usize,
-    ) -> Result<Reaches, AllocError>
-        requires { free < principals }
-        ensures { IfOk result (λ h. IsStart principals free [] h) }
-    {
-        let mut sets = Vec::with_capacity(alloc, principals)?;
-        let mut near = Vec::with_capacity(alloc, principals)?;
-        for principal in 0..principals {
-            let mut row = Flags::new(alloc, principals)?;
-            row.raise(principal);
-            near.push(row)?;
-            sets.push(ReachSet::new(alloc))?;
-        }
-        Ok(Reaches {
-            sets,
-            near,
-            freed: vec![in alloc; 0usize; principals]?,
-        })
-    }
-
     /// Raises the relation of a principal to each that may have the frame, both ways.
     pub(crate) fn relate(&mut self, principal: usize, frame: u32)
         requires sets { principal < length self.old.sets }
@@ -166,7 +143,7 @@ impl Reaches {
         ensures { IsRelated (length self.old.sets) principal frame self.old self.new }
     {
         for other in 0..self.sets.len() {
-            if self.sets[other].contains(frame) {
+            if self.sets.contains(other, frame) {
                 self.near[principal].raise(other);
                 self.near[other].raise(principal);
             }
@@ -185,7 +162,7 @@ impl Reaches {
         requires exact { IsExact (length self.old.sets) free self.old }
         ensures { OnOk result (IsJoined (length self.old.sets) free principal frame self.old self.new) }
     {
-        self.sets[principal].add(frame)?;
+        self.sets.add(principal, frame)?;
         self.relate(principal, frame);
         Ok(())
     }
@@ -197,9 +174,9 @@ impl Reaches {
         requires exact { IsExact (length self.old.sets) free self.old }
         ensures { OnOk result (AreFreed (length self.old.sets) free slot self.old self.new) }
     {
-        let count = self.sets[slot].len();
+        let count = self.sets.of(slot).len();
         for place in self.freed[slot]..count {
-            let Some(frame) = self.sets[slot].at(place) else {
+            let Some(frame) = self.sets.of(slot).at(place) else {
                 unreachable!()
             };
             self.join(free, frame, free)?;
@@ -277,20 +254,40 @@ impl Reaches {
     }
 }
 
-/// What the principals may have at the start.
+/// Flags for each principal that say that it is near itself alone.
+fn apart(alloc: Global, principals: usize) -> Result<Vec<Flags>, AllocError>
+    ensures { IfOk result (λ near. AreApart principals near.items) }
+{
+    let mut near = Vec::with_capacity(alloc, principals)?;
+    for principal in 0..principals {
+        let mut row = Flags::new(alloc, principals)?;
+        row.raise(principal);
+        near.push(row)?;
+    }
+    Ok(near)
+}
+
+/// What the principals may have at the start, with room for this many frames. No frame is owned by two.
 pub(crate) fn start(
     alloc: Global,
+    frames: usize,
     principals: usize,
     free: usize,
     pairs: &[(usize, u32)],
 ) -> Result<Reaches, AllocError>
     requires free { free < principals }
+    requires few { principals < 2 ^ 32 }
     requires pairs { (i : ℕ) → i < length pairs.now → (get_or pairs.now i (0, 0)).0 < principals }
+    requires one { HasOneOwner pairs.now }
     ensures { IfOk result (λ h. IsStart principals free pairs.now h) }
 {
-    let mut reaches = Reaches::empty(alloc, principals, free)?;
+    let mut sets = ReachSets::new(alloc, principals, frames)?;
     for (principal, frame) in pairs {
-        reaches.join(*principal, *frame, free)?;
+        sets.add(*principal, *frame)?;
     }
-    Ok(reaches)
+    Ok(Reaches {
+        sets,
+        near: apart(alloc, principals)?,
+        freed: vec![in alloc; 0usize; principals]?,
+    })
 }

@@ -108,7 +108,7 @@ impl Footprints {
     fn row(&self, number: usize) -> Row
         requires { number < length self.now.rows }
         ensures value { result ≡ row_at self.now number }
-        ensures sets { AreRows self.now.sets self.now.rows }
+        ensures row { IsRow self.now.sets result }
     {
         self.rows[number]
     }
@@ -137,7 +137,6 @@ impl Footprints {
     ) -> Result<(), AllocError>
         requires span { IsSpan self.now.sets span }
         requires other { IfSome other (IsSpan self.now.sets) }
-        requires once { IsDistinct eqb (get_or self.now.sets span.principal []) }
         ensures { OnOk result (IsListed self.now.sets span.principal span.length frame other footprint.old.items footprint.new.items) }
     {
         let set = &self.sets[span.principal as usize];
@@ -164,7 +163,6 @@ impl Footprints {
         requires slot { IfSome slot (IsSpan self.now.sets) }
         requires low { IfSome slot (λ s. s.principal < slot_limit) }
         requires frame { HasFrame frame footprint.old.items }
-        requires sets { AreRows self.now.sets self.now.rows }
         requires only { IsWithout (is_named frame) footprint.old.items }
         requires once { IsDistinct same footprint.old.items }
         ensures put { OnOk result (IsPut (is_slot self.now.sets slot) footprint.old.items footprint.new.items) }
@@ -189,7 +187,6 @@ impl Footprints {
         requires slot { IfSome slot (IsSpan self.now.sets) }
         requires frame { HasFrame frame footprint.old.items }
         requires other { HasOther self.now.sets slot footprint.old.items }
-        requires sets { AreRows self.now.sets self.now.rows }
         requires only { IsWithout (is_named_or_slot self.now.sets frame slot) footprint.old.items }
         requires once { IsDistinct same footprint.old.items }
         ensures put { OnOk result (IsPut (is_free self.now.sets free) footprint.old.items footprint.new.items) }

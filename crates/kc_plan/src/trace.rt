@@ -23,7 +23,7 @@ fn names_of_all(alloc: Global, config: &Config, calls: &[Call]) -> Result<Vec<Na
 }
 
 /// What the calls of a trace may touch that starts from this core, and their waves, which count from 1; `Memory` where
-/// a growth was refused.
+/// a growth was refused. There are fewer than 2^32 calls, since a wave's number is a `u32`; a trace has at most 65,536.
 pub fn footprints(alloc: Global, core: &KCore, calls: &[Call]) -> Result<Footprints, Memory>
     requires { length calls.now < 2 ^ 32 }
     ensures { IfOk result (AreFootprints core.now calls.now) }

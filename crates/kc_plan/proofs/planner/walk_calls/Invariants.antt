@@ -1,5 +1,5 @@
 use Rattle.std.proofs.Common.{◌≡◌, length}
-use Rattle.kc_plan.specs.Tracked.{IsGoing, has_pair}
+use Rattle.kc_plan.specs.Planner.{IsGoing, has_pair}
 use Rattle.kc_plan.specs.Rows.{AreRowsOf}
 use Rattle.kc_plan.proofs.planner.walk_calls.Given as goal
 

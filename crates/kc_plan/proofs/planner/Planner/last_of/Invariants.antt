@@ -1,4 +1,4 @@
-use Rattle.kc_plan.specs.Tracked.{IsLastOf}
+use Rattle.kc_plan.specs.Planner.{IsLastOf}
 use Rattle.kc_plan.proofs.planner.Planner.last_of.Given as goal
 
 abbrev pub invariant-loop-principal : goal.invariant-loop-principal

@@ -1,7 +1,7 @@
 use Rattle.std.proofs.Common.{◌≡◌, arith, length, ap, set, ℕ, List}
 use Rattle.std.specs.Prelude.{slice_get, Some}
 use Rattle.std.proofs.lemmas.Grind.{common_steps}
-use Rattle.kc_plan.specs.Tracked.{Held, members_of}
+use Rattle.kc_plan.specs.Planner.{Held, members_of}
 use Rattle.kc_plan.proofs.Joins.{freeing_more, freed_all, some_at}
 use Rattle.kc_plan.proofs.reaches.Reaches.join_all.Goals as goal
 
@@ -22,6 +22,6 @@ returns c =
     let a : Held = c.args.self.now in
     let count : c.len-count.result ≡ length (members_of a c.args.slot) = grind (arith, common_steps) in
     freed_all (length a.sets) c.args.free c.args.slot c.loop-place.place a c.loop-place.self
-    (record { sets = c.self-2.inside.sets.items; near = c.self-2.inside.near.items; freed = set c.self-2.inside.freed.items c.args.slot c.len-count.result })
+    (record { sets = c.self-2.inside.sets; near = c.self-2.inside.near.items; freed = set c.self-2.inside.freed.items c.args.slot c.len-count.result })
     c.requires.slot c.requires.free c.requires.exact c.loop-place.invariant (omega arith) (ap (λ (h : Held). h.sets) c.self-2.view_is) (ap (λ (h : Held). h.near) c.self-2.view_is)
     (let e = ap (λ (h : Held). h.freed) c.self-2.view_is in rw count (ap (λ (xs : List ℕ). set xs c.args.slot (length (members_of a c.args.slot))) e))

@@ -10,6 +10,3 @@ returns-in_ok-list-clause-put c =
 pub returns-in_ok-list-clause-once : goal.returns-in_ok-list-clause-once
 returns-in_ok-list-clause-once c =
     free_once c.args.self.now.sets c.in-Some.span c.args.frame c.args.slot c.args.footprint.now.items c.push.new.self.items c.list.new.footprint.items c.requires.only c.requires.once c.in_ok-push.ensures.items c.in_ok-list.ensures
-
-pub list-requires-clause-once : goal.list-requires-clause-once
-list-requires-clause-once c = c.requires.sets.once c.in-Some.span.principal

@@ -1,21 +1,23 @@
--- What the planner keeps.
-use Rattle.std.specs.Prelude.{◌≡◌, ℕ, ◌+◌, ◌<◌, ◌≤◌, Bool, true, false, ◌&&◌, ◌||◌, eqb, List, [], length, get_or, set, take, Option, Some, None, IfSome, ◌⊎◌}
+-- What the planner keeps over the calls so far, and what its steps do.
+use Rattle.std.specs.Prelude.{◌≡◌, ℕ, ◌+◌, ◌<◌, ◌≤◌, Bool, true, false, ◌&&◌, ◌||◌, eqb, List, [], length, get_or, set, take, replicate, Option, Some, None, IfSome, ◌⊎◌}
 use Rattle.std.specs.List.{list_any, IsDistinct}
 use Rattle.kc_plan.specs.declared.names.Names.{Names}
 use Rattle.kc_plan.specs.Reach.{is_in, is_at, names_principal, gains_by, names_at, reach, touches}
 use Rattle.waves.specs.Planned.{ComesJustAfter}
-use Rattle.kc_plan.specs.Tracks.{IsFound, IsNoted, AreTracked}
+use Rattle.kc_plan.specs.LastWaves.{IsFound, IsNoted, AreTracked}
 use Rattle.kc_plan.specs.Members.{added}
 
+-- what each principal may have, which principals may have a frame in common, and how many of each slot's frames the free list has taken over
 pub record Held : Type 0 where
   pub sets : List (List ℕ)
   pub near : List (List Bool)
   pub freed : List ℕ
 
+-- the last wave of a call that named a frame, that of one that named a principal, and the highest of one that touched a principal or what it may have
 pub record Stamps : Type 0 where
-  pub own : List ℕ
-  pub all : List ℕ
-  pub top : List ℕ
+  pub frame_waves : List ℕ
+  pub principal_waves : List ℕ
+  pub reach_waves : List ℕ
 
 abbrev pub members_of : Held → ℕ → List ℕ
 members_of h p = get_or h.sets p []
@@ -53,19 +55,19 @@ pub record IsExact (size free : ℕ) (h : Held) : Type 0 where
   pub shared : (p q f : ℕ) → p < size → q < size → is_in (members_of h p) f ≡ true → is_in (members_of h q) f ≡ true → is_near h p q ≡ true
   pub once : (p : ℕ) → IsDistinct eqb (members_of h p)
 
--- the last wave of a call that touched the frame f, as far as own and the first n of all tell
+-- the last wave of a call that touched the frame f, as far as frame_waves and the first n of principal_waves tell
 pub record IsLastOf (n f : ℕ) (h : Held) (s : Stamps) (high : ℕ) : Type 0 where
-  pub named : get_or s.own f 0 ≤ high
-  pub had : (p : ℕ) → p < n → is_in (members_of h p) f ≡ true → get_or s.all p 0 ≤ high
-  pub got : (get_or s.own f 0 ≡ high) ⊎ ((p : ℕ) × (p < n) × (is_in (members_of h p) f ≡ true) × (get_or s.all p 0 ≡ high))
+  pub named : get_or s.frame_waves f 0 ≤ high
+  pub had : (p : ℕ) → p < n → is_in (members_of h p) f ≡ true → get_or s.principal_waves p 0 ≤ high
+  pub got : (get_or s.frame_waves f 0 ≡ high) ⊎ ((p : ℕ) × (p < n) × (is_in (members_of h p) f ≡ true) × (get_or s.principal_waves p 0 ≡ high))
 
 -- high is the highest wave of a call that shares something with a call of these names
 abbrev pub IsHigh : ℕ → ℕ → Names → Held → Stamps → ℕ → Type 0
 IsHigh size free n h s high =
     IsFound (λ k f. is_at n.frame f) (λ k p. names_principal free n p) (λ k p f. is_in (members_of h p) f) (λ k r. false) size 0 high
-    (λ f. get_or s.own f 0) (λ p. get_or s.all p 0) (λ p. get_or s.top p 0)
+    (λ f. get_or s.frame_waves f 0) (λ p. get_or s.principal_waves p 0) (λ p. get_or s.reach_waves p 0)
 
--- the top waves of the first n principals are raised to w where the call touches them or what they may have
+-- the highest waves of the first n principals are raised to w where the call touches them or what they may have
 pub record IsTop (n free w : ℕ) (names : Names) (h : Held) (before after : List ℕ) : Type 0 where
   pub more : (p : ℕ) → get_or before p 0 ≤ get_or after p 0
   pub hit : (p : ℕ) → p < n → is_hit free names h p ≡ true → w ≤ get_or after p 0
@@ -75,7 +77,7 @@ pub record IsTop (n free w : ℕ) (names : Names) (h : Held) (before after : Lis
 abbrev pub IsWritten : ℕ → ℕ → Names → ℕ → Held → Stamps → Stamps → Type 0
 IsWritten size free n w h s t =
     IsNoted (λ k f. is_at n.frame f) (λ k p. names_principal free n p) (λ k p f. is_in (members_of h p) f) (λ k r. false) size 0 w (is_near h)
-    (λ f. get_or s.own f 0) (λ p. get_or s.all p 0) (λ p. get_or s.top p 0) (λ f. get_or t.own f 0) (λ p. get_or t.all p 0) (λ p. get_or t.top p 0)
+    (λ f. get_or s.frame_waves f 0) (λ p. get_or s.principal_waves p 0) (λ p. get_or s.reach_waves p 0) (λ f. get_or t.frame_waves f 0) (λ p. get_or t.principal_waves p 0) (λ p. get_or t.reach_waves p 0)
 
 -- the principal p is related to each that may have the frame f, both ways
 pub record IsRelated (n p f : ℕ) (a b : Held) : Type 0 where
@@ -129,6 +131,21 @@ set_at (Some i) w xs = set xs i w
 abbrev pub has_pair : List (ℕ × ℕ) → ℕ → ℕ → Bool
 has_pair pairs p f = list_any (λ x. eqb x.0 p && eqb x.1 f) pairs
 
+-- no frame has two owners
+pub record HasOneOwner (pairs : List (ℕ × ℕ)) : Type 0 where
+  pub same : (p q f : ℕ) → has_pair pairs p f ≡ true → has_pair pairs q f ≡ true → p ≡ q
+
+-- each of the principals is near itself alone
+pub record AreApart (size : ℕ) (near : List (List Bool)) : Type 0 where
+  pub count : length near ≡ size
+  pub row : (p : ℕ) → p < size → get_or near p [] ≡ set (replicate size false) p true
+
+-- what the pairs have so far
+pub record AreOwned (size : ℕ) (pairs : List (ℕ × ℕ)) (sets : List (List ℕ)) : Type 0 where
+  pub count : length sets ≡ size
+  pub has : (p f : ℕ) → is_in (get_or sets p []) f ≡ has_pair pairs p f
+  pub once : (p : ℕ) → IsDistinct eqb (get_or sets p [])
+
 pub record IsStart (size free : ℕ) (pairs : List (ℕ × ℕ)) (h : Held) : Type 0 where
   pub exact : IsExact size free h
   pub sets : (p f : ℕ) → p < size → is_in (members_of h p) f ≡ has_pair pairs p f
@@ -138,12 +155,12 @@ pub record IsGoing (frames free : ℕ) (start : ℕ → ℕ → Bool) (cs : List
   pub planned : (wave : ℕ → ℕ) → ((j : ℕ) → j < length waves → wave j ≡ get_or waves j 0) → (k : ℕ) → k < length waves → ComesJustAfter (touches free start cs) wave k
   pub tracked : (wave : ℕ → ℕ) → ((j : ℕ) → j < length waves → wave j ≡ get_or waves j 0)
       → AreTracked (λ k f. is_at (names_at cs k).frame f) (λ k p. names_principal free (names_at cs k) p) (reach free start cs) (touches free start cs) wave
-      (free + 1) (length waves) (λ f. get_or s.own f 0) (λ p. get_or s.all p 0) (λ p. get_or s.top p 0)
+      (free + 1) (length waves) (λ f. get_or s.frame_waves f 0) (λ p. get_or s.principal_waves p 0) (λ p. get_or s.reach_waves p 0)
   pub sets : (p f : ℕ) → p < free + 1 → is_in (members_of h p) f ≡ reach free start cs (length waves) p f
   pub exact : IsExact (free + 1) free h
-  pub own_low : (f : ℕ) → get_or s.own f 0 ≤ length waves
-  pub all_low : (p : ℕ) → get_or s.all p 0 ≤ length waves
-  pub top_low : (p : ℕ) → p < free + 1 → get_or s.top p 0 ≤ length waves
-  pub own_len : length s.own ≡ frames
-  pub all_len : length s.all ≡ free + 1
-  pub top_len : length s.top ≡ free + 1
+  pub frame_low : (f : ℕ) → get_or s.frame_waves f 0 ≤ length waves
+  pub principal_low : (p : ℕ) → get_or s.principal_waves p 0 ≤ length waves
+  pub reach_low : (p : ℕ) → p < free + 1 → get_or s.reach_waves p 0 ≤ length waves
+  pub frame_len : length s.frame_waves ≡ frames
+  pub principal_len : length s.principal_waves ≡ free + 1
+  pub reach_len : length s.reach_waves ≡ free + 1

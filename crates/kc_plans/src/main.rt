@@ -1,0 +1,94 @@
+//! What each call of a trace may touch, and its wave, to be compared with what another program finds; or how long
+//! finding that takes.
+//!
+//! The words are the paths of a configuration and of a trace, and perhaps a number: how often to measure.
+#![tactic(auto)]
+
+use anyhow::{Context, Result, bail};
+use kc_core::KCore;
+use kc_plan::{Footprints, Plan, footprints};
+use kc_trace::{read_config, read_trace};
+use kc_types::{Call, Resource};
+use std::time::CpuClock;
+use std::{env, fs};
+
+/// The most calls that are planned.
+const MOST_CALLS: usize = 65_536;
+
+/// A line with a call's wave and what it may touch: frames, a slot, the free list.
+fn print_call(rt: &HostRuntime, wave: u32, footprint: &[Resource]) -> Result<()> {
+    let alloc = rt.alloc();
+    let mut line = format!(in alloc; "{wave}:")?;
+    for resource in footprint {
+        match resource {
+            Resource::Frame(frame) => {
+                let frame = frame.number();
+                line.push_str(format!(in alloc; " f{frame}")?.as_str())?;
+            },
+            Resource::Vm(vm) => {
+                let vm = vm.index();
+                line.push_str(format!(in alloc; " v{vm}")?.as_str())?;
+            },
+            Resource::Free => line.push_str(" free")?,
+        }
+    }
+    println!(rt; "{line}")?;
+    Ok(())
+}
+
+/// A line for each call, and then one for each wave, with the numbers of its calls.
+fn print_plan(rt: &HostRuntime, core: &KCore, calls: &[Call]) -> Result<()> {
+    let alloc = rt.alloc();
+    if calls.len() > MOST_CALLS {
+        bail!("too many calls");
+    }
+    let footprints = footprints(alloc, core, calls)?;
+    let plan = Plan::make(alloc, &footprints)?;
+    for number in 0..calls.len() {
+        let footprint = footprints.of(alloc, number)?;
+        print_call(rt, plan.wave_of(number), footprint.as_slice())?;
+    }
+    for wave in 0..plan.waves() {
+        let calls = plan.calls_in(wave + 1);
+        println!(rt; "{calls:?}")?;
+    }
+    Ok(())
+}
+
+/// A line with the microseconds of this thread that the footprints and the plan took, and the number of waves.
+fn print_time(rt: &HostRuntime, core: &KCore, calls: &[Call]) -> Result<()> {
+    let alloc = rt.alloc();
+    if calls.len() > MOST_CALLS {
+        bail!("too many calls");
+    }
+    let start = rt.thread_cpu_time()?;
+    let footprints = footprints(alloc, core, calls)?;
+    let between = rt.thread_cpu_time()?;
+    let plan = Plan::make(alloc, &footprints)?;
+    let end = rt.thread_cpu_time()?;
+    let first = between.saturating_sub(start).as_micros();
+    let second = end.saturating_sub(between).as_micros();
+    let waves = plan.waves();
+    println!(rt; "{first} {second} {waves}")?;
+    Ok(())
+}
+
+fn main(rt: HostRuntime) -> Result<()> {
+    let alloc = rt.alloc();
+    let mut words = env::args(&rt)?.skip(1);
+    let (Some(config), Some(trace)) = (words.next(), words.next()) else {
+        bail!("usage: kc_plans CONFIG TRACE [TIMES]");
+    };
+    let config = read_config(alloc, fs::read(&rt, config.as_str())?.as_slice())?;
+    let calls = read_trace(alloc, fs::read(&rt, trace.as_str())?.as_slice())?;
+    let core = KCore::boot(alloc, config)?;
+    match words.next() {
+        Some(times) => {
+            for _ in 0..times.as_str().parse::<u32>()? {
+                print_time(&rt, &core, calls.as_slice())?;
+            }
+            Ok(())
+        },
+        None => print_plan(&rt, &core, calls.as_slice()),
+    }
+}
