@@ -4,7 +4,6 @@ use Rattle.std.specs.Fmt.{decimal}
 use Rattle.kc_types.specs.Limits.{leaf_limit, leaf_entries}
 use Rattle.kc_types.specs.Configuration.{most_frames, slots_of}
 use Rattle.kc_types.specs.declared.version.Version.{Version}
-use Rattle.kc_types.specs.declared.link.Ends.{Ends}
 use Rattle.kc_dump.specs.declared.line.FrameLine.{FrameLine}
 use Rattle.kc_dump.specs.Dumps.{Dumped, SlotDump}
 use Rattle.kc_dump.specs.Ranges.{are_ends, is_entry, is_frame}
