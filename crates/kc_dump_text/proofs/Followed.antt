@@ -1,5 +1,5 @@
 -- A text has the lines of one dump at most, and no dump's text is refused.
-use Rattle.std.proofs.Common.{ℕ, ◌≡◌, ◌<◌, ◌≤◌, ◌+◌, nat_lt, false, List, [], ◌∷◌, ◌++◌, length, get_or, Option, Some, None, refl, sym, ap, subst, ◌∙◌, append_assoc, arith, length-append}
+use Rattle.std.proofs.Common.{ℕ, ◌≡◌, ◌≤◌, ◌+◌, List, [], ◌∷◌, ◌++◌, length, get_or, Some, None, refl, sym, ap, subst, ◌∙◌, append_assoc, arith, length-append}
 use Rattle.std.specs.Prelude.{if◌then◌else◌}
 use Rattle.std.specs.List.{flat_map}
 use Rattle.std.proofs.lemmas.Bool.{le-ltb}
@@ -22,6 +22,7 @@ use Rattle.kc_dump_text.proofs.LinesRead.{spelled-cut, only-line}
 use Rattle.kc_dump_text.proofs.Steps.{built-more, built-none}
 use Rattle.kc_dump_text.proofs.Fitting.{fits-of}
 use Rattle.kc_dump_text.proofs.Ranged.{first, some-same}
+use Rattle.kc_dump_text.proofs.SpelledLines.{text-lines}
 use Rattle.kc_dump_text.proofs.WholeText.{many}
 use Rattle.kc_dump_text.proofs.Told.{told-same}
 
@@ -98,11 +99,14 @@ not-stopped version d n rest fault is ran small s =
     by_rest [] t g = ended version fault (length s.lines) n s.stage s.rest (some-same s.stage (AtFrame n n) g) t s.why
     by_rest (z ∷ zs) t g = let a = first version s.stage z zs (AtFrame n n) g in s.stops.stuck z a.0 (flat_map spell zs) a.1 t
 
+lined : (text : List ℕ) (d : Dumped) → IsDumpText text d → text ≡ header d.version ++ flat_map spell (lines_of d)
+lined text d is = is.whole ∙ text-lines d
+
 -- behind a header of another version stands nothing of this
 as-version : (text rest : List ℕ) (d : Dumped) (version : Version) → IsDumpText text d → text ≡ header version ++ rest
     → (rest ≡ flat_map spell (lines_of d)) × (runs version (Some AtSize) (lines_of d) ≡ Some (AtFrame (length d.frames) (length d.frames)))
 as-version text rest d version is e =
-    let h = header-same d.version version (flat_map spell (lines_of d)) rest (sym is.whole ∙ e) in
+    let h = header-same d.version version (flat_map spell (lines_of d)) rest (sym (lined text d is) ∙ e) in
     (sym h.1, subst (λ v. runs v (Some AtSize) (lines_of d) ≡ Some (AtFrame (length d.frames) (length d.frames))) h.0 is.ordered)
 
 behind-header : (version : Version) (text rest : List ℕ) → text ≡ header version ++ rest → length text ≤ 1073741824 → length rest ≤ 1073741824
@@ -110,7 +114,7 @@ behind-header version text rest e small = let a = length-append (header version)
 
 -- no text of a dump is refused
 pub not-refused : (text : List ℕ) (d : Dumped) (fault : DumpFault) → length text ≤ 1073741824 → IsDumpText text d → IsRefused text fault → fault ≡ Memory
-not-refused text d NoHeader small is r = absurd (r d.version (flat_map spell (lines_of d)) is.whole)
+not-refused text d NoHeader small is r = absurd (r d.version (flat_map spell (lines_of d)) (lined text d is))
 not-refused text d Memory small is r = refl
 not-refused text d (BadLine n) small is r = (let a = as-version text r.1 d r.0 is r.2 in absurd (not-stopped r.0 d (length d.frames) r.1 (BadLine n) a.0 a.1 (behind-header r.0 text r.1 r.2 small) r.3))
 not-refused text d (Frame f) small is r = (let a = as-version text r.1 d r.0 is r.2 in absurd (not-stopped r.0 d (length d.frames) r.1 (Frame f) a.0 a.1 (behind-header r.0 text r.1 r.2 small) r.3))
@@ -122,8 +126,8 @@ no-lines (z ∷ zs) e = absurd (long-line z (flat_map spell zs) (sym e))
 -- a text is one dump's at most
 pub one-dump : (text : List ℕ) (d e : Dumped) → length text ≤ 1073741824 → IsDumpText text d → IsDumpText text e → d ≡ e
 one-dump text d e small is other =
-    let h = header-same d.version e.version (flat_map spell (lines_of d)) (flat_map spell (lines_of e)) (sym is.whole ∙ other.whole) in
-    let b = behind-header d.version text (flat_map spell (lines_of d)) is.whole small in
+    let h = header-same d.version e.version (flat_map spell (lines_of d)) (flat_map spell (lines_of e)) (sym (lined text d is) ∙ lined text e other) in
+    let b = behind-header d.version text (flat_map spell (lines_of d)) (lined text d is) small in
     let few : 0 + length (lines_of d) ≤ 1073741824 = (let m = many (lines_of d) in omega (arith, m, b)) in
     let end : Stage = AtFrame (length e.frames) (length e.frames) in
     let f = follow d.version (lines_of d) (lines_of e) [] AtSize (AtFrame (length d.frames) (length d.frames)) end (nothing d.version) [] (built-none d.version) few is.ordered

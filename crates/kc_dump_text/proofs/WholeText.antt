@@ -18,6 +18,7 @@ use Rattle.kc_dump_text.specs.Grammar.{spell, lines_of, runs, IsDumpText}
 use Rattle.kc_dump_text.specs.Building.{rest_of, IsWhole, IsStuck}
 use Rattle.kc_dump_text.specs.Refused.{IsRefused}
 use Rattle.kc_dump_text.proofs.Ranged.{in-range}
+use Rattle.kc_dump_text.proofs.SpelledLines.{text-lines}
 use Rattle.kc_dump_text.proofs.ReadLines.{bare, spell-bare}
 
 pub many : (lines : List DumpLine) → length lines ≤ length (flat_map spell lines)
@@ -36,7 +37,7 @@ whole-text version text rest d e w =
     let b = w.2.built in
     let same = sym b.same in
     record {
-      whole = e ∙ ap (λ (l : List ℕ). header version ++ l) (w.2.whole ∙ append-nil (flat_map spell w.0) ∙ ap (flat_map spell) (lines-are version rest d w)) ∙ ap (λ v. header v ++ flat_map spell (lines_of d)) same;
+      whole = e ∙ ap (λ (l : List ℕ). header version ++ l) (w.2.whole ∙ append-nil (flat_map spell w.0) ∙ ap (flat_map spell) (lines-are version rest d w)) ∙ ap (λ v. header v ++ flat_map spell (lines_of d)) same ∙ sym (text-lines d);
       ordered = ap (λ v. runs v (Some AtSize) (lines_of d)) b.same ∙ ap (runs version (Some AtSize)) (sym (lines-are version rest d w)) ∙ b.ran ∙ ap (λ n. Some (AtFrame n n)) (sym b.shape.1);
     }
 

@@ -1,11 +1,9 @@
 -- Which text is which dump, and why a text is none.
 use Rattle.std.specs.Prelude.{ℕ, ◌≡◌, ◌+◌, ◌==◌, ◌&&◌, ◌||◌, ◌⊎◌, nat_lt, nat_le, Bool, true, List, [], ◌∷◌, ◌++◌, length, codes, Option, Some, None, if◌then◌else◌}
-use Rattle.std.specs.List.{flat_map}
 use Rattle.std.specs.Fmt.{decimal}
 use Rattle.kc_types.specs.Limits.{leaf_limit, leaf_entries}
 use Rattle.kc_types.specs.Configuration.{most_frames, slots_of}
 use Rattle.kc_types.specs.declared.version.Version.{Version}
-use Rattle.kc_types.specs.declared.link.Ends.{Ends}
 use Rattle.kc_dump.specs.declared.line.FrameLine.{FrameLine}
 use Rattle.kc_dump.specs.Dumps.{Dumped, SlotDump}
 use Rattle.kc_dump.specs.Ranges.{are_ends, is_entry, is_frame}
@@ -13,7 +11,7 @@ use Rattle.kc_dump_text.specs.declared.dump_line.DumpLine.{DumpLine}
 use Rattle.kc_dump_text.specs.declared.dump_line.DumpLine.TheVariants.{SizeOf, FreeOf, VmOf, LeafOf, EntryOf, FrameOf}
 use Rattle.kc_dump_text.specs.declared.stage.Stage.{Stage}
 use Rattle.kc_dump_text.specs.declared.stage.Stage.TheVariants.{AtSize, AtFree, AtVm, AtLeaf, AtEntry, AtFrame}
-use Rattle.kc_dump_text.specs.DumpText.{line, phase_word, ends_words, header, free_line, leaf_line, entry_line, frame_line}
+use Rattle.kc_dump_text.specs.DumpText.{line, phase_word, ends_words, free_line, leaf_line, entry_line, frame_line, dump_text}
 
 -- the text of a line
 abbrev pub spell : DumpLine → List ℕ
@@ -63,9 +61,9 @@ runs version None lines = None
 runs version (Some stage) [] = Some stage
 runs version (Some stage) (l ∷ lines) = runs version (after version stage l) lines
 
--- the text is this dump
+-- the text is this dump: its one spelling, each line where it may stand
 pub record IsDumpText (text : List ℕ) (d : Dumped) : Type 0 where
-  pub whole : text ≡ header d.version ++ flat_map spell (lines_of d)
+  pub whole : text ≡ dump_text d
   pub ordered : runs d.version (Some AtSize) (lines_of d) ≡ Some (AtFrame (length d.frames) (length d.frames))
 
 -- the frame whose line is due, where no other line but a leaf's or an entry's may stand

@@ -11,8 +11,6 @@ mod stage;
 mod words;
 mod writer;
 
-pub use dump_line::DumpLine;
 pub use fault::DumpFault;
 pub use reader::read_dump;
-pub use stage::Stage;
 pub use writer::write_dump;
