@@ -134,8 +134,8 @@ fn run<R: Threads + Wait + Sync>(rt: &HostRuntime, threads: &R) -> u8 {
         return fail(rt, TextFault::Memory);
     };
     match job_of(rt.alloc(), words.as_slice()) {
-        Ok(Job::Replay { config }) => replay(rt, threads, config),
-        Ok(Job::Live { config }) => live(rt, threads, config),
+        Ok(Job::Replay { config, .. }) => replay(rt, threads, config),
+        Ok(Job::Live { config, .. }) => live(rt, threads, config),
         Err(fault) => refuse(rt, fault),
     }
 }
