@@ -13,8 +13,14 @@ fn answer<'a>(alloc: Global, words: &'a [&'a str]) -> Result<Job<'a>, u8> {
 
 #[test]
 fn asks_for_a_replay(rt: HostRuntime) {
-    let plain = Job::Replay { config: None };
-    let with_path = Job::Replay { config: Some("p") };
+    let plain = Job::Replay {
+        config: None,
+        workers: 1,
+    };
+    let with_path = Job::Replay {
+        config: Some("p"),
+        workers: 1,
+    };
     assert_eq!(rt; answer(rt.alloc(), &[]), Ok(plain));
     assert_eq!(rt; answer(rt.alloc(), &["replay"]), Ok(plain));
     assert_eq!(rt;
@@ -25,22 +31,70 @@ fn asks_for_a_replay(rt: HostRuntime) {
 
 #[test]
 fn asks_for_a_live_run(rt: HostRuntime) {
-    let with_path = Job::Live { config: Some("p") };
-    assert_eq!(rt;
-        answer(rt.alloc(), &["live"]),
-        Ok(Job::Live { config: None })
-    );
+    let plain = Job::Live {
+        config: None,
+        workers: 1,
+    };
+    let with_path = Job::Live {
+        config: Some("p"),
+        workers: 1,
+    };
+    assert_eq!(rt; answer(rt.alloc(), &["live"]), Ok(plain));
     assert_eq!(rt;
         answer(rt.alloc(), &["live", "--config", "p"]),
         Ok(with_path)
     );
-    assert_eq!(rt; answer(rt.alloc(), &["live", "--workers", "1"]), Err(2));
+}
+
+#[test]
+fn asks_for_so_many_workers(rt: HostRuntime) {
+    let replay = |workers| Job::Replay {
+        config: None,
+        workers,
+    };
+    let live = Job::Live {
+        config: Some("p"),
+        workers: 64,
+    };
+    assert_eq!(rt;
+        answer(rt.alloc(), &["replay", "--workers", "1"]),
+        Ok(replay(1))
+    );
+    assert_eq!(rt;
+        answer(rt.alloc(), &["replay", "--workers=64"]),
+        Ok(replay(64))
+    );
+    assert_eq!(rt;
+        answer(rt.alloc(), &["replay", "--workers", "+7"]),
+        Ok(replay(7))
+    );
+    assert_eq!(rt;
+        answer(rt.alloc(), &["live", "--workers", "64", "--config", "p"]),
+        Ok(live)
+    );
+}
+
+#[test]
+fn refuses_other_numbers_of_workers(rt: HostRuntime) {
+    let alloc = rt.alloc();
+    for command in ["replay", "live"] {
+        for number in ["0", "65", "256", "-1", "-0", "1.0", "x", ""] {
+            assert_eq!(rt; answer(alloc, &[command, "--workers", number]), Err(2));
+        }
+        assert_eq!(rt; answer(alloc, &[command, "--workers=-1"]), Err(2));
+        assert_eq!(rt; answer(alloc, &[command, "--workers="]), Err(2));
+        assert_eq!(rt; answer(alloc, &[command, "--workers"]), Err(2));
+        assert_eq!(rt;
+            answer(alloc, &[command, "--workers", "1", "--workers", "1"]),
+            Err(2)
+        );
+    }
+    assert_eq!(rt; answer(alloc, &["--workers", "1"]), Err(2));
 }
 
 #[test]
 fn refuses_other_words(rt: HostRuntime) {
     assert_eq!(rt; answer(rt.alloc(), &["--config", "p"]), Err(2));
-    assert_eq!(rt; answer(rt.alloc(), &["replay", "--workers", "1"]), Err(2));
     assert_eq!(rt; answer(rt.alloc(), &["replay", "--config"]), Err(2));
     assert_eq!(rt; answer(rt.alloc(), &["replay", "more"]), Err(2));
     assert_eq!(rt; answer(rt.alloc(), &["alive"]), Err(2));

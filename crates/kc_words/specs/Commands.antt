@@ -1,16 +1,21 @@
 -- The program's command, in clap's words.
-use Rattle.std.specs.Prelude.{codes, Some, true}
+use Rattle.std.specs.Prelude.{codes, pos, Some, true}
 use Rattle.clap.specs.Words.{App, Rule, new_app, new_rule, with_rule, with_subcommand}
 use Rattle.clap.specs.Simple.{on_top}
+use Rattle.clap.specs.declared.builder.value_parser.ValueParser.TheVariants.{Signed}
 
 abbrev pub config_rule : Rule
 config_rule = record (new_rule (codes "config")) { long = Some (codes "config"); value_names = 1 }
 
+-- a whole number from 1 to 64
+abbrev pub workers_rule : Rule
+workers_rule = record (new_rule (codes "workers")) { long = Some (codes "workers"); value_names = 1; parser = Some (Signed (pos 1) (pos 64)) }
+
 abbrev pub replay : App
-replay = with_rule (new_app (codes "replay")) config_rule
+replay = with_rule (with_rule (new_app (codes "replay")) config_rule) workers_rule
 
 abbrev pub live : App
-live = with_rule (new_app (codes "live")) config_rule
+live = with_rule (with_rule (new_app (codes "live")) config_rule) workers_rule
 
 -- the command with `replay` alone
 abbrev pub base : App

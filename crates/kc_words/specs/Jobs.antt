@@ -1,6 +1,9 @@
 -- What words ask for, and which are refused.
-use Rattle.std.specs.Prelude.{◌≡◌, ◌≢◌, ℕ, List, [], codes, Option, Some, None, option_map}
-use Rattle.clap.specs.Words.{Text, Row, first_of, subcommand_of, fault_of, IsAmong}
+use Rattle.std.specs.Prelude.{◌≡◌, ◌≢◌, ◌&&◌, ℕ, nat_le, List, [], codes, Option, Some, None, option_map, if◌then◌else◌}
+use Rattle.std.specs.Option.{option_map_or}
+use Rattle.std.specs.Borrow.{Bor}
+use Rattle.clap.specs.Words.{Text, Row, first_of, one_of, subcommand_of, fault_of, IsAmong}
+use Rattle.clap.specs.Walk.{byte_or_zero}
 use Rattle.clap.specs.declared.error.kind.ErrorKind.{ErrorKind}
 use Rattle.clap.specs.declared.error.kind.ErrorKind.TheVariants.{DisplayHelp, DisplayVersion, OutOfMemory}
 use Rattle.kc_words.specs.declared.words.Job.{Job}
@@ -9,15 +12,27 @@ use Rattle.kc_words.specs.declared.words.ArgFault.{ArgFault}
 use Rattle.kc_words.specs.declared.words.ArgFault.TheVariants.{Memory, Words}
 use Rattle.kc_words.specs.Commands.{kcore}
 
+-- 1 to 64: the command's rules let no other number of workers through
+abbrev pub in_range : ℕ → ℕ
+in_range n = if nat_le 1 n && nat_le n 64 then n else 1
+
+-- the number of workers that the words say; 1 where they say none
+abbrev pub workers_in : List Row → ℕ
+workers_in rows = option_map_or (λ text. in_range (byte_or_zero text)) (one_of (codes "workers") rows) 1
+
+-- the path of the configuration, and the number of workers, are those of the rows
+abbrev pub HasOptions : List Row → Option (Bor Text) → ℕ → Type 0
+HasOptions rows config workers = (option_map (λ s. s.now) config ≡ first_of (codes "config") rows) × (workers ≡ workers_in rows)
+
 -- what the subcommand of this name asks for, by the rows of its options: there are `live` and `replay` alone
 abbrev pub IsJobIn : Text → List Row → Job → Type 0
-IsJobIn name rows (Replay config) = (name ≢ codes "live") × (option_map (λ s. s.now) config ≡ first_of (codes "config") rows)
-IsJobIn name rows (Live config) = (name ≡ codes "live") × (option_map (λ s. s.now) config ≡ first_of (codes "config") rows)
+IsJobIn name rows (Replay config workers) = (name ≢ codes "live") × HasOptions rows config workers
+IsJobIn name rows (Live config workers) = (name ≡ codes "live") × HasOptions rows config workers
 
 -- the same where there may be no subcommand: then it is as if `replay` stood there alone
 abbrev pub Asks : Option (Text × List Row) → Job → Type 0
-Asks None (Replay config) = option_map (λ s. s.now) config ≡ None
-Asks None (Live config) = ⊥
+Asks None (Replay config workers) = HasOptions [] config workers
+Asks None (Live config workers) = ⊥
 Asks (Some found) job = IsJobIn found.0 found.1 job
 
 -- clap's rules find no fault in the words, and the job is what they hold for the program's command

@@ -2,8 +2,8 @@
 ghost use Rattle.std.specs.Prelude.{◌≡◌, ◌↔◌, IfOk, IfErr, IsTrue, map, false, option_map, codes};
 ghost use Rattle.clap.specs.Words.{app_of, rule_of, found_of, rows_of, first_of};
 ghost use Rattle.clap.specs.Values.{kind_of};
-ghost use Rattle.kc_words.specs.Commands.{kcore, config_rule};
-ghost use Rattle.kc_words.specs.Jobs.{IsJob, IsJobIn, IsRefusal, HasStatus};
+ghost use Rattle.kc_words.specs.Commands.{kcore, config_rule, workers_rule};
+ghost use Rattle.kc_words.specs.Jobs.{in_range, workers_in, IsJob, IsJobIn, IsRefusal, HasStatus};
 
 use clap::error::ErrorKind;
 use clap::{Arg, ArgMatches, Command, Error};
@@ -12,10 +12,17 @@ use std::alloc::{AllocError, Global};
 /// What the program is asked to do.
 #[derive(Clone, Copy, Debug, PartialEq, Eq)]
 pub enum Job<'a> {
-    /// Replay the trace on standard input, with the configuration in a file where a path is given.
-    Replay { config: Option<&'a str> },
-    /// Run the trace on standard input live, with the configuration in a file where a path is given.
-    Live { config: Option<&'a str> },
+    /// Replay the trace on standard input, with the configuration in a file where a path is given, by 1 to 64 workers.
+    Replay {
+        config: Option<&'a str>,
+        workers: u32,
+    },
+    /// Run the trace on standard input live, with the configuration in a file where a path is given, and replay the
+    /// history by 1 to 64 workers.
+    Live {
+        config: Option<&'a str>,
+        workers: u32,
+    },
 }
 
 /// Why there is no job.
@@ -47,6 +54,19 @@ fn config_arg<'a>(alloc: Global) -> Arg<'a>
         .help("A JSON text: frames, core, host, leaves and approved")
 }
 
+fn workers_arg<'a>(alloc: Global) -> Arg<'a>
+    ensures rule { rule_of result ≡ workers_rule }
+    ensures local { result.global ≡ false }
+{
+    Arg::new(alloc, "workers")
+        .long("workers")
+        .value_name("N")
+        .value_parser(clap::value_parser!(u8).range(1..=64))
+        .help(
+            "How many threads make the calls of a replay, from 1 to 64; 1 where this is not given",
+        )
+}
+
 /// The whole command.
 fn command<'a>(alloc: Global) -> Result<Command<'a>, AllocError>
     ensures app { IfOk result (λ c. app_of c ≡ kcore) }
@@ -55,12 +75,14 @@ fn command<'a>(alloc: Global) -> Result<Command<'a>, AllocError>
         .about(
             "Replay the trace on standard input and write the replies (what no words at all ask for)",
         )
-        .arg(config_arg(alloc))?;
+        .arg(config_arg(alloc))?
+        .arg(workers_arg(alloc))?;
     let live = Command::new(alloc, "live")
         .about(
             "Run the trace's actors in a thread each, and write their calls as they were answered",
         )
-        .arg(config_arg(alloc))?;
+        .arg(config_arg(alloc))?
+        .arg(workers_arg(alloc))?;
     let base = Command::new(alloc, "kcore")
         .no_binary_name(true)
         .about("Replay calls on the trusted core of a hypervisor")
@@ -88,6 +110,27 @@ fn config_in<'a>(matches: &ArgMatches<'a>) -> Option<&'a str>
     matches.get_str("config")
 }
 
+/// The number, or 1 where the command's rules do not let it through.
+fn in_range(workers: u8) -> u32
+    ensures { result ≡ in_range workers }
+{
+    if (1..=64).contains(&workers) {
+        u32::from(workers)
+    } else {
+        1
+    }
+}
+
+/// The number of workers; 1 where the words have none.
+fn workers_in(matches: &ArgMatches<'_>) -> u32
+    ensures { result ≡ workers_in (rows_of (found_of matches.now)) }
+{
+    match matches.get_one::<u8>("workers") {
+        Some(workers) => in_range(workers),
+        None => 1,
+    }
+}
+
 fn is_live(name: &str) -> bool
     ensures { IsTrue result ↔ (name.now ≡ codes "live") }
 {
@@ -99,15 +142,16 @@ fn job_in<'a>(name: &str, found: &ArgMatches<'a>) -> Job<'a>
     ensures { IsJobIn name.now (rows_of (found_of found.now)) result }
 {
     let config = config_in(found);
+    let workers = workers_in(found);
     if is_live(name) {
-        Job::Live { config }
+        Job::Live { config, workers }
     } else {
-        Job::Replay { config }
+        Job::Replay { config, workers }
     }
 }
 
-/// What the words, without the program's name, ask for: `replay` or `live`, with `--config PATH` or without, and
-/// `replay` for no words at all.
+/// What the words, without the program's name, ask for: `replay` or `live`, with or without `--config PATH` and
+/// `--workers N` with a number from 1 to 64, and `replay` for no words at all.
 pub fn job_of<'a>(alloc: Global, words: &'a [&'a str]) -> Result<Job<'a>, ArgFault>
     // The job is what the words say by the command's rules, and only words that break them are refused.
     ensures job { IfOk result (IsJob (map (λ w. w.now) words.entry.now)) }
@@ -119,6 +163,9 @@ pub fn job_of<'a>(alloc: Global, words: &'a [&'a str]) -> Result<Job<'a>, ArgFau
     };
     match matches.subcommand() {
         Some((name, found)) => Ok(job_in(name, found)),
-        None => Ok(Job::Replay { config: None }),
+        None => Ok(Job::Replay {
+            config: None,
+            workers: 1,
+        }),
     }
 }

@@ -7,8 +7,14 @@ use Rattle.kc_words.proofs.words.command.Goals as goal
 
 pub returns : goal.returns
 returns c =
-    let replay_is : app_of c.in_ok-replay.replay ≡ replay = c.in_ok-replay.ensures.shape c.config_arg.ensures.local ∙ ap₂ with_rule (ap app_of_fields c.about.ensures ∙ c.new.ensures.app) c.config_arg.ensures.rule in
-    let live_is : app_of c.in_ok-live.live ≡ live = c.in_ok-live.ensures.shape c.config_arg-2.ensures.local ∙ ap₂ with_rule (ap app_of_fields c.about-2.ensures ∙ c.new-2.ensures.app) c.config_arg-2.ensures.rule in
+    let replay_is : app_of c.in_ok-replay.replay ≡ replay =
+    c.in_ok-replay.ensures.shape c.workers_arg.ensures.local
+    ∙ ap₂ with_rule (c.in_ok-arg.ensures.shape c.config_arg.ensures.local ∙ ap₂ with_rule (ap app_of_fields c.about.ensures ∙ c.new.ensures.app) c.config_arg.ensures.rule) c.workers_arg.ensures.rule
+    in
+    let live_is : app_of c.in_ok-live.live ≡ live =
+    c.in_ok-live.ensures.shape c.workers_arg-2.ensures.local
+    ∙ ap₂ with_rule (c.in_ok-arg-2.ensures.shape c.config_arg-2.ensures.local ∙ ap₂ with_rule (ap app_of_fields c.about-2.ensures ∙ c.new-2.ensures.app) c.config_arg-2.ensures.rule) c.workers_arg-2.ensures.rule
+    in
     let top_is : app_of c.about-3.result ≡ on_top (λ s. record s { no_binary_name = true }) (new_app (codes "kcore")) =
     ap app_of_fields c.about-3.ensures ∙ ap app_of_fields c.no_binary_name.ensures ∙ ap (on_top (λ s. record s { no_binary_name = true })) c.new-3.ensures.app
     in
