@@ -1,7 +1,7 @@
 -- What it says of a list of findings that it is empty.
-use Rattle.std.proofs.Common.{ℕ, zero, suc, ◌≡◌, ◌<◌, ◌≤◌, ◌+◌, inl, inr, Bool, true, false, ◌&&◌, ◌||◌, cond, List, [], ◌∷◌, ◌++◌, length, get_or, nat_eq, eq-eqb, refl, sym, ap, ◌∙◌, arith}
+use Rattle.std.proofs.Common.{ℕ, zero, suc, ◌≡◌, ◌<◌, ◌≤◌, ◌+◌, inl, inr, Bool, true, false, ◌&&◌, ◌||◌, cond, List, [], ◌∷◌, ◌++◌, length, get_or, nat_eq, refl, sym, ap, ◌∙◌, arith}
 use Rattle.std.specs.Prelude.{◌/◌}
-use Rattle.std.proofs.lemmas.Bool.{cases_eq, cases_lt, eqb-true}
+use Rattle.std.proofs.lemmas.Bool.{cases_eq, cases_lt}
 use Rattle.kc_model.specs.Lawful.{times_in, has_leaf}
 use Rattle.kc_model.specs.Resources.{is_in}
 use Rattle.kc_model.proofs.Members.{held-times_in, times_in-held}
@@ -9,7 +9,6 @@ use Rattle.kc_links.proofs.Times.{times-same, times-other}
 use Rattle.kc_dump.specs.declared.line.FrameLine.{FrameLine}
 use Rattle.kc_audit.specs.declared.finding.Finding.{Finding}
 use Rattle.kc_dump.specs.Dumps.{SlotDump, empty_dump}
-use Rattle.kc_audit.specs.Marks.{has_entry}
 use Rattle.kc_audit.specs.Findings.{named_where, entries_named, all_entries_named, has_double, all_rooted}
 
 pub none-parts : (xs ys : List Finding) → xs ++ ys ≡ [] → (xs ≡ []) × (ys ≡ [])

@@ -14,9 +14,9 @@ use Rattle.kc_types.specs.declared.slot.Phase.TheVariants.{Empty}
 use Rattle.kc_model.specs.State.{State, Frame, Slot, frame_at, slot_at, untouched, empty_slot}
 use Rattle.kc_model.specs.Lawful.{IsLawful, IsLawfulSlot, same_owner, times_in, ListsOnce}
 use Rattle.kc_model.specs.Links.{first_of, link_after, link_in, link_at, list_of}
-use Rattle.kc_model.specs.Linked.{last_of, ends_of}
+use Rattle.kc_model.specs.Linked.{ends_of}
 use Rattle.kc_model.proofs.Members.{IsOnce, once-rest, same_number}
-use Rattle.kc_links.specs.Chain.{Links, IsLinked, first_or, last_or, unlinked}
+use Rattle.kc_links.specs.Chain.{Links, IsLinked, first_or, unlinked}
 use Rattle.kc_links.proofs.Times.{times-same, times-other, once-first}
 use Rattle.kc_dump.specs.declared.line.FrameLine.{FrameLine}
 use Rattle.kc_dump.specs.Dumps.{Dumped, SlotDump, absent_line, line_at, owner_at, link_of, links_of, no_ends, empty_dump, maps}

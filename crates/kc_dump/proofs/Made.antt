@@ -1,8 +1,7 @@
 -- The parts of a core's dump, one after another.
-use Rattle.std.proofs.Common.{ℕ, ◌≡◌, ◌<◌, ◌+◌, inl, inr, List, [], ◌∷◌, ◌++◌, length, map, get_or, refl, sym, ap, ◌∙◌, arith}
+use Rattle.std.proofs.Common.{ℕ, ◌≡◌, ◌<◌, ◌+◌, List, [], ◌∷◌, ◌++◌, length, map, get_or, refl, sym, ap, ◌∙◌, arith}
 use Rattle.std.specs.List.{range_with_len}
-use Rattle.std.proofs.lemmas.Bool.{cases_lt}
-use Rattle.std.proofs.lemmas.List.{ext_get_or, get_or-map, get_or_past, length-map}
+use Rattle.std.proofs.lemmas.List.{ext_get_or, get_or-map, length-map}
 use Rattle.std.proofs.lemmas.List.FromFn.{map-range_with_len_more, get_or-map-range_with_len, length-map-range_with_len}
 use Rattle.kc_types.specs.Configuration.{slot_count}
 use Rattle.kc_model.specs.State.{State, Frame, frame_at, slot_at, untouched, empty_slot}
@@ -16,7 +15,7 @@ use Rattle.sha2.specs.Sha256.{sha256}
 use Rattle.kc_dump.specs.declared.line.FrameLine.{FrameLine}
 use Rattle.kc_dump.specs.Dumps.{empty_dump}
 use Rattle.kc_digests.specs.Digests.{digest_of}
-use Rattle.kc_dump.specs.Dumping.{line_of, digests_of, slot_dump, slots_of, dump_of}
+use Rattle.kc_dump.specs.Dumping.{line_of, digests_of, slot_dump, slots_of}
 
 -- one more, by its number
 pub more : {X : Type 0} (f : ℕ → X) (n k : ℕ) (old new : List X) (x : X) → old ≡ map f (range_with_len 0 n) → new ≡ old ++ x ∷ [] → x ≡ f k → k ≡ n → new ≡ map f (range_with_len 0 (n + 1))

@@ -1,5 +1,5 @@
 -- Which numbers a dump holds.
-use Rattle.std.specs.Prelude.{ℕ, suc, ◌≡◌, ◌<◌, ◌≤◌, ◌==◌, ◌&&◌, nat_lt, nat_le, Bool, true, List, length, Option, Some, None, slice_index_or}
+use Rattle.std.specs.Prelude.{ℕ, suc, ◌≡◌, ◌<◌, ◌≤◌, ◌==◌, ◌&&◌, nat_lt, nat_le, Bool, true, length, Option, Some, None, slice_index_or}
 use Rattle.std.specs.List.{list_all}
 use Rattle.kc_types.specs.Limits.{leaf_limit, leaf_entries, gfn_limit, share_limit}
 use Rattle.kc_types.specs.Configuration.{most_frames, slots_of}
