@@ -6,6 +6,8 @@ mod configurations;
 #[cfg(test)]
 mod copies;
 #[cfg(test)]
+mod dumps;
+#[cfg(test)]
 mod ends;
 #[cfg(test)]
 mod gates;
