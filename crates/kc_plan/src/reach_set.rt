@@ -1,9 +1,6 @@
 //! A set of numbers that only grows and keeps the order in which they came.
 
-ghost use Rattle.std.specs.Prelude.{◌≡◌, ℕ, ◌+◌, ◌<◌, length, slice_index, slice_get, List, [], ◌∷◌, ◌++◌, OnOk, OnErr, IfOk, eqb};
-ghost use Rattle.std.specs.Prelude.{if◌then◌else◌};
-ghost use Rattle.std.specs.List.{list_any};
-ghost use Rattle.std.specs.Option.{option_copied};
+ghost use Rattle.std.specs.Prelude.{◌≡◌, ℕ, ◌<◌, length, slice_get, List, [], OnOk, OnErr};
 ghost use Rattle.kc_plan.specs.Members.{is_in, position_in, added};
 
 use indexmap::IndexSet;
@@ -18,8 +15,6 @@ pub(crate) struct ReachSet {
 
 impl Model for ReachSet {
     ghost use Rattle.std.specs.Prelude.{ℕ, List};
-    ghost use Rattle.indexmap.specs.IndexSet.{IsUnique};
-    ghost use Rattle.std.specs.Prelude.{nat_eq};
 
     ghost Value = { List ℕ };
 
