@@ -6,6 +6,7 @@ use Rattle.kc_plan.specs.Reach.{is_in, is_at, names_principal, gains_by, names_a
 use Rattle.waves.specs.Planned.{ComesJustAfter}
 use Rattle.kc_plan.specs.LastWaves.{IsFound, IsNoted, AreTracked}
 use Rattle.kc_plan.specs.Members.{added}
+use Rattle.kc_plan.specs.Plans.{wave_of}
 
 -- what each principal may have, which principals may have a frame in common, and how many of each slot's frames the free list has taken over
 pub record Held : Type 0 where
@@ -131,6 +132,10 @@ set_at (Some i) w xs = set xs i w
 abbrev pub has_pair : List (ℕ × ℕ) → ℕ → ℕ → Bool
 has_pair pairs p f = list_any (λ x. eqb x.0 p && eqb x.1 f) pairs
 
+-- the principals of the pairs are below n
+abbrev pub AreBelow : ℕ → List (ℕ × ℕ) → Type 0
+AreBelow n pairs = (i : ℕ) → i < length pairs → (get_or pairs i (0, 0)).0 < n
+
 -- no frame has two owners
 pub record HasOneOwner (pairs : List (ℕ × ℕ)) : Type 0 where
   pub same : (p q f : ℕ) → has_pair pairs p f ≡ true → has_pair pairs q f ≡ true → p ≡ q
@@ -164,3 +169,11 @@ pub record IsGoing (frames free : ℕ) (start : ℕ → ℕ → Bool) (cs : List
   pub frame_len : length s.frame_waves ≡ frames
   pub principal_len : length s.principal_waves ≡ free + 1
   pub reach_len : length s.reach_waves ≡ free + 1
+
+-- the wave of each call comes just after the highest of an earlier one that shares something with it
+abbrev pub ArePlanned : ℕ → List (ℕ × ℕ) → List Names → List ℕ → Type 0
+ArePlanned free pairs cs waves = (k : ℕ) → k < length cs → ComesJustAfter (touches free (has_pair pairs) cs) (wave_of waves) k
+
+-- the sets have what each principal may have after all calls
+abbrev pub AreReached : ℕ → List (ℕ × ℕ) → List Names → List (List ℕ) → Type 0
+AreReached free pairs cs sets = (p f : ℕ) → p < free + 1 → is_in (get_or sets p []) f ≡ reach free (has_pair pairs) cs (length cs) p f

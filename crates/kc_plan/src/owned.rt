@@ -1,8 +1,8 @@
 //! Which slot owns a frame at the start of a trace, or that the free list does.
-ghost use Rattle.std.specs.Prelude.{◌≡◌, ℕ, ◌+◌, ◌<◌, length, get_or, IfOk};
+ghost use Rattle.std.specs.Prelude.{◌≡◌, ◌+◌, ◌<◌, IfOk};
 ghost use Rattle.kc_types.specs.Configuration.{slot_count};
 ghost use Rattle.kc_plan.specs.Owned.{IsOwned, principal_of};
-ghost use Rattle.kc_plan.specs.Planner.{HasOneOwner};
+ghost use Rattle.kc_plan.specs.Planner.{AreBelow, HasOneOwner};
 
 use kc_core::KCore;
 use kc_types::{Memory, Owner};
@@ -23,7 +23,7 @@ fn principal_of(owner: Owner, slots: usize) -> Option<usize>
 pub(crate) fn owned_frames(alloc: Global, core: &KCore) -> Result<Vec<(usize, u32)>, Memory>
     ensures owned { IfOk result (λ pairs. IsOwned core.now pairs.items) }
     ensures one { IfOk result (λ pairs. HasOneOwner pairs.items) }
-    ensures low { IfOk result (λ pairs. (i : ℕ) → i < length pairs.items → (get_or pairs.items i (0, 0)).0 < slot_count core.now.config + 1) }
+    ensures low { IfOk result (λ pairs. AreBelow (slot_count core.now.config + 1) pairs.items) }
 {
     let slots = core.config().slots() as usize;
     let mut pairs = Vec::new(alloc);

@@ -1,12 +1,11 @@
 //! A planner whose cost for a call does not grow with what the call may touch.
-ghost use Rattle.std.specs.Prelude.{◌≡◌, ℕ, ◌+◌, ◌<◌, ◌≤◌, ◌^◌, length, get_or, set, replicate, List, [], IfOk, IfSome, MatchOption, ◌⊎◌, eqb};
+ghost use Rattle.std.specs.Prelude.{◌≡◌, ℕ, ◌+◌, ◌<◌, ◌≤◌, ◌^◌, length, get_or, set, replicate, [], eqb};
+ghost use Rattle.std.specs.Prelude.{IfOk, IfSome, MatchOption, ◌⊎◌, if◌then◌else◌};
 ghost use Rattle.std.specs.List.{IsDistinct};
-ghost use Rattle.std.specs.Prelude.{if◌then◌else◌};
-ghost use Rattle.waves.specs.Planned.{ComesJustAfter};
-ghost use Rattle.kc_plan.specs.Plans.{wave_of};
-ghost use Rattle.kc_plan.specs.Reach.{is_in, reach, touches, names_at};
+ghost use Rattle.kc_plan.specs.Reach.{names_at};
 ghost use Rattle.kc_plan.specs.Rows.{AreRowsOf};
-ghost use Rattle.kc_plan.specs.Planner.{IsLastOf, IsHigh, IsWritten, IsExact, HasOneOwner, has_pair, IsInRange, IsTop, set_at};
+ghost use Rattle.kc_plan.specs.Planner.{IsLastOf, IsHigh, IsTop, IsWritten, IsExact, IsInRange, set_at};
+ghost use Rattle.kc_plan.specs.Planner.{AreBelow, HasOneOwner, has_pair, ArePlanned, AreReached};
 
 use crate::names::Names;
 use crate::reach_set::ReachSet;
@@ -30,7 +29,11 @@ impl Model for Planner {
 
     ghost Value = { Stamps };
 
-    ghost view = { λ p. record { frame_waves = p.frame_waves.items; principal_waves = p.principal_waves.items; reach_waves = p.reach_waves.items } };
+    ghost view = { λ p. record {
+      frame_waves = p.frame_waves.items;
+      principal_waves = p.principal_waves.items;
+      reach_waves = p.reach_waves.items;
+    } };
 }
 
 /// The larger of two.
@@ -121,7 +124,8 @@ impl Planner {
         requires slot { IfSome names.now.slot (λ v. v < free) }
         requires free { free < length self.old.reach_waves }
         requires exact { IsExact (length self.old.reach_waves) free reaches.now }
-        ensures reach_waves { IsTop (length self.old.reach_waves) free wave names.now reaches.now self.old.reach_waves self.new.reach_waves }
+        ensures reach_waves { let before = self.old.reach_waves in
+            IsTop (length before) free wave names.now reaches.now before self.new.reach_waves }
         ensures frame_waves { self.new.frame_waves ≡ self.old.frame_waves }
         ensures principal_waves { self.new.principal_waves ≡ self.old.principal_waves }
         ensures len { length self.new.reach_waves ≡ length self.old.reach_waves }
@@ -152,7 +156,7 @@ impl Planner {
 
     pub(crate) fn note_frame(&mut self, frame: Option<u32>, wave: u32)
         requires { IfSome frame (λ f. f < length self.old.frame_waves) }
-        ensures { self.new ≡ record { frame_waves = set_at frame wave self.old.frame_waves; principal_waves = self.old.principal_waves; reach_waves = self.old.reach_waves } }
+        ensures { self.new ≡ record self.old { frame_waves = set_at frame wave self.old.frame_waves } }
     {
         if let Some(frame) = frame {
             self.frame_waves[frame as usize] = wave;
@@ -161,7 +165,7 @@ impl Planner {
 
     pub(crate) fn note_slot(&mut self, slot: Option<u32>, wave: u32)
         requires { IfSome slot (λ v. v < length self.old.principal_waves) }
-        ensures { self.new ≡ record { frame_waves = self.old.frame_waves; principal_waves = set_at slot wave self.old.principal_waves; reach_waves = self.old.reach_waves } }
+        ensures { self.new ≡ record self.old { principal_waves = set_at slot wave self.old.principal_waves } }
     {
         if let Some(slot) = slot {
             self.principal_waves[slot as usize] = wave;
@@ -170,7 +174,8 @@ impl Planner {
 
     pub(crate) fn note_free(&mut self, named: bool, free: usize, wave: u32)
         requires { free < length self.old.principal_waves }
-        ensures { self.new ≡ record { frame_waves = self.old.frame_waves; principal_waves = (if named then set self.old.principal_waves free wave else self.old.principal_waves); reach_waves = self.old.reach_waves } }
+        ensures { let waves = self.old.principal_waves in
+            self.new ≡ record self.old { principal_waves = (if named then set waves free wave else waves) } }
     {
         if named {
             self.principal_waves[free] = wave;
@@ -198,13 +203,13 @@ pub(crate) fn walk_calls(
     requires range { (k : ℕ) → k < length calls.now → IsInRange frames free (names_at calls.now k) }
     requires free { free + 1 < 2 ^ 32 }
     requires few { length calls.now < 2 ^ 32 }
-    requires pairs { (i : ℕ) → i < length pairs.now → (get_or pairs.now i (0, 0)).0 < free + 1 }
+    requires pairs { AreBelow (free + 1) pairs.now }
     requires one { HasOneOwner pairs.now }
     ensures len { IfOk result (λ w. length w.waves.items ≡ length calls.now) }
-    ensures plan { IfOk result (λ w. (k : ℕ) → k < length calls.now → ComesJustAfter (touches free (has_pair pairs.now) calls.now) (wave_of w.waves.items) k) }
+    ensures plan { IfOk result (λ w. ArePlanned free pairs.now calls.now w.waves.items) }
     ensures count { IfOk result (λ w. length w.rows.items ≡ length calls.now) }
     ensures rows { IfOk result (λ w. AreRowsOf free (has_pair pairs.now) calls.now w.sets.items w.rows.items) }
-    ensures sets { IfOk result (λ w. (p f : ℕ) → p < free + 1 → is_in (get_or w.sets.items p []) f ≡ reach free (has_pair pairs.now) calls.now (length calls.now) p f) }
+    ensures sets { IfOk result (λ w. AreReached free pairs.now calls.now w.sets.items) }
     ensures size { IfOk result (λ w. length w.sets.items ≡ free + 1) }
     ensures once { IfOk result (λ w. (p : ℕ) → IsDistinct eqb (get_or w.sets.items p [])) }
 {

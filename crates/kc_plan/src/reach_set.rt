@@ -1,13 +1,10 @@
 //! A set of numbers that only grows and keeps the order in which they came.
 
-ghost use Rattle.std.specs.Prelude.{◌≡◌, ℕ, ◌+◌, ◌<◌, length, slice_index, slice_get, List, [], ◌∷◌, ◌++◌, OnOk, OnErr, IfOk, eqb};
-ghost use Rattle.std.specs.Prelude.{if◌then◌else◌};
-ghost use Rattle.std.specs.List.{list_any};
-ghost use Rattle.std.specs.Option.{option_copied};
-ghost use Rattle.kc_plan.specs.Members.{is_in, position_in, added};
+ghost use Rattle.std.specs.Prelude.{◌≡◌, length, slice_get, [], OnOk, OnErr};
+ghost use Rattle.kc_plan.specs.Members.{position_in, added};
 
 use indexmap::IndexSet;
-use std::alloc::{AllocError, AllocFailed, Global};
+use std::alloc::{AllocError, Global};
 use std::marker::Model;
 
 /// The members, in the order in which they came.
@@ -18,8 +15,6 @@ pub(crate) struct ReachSet {
 
 impl Model for ReachSet {
     ghost use Rattle.std.specs.Prelude.{ℕ, List};
-    ghost use Rattle.indexmap.specs.IndexSet.{IsUnique};
-    ghost use Rattle.std.specs.Prelude.{nat_eq};
 
     ghost Value = { List ℕ };
 
@@ -41,13 +36,6 @@ impl ReachSet {
         self.members.len()
     }
 
-    /// Whether a number is a member.
-    pub(crate) fn contains(&self, number: u32) -> bool
-        ensures { result ≡ is_in self.now number }
-    {
-        self.members.contains(&number)
-    }
-
     /// The place of a member.
     pub(crate) fn place_of(&self, number: u32) -> Option<usize>
         ensures { result ≡ position_in self.now number }
@@ -62,12 +50,12 @@ impl ReachSet {
         self.members.get_index(place).copied()
     }
 
-    /// Takes a number in, and answers whether it is new.
-    pub(crate) fn add(&mut self, number: u32) -> Result<bool, AllocError>
+    /// Takes a number in.
+    pub(crate) fn add(&mut self, number: u32) -> Result<(), AllocError>
         ensures ok { OnOk result (self.new ≡ added self.old number) }
         ensures err { OnErr result (self.new ≡ self.old) }
     {
-        let (_place, is_new) = self.members.insert_full(number)?;
-        Ok(is_new)
+        self.members.insert_full(number)?;
+        Ok(())
     }
 }

@@ -1,8 +1,8 @@
 //! What each slot and the free list may have, and which of them may have a frame in common.
-ghost use Rattle.std.specs.Prelude.{◌≡◌, ℕ, ◌+◌, ◌<◌, ◌^◌, ◌||◌, ◌&&◌, Bool, false, true, length, get_or, set, replicate, List, IfOk, OnOk, [], IfSome, eqb};
+ghost use Rattle.std.specs.Prelude.{◌≡◌, ℕ, ◌<◌, ◌^◌, ◌||◌, ◌&&◌, Bool, false, true, length, get_or, set, replicate, List, IfOk, OnOk, [], IfSome, eqb};
 ghost use Rattle.kc_plan.specs.Reach.{is_in, is_at, reach_of};
 ghost use Rattle.kc_plan.specs.Rows.{span_of, row_of};
-ghost use Rattle.kc_plan.specs.Planner.{is_hit, members_of, IsExact, IsJoined, AreGained, IsStart, AreApart, HasOneOwner, has_pair, IsRelated, AreFreed, IsWider};
+ghost use Rattle.kc_plan.specs.Planner.{is_hit, members_of, IsExact, IsJoined, AreGained, IsStart, AreApart, AreBelow, HasOneOwner, IsRelated, AreFreed, IsWider};
 
 use crate::names::{Gain, Names};
 use crate::reach_set::ReachSet;
@@ -245,7 +245,9 @@ impl Reaches {
         requires free { free < length self.old.sets }
         requires slot { IfSome slot (λ v. v < free) }
         requires exact { IsExact (length self.old.sets) free self.old }
-        ensures { OnOk result (IsWider (length self.old.sets) free (λ p f. (named && eqb free p) && reach_of (λ q g. is_in (members_of self.old q) g) slot f) self.old self.new) }
+        ensures { let reach = λ (q g : ℕ). is_in (members_of self.old q) g in
+            let gained = λ (p f : ℕ). (named && eqb free p) && reach_of reach slot f in
+            OnOk result (IsWider (length self.old.sets) free gained self.old self.new) }
     {
         if let (true, Some(slot)) = (named, slot) {
             self.join_all(slot as usize, free)?;
@@ -277,7 +279,7 @@ pub(crate) fn start(
 ) -> Result<Reaches, AllocError>
     requires free { free < principals }
     requires few { principals < 2 ^ 32 }
-    requires pairs { (i : ℕ) → i < length pairs.now → (get_or pairs.now i (0, 0)).0 < principals }
+    requires pairs { AreBelow principals pairs.now }
     requires one { HasOneOwner pairs.now }
     ensures { IfOk result (λ h. IsStart principals free pairs.now h) }
 {

@@ -1,11 +1,11 @@
 //! What each call of a trace may touch, kept as lengths into what slots and the free list may have.
-ghost use Rattle.std.specs.Prelude.{◌≡◌, ℕ, ◌<◌, ◌≤◌, true, length, get_or, List, [], eqb, IfOk, OnOk, IfSome};
+ghost use Rattle.std.specs.Prelude.{◌≡◌, ◌<◌, length, [], IfOk, OnOk, IfSome};
 ghost use Rattle.kc_types.specs.Limits.{frame_limit, slot_limit};
 ghost use Rattle.kc_types.specs.declared.resource.Resource.TheVariants as resource;
 ghost use Rattle.std.specs.List.{IsDistinct};
 ghost use Rattle.kc_parts.specs.Cuts.{is_wanted, same};
 ghost use Rattle.kc_plan.specs.Reach.{is_at};
-ghost use Rattle.kc_plan.specs.Rows.{has_frame, row_touches, row_at, IsRow, IsSpan, IsListed, IsPut, HasFrame, HasOther, IsWithout, is_named_or_slot, AreRows, is_named, is_reached, is_slot, is_free};
+ghost use Rattle.kc_plan.specs.Rows.{has_frame, row_touches, row_at, IsRow, IsSpan, IsListed, IsPut, HasFrame, HasOther, IsWithout, is_named_or_slot, AreRows, is_named, is_slot, is_free};
 
 use crate::planner::Walk;
 use crate::reach_set::ReachSet;

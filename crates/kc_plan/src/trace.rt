@@ -1,5 +1,5 @@
 //! What the calls of a trace may touch, and the waves in which they are taken.
-ghost use Rattle.std.specs.Prelude.{◌≡◌, ℕ, ◌<◌, ◌^◌, length, IfOk, map};
+ghost use Rattle.std.specs.Prelude.{◌≡◌, ◌<◌, ◌^◌, length, IfOk, map};
 ghost use Rattle.kc_plan.specs.Footprints.{AreFootprints};
 ghost use Rattle.kc_plan.specs.Naming.{names_of};
 
