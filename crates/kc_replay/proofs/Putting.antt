@@ -1,5 +1,5 @@
 -- What the calls of a wave left goes back into the store.
-use Rattle.std.proofs.Common.{ℕ, suc, ◌≡◌, ◌≢◌, ◌<◌, ◌≤◌, ◌+◌, ◌⊎◌, inl, inr, Bool, true, false, cond, nat_lt, List, [], ◌∷◌, ◌++◌, length, length-append, All, get_or, set, map, Option, Some, None, is_some, refl, sym, ap, ◌∙◌, subst, arith}
+use Rattle.std.proofs.Common.{ℕ, suc, ◌≡◌, ◌≢◌, ◌<◌, ◌≤◌, ◌+◌, ◌⊎◌, inl, inr, Bool, true, false, cond, nat_lt, List, [], ◌∷◌, ◌++◌, length, length-append, All, get_or, set, map, Option, Some, None, refl, sym, ap, ◌∙◌, subst, arith}
 use Rattle.std.specs.List.{AllZip, range_with_len, slice_get}
 use Rattle.std.specs.Option.{option_map}
 use Rattle.std.proofs.lemmas.Bool.{ltb-true, lt-ltb, cases_eq}
@@ -27,9 +27,9 @@ use Rattle.kc_page.specs.Pages.{scrubbed_page}
 use Rattle.kc_vms.specs.Slots.{VmSlot}
 use Rattle.kc_parts.specs.Cuts.{HeldPart, held_at, IsJoin, FitsInto}
 use Rattle.kc_parts.specs.Cuts.HeldPart.{page_part, slot_part, ends_part}
-use Rattle.kc_parts.specs.Held.{Held, IsRising, place_of, is_filled, page_at, vm_at}
+use Rattle.kc_parts.specs.Held.{Held, IsRising, place_of, page_at, vm_at}
 use Rattle.kc_parts.specs.States.{state_of, here_of, IsLinked}
-use Rattle.kc_parts.proofs.Places.{place-found, filled-at}
+use Rattle.kc_parts.proofs.Places.{place-found}
 use Rattle.kc_core.specs.Cores.{IsCore}
 use Rattle.kc_core.proofs.Wiped.{page-clean}
 use Rattle.kc_model.proofs.Changes.{exists}

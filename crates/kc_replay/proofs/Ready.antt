@@ -19,7 +19,6 @@ use Rattle.kc_plan.specs.Commuting.{IsWaves}
 use Rattle.kc_plan.specs.Reordering.{after_order}
 use Rattle.kc_plan.proofs.Reordered.{is_ready}
 use Rattle.kc_plan.proofs.Existing.{reach-low}
-use Rattle.kc_parts.specs.Cuts.{is_wanted}
 use Rattle.kc_parts.specs.Restricted.{exists_in}
 use Rattle.kc_replay.specs.Wave.{AreFeet, calls_of, feet_at}
 use Rattle.kc_replay.proofs.Taking.{wave-call, wave-length}

@@ -1,5 +1,5 @@
 -- What workers do with tasks.
-use Rattle.std.specs.Prelude.{◌≡◌, ◌<◌, ◌≤◌, List, [], length}
+use Rattle.std.specs.Prelude.{◌≡◌, ◌<◌, List, [], length}
 use Rattle.std.specs.List.{AllZip}
 use Rattle.kc_types.specs.Configuration.{Configuration}
 use Rattle.kc_types.specs.declared.version.Version.TheVariants.{One}

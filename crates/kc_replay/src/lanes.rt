@@ -15,7 +15,11 @@ fn share(tasks: usize, lanes: usize) -> usize
 }
 
 /// Cuts tasks into lanes of about as many each, in their order.
-pub(crate) fn cut_lanes(alloc: Global, tasks: Vec<Task>, count: usize) -> Result<Vec<Vec<Task>>, Memory>
+pub(crate) fn cut_lanes(
+    alloc: Global,
+    tasks: Vec<Task>,
+    count: usize,
+) -> Result<Vec<Vec<Task>>, Memory>
     ensures { IfOk result (λ lanes. flat_map (λ lane. lane.items) lanes.items ≡ tasks.items) }
 {
     let mut lanes = Vec::with_capacity(alloc, count)?;
@@ -32,7 +36,10 @@ pub(crate) fn cut_lanes(alloc: Global, tasks: Vec<Task>, count: usize) -> Result
 }
 
 /// The results of lanes, one lane after another.
-pub(crate) fn join_results(alloc: Global, lanes: Vec<Vec<Finished>>) -> Result<Vec<Finished>, Memory>
+pub(crate) fn join_results(
+    alloc: Global,
+    lanes: Vec<Vec<Finished>>,
+) -> Result<Vec<Finished>, Memory>
     ensures { IfOk result (λ all. all.items ≡ flat_map (λ lane. lane.items) lanes.items) }
 {
     let mut all = Vec::new(alloc);

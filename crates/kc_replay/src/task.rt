@@ -25,7 +25,10 @@ impl Task {
 
 impl Drop for Task {
     fn drop(self) {
-        let Task { number: _, mut parts } = self;
+        let Task {
+            number: _,
+            mut parts,
+        } = self;
         parts.wipe();
     }
 }

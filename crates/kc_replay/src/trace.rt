@@ -243,9 +243,7 @@ pub fn replay<R: Threads + Wait + Sync, G: Gate + Sync>(
         plan,
         replies,
     } = prepared;
-    match replay_waves(
-        rt, alloc, core, calls, &feet, &plan, workers, replies, gate,
-    ) {
+    match replay_waves(rt, alloc, core, calls, &feet, &plan, workers, replies, gate) {
         Ok(outcome) => Ok(outcome),
         Err(ReplayFault::Start) => Err(ReplayFault::Start),
         Err(_) => Err(ReplayFault::Memory),

@@ -9,6 +9,7 @@ use std::test::Fail;
 use std::thread::Threads;
 
 mod gated;
+mod replaying;
 mod stories;
 
 /// 8 frames, of which 0 is the core's, 1 to 4 are the host's and the rest is free.

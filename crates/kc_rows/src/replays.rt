@@ -13,7 +13,7 @@ use std::test::Fail;
 use std::thread::Threads;
 
 /// A gate that does nothing and says nothing: a wave of two calls is taken by two workers.
-struct Unknown;
+pub struct Unknown;
 
 impl Gate for Unknown {
     fn before(&self, _number: usize) {}
@@ -192,13 +192,21 @@ fn told<R: Threads + Wait + Sync>(
 fn each_call_is_told_once(rt: HostRuntime) -> Result<(), Fail> {
     for workers in [1, 2, 3, 64] {
         let counts = told(&rt, rt.alloc(), workers).ok_or("no outcome")?;
-        assert_eq!(rt; counts.as_slice(), [(1u32, 1u32); 6].as_slice(), "{workers}");
+        assert_eq!(rt;
+            counts.as_slice(),
+            [(1u32, 1u32); 6].as_slice(),
+            "{workers}"
+        );
     }
     Ok(())
 }
 
 /// What is answered to so many workers that make no calls.
-fn fault_of<R: Threads + Wait + Sync>(rt: &R, alloc: Global, workers: usize) -> Option<ReplayFault> {
+fn fault_of<R: Threads + Wait + Sync>(
+    rt: &R,
+    alloc: Global,
+    workers: usize,
+) -> Option<ReplayFault> {
     let config = read_config(alloc, SMALL.as_bytes()).ok()?;
     replay(rt, alloc, config, &[], workers, &OpenGate).err()
 }

@@ -1,4 +1,4 @@
-use Rattle.std.proofs.Common.{ℕ, suc, ◌≡◌, ◌<◌, ◌≤◌, ◌+◌, List, length, sym, ap, subst, ◌∙◌, arith, rules}
+use Rattle.std.proofs.Common.{ℕ, suc, ◌≡◌, ◌≤◌, ◌+◌, List, length, sym, ap, subst, ◌∙◌, arith, rules}
 use Rattle.std.specs.List.Sorted.{IsPermutation}
 use Rattle.kc_types.specs.declared.call.Call.{Call}
 use Rattle.kc_model.specs.State.{State}
@@ -10,7 +10,6 @@ use Rattle.kc_plan.specs.Footprints.{AreFootprints}
 use Rattle.kc_plan.specs.Rows.{Rows}
 use Rattle.kc_plan.proofs.Listing.{at_most}
 use Rattle.kc_replay.specs.Wave.{foot_of}
-use Rattle.kc_replay.specs.Replay.{IsUpTo, IsWaveTaken}
 use Rattle.kc_replay.proofs.Onward.{up-to-none, up-to-all, up-to-next, wave-next, each-of, written-whole}
 use Rattle.kc_replay.proofs.Dealing.{dealt-members}
 use Rattle.kc_replay.proofs.trace.replay_waves.Goals as goal
@@ -69,6 +68,6 @@ returns-clause-blind g c =
     let ranged = each-of IsRanged c.args.calls.now c.read_all_numbers.ensures in
     let all : highest c.args.plan.now ≤ c.loop-done.done = search rules in
     let end =
-        up-to-all c.args.core c.args.calls.now c.requires.lawful ranged (wave_of c.args.plan.now) (longest c.args.core c.args.calls.now c.args.feet.now c.args.plan.now c.requires.feet c.requires.plan) c.loop-done.done c.loop-done.store c.loop-done.replies.items
-        (λ k low. let last = at_most c.args.plan.now k in omega (arith, last, all)) c.loop-done.invariant in
+    up-to-all c.args.core c.args.calls.now c.requires.lawful ranged (wave_of c.args.plan.now) (longest c.args.core c.args.calls.now c.args.feet.now c.args.plan.now c.requires.feet c.requires.plan) c.loop-done.done c.loop-done.store c.loop-done.replies.items
+    (λ k low. let last = at_most c.args.plan.now k in omega (arith, last, all)) c.loop-done.invariant in
     shows_nothing c.args.core c.loop-done.store c.args.calls.now c.loop-done.replies.items c.read_all_numbers.ensures c.requires.lawful end.0 end.1

@@ -1,4 +1,4 @@
-use Rattle.std.proofs.Common.{ℕ, ◌≡◌, List, length, All, sym, ap, subst, ◌∙◌}
+use Rattle.std.proofs.Common.{ℕ, ◌≡◌, List, length, All, sym, ap, subst}
 use Rattle.std.specs.List.{AllZip, range_with_len}
 use Rattle.kc_types.specs.Configuration.{Configuration}
 use Rattle.kc_types.specs.declared.call.Call.{Call}
@@ -38,9 +38,9 @@ run_lanes-requires-after_bounds g c =
     let config : c.args.config.now ≡ g.wave.start.config = ap (λ (s : State). s.config) r.0 in
     let wave = across (λ feet members. IsWave g.wave.start g.wave.calls feet members) g.wave.feet (foot_of c.args.feet.now) g.wave.members c.args.members.now (sym r.1.1.0) (sym r.1.1.1.0) r.1.1.1.1.0 in
     let able =
-        subst (λ (config : Configuration). All (IsTaskOf config c.args.calls.now) c.in_ok-tasks.tasks.items) (sym config)
-        (subst (λ (calls : List Call). All (IsTaskOf g.wave.start.config calls) c.in_ok-tasks.tasks.items) (sym r.1.0)
-        (all-able g.wave.start g.wave.calls (foot_of c.args.feet.now) c.args.members.now wave c.in_ok-tasks.tasks.items c.in_ok-tasks.ensures.tasks)) in
+    subst (λ (config : Configuration). All (IsTaskOf config c.args.calls.now) c.in_ok-tasks.tasks.items) (sym config)
+    (subst (λ (calls : List Call). All (IsTaskOf g.wave.start.config calls) c.in_ok-tasks.tasks.items) (sym r.1.0)
+    (all-able g.wave.start g.wave.calls (foot_of c.args.feet.now) c.args.members.now wave c.in_ok-tasks.tasks.items c.in_ok-tasks.ensures.tasks)) in
     λ κs bounds. all_lanes (λ lane. lane.items) (IsTaskOf c.args.config.now c.args.calls.now) c.in_ok-lanes.lanes.items (rw c.in_ok-lanes.ensures able)
 
 pub put_all-requires : goal.put_all-requires
@@ -52,12 +52,12 @@ put_all-requires g c =
     let joined = zip_lanes (λ lane. lane.items) (λ lane. lane.items) (Answers c.args.config.now c.args.calls.now) c.in_ok-lanes.lanes.items c.in_ok-all.all.items c.in_ok-all.ensures in
     let answers : AnswersAll c.args.config.now c.args.calls.now c.in_ok-tasks.tasks.items c.in_ok-finished.finished.items = rw (← c.in_ok-lanes.ensures, c.in_ok-finished.ensures) joined in
     let finished =
-        all-finished g.wave.start g.wave.calls (foot_of c.args.feet.now) c.args.members.now wave c.in_ok-tasks.tasks.items c.in_ok-tasks.ensures.tasks c.in_ok-finished.finished.items
-        (subst (λ (config : Configuration). AnswersAll config g.wave.calls c.in_ok-tasks.tasks.items c.in_ok-finished.finished.items) config
-        (subst (λ (calls : List Call). AnswersAll c.args.config.now calls c.in_ok-tasks.tasks.items c.in_ok-finished.finished.items) r.1.0 answers)) in
+    all-finished g.wave.start g.wave.calls (foot_of c.args.feet.now) c.args.members.now wave c.in_ok-tasks.tasks.items c.in_ok-tasks.ensures.tasks c.in_ok-finished.finished.items
+    (subst (λ (config : Configuration). AnswersAll config g.wave.calls c.in_ok-tasks.tasks.items c.in_ok-finished.finished.items) config
+    (subst (λ (calls : List Call). AnswersAll c.args.config.now calls c.in_ok-tasks.tasks.items c.in_ok-finished.finished.items) r.1.0 answers)) in
     let left =
-        subst (λ n. IsLeft (state_at g.wave.start (calls_of g.wave.calls c.args.members.now) n) (feet_at (foot_of c.args.feet.now) c.args.members.now) (down_from (length c.args.members.now)) c.take_tasks.new.store)
-        (wave-length g.wave.calls c.args.members.now) (switched g.wave.start g.wave.calls (foot_of c.args.feet.now) c.args.members.now wave c.take_tasks.new.store c.in_ok-tasks.ensures.store) in (
+    subst (λ n. IsLeft (state_at g.wave.start (calls_of g.wave.calls c.args.members.now) n) (feet_at (foot_of c.args.feet.now) c.args.members.now) (down_from (length c.args.members.now)) c.take_tasks.new.store)
+    (wave-length g.wave.calls c.args.members.now) (switched g.wave.start g.wave.calls (foot_of c.args.feet.now) c.args.members.now wave c.take_tasks.new.store c.in_ok-tasks.ensures.store) in (
       r.1.1.1.1.0,
       (
         across (λ feet members. AllZip (IsFinishedAt g.wave.start g.wave.calls feet members) (range_with_len 0 (length members)) c.in_ok-finished.finished.items) (foot_of c.args.feet.now) g.wave.feet c.args.members.now g.wave.members r.1.1.0 r.1.1.1.0 finished,

@@ -1,4 +1,4 @@
-use Rattle.std.proofs.Common.{◌≡◌, [], subst, refl, ap, ◌∙◌}
+use Rattle.std.proofs.Common.{[], subst, refl, ap, ◌∙◌}
 use Rattle.kc_model.specs.State.{State}
 use Rattle.kc_model.specs.Resources.{Resources}
 use Rattle.kc_parts.specs.Cuts.{IsSplit, is_wanted}
