@@ -10,7 +10,6 @@ use Rattle.kc_types.specs.declared.resource.Resource.TheVariants as resource
 use Rattle.kc_model.specs.State.{State, Image, Slot, slot_at, mapped_at, frame_at, with_frame}
 use Rattle.kc_model.specs.Refusals.{refusal, backing, pages_of, is_short}
 use Rattle.kc_model.specs.Effects.{bytes_at, image_bytes, trimmed, all_trimmed}
-use Rattle.kc_model.specs.Local.{IsMappedImage, HasMappedPages}
 use Rattle.kc_model.proofs.Verifies.{verify-served, backing-of}
 use Rattle.kc_model.proofs.Slots.{none-at}
 use Rattle.kc_model.proofs.Needs.{not_short}
@@ -97,18 +96,13 @@ images-needed config h v able served i d low =
     let seen = verify-served m v served in
     let image : Image = get_or (slot_at m v).images i d in
     let whole : is_short image ≡ false = none-at is_short (slot_at m v).images i d low seen.2 in
-    let pages = has-pages (slot_at m v).mapped (slot_at m v).images i d ((able.orderly.each_slot v seen.0).images seen.1) low in
+    let pages = (able.orderly.each_slot v seen.0).images seen.1 i d low in
     let same : (g : ℕ) → mapped_at m v g ≡ mapped_in (vm_at h v) g = mapped-as config h v seen.0 in
     record {
       mapped_pages = λ g from below. sym (ap is_some (same g)) ∙ pages.each_page g from (not_short image g whole below);
       pages = λ g from below. ap (λ f. is_some (page_at h (backing f))) (sym (same g)) ∙ mapped-needed config h (Verify v) able v g (backing (mapped_at m v g)) refl seen.0 (backing-of (mapped_at m v g) (pages.each_page g from (not_short image g whole below)));
     }
   where
-    has-pages : (mapped : map.FinMap nat_cmp ℕ) (images : List Image) (i : ℕ) (d : Image) → HasMappedPages mapped images → i < length images → IsMappedImage mapped (get_or images i d)
-    has-pages mapped [] i d each low = absurd (omega (arith, low))
-    has-pages mapped (image ∷ images) zero d each low = each.0
-    has-pages mapped (image ∷ images) (suc i) d each low = has-pages mapped images i d each.1 (omega (arith, low))
-
     mapped-as : (config : Configuration) (h : Held) (v : ℕ) → v < slot_count config → (g : ℕ) → mapped_at (state_of config h) v g ≡ mapped_in (vm_at h v) g
     mapped-as config h v low g = ap (λ (there : Slot). map.get there.mapped g) (slot-seen config h v low) ∙ by_slot (links_of h) (vm_at h v)
       where

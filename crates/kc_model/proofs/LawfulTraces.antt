@@ -1,5 +1,5 @@
 -- A lawful state has all that a call needs, and each state of a trace from a lawful one is lawful.
-use Rattle.std.proofs.Common.{ℕ, suc, ◌≡◌, ◌<◌, ◌≤◌, ◌+◌, true, cond, is_some, nat_le, nat_lt, List, [], ◌∷◌, length, All, ap, ◌∙◌, arith}
+use Rattle.std.proofs.Common.{ℕ, zero, suc, ◌≡◌, ◌<◌, ◌≤◌, ◌+◌, true, cond, is_some, nat_le, nat_lt, List, [], ◌∷◌, length, All, ap, ◌∙◌, arith}
 use Rattle.std.specs.List.{list_any}
 use Rattle.std.specs.Ordering.{nat_cmp}
 use Rattle.std.specs.FinMap as map
@@ -26,14 +26,13 @@ held-between : (g : ℕ) (image : Image) → image.base ≤ g → g < image.base
 held-between g image from below = and_from (nat_le image.base g) (nat_lt g (image.base + image.pages)) (grind (arith, common_steps)) (grind (arith, common_steps))
 
 mapped-pages : (mapped : map.FinMap nat_cmp ℕ) (images : List Image) → All IsLawfulImage images → ((g : ℕ) → list_any (holds g) images ≡ true → is_some (map.get mapped g) ≡ true) → HasMappedPages mapped images
-mapped-pages mapped [] each held = tt
-mapped-pages mapped (image ∷ images) each held = (
-  record {
-    some = some-page image.len (each 0 image (omega arith)).some;
-    each_page = λ g from below. held g (or_left (holds g image) (list_any (holds g) images) (held-between g image from below));
-  },
-  mapped-pages mapped images (λ k d lt. each (suc k) d (omega (arith, lt))) (λ g h. held g (or_right (holds g image) (list_any (holds g) images) h)),
-)
+mapped-pages mapped [] each held i d low = absurd (omega (arith, low))
+mapped-pages mapped (image ∷ images) each held zero d low = record {
+  some = some-page image.len (each 0 image (omega arith)).some;
+  each_page = λ g from below. held g (or_left (holds g image) (list_any (holds g) images) (held-between g image from below));
+}
+mapped-pages mapped (image ∷ images) each held (suc i) d low =
+    mapped-pages mapped images (λ k d lt. each (suc k) d (omega (arith, lt))) (λ g h. held g (or_right (holds g image) (list_any (holds g) images) h)) i d (omega (arith, low))
 
 -- a lawful state is orderly
 pub orderly-is : (m : State) → IsLawful m → IsOrderly m

@@ -1,5 +1,5 @@
 -- What a call needs, as the proofs of its locality want it.
-use Rattle.std.proofs.Common.{ℕ, ◌≡◌, ◌<◌, ◌+◌, inl, inr, Bool, true, false, ◌&&◌, ◌||◌, Option, Some, None, is_some, nat_lt, nat_eq, eq-eqb, List, [], ◌∷◌, refl, ap, ◌∙◌, arith}
+use Rattle.std.proofs.Common.{ℕ, suc, ◌≡◌, ◌<◌, ◌+◌, inl, inr, Bool, true, false, ◌&&◌, ◌||◌, Option, Some, None, is_some, nat_lt, nat_eq, eq-eqb, List, [], ◌∷◌, refl, ap, ◌∙◌, arith}
 use Rattle.std.specs.List.{list_any}
 use Rattle.std.specs.Ordering.{nat_cmp}
 use Rattle.std.specs.FinMap as map
@@ -75,8 +75,8 @@ module _ (here : Resources) (m : State) (call : Call) (is : IsOrderly m) (within
   has_images v names low [] pages whole = tt
   has_images v names low (image ∷ images) pages whole = (
     record {
-      some = pages.0.some;
-      pages = λ g from below. has_mapped v g names (pages.0.each_page g from (not_short image g (or_parts (is_short image) (list_any is_short images) whole).0 below));
+      some = (pages 0 image (omega arith)).some;
+      pages = λ g from below. has_mapped v g names ((pages 0 image (omega arith)).each_page g from (not_short image g (or_parts (is_short image) (list_any is_short images) whole).0 below));
     },
-    has_images v names low images pages.1 (or_parts (is_short image) (list_any is_short images) whole).1,
+    has_images v names low images (λ i d within. pages (suc i) d (omega (arith, within))) (or_parts (is_short image) (list_any is_short images) whole).1,
   )

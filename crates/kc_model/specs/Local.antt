@@ -1,5 +1,5 @@
 -- That a call depends on what it needs alone, and changes nothing else.
-use Rattle.std.specs.Prelude.{ℕ, ◌≡◌, ◌<◌, ◌≤◌, ◌+◌, true, List, [], ◌∷◌, length, Some, None, is_some, slice_index_or}
+use Rattle.std.specs.Prelude.{ℕ, ◌≡◌, ◌<◌, ◌≤◌, ◌+◌, true, List, [], All, length, Some, None, is_some, slice_index_or}
 use Rattle.kc_types.specs.declared.call.Call.{Call}
 use Rattle.std.specs.Ordering.{nat_cmp}
 use Rattle.std.specs.FinMap as map
@@ -25,8 +25,7 @@ pub record IsMappedImage (mapped : map.FinMap nat_cmp ℕ) (image : Image) : Typ
 
 -- each image has a page, and its pages so far are mapped
 abbrev pub HasMappedPages : map.FinMap nat_cmp ℕ → List Image → Type 0
-HasMappedPages mapped [] = Unit {0}
-HasMappedPages mapped (image ∷ images) = IsMappedImage mapped image × HasMappedPages mapped images
+HasMappedPages mapped images = All (IsMappedImage mapped) images
 
 pub record IsOrderlySlot (there : Slot) : Type 0 where
   -- a mapped frame is in the slot's list
