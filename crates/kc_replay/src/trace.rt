@@ -19,7 +19,7 @@ use crate::fault::ReplayFault;
 use crate::wave::run_wave;
 use kc_core::{KCore, read_all_numbers};
 use kc_plan::{Footprints, Plan, footprints};
-use kc_types::{Call, Config, Memory, Reply};
+use kc_types::{Call, Config, Memory, Phase, Reply};
 use std::alloc::Global;
 use std::sync::Wait;
 use std::thread::Threads;
@@ -79,17 +79,37 @@ fn share_wave<R: Threads + Wait + Sync, G: Gate + Sync>(
     Ok(KCore::from_parts(alloc, config, parts))
 }
 
+/// So many frames to hash are worth a thread. A frame takes SHA-256 some 12 to 15 µs (8,192 frames 94 to 124 ms on one
+/// thread), so these take 0.4 ms and more, where starting a thread takes 0.02 to 0.03 ms and taking them out and
+/// putting them back some 0.07 ms. What other calls do costs no more than taking parts out.
+const FRAMES_WORTH_A_THREAD: u32 = 32;
+
+/// How many frames a call hashes: all that a booting slot has are its images'.
+fn hashed(core: &KCore, call: &Call) -> u32 {
+    let Call::Verify { vm } = call else {
+        return 0;
+    };
+    if core.phase(*vm) != Some(Phase::Booting) {
+        return 0;
+    }
+    match core.slot_ends(*vm) {
+        Some(ends) => ends.count,
+        None => 0,
+    }
+}
+
 /// Whether the calls of a wave but the longest are work enough to start threads for.
-fn is_worth_threads(calls: &[Call], members: &[usize]) -> bool
+fn is_worth_threads(core: &KCore, calls: &[Call], members: &[usize]) -> bool
     requires members { AreCalls (length calls.now) members.now }
 {
-    let mut verifies: usize = 0;
+    let mut all: u32 = 0;
+    let mut longest = 0;
     for place in 0..members.len() {
-        if let Call::Verify { .. } = &calls[members[place]] {
-            verifies = verifies.saturating_add(1);
-        }
+        let one = hashed(core, &calls[members[place]]);
+        all = all.saturating_add(one);
+        longest = longest.max(one);
     }
-    verifies >= 2
+    all.saturating_sub(longest) >= FRAMES_WORTH_A_THREAD
 }
 
 /// Makes the calls of a wave: by workers where a call may wait for another, or where that is worth it.
@@ -111,7 +131,7 @@ fn take_wave<R: Threads + Wait + Sync, G: Gate + Sync>(
     ensures { IfOk result (IsWaveTaken core calls.now members.now replies.old replies.new) }
 {
     let hands = workers.min(members.len());
-    if hands > 1 && (gate.may_wait() || is_worth_threads(calls, members)) {
+    if hands > 1 && (gate.may_wait() || is_worth_threads(&core, calls, members)) {
         let dealt = deal(alloc, members, hands)?;
         return share_wave(
             rt,
