@@ -132,7 +132,11 @@ fn take_wave<R: Threads + Wait + Sync, G: Gate + Sync>(
 {
     let hands = workers.min(members.len());
     if hands > 1 && (gate.may_wait() || is_worth_threads(&core, calls, members)) {
-        let dealt = deal(alloc, members, hands)?;
+        let Ok(dealt) = deal(alloc, members, hands) else {
+            let mut core = core;
+            core.wipe(rt);
+            return Err(ReplayFault::Memory);
+        };
         return share_wave(
             rt,
             alloc,
