@@ -1,2 +1,4 @@
 pub mod Faulted
 pub mod Begun
+pub mod Made
+pub mod Reported

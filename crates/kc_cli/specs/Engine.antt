@@ -4,7 +4,10 @@ use Rattle.std.specs.Io.KnownBytes.{Appends}
 use Rattle.kc_types.specs.Configuration.{Configuration}
 use Rattle.kc_types.specs.declared.call.Call.{Call}
 use Rattle.kc_model.specs.Boot.{boot}
-use Rattle.kc_model.specs.Next.{replies_from}
+use Rattle.kc_model.specs.Next.{replies_from, state_after}
+use Rattle.kc_dump.specs.Dumping.{dump_of}
+use Rattle.kc_dump_text.specs.DumpText.{dump_text}
+use Rattle.kc_dump_text.specs.declared.fault.DumpFault.TheVariants as dumps
 use Rattle.kc_trace.specs.ConfigText.{config_in}
 use Rattle.kc_trace.specs.Trace.{IsTrace}
 use Rattle.kc_trace.specs.ReplyText.{reply_text_of}
@@ -36,7 +39,7 @@ AreBothRead (Some config_text) (Some trace_text) = (config : Configuration) × (
 
 -- want of memory is told as that, and never as a fault of a text
 abbrev pub IsTold : TextFault → Type 0
-IsTold fault = (fault ≢ texts.Config configs.Memory) × (fault ≢ texts.Trace traces.Memory)
+IsTold fault = (fault ≢ texts.Config configs.Memory) × (fault ≢ texts.Trace traces.Memory) × (fault ≢ texts.Dump dumps.Memory)
 
 -- reading ends in a fault of an end, of a text or of memory
 pub record IsReadingFault (fault : TextFault) : Type 0 where
@@ -52,14 +55,19 @@ abbrev pub IsReplyText : List ℕ → List ℕ → List ℕ → Type 0
 IsReplyText config_text trace_text text =
     (config : Configuration) × (calls : List Call) × AreRead config_text trace_text config calls × (text ≡ reply_text_of (replies_from (boot config) calls))
 
--- the sink took the reply text of what the sources held, where all of them tell
-abbrev pub Replays : Option (List ℕ) → Option (List ℕ) → Option (List ℕ) → Option (List ℕ) → Type 0
-Replays None trace old new = Unit {0}
-Replays (Some config) None old new = Unit {0}
-Replays (Some config) (Some trace) old new = (text : List ℕ) × IsReplyText config trace text × Appends old new text
+-- the text is that of the dump of the state that the same thread leaves
+abbrev pub IsStateText : List ℕ → List ℕ → List ℕ → Type 0
+IsStateText config_text trace_text text =
+    (config : Configuration) × (calls : List Call) × AreRead config_text trace_text config calls × (text ≡ dump_text (dump_of (state_after (boot config) calls)))
+
+-- the sink took such a text of what the sources held, where all of them tell
+abbrev pub Gives : (List ℕ → List ℕ → List ℕ → Type 0) → Option (List ℕ) → Option (List ℕ) → Option (List ℕ) → Option (List ℕ) → Type 0
+Gives IsText None trace old new = Unit {0}
+Gives IsText (Some config) None old new = Unit {0}
+Gives IsText (Some config) (Some trace) old new = (text : List ℕ) × IsText config trace text × Appends old new text
 
 -- the same of a beginning of the text
-abbrev pub BeginsReplay : Option (List ℕ) → Option (List ℕ) → Option (List ℕ) → Option (List ℕ) → Type 0
-BeginsReplay None trace old new = Unit {0}
-BeginsReplay (Some config) None old new = Unit {0}
-BeginsReplay (Some config) (Some trace) old new = (text : List ℕ) × (n : ℕ) × IsReplyText config trace text × Appends old new (take n text)
+abbrev pub Begins : (List ℕ → List ℕ → List ℕ → Type 0) → Option (List ℕ) → Option (List ℕ) → Option (List ℕ) → Option (List ℕ) → Type 0
+Begins IsText None trace old new = Unit {0}
+Begins IsText (Some config) None old new = Unit {0}
+Begins IsText (Some config) (Some trace) old new = (text : List ℕ) × (n : ℕ) × IsText config trace text × Appends old new (take n text)

@@ -5,6 +5,8 @@ use Rattle.kc_trace.specs.declared.config_text.ConfigTextFault.{ConfigTextFault}
 use Rattle.kc_trace.specs.declared.config_text.ConfigTextFault.TheVariants as configs
 use Rattle.kc_trace.specs.declared.fault.TraceFault.{TraceFault}
 use Rattle.kc_trace.specs.declared.fault.TraceFault.TheVariants as traces
+use Rattle.kc_dump_text.specs.declared.fault.DumpFault.{DumpFault}
+use Rattle.kc_dump_text.specs.declared.fault.DumpFault.TheVariants as dumps
 use Rattle.kc_live.specs.declared.fault.LiveCause.{LiveCause}
 use Rattle.kc_live.specs.declared.fault.LiveCause.TheVariants as causes
 use Rattle.kc_ends.specs.declared.whole.ReadFault.{ReadFault}
@@ -30,6 +32,11 @@ abbrev pub config_fault : ConfigTextFault → TextFault
 config_fault configs.Memory = texts.Memory
 config_fault fault = texts.Config fault
 
+-- the fault that a fault of a dump's text is
+abbrev pub dump_fault : DumpFault → TextFault
+dump_fault dumps.Memory = texts.Memory
+dump_fault fault = texts.Dump fault
+
 -- the fault that the cause of a live run is; with more calls than a history has room for the trace is refused, and no program of a trace has another's calls
 abbrev pub live_fault : LiveCause → TextFault
 live_fault (causes.BadActor program) = texts.BadActor program
@@ -45,6 +52,8 @@ status_of (texts.Config configs.Memory) = 3
 status_of (texts.Config fault) = 2
 status_of (texts.Trace traces.Memory) = 3
 status_of (texts.Trace fault) = 2
+status_of (texts.Dump dumps.Memory) = 3
+status_of (texts.Dump fault) = 2
 status_of texts.Workers = 2
 status_of texts.Memory = 3
 status_of texts.Start = 3
@@ -69,10 +78,17 @@ trace_words_of traces.NoNewline = codes "kcore: last trace line has no newline"
 trace_words_of traces.TooManyCalls = codes "kcore: too many calls"
 trace_words_of traces.Memory = codes "kcore: out of memory"
 
+abbrev pub dump_words_of : DumpFault → List ℕ
+dump_words_of dumps.NoHeader = codes "kcore: no dump header"
+dump_words_of (dumps.BadLine number) = codes "kcore: bad dump line "
+dump_words_of (dumps.Frame frame) = codes "kcore: dump frame "
+dump_words_of dumps.Memory = codes "kcore: out of memory"
+
 -- a line up to its number, or to its end where it has none
 abbrev pub words_of : TextFault → List ℕ
 words_of (texts.Config fault) = config_words_of fault
 words_of (texts.Trace fault) = trace_words_of fault
+words_of (texts.Dump fault) = dump_words_of fault
 words_of texts.Workers = codes "kcore: bad number of workers"
 words_of texts.Memory = codes "kcore: out of memory"
 words_of texts.Start = codes "kcore: a worker could not be started"
@@ -84,6 +100,8 @@ words_of texts.Write = codes "kcore: write failed"
 -- the number in a line
 abbrev pub line_number_of : TextFault → Option ℕ
 line_number_of (texts.Trace (traces.BadLine number)) = Some number
+line_number_of (texts.Dump (dumps.BadLine number)) = Some number
+line_number_of (texts.Dump (dumps.Frame frame)) = Some frame
 line_number_of (texts.BadActor program) = Some program
 line_number_of fault = None
 
@@ -91,6 +109,11 @@ abbrev pub numeral_of : Option ℕ → List ℕ
 numeral_of None = []
 numeral_of (Some number) = decimal number
 
+-- a line behind its number
+abbrev pub tail_of : TextFault → List ℕ
+tail_of (texts.Dump (dumps.Frame frame)) = codes " missing or doubled\n"
+tail_of fault = codes "\n"
+
 -- the whole line, with the line feed
 abbrev pub line_of : TextFault → List ℕ
-line_of fault = words_of fault ++ numeral_of (line_number_of fault) ++ codes "\n"
+line_of fault = words_of fault ++ numeral_of (line_number_of fault) ++ tail_of fault

@@ -1,3 +1,4 @@
 pub mod Faults
 pub mod Engine
 pub mod Live
+pub mod Audit

@@ -1,11 +1,11 @@
 -- What the live engine leaves of what its sources held.
-use Rattle.std.specs.Prelude.{◌≡◌, ◌≢◌, ◌<◌, ℕ, List, length, take, Option, Some, None}
-use Rattle.std.specs.Io.KnownBytes.{Appends}
+use Rattle.std.specs.Prelude.{◌≡◌, ◌≢◌, ◌<◌, ℕ, List, length, Option, Some, None}
 use Rattle.kc_types.specs.Configuration.{Configuration}
 use Rattle.kc_types.specs.Limits.{call_limit}
 use Rattle.kc_types.specs.declared.call.Call.{Call}
 use Rattle.kc_live.specs.declared.fault.LiveCause.TheVariants.{BadActor}
 use Rattle.kc_live.specs.Cuts.{KeepsOrders, MayRun, StopsTrace}
+use Rattle.kc_dump_text.specs.declared.fault.DumpFault.{DumpFault}
 use Rattle.kc_trace.specs.declared.config_text.ConfigTextFault.{ConfigTextFault}
 use Rattle.kc_trace.specs.declared.fault.TraceFault.{TraceFault}
 use Rattle.kc_trace.specs.declared.fault.TraceFault.TheVariants as traces
@@ -29,18 +29,6 @@ CouldRun (Some config_text) (Some trace_text) =
 abbrev pub IsLiveText : List ℕ → List ℕ → List ℕ → Type 0
 IsLiveText config_text trace_text text = (config : Configuration) × (calls : List Call) × AreRead config_text trace_text config calls × MayRun config calls × IsRearranged calls text
 
--- the sink took such a text of what the sources held, where all of them tell
-abbrev pub RunsLive : Option (List ℕ) → Option (List ℕ) → Option (List ℕ) → Option (List ℕ) → Type 0
-RunsLive None trace old new = Unit {0}
-RunsLive (Some config) None old new = Unit {0}
-RunsLive (Some config) (Some trace) old new = (text : List ℕ) × IsLiveText config trace text × Appends old new text
-
--- the same of a beginning of the text
-abbrev pub BeginsLive : Option (List ℕ) → Option (List ℕ) → Option (List ℕ) → Option (List ℕ) → Type 0
-BeginsLive None trace old new = Unit {0}
-BeginsLive (Some config) None old new = Unit {0}
-BeginsLive (Some config) (Some trace) old new = (text : List ℕ) × (n : ℕ) × IsLiveText config trace text × Appends old new (take n text)
-
 -- the program of this number, of those that the trace is cut into, has an actor that is none of the core's
 abbrev pub HasBadActor : Option (List ℕ) → Option (List ℕ) → ℕ → Type 0
 HasBadActor None trace program = Unit {0}
@@ -54,6 +42,7 @@ pub record IsLiveFault (machine : Configuration) (calls : List Call) (fault : Te
   pub read : fault ≢ texts.Read
   pub write : fault ≢ texts.Write
   pub config : (said : ConfigTextFault) → fault ≢ texts.Config said
+  pub dump : (said : DumpFault) → fault ≢ texts.Dump said
   pub trace : (said : TraceFault) → fault ≡ texts.Trace said → (said ≡ traces.TooManyCalls) × (call_limit < length calls)
   pub actor : (program : ℕ) → fault ≡ texts.BadActor program → StopsTrace machine calls (BadActor program)
   pub started : fault ≡ texts.Start → MayRun machine calls

@@ -10,7 +10,7 @@ ghost use Rattle.kc_trace.specs.ConfigText.{config_in};
 ghost use Rattle.kc_trace.specs.Trace.{IsRefused};
 ghost use Rattle.kc_trace.specs.ReplyText.{reply_text_of};
 ghost use Rattle.kc_ends.specs.Ends.{ReadFailed};
-ghost use Rattle.kc_cli.specs.Engine.{IsConfigured, IsTold, AreBothRead, Replays, BeginsReplay};
+ghost use Rattle.kc_cli.specs.Engine.{IsConfigured, IsTold, AreBothRead, IsReplyText, Gives, Begins};
 
 use crate::TextFault;
 use crate::reading::read_both;
@@ -101,7 +101,7 @@ pub fn replay_text<C: Source, T: Source, K: Sink, R: Threads + Wait + Sync>(
     requires out { K.failed out.old ≡ false }
 
     // What is written is the reply text of what the sources held, and nothing of them is left.
-    ensures ok { OnOk result (Replays (C.left config.old) (T.left trace.old) (K.taken out.old) (K.taken out.new)) }
+    ensures ok { OnOk result (Gives IsReplyText (C.left config.old) (T.left trace.old) (K.taken out.old) (K.taken out.new)) }
     ensures ended { OnOk result (IsAtEnd (C.left config.new) × IsAtEnd (T.left trace.new)) }
 
     // Each fault is that of all the bytes that its source held, and comes where it should.
@@ -109,7 +109,7 @@ pub fn replay_text<C: Source, T: Source, K: Sink, R: Threads + Wait + Sync>(
     ensures config { (fault : ConfigTextFault) → result ≡ Err (TextFault.Config fault) → IfSome (C.left config.old) (λ text. config_in text ≡ Err fault) × IsAtEnd (C.left config.new) × (trace.new ≡ trace.old) }
     ensures trace { (fault : TraceFault) → result ≡ Err (TextFault.Trace fault) → IfSome (T.left trace.old) (λ text. IsRefused text fault) × IsAtEnd (T.left trace.new) }
     ensures read { result ≡ Err TextFault.Read → ReadFailed (C.failed config.new) (C.left config.old) (C.left config.new) ⊎ ReadFailed (T.failed trace.new) (T.left trace.old) (T.left trace.new) }
-    ensures write { result ≡ Err TextFault.Write → (K.failed out.new ≡ true) × BeginsReplay (C.left config.old) (T.left trace.old) (K.taken out.old) (K.taken out.new) }
+    ensures write { result ≡ Err TextFault.Write → (K.failed out.new ≡ true) × Begins IsReplyText (C.left config.old) (T.left trace.old) (K.taken out.old) (K.taken out.new) }
 
     // An end that failed is reported as that and as nothing else.
     ensures source { (C.failed config.new ≡ true) ⊎ (T.failed trace.new ≡ true) → result ≡ Err TextFault.Read }

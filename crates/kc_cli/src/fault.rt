@@ -1,7 +1,8 @@
 //! What goes wrong between the ends.
 ghost use Rattle.std.specs.Prelude.{◌≡◌, ◌≤◌, length};
-ghost use Rattle.kc_cli.specs.Faults.{read_fault, stream_fault, config_fault, status_of, words_of, config_words_of, trace_words_of, line_number_of};
+ghost use Rattle.kc_cli.specs.Faults.{read_fault, stream_fault, config_fault, dump_fault, status_of, words_of, config_words_of, trace_words_of, dump_words_of, line_number_of, tail_of};
 
+use kc_dump_text::DumpFault;
 use kc_ends::ReadFault;
 use kc_streams::StreamFault;
 use kc_trace::{ConfigTextFault, TraceFault};
@@ -17,6 +18,9 @@ pub enum TextFault {
     /// The trace is refused.
     #[error("{0}")]
     Trace(TraceFault),
+    /// The dump's text is refused.
+    #[error("{0}")]
+    Dump(DumpFault),
     /// The number of workers is 0 or above 64.
     #[error("bad number of workers")]
     Workers,
@@ -74,15 +78,29 @@ impl From<ConfigTextFault> for TextFault {
     }
 }
 
+impl From<DumpFault> for TextFault {
+    ghost from_gives = { λ fault made. made ≡ dump_fault fault };
+
+    fn from(fault: DumpFault) -> TextFault {
+        match fault {
+            DumpFault::Memory => TextFault::Memory,
+            _ => TextFault::Dump(fault),
+        }
+    }
+}
+
 impl TextFault {
     /// The exit status: 2 where the input is refused, 3 where memory or an end failed.
     pub const fn status(&self) -> u8
         ensures { result ≡ status_of self.now }
     {
         match self {
-            TextFault::Config(ConfigTextFault::Memory) | TextFault::Trace(TraceFault::Memory) => 3,
+            TextFault::Config(ConfigTextFault::Memory)
+            | TextFault::Trace(TraceFault::Memory)
+            | TextFault::Dump(DumpFault::Memory) => 3,
             TextFault::Config(_)
             | TextFault::Trace(_)
+            | TextFault::Dump(_)
             | TextFault::Workers
             | TextFault::BadActor(_) => 2,
             TextFault::Memory
@@ -101,6 +119,7 @@ impl TextFault {
         match self {
             TextFault::Config(fault) => config_words(fault),
             TextFault::Trace(fault) => trace_words(fault),
+            TextFault::Dump(fault) => dump_words(fault),
             TextFault::Workers => "kcore: bad number of workers",
             TextFault::Memory => "kcore: out of memory",
             TextFault::Start => "kcore: a worker could not be started",
@@ -111,14 +130,27 @@ impl TextFault {
         }
     }
 
-    /// The number at the end of its line, if it has one.
+    /// The number in its line, if it has one.
     pub(crate) const fn line_number(&self) -> Option<usize>
         ensures { result ≡ line_number_of self.now }
     {
         match self {
             TextFault::Trace(TraceFault::BadLine(number)) => Some(*number as usize),
+            TextFault::Dump(DumpFault::BadLine(number)) => Some(*number as usize),
+            TextFault::Dump(DumpFault::Frame(frame)) => Some(*frame as usize),
             TextFault::BadActor(program) => Some(*program),
             _ => None,
+        }
+    }
+
+    /// Its line behind the number, with the line feed.
+    pub(crate) const fn tail(&self) -> &'static str
+        ensures text { result.now ≡ tail_of self.now }
+        ensures short { length result.now ≤ 24 }
+    {
+        match self {
+            TextFault::Dump(DumpFault::Frame(_)) => " missing or doubled\n",
+            _ => "\n",
         }
     }
 }
@@ -150,5 +182,17 @@ const fn trace_words(fault: &TraceFault) -> &'static str
         TraceFault::NoNewline => "kcore: last trace line has no newline",
         TraceFault::TooManyCalls => "kcore: too many calls",
         TraceFault::Memory => "kcore: out of memory",
+    }
+}
+
+const fn dump_words(fault: &DumpFault) -> &'static str
+    ensures text { result.now ≡ dump_words_of fault.now }
+    ensures short { length result.now ≤ 48 }
+{
+    match fault {
+        DumpFault::NoHeader => "kcore: no dump header",
+        DumpFault::BadLine(_) => "kcore: bad dump line ",
+        DumpFault::Frame(_) => "kcore: dump frame ",
+        DumpFault::Memory => "kcore: out of memory",
     }
 }

@@ -1,12 +1,16 @@
 //! What the program reads, writes, is asked and says.
 #![tactic(auto)]
 
+mod auditing;
+mod dumping;
 mod engine;
 mod fault;
 mod live;
 mod reading;
 mod telling;
 
+pub use auditing::audit_text;
+pub use dumping::dump_text;
 pub use engine::replay_text;
 pub use fault::TextFault;
 pub use kc_ends::{FailAt, Failed, Mem, ReadFault, Sink, Source, Std, read_whole, write_whole};

@@ -12,9 +12,9 @@ ghost use Rattle.kc_trace.specs.declared.fault.TraceFault.{TraceFault};
 ghost use Rattle.kc_trace.specs.ConfigText.{config_in};
 ghost use Rattle.kc_trace.specs.Trace.{IsRefused};
 ghost use Rattle.kc_ends.specs.Ends.{ReadFailed};
-ghost use Rattle.kc_cli.specs.Engine.{IsConfigured, IsTold};
+ghost use Rattle.kc_cli.specs.Engine.{IsConfigured, IsTold, Gives, Begins};
 ghost use Rattle.kc_cli.specs.Faults.{live_fault};
-ghost use Rattle.kc_cli.specs.Live.{IsLiveFault, CouldRun, RunsLive, BeginsLive, HasBadActor};
+ghost use Rattle.kc_cli.specs.Live.{IsLiveFault, CouldRun, IsLiveText, HasBadActor};
 
 use crate::TextFault;
 use crate::reading::read_both;
@@ -171,7 +171,7 @@ pub fn live_text<C: Source, T: Source, K: Sink, G: Gate + Sync, R: Threads + Wai
 
     // What is written is the trace read, which may run, in an order that keeps each actor's, and nothing of the sources
     // is left.
-    ensures ok { OnOk result (RunsLive (C.left config.old) (T.left trace.old) (K.taken out.old) (K.taken out.new)) }
+    ensures ok { OnOk result (Gives IsLiveText (C.left config.old) (T.left trace.old) (K.taken out.old) (K.taken out.new)) }
     ensures ended { OnOk result (IsAtEnd (C.left config.new) × IsAtEnd (T.left trace.new)) }
 
     // Each fault is that of all the bytes that its source held, and comes where it should.
@@ -180,7 +180,7 @@ pub fn live_text<C: Source, T: Source, K: Sink, G: Gate + Sync, R: Threads + Wai
     ensures trace { (fault : TraceFault) → result ≡ Err (TextFault.Trace fault) → IfSome (T.left trace.old) (λ text. IsRefused text fault) × IsAtEnd (T.left trace.new) }
     ensures actor { (program : ℕ) → result ≡ Err (TextFault.BadActor program) → HasBadActor (C.left config.old) (T.left trace.old) program }
     ensures read { result ≡ Err TextFault.Read → ReadFailed (C.failed config.new) (C.left config.old) (C.left config.new) ⊎ ReadFailed (T.failed trace.new) (T.left trace.old) (T.left trace.new) }
-    ensures write { result ≡ Err TextFault.Write → (K.failed out.new ≡ true) × BeginsLive (C.left config.old) (T.left trace.old) (K.taken out.old) (K.taken out.new) }
+    ensures write { result ≡ Err TextFault.Write → (K.failed out.new ≡ true) × Begins IsLiveText (C.left config.old) (T.left trace.old) (K.taken out.old) (K.taken out.new) }
 
     // An end that failed is reported as that and as nothing else.
     ensures source { (C.failed config.new ≡ true) ⊎ (T.failed trace.new ≡ true) → result ≡ Err TextFault.Read }

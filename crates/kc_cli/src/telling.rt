@@ -17,7 +17,7 @@ fn line(fault: &TextFault) -> ArrayString<96>
     if let Some(number) = fault.line_number() {
         line.push_str(Buffer::new().format(number));
     }
-    line.push_str("\n");
+    line.push_str(fault.tail());
     line
 }
 

@@ -1,12 +1,14 @@
 //! Worked dumps: the text of a boot state and of a booted VM, damaged texts with what is found in them, by both audits,
 //! and texts that are no dump.
-use crate::support::{after, config, small};
+use crate::support::{SMALL, after, audited, config, dumped, small};
 use kc_audit::{Dump, Finding, audit, audit_parallel, dump};
+use kc_cli::{FailAt, Mem, TextFault, audit_text};
 use kc_core::KCore;
 use kc_dump_text::{DumpFault, read_dump, write_dump};
 use kc_types::{Config, FrameNo, Gfn, VmId};
 use std::alloc::Global;
 use std::process::Abort;
+use std::sync::Wait;
 use std::thread::Threads;
 
 /// The SHA-256 digest of 4,096 zero bytes, as sha256sum gives it.
@@ -308,4 +310,127 @@ fn again<R: Threads + Sync>(rt: &R, alloc: Global, text: &[u8]) -> Option<bool> 
     let sound = finds(rt, alloc, &dumped, 0, None)?;
     let written = write_dump(alloc, &dumped).ok()?;
     Some(sound && written.as_slice() == text)
+}
+
+/// Whether the engine writes this dump of what a trace leaves, with one worker and with three.
+fn is_dumped<R: Threads + Wait + Sync>(
+    rt: &R,
+    alloc: Global,
+    calls: &str,
+    changes: &[(&str, &str)],
+) -> Option<bool> {
+    let trace = format!(in alloc; "kcore-trace 1\n{calls}").ok()?;
+    let wanted = changed(alloc, BOOT, changes)?;
+    let mut all = true;
+    for workers in [1, 3] {
+        let (outcome, text) = dumped(rt, alloc, SMALL, trace.as_bytes(), workers).ok()?;
+        all = all && outcome == Ok(()) && text.as_slice() == wanted.as_bytes();
+    }
+    Some(all)
+}
+
+#[test]
+fn the_engine_dumps_what_a_trace_leaves(rt: HostRuntime) {
+    assert!(rt; is_dumped(&rt, rt.alloc(), "", &[]) == Some(true));
+    assert!(rt; is_dumped(&rt, rt.alloc(), BOOTS, &BOOTED) == Some(true));
+}
+
+/// Whether the engine writes this report of a boot dump with these changes, and says so whether it is in order.
+fn is_reported<R: Threads + Sync>(
+    rt: &R,
+    alloc: Global,
+    changes: &[(&str, &str)],
+    sound: bool,
+    report: &str,
+) -> Option<bool> {
+    let text = changed(alloc, BOOT, changes)?;
+    let (outcome, written) = audited(rt, alloc, text.as_bytes()).ok()?;
+    Some(outcome == Ok(sound) && written.as_slice() == report.as_bytes())
+}
+
+#[test]
+fn the_engine_reports_what_is_found(rt: HostRuntime) {
+    let rows: [(&[(&str, &str)], bool, &str); 4] = [
+        (
+            &[],
+            true,
+            "{\"findings\":0,\"first\":\"\",\"frames\":8}\n",
+        ),
+        (
+            &[("frame 6 free 0 - 0 5", "frame 6 free 0 - 0 -")],
+            false,
+            "{\"findings\":1,\"first\":\"chain free\",\"frames\":8}\n",
+        ),
+        (
+            &[("frame 2 host 0", "frame 2 host 1")],
+            false,
+            "{\"findings\":1,\"first\":\"share 2\",\"frames\":8}\n",
+        ),
+        (
+            &[("frame 0 core", "entry 15 262143 3\nframe 0 core")],
+            false,
+            "{\"findings\":3,\"first\":\"entry 15 262143\",\"frames\":8}\n",
+        ),
+    ];
+    for (changes, sound, report) in rows {
+        let told = is_reported(&rt, rt.alloc(), changes, sound, report);
+        assert!(rt; told == Some(true), "{report}");
+    }
+}
+
+/// Whether the engine refuses a boot dump with these changes for this, and writes nothing.
+fn is_refused<R: Threads + Sync>(
+    rt: &R,
+    alloc: Global,
+    changes: &[(&str, &str)],
+    fault: DumpFault,
+) -> Option<bool> {
+    let text = changed(alloc, BOOT, changes)?;
+    let (outcome, written) = audited(rt, alloc, text.as_bytes()).ok()?;
+    Some(outcome == Err(TextFault::Dump(fault)) && written.is_empty())
+}
+
+#[test]
+fn the_engine_refuses_what_is_no_dump(rt: HostRuntime) {
+    let rows: [(&[(&str, &str)], DumpFault); 3] = [
+        (&[("kcore-dump", "kcore-trace")], DumpFault::NoHeader),
+        (&[("free 5 7 3", "free 5 8 3")], DumpFault::BadLine(3)),
+        (&[("frame 4 host 0 - 0 - - E\n", "")], DumpFault::Frame(4)),
+    ];
+    for (changes, fault) in rows {
+        let refused = is_refused(&rt, rt.alloc(), changes, fault);
+        assert!(rt; refused == Some(true), "{fault}");
+    }
+}
+
+/// Whether the engine answers so to a boot dump where the source fails after so many bytes and the sink after so many,
+/// and has written this.
+fn ends_so<R: Threads + Sync>(
+    rt: &R,
+    alloc: Global,
+    (read, written): (usize, usize),
+    fault: TextFault,
+    begun: &[u8],
+) -> Option<bool> {
+    let text = changed(alloc, BOOT, &[])?;
+    let bytes = Vec::from_slice(alloc, text.as_bytes()).ok()?;
+    let mut dump = FailAt::new(Mem::with_bytes(bytes), read);
+    let mut out = FailAt::new(Mem::new(alloc), written);
+    let outcome = audit_text(rt, alloc, &mut dump, &mut out);
+    Some(outcome == Err(fault) && out.inner.bytes.as_slice() == begun)
+}
+
+#[test]
+fn failing_ends_of_an_audit(rt: HostRuntime) {
+    let alloc = rt.alloc();
+    let report = b"{\"findings\":0,\"first\":\"\",\"frames\":8}\n".as_slice();
+    for end in [0, 13, 400] {
+        let told = ends_so(&rt, alloc, (end, 1000), TextFault::Read, b"");
+        assert!(rt; told == Some(true));
+    }
+    for end in [0, 1, 36] {
+        let (begun, _) = report.split_at(end.min(report.len()));
+        let told = ends_so(&rt, alloc, (100_000, end), TextFault::Write, begun);
+        assert!(rt; told == Some(true));
+    }
 }

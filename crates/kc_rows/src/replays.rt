@@ -67,11 +67,15 @@ fn have_same_slots(one: &KCore, other: &KCore) -> bool {
     true
 }
 
+/// Whether two cores have the same frames and slots.
+pub fn are_same_cores(one: &KCore, other: &KCore) -> bool {
+    have_same_frames(one, other) && have_same_slots(one, other)
+}
+
 /// Whether an outcome has this reply text and this core.
 fn is_outcome(alloc: Global, outcome: &Outcome, text: &[u8], core: &KCore) -> Option<bool> {
     let written = write_replies(alloc, outcome.replies.as_slice()).ok()?;
-    let same = have_same_frames(&outcome.core, core) && have_same_slots(&outcome.core, core);
-    Some(written.as_slice() == text && same)
+    Some(written.as_slice() == text && are_same_cores(&outcome.core, core))
 }
 
 /// The core that the calls leave which one thread makes in their order.

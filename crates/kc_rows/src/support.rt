@@ -1,6 +1,6 @@
 //! What the tests share.
 use crate::replays::by_workers;
-use kc_cli::{Mem, TextFault, replay_text};
+use kc_cli::{Mem, TextFault, audit_text, dump_text, replay_text};
 use kc_core::KCore;
 use kc_trace::read_trace;
 use kc_types::{Call, Config, Owner, Reply};
@@ -102,6 +102,46 @@ pub fn replayed(
     Ok((outcome, out.bytes))
 }
 
+/// What the engine of dumps answers to a configuration and a trace, whose calls so many workers make, and what it wrote.
+pub fn dumped(
+    rt: &(impl Threads + Wait + Sync),
+    alloc: Global,
+    config: &str,
+    trace: &[u8],
+    workers: u32,
+) -> Result<(Result<(), TextFault>, Vec<u8>), AllocError> {
+    let mut config = Mem::with_bytes(Vec::from_slice(alloc, config.as_bytes())?);
+    let mut trace = Mem::with_bytes(Vec::from_slice(alloc, trace)?);
+    let mut out = Mem::new(alloc);
+    let outcome = dump_text(rt, alloc, &mut config, &mut trace, &mut out, workers);
+    Ok((outcome, out.bytes))
+}
+
+/// What the engine of audits answers to a dump's text, and what it wrote.
+pub fn audited(
+    rt: &(impl Threads + Sync),
+    alloc: Global,
+    text: &[u8],
+) -> Result<(Result<bool, TextFault>, Vec<u8>), AllocError> {
+    let mut dump = Mem::with_bytes(Vec::from_slice(alloc, text)?);
+    let mut out = Mem::new(alloc);
+    let outcome = audit_text(rt, alloc, &mut dump, &mut out);
+    Ok((outcome, out.bytes))
+}
+
+/// Whether the core that a trace leaves is dumped alike with one worker and with three, and nothing is found in its dump.
+fn leaves_no_findings(
+    rt: &(impl Threads + Wait + Sync),
+    alloc: Global,
+    config: &str,
+    trace: &[u8],
+) -> Option<bool> {
+    let (by_one, text) = dumped(rt, alloc, config, trace, 1).ok()?;
+    let (by_three, again) = dumped(rt, alloc, config, trace, 3).ok()?;
+    let (sound, _report) = audited(rt, alloc, text.as_slice()).ok()?;
+    Some(by_one == Ok(()) && by_three == Ok(()) && text == again && sound == Ok(true))
+}
+
 /// Whether the engine answers so to a configuration and a trace, and writes this.
 pub fn gives(
     rt: &(impl Threads + Wait + Sync),
@@ -117,7 +157,7 @@ pub fn gives(
     }
 }
 
-/// Whether an example's calls, after others, get its replies after theirs, whoever makes them.
+/// Whether an example's calls, after others, get its replies after theirs, whoever makes them, and leave a core in order.
 fn holds<R: Threads + Wait + Sync>(
     rt: &R,
     alloc: Global,
@@ -130,7 +170,7 @@ fn holds<R: Threads + Wait + Sync>(
     let (trace, replies) = (trace.as_bytes(), replies.as_bytes());
     let by_one = gives(rt, alloc, config, trace, Ok(()), replies);
     let by_any = by_workers(rt, alloc, config, trace, replies)?;
-    Some(by_one && by_any)
+    Some(by_one && by_any && leaves_no_findings(rt, alloc, config, trace)?)
 }
 
 /// Each example's calls, after others, get its replies after theirs.

@@ -1,5 +1,6 @@
 //! The line and the exit status of each fault.
 use kc_cli::{FailAt, Mem, TextFault, tell};
+use kc_dump_text::DumpFault;
 use kc_trace::{ConfigTextFault, TraceFault};
 use kc_types::ConfigFault;
 use std::alloc::Global;
@@ -77,6 +78,22 @@ fn tells_faults_of_configurations(rt: HostRuntime) {
         (ConfigTextFault::Memory, "kcore: out of memory\n", 3),
     ] {
         tells(&rt, rt.alloc(), TextFault::Config(fault), line, status);
+    }
+}
+
+#[test]
+fn tells_faults_of_dumps(rt: HostRuntime) {
+    for (fault, line, status) in [
+        (DumpFault::NoHeader, "kcore: no dump header\n", 2),
+        (DumpFault::BadLine(3), "kcore: bad dump line 3\n", 2),
+        (
+            DumpFault::Frame(4),
+            "kcore: dump frame 4 missing or doubled\n",
+            2,
+        ),
+        (DumpFault::Memory, "kcore: out of memory\n", 3),
+    ] {
+        tells(&rt, rt.alloc(), TextFault::Dump(fault), line, status);
     }
 }
 

@@ -16,10 +16,12 @@ fn asks_for_a_replay(rt: HostRuntime) {
     let plain = Job::Replay {
         config: None,
         workers: 1,
+        dump: false,
     };
     let with_path = Job::Replay {
         config: Some("p"),
         workers: 1,
+        dump: false,
     };
     assert_eq!(rt; answer(rt.alloc(), &[]), Ok(plain));
     assert_eq!(rt; answer(rt.alloc(), &["replay"]), Ok(plain));
@@ -51,6 +53,7 @@ fn asks_for_so_many_workers(rt: HostRuntime) {
     let replay = |workers| Job::Replay {
         config: None,
         workers,
+        dump: false,
     };
     let live = Job::Live {
         config: Some("p"),
@@ -72,6 +75,44 @@ fn asks_for_so_many_workers(rt: HostRuntime) {
         answer(rt.alloc(), &["live", "--workers", "64", "--config", "p"]),
         Ok(live)
     );
+}
+
+#[test]
+fn asks_for_a_dump(rt: HostRuntime) {
+    let plain = Job::Replay {
+        config: None,
+        workers: 1,
+        dump: true,
+    };
+    let with_all = Job::Replay {
+        config: Some("p"),
+        workers: 3,
+        dump: true,
+    };
+    assert_eq!(rt; answer(rt.alloc(), &["replay", "--dump"]), Ok(plain));
+    assert_eq!(rt;
+        answer(
+            rt.alloc(),
+            &["replay", "--dump", "--workers", "3", "--config", "p"]
+        ),
+        Ok(with_all)
+    );
+    for words in [
+        ["live", "--dump"],
+        ["replay", "--dump=true"],
+        ["--dump", "replay"],
+        ["audit", "--dump"],
+    ] {
+        assert_eq!(rt; answer(rt.alloc(), &words), Err(2));
+    }
+    assert_eq!(rt; answer(rt.alloc(), &["replay", "--dump", "--dump"]), Err(2));
+}
+
+#[test]
+fn asks_for_an_audit(rt: HostRuntime) {
+    assert_eq!(rt; answer(rt.alloc(), &["audit"]), Ok(Job::Audit));
+    assert_eq!(rt; answer(rt.alloc(), &["audit", "p"]), Err(2));
+    assert_eq!(rt; answer(rt.alloc(), &["audit", "--config", "p"]), Err(2));
 }
 
 #[test]

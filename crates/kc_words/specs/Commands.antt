@@ -2,6 +2,7 @@
 use Rattle.std.specs.Prelude.{codes, pos, Some, true}
 use Rattle.clap.specs.Words.{App, Rule, new_app, new_rule, with_rule, with_subcommand}
 use Rattle.clap.specs.Simple.{on_top}
+use Rattle.clap.specs.declared.builder.action.ArgAction.TheVariants.{SetTrue}
 use Rattle.clap.specs.declared.builder.value_parser.ValueParser.TheVariants.{Signed}
 
 abbrev pub config_rule : Rule
@@ -11,15 +12,26 @@ config_rule = record (new_rule (codes "config")) { long = Some (codes "config");
 abbrev pub workers_rule : Rule
 workers_rule = record (new_rule (codes "workers")) { long = Some (codes "workers"); value_names = 1; parser = Some (Signed (pos 1) (pos 64)) }
 
+-- a flag, which takes no value
+abbrev pub dump_rule : Rule
+dump_rule = record (new_rule (codes "dump")) { long = Some (codes "dump"); action = Some SetTrue }
+
 abbrev pub replay : App
-replay = with_rule (with_rule (new_app (codes "replay")) config_rule) workers_rule
+replay = with_rule (with_rule (with_rule (new_app (codes "replay")) config_rule) workers_rule) dump_rule
 
 abbrev pub live : App
 live = with_rule (with_rule (new_app (codes "live")) config_rule) workers_rule
+
+abbrev pub audit : App
+audit = new_app (codes "audit")
 
 -- the command with `replay` alone
 abbrev pub base : App
 base = with_subcommand (on_top (λ s. record s { no_binary_name = true }) (new_app (codes "kcore"))) replay.top
 
+-- the command with `replay` and `live`
+abbrev pub more : App
+more = with_subcommand base live.top
+
 abbrev pub kcore : App
-kcore = with_subcommand base live.top
+kcore = with_subcommand more audit.top

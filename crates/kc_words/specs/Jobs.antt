@@ -1,5 +1,5 @@
 -- What words ask for, and which are refused.
-use Rattle.std.specs.Prelude.{◌≡◌, ◌≢◌, ◌&&◌, ℕ, nat_le, List, [], codes, Option, Some, None, option_map, if◌then◌else◌}
+use Rattle.std.specs.Prelude.{◌≡◌, ◌≢◌, ◌↔◌, ◌&&◌, false, IsTrue, ℕ, nat_le, List, [], codes, Option, Some, None, option_map, if◌then◌else◌}
 use Rattle.std.specs.Option.{option_map_or}
 use Rattle.std.specs.Borrow.{Bor}
 use Rattle.clap.specs.Words.{Text, Row, first_of, one_of, subcommand_of, fault_of, IsAmong}
@@ -7,7 +7,7 @@ use Rattle.clap.specs.Walk.{byte_or_zero}
 use Rattle.clap.specs.declared.error.kind.ErrorKind.{ErrorKind}
 use Rattle.clap.specs.declared.error.kind.ErrorKind.TheVariants.{DisplayHelp, DisplayVersion, OutOfMemory}
 use Rattle.kc_words.specs.declared.words.Job.{Job}
-use Rattle.kc_words.specs.declared.words.Job.TheVariants.{Replay, Live}
+use Rattle.kc_words.specs.declared.words.Job.TheVariants.{Replay, Live, Audit}
 use Rattle.kc_words.specs.declared.words.ArgFault.{ArgFault}
 use Rattle.kc_words.specs.declared.words.ArgFault.TheVariants.{Memory, Words}
 use Rattle.kc_words.specs.Commands.{kcore}
@@ -24,15 +24,21 @@ workers_in rows = option_map_or (λ text. in_range (byte_or_zero text)) (one_of 
 abbrev pub HasOptions : List Row → Option (Bor Text) → ℕ → Type 0
 HasOptions rows config workers = (option_map (λ s. s.now) config ≡ first_of (codes "config") rows) × (workers ≡ workers_in rows)
 
--- what the subcommand of this name asks for, by the rows of its options: there are `live` and `replay` alone
+-- the flag stands among the words
+abbrev pub IsSet : Text → List Row → Type 0
+IsSet flag rows = first_of flag rows ≡ Some (codes "true")
+
+-- what the subcommand of this name asks for, by the rows of its options: there are `replay`, `live` and `audit` alone
 abbrev pub IsJobIn : Text → List Row → Job → Type 0
-IsJobIn name rows (Replay config workers) = (name ≢ codes "live") × HasOptions rows config workers
+IsJobIn name rows (Replay config workers dump) = (name ≢ codes "live") × (name ≢ codes "audit") × HasOptions rows config workers × (IsTrue dump ↔ IsSet (codes "dump") rows)
 IsJobIn name rows (Live config workers) = (name ≡ codes "live") × HasOptions rows config workers
+IsJobIn name rows Audit = name ≡ codes "audit"
 
 -- the same where there may be no subcommand: then it is as if `replay` stood there alone
 abbrev pub Asks : Option (Text × List Row) → Job → Type 0
-Asks None (Replay config workers) = HasOptions [] config workers
+Asks None (Replay config workers dump) = HasOptions [] config workers × (dump ≡ false)
 Asks None (Live config workers) = ⊥
+Asks None Audit = ⊥
 Asks (Some found) job = IsJobIn found.0 found.1 job
 
 -- clap's rules find no fault in the words, and the job is what they hold for the program's command

@@ -1,21 +1,24 @@
 //! What the program is asked to do.
 ghost use Rattle.std.specs.Prelude.{◌≡◌, ◌↔◌, IfOk, IfErr, IsTrue, map, false, option_map, codes};
+ghost use Rattle.clap.specs.declared.builder.command.Command.TheViews.{out-Command as fields_of};
 ghost use Rattle.clap.specs.Words.{app_of, rule_of, found_of, rows_of, first_of};
 ghost use Rattle.clap.specs.Values.{kind_of};
-ghost use Rattle.kc_words.specs.Commands.{kcore, config_rule, workers_rule};
-ghost use Rattle.kc_words.specs.Jobs.{in_range, workers_in, IsJob, IsJobIn, IsRefusal, HasStatus};
+ghost use Rattle.kc_words.specs.Commands.{kcore, replay, live, audit, config_rule, workers_rule, dump_rule};
+ghost use Rattle.kc_words.specs.Jobs.{in_range, workers_in, IsSet, IsJob, IsJobIn, IsRefusal, HasStatus};
 
 use clap::error::ErrorKind;
-use clap::{Arg, ArgMatches, Command, Error};
+use clap::{Arg, ArgAction, ArgMatches, Command, Error};
 use std::alloc::{AllocError, Global};
 
 /// What the program is asked to do.
 #[derive(Clone, Copy, Debug, PartialEq, Eq)]
 pub enum Job<'a> {
-    /// Replay the trace on standard input, with the configuration in a file where a path is given, by 1 to 64 workers.
+    /// Replay the trace on standard input, with the configuration in a file where a path is given, by 1 to 64 workers,
+    /// and write the replies, or the dump of the core that it leaves.
     Replay {
         config: Option<&'a str>,
         workers: u32,
+        dump: bool,
     },
     /// Run the trace on standard input live, with the configuration in a file where a path is given, and replay the
     /// history by 1 to 64 workers.
@@ -23,6 +26,8 @@ pub enum Job<'a> {
         config: Option<&'a str>,
         workers: u32,
     },
+    /// Audit the dump on standard input.
+    Audit,
 }
 
 /// Why there is no job.
@@ -67,27 +72,61 @@ fn workers_arg<'a>(alloc: Global) -> Arg<'a>
         )
 }
 
-/// The whole command.
-fn command<'a>(alloc: Global) -> Result<Command<'a>, AllocError>
-    ensures app { IfOk result (λ c. app_of c ≡ kcore) }
+fn dump_arg<'a>(alloc: Global) -> Arg<'a>
+    ensures rule { rule_of result ≡ dump_rule }
+    ensures local { result.global ≡ false }
 {
-    let replay = Command::new(alloc, "replay")
+    Arg::new(alloc, "dump")
+        .long("dump")
+        .action(ArgAction::SetTrue)
+        .help("Write the dump of the core that the trace leaves, in place of the replies")
+}
+
+fn replay_command<'a>(alloc: Global) -> Result<Command<'a>, AllocError>
+    ensures app { IfOk result (λ c. app_of c ≡ replay) }
+    ensures local { IfOk result (λ c. (fields_of c).has_globals ≡ false) }
+{
+    Command::new(alloc, "replay")
         .about(
             "Replay the trace on standard input and write the replies (what no words at all ask for)",
         )
         .arg(config_arg(alloc))?
-        .arg(workers_arg(alloc))?;
-    let live = Command::new(alloc, "live")
+        .arg(workers_arg(alloc))?
+        .arg(dump_arg(alloc))
+}
+
+fn live_command<'a>(alloc: Global) -> Result<Command<'a>, AllocError>
+    ensures app { IfOk result (λ c. app_of c ≡ live) }
+    ensures local { IfOk result (λ c. (fields_of c).has_globals ≡ false) }
+{
+    Command::new(alloc, "live")
         .about(
             "Run the trace's actors in a thread each, and write their calls as they were answered",
         )
         .arg(config_arg(alloc))?
-        .arg(workers_arg(alloc))?;
+        .arg(workers_arg(alloc))
+}
+
+fn audit_command<'a>(alloc: Global) -> Command<'a>
+    ensures app { app_of result ≡ audit }
+    ensures local { (fields_of result).has_globals ≡ false }
+{
+    Command::new(alloc, "audit").about(
+        "Say what is wrong with the dump on standard input; the status is 1 where something is",
+    )
+}
+
+/// The whole command.
+fn command<'a>(alloc: Global) -> Result<Command<'a>, AllocError>
+    ensures app { IfOk result (λ c. app_of c ≡ kcore) }
+{
+    let replay = replay_command(alloc)?;
+    let live = live_command(alloc)?;
     let base = Command::new(alloc, "kcore")
         .no_binary_name(true)
         .about("Replay calls on the trusted core of a hypervisor")
         .subcommand(replay)?;
-    base.subcommand(live)
+    base.subcommand(live)?.subcommand(audit_command(alloc))
 }
 
 /// What is printed in place of a job.
@@ -104,10 +143,21 @@ fn refused(alloc: Global, error: &Error) -> ArgFault
     }
 }
 
-fn config_in<'a>(matches: &ArgMatches<'a>) -> Option<&'a str>
-    ensures { option_map (λ s. s.now) result ≡ first_of (codes "config") (rows_of (found_of matches.now)) }
+/// The first text of an option, if it has one.
+fn text_in<'a>(matches: &ArgMatches<'a>, option: &str) -> Option<&'a str>
+    ensures { option_map (λ s. s.now) result ≡ first_of option.now (rows_of (found_of matches.now)) }
 {
-    matches.get_str("config")
+    matches.get_str(option)
+}
+
+/// Whether the flag stands among the words: `clap` gives it the text `true` then, and else `false`.
+fn is_set(matches: &ArgMatches<'_>, flag: &str) -> bool
+    ensures { IsTrue result ↔ IsSet flag.now (rows_of (found_of matches.now)) }
+{
+    match text_in(matches, flag) {
+        Some(text) => text == "true",
+        None => false,
+    }
 }
 
 /// The number, or 1 where the command's rules do not let it through.
@@ -131,27 +181,34 @@ fn workers_in(matches: &ArgMatches<'_>) -> u32
     }
 }
 
-fn is_live(name: &str) -> bool
-    ensures { IsTrue result ↔ (name.now ≡ codes "live") }
+fn is_named(name: &str, command: &str) -> bool
+    ensures { IsTrue result ↔ (name.now ≡ command.now) }
 {
-    name == "live"
+    name == command
 }
 
 /// What the subcommand of this name asks for.
 fn job_in<'a>(name: &str, found: &ArgMatches<'a>) -> Job<'a>
     ensures { IsJobIn name.now (rows_of (found_of found.now)) result }
 {
-    let config = config_in(found);
+    if is_named(name, "audit") {
+        return Job::Audit;
+    }
+    let config = text_in(found, "config");
     let workers = workers_in(found);
-    if is_live(name) {
-        Job::Live { config, workers }
-    } else {
-        Job::Replay { config, workers }
+    if is_named(name, "live") {
+        return Job::Live { config, workers };
+    }
+    let dump = is_set(found, "dump");
+    Job::Replay {
+        config,
+        workers,
+        dump,
     }
 }
 
 /// What the words, without the program's name, ask for: `replay` or `live`, with or without `--config PATH` and
-/// `--workers N` with a number from 1 to 64, and `replay` for no words at all.
+/// `--workers N` with a number from 1 to 64, `replay` also with `--dump`; `audit`; and `replay` for no words at all.
 pub fn job_of<'a>(alloc: Global, words: &'a [&'a str]) -> Result<Job<'a>, ArgFault>
     // The job is what the words say by the command's rules, and only words that break them are refused.
     ensures job { IfOk result (IsJob (map (λ w. w.now) words.entry.now)) }
@@ -166,6 +223,7 @@ pub fn job_of<'a>(alloc: Global, words: &'a [&'a str]) -> Result<Job<'a>, ArgFau
         None => Ok(Job::Replay {
             config: None,
             workers: 1,
+            dump: false,
         }),
     }
 }

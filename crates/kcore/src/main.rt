@@ -3,7 +3,10 @@
 
 ghost use Rattle.std.specs.Prelude.{◌≡◌, false};
 
-use kc_cli::{ArgFault, Job, Mem, Source, Std, TextFault, job_of, live_text, replay_text, tell};
+use kc_cli::{
+    ArgFault, Job, Mem, Source, Std, TextFault, audit_text, dump_text, job_of, live_text,
+    replay_text, tell,
+};
 use kc_replay::OpenGate;
 use std::env;
 use std::fs::File;
@@ -22,18 +25,24 @@ fn fail(rt: &HostRuntime, fault: TextFault) -> u8 {
     tell(&fault, &mut Std::new(rt.stderr()))
 }
 
-/// Replays the trace on standard input in a configuration, and writes the replies onto standard output.
+/// Replays the trace on standard input in a configuration, and writes the replies, or the dump, onto standard output.
 fn replay_in<C: Source, R: Threads + Wait + Sync>(
     rt: &HostRuntime,
     threads: &R,
     config: &mut C,
     workers: u32,
+    dump: bool,
 ) -> Result<(), TextFault>
     requires { C.failed config.old ≡ false }
 {
+    let alloc = rt.alloc();
     let mut trace = Std::new(rt.stdin());
     let mut out = Std::new(rt.stdout());
-    replay_text(threads, rt.alloc(), config, &mut trace, &mut out, workers)
+    if dump {
+        dump_text(threads, alloc, config, &mut trace, &mut out, workers)
+    } else {
+        replay_text(threads, alloc, config, &mut trace, &mut out, workers)
+    }
 }
 
 /// Replays the trace, and answers the exit status.
@@ -42,19 +51,20 @@ fn replay<R: Threads + Wait + Sync>(
     threads: &R,
     config: Option<&str>,
     workers: u32,
+    dump: bool,
 ) -> u8 {
     let outcome = match config {
         Some(path) => {
             let Ok(file) = File::open(rt, path) else {
                 return fail(rt, TextFault::Read);
             };
-            replay_in(rt, threads, &mut Std::new(file), workers)
+            replay_in(rt, threads, &mut Std::new(file), workers, dump)
         },
         None => {
             let Ok(bytes) = Vec::from_slice(rt.alloc(), DEFAULT_CONFIG) else {
                 return fail(rt, TextFault::Memory);
             };
-            replay_in(rt, threads, &mut Mem::with_bytes(bytes), workers)
+            replay_in(rt, threads, &mut Mem::with_bytes(bytes), workers, dump)
         },
     };
     match outcome {
@@ -112,6 +122,17 @@ fn live<R: Threads + Wait + Sync>(
     }
 }
 
+/// Audits the dump on standard input, and answers the exit status: 1 where something is found.
+fn audit(rt: &HostRuntime, threads: &(impl Threads + Sync)) -> u8 {
+    let mut dump = Std::new(rt.stdin());
+    let mut out = Std::new(rt.stdout());
+    match audit_text(threads, rt.alloc(), &mut dump, &mut out) {
+        Ok(true) => 0,
+        Ok(false) => 1,
+        Err(fault) => fail(rt, fault),
+    }
+}
+
 /// Prints what stands in place of a job, and answers the exit status.
 fn refuse(rt: &HostRuntime, fault: ArgFault) -> u8 {
     match fault {
@@ -154,8 +175,15 @@ fn run<R: Threads + Wait + Sync>(rt: &HostRuntime, threads: &R) -> u8 {
         return fail(rt, TextFault::Memory);
     };
     match job_of(rt.alloc(), words.as_slice()) {
-        Ok(Job::Replay { config, workers }) => replay(rt, threads, config, workers),
+        Ok(
+            Job::Replay {
+                config,
+                workers,
+                dump,
+            },
+        ) => replay(rt, threads, config, workers, dump),
         Ok(Job::Live { config, workers }) => live(rt, threads, config, workers),
+        Ok(Job::Audit) => audit(rt, threads),
         Err(fault) => refuse(rt, fault),
     }
 }
