@@ -351,11 +351,7 @@ fn is_reported<R: Threads + Sync>(
 #[test]
 fn the_engine_reports_what_is_found(rt: HostRuntime) {
     let rows: [(&[(&str, &str)], bool, &str); 4] = [
-        (
-            &[],
-            true,
-            "{\"findings\":0,\"first\":\"\",\"frames\":8}\n",
-        ),
+        (&[], true, "{\"findings\":0,\"first\":\"\",\"frames\":8}\n"),
         (
             &[("frame 6 free 0 - 0 5", "frame 6 free 0 - 0 -")],
             false,
