@@ -5,3 +5,4 @@ pub mod Putting
 pub mod Ready
 pub mod Onward
 pub mod Dealing
+pub mod Cutting

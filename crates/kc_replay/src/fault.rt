@@ -15,6 +15,9 @@ pub enum ReplayFault {
     /// A worker could not be started.
     #[error("a worker could not be started")]
     Start,
+    /// A segment of the trace failed before.
+    #[error("an earlier segment failed")]
+    Broken,
 }
 
 impl From<Memory> for ReplayFault {

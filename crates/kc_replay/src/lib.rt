@@ -5,11 +5,14 @@ mod deal;
 mod fault;
 mod gate;
 mod lanes;
+pub mod laws;
+mod replayer;
+mod segment;
 mod task;
-mod trace;
 mod wave;
 mod work;
 
 pub use fault::ReplayFault;
 pub use gate::{Gate, OpenGate};
-pub use trace::{Outcome, replay};
+pub use replayer::{Replayer, replay};
+pub use segment::Outcome;

@@ -12,7 +12,7 @@ use Rattle.kc_plan.proofs.Listing.{at_most}
 use Rattle.kc_replay.specs.Wave.{foot_of}
 use Rattle.kc_replay.proofs.Onward.{up-to-none, up-to-all, up-to-next, wave-next, each-of, written-whole}
 use Rattle.kc_replay.proofs.Dealing.{dealt-members}
-use Rattle.kc_replay.proofs.trace.replay_waves.Goals as goal
+use Rattle.kc_replay.proofs.segment.replay_waves.Goals as goal
 
 -- the plan's waves are the longest chains
 longest : (m : State) (calls : List Call) (feet : Rows) (plan : List ℕ) → AreFootprints m calls feet → plan ≡ feet.waves → IsWaves m calls (wave_of plan)

@@ -8,7 +8,7 @@ use Rattle.kc_model.specs.Footprints.{call_at, state_at}
 use Rattle.kc_replay.specs.Wave.{calls_of}
 use Rattle.kc_replay.proofs.Taking.{wave-call, any-default}
 use Rattle.kc_replay.proofs.Onward.{given-more, given-kept, state-one}
-use Rattle.kc_replay.proofs.trace.answer_wave.Goals as goal
+use Rattle.kc_replay.proofs.segment.answer_wave.Goals as goal
 
 pub loop-place-preserved : goal.loop-place-preserved
 loop-place-preserved g c =

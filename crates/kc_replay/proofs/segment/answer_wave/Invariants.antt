@@ -2,7 +2,7 @@ use Rattle.std.proofs.Common.{ℕ, ◌≡◌, ◌≢◌, ◌<◌, length, get_or
 use Rattle.kc_types.specs.declared.reply.Reply.TheVariants.{Done}
 use Rattle.kc_model.specs.Footprints.{state_at, reply_at}
 use Rattle.kc_replay.specs.Wave.{calls_of}
-use Rattle.kc_replay.proofs.trace.answer_wave.Given as goal
+use Rattle.kc_replay.proofs.segment.answer_wave.Given as goal
 
 abbrev pub invariant-loop-place : goal.invariant-loop-place
 invariant-loop-place g l = record {

@@ -1,6 +1,6 @@
 use Rattle.kc_plan.specs.Plans.{wave_of}
 use Rattle.kc_replay.specs.Replay.{IsUpTo}
-use Rattle.kc_replay.proofs.trace.replay_waves.Given as goal
+use Rattle.kc_replay.proofs.segment.replay_waves.Given as goal
 
 abbrev pub invariant-loop-done : goal.invariant-loop-done
 invariant-loop-done g l = IsUpTo l.fn.core l.calls (wave_of l.plan) l.done l.store l.replies.items

@@ -1,9 +1,8 @@
-//! A trace, wave after wave.
-ghost use Rattle.std.specs.Prelude.{◌≡◌, ℕ, ◌<◌, ◌≤◌, ◌⊎◌, ◌↔◌, List, length, OnOk, OnErr, IfOk, IfErr};
+//! The calls of a trace, or of a segment of one, from a core on.
+ghost use Rattle.std.specs.Prelude.{◌≡◌, ℕ, ◌≤◌, List, length, OnOk, IfOk};
 ghost use Rattle.std.specs.List.Sorted.{IsPermutation};
 ghost use Rattle.kc_types.specs.Limits.{call_limit};
 ghost use Rattle.kc_model.specs.Blind.{ShowsNothing};
-ghost use Rattle.kc_model.specs.Boot.{boot};
 ghost use Rattle.kc_model.specs.Lawful.{IsLawful};
 ghost use Rattle.kc_model.specs.Next.{replies_from, state_after};
 ghost use Rattle.kc_model.specs.Footprints.{state_at};
@@ -11,7 +10,6 @@ ghost use Rattle.kc_plan.specs.Footprints.{AreFootprints};
 ghost use Rattle.kc_replay.specs.Wave.{IsWave, AreReplied, calls_of, foot_of};
 ghost use Rattle.kc_plan.specs.Plans.{AreCalls};
 ghost use Rattle.kc_replay.specs.Replay.{IsWaveTaken};
-ghost use Rattle.kc_replay.specs.declared.fault.ReplayFault.TheVariants.{BadWorkers};
 
 use crate::Gate;
 use crate::deal::deal;
@@ -19,12 +17,12 @@ use crate::fault::ReplayFault;
 use crate::wave::run_wave;
 use kc_core::{KCore, read_all_numbers};
 use kc_plan::{Footprints, Plan, footprints};
-use kc_types::{Call, Config, Memory, Phase, Reply};
+use kc_types::{Call, Memory, Phase, Reply};
 use std::alloc::Global;
 use std::sync::Wait;
 use std::thread::Threads;
 
-/// The replies to a trace, in its order, and the core that it leaves.
+/// The replies to some calls, in their order, and the core that they leave.
 #[derive(Drop)]
 pub struct Outcome {
     pub replies: Vec<Reply>,
@@ -168,7 +166,7 @@ fn no_replies(alloc: Global, count: usize) -> Result<Vec<Reply>, Memory>
     Ok(replies)
 }
 
-/// Makes the calls of a trace, wave after wave.
+/// Makes some calls, wave after wave.
 fn replay_waves<R: Threads + Wait + Sync, G: Gate + Sync>(
     rt: &R,
     alloc: Global,
@@ -210,7 +208,7 @@ fn replay_waves<R: Threads + Wait + Sync, G: Gate + Sync>(
     })
 }
 
-/// What a replay needs before its first call: the footprints, the plan, and room for the replies.
+/// What waves need before their first call: the footprints, the plan, and room for the replies.
 #[derive(Drop)]
 struct Prepared {
     feet: Footprints,
@@ -234,32 +232,24 @@ fn prepare(alloc: Global, core: &KCore, calls: &[Call]) -> Result<Prepared, Memo
     })
 }
 
-/// Makes the calls of a trace from the boot state on, by 1 to 64 workers: the replies, in the order of the trace, and
-/// the core with its page records, lists, tables and bytes are those of one thread that takes the calls in that order.
-/// `BadWorkers` for any other number of workers; `Start` where a worker could not be started, else `Memory` where a
-/// growth was refused, and then all pages are wiped.
-pub fn replay<R: Threads + Wait + Sync, G: Gate + Sync>(
+/// Makes some calls by workers. Where that fails all pages are wiped.
+fn answer_by_waves<R: Threads + Wait + Sync, G: Gate + Sync>(
     rt: &R,
     alloc: Global,
-    config: Config,
+    core: KCore,
     calls: &[Call],
     workers: usize,
     gate: &G,
 ) -> Result<Outcome, ReplayFault>
-    requires { length calls.now ≤ call_limit }
-    ensures blind { IfOk result (λ outcome. ShowsNothing (boot config) calls.now outcome.replies.items outcome.core) }
-    ensures replies { IfOk result (λ outcome. outcome.replies.items ≡ replies_from (boot config) calls.now) }
-    ensures state { IfOk result (λ outcome. outcome.core ≡ state_after (boot config) calls.now) }
-    ensures workers { OnOk result ((0 < workers) × (workers ≤ 64)) }
-    ensures bad_workers { IfErr result (λ fault. (fault ≡ BadWorkers) ↔ ((workers ≡ 0) ⊎ (64 < workers))) }
+    requires lawful { IsLawful core }
+    requires short { length calls.now ≤ call_limit }
+    ensures blind { IfOk result (λ outcome. ShowsNothing core calls.now outcome.replies.items outcome.core) }
+    ensures replies { IfOk result (λ outcome. outcome.replies.items ≡ replies_from core calls.now) }
+    ensures state { IfOk result (λ outcome. outcome.core ≡ state_after core calls.now) }
 {
-    if workers == 0 || workers > 64 {
-        return Err(ReplayFault::BadWorkers);
-    }
-    let Ok(core) = KCore::boot(alloc, config) else {
-        return Err(ReplayFault::Memory);
-    };
     let Ok(prepared) = prepare(alloc, &core, calls) else {
+        let mut core = core;
+        core.wipe(rt);
         return Err(ReplayFault::Memory);
     };
     let Prepared {
@@ -267,9 +257,86 @@ pub fn replay<R: Threads + Wait + Sync, G: Gate + Sync>(
         plan,
         replies,
     } = prepared;
-    match replay_waves(rt, alloc, core, calls, &feet, &plan, workers, replies, gate) {
-        Ok(outcome) => Ok(outcome),
-        Err(ReplayFault::Start) => Err(ReplayFault::Start),
-        Err(_) => Err(ReplayFault::Memory),
+    replay_waves(rt, alloc, core, calls, &feet, &plan, workers, replies, gate)
+}
+
+/// Makes some calls in their order, and tells the gate of each.
+fn answer_each<G: Gate>(
+    alloc: Global,
+    core: &mut KCore,
+    calls: &[Call],
+    gate: &G,
+) -> Result<Vec<Reply>, Memory>
+    ensures replies { IfOk result (λ replies. replies.items ≡ replies_from core.old calls.now) }
+    ensures state { OnOk result (core.new ≡ state_after core.old calls.now) }
+{
+    let mut replies = Vec::with_capacity(alloc, calls.len())?;
+    for number in 0..calls.len() {
+        gate.before(number);
+        let reply = core.call(&calls[number])?;
+        gate.after(number);
+        replies.push(reply)?;
     }
+    Ok(replies)
+}
+
+/// Makes some calls in their order, on this thread. Where that fails all pages are wiped.
+fn answer_in_order<R: Threads + Sync, G: Gate>(
+    rt: &R,
+    alloc: Global,
+    core: KCore,
+    calls: &[Call],
+    gate: &G,
+) -> Result<Outcome, ReplayFault>
+    requires lawful { IsLawful core }
+    ensures blind { IfOk result (λ outcome. ShowsNothing core calls.now outcome.replies.items outcome.core) }
+    ensures replies { IfOk result (λ outcome. outcome.replies.items ≡ replies_from core calls.now) }
+    ensures state { IfOk result (λ outcome. outcome.core ≡ state_after core calls.now) }
+{
+    read_all_numbers(calls);
+    let mut core = core;
+    match answer_each(alloc, &mut core, calls, gate) {
+        Ok(replies) => Ok(Outcome { replies, core }),
+        Err(_) => {
+            core.wipe(rt);
+            Err(ReplayFault::Memory)
+        },
+    }
+}
+
+/// Whether at least two of the calls hash frames.
+fn hash_twice(calls: &[Call]) -> bool {
+    let mut hashing = 0;
+    for call in calls {
+        if let Call::Verify { .. } = call {
+            if hashing > 0 {
+                return true;
+            }
+            hashing += 1;
+        }
+    }
+    false
+}
+
+/// Makes some calls: by workers where there are at least two of each, and a call may wait for another or two may be worth
+/// a thread, since they hash frames. No other wave would start a thread, so no plan is made for it.
+/// Where that fails all pages are wiped.
+pub(crate) fn answer_segment<R: Threads + Wait + Sync, G: Gate + Sync>(
+    rt: &R,
+    alloc: Global,
+    core: KCore,
+    calls: &[Call],
+    workers: usize,
+    gate: &G,
+) -> Result<Outcome, ReplayFault>
+    requires lawful { IsLawful core }
+    requires short { length calls.now ≤ call_limit }
+    ensures blind { IfOk result (λ outcome. ShowsNothing core calls.now outcome.replies.items outcome.core) }
+    ensures replies { IfOk result (λ outcome. outcome.replies.items ≡ replies_from core calls.now) }
+    ensures state { IfOk result (λ outcome. outcome.core ≡ state_after core calls.now) }
+{
+    if workers > 1 && calls.len() > 1 && (gate.may_wait() || hash_twice(calls)) {
+        return answer_by_waves(rt, alloc, core, calls, workers, gate);
+    }
+    answer_in_order(rt, alloc, core, calls, gate)
 }

@@ -1,0 +1,173 @@
+//! A replay, whole or in segments.
+ghost use Rattle.std.specs.Prelude.{◌≡◌, ◌≢◌, ◌+◌, ◌-◌, ◌<◌, ◌≤◌, ◌⊎◌, ◌↔◌, length, Some, None, Err, OnOk, OnErr, IfOk, IfErr, IsErrOf};
+ghost use Rattle.kc_types.specs.Limits.{call_limit};
+ghost use Rattle.kc_model.specs.Blind.{ShowsNothing};
+ghost use Rattle.kc_model.specs.Boot.{boot};
+ghost use Rattle.kc_model.specs.Next.{replies_from, state_after};
+ghost use Rattle.kc_replay.specs.Segments.{IsFed};
+ghost use Rattle.kc_replay.specs.declared.fault.ReplayFault.TheVariants.{BadWorkers, Broken};
+
+use crate::Gate;
+use crate::fault::ReplayFault;
+use crate::segment::{Outcome, answer_segment};
+use kc_core::KCore;
+use kc_types::{CALL_LIMIT, Call, Config, Reply};
+use std::alloc::Global;
+use std::marker::Model;
+use std::sync::Wait;
+use std::thread::Threads;
+
+/// The gate of a segment: it tells its calls by their places in the whole trace.
+#[derive(Drop)]
+struct SegmentGate<'a, G: Gate> {
+    gate: &'a G,
+    /// How many calls came before the segment.
+    fed: usize,
+}
+
+impl<'a, G: Gate> Gate for SegmentGate<'a, G> {
+    fn before(&self, number: usize) {
+        self.gate.before(self.fed.saturating_add(number));
+    }
+
+    fn after(&self, number: usize) {
+        self.gate.after(self.fed.saturating_add(number));
+    }
+
+    fn may_wait(&self) -> bool {
+        self.gate.may_wait()
+    }
+}
+
+/// A replay whose trace comes in segments, cut anywhere. Between two segments it is the core that the calls so far leave;
+/// what each call may touch is worked out anew in each segment, so no segment costs more for what came before it.
+#[derive(Drop)]
+pub struct Replayer {
+    /// The core; none after a segment that failed.
+    core: Option<KCore>,
+    workers: usize,
+    /// How many calls came so far.
+    fed: usize,
+}
+
+impl Model for Replayer {
+    ghost use Rattle.std.specs.Prelude.{◌<◌, ◌≤◌};
+    ghost use Rattle.std.specs.Coded.{codes, coded_ℕ};
+    ghost use Rattle.std.specs.FinMap as map;
+    ghost use Rattle.std.specs.Ordering.{nat_cmp};
+    ghost use Rattle.kc_types.specs.Limits.{call_limit};
+    ghost use Rattle.kc_replay.specs.Segments.{Replaying};
+
+    ghost Value = { Replaying };
+
+    ghost coded = { Prim.hlevel (codes, map.code {R = nat_cmp} coded_ℕ coded_ℕ) };
+
+    ghost view = { λ r. record { state = r.core; fed = r.fed } };
+
+    ghost invariant = { λ r. (0 < r.workers) × (r.workers ≤ 64) × (r.fed ≤ call_limit) };
+}
+
+impl Replayer {
+    /// A replay in the boot state, by 1 to 64 workers: `BadWorkers` for any other number of them, which is judged first,
+    /// and `Memory` where a growth was refused.
+    pub fn new(alloc: Global, config: Config, workers: usize) -> Result<Replayer, ReplayFault>
+        ensures start { IfOk result (λ replayer. replayer ≡ record { state = Some (boot config); fed = 0 }) }
+        ensures workers { OnOk result ((0 < workers) × (workers ≤ 64)) }
+        ensures bad_workers { IfErr result (λ fault. (fault ≡ BadWorkers) ↔ ((workers ≡ 0) ⊎ (64 < workers))) }
+        ensures whole { result ≢ Err Broken }
+    {
+        if workers == 0 || workers > 64 {
+            return Err(ReplayFault::BadWorkers);
+        }
+        match KCore::boot(alloc, config) {
+            Ok(core) => Ok(Replayer {
+                core: Some(core),
+                workers,
+                fed: 0,
+            }),
+            Err(_) => Err(ReplayFault::Memory),
+        }
+    }
+
+    /// How many calls may still come: 65,536 less those that came.
+    pub fn left(&self) -> usize
+        ensures value { result ≡ call_limit - self.now.fed }
+        ensures few { self.now.fed ≤ call_limit }
+    {
+        CALL_LIMIT - self.fed
+    }
+
+    /// Makes the calls of a segment, and gives their replies in its order: replies, page records, lists, tables and bytes
+    /// are those of one thread that takes all calls in the order of the trace. The gate is told each call by its place in
+    /// the whole trace.
+    ///
+    /// `Start` where a worker could not be started, else `Memory` where a growth was refused; then all pages are wiped,
+    /// and every further answer is `Broken`.
+    pub fn feed<R: Threads + Wait + Sync, G: Gate + Sync>(
+        &mut self,
+        rt: &R,
+        alloc: Global,
+        calls: &[Call],
+        gate: &G,
+    ) -> Result<Vec<Reply>, ReplayFault>
+        requires { self.old.fed + length calls.now ≤ call_limit }
+        ensures fed { IfOk result (λ replies. IsFed self.old self.new calls.now replies.items) }
+        ensures fails { OnErr result (self.new ≡ record self.old { state = None }) }
+        ensures broken { IsErrOf result Broken ↔ (self.old.state ≡ None) }
+        ensures workers { result ≢ Err BadWorkers }
+    {
+        let Some(core) = self.core.take() else {
+            return Err(ReplayFault::Broken);
+        };
+        let gate = SegmentGate {
+            gate,
+            fed: self.fed,
+        };
+        match answer_segment(rt, alloc, core, calls, self.workers, &gate) {
+            Ok(outcome) => {
+                let Outcome { replies, core } = outcome;
+                self.core = Some(core);
+                self.fed += calls.len();
+                Ok(replies)
+            },
+            Err(ReplayFault::Start) => Err(ReplayFault::Start),
+            Err(_) => Err(ReplayFault::Memory),
+        }
+    }
+
+    /// The core that all calls leave; `Broken` where a segment failed.
+    pub fn finish(self) -> Result<KCore, ReplayFault>
+        ensures core { IfOk result (λ core. self.state ≡ Some core) }
+        ensures broken { IfErr result (λ fault. (fault ≡ Broken) × (self.state ≡ None)) }
+    {
+        match self.core {
+            Some(core) => Ok(core),
+            None => Err(ReplayFault::Broken),
+        }
+    }
+}
+
+/// Makes the calls of a trace from the boot state on, by 1 to 64 workers: the replies, in the order of the trace, and
+/// the core with its page records, lists, tables and bytes are those of one thread that takes the calls in that order.
+/// `BadWorkers` for any other number of workers; `Start` where a worker could not be started, else `Memory` where a
+/// growth was refused, and then all pages are wiped.
+pub fn replay<R: Threads + Wait + Sync, G: Gate + Sync>(
+    rt: &R,
+    alloc: Global,
+    config: Config,
+    calls: &[Call],
+    workers: usize,
+    gate: &G,
+) -> Result<Outcome, ReplayFault>
+    requires { length calls.now ≤ call_limit }
+    ensures blind { IfOk result (λ outcome. ShowsNothing (boot config) calls.now outcome.replies.items outcome.core) }
+    ensures replies { IfOk result (λ outcome. outcome.replies.items ≡ replies_from (boot config) calls.now) }
+    ensures state { IfOk result (λ outcome. outcome.core ≡ state_after (boot config) calls.now) }
+    ensures workers { OnOk result ((0 < workers) × (workers ≤ 64)) }
+    ensures bad_workers { IfErr result (λ fault. (fault ≡ BadWorkers) ↔ ((workers ≡ 0) ⊎ (64 < workers))) }
+{
+    let mut replayer = Replayer::new(alloc, config, workers)?;
+    let replies = replayer.feed(rt, alloc, calls, gate)?;
+    let core = replayer.finish()?;
+    Ok(Outcome { replies, core })
+}
