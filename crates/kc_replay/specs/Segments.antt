@@ -3,7 +3,6 @@ use Rattle.std.specs.Prelude.{ℕ, ◌≡◌, ◌+◌, List, [], ◌∷◌, ◌+
 use Rattle.kc_types.specs.declared.call.Call.{Call}
 use Rattle.kc_types.specs.declared.reply.Reply.{Reply}
 use Rattle.kc_model.specs.State.{State}
-use Rattle.kc_model.specs.Blind.{ShowsNothing}
 use Rattle.kc_model.specs.Next.{replies_from, state_after}
 
 -- the state that the calls so far left, none after a segment that failed, and how many calls came
@@ -11,14 +10,13 @@ pub record Replaying : Type 0 where
   pub state : Option State
   pub fed : ℕ
 
--- a segment's replies and the state behind it are those of one thread, and show nothing
+-- the replies to some calls and the state behind them are those of one thread
 pub record IsFed (before after : Replaying) (calls : List Call) (replies : List Reply) : Type 0 where
   pub start : State
   pub from : before.state ≡ Some start
   pub given : replies ≡ replies_from start calls
   pub state : after.state ≡ Some (state_after start calls)
   pub fed : after.fed ≡ before.fed + length calls
-  pub blind : ShowsNothing start calls replies (state_after start calls)
 
 -- the replies to segments in turn, joined
 unfoldable pub replies_to_each : State → List (List Call) → List Reply

@@ -1,6 +1,7 @@
 //! A replay, whole or in segments.
 ghost use Rattle.std.specs.Prelude.{◌≡◌, ◌≢◌, ◌+◌, ◌-◌, ◌<◌, ◌≤◌, ◌⊎◌, ◌↔◌, length, Some, None, Err, OnOk, OnErr, IfOk, IfErr, IsErrOf};
 ghost use Rattle.kc_types.specs.Limits.{call_limit};
+ghost use Rattle.kc_model.specs.State.{State};
 ghost use Rattle.kc_model.specs.Blind.{ShowsNothing};
 ghost use Rattle.kc_model.specs.Boot.{boot};
 ghost use Rattle.kc_model.specs.Next.{replies_from, state_after};
@@ -112,6 +113,7 @@ impl Replayer {
     ) -> Result<Vec<Reply>, ReplayFault>
         requires { self.old.fed + length calls.now ≤ call_limit }
         ensures fed { IfOk result (λ replies. IsFed self.old self.new calls.now replies.items) }
+        ensures blind { IfOk result (λ replies. (start : State) → self.old.state ≡ Some start → ShowsNothing start calls.now replies.items (state_after start calls.now)) }
         ensures fails { OnErr result (self.new ≡ record self.old { state = None }) }
         ensures broken { IsErrOf result Broken ↔ (self.old.state ≡ None) }
         ensures workers { result ≢ Err BadWorkers }

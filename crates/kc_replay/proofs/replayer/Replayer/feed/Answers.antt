@@ -1,0 +1,19 @@
+use Rattle.std.proofs.Common.{rules, ◌≡◌, Some, ap}
+use Rattle.kc_model.specs.State.{State}
+use Rattle.kc_model.specs.Next.{state_after}
+use Rattle.kc_replay.proofs.replayer.Replayer.feed.Goals as goal
+
+pub returns-in-Ok-clause-fed : goal.returns-in-Ok-clause-fed
+returns-in-Ok-clause-fed g c = record {
+  start = c.in-Some.core;
+  from = search rules;
+  given = c.in-Ok.ensures.replies;
+  state = ap Some c.in-Ok.ensures.state;
+  fed = search rules;
+}
+
+pub returns-in-Ok-clause-blind : goal.returns-in-Ok-clause-blind
+returns-in-Ok-clause-blind g c = λ start from.
+    let before : c.args.self.now.state ≡ Some c.in-Some.core = search rules in
+    let same : c.in-Some.core ≡ start = cc in
+    rw same at (rw c.in-Ok.ensures.state at c.in-Ok.ensures.blind)
