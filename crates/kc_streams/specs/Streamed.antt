@@ -4,7 +4,16 @@ use Rattle.std.specs.Io.KnownBytes.{Consumes}
 use Rattle.kc_types.specs.Limits.{call_limit}
 use Rattle.kc_types.specs.declared.call.Call.{Call}
 use Rattle.kc_trace.specs.declared.fault.TraceFault.{TraceFault}
+use Rattle.kc_ends.specs.declared.whole.ReadFault.{ReadFault}
+use Rattle.kc_ends.specs.declared.whole.ReadFault.TheVariants as reads
+use Rattle.kc_streams.specs.declared.stream.StreamFault.{StreamFault}
+use Rattle.kc_streams.specs.declared.stream.StreamFault.TheVariants as streams
 use Rattle.kc_trace.specs.Machine.{Progress, Reader, start, feed}
+
+-- the fault that a fault of the source is
+abbrev pub stream_fault : ReadFault → StreamFault
+stream_fault reads.Memory = streams.Memory
+stream_fault reads.Read = streams.Read
 
 -- the reader of the trace, and how many bytes it was fed
 pub record Streamed : Type 0 where

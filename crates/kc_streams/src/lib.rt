@@ -8,5 +8,5 @@ mod traces;
 
 pub use piece::empty_piece;
 pub use replies::give_replies;
-pub use stream::{StreamFault, read_calls};
+pub use stream::{CallStream, Part, StreamFault, read_calls};
 pub use traces::give_trace;

@@ -156,8 +156,9 @@ pub fn read_calls<T: Source>(alloc: Global, source: &mut T) -> Result<Vec<Call>,
     ensures read { result ≡ Err StreamFault.Read → ReadFailed (T.failed source.new) (T.left source.old) (T.left source.new) }
     // Want of memory is no fault of the trace.
     ensures told { result ≢ Err (StreamFault.Trace TraceFault.Memory) }
-    // A read that failed is reported as nothing else.
+    // A read that failed is reported as nothing else, and more bytes than are read as nothing else but want of memory.
     ensures failure { T.failed source.new ≡ true → result ≡ Err StreamFault.Read }
+    ensures few { result ≢ Err StreamFault.Read → result ≢ Err StreamFault.Memory → IfSome (T.left source.old) (λ text. length text ≤ byte_limit) }
 {
     let mut stream = CallStream::new();
     let mut calls = Vec::new(alloc);
