@@ -3,6 +3,8 @@ use Rattle.std.specs.Prelude.{◌≡◌, ◌≢◌, ℕ, List, take, Option, Som
 use Rattle.std.specs.Io.KnownBytes.{Appends}
 use Rattle.kc_types.specs.Configuration.{Configuration}
 use Rattle.kc_types.specs.declared.call.Call.{Call}
+use Rattle.kc_types.specs.declared.reply.Reply.{Reply}
+use Rattle.kc_model.specs.State.{State}
 use Rattle.kc_model.specs.Boot.{boot}
 use Rattle.kc_model.specs.Next.{replies_from, state_after}
 use Rattle.kc_dump.specs.Dumping.{dump_of}
@@ -11,7 +13,9 @@ use Rattle.kc_dump_text.specs.declared.fault.DumpFault.TheVariants as dumps
 use Rattle.kc_trace.specs.ConfigText.{config_in}
 use Rattle.kc_trace.specs.Trace.{IsTrace}
 use Rattle.kc_trace.specs.ReplyText.{reply_text_of}
+use Rattle.kc_trace.specs.declared.config_text.ConfigTextFault.{ConfigTextFault}
 use Rattle.kc_trace.specs.declared.config_text.ConfigTextFault.TheVariants as configs
+use Rattle.kc_trace.specs.declared.fault.TraceFault.{TraceFault}
 use Rattle.kc_trace.specs.declared.fault.TraceFault.TheVariants as traces
 use Rattle.kc_cli.specs.declared.fault.TextFault.{TextFault}
 use Rattle.kc_cli.specs.declared.fault.TextFault.TheVariants as texts
@@ -31,12 +35,6 @@ pub record HaveRead (config_source trace_source : Option (List ℕ)) (config : C
   pub configured : IfSome config_source (λ text. config_in text ≡ Ok config)
   pub traced : IfSome trace_source (λ text. IsTrace text calls)
 
--- both texts were read, where the sources tell them
-abbrev pub AreBothRead : Option (List ℕ) → Option (List ℕ) → Type 0
-AreBothRead None trace = Unit {0}
-AreBothRead (Some config) None = Unit {0}
-AreBothRead (Some config_text) (Some trace_text) = (config : Configuration) × (calls : List Call) × AreRead config_text trace_text config calls
-
 -- want of memory is told as that, and never as a fault of a text
 abbrev pub IsTold : TextFault → Type 0
 IsTold fault = (fault ≢ texts.Config configs.Memory) × (fault ≢ texts.Trace traces.Memory) × (fault ≢ texts.Dump dumps.Memory)
@@ -49,6 +47,33 @@ pub record IsReadingFault (fault : TextFault) : Type 0 where
   pub actor : (program : ℕ) → fault ≢ texts.BadActor program
   pub write : fault ≢ texts.Write
   pub told : IsTold fault
+
+-- reading a configuration ends in no fault of a trace
+pub record IsConfigFault (fault : TextFault) : Type 0 where
+  pub reading : IsReadingFault fault
+  pub trace : (said : TraceFault) → fault ≢ texts.Trace said
+
+-- replaying a trace as it is read ends in a fault of its source, of its text, of memory or of a worker
+pub record IsReplayFault (fault : TextFault) : Type 0 where
+  pub workers : fault ≢ texts.Workers
+  pub unsettled : fault ≢ texts.Unsettled
+  pub actor : (program : ℕ) → fault ≢ texts.BadActor program
+  pub write : fault ≢ texts.Write
+  pub config : (said : ConfigTextFault) → fault ≢ texts.Config said
+  pub told : IsTold fault
+
+-- the replies and the core are those of one thread, which takes the trace's calls in order from the boot state of the configuration
+pub record IsReplayed (config : Configuration) (trace_text : List ℕ) (replies : List Reply) (core : State) : Type 0 where
+  pub calls : List Call
+  pub traced : IsTrace trace_text calls
+  pub given : replies ≡ replies_from (boot config) calls
+  pub left : core ≡ state_after (boot config) calls
+
+-- the same for what the sources held, where they tell it
+abbrev pub AreReplayed : Option (List ℕ) → Option (List ℕ) → List Reply → State → Type 0
+AreReplayed None trace replies core = Unit {0}
+AreReplayed (Some config) None replies core = Unit {0}
+AreReplayed (Some config_text) (Some trace_text) replies core = (config : Configuration) × (config_in config_text ≡ Ok config) × IsReplayed config trace_text replies core
 
 -- the text is that of the replies of one thread, which takes the trace's calls in order from the boot state of the configuration
 abbrev pub IsReplyText : List ℕ → List ℕ → List ℕ → Type 0

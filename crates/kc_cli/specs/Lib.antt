@@ -1,4 +1,5 @@
 pub mod Faults
 pub mod Engine
+pub mod Outcomes
 pub mod Live
 pub mod Audit

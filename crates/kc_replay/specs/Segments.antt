@@ -5,10 +5,11 @@ use Rattle.kc_types.specs.declared.reply.Reply.{Reply}
 use Rattle.kc_model.specs.State.{State}
 use Rattle.kc_model.specs.Next.{replies_from, state_after}
 
--- the state that the calls so far left, none after a segment that failed, and how many calls came
+-- the state that the calls so far left, none after a segment that failed, how many calls came, and how many workers may take them
 pub record Replaying : Type 0 where
   pub state : Option State
   pub fed : ℕ
+  pub workers : ℕ
 
 -- the replies to some calls and the state behind them are those of one thread
 pub record IsFed (before after : Replaying) (calls : List Call) (replies : List Reply) : Type 0 where
@@ -17,6 +18,7 @@ pub record IsFed (before after : Replaying) (calls : List Call) (replies : List 
   pub given : replies ≡ replies_from start calls
   pub state : after.state ≡ Some (state_after start calls)
   pub fed : after.fed ≡ before.fed + length calls
+  pub workers : after.workers ≡ before.workers
 
 -- the replies to segments in turn, joined
 unfoldable pub replies_to_each : State → List (List Call) → List Reply

@@ -63,7 +63,7 @@ impl Model for Replayer {
 
     ghost coded = { Prim.hlevel (codes, map.code {R = nat_cmp} coded_ℕ coded_ℕ) };
 
-    ghost view = { λ r. record { state = r.core; fed = r.fed } };
+    ghost view = { λ r. record { state = r.core; fed = r.fed; workers = r.workers } };
 
     ghost invariant = { λ r. (0 < r.workers) × (r.workers ≤ 64) × (r.fed ≤ call_limit) };
 }
@@ -72,7 +72,7 @@ impl Replayer {
     /// A replay in the boot state, by 1 to 64 workers: `BadWorkers` for any other number of them, which is judged first,
     /// and `Memory` where a growth was refused.
     pub fn new(alloc: Global, config: Config, workers: usize) -> Result<Replayer, ReplayFault>
-        ensures start { IfOk result (λ replayer. replayer ≡ record { state = Some (boot config); fed = 0 }) }
+        ensures start { IfOk result (λ replayer. replayer ≡ record { state = Some (boot config); fed = 0; workers = workers }) }
         ensures workers { OnOk result ((0 < workers) × (workers ≤ 64)) }
         ensures bad_workers { IfErr result (λ fault. (fault ≡ BadWorkers) ↔ ((workers ≡ 0) ⊎ (64 < workers))) }
         ensures whole { result ≢ Err Broken }
@@ -117,6 +117,7 @@ impl Replayer {
         ensures fails { OnErr result (self.new ≡ record self.old { state = None }) }
         ensures broken { IsErrOf result Broken ↔ (self.old.state ≡ None) }
         ensures workers { result ≢ Err BadWorkers }
+        ensures started { result ≡ Err ReplayFault.Start → 1 < self.old.workers }
     {
         let Some(core) = self.core.take() else {
             return Err(ReplayFault::Broken);

@@ -1,5 +1,5 @@
 //! The calls of a trace, or of a segment of one, from a core on.
-ghost use Rattle.std.specs.Prelude.{◌≡◌, ℕ, ◌≤◌, List, length, OnOk, IfOk};
+ghost use Rattle.std.specs.Prelude.{◌≡◌, ◌≢◌, ℕ, ◌<◌, ◌≤◌, List, length, Err, OnOk, IfOk};
 ghost use Rattle.std.specs.List.Sorted.{IsPermutation};
 ghost use Rattle.kc_types.specs.Limits.{call_limit};
 ghost use Rattle.kc_model.specs.Blind.{ShowsNothing};
@@ -292,6 +292,7 @@ fn answer_in_order<R: Threads + Sync, G: Gate>(
     ensures blind { IfOk result (λ outcome. ShowsNothing core calls.now outcome.replies.items outcome.core) }
     ensures replies { IfOk result (λ outcome. outcome.replies.items ≡ replies_from core calls.now) }
     ensures state { IfOk result (λ outcome. outcome.core ≡ state_after core calls.now) }
+    ensures alone { result ≢ Err ReplayFault.Start }
 {
     read_all_numbers(calls);
     let mut core = core;
@@ -334,6 +335,7 @@ pub(crate) fn answer_segment<R: Threads + Wait + Sync, G: Gate + Sync>(
     ensures blind { IfOk result (λ outcome. ShowsNothing core calls.now outcome.replies.items outcome.core) }
     ensures replies { IfOk result (λ outcome. outcome.replies.items ≡ replies_from core calls.now) }
     ensures state { IfOk result (λ outcome. outcome.core ≡ state_after core calls.now) }
+    ensures started { result ≡ Err ReplayFault.Start → 1 < workers }
 {
     if workers > 1 && calls.len() > 1 && (gate.may_wait() || hash_twice(calls)) {
         return answer_by_waves(rt, alloc, core, calls, workers, gate);

@@ -10,6 +10,7 @@ returns-in-Ok-clause-fed g c = record {
   given = c.in-Ok.ensures.replies;
   state = ap Some c.in-Ok.ensures.state;
   fed = search rules;
+  workers = search rules;
 }
 
 pub returns-in-Ok-clause-blind : goal.returns-in-Ok-clause-blind
