@@ -1,4 +1,5 @@
 pub mod Faulted
 pub mod Begun
-pub mod Made
 pub mod Reported
+pub mod Told
+pub mod Fed

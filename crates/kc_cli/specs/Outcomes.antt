@@ -17,6 +17,9 @@ pub record Seen : Type 0 where
   pub had : Option (List ℕ)
   pub has : Option (List ℕ)
 
+abbrev pub seen : Bool → Option (List ℕ) → Option (List ℕ) → Seen
+seen failed had has = record { failed = failed; had = had; has = has }
+
 -- reading one of them failed
 abbrev pub HasFailedRead : List Seen → Type 0
 HasFailedRead [] = ⊥
@@ -37,8 +40,8 @@ pub record TellsSources {A : Type 0} (sources : List Seen) (result : Result A Te
 -- `unread` says that nothing was read of the trace
 pub record TellsTexts {A : Type 0} (config trace : Seen) (unread : Type 0) (result : Result A TextFault) : Type 0 where
   -- the fault of a text is that of all the bytes that its source held
-  pub config : (fault : ConfigTextFault) → result ≡ Err (texts.Config fault) → IfSome config.had (λ text. config_in text ≡ Err fault) × IsAtEnd config.has × unread
-  pub trace : (fault : TraceFault) → result ≡ Err (texts.Trace fault) → IfSome trace.had (λ text. IsRefused text fault) × IsAtEnd trace.has
+  pub config_fault : (fault : ConfigTextFault) → result ≡ Err (texts.Config fault) → IfSome config.had (λ text. config_in text ≡ Err fault) × IsAtEnd config.has × unread
+  pub trace_fault : (fault : TraceFault) → result ≡ Err (texts.Trace fault) → IfSome trace.had (λ text. IsRefused text fault) × IsAtEnd trace.has
   -- the trace is read and judged only behind a configuration
   pub behind : unread ⊎ IsConfigured config.had
   pub configured : (fault : TraceFault) → result ≡ Err (texts.Trace fault) → IsConfigured config.had

@@ -1,10 +1,11 @@
 //! The engine that audits a dump, over any ends.
-ghost use Rattle.std.specs.Prelude.{◌≡◌, ◌≢◌, ◌≤◌, ◌⊎◌, length, false, true, IfOk, IfErr, IfSome, OnOk, OnErr, Err};
+ghost use Rattle.std.specs.Prelude.{◌≡◌, ◌≤◌, ◌⊎◌, ◌∷◌, [], length, false, IfOk, IfErr, IfSome, Err};
 ghost use Rattle.std.specs.Io.KnownBytes.{IsAtEnd};
 ghost use Rattle.kc_dump_text.specs.declared.fault.DumpFault.{DumpFault};
 ghost use Rattle.kc_dump_text.specs.Refused.{IsRefused};
-ghost use Rattle.kc_ends.specs.Ends.{ReadFailed, byte_limit};
+ghost use Rattle.kc_ends.specs.Ends.{byte_limit};
 ghost use Rattle.kc_cli.specs.Audit.{IsAudited, Audits, BeginsAudit, IsDumpFault};
+ghost use Rattle.kc_cli.specs.Outcomes.{seen, TellsSources, TellsSink};
 
 use crate::TextFault;
 use arrayvec::ArrayString;
@@ -46,22 +47,14 @@ pub fn audit_text<D: Source, K: Sink>(
     requires dump { D.failed dump.old ≡ false }
     requires out { K.failed out.old ≡ false }
 
-    // What is written is the report of the dump that the source held, of which nothing is left.
+    // What is written is the report of the dump that the source held.
     ensures ok { IfOk result (λ sound. Audits (D.left dump.old) sound (K.taken out.old) (K.taken out.new)) }
-    ensures ended { OnOk result (IsAtEnd (D.left dump.new)) }
+    ensures sources { TellsSources (seen (D.failed dump.new) (D.left dump.old) (D.left dump.new) ∷ []) result }
+    ensures sink { TellsSink (K.failed out.new) (BeginsAudit (D.left dump.old) (K.taken out.old) (K.taken out.new)) (out.new ≡ out.old) result }
 
-    // Each fault is that of all the bytes that the source held, and no other fault comes.
+    // A fault of the dump is that of all the bytes that the source held, and no other fault comes.
     ensures dump { (fault : DumpFault) → result ≡ Err (TextFault.Dump fault) → IfSome (D.left dump.old) (λ text. IsRefused text fault) × IsAtEnd (D.left dump.new) }
-    ensures read { result ≡ Err TextFault.Read → ReadFailed (D.failed dump.new) (D.left dump.old) (D.left dump.new) }
-    ensures write { result ≡ Err TextFault.Write → (K.failed out.new ≡ true) × BeginsAudit (D.left dump.old) (K.taken out.old) (K.taken out.new) }
     ensures others { IfErr result (λ fault. IsDumpFault fault ⊎ ((fault ≡ TextFault.Read) ⊎ (fault ≡ TextFault.Write))) }
-
-    // An end that failed is reported as that and as nothing else.
-    ensures source { D.failed dump.new ≡ true → result ≡ Err TextFault.Read }
-    ensures sink { K.failed out.new ≡ true → result ≡ Err TextFault.Write }
-
-    // Every fault but that of a write leaves the sink as it was.
-    ensures untouched { OnErr result ((out.new ≡ out.old) ⊎ (result ≡ Err TextFault.Write)) }
 {
     let text = read_whole(alloc, dump)?;
     let (sound, line) = audited(rt, alloc, &text)?;

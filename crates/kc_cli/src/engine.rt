@@ -1,93 +1,50 @@
 //! The engine that replays a trace, over any ends.
-ghost use Rattle.std.specs.Prelude.{◌≡◌, ◌≢◌, ◌<◌, ◌≤◌, ◌⊎◌, ◌↔◌, ℕ, length, true, false, IfOk, IfErr, IfSome, OnOk, OnErr, Err, IsErrOf};
-ghost use Rattle.std.specs.Io.KnownBytes.{IsAtEnd};
-ghost use Rattle.kc_types.specs.Limits.{call_limit};
-ghost use Rattle.kc_model.specs.Boot.{boot};
-ghost use Rattle.kc_model.specs.Next.{replies_from};
-ghost use Rattle.kc_trace.specs.declared.config_text.ConfigTextFault.{ConfigTextFault};
-ghost use Rattle.kc_trace.specs.declared.fault.TraceFault.{TraceFault};
-ghost use Rattle.kc_trace.specs.ConfigText.{config_in};
-ghost use Rattle.kc_trace.specs.Trace.{IsRefused};
+ghost use Rattle.std.specs.Prelude.{◌≡◌, ◌≢◌, ◌⊎◌, ◌∷◌, [], ℕ, take, false, IfErr, OnOk, OnErr, Err};
+ghost use Rattle.std.specs.Io.KnownBytes.{Appends};
 ghost use Rattle.kc_trace.specs.ReplyText.{reply_text_of};
-ghost use Rattle.kc_ends.specs.Ends.{ReadFailed};
-ghost use Rattle.kc_cli.specs.Engine.{IsConfigured, IsTold, AreBothRead, IsReplyText, Gives, Begins};
+ghost use Rattle.kc_cli.specs.Engine.{IsReplyText, Gives, Begins};
+ghost use Rattle.kc_cli.specs.Outcomes.{seen, TellsSources, TellsTexts, TellsReplay, TellsSink};
 
 use crate::TextFault;
-use crate::reading::read_both;
-use kc_core::KCore;
+use crate::replaying::replay_texts;
 use kc_ends::{Sink, Source};
-use kc_replay::{OpenGate, Outcome, ReplayFault, replay};
+use kc_replay::Outcome;
 use kc_streams::{empty_piece, give_replies};
-use kc_types::{Call, Config, Memory, Reply};
 use std::alloc::Global;
 use std::sync::Wait;
 use std::thread::Threads;
 
-/// The replies to some calls, which this thread makes in their order. The core is wiped before it goes, whatever the
-/// outcome.
-fn replies_in_order(
+/// Wipes the core of an outcome and gives the text of its replies.
+fn give_outcome<K: Sink>(
     rt: &(impl Threads + Sync),
     alloc: Global,
-    config: Config,
-    calls: Vec<Call>,
-) -> Result<Vec<Reply>, Memory>
-    ensures { IfOk result (λ replies. replies.items ≡ replies_from (boot config) calls.items) }
+    outcome: Outcome,
+    out: &mut K,
+) -> Result<(), TextFault>
+    requires { K.failed out.old ≡ false }
+    ensures ok { OnOk result (Appends (K.taken out.old) (K.taken out.new) (reply_text_of outcome.replies.items)) }
+    ensures sink { TellsSink (K.failed out.new) ((n : ℕ) × Appends (K.taken out.old) (K.taken out.new) (take n (reply_text_of outcome.replies.items))) (out.new ≡ out.old) result }
+    ensures fault { IfErr result (λ fault. (fault ≡ TextFault.Memory) ⊎ (fault ≡ TextFault.Write)) }
 {
-    let mut core = KCore::boot(alloc, config)?;
-    let outcome = core.answer_all(alloc, calls);
+    let Outcome { replies, core } = outcome;
+    let mut core = core;
     core.wipe(rt);
-    outcome
-}
-
-/// The replies to some calls, which so many workers make. The core is wiped before it goes, whatever the outcome.
-fn replies_by_workers<R: Threads + Wait + Sync>(
-    rt: &R,
-    alloc: Global,
-    config: Config,
-    calls: &[Call],
-    workers: u32,
-) -> Result<Vec<Reply>, TextFault>
-    requires workers { (0 < workers) × (workers ≤ 64) }
-    requires short { length calls.now ≤ call_limit }
-    ensures replies { IfOk result (λ replies. replies.items ≡ replies_from (boot config) calls.now) }
-    ensures fault { IfErr result (λ fault. (fault ≡ TextFault.Memory) ⊎ (fault ≡ TextFault.Start)) }
-{
-    match replay(rt, alloc, config, calls, workers as usize, &OpenGate) {
-        Ok(outcome) => {
-            let Outcome { replies, mut core } = outcome;
-            core.wipe(rt);
-            Ok(replies)
-        },
-        Err(ReplayFault::Start) => Err(TextFault::Start),
-        Err(_) => Err(TextFault::Memory),
+    // All memory that writing takes is there before the first byte is written.
+    let Ok(piece) = empty_piece(alloc) else {
+        return Err(TextFault::Memory);
+    };
+    match give_replies(out, piece, &replies) {
+        Ok(()) => Ok(()),
+        Err(_) => Err(TextFault::Write),
     }
-}
-
-/// The replies to some calls, which 1 to 64 workers make.
-fn replies_to<R: Threads + Wait + Sync>(
-    rt: &R,
-    alloc: Global,
-    config: Config,
-    calls: Vec<Call>,
-    workers: u32,
-) -> Result<Vec<Reply>, TextFault>
-    requires workers { (0 < workers) × (workers ≤ 64) }
-    requires short { length calls.items ≤ call_limit }
-    ensures replies { IfOk result (λ replies. replies.items ≡ replies_from (boot config) calls.items) }
-    ensures fault { IfErr result (λ fault. (fault ≡ TextFault.Memory) ⊎ (fault ≡ TextFault.Start)) }
-    ensures started { workers ≡ 1 → result ≢ Err TextFault.Start }
-{
-    if workers == 1 {
-        return replies_in_order(rt, alloc, config, calls).map_err(|_| TextFault::Memory);
-    }
-    replies_by_workers(rt, alloc, config, &calls, workers)
 }
 
 /// Reads a configuration and a trace, each to its end, and writes the reply text of the trace, whose calls 1 to 64
-/// workers make. The number of workers is judged before anything is read.
+/// workers make as they are read, at most 4,096 in a segment. The number of workers is judged before anything is read.
 ///
-/// Nothing is written but after the whole trace was read and answered. A source that fails, or that has more
-/// than 1,073,741,824 bytes, is `Read`, also where its bytes so far are refused already.
+/// Nothing is written but after the whole trace was read and answered. A source that fails, or that has more than
+/// 1,073,741,824 bytes, is `Read`, also where its bytes so far are refused already. Want of memory or a worker that cannot be
+/// started is told before a fault of the trace that stands further on.
 pub fn replay_text<C: Source, T: Source, K: Sink, R: Threads + Wait + Sync>(
     rt: &R,
     alloc: Global,
@@ -100,42 +57,13 @@ pub fn replay_text<C: Source, T: Source, K: Sink, R: Threads + Wait + Sync>(
     requires trace { T.failed trace.old ≡ false }
     requires out { K.failed out.old ≡ false }
 
-    // What is written is the reply text of what the sources held, and nothing of them is left.
+    // What is written is the reply text of what the sources held.
     ensures ok { OnOk result (Gives IsReplyText (C.left config.old) (T.left trace.old) (K.taken out.old) (K.taken out.new)) }
-    ensures ended { OnOk result (IsAtEnd (C.left config.new) × IsAtEnd (T.left trace.new)) }
-
-    // Each fault is that of all the bytes that its source held, and comes where it should.
-    ensures workers { IsErrOf result TextFault.Workers ↔ ((workers ≡ 0) ⊎ (64 < workers)) }
-    ensures config { (fault : ConfigTextFault) → result ≡ Err (TextFault.Config fault) → IfSome (C.left config.old) (λ text. config_in text ≡ Err fault) × IsAtEnd (C.left config.new) × (trace.new ≡ trace.old) }
-    ensures trace { (fault : TraceFault) → result ≡ Err (TextFault.Trace fault) → IfSome (T.left trace.old) (λ text. IsRefused text fault) × IsAtEnd (T.left trace.new) }
-    ensures read { result ≡ Err TextFault.Read → ReadFailed (C.failed config.new) (C.left config.old) (C.left config.new) ⊎ ReadFailed (T.failed trace.new) (T.left trace.old) (T.left trace.new) }
-    ensures write { result ≡ Err TextFault.Write → (K.failed out.new ≡ true) × Begins IsReplyText (C.left config.old) (T.left trace.old) (K.taken out.old) (K.taken out.new) }
-
-    // An end that failed is reported as that and as nothing else.
-    ensures source { (C.failed config.new ≡ true) ⊎ (T.failed trace.new ≡ true) → result ≡ Err TextFault.Read }
-    ensures sink { K.failed out.new ≡ true → result ≡ Err TextFault.Write }
-
-    // The trace is read and judged only behind a configuration, a worker is started only behind both and where there is
-    // more than one, and no fault of a live run comes.
-    ensures behind { (trace.new ≡ trace.old) ⊎ IsConfigured (C.left config.old) }
-    ensures configured { (fault : TraceFault) → result ≡ Err (TextFault.Trace fault) → IsConfigured (C.left config.old) }
-    ensures started { result ≡ Err TextFault.Start → (1 < workers) × AreBothRead (C.left config.old) (T.left trace.old) }
-    ensures others { OnErr result ((result ≢ Err TextFault.Unsettled) × ((program : ℕ) → result ≢ Err (TextFault.BadActor program))) }
-
-    // Want of memory is told as that, and never as a fault of a text.
-    ensures told { IfErr result IsTold }
-
-    // Every fault but that of a write leaves the sink as it was.
-    ensures untouched { OnErr result ((out.new ≡ out.old) ⊎ (result ≡ Err TextFault.Write)) }
+    ensures sources { TellsSources (seen (C.failed config.new) (C.left config.old) (C.left config.new) ∷ seen (T.failed trace.new) (T.left trace.old) (T.left trace.new) ∷ []) result }
+    ensures texts { TellsTexts (seen (C.failed config.new) (C.left config.old) (C.left config.new)) (seen (T.failed trace.new) (T.left trace.old) (T.left trace.new)) (trace.new ≡ trace.old) result }
+    ensures replay { TellsReplay workers (C.left config.old) result }
+    ensures sink { TellsSink (K.failed out.new) (Begins IsReplyText (C.left config.old) (T.left trace.old) (K.taken out.old) (K.taken out.new)) (out.new ≡ out.old) result }
 {
-    if workers == 0 || workers > 64 {
-        return Err(TextFault::Workers);
-    }
-    let (config, calls) = read_both(alloc, config, trace)?;
-    let replies = replies_to(rt, alloc, config, calls, workers)?;
-    // All memory that writing takes is there before the first byte is written.
-    let Ok(piece) = empty_piece(alloc) else {
-        return Err(TextFault::Memory);
-    };
-    give_replies(out, piece, &replies).map_err(|_| TextFault::Write)
+    let outcome = replay_texts(rt, alloc, config, trace, workers)?;
+    give_outcome(rt, alloc, outcome, out)
 }

@@ -7,6 +7,7 @@ mod engine;
 mod fault;
 mod live;
 mod reading;
+mod replaying;
 mod telling;
 
 pub use auditing::audit_text;

@@ -1,18 +1,15 @@
 //! The engine that runs a trace live, over any ends.
-ghost use Rattle.std.specs.Prelude.{◌≡◌, ◌≢◌, ◌<◌, ◌≤◌, ◌⊎◌, ◌↔◌, ℕ, length, map, false, true, IfOk, IfErr, IfSome, OnOk, OnErr, Err, IsErrOf};
-ghost use Rattle.std.specs.Io.KnownBytes.{IsAtEnd};
+ghost use Rattle.std.specs.Prelude.{◌≡◌, ◌≢◌, ◌<◌, ◌≤◌, ◌⊎◌, ◌↔◌, ◌∷◌, [], ℕ, length, map, take, false, IfOk, IfErr, OnOk, OnErr, Err, IsErrOf};
+ghost use Rattle.std.specs.Io.KnownBytes.{Appends};
 ghost use Rattle.kc_types.specs.Limits.{call_limit};
 ghost use Rattle.kc_model.specs.Boot.{boot};
 ghost use Rattle.kc_model.specs.Next.{state_after};
 ghost use Rattle.kc_model.specs.Wiped.{wiped};
 ghost use Rattle.kc_live.specs.Cuts.{KeepsOrders, MayRun};
 ghost use Rattle.kc_history.specs.Logs.{calls_of};
-ghost use Rattle.kc_trace.specs.declared.config_text.ConfigTextFault.{ConfigTextFault};
-ghost use Rattle.kc_trace.specs.declared.fault.TraceFault.{TraceFault};
-ghost use Rattle.kc_trace.specs.ConfigText.{config_in};
-ghost use Rattle.kc_trace.specs.Trace.{IsRefused};
-ghost use Rattle.kc_ends.specs.Ends.{ReadFailed};
-ghost use Rattle.kc_cli.specs.Engine.{IsConfigured, IsTold, Gives, Begins};
+ghost use Rattle.kc_trace.specs.Spelling.{trace_of};
+ghost use Rattle.kc_cli.specs.Engine.{Gives, Begins};
+ghost use Rattle.kc_cli.specs.Outcomes.{seen, TellsSources, TellsTexts, TellsSink};
 ghost use Rattle.kc_cli.specs.Faults.{live_fault};
 ghost use Rattle.kc_cli.specs.Live.{IsLiveFault, CouldRun, IsLiveText, HasBadActor};
 
@@ -150,6 +147,23 @@ fn made_live<G: Gate + Sync, R: Threads + Wait + Sync>(
     }
 }
 
+/// Gives the trace of some calls.
+fn give_made<K: Sink>(alloc: Global, made: Vec<Call>, out: &mut K) -> Result<(), TextFault>
+    requires { K.failed out.old ≡ false }
+    ensures ok { OnOk result (Appends (K.taken out.old) (K.taken out.new) (trace_of made.items)) }
+    ensures sink { TellsSink (K.failed out.new) ((n : ℕ) × Appends (K.taken out.old) (K.taken out.new) (take n (trace_of made.items))) (out.new ≡ out.old) result }
+    ensures fault { IfErr result (λ fault. (fault ≡ TextFault.Memory) ⊎ (fault ≡ TextFault.Write)) }
+{
+    // All memory that writing takes is there before the first byte is written.
+    let Ok(piece) = empty_piece(alloc) else {
+        return Err(TextFault::Memory);
+    };
+    match give_trace(out, piece, &made) {
+        Ok(()) => Ok(()),
+        Err(_) => Err(TextFault::Write),
+    }
+}
+
 /// Reads a configuration and a trace, each to its end, makes the trace's calls live, each actor's in a thread of its
 /// own, has 1 to 64 workers replay the history, and writes it as a trace. The number of workers is judged before anything
 /// is read.
@@ -169,44 +183,22 @@ pub fn live_text<C: Source, T: Source, K: Sink, G: Gate + Sync, R: Threads + Wai
     requires trace { T.failed trace.old ≡ false }
     requires out { K.failed out.old ≡ false }
 
-    // What is written is the trace read, which may run, in an order that keeps each actor's, and nothing of the sources
-    // is left.
+    // What is written is the trace read, which may run, in an order that keeps each actor's.
     ensures ok { OnOk result (Gives IsLiveText (C.left config.old) (T.left trace.old) (K.taken out.old) (K.taken out.new)) }
-    ensures ended { OnOk result (IsAtEnd (C.left config.new) × IsAtEnd (T.left trace.new)) }
+    ensures sources { TellsSources (seen (C.failed config.new) (C.left config.old) (C.left config.new) ∷ seen (T.failed trace.new) (T.left trace.old) (T.left trace.new) ∷ []) result }
+    ensures texts { TellsTexts (seen (C.failed config.new) (C.left config.old) (C.left config.new)) (seen (T.failed trace.new) (T.left trace.old) (T.left trace.new)) (trace.new ≡ trace.old) result }
+    ensures sink { TellsSink (K.failed out.new) (Begins IsLiveText (C.left config.old) (T.left trace.old) (K.taken out.old) (K.taken out.new)) (out.new ≡ out.old) result }
 
-    // Each fault is that of all the bytes that its source held, and comes where it should.
+    // The run comes only behind both texts, and only of a trace that may run.
     ensures workers { IsErrOf result TextFault.Workers ↔ ((workers ≡ 0) ⊎ (64 < workers)) }
-    ensures config { (fault : ConfigTextFault) → result ≡ Err (TextFault.Config fault) → IfSome (C.left config.old) (λ text. config_in text ≡ Err fault) × IsAtEnd (C.left config.new) × (trace.new ≡ trace.old) }
-    ensures trace { (fault : TraceFault) → result ≡ Err (TextFault.Trace fault) → IfSome (T.left trace.old) (λ text. IsRefused text fault) × IsAtEnd (T.left trace.new) }
     ensures actor { (program : ℕ) → result ≡ Err (TextFault.BadActor program) → HasBadActor (C.left config.old) (T.left trace.old) program }
-    ensures read { result ≡ Err TextFault.Read → ReadFailed (C.failed config.new) (C.left config.old) (C.left config.new) ⊎ ReadFailed (T.failed trace.new) (T.left trace.old) (T.left trace.new) }
-    ensures write { result ≡ Err TextFault.Write → (K.failed out.new ≡ true) × Begins IsLiveText (C.left config.old) (T.left trace.old) (K.taken out.old) (K.taken out.new) }
-
-    // An end that failed is reported as that and as nothing else.
-    ensures source { (C.failed config.new ≡ true) ⊎ (T.failed trace.new ≡ true) → result ≡ Err TextFault.Read }
-    ensures sink { K.failed out.new ≡ true → result ≡ Err TextFault.Write }
-
-    // The trace is read and judged only behind a configuration, the run only behind both, and only of a trace that may
-    // run.
-    ensures behind { (trace.new ≡ trace.old) ⊎ IsConfigured (C.left config.old) }
-    ensures configured { (fault : TraceFault) → result ≡ Err (TextFault.Trace fault) → IsConfigured (C.left config.old) }
     ensures started { result ≡ Err TextFault.Start → CouldRun (C.left config.old) (T.left trace.old) }
     ensures unsettled { result ≡ Err TextFault.Unsettled → CouldRun (C.left config.old) (T.left trace.old) }
-
-    // Want of memory is told as that, and never as a fault of a text.
-    ensures told { IfErr result IsTold }
-
-    // Every fault but that of a write leaves the sink as it was.
-    ensures untouched { OnErr result ((out.new ≡ out.old) ⊎ (result ≡ Err TextFault.Write)) }
 {
     if workers == 0 || workers > 64 {
         return Err(TextFault::Workers);
     }
     let (config, calls) = read_both(alloc, config, trace)?;
     let made = made_live(rt, alloc, config, calls, workers, gate)?;
-    // All memory that writing takes is there before the first byte is written.
-    let Ok(piece) = empty_piece(alloc) else {
-        return Err(TextFault::Memory);
-    };
-    give_trace(out, piece, &made).map_err(|_| TextFault::Write)
+    give_made(alloc, made, out)
 }

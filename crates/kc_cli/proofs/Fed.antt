@@ -1,0 +1,62 @@
+-- Calls that are fed after others.
+use Rattle.std.proofs.Common.{◌≡◌, ◌++◌, ◌∷◌, ◌+◌, ◌≤◌, ◌∙◌, ℕ, zero, suc, take, drop, List, [], length, Option, Some, None, refl, ap, sym, arith, length-append}
+use Rattle.std.specs.Prelude.{IsSome, IfSome}
+use Rattle.kc_types.specs.Limits.{call_limit}
+use Rattle.kc_types.specs.declared.call.Call.{Call}
+use Rattle.kc_types.specs.declared.reply.Reply.{Reply}
+use Rattle.kc_types.specs.Configuration.{Configuration}
+use Rattle.kc_model.specs.State.{State}
+use Rattle.kc_model.specs.Boot.{boot}
+use Rattle.kc_trace.specs.Trace.{IsTrace}
+use Rattle.kc_cli.specs.Engine.{IsReplayed}
+use Rattle.kc_model.specs.Next.{replies_from, state_after}
+use Rattle.kc_model.proofs.Runs.{replies_from-append, state_after-append}
+use Rattle.kc_replay.specs.Segments.{Replaying, IsFed}
+
+some_is : {X : Type 0} (x y : X) → Some x ≡ Some y → x ≡ y
+some_is x y e = cc
+
+-- nothing is fed
+pub fed_none : (r : Replaying) → IsSome r.state → IsFed r r [] []
+fed_none r whole = by_state r.state refl whole
+  where
+    by_state : (state : Option State) → r.state ≡ state → IsSome state → IsFed r r [] []
+    by_state (Some m) is whole = record { start = m; from = is; given = refl; state = is; fed = omega arith; workers = refl }
+    by_state None is whole = absurd cc
+
+pub fed_more : (a b c : Replaying) (xs ys : List Call) (rs ss : List Reply) → IsFed a b xs rs → IsFed b c ys ss → IsFed a c (xs ++ ys) (rs ++ ss)
+fed_more a b c xs ys rs ss h k =
+    let middle : k.start ≡ state_after h.start xs = some_is k.start (state_after h.start xs) (sym k.from ∙ h.state) in
+    record {
+      start = h.start;
+      from = h.from;
+      given = ap (λ out. out ++ ss) h.given ∙ ap (λ out. replies_from h.start xs ++ out) (k.given ∙ ap (λ (m : State). replies_from m ys) middle) ∙ sym (replies_from-append h.start xs ys);
+      state = k.state ∙ ap (λ (m : State). Some (state_after m ys)) middle ∙ ap Some (sym (state_after-append h.start xs ys));
+      fed = omega (arith, h.fed, k.fed, length-append xs ys);
+      workers = k.workers ∙ h.workers;
+    }
+
+pub still_whole : (a b : Replaying) (calls : List Call) (given : List Reply) → IsFed a b calls given → IsSome b.state
+still_whole a b calls given h = rw h.state refl
+
+pub front_and_rest : (n : ℕ) (calls : List Call) → calls ≡ take n calls ++ drop n calls
+front_and_rest zero calls = refl
+front_and_rest (suc n) [] = refl
+front_and_rest (suc n) (call ∷ calls) = ap (λ rest. call ∷ rest) (front_and_rest n calls)
+
+pub calls_known : (first : Option (List ℕ)) (a b : Replaying) (calls : List Call) (given : List Reply) → IfSome first (λ text. IsTrace text calls) → IsFed a b calls given → IfSome first (λ text. (made : List Call) × IsTrace text made × IsFed a b made given)
+calls_known None a b calls given traced fed = tt
+calls_known (Some text) a b calls given traced fed = (calls, traced, fed)
+
+pub replayed : (first : Option (List ℕ)) (config : Configuration) (a b : Replaying) (given : List Reply) (core : State) → a.state ≡ Some (boot config) → b.state ≡ Some core
+    → IfSome first (λ text. (calls : List Call) × IsTrace text calls × IsFed a b calls given) → IfSome first (λ text. IsReplayed config text given core)
+replayed None config a b given core from to h = tt
+replayed (Some text) config a b given core from to h =
+    let fed = h.2 in
+    let start : fed.start ≡ boot config = some_is fed.start (boot config) (sym fed.from ∙ from) in
+    record {
+      calls = h.0;
+      traced = h.1;
+      given = fed.given ∙ ap (λ (m : State). replies_from m h.0) start;
+      left = some_is core (state_after (boot config) h.0) (sym to ∙ fed.state ∙ ap (λ (m : State). Some (state_after m h.0)) start);
+    }

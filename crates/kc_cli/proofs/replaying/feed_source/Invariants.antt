@@ -1,0 +1,19 @@
+use Rattle.std.proofs.Common.{◌≡◌, ◌≤◌, ◌-◌, ℕ, List, false}
+use Rattle.std.specs.Prelude.{IsSome}
+use Rattle.kc_types.specs.declared.call.Call.{Call}
+use Rattle.kc_ends.specs.Ends.{byte_limit}
+use Rattle.kc_streams.specs.Streamed.{HasRead}
+use Rattle.kc_replay.specs.Segments.{IsFed}
+use Rattle.kc_cli.proofs.replaying.feed_source.Given as goal
+
+abbrev pub invariant-loop-replies : goal.invariant-loop-replies
+invariant-loop-replies g l = record {
+  read : (bytes : List ℕ) × (calls : List Call) × HasRead l.stream bytes calls (g.T.Source.left l.fn.trace) (g.T.Source.left l.trace) × IsFed l.fn.replayer l.replayer calls l.replies.items;
+  few : l.stream.total ≤ byte_limit;
+  mark : g.T.Source.failed l.trace ≡ false;
+  whole : IsSome l.replayer.state;
+  workers : l.replayer.workers ≡ l.fn.replayer.workers;
+}
+
+abbrev pub decreases-loop-replies : goal.decreases-loop-replies
+decreases-loop-replies g l = byte_limit - l.stream.total
