@@ -1,5 +1,8 @@
 -- Which fault of reading a fault of the engine is.
-use Rattle.std.proofs.Common.{◌≡◌, ap}
+use Rattle.std.proofs.Common.{◌≡◌, ◌≢◌, ap}
+use Rattle.kc_trace.specs.declared.config_text.ConfigTextFault.{ConfigTextFault}
+use Rattle.kc_trace.specs.declared.fault.TraceFault.TheVariants.{Memory}
+use Rattle.kc_cli.specs.Engine.{IsTold}
 use Rattle.kc_trace.specs.declared.fault.TraceFault.{TraceFault}
 use Rattle.kc_streams.specs.declared.stream.StreamFault.{StreamFault}
 use Rattle.kc_streams.specs.declared.stream.StreamFault.TheVariants as streams
@@ -11,3 +14,13 @@ pub trace_said : (said : StreamFault) (fault : TraceFault) → stream_fault said
 trace_said (streams.Trace other) fault e = let same : other ≡ fault = cc in ap streams.Trace same
 trace_said streams.Memory fault e = cc
 trace_said streams.Read fault e = cc
+
+pub stream_config : (said : StreamFault) (fault : ConfigTextFault) → stream_fault said ≢ texts.Config fault
+stream_config (streams.Trace other) fault e = cc
+stream_config streams.Memory fault e = cc
+stream_config streams.Read fault e = cc
+
+pub stream_told : (said : StreamFault) → said ≢ streams.Trace Memory → IsTold (stream_fault said)
+stream_told (streams.Trace other) h = (λ e. cc, λ e. let same : other ≡ Memory = cc in h (ap streams.Trace same), λ e. cc)
+stream_told streams.Memory h = (λ e. cc, λ e. cc, λ e. cc)
+stream_told streams.Read h = (λ e. cc, λ e. cc, λ e. cc)

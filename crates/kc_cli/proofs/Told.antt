@@ -1,7 +1,10 @@
 -- What is told of the ends stays so in the last step of an engine.
-use Rattle.std.proofs.Common.{◌≡◌, ◌⊎◌, ℕ, Bool, List, Option, Some, None, Result, Ok, Err, take, ap, inl, inr}
+use Rattle.std.proofs.Common.{◌≡◌, ◌≢◌, ◌⊎◌, ℕ, Bool, List, Option, Some, None, Result, Ok, Err, take, ap, inl, inr}
 use Rattle.std.specs.Prelude.{IfErr, IfSome}
-use Rattle.std.specs.Io.KnownBytes.{Appends}
+use Rattle.std.specs.Io.KnownBytes.{Appends, IsAtEnd}
+use Rattle.kc_trace.specs.declared.config_text.ConfigTextFault.{ConfigTextFault}
+use Rattle.kc_trace.specs.declared.fault.TraceFault.{TraceFault}
+use Rattle.kc_trace.specs.Trace.{IsRefused}
 use Rattle.kc_types.specs.Configuration.{Configuration}
 use Rattle.kc_types.specs.declared.reply.Reply.{Reply}
 use Rattle.kc_model.specs.State.{State}
@@ -9,7 +12,7 @@ use Rattle.kc_trace.specs.ConfigText.{config_in}
 use Rattle.kc_trace.specs.ReplyText.{reply_text_of}
 use Rattle.kc_dump.specs.Dumping.{dump_of}
 use Rattle.kc_dump_text.specs.DumpText.{dump_text}
-use Rattle.kc_cli.specs.Engine.{IsReplayed, AreReplayed, IsReplyText, IsStateText, Gives, Begins}
+use Rattle.kc_cli.specs.Engine.{IsConfigured, IsConfigFault, IsTold, IsReplayed, AreReplayed, IsReplyText, IsStateText, Gives, Begins}
 use Rattle.kc_cli.specs.Outcomes.{Seen, TellsSources, TellsTexts, TellsReplay, TellsSink}
 use Rattle.kc_cli.specs.declared.fault.TextFault.{TextFault}
 use Rattle.kc_cli.specs.declared.fault.TextFault.TheVariants as texts
@@ -92,3 +95,30 @@ begins_state (Some config) None old new replies core h taken = tt
 begins_state (Some config) (Some trace) old new replies core h taken =
     let r = h.2 in
     (dump_text (dump_of core), taken.0, (h.0, r.calls, record { configured = h.1; traced = r.traced }, ap (λ (m : State). dump_text (dump_of m)) r.left), taken.1)
+
+-- ---- faults of the texts
+
+configured_is : (had : Option (List ℕ)) (config : Configuration) → IfSome had (λ text. config_in text ≡ Ok config) → IsConfigured had
+configured_is None config h = tt
+configured_is (Some text) config h = (config, h)
+
+-- the configuration was refused
+pub texts_config : {A : Type 0} (config trace : Seen) (unread : Type 0) (f : TextFault) → ((said : ConfigTextFault) → f ≡ texts.Config said → IfSome config.had (λ text. config_in text ≡ Err said) × IsAtEnd config.has) → IsConfigFault f → unread → TellsTexts {A = A} config trace unread (Err f)
+texts_config config trace unread f refused fault none = record {
+  config_fault = λ said e. let is = refused said (let same : f ≡ texts.Config said = cc in same) in (is.0, is.1, none);
+  trace_fault = λ said e. absurd (fault.trace said (let same : f ≡ texts.Trace said = cc in same));
+  behind = inl none;
+  configured = λ said e. absurd (fault.trace said (let same : f ≡ texts.Trace said = cc in same));
+  told = fault.reading.told;
+}
+
+-- the trace was refused, behind a configuration
+pub texts_trace : {A : Type 0} (config trace : Seen) (unread : Type 0) (read : Configuration) (f : TextFault) → IfSome config.had (λ text. config_in text ≡ Ok read) → ((said : TraceFault) → f ≡ texts.Trace said → IfSome trace.had (λ text. IsRefused text said) × IsAtEnd trace.has) → ((said : ConfigTextFault) → f ≢ texts.Config said) → IsTold f
+    → TellsTexts {A = A} config trace unread (Err f)
+texts_trace config trace unread read f known refused other told = record {
+  config_fault = λ said e. absurd (other said (let same : f ≡ texts.Config said = cc in same));
+  trace_fault = λ said e. refused said (let same : f ≡ texts.Trace said = cc in same);
+  behind = inr (configured_is config.had read known);
+  configured = λ said e. configured_is config.had read known;
+  told = told;
+}

@@ -1,0 +1,8 @@
+use Rattle.std.proofs.lemmas.Result.{err_from_is_err_and}
+use Rattle.kc_cli.proofs.Told.{texts_err}
+use Rattle.kc_cli.proofs.engine.replay_text.Goals as goal
+
+pub returns-in_err-outcome-clause-texts : goal.returns-in_err-outcome-clause-texts
+returns-in_err-outcome-clause-texts g c =
+    let made = err_from_is_err_and c.from_residual.result c.from_residual.ensures.1 in
+    rw (made.1, made.2) (texts_err _ _ _ c.in_err-outcome.field-0.0 c.in_err-outcome.ensures.texts)
