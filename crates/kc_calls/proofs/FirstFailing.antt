@@ -1,5 +1,5 @@
 -- The first element that fails a test, found place by place.
-use Rattle.std.proofs.Common.{ℕ, zero, suc, ◌≡◌, ◌<◌, ◌+◌, Bool, true, false, cond, Option, Some, None, List, [], ◌∷◌, length, get_or, take, refl, ap, ◌∙◌, arith}
+use Rattle.std.proofs.Common.{ℕ, zero, suc, ◌≡◌, ◌<◌, ◌+◌, Bool, true, false, cond, Option, Some, None, List, [], ◌∷◌, All, length, get_or, take, map, refl, ap, ap₂, ◌∙◌, arith}
 use Rattle.std.specs.Option.{option_map}
 use Rattle.kc_model.specs.Effects.{first_failing}
 
@@ -29,3 +29,9 @@ fails-at test (x ∷ xs) (suc i) d none low fails =
     let both = none-later (test x) (first_failing test (take i xs)) none in
     let next : i + 1 ≡ suc i = omega arith in
     ap (λ first. at_first first (first_failing test xs)) both.0 ∙ ap (at_first true) (fails-at test xs i d both.1 (omega (arith, low)) fails) ∙ ap Some next
+
+-- the test of what is made of each element
+pub fails-map : {X Y : Type 0} (test : X → Bool) (made : Y → Bool) (make : X → Y) (xs : List X) → All (λ x. made (make x) ≡ test x) xs → first_failing made (map make xs) ≡ first_failing test xs
+fails-map test made make [] same = refl
+fails-map test made make (x ∷ xs) same =
+    ap₂ at_first (same 0 x (omega arith)) (fails-map test made make xs (λ i d low. same (suc i) d (omega (arith, low))))

@@ -1,13 +1,14 @@
 -- The bytes of pages, joined and cut, and the approval of their digest.
-use Rattle.std.proofs.Common.{ℕ, zero, suc, ◌≡◌, ◌≤◌, ◌+◌, ◌-◌, ◌*◌, inl, inr, min, Bool, true, false, cond, List, [], ◌∷◌, ◌++◌, length, take, refl, sym, ap, subst, ◌∙◌, arith, eq-eqb, length-append}
+use Rattle.std.proofs.Common.{ℕ, zero, suc, ◌≡◌, ◌<◌, ◌≤◌, ◌+◌, ◌-◌, ◌*◌, inl, inr, min, All, Bool, true, false, cond, List, [], ◌∷◌, ◌++◌, length, take, map, get_or, refl, sym, ap, ap₂, subst, ◌∙◌, arith, eq-eqb, length-append}
 use Rattle.std.specs.Prelude.{◌==◌, ◌↔◌, IsTrue, Contains}
 use Rattle.std.specs.List.{flat_map, list_any, range_with_len}
 use Rattle.std.proofs.lemmas.Bool.{cases_lt, eqb-true}
 use Rattle.std.proofs.lemmas.Grind.{flat_map-append}
-use Rattle.std.proofs.lemmas.List.{take_all, append-nil}
+use Rattle.std.proofs.lemmas.List.{take_all, append-nil, get_or-map, length-map}
 use Rattle.std.proofs.lemmas.List.FromFn.{map-range_with_len_more}
 use Rattle.std.proofs.lemmas.List.{map-id}
 use Rattle.std.proofs.lemmas.List.Folds.{list_any_at, Any-from_list_any}
+use Rattle.kc_model.specs.Refusals.{pages_of}
 use Rattle.kc_model.specs.Effects.{same_bytes}
 
 -- the bytes of `n` places, joined
@@ -17,7 +18,7 @@ joined bytes a n = flat_map bytes (range_with_len a n)
 range-more : (a n : ℕ) → range_with_len a (n + 1) ≡ range_with_len a n ++ (a + n) ∷ []
 range-more a n = sym (map-id (range_with_len a (n + 1))) ∙ map-range_with_len_more (λ g. g) a n (a + n) refl ∙ ap (λ gs. gs ++ (a + n) ∷ []) (map-id (range_with_len a n))
 
-joined-more : (bytes : ℕ → List ℕ) (a n : ℕ) → joined bytes a (n + 1) ≡ joined bytes a n ++ bytes (a + n)
+pub joined-more : (bytes : ℕ → List ℕ) (a n : ℕ) → joined bytes a (n + 1) ≡ joined bytes a n ++ bytes (a + n)
 joined-more bytes a n = ap (flat_map bytes) (range-more a n) ∙ flat_map-append bytes (range_with_len a n) ((a + n) ∷ []) ∙ ap (λ page. joined bytes a n ++ page) (append-nil _)
 
 take-split : (n : ℕ) (xs ys : List ℕ) → take n (xs ++ ys) ≡ take n xs ++ take (n - length xs) ys
@@ -87,3 +88,23 @@ approved-is false approved digest tells = by_any (list_any (λ other. same_bytes
       where
         no : IsTrue false → ⊥
         no is = cc
+
+-- the used bytes of an image's last page, after its pages before
+pub last-fed : (bytes : ℕ → List ℕ) (base len last used : ℕ) → 0 < len → last ≡ pages_of len - 1 → used ≡ len - last * 4096 → length (joined bytes base last) ≡ 4096 * last
+    → length (bytes (base + last)) ≡ 4096 → joined bytes base last ++ take used (bytes (base + last)) ≡ take len (joined bytes base (pages_of len))
+last-fed bytes base len last used some is part before whole =
+    let pages : pages_of len ≡ last + 1 = omega (arith, is, some) in
+    let ends : used ≡ min (len - length (joined bytes base last)) 4096 = rw before (omega (arith, part, is, some)) in
+    let all : length (joined bytes base last) ≤ len = omega (arith, before, is, some) in
+    ap₂ ◌++◌ (sym (take_all len (joined bytes base last) all)) (ap (λ n. take n (bytes (base + last))) ends)
+    ∙ sym (cut-more (joined bytes base last) (bytes (base + last)) len whole)
+    ∙ ap (take len) (sym (joined-more bytes base last) ∙ ap (joined bytes base) (sym pages))
+
+-- a page of each image, by the image's number
+pub page-at : {X Y : Type 0} (now : X → List ℕ) (pages : List X) (page : X) (bytes : Y → List ℕ) (images : List Y) (image : Y) (j : ℕ) → map now pages ≡ map bytes images
+    → All (λ page. length (now page) ≡ 4096) pages → j < length images
+    → (get_or (map now pages) j [] ≡ bytes (get_or images j image)) × (length (bytes (get_or images j image)) ≡ 4096)
+page-at now pages page bytes images image j same whole low =
+    let both = sym (length-map pages now) ∙ ap length same ∙ length-map images bytes in
+    let at : get_or (map now pages) j [] ≡ bytes (get_or images j image) = ap (λ all. get_or all j []) same ∙ get_or-map bytes images j image [] low in
+    (at, ap length (sym at ∙ get_or-map now pages j page [] (omega (arith, both, low))) ∙ whole j page (omega (arith, both, low)))

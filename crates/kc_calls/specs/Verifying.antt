@@ -1,10 +1,11 @@
 -- What verifying a slot reads of parts.
-use Rattle.std.specs.Prelude.{ℕ, ◌≡◌, ◌<◌, ◌≤◌, ◌+◌, List, true, is_some, Option, Some, None, take}
-use Rattle.std.specs.List.{flat_map}
+use Rattle.std.specs.Prelude.{ℕ, ◌≡◌, ◌<◌, ◌≤◌, ◌+◌, List, [], ◌∷◌, All, Bool, true, is_some, Option, Some, None, length, take}
+use Rattle.std.specs.List.{flat_map, list_any}
 use Rattle.std.specs.FinMap as map
+use Rattle.kc_types.specs.Configuration.{Configuration}
 use Rattle.kc_model.specs.State.{Image}
 use Rattle.kc_model.specs.Refusals.{backing, pages_of}
-use Rattle.kc_model.specs.Effects.{gfns_of}
+use Rattle.kc_model.specs.Effects.{gfns_of, same_bytes}
 use Rattle.kc_page.specs.declared.page.Page.{Page}
 use Rattle.kc_vms.specs.Slots.{VmSlot}
 use Rattle.kc_parts.specs.Held.{Held, page_at}
@@ -30,3 +31,16 @@ bytes_of_image h mapped image = take image.len (flat_map (bytes_under h mapped) 
 pub record IsImageHere (h : Held) (mapped : ℕ → Option ℕ) (image : Image) : Type 0 where
   pub mapped_pages : (g : ℕ) → image.base ≤ g → g < image.base + pages_of image.len → is_some (mapped g) ≡ true
   pub pages : (g : ℕ) → image.base ≤ g → g < image.base + pages_of image.len → is_some (page_under h mapped g) ≡ true
+
+-- the length of the first image
+abbrev pub first_len : List Image → ℕ
+first_len [] = 0
+first_len (image ∷ images) = image.len
+
+-- four images of one length
+abbrev pub AreFourAlike : List Image → Type 0
+AreFourAlike images = (length images ≡ 4) × All (λ image. image.len ≡ first_len images) images
+
+-- the configuration approves a digest
+abbrev pub is_approved_digest : Configuration → List ℕ → Bool
+is_approved_digest config digest = list_any (λ approved. same_bytes approved digest) config.approved

@@ -1,19 +1,20 @@
 //! Verifying a VM: its boot images are measured, and it becomes active or dead.
-ghost use Rattle.std.specs.Prelude.{◌≡◌, ◌<◌, All, Some, None, true, is_some};
-ghost use Rattle.std.specs.FinMap as map;
+ghost use Rattle.std.specs.Prelude.{◌≡◌, ◌+◌, ◌<◌, ◌↔◌, All, IsTrue, Some, None, true, is_some, length, map};
+ghost use Rattle.std.specs.FinMap as finite;
 ghost use Rattle.sha2.specs.Sha256.{sha256};
-ghost use Rattle.kc_types.specs.Limits.{gfn_limit};
+ghost use Rattle.kc_types.specs.Limits.{gfn_limit, page_size};
 ghost use Rattle.kc_types.specs.Configuration.{slot_count};
 ghost use Rattle.kc_types.specs.declared.call.Call.TheVariants.{Verify};
 ghost use Rattle.kc_model.specs.State.{slot_at};
 ghost use Rattle.kc_model.specs.Lawful.{IsLawfulImage};
-ghost use Rattle.kc_model.specs.Refusals.{refusal, backing};
+ghost use Rattle.kc_model.specs.Refusals.{refusal, backing, pages_of};
 ghost use Rattle.kc_model.specs.Effects.{effect, is_approved, first_failing, trimmed, all_trimmed};
 ghost use Rattle.kc_parts.specs.Held.{vm_at};
 ghost use Rattle.kc_parts.specs.States.{state_of, IsLinked};
 ghost use Rattle.kc_calls.specs.Applying.{IsSameRoom, IsAble};
-ghost use Rattle.kc_calls.specs.Verifying.{mapped_in, page_under, bytes_of_image, IsImageHere};
+ghost use Rattle.kc_calls.specs.Verifying.{mapped_in, page_under, bytes_under, bytes_of_image, is_approved_digest, AreFourAlike, IsImageHere};
 
+use kc_digests::MeasureFour;
 use kc_image::{Approved, Measure, pages_of};
 use kc_page::Page;
 use kc_parts::Parts;
@@ -23,8 +24,8 @@ use kc_types::{Config, FrameNo, Gfn, Image, PAGE_SIZE, Reply, VmId};
 /// The frame at a mapped guest frame.
 fn frame_under(table: &Stage2, gfn: u32) -> FrameNo
     requires low { gfn < gfn_limit }
-    requires mapped { is_some (map.get table.now.mapped gfn) ≡ true }
-    ensures { result ≡ backing (map.get table.now.mapped gfn) }
+    requires mapped { is_some (finite.get table.now.mapped gfn) ≡ true }
+    ensures { result ≡ backing (finite.get table.now.mapped gfn) }
 {
     let gfn = Gfn::try_new(gfn).unwrap();
     table.get(gfn).unwrap()
@@ -33,19 +34,71 @@ fn frame_under(table: &Stage2, gfn: u32) -> FrameNo
 /// The page at a mapped guest frame, which is here.
 fn page_under<'a>(parts: &'a Parts, table: &Stage2, gfn: u32) -> &'a Page
     requires low { gfn < gfn_limit }
-    requires mapped { is_some (map.get table.now.mapped gfn) ≡ true }
-    requires here { is_some (page_under parts.now (map.get table.now.mapped) gfn) ≡ true }
-    ensures { page_under parts.now (map.get table.now.mapped) gfn ≡ Some result.now }
+    requires mapped { is_some (finite.get table.now.mapped gfn) ≡ true }
+    requires here { is_some (page_under parts.now (finite.get table.now.mapped) gfn) ≡ true }
+    ensures { page_under parts.now (finite.get table.now.mapped) gfn ≡ Some result.now }
 {
     let frame = frame_under(table, gfn);
     parts.frame(frame).unwrap()
 }
 
+/// The bytes of a page of an image, by its number from the image's first page on.
+fn page_of<'a>(parts: &'a Parts, table: &Stage2, image: &Image, number: u32) -> &'a [u8]
+    requires lawful { IsLawfulImage image.now }
+    requires here { IsImageHere parts.now (finite.get table.now.mapped) image.now }
+    requires within { number < pages_of image.now.len }
+    ensures value { result.now ≡ bytes_under parts.now (finite.get table.now.mapped) (image.now.base + number) }
+    ensures whole { length result.now ≡ page_size }
+{
+    page_under(parts, table, image.base + number)
+        .bytes
+        .as_slice()
+}
+
+/// The bytes of a page of each of four images.
+fn pages_of_four<'a>(
+    parts: &'a Parts,
+    table: &Stage2,
+    images: &[Image],
+    number: u32,
+) -> [&'a [u8]; 4]
+    requires four { length images.now ≡ 4 }
+    requires lawful { All IsLawfulImage images.now }
+    requires here { All (IsImageHere parts.now (finite.get table.now.mapped)) images.now }
+    requires within { All (λ image. number < pages_of image.len) images.now }
+    ensures value { map (λ page. page.now) result ≡ map (λ image. bytes_under parts.now (finite.get table.now.mapped) (image.base + number)) images.now }
+    ensures whole { All (λ page. length page.now ≡ page_size) result }
+{
+    [
+        page_of(parts, table, &images[0], number),
+        page_of(parts, table, &images[1], number),
+        page_of(parts, table, &images[2], number),
+        page_of(parts, table, &images[3], number),
+    ]
+}
+
+/// The digests of four images' bytes, of one length, side by side.
+fn digests_of_four(parts: &Parts, table: &Stage2, images: &[Image]) -> [[u8; 32]; 4]
+    requires four { AreFourAlike images.now }
+    requires lawful { All IsLawfulImage images.now }
+    requires here { All (IsImageHere parts.now (finite.get table.now.mapped)) images.now }
+    ensures { result ≡ map (λ image. sha256 (bytes_of_image parts.now (finite.get table.now.mapped) image)) images.now }
+{
+    let len = images[0].len;
+    let last = pages_of(len) - 1;
+    let mut measure = MeasureFour::new();
+    for number in 0..last {
+        measure.pages(pages_of_four(parts, table, images, number));
+    }
+    let used = len - last * PAGE_SIZE;
+    measure.finish(pages_of_four(parts, table, images, last), used as usize)
+}
+
 /// The digest of an image's bytes, page by page.
 fn digest_of(parts: &Parts, table: &Stage2, image: &Image) -> [u8; 32]
     requires lawful { IsLawfulImage image.now }
-    requires here { IsImageHere parts.now (map.get table.now.mapped) image.now }
-    ensures { result ≡ sha256 (bytes_of_image parts.now (map.get table.now.mapped) image.now) }
+    requires here { IsImageHere parts.now (finite.get table.now.mapped) image.now }
+    ensures { result ≡ sha256 (bytes_of_image parts.now (finite.get table.now.mapped) image.now) }
 {
     let mut measure = Measure::new();
     let mut left = image.len;
@@ -70,6 +123,26 @@ fn is_approved_image(parts: &Parts, config: &Config, vm: VmId, image: &Image) ->
     Approved::new(config.approved()).is_approved(&digest)
 }
 
+/// Whether these are four images of one length.
+fn are_four_alike(images: &[Image]) -> bool
+    ensures { IsTrue result ↔ AreFourAlike images.now }
+{
+    images.len() == 4 && images.iter().all(|image| image.len == images[0].len)
+}
+
+/// The number of the first digest that is not approved.
+fn first_unapproved_digest(config: &Config, digests: &[[u8; 32]; 4]) -> Option<u32>
+    ensures { result ≡ first_failing (is_approved_digest config.now) digests.now }
+{
+    let approved = Approved::new(config.approved());
+    for i in 0..digests.len() {
+        if !approved.is_approved(&digests[i]) {
+            return Some(i as u32);
+        }
+    }
+    None
+}
+
 /// The number of a slot's first image that is not approved.
 fn first_unapproved(parts: &Parts, config: &Config, vm: VmId) -> Option<u32>
     requires low { vm < slot_count config.now }
@@ -78,7 +151,11 @@ fn first_unapproved(parts: &Parts, config: &Config, vm: VmId) -> Option<u32>
     requires here { All (IsImageHere parts.now (mapped_in (vm_at parts.now vm))) (slot_at (state_of config.now parts.now) vm).images }
     ensures { result ≡ first_failing (is_approved (state_of config.now parts.now) vm) (slot_at (state_of config.now parts.now) vm).images }
 {
-    let images = parts.vm(vm).unwrap().images();
+    let slot = parts.vm(vm).unwrap();
+    let images = slot.images();
+    if are_four_alike(images) {
+        return first_unapproved_digest(config, &digests_of_four(parts, slot.table(), images));
+    }
     for i in 0..images.len() {
         if !is_approved_image(parts, config, vm, &images[i]) {
             return Some(i as u32);

@@ -6,6 +6,7 @@ use Rattle.std.specs.Simd.Lanes.{zip2}
 use Rattle.std.specs.Prelude.{slice_set}
 use Rattle.std.proofs.Math.ListN as list
 use Rattle.std.proofs.lemmas.List.{map-set}
+use Rattle.kc_digests.specs.declared.state.State.{State}
 use Rattle.kc_digests.specs.Lanes.{lane, lane_at, state_lane}
 
 -- what holds of each of the four lanes
@@ -66,5 +67,5 @@ below_eight P p0 p1 p2 p3 p4 p5 p6 p7 k h =
     ]
 
 -- word k of the state of a lane
-pub slice_index-state_lane : (v : List (List ℕ)) (j k : ℕ) → k < 8 → slice_index (state_lane j v) k ≡ lane_at v k j
+pub slice_index-state_lane : (v : State) (j k : ℕ) → k < 8 → slice_index (state_lane j v) k ≡ lane_at (v.a ∷ v.b ∷ v.c ∷ v.d ∷ v.e ∷ v.f ∷ v.g ∷ v.h ∷ []) k j
 slice_index-state_lane v j = below_eight _ refl refl refl refl refl refl refl refl

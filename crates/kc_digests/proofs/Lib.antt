@@ -1,4 +1,4 @@
+mod Feeding
 mod LaneLemmas
 mod Maj
-mod PageHash
 mod Places

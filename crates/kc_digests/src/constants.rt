@@ -1,4 +1,4 @@
-//! The constants of SHA-256 (FIPS 180-4, 4.2.2 and 5.3.3), and the padding of a page.
+//! The constants of SHA-256 (FIPS 180-4, 4.2.2 and 5.3.3).
 
 pub(crate) const ROUND_CONSTANTS: [u32; 64] = [
     0x428a2f98, 0x71374491, 0xb5c0fbcf, 0xe9b5dba5, 0x3956c25b, 0x59f111f1, 0x923f82a4, 0xab1c5ed5,
@@ -13,11 +13,4 @@ pub(crate) const ROUND_CONSTANTS: [u32; 64] = [
 
 pub(crate) const INITIAL_HASH: [u32; 8] = [
     0x6a09e667, 0xbb67ae85, 0x3c6ef372, 0xa54ff53a, 0x510e527f, 0x9b05688c, 0x1f83d9ab, 0x5be0cd19,
-];
-
-/// A bit 1, zeros, and the page's length in bits, 32768.
-pub(crate) const PADDING: [u8; 64] = [
-    0x80, 0, 0, 0, 0, 0, 0, 0, 0, 0, 0, 0, 0, 0, 0, 0, 0, 0, 0, 0, 0, 0, 0, 0, 0, 0, 0, 0, 0, 0, 0,
-    0, 0, 0, 0, 0, 0, 0, 0, 0, 0, 0, 0, 0, 0, 0, 0, 0, 0, 0, 0, 0, 0, 0, 0, 0, 0, 0, 0, 0, 0, 0,
-    0x80, 0,
 ];

@@ -1,10 +1,12 @@
-//! The SHA-256 digests (FIPS 180-4) of pages, four pages at a time, by several threads.
+//! SHA-256 (FIPS 180-4) four at a time: the digests of pages, by several threads, and of four messages of one length.
 #![tactic(auto)]
 
 mod compress;
 mod constants;
-mod four;
+mod measure;
 mod pages;
+mod state;
 mod words;
 
+pub use measure::MeasureFour;
 pub use pages::frame_digests;

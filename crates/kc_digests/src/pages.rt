@@ -1,10 +1,12 @@
 //! The digests of many pages.
-ghost use Rattle.std.specs.Prelude.{◌≡◌, ◌+◌, ◌≤◌, IfOk, length, map, slice_range};
+ghost use Rattle.std.specs.Prelude.{◌≡◌, ◌+◌, ◌≤◌, All, IfOk, length, map, slice_range};
+ghost use Rattle.sha2.specs.Sha256.{sha256};
+ghost use Rattle.kc_types.specs.Limits.{page_size};
 ghost use Rattle.kc_digests.specs.Digests.{digest_of};
 
-use crate::four::digest_four;
+use crate::measure::MeasureFour;
 use kc_page::Page;
-use kc_types::Memory;
+use kc_types::{Memory, PAGE_SIZE};
 use rayon::prelude::par_chunks_mut_for_each;
 use sha2::{Digest, Sha256};
 use std::alloc::Global;
@@ -13,6 +15,14 @@ use std::thread::Threads;
 /// A multiple of four, so that only the last chunk has pages that are hashed one by one; some 300 microseconds of
 /// work for a thread.
 const PAGES_A_CHUNK: usize = 64;
+
+/// The digests of four pages of 4,096 bytes, in order.
+fn digest_four(pages: [&[u8]; 4]) -> [[u8; 32]; 4]
+    requires { All (λ page. length page.now ≡ page_size) pages }
+    ensures { result ≡ map (λ page. sha256 page.now) pages.entry }
+{
+    MeasureFour::new().finish(pages, PAGE_SIZE as usize)
+}
 
 /// Writes the digest of each page, in order.
 fn write_digests(pages: &[Page], out: &mut [[u8; 32]])

@@ -4,6 +4,7 @@ ghost use Rattle.std.specs.Int.{w32, bit_not, rotate_right};
 ghost use Rattle.sha2.specs.Sha256.{add32, big_sigma0, big_sigma1, ch, maj, round, small_sigma0, small_sigma1};
 ghost use Rattle.kc_digests.specs.Lanes.{state_lane};
 
+use crate::state::State;
 use std::simd::u32x4;
 
 #[inline(always)]
@@ -106,14 +107,25 @@ fn maj(x: u32x4, y: u32x4, z: u32x4) -> u32x4
 }
 
 #[inline(always)]
-pub(crate) fn round(v: [u32x4; 8], k: u32, word: u32x4) -> [u32x4; 8]
+pub(crate) fn round(v: State, k: u32, word: u32x4) -> State
     ensures { (j : ℕ) → j < 4 → state_lane j result ≡ round (state_lane j v) k (slice_index word j) }
 {
-    let [a, b, c, d, e, f, g, h] = v;
     let temp1 = add(
-        add(add(add(h, big_sigma1(e)), ch(e, f, g)), u32x4::splat(k)),
+        add(
+            add(add(v.h, big_sigma1(v.e)), ch(v.e, v.f, v.g)),
+            u32x4::splat(k),
+        ),
         word,
     );
-    let temp2 = add(big_sigma0(a), maj(a, b, c));
-    [add(temp1, temp2), a, b, c, add(d, temp1), e, f, g]
+    let temp2 = add(big_sigma0(v.a), maj(v.a, v.b, v.c));
+    State {
+        a: add(temp1, temp2),
+        b: v.a,
+        c: v.b,
+        d: v.c,
+        e: add(v.d, temp1),
+        f: v.e,
+        g: v.f,
+        h: v.g,
+    }
 }

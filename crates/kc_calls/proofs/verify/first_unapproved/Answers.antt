@@ -1,18 +1,26 @@
-use Rattle.std.proofs.Common.{◌≡◌, ◌+◌, None, All, take, sym, ap, subst, ◌∙◌}
+use Rattle.std.proofs.Common.{◌≡◌, ◌+◌, ◌<◌, ℕ, Some, None, All, length, get_or, refl, take, sym, ap, subst, ◌∙◌}
 use Rattle.std.proofs.lemmas.List.{take_all}
-use Rattle.kc_model.specs.State.{slot_at}
+use Rattle.std.specs.FinMap as finite
+use Rattle.sha2.specs.Sha256.{sha256}
+use Rattle.kc_model.specs.State.{Image, slot_at}
+use Rattle.kc_stage2.specs.Table.{Table}
+use Rattle.kc_vms.specs.Slots.{table_of}
 use Rattle.kc_model.specs.Effects.{first_failing, is_approved}
 use Rattle.kc_parts.specs.Held.{vm_at}
 use Rattle.kc_parts.specs.States.{state_of}
-use Rattle.kc_calls.specs.Verifying.{mapped_in, IsImageHere}
-use Rattle.kc_calls.proofs.FirstFailing.{none-more, fails-at}
-use Rattle.kc_calls.proofs.Imaged.{images-seen}
+use Rattle.kc_calls.specs.Verifying.{mapped_in, bytes_of_image, is_approved_digest, IsImageHere}
+use Rattle.kc_calls.proofs.FirstFailing.{none-more, fails-at, fails-map}
+use Rattle.kc_calls.proofs.Imaged.{image-seen, image-through, images-seen}
 use Rattle.kc_calls.proofs.verify.first_unapproved.Goals as goal
-use Rattle.kc_calls.proofs.verify.first_unapproved.Goals.{After-images-images, In-loop-i}
+use Rattle.kc_calls.proofs.verify.first_unapproved.Goals.{After-unwrap-slot, After-images-images, In-loop-i}
+
+-- the slot is here
+at : (c : After-unwrap-slot) → vm_at c.args.parts.now c.args.vm ≡ Some c.unwrap-slot.result.now
+at c = sym (rw c.unwrap-slot.ensures at c.vm.ensures)
 
 -- the images that are tried are the state's
 seen : (c : After-images-images) → (slot_at (state_of c.args.config.now c.args.parts.now) c.args.vm).images ≡ c.images-images.result.now
-seen c = images-seen _ c.args.parts.now _ _ _ c.requires.low (sym (rw c.unwrap.ensures at c.vm.ensures)) c.images-images.ensures.value
+seen c = images-seen _ c.args.parts.now _ _ _ c.requires.low (at (goal.at.After-images-images c).After-unwrap-slot) c.images-images.ensures.value
 
 -- those that were tried are approved
 before : (c : In-loop-i) → first_failing (is_approved (state_of c.args.config.now c.args.parts.now) c.args.vm) (take c.loop-i.i c.images-images.result.now) ≡ None
@@ -20,10 +28,37 @@ before c =
     let test = is_approved (state_of c.args.config.now c.args.parts.now) c.args.vm in
     ap (λ images. first_failing test (take c.loop-i.i images)) (sym (seen (goal.at.In-loop-i c).After-images-images)) ∙ c.loop-i.invariant
 
+-- they are here, and so they are through the slot's table
+here : (c : After-images-images) → All (IsImageHere c.args.parts.now (mapped_in (vm_at c.args.parts.now c.args.vm))) c.images-images.result.now
+here c = subst (λ images. All (IsImageHere c.args.parts.now (mapped_in (vm_at c.args.parts.now c.args.vm))) images) (seen c) c.requires.here
+
+through : (c : After-images-images) → All (IsImageHere c.args.parts.now (finite.get c.unwrap-slot.result.now.slot.mapped)) c.images-images.result.now
+through c = λ i image low.
+    image-through c.args.parts.now c.args.vm c.unwrap-slot.result.now (table_of c.unwrap-slot.result.now) _ (at (goal.at.After-images-images c).After-unwrap-slot) refl (here c i image low)
+
+pub digests_of_four-requires-clause-here : goal.digests_of_four-requires-clause-here
+digests_of_four-requires-clause-here c =
+    let k = goal.at.digests_of_four-requires-clause-here c in
+    subst (λ (t : Table). All (IsImageHere c.args.parts.now (finite.get t.mapped)) c.images-images.result.now) (sym c.table.ensures) (through k.After-images-images)
+
+pub returns-then-are_four_alike : goal.returns-then-are_four_alike
+returns-then-are_four_alike c =
+    let k = goal.at.returns-then-are_four_alike c in
+    let parts = c.args.parts.now in
+    let test = is_approved (state_of c.args.config.now parts) c.args.vm in
+    let digest = λ (image : Image). sha256 (bytes_of_image parts (finite.get c.table.result.now.mapped) image) in
+    let same = λ (i : ℕ) (d : Image) (low : i < length c.images-images.result.now).
+    ap (λ (t : Table). is_approved_digest c.args.config.now (sha256 (bytes_of_image parts (finite.get t.mapped) (get_or c.images-images.result.now i d)))) c.table.ensures
+    ∙ ap (λ bytes. is_approved_digest c.args.config.now (sha256 bytes))
+    (image-seen c.args.config.now parts c.args.vm c.unwrap-slot.result.now _ c.requires.low c.requires.linked (at k.After-unwrap-slot) (through k.After-images-images i d low)) in
+    c.first_unapproved_digest.ensures
+    ∙ ap (first_failing (is_approved_digest c.args.config.now)) c.digests_of_four.ensures
+    ∙ fails-map test (is_approved_digest c.args.config.now) digest c.images-images.result.now same
+    ∙ ap (first_failing test) (sym (seen k.After-images-images))
+
 pub is_approved_image-requires-clause-here : goal.is_approved_image-requires-clause-here
 is_approved_image-requires-clause-here c =
-    let images = seen (goal.at.is_approved_image-requires-clause-here c).After-images-images in
-    subst (λ is. All (IsImageHere c.args.parts.now (mapped_in (vm_at c.args.parts.now c.args.vm))) is) images c.requires.here c.loop-i.i _ c.loop-i-test.true
+    here (goal.at.is_approved_image-requires-clause-here c).After-images-images c.loop-i.i _ c.loop-i-test.true
 
 pub returns-then-not-is_approved_image : goal.returns-then-not-is_approved_image
 returns-then-not-is_approved_image c =

@@ -6,7 +6,7 @@ use Rattle.sha2.specs.Sha256.{digest_bytes}
 use Rattle.sha2.proofs.Absorbing256.{digest_more}
 use Rattle.kc_digests.specs.Lanes.{state_lane}
 use Rattle.kc_digests.proofs.LaneLemmas.{slice_index-state_lane}
-use Rattle.kc_digests.proofs.four.lane_digest.Goals as goal
+use Rattle.kc_digests.proofs.measure.lane_digest.Goals as goal
 
 pub words-init : goal.words-init
 unfolding digest_bytes
