@@ -1,29 +1,23 @@
 -- Slots that move from places to places.
-use Rattle.std.proofs.Common.{ℕ, zero, suc, ◌≡◌, ◌<◌, ◌≤◌, Bool, true, false, cond, nat_eq, List, [], ◌∷◌, length, get_or, take, refl, sym, ◌∙◌, ap, arith}
+use Rattle.std.proofs.Common.{ℕ, ◌≡◌, ◌<◌, ◌≤◌, Bool, true, false, cond, length, get_or, take, refl, sym, ◌∙◌, ap}
 use Rattle.std.specs.Prelude.{Option, Some, None}
-use Rattle.std.proofs.lemmas.Bool.{eq-eqb}
 use Rattle.std.proofs.lemmas.List.{take_all}
-use Rattle.std.proofs.Math.Bool.{or-true}
 use Rattle.kc_vms.specs.Slots.{VmSlot}
 use Rattle.kc_parts.specs.Held.{HeldSlots, is_among, held_slot}
 use Rattle.kc_parts.specs.Cuts.{either}
 use Rattle.kc_parts.specs.Moves.{IsEmptySlot, AreMoved}
+use Rattle.kc_parts.proofs.Named.{among-at}
 use Rattle.kc_parts.proofs.Cells.{place-among, cell-among}
 
 pub either-none : {X : Type 0} → (o : Option X) → either o None ≡ o
 either-none None = refl
 either-none (Some x) = refl
 
-among-got : (ns : List ℕ) (i n : ℕ) → i < length ns → n ≡ get_or ns i n → is_among ns n ≡ true
-among-got [] i n low is = absurd (omega (arith, low))
-among-got (m ∷ ns) zero n low is = rw (eq-eqb n m is) refl
-among-got (m ∷ ns) (suc i) n low is = rw (among-got ns i n (omega (arith, low)) is) (or-true (nat_eq n m))
-
 -- the next slot, if it is there, comes into an empty place
 pub next-fits : (i n : ℕ) (from to left joined : HeldSlots) (vm : VmSlot) → ((v : ℕ) → held_slot to v ≡ None) → i < length to.numbers → n ≡ get_or to.numbers i n
     → AreMoved (take i to.numbers) from to left joined → held_slot left n ≡ Some vm → IsEmptySlot joined n
 next-fits i n from to left joined vm nothing low is was here =
-    (rw was.joined_places (place-among to.numbers n (among-got to.numbers i n low is)), was.joined_is n ∙ rw (nothing n) (by_moved (is_among (take i to.numbers) n) (held_slot from n) (sym (was.left_is n) ∙ here)))
+    (rw was.joined_places (place-among to.numbers n (ap (is_among to.numbers) is ∙ among-at to.numbers i n low)), was.joined_is n ∙ rw (nothing n) (by_moved (is_among (take i to.numbers) n) (held_slot from n) (sym (was.left_is n) ∙ here)))
   where
     by_moved : (b : Bool) (o : Option VmSlot) → cond b None o ≡ Some vm → cond b o None ≡ None
     by_moved true o e = cc

@@ -35,7 +35,7 @@ page-here (Some page) h = refl
 
 pub pages-here : (h : Held) (wanted : List Resource) (ns : List ℕ) → AreHere h wanted → AreAmong wanted ns → (i : ℕ) → i < length ns → IsSome (page_at h (get_or ns i 0))
 pages-here h wanted ns here among i low =
-    page-here (page_at h (get_or ns i 0)) (here (resource.Frame (get_or ns i 0)) (sym (among (get_or ns i 0)) ∙ among-at ns i low))
+    page-here (page_at h (get_or ns i 0)) (here (resource.Frame (get_or ns i 0)) (sym (among (get_or ns i 0)) ∙ among-at ns i 0 low))
 
 cells-filled : (ps : List Page) → cells (replicate (length ps) true) ps ≡ map Some ps
 cells-filled [] = refl
@@ -116,5 +116,5 @@ split-end wanted ns hs ps empty vms ends start mid freed rest asked n are filled
 pub taken-full : (wanted : List Resource) (start rest taken : Held) → AreHere start wanted → IsSplit start (is_wanted wanted) rest taken → AreAmong wanted taken.numbers → IsFull taken
 taken-full wanted start rest taken here split among i low =
     let n = get_or taken.numbers i 0 in
-    let named : is_wanted wanted (resource.Frame n) ≡ true = sym (among n) ∙ among-at taken.numbers i low in
+    let named : is_wanted wanted (resource.Frame n) ≡ true = sym (among n) ∙ among-at taken.numbers i 0 low in
     page-here (page_at taken n) (rw (split.taken_is (resource.Frame n), named) (here (resource.Frame n) named))
