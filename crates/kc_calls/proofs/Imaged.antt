@@ -1,6 +1,5 @@
 -- The images of a slot that is here, as the state has them.
 use Rattle.std.proofs.Common.{ℕ, zero, suc, ◌≡◌, ◌<◌, ◌+◌, ◌-◌, ◌%◌, true, false, is_some, All, List, [], ◌∷◌, length, get_or, take, Option, Some, None, refl, sym, ap, subst, ◌∙◌, arith}
-use Rattle.std.specs.Prelude.{slice_index_or}
 use Rattle.std.specs.Ordering.{nat_cmp}
 use Rattle.std.specs.FinMap as map
 use Rattle.kc_model.proofs.VerifyLocal.{pages-same}
@@ -18,7 +17,7 @@ use Rattle.kc_page.specs.Bytes.{zeroed_from}
 use Rattle.kc_page.specs.Pages.{frame_of}
 use Rattle.kc_stage2.specs.Table.{Table}
 use Rattle.kc_vms.specs.Slots.{VmSlot, table_of}
-use Rattle.kc_parts.specs.Held.{Held, page_at, vm_at, links_of, with_page, link_of}
+use Rattle.kc_parts.specs.Held.{Held, HeldSlots, page_at, held_slot, vm_at, links_of, with_page, link_of}
 use Rattle.kc_parts.specs.States.{slot_in, state_of, IsLinked}
 use Rattle.kc_parts.proofs.Seen.{frame-seen, slot-seen}
 use Rattle.kc_links.specs.Chain.{Links}
@@ -68,11 +67,11 @@ images-seen config h v vm images low at is = ap (λ (there : Slot). there.images
 
 -- the images of a slot are the same in parts with the same slots
 pub images-kept : (config : Configuration) (old new : Held) (v : ℕ) (vm : VmSlot) (images : List Image) → v < slot_count config → new.vms ≡ old.vms → vm_at new v ≡ Some vm → images ≡ vm.slot.images → (slot_at (state_of config old) v).images ≡ images
-images-kept config old new v vm images low slots at is = images-seen config old v vm images low (ap (λ (vms : List (Option VmSlot)). slice_index_or vms v None) (sym slots) ∙ at) is
+images-kept config old new v vm images low slots at is = images-seen config old v vm images low (ap (λ (vms : HeldSlots). held_slot vms v) (sym slots) ∙ at) is
 
 -- an image is here as long as the places and the slots stay
 pub image-still : (old new : Held) (v : ℕ) (image : Image) → IsSameRoom old new → new.vms ≡ old.vms → IsImageHere old (mapped_in (vm_at old v)) image → IsImageHere new (mapped_in (vm_at new v)) image
-image-still old new v image room slots here = subst (λ (vms : List (Option VmSlot)). IsImageHere new (mapped_in (slice_index_or vms v None)) image) (sym slots) (record {
+image-still old new v image room slots here = subst (λ (vms : HeldSlots). IsImageHere new (mapped_in (held_slot vms v)) image) (sym slots) (record {
   mapped_pages = here.mapped_pages;
   pages = λ g from below. room.here (resource.Frame (backing (mapped_in (vm_at old v) g))) ∙ here.pages g from below;
 })

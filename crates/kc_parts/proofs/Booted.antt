@@ -23,11 +23,11 @@ use Rattle.kc_vms.specs.Slots.{VmSlot, empty_vm}
 use Rattle.kc_links.specs.Chain.{Links, IsLinked as IsLinkedFrom, first_or, last_or, unlinked}
 use Rattle.kc_links.specs.Ending.{Chain, listed, IsList}
 use Rattle.kc_links.proofs.Chains.{chain-listed, chain-is_list}
-use Rattle.kc_parts.specs.Held.{Held, IsHeld, page_at, vm_at, links_of, ends_at}
+use Rattle.kc_parts.specs.Held.{Held, HeldSlots, IsHeld, page_at, vm_at, links_of, ends_at}
 use Rattle.kc_parts.specs.States.{frame_in, slot_in, state_of, owner_at, IsLinked}
-use Rattle.kc_parts.specs.Booting.{first_free, boot_prev, boot_next, boot_page, boot_ends, IsWhole}
+use Rattle.kc_parts.specs.Booting.{first_free, boot_prev, boot_next, boot_page, boot_ends, boot_slots, IsWhole}
 use Rattle.kc_parts.proofs.Blanks.{blanks-filled}
-use Rattle.kc_parts.proofs.Boots.{page-whole, page-past}
+use Rattle.kc_parts.proofs.Boots.{page-whole, page-past, rising-range, cell-whole, cell-past}
 
 abbrev by_zero : {X : Type 0} → ℕ → X → X → X
 by_zero zero a b = a
@@ -75,25 +75,21 @@ first-range : (a n : ℕ) → first_or None (range_with_len a n) ≡ by_zero n N
 first-range a zero = refl
 first-range a (suc n) = refl
 
-get_or-same : {X : Type 0} (n v : ℕ) (x : X) → v < n → get_or (replicate n (Some x)) v None ≡ Some x
-get_or-same zero v x lt = absurd (omega (arith, lt))
-get_or-same (suc n) zero x lt = refl
-get_or-same (suc n) (suc v) x lt = get_or-same n v x (omega (arith, lt))
-
-get_or-one : {X : Type 0} (n v : ℕ) (x : X) → (get_or (replicate n (Some x)) v None ≡ Some x) ⊎ (get_or (replicate n (Some x)) v None ≡ None)
-get_or-one zero v x = inr refl
-get_or-one (suc n) zero x = inl refl
-get_or-one (suc n) (suc v) x = get_or-one n v x
-
 module _ (config : Configuration) (is : IsConfiguration config) where
   abbrev pub booted : Held
   booted = record {
     numbers = range_with_len 0 config.frames;
     here = replicate config.frames true;
     pages = map (boot_page config) (range_with_len 0 config.frames);
-    vms = replicate (slot_count config) (Some (empty_vm config.leaves));
+    vms = boot_slots config;
     free = Some (boot_ends config);
   }
+
+  vm-one : (v : ℕ) → (vm_at booted v ≡ Some (empty_vm config.leaves)) ⊎ (vm_at booted v ≡ None)
+  vm-one v = elim (cases_lt v (slot_count config)) [
+    | inl low ↦ inl (cell-whole (slot_count config) v (Some (empty_vm config.leaves)) low)
+    | inr past ↦ inr (cell-past 0 (slot_count config) v (Some (empty_vm config.leaves)) (omega (arith, past)))
+  ]
 
   page-boot : (f : ℕ) → f < config.frames → page_at booted f ≡ Some (boot_page config f)
   page-boot f lt =
@@ -157,7 +153,7 @@ module _ (config : Configuration) (is : IsConfiguration config) where
   owner-past f le = ap (λ there. (frame_in there).owner) (page-none f le)
 
   vm-boot : (v : ℕ) (vm : VmSlot) → vm_at booted v ≡ Some vm → vm ≡ empty_vm config.leaves
-  vm-boot v vm at = elim (get_or-one (slot_count config) v (empty_vm config.leaves)) [
+  vm-boot v vm at = elim (vm-one v) [
     | inl there ↦ same_Some vm (empty_vm config.leaves) (sym at ∙ there)
     | inr none ↦ let no : Some vm ≡ None = sym at ∙ none in cc
   ]
@@ -229,10 +225,10 @@ module _ (config : Configuration) (is : IsConfiguration config) where
   whole-boot = record {
     numbers = refl;
     frames = λ f lt. ap is_some (page-boot f lt);
-    vms = λ v lt. ap is_some (get_or-same (slot_count config) v (empty_vm config.leaves) lt);
+    vms = λ v lt. ap is_some (cell-whole (slot_count config) v (Some (empty_vm config.leaves)) lt);
     past = λ v some. elim (cases_lt v (slot_count config)) [
       | inl low ↦ low
-      | inr past ↦ let none : vm_at booted v ≡ None = get_or_past (replicate (slot_count config) (Some (empty_vm config.leaves))) v None (rw (length-replicate (slot_count config) (Some (empty_vm config.leaves))) past) in let no = rw none at some in cc
+      | inr past ↦ let none : vm_at booted v ≡ None = cell-past 0 (slot_count config) v (Some (empty_vm config.leaves)) (omega (arith, past)) in let no = rw none at some in cc
     ];
     free = refl;
   }
@@ -255,27 +251,21 @@ module _ (config : Configuration) (is : IsConfiguration config) where
       slots-same a (suc n) = rw (slot-empty-at a, slots-same (a + 1) n) refl
         where
           slot-empty-at : (v : ℕ) → slot_in (links_of booted) (vm_at booted v) ≡ empty_slot
-          slot-empty-at v = elim (get_or-one (slot_count config) v (empty_vm config.leaves)) [
+          slot-empty-at v = elim (vm-one v) [
             | inl there ↦ ap (slot_in (links_of booted)) there ∙ ap (λ frames. record { phase = empty_slot.phase; vcpus = empty_slot.vcpus; images = empty_slot.images; frames = frames; mapped = empty_slot.mapped; leaves = empty_slot.leaves }) (chain-listed (links_of booted) (empty_vm config.leaves).slot.ends [] chain-empty)
             | inr none ↦ ap (slot_in (links_of booted)) none
           ]
 
   -- what is made part by part
-  pub made : (numbers : List ℕ) (here : List Bool) (pages : List Page) (vms : List (Option VmSlot)) (free : Option Ends)
+  pub made : (numbers : List ℕ) (here : List Bool) (pages : List Page) (vms : HeldSlots) (free : Option Ends)
       → numbers ≡ range_with_len 0 config.frames → here ≡ replicate config.frames true → pages ≡ map (boot_page config) (range_with_len 0 config.frames)
-      → vms ≡ replicate (slot_count config) (Some (empty_vm config.leaves)) → free ≡ Some (boot_ends config)
+      → vms ≡ boot_slots config → free ≡ Some (boot_ends config)
       → record { numbers = numbers; here = here; pages = pages; vms = vms; free = free } ≡ booted
   made numbers here pages vms free n h p v f i = record { numbers = n i; here = h i; pages = p i; vms = v i; free = f i }
 
   pub is_held-boot : IsHeld (range_with_len 0 config.frames) (replicate config.frames true) (map (boot_page config) (range_with_len 0 config.frames))
   is_held-boot = record {
-    rising = λ i j less within.
-        let count = length-range_with_len 0 config.frames in
-        let low : i < config.frames = omega (arith, less, within, count) in
-        let high : j < config.frames = omega (arith, within, count) in
-        let a = get_or-range_with_len 0 config.frames i 0 low in
-        let b = get_or-range_with_len 0 config.frames j 0 high in
-        omega (arith, less, a, b);
+    rising = rising-range config.frames;
     frames = λ i. let few = few-frames config is in elim (cases_lt i config.frames) [
       | inl low ↦ let a = get_or-range_with_len 0 config.frames i 0 low in omega (arith, low, few, a)
       | inr past ↦ let count = length-range_with_len 0 config.frames in let a : get_or (range_with_len 0 config.frames) i 0 ≡ 0 = get_or_past (range_with_len 0 config.frames) i 0 (omega (arith, past, count)) in omega (arith, a)

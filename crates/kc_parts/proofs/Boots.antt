@@ -1,11 +1,12 @@
 -- The parts of the boot state, one after another and all together.
-use Rattle.std.proofs.Common.{ℕ, zero, suc, ◌≡◌, ◌<◌, ◌≤◌, ◌+◌, true, false, cond, eq-eqb, [], ◌∷◌, ◌++◌, length, map, replicate, None, refl, sym, ap, ◌∙◌, arith}
+use Rattle.std.proofs.Common.{ℕ, zero, suc, ◌≡◌, ◌<◌, ◌≤◌, ◌+◌, true, false, cond, eq-eqb, [], ◌∷◌, ◌++◌, length, map, replicate, Option, None, refl, sym, ap, ◌∙◌, arith}
 use Rattle.std.specs.List.{range_with_len, slice_get}
 use Rattle.std.proofs.lemmas.Bool.{ne_eqb}
-use Rattle.std.proofs.lemmas.List.{map-id}
-use Rattle.std.proofs.lemmas.List.FromFn.{map-range_with_len_more}
+use Rattle.std.proofs.lemmas.List.{map-id, length-replicate}
+use Rattle.std.proofs.lemmas.List.FromFn.{map-range_with_len_more, get_or-range_with_len, length-range_with_len}
 use Rattle.std.proofs.lemmas.Option.{slice_get_past}
-use Rattle.kc_parts.specs.Held.{Held, place_of, is_filled, page_at}
+use Rattle.kc_vms.specs.Slots.{VmSlot}
+use Rattle.kc_parts.specs.Held.{Held, AreHeldSlots, IsRising, place_of, is_filled, cell_in, page_at}
 
 pub numbers-more : (n : ℕ) → range_with_len 0 (n + 1) ≡ range_with_len 0 n ++ n ∷ []
 numbers-more n = sym (map-id (range_with_len 0 (n + 1))) ∙ map-range_with_len_more (λ f. f) 0 n n (omega arith) ∙ ap (λ fs. fs ++ n ∷ []) (map-id (range_with_len 0 n))
@@ -44,3 +45,31 @@ pub page-past : (h : Held) (n f : ℕ) → h.numbers ≡ range_with_len 0 n → 
 page-past h n f numbers here le =
     let empty : is_filled h.numbers h.here f ≡ false = ap (λ ns. is_filled ns h.here f) numbers ∙ ap (λ hs. is_filled (range_with_len 0 n) hs f) here ∙ unfilled-range 0 n f (omega (arith, le)) in
     ap (slice_get h.pages) (ap (λ b. cond b (place_of h.numbers f) (length h.pages)) empty) ∙ slice_get_past h.pages (length h.pages) (omega arith)
+
+pub rising-range : (n : ℕ) → IsRising (range_with_len 0 n)
+rising-range n i j less within =
+    let count = length-range_with_len 0 n in
+    let low : i < n = omega (arith, less, within, count) in
+    let high : j < n = omega (arith, within, count) in
+    let a = get_or-range_with_len 0 n i 0 low in
+    let b = get_or-range_with_len 0 n j 0 high in
+    omega (arith, less, a, b)
+
+cell-range : {X : Type 0} (a n k : ℕ) (c : Option X) → k < n → cell_in (range_with_len a n) (replicate n c) (a + k) ≡ c
+cell-range a zero k c lt = absurd (omega (arith, lt))
+cell-range a (suc n) zero c lt = rw (eq-eqb (a + 0) a (omega arith)) refl
+cell-range a (suc n) (suc k) c lt =
+    let e : a + suc k ≡ (a + 1) + k = omega arith in
+    rw (ne_eqb (a + suc k) a (λ same. omega (arith, same))) (ap (cell_in (range_with_len (a + 1) n) (replicate n c)) e ∙ cell-range (a + 1) n k c (omega (arith, lt)))
+
+-- what stands at a number where all places have the same
+pub cell-whole : {X : Type 0} (n k : ℕ) (c : Option X) → k < n → cell_in (range_with_len 0 n) (replicate n c) k ≡ c
+cell-whole n k c lt = let e : k ≡ 0 + k = omega arith in ap (cell_in (range_with_len 0 n) (replicate n c)) e ∙ cell-range 0 n k c lt
+
+pub cell-past : {X : Type 0} (a n k : ℕ) (c : Option X) → a + n ≤ k → cell_in (range_with_len a n) (replicate n c) k ≡ None
+cell-past a zero k c le = refl
+cell-past a (suc n) k c le = rw (ne_eqb k a (λ same. omega (arith, le, same))) (cell-past (a + 1) n k c (omega (arith, le)))
+
+-- a place for each number, with the same in each
+pub held-boot : (n : ℕ) (c : Option VmSlot) → AreHeldSlots (range_with_len 0 n) (replicate n c)
+held-boot n c = record { rising = rising-range n; places = length-replicate n c ∙ sym (length-range_with_len 0 n) }

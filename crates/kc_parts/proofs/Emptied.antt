@@ -1,5 +1,5 @@
 -- A slot that is emptied, and its frames, which become untouched and free.
-use Rattle.std.proofs.Common.{ℕ, zero, suc, ◌≡◌, ◌≢◌, ◌<◌, ◌+◌, inl, inr, true, IsSome, List, [], ◌∷◌, ◌++◌, slice_index_or, Option, Some, None, is_some, is_none, cond, Bool, false, nat_lt, set, refl, sym, ap, ◌∙◌, arith}
+use Rattle.std.proofs.Common.{ℕ, zero, suc, ◌≡◌, ◌≢◌, ◌<◌, ◌+◌, inl, inr, true, IsSome, List, [], ◌∷◌, ◌++◌, Option, Some, None, is_some, is_none, cond, Bool, false, nat_lt, set, refl, sym, ap, ◌∙◌, arith}
 use Rattle.std.specs.Option.{option_map}
 use Rattle.std.proofs.lemmas.Bool.{cases_eq}
 use Rattle.kc_types.specs.Limits.{frame_limit}
@@ -19,7 +19,7 @@ use Rattle.kc_links.specs.Chain.{Links, spelled, next_of}
 use Rattle.kc_links.specs.Ending.{listed, IsList}
 use Rattle.kc_links.proofs.Times.{times-same, times-other}
 use Rattle.kc_links.proofs.Steps.{inside-held}
-use Rattle.kc_parts.specs.Held.{Held, page_at, vm_at, links_of, ends_at, with_page, with_vm, link_of}
+use Rattle.kc_parts.specs.Held.{Held, page_at, held_slot, vm_at, links_of, ends_at, with_page, with_vm, link_of}
 use Rattle.kc_parts.specs.States.{frame_in, unlinked_slot, state_of, here_of, owner_at, lacks_list, is_away, frames_of, AreLists, IsLinked}
 use Rattle.kc_parts.specs.Emptying.{untouched_page, with_untouched, with_scrubbed, all_scrubbed, IsEmptied}
 use Rattle.kc_parts.proofs.Pages.{page-set, page-other, links-kept}
@@ -303,5 +303,5 @@ module _ (old : Held) (v : ℕ) (vm : VmSlot) (at : vm_at old v ≡ Some vm) whe
 
       here-all : (r : Resource) → here_of emptied r ≡ here_of old r
       here-all (resource.Frame f) = (scrubbing reset fs).pages f
-      here-all (resource.Vm w) = ap (λ vms. is_some (slice_index_or vms w None)) (scrubbing reset fs).vms ∙ here-vm old v vm (empty_vm vm.room) at (resource.Vm w)
+      here-all (resource.Vm w) = ap (λ vms. is_some (held_slot vms w)) (scrubbing reset fs).vms ∙ here-vm old v vm (empty_vm vm.room) at (resource.Vm w)
       here-all resource.Free = ap is_some (scrubbing reset fs).free

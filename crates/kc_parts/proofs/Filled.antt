@@ -5,8 +5,7 @@ use Rattle.std.proofs.lemmas.Bool.Decides.{nat_tests}
 use Rattle.std.proofs.lemmas.Option.{slice_get_past}
 use Rattle.std.proofs.lemmas.Bool.{ne_eqb, eqb-true, cond-false}
 use Rattle.kc_page.specs.declared.page.Page.{Page}
-use Rattle.kc_parts.specs.Held.{IsRising, place_of, is_filled}
-use Rattle.kc_parts.specs.Moves.{is_among}
+use Rattle.kc_parts.specs.Held.{IsRising, is_among, place_of, is_filled, cell_in}
 use Rattle.kc_parts.proofs.Places.{rising-rest}
 
 -- what the places have
@@ -15,17 +14,12 @@ cells [] ps = []
 cells (b ∷ bs) [] = []
 cells (b ∷ bs) (p ∷ ps) = cond b (Some p) None ∷ cells bs ps
 
-abbrev pub cell_in : List ℕ → List (Option Page) → ℕ → Option Page
-cell_in [] cs f = None
-cell_in (n ∷ ns) [] f = None
-cell_in (n ∷ ns) (c ∷ cs) f = cond (nat_eq f n) c (cell_in ns cs f)
-
 pub bool-same : (a b : Bool) → (a ≡ true → b ≡ true) → (b ≡ true → a ≡ true) → a ≡ b
 bool-same true b there back = sym (there refl)
 bool-same false true there back = back refl
 bool-same false false there back = refl
 
-swapped : (a b : ℕ) → nat_eq a b ≡ nat_eq b a
+pub swapped : (a b : ℕ) → nat_eq a b ≡ nat_eq b a
 swapped a b = bool-same (nat_eq a b) (nat_eq b a) (λ e. grind (arith, nat_tests)) (λ e. grind (arith, nat_tests))
 
 pub page_at-cells : (ns : List ℕ) (hs : List Bool) (ps : List Page) (f : ℕ) → length hs ≡ length ns → length ps ≡ length ns
@@ -64,29 +58,29 @@ cells-append (h ∷ hs) [] b p e = absurd (omega (arith, e))
 cells-append (h ∷ hs) (q ∷ ps) b p e = ap (λ cs. cond h (Some q) None ∷ cs) (cells-append hs ps b p (omega (arith, e)))
 
 -- no place, no cell
-pub cell-no_place : (ns : List ℕ) (cs : List (Option Page)) (f : ℕ) → ((k : ℕ) → k < length ns → get_or ns k 0 ≢ f) → cell_in ns cs f ≡ None
+pub cell-no_place : {X : Type 0} (ns : List ℕ) (cs : List (Option X)) (f : ℕ) → ((k : ℕ) → k < length ns → get_or ns k 0 ≢ f) → cell_in ns cs f ≡ None
 cell-no_place [] cs f none = refl
 cell-no_place (n ∷ ns) [] f none = refl
 cell-no_place (n ∷ ns) (c ∷ cs) f none =
     cond-false _ _ _ (ne_eqb f n (λ e. none 0 (omega arith) (sym e))) ∙ cell-no_place ns cs f (λ k h. none (suc k) (omega (arith, h)))
 
 -- after a write at a place
-pub cell-set : (ns : List ℕ) (cs : List (Option Page)) (i g : ℕ) (x : Option Page) → IsRising ns → length cs ≡ length ns → i < length ns
+pub cell-set : {X : Type 0} (ns : List ℕ) (cs : List (Option X)) (i g : ℕ) (x : Option X) → IsRising ns → length cs ≡ length ns → i < length ns
     → cell_in ns (set cs i x) g ≡ cond (nat_eq g (get_or ns i 0)) x (cell_in ns cs g)
 cell-set [] cs i g x up l h = absurd (omega (arith, h))
 cell-set (n ∷ ns) [] i g x up l h = absurd (omega (arith, l))
-cell-set (n ∷ ns) (c ∷ cs) zero g x up l h = set_first (nat_eq g n) x c (cell_in ns cs g)
+cell-set {X} (n ∷ ns) (c ∷ cs) zero g x up l h = set_first (nat_eq g n) x c (cell_in ns cs g)
   where
-    set_first : (b : Bool) (x c y : Option Page) → cond b x y ≡ cond b x (cond b c y)
+    set_first : (b : Bool) (x c y : Option X) → cond b x y ≡ cond b x (cond b c y)
     set_first true x c y = refl
     set_first false x c y = refl
-cell-set (n ∷ ns) (c ∷ cs) (suc i) g x up l h =
+cell-set {X} (n ∷ ns) (c ∷ cs) (suc i) g x up l h =
     let below : n < get_or ns i 0 = up 0 (suc i) (omega arith) h in
     set_later (nat_eq g n) (nat_eq g (get_or ns i 0)) x c _ _
     (λ a. ne_eqb g (get_or ns i 0) (λ e. omega (arith, below, e, eqb-true g n a)))
     (cell-set ns cs i g x (rising-rest n ns up) (omega (arith, l)) (omega (arith, h)))
   where
-    set_later : (b d : Bool) (x c y z : Option Page) → (b ≡ true → d ≡ false) → z ≡ cond d x y → cond b c z ≡ cond d x (cond b c y)
+    set_later : (b d : Bool) (x c y z : Option X) → (b ≡ true → d ≡ false) → z ≡ cond d x y → cond b c z ≡ cond d x (cond b c y)
     set_later true d x c y z differ e = sym (cond-false d x c (differ refl))
     set_later false d x c y z differ e = e
 

@@ -1,5 +1,5 @@
 -- Parts whose links changed among the frames of one owner, whose list changed: what is seen of all else stays.
-use Rattle.std.proofs.Common.{ℕ, zero, suc, ◌≡◌, ◌≢◌, ◌<◌, true, false, List, Option, Some, None, is_some, slice_index_or, refl, sym, ap, ◌∙◌, arith}
+use Rattle.std.proofs.Common.{ℕ, zero, suc, ◌≡◌, ◌≢◌, ◌<◌, true, false, List, Option, Some, None, is_some, refl, sym, ap, ◌∙◌, arith}
 use Rattle.std.specs.Option.{option_map}
 use Rattle.kc_types.specs.declared.link.Ends.{Ends}
 use Rattle.kc_types.specs.declared.owner.Owner.{Owner}
@@ -12,7 +12,7 @@ use Rattle.kc_page.specs.declared.page.Page.{Page}
 use Rattle.kc_page.specs.Pages.{frame_of}
 use Rattle.kc_vms.specs.Slots.{VmSlot}
 use Rattle.kc_links.specs.Ending.{listed, KeepsOthers}
-use Rattle.kc_parts.specs.Held.{Held, page_at, vm_at, links_of, ends_at}
+use Rattle.kc_parts.specs.Held.{Held, page_at, held_slot, vm_at, links_of, ends_at}
 use Rattle.kc_parts.specs.States.{frame_in, list_in, slot_in, unlinked_slot, owner_at, lacks_list, is_away, here_of, AreLists}
 use Rattle.kc_parts.specs.Linking.{IsSameRest}
 use Rattle.kc_parts.proofs.Moving.{list-kept}
@@ -39,7 +39,7 @@ module _ (old new : Held) (mine : Owner) (frames : List ℕ) (rest : IsSameRest 
   frames-stay f = frame-same (page_at old f) (page_at new f) (rest.frames f)
 
   pub vms-stay : (v : ℕ) → vm_at new v ≡ vm_at old v
-  vms-stay v = ap (λ vms. slice_index_or vms v None) rest.vms
+  vms-stay v = ap (λ vms. held_slot vms v) rest.vms
 
   pub here-stays : (r : Resource) → here_of new r ≡ here_of old r
   here-stays (resource.Frame f) = here-same (page_at old f) (page_at new f) (rest.frames f)

@@ -1,8 +1,7 @@
 -- What parts are seen as where one slot changes.
-use Rattle.std.proofs.Common.{ℕ, zero, suc, ◌≡◌, ◌≢◌, inl, inr, List, [], ◌∷◌, set, get_or, Option, Some, None, is_some, refl, sym, ap, ◌∙◌}
+use Rattle.std.proofs.Common.{ℕ, ◌≡◌, ◌≢◌, inl, inr, List, Option, Some, None, is_some, refl, sym, ap, ◌∙◌}
 use Rattle.std.specs.Option.{option_map}
 use Rattle.std.proofs.lemmas.Bool.{cases_eq}
-use Rattle.std.proofs.lemmas.List.{get_or-set_same, get_or-set_other}
 use Rattle.kc_types.specs.Configuration.{Configuration, slot_count}
 use Rattle.kc_types.specs.declared.owner.Owner.{Owner}
 use Rattle.kc_types.specs.declared.owner.Owner.TheVariants.{Core, Host, Free, Vm}
@@ -13,24 +12,19 @@ use Rattle.kc_vms.specs.Slots.{VmSlot}
 use Rattle.kc_links.specs.Ending.{listed}
 use Rattle.kc_parts.specs.Held.{Held, vm_at, links_of, ends_at, with_vm}
 use Rattle.kc_parts.specs.States.{slot_in, unlinked_slot, state_of, here_of, owner_at, IsLinked}
-use Rattle.kc_parts.proofs.SlotMoves.{slot-within}
+use Rattle.kc_parts.proofs.Cells.{cell-at_place, cell-other_place, cell-same}
 use Rattle.kc_parts.proofs.Moving.{lists-same}
 use Rattle.kc_parts.proofs.Seen.{table-set}
 
 pub vm-set : (h : Held) (v : ℕ) (old new : VmSlot) → vm_at h v ≡ Some old → vm_at (with_vm h v new) v ≡ Some new
-vm-set h v old new is = get_or-set_same h.vms v (Some new) None (slot-within h.vms v old is)
+vm-set h v old new is = cell-at_place h.vms.numbers h.vms.slots v old new is
 
 pub vm-other : (h : Held) (v w : ℕ) (new : VmSlot) → w ≢ v → vm_at (with_vm h v new) w ≡ vm_at h w
-vm-other h v w new other = get_or-set_other h.vms v w (Some new) None other
+vm-other h v w new other = cell-other_place h.vms.numbers h.vms.slots v w (Some new) other
 
 -- a slot that is written back as it was
 pub vm-same : (h : Held) (v : ℕ) (vm : VmSlot) → vm_at h v ≡ Some vm → with_vm h v vm ≡ h
-vm-same h v vm is = ap (λ vms. record h { vms = vms }) (set-same h.vms v is)
-  where
-    set-same : (vms : List (Option VmSlot)) (i : ℕ) → get_or vms i None ≡ Some vm → set vms i (Some vm) ≡ vms
-    set-same [] i e = refl
-    set-same (x ∷ xs) zero e = ap (λ y. y ∷ xs) (sym e)
-    set-same (x ∷ xs) (suc i) e = ap (λ ys. x ∷ ys) (set-same xs i e)
+vm-same h v vm is = ap (λ (slots : List (Option VmSlot)). record h { vms = record { numbers = h.vms.numbers; slots = slots } }) (cell-same h.vms.numbers h.vms.slots v vm is)
 
 -- what is read of a slot stays for all slots where it stays for the changed one
 pub vm-kept : {X : Type 0} (read : VmSlot → X) (h : Held) (v : ℕ) (old new : VmSlot) → vm_at h v ≡ Some old → read new ≡ read old → (w : ℕ) → option_map read (vm_at (with_vm h v new) w) ≡ option_map read (vm_at h w)

@@ -1,5 +1,5 @@
 -- The list of a slot takes a frame in, or gives one out.
-use Rattle.std.proofs.Common.{ℕ, ◌≡◌, ◌≢◌, ◌<◌, inl, inr, List, Option, Some, None, is_none, IfSome, slice_index_or, refl, sym, ap, ◌∙◌, arith}
+use Rattle.std.proofs.Common.{ℕ, ◌≡◌, ◌≢◌, ◌<◌, inl, inr, List, Option, Some, None, is_none, IfSome, refl, sym, ap, ◌∙◌, arith}
 use Rattle.std.specs.List.{range_with_len}
 use Rattle.std.specs.Option.{option_map}
 use Rattle.std.proofs.lemmas.Bool.{cases_eq}
@@ -16,7 +16,7 @@ use Rattle.kc_model.specs.Effects.{without}
 use Rattle.kc_links.proofs.Others.{without-same, without-other}
 use Rattle.kc_links.specs.Chain.{unlinked}
 use Rattle.kc_links.specs.Ending.{listed, IsList, KeepsOthers}
-use Rattle.kc_parts.specs.Held.{Held, page_at, vm_at, links_of, ends_at, with_vm, with_ends}
+use Rattle.kc_parts.specs.Held.{Held, page_at, held_slot, vm_at, links_of, ends_at, with_vm, with_ends}
 use Rattle.kc_parts.specs.States.{frame_in, slot_in, unlinked_slot, owner_at, here_of, frames_of, AreLists, IsLoose, IsSlotMove}
 use Rattle.kc_parts.specs.Linking.{IsSameRest}
 use Rattle.kc_parts.proofs.Moving.{same_or_other, lists-moved, lists-same}
@@ -126,7 +126,7 @@ slot-owned h v vm are at f some = are.owned (Vm v) vm.slot.ends f (ends-here h v
 
 -- the slot is written with other ends
 pub ends-set : (old mid new : Held) (v : ℕ) (vm : VmSlot) (ends : Ends) → mid.vms ≡ old.vms → vm_at old v ≡ Some vm → IfSome (vm_at mid v) (λ slot. new ≡ with_vm mid v (with_ends slot ends)) → new ≡ with_vm mid v (with_ends vm ends)
-ends-set old mid new v vm ends same at is = let there : vm_at mid v ≡ Some vm = ap (λ vms. slice_index_or vms v None) same ∙ at in rw there at is
+ends-set old mid new v vm ends same at is = let there : vm_at mid v ≡ Some vm = ap (λ vms. held_slot vms v) same ∙ at in rw there at is
 
 -- what is left of a list was there
 pub within-without : (fs : List ℕ) (f g : ℕ) → 0 < times_in (without fs f) g → 0 < times_in fs g

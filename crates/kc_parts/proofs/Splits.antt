@@ -8,7 +8,7 @@ use Rattle.kc_parts.specs.Held.{Held, page_at, vm_at}
 use Rattle.kc_parts.specs.Cuts.{HeldPart, IsSplit, FitsInto}
 use Rattle.kc_parts.specs.Cuts.HeldPart.{page_part, slot_part, ends_part}
 use Rattle.kc_parts.proofs.Writing.{place-here}
-use Rattle.kc_parts.proofs.SlotMoves.{slot-within}
+use Rattle.kc_parts.proofs.Cells.{place-held}
 
 none-of : {A : Type 0} → (part : A → HeldPart) (o : Option A) → option_map part o ≡ None → o ≡ None
 none-of part None e = refl
@@ -32,7 +32,7 @@ split_fits before test rest taken split = record {
       (rw split.places (place-here before.numbers before.here before.pages f (rw both.0 refl)), both.1);
   slots = λ v vm e.
       let both = some-split slot_part (test (resource.Vm v)) (vm_at before v) (vm_at rest v) (vm_at taken v) (λ x y same. cc) (split.taken_is (resource.Vm v)) (split.rest_is (resource.Vm v)) vm e in
-      (rw split.slots (slot-within before.vms v vm both.0), both.1);
+      (rw split.slots (place-held before.vms.numbers before.vms.slots v vm both.0), both.1);
   ends = λ ends e.
       let both = some-split ends_part (test resource.Free) before.free rest.free taken.free (λ x y same. cc) (split.taken_is resource.Free) (split.rest_is resource.Free) ends e in
       both.1;

@@ -9,12 +9,11 @@ use Rattle.kc_types.specs.declared.link.Ends.{Ends}
 use Rattle.kc_types.specs.declared.resource.Resource.{Resource}
 use Rattle.kc_types.specs.declared.resource.Resource.TheVariants as resource
 use Rattle.kc_page.specs.declared.page.Page.{Page}
-use Rattle.kc_vms.specs.Slots.{VmSlot}
-use Rattle.kc_parts.specs.Held.{Held, IsHeld, IsRising, page_at, vm_at}
-use Rattle.kc_parts.specs.Cuts.{HeldPart, held_at, is_wanted, AreHere, IsSplit, IsFull}
+use Rattle.kc_parts.specs.Held.{Held, HeldSlots, IsHeld, IsRising, is_among, page_at, cell_in, held_slot, vm_at}
+use Rattle.kc_parts.specs.Cuts.{HeldPart, held_at, is_wanted, AreHere, IsSplit, AreSlotsFor, IsFull}
 use Rattle.kc_parts.specs.Cuts.HeldPart.{page_part, slot_part, ends_part}
-use Rattle.kc_parts.specs.Moves.{is_among, AreAmong, AreFramesOf, IsLifted, WithSlots, page_among, slot_of}
-use Rattle.kc_parts.proofs.Filled.{cells, cell_in, page_at-cells, cell-by_numbers}
+use Rattle.kc_parts.specs.Moves.{AreAmong, AreFramesOf, AreMoved, IsLifted, WithSlots, page_among}
+use Rattle.kc_parts.proofs.Filled.{cells, page_at-cells, cell-by_numbers}
 use Rattle.kc_parts.proofs.Named.{among-at}
 use Rattle.kc_parts.proofs.Blanks.{blanks-filled}
 
@@ -36,7 +35,7 @@ page-here (Some page) h = refl
 
 pub pages-here : (h : Held) (wanted : List Resource) (ns : List ℕ) → AreHere h wanted → AreAmong wanted ns → (i : ℕ) → i < length ns → IsSome (page_at h (get_or ns i 0))
 pages-here h wanted ns here among i low =
-    page-here (page_at h (get_or ns i 0)) (here (resource.Frame (get_or ns i 0)) (sym (among (get_or ns i 0)) ∙ among-at ns i low))
+    page-here (page_at h (get_or ns i 0)) (here (resource.Frame (get_or ns i 0)) (sym (among (get_or ns i 0)) ∙ among-at ns i 0 low))
 
 cells-filled : (ps : List Page) → cells (replicate (length ps) true) ps ≡ map Some ps
 cells-filled [] = refl
@@ -62,7 +61,7 @@ pub split-whole : (wanted : List Resource) (ns : List ℕ) (start rest taken : H
     → ((f : ℕ) → page_at taken f ≡ cond (is_among ns f) (page_at start f) None) → ((f : ℕ) → page_at rest f ≡ cond (is_among ns f) None (page_at start f))
     → ((v : ℕ) → vm_at taken v ≡ cond (is_wanted wanted (resource.Vm v)) (vm_at start v) None) → ((v : ℕ) → vm_at rest v ≡ cond (is_wanted wanted (resource.Vm v)) None (vm_at start v))
     → taken.free ≡ cond (is_wanted wanted resource.Free) start.free None → rest.free ≡ cond (is_wanted wanted resource.Free) None start.free
-    → rest.numbers ≡ start.numbers → length rest.vms ≡ length start.vms → IsSplit start (is_wanted wanted) rest taken
+    → rest.numbers ≡ start.numbers → rest.vms.numbers ≡ start.vms.numbers → IsSplit start (is_wanted wanted) rest taken
 split-whole wanted ns start rest taken among pages others slots left ends kept places room = record {
   taken_is = taken_at;
   rest_is = rest_at;
@@ -85,35 +84,37 @@ split-whole wanted ns start rest taken among pages others slots left ends kept p
 pub same-pages : (before mid after : Held) (free : Option Ends) → WithSlots before mid → after ≡ record mid { free = free } → (f : ℕ) → page_at after f ≡ page_at before f
 same-pages before mid after free slots ends f = ap (λ h. page_at h f) ends ∙ ap (λ h. page_at h f) slots
 
+-- what is taken out is all filled
+pub held-taken : (wanted : List Resource) (ns : List ℕ) (hs : List Bool) (ps : List Page) (start : Held) (n : ℕ) → AreFramesOf wanted ns → hs ≡ replicate n true → n ≡ length ns → map Some ps ≡ map (page_at start) ns → IsHeld ns hs ps
+held-taken wanted ns hs ps start n are filled count pages = record {
+  rising = are.rising;
+  frames = are.frames;
+  here = ap length filled ∙ length-replicate n true ∙ count;
+  pages = sym (length-map ps Some) ∙ ap length pages ∙ length-map ns (page_at start);
+  blanks = rw filled (blanks-filled n ps);
+}
+
 -- the same, in the words that the steps leave
-pub split-end : (wanted : List Resource) (ns : List ℕ) (hs : List Bool) (ps : List Page) (vms : List (Option VmSlot)) (ends : Option Ends) (start mid freed rest : Held) (asked : Bool) (n : ℕ)
+pub split-end : (wanted : List Resource) (ns : List ℕ) (hs : List Bool) (ps : List Page) (empty vms : HeldSlots) (ends : Option Ends) (start mid freed rest : Held) (asked : Bool) (n : ℕ)
     → AreFramesOf wanted ns → hs ≡ replicate n true → n ≡ length ns → map Some ps ≡ map (page_at freed) ns → IsLifted ns freed rest
-    → ((v : ℕ) → slot_of vms v ≡ cond (is_wanted wanted (resource.Vm v)) (vm_at start v) None) → ((v : ℕ) → vm_at mid v ≡ cond (is_wanted wanted (resource.Vm v)) None (vm_at start v))
-    → length mid.vms ≡ length start.vms → WithSlots start mid → ends ≡ cond asked mid.free None → freed ≡ record mid { free = cond asked None mid.free } → asked ≡ is_wanted wanted resource.Free
+    → AreSlotsFor (is_wanted wanted) empty.numbers → ((v : ℕ) → held_slot empty v ≡ None) → AreMoved empty.numbers start.vms empty mid.vms vms → WithSlots start mid → ends ≡ cond asked mid.free None → freed ≡ record mid { free = cond asked None mid.free } → asked ≡ is_wanted wanted resource.Free
     → IsSplit start (is_wanted wanted) rest (record { numbers = ns; here = hs; pages = ps; vms = vms; free = ends })
-split-end wanted ns hs ps vms ends start mid freed rest asked n are filled count pages lifted slots left room slots_only took kept is =
-    let same : length ps ≡ length ns = sym (length-map ps Some) ∙ ap length pages ∙ length-map ns (page_at freed) in
-    let held : IsHeld ns hs ps = record {
-      rising = are.rising;
-      frames = are.frames;
-      here = ap length filled ∙ length-replicate n true ∙ count;
-      pages = same;
-      blanks = rw filled (blanks-filled n ps);
-    } in
+split-end wanted ns hs ps empty vms ends start mid freed rest asked n are filled count pages lifted slots nothing moved slots_only took kept is =
+    let held = held-taken wanted ns hs ps freed n are filled count pages in
     let unmoved = same-pages start mid freed (cond asked None mid.free) slots_only kept in
     split-whole wanted ns start rest (record { numbers = ns; here = hs; pages = ps; vms = vms; free = ends }) are.members
-    (λ f. pages-taken ns hs ps freed held (filled ∙ ap (λ k. replicate k true) (count ∙ sym same)) pages f ∙ ap (λ o. cond (is_among ns f) o None) (unmoved f))
+    (λ f. pages-taken ns hs ps freed held (filled ∙ ap (λ k. replicate k true) (count ∙ sym held.pages)) pages f ∙ ap (λ o. cond (is_among ns f) o None) (unmoved f))
     (λ f. lifted.pages f ∙ ap (cond (is_among ns f) None) (unmoved f))
-    slots
-    (λ v. ap (λ vs. slot_of vs v) (lifted.vms ∙ ap (λ h. h.vms) kept) ∙ left v)
+    (λ v. moved.joined_is v ∙ rw (nothing v, slots.members v) refl)
+    (λ v. ap (λ vs. held_slot vs v) (lifted.vms ∙ ap (λ h. h.vms) kept) ∙ moved.left_is v ∙ ap (λ b. cond b None (vm_at start v)) (slots.members v))
     (took ∙ ap (λ b. cond b mid.free None) is ∙ ap (λ o. cond (is_wanted wanted resource.Free) o None) (ap (λ h. h.free) slots_only))
     (lifted.free ∙ ap (λ h. h.free) kept ∙ ap (λ b. cond b None mid.free) is ∙ ap (cond (is_wanted wanted resource.Free) None) (ap (λ h. h.free) slots_only))
     (lifted.numbers ∙ ap (λ h. h.numbers) kept ∙ ap (λ h. h.numbers) slots_only)
-    (ap length (lifted.vms ∙ ap (λ h. h.vms) kept) ∙ room)
+    (ap (λ vs. vs.numbers) (lifted.vms ∙ ap (λ h. h.vms) kept) ∙ moved.left_places)
 
 -- all that came out is here
 pub taken-full : (wanted : List Resource) (start rest taken : Held) → AreHere start wanted → IsSplit start (is_wanted wanted) rest taken → AreAmong wanted taken.numbers → IsFull taken
 taken-full wanted start rest taken here split among i low =
     let n = get_or taken.numbers i 0 in
-    let named : is_wanted wanted (resource.Frame n) ≡ true = sym (among n) ∙ among-at taken.numbers i low in
+    let named : is_wanted wanted (resource.Frame n) ≡ true = sym (among n) ∙ among-at taken.numbers i 0 low in
     page-here (page_at taken n) (rw (split.taken_is (resource.Frame n), named) (here (resource.Frame n) named))

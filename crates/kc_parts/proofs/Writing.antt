@@ -5,11 +5,10 @@ use Rattle.std.proofs.lemmas.Option.{slice_get_past}
 use Rattle.std.proofs.lemmas.Bool.{eqb-true}
 use Rattle.kc_types.specs.declared.link.Ends.{Ends}
 use Rattle.kc_page.specs.declared.page.Page.{Page}
-use Rattle.kc_vms.specs.Slots.{VmSlot}
-use Rattle.kc_parts.specs.Held.{Held, IsHeld, IsRising, place_of, is_filled, page_at}
+use Rattle.kc_parts.specs.Held.{Held, HeldSlots, IsHeld, IsRising, place_of, is_filled, page_at, cell_in}
 use Rattle.kc_parts.specs.Moves.{IsWrite, page_among}
 use Rattle.kc_parts.proofs.Places.{place-found}
-use Rattle.kc_parts.proofs.Filled.{cells, cell_in, page_at-cells, cells-set, cell-set, length-cells}
+use Rattle.kc_parts.proofs.Filled.{cells, page_at-cells, cells-set, cell-set, length-cells}
 
 pub place-number : (ns : List ℕ) (f : ℕ) → place_of ns f < length ns → get_or ns (place_of ns f) 0 ≡ f
 place-number [] f h = absurd (omega (arith, h))
@@ -40,7 +39,7 @@ filled-here ns hs ps f h = by_filled (is_filled ns hs f) refl h
 pub place-here : (ns : List ℕ) (hs : List Bool) (ps : List Page) (f : ℕ) → IsSome (page_among ns hs ps f) → place_of ns f < length ns
 place-here ns hs ps f here = filled-place ns hs f (filled-here ns hs ps f here)
 
-pub write-place : (ns : List ℕ) (hs : List Bool) (ps : List Page) (vms : List (Option VmSlot)) (free : Option Ends) (f at : ℕ) (b : Bool) (p : Page)
+pub write-place : (ns : List ℕ) (hs : List Bool) (ps : List Page) (vms : HeldSlots) (free : Option Ends) (f at : ℕ) (b : Bool) (p : Page)
     → IsHeld ns hs ps → at ≡ place_of ns f → place_of ns f < length ns
     → IsWrite f (cond b (Some p) None) (record { numbers = ns; here = hs; pages = ps; vms = vms; free = free })
     (record { numbers = ns; here = set hs at b; pages = set ps at p; vms = vms; free = free })

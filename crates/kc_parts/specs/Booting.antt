@@ -6,7 +6,8 @@ use Rattle.kc_types.specs.declared.link.Ends.{Ends}
 use Rattle.kc_model.specs.State.{zero_page}
 use Rattle.kc_model.specs.Boot.{boot_owner}
 use Rattle.kc_page.specs.declared.page.Page.{Page}
-use Rattle.kc_parts.specs.Held.{Held, page_at, vm_at}
+use Rattle.kc_vms.specs.Slots.{empty_vm}
+use Rattle.kc_parts.specs.Held.{Held, HeldSlots, page_at, vm_at}
 
 -- the first frame that is free at boot
 abbrev pub first_free : Configuration → ℕ
@@ -31,6 +32,10 @@ boot_ends config = record {
   tail = cond (nat_lt (first_free config) config.frames) (Some (config.frames - 1)) None;
   count = config.frames - first_free config;
 }
+
+-- every slot of the configuration, empty, in the place of its number
+abbrev pub boot_slots : Configuration → HeldSlots
+boot_slots config = record { numbers = range_with_len 0 (slot_count config); slots = replicate (slot_count config) (Some (empty_vm config.leaves)) }
 
 -- all that the configuration has is here, in the places of its numbers, and no slot past its last
 pub record IsWhole (config : Configuration) (h : Held) : Type 0 where

@@ -1,5 +1,5 @@
 -- Parts taken out of parts, and parts put back.
-use Rattle.std.specs.Prelude.{ℕ, suc, ◌≡◌, ◌<◌, ◌==◌, Bool, true, false, cond, List, length, get_or, Option, Some, None, IsSome}
+use Rattle.std.specs.Prelude.{ℕ, ◌≡◌, ◌<◌, ◌==◌, Bool, true, false, cond, List, length, get_or, Option, Some, None, IsSome}
 use Rattle.std.specs.Option.{option_map}
 use Rattle.std.specs.List.{list_any}
 use Rattle.kc_types.specs.declared.link.Ends.{Ends}
@@ -7,7 +7,7 @@ use Rattle.kc_types.specs.declared.resource.Resource.{Resource}
 use Rattle.kc_types.specs.declared.resource.Resource.TheVariants as resource
 use Rattle.kc_page.specs.declared.page.Page.{Page}
 use Rattle.kc_vms.specs.Slots.{VmSlot}
-use Rattle.kc_parts.specs.Held.{Held, place_of, page_at, vm_at}
+use Rattle.kc_parts.specs.Held.{Held, IsRising, HasPlace, is_among, page_at, vm_at}
 
 -- what can be held of one resource: a page with its record and links, a slot with the ends of its list, the ends of the free list
 pub data HeldPart : Type 0 where
@@ -46,17 +46,17 @@ pub record IsSplit (before : Held) (test : Resource → Bool) (rest taken : Held
   pub taken_is : (r : Resource) → held_at taken r ≡ cond (test r) (held_at before r) None
   pub rest_is : (r : Resource) → held_at rest r ≡ cond (test r) None (held_at before r)
   pub places : rest.numbers ≡ before.numbers
-  pub slots : length rest.vms ≡ length before.vms
+  pub slots : rest.vms.numbers ≡ before.vms.numbers
 
--- so many slots reach up to the highest that passes the test, and no further
-pub record AreSlotsFor (test : Resource → Bool) (slots : ℕ) : Type 0 where
-  pub all : (v : ℕ) → test (resource.Vm v) ≡ true → v < slots
-  pub least : (v : ℕ) → slots ≡ suc v → test (resource.Vm v) ≡ true
+-- the slots that pass the test and no others, each once
+pub record AreSlotsFor (test : Resource → Bool) (numbers : List ℕ) : Type 0 where
+  pub members : (v : ℕ) → is_among numbers v ≡ test (resource.Vm v)
+  pub rising : IsRising numbers
 
 -- for whatever other has, h has a place, and nothing in it
 pub record FitsInto (h other : Held) : Type 0 where
-  pub pages : (f : ℕ) (page : Page) → page_at other f ≡ Some page → (place_of h.numbers f < length h.numbers) × (page_at h f ≡ None)
-  pub slots : (v : ℕ) (vm : VmSlot) → vm_at other v ≡ Some vm → (v < length h.vms) × (vm_at h v ≡ None)
+  pub pages : (f : ℕ) (page : Page) → page_at other f ≡ Some page → HasPlace h.numbers f × (page_at h f ≡ None)
+  pub slots : (v : ℕ) (vm : VmSlot) → vm_at other v ≡ Some vm → HasPlace h.vms.numbers v × (vm_at h v ≡ None)
   pub ends : (ends : Ends) → other.free ≡ Some ends → h.free ≡ None
 
 -- the first where there is one, else the second

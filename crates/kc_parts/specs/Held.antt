@@ -1,6 +1,7 @@
--- Parts as contracts see them: places for frames, each filled or empty, slots, and the ends of the free list.
-use Rattle.std.specs.Prelude.{ℕ, suc, ◌<◌, ◌≡◌, ◌==◌, nat_lt, Bool, true, false, cond, List, [], ◌∷◌, length, get_or, Option, Some, None, slice_get, slice_set, slice_index_or}
+-- Parts as contracts see them: places for frames and for slots, each filled or empty, and the ends of the free list.
+use Rattle.std.specs.Prelude.{ℕ, suc, ◌<◌, ◌≡◌, ◌==◌, nat_lt, Bool, true, false, cond, List, [], ◌∷◌, length, get_or, Option, Some, None, slice_get, slice_set}
 use Rattle.std.specs.Option.{option_map}
+use Rattle.std.specs.List.{list_any}
 use Rattle.kc_types.specs.Limits.{frame_limit}
 use Rattle.kc_types.specs.declared.link.Link.{Link}
 use Rattle.kc_types.specs.declared.link.Ends.{Ends}
@@ -11,12 +12,17 @@ use Rattle.kc_page.specs.declared.page.Page.{Page}
 use Rattle.kc_vms.specs.Slots.{VmSlot}
 use Rattle.kc_links.specs.Chain.{Links}
 
+-- `numbers` are the slots that there are places for, rising; `slots` has at each place its slot, and nothing where it is taken out
+pub record HeldSlots : Type 0 where
+  pub numbers : List ℕ
+  pub slots : List (Option VmSlot)
+
 -- `numbers` are the frames that there are places for, rising; `here` says which places are filled; `pages` has a page at each place, a blank at an empty one
 pub record Held : Type 0 where
   pub numbers : List ℕ
   pub here : List Bool
   pub pages : List Page
-  pub vms : List (Option VmSlot)
+  pub vms : HeldSlots
   pub free : Option Ends
 
 abbrev pub IsRising : List ℕ → Type 0
@@ -41,10 +47,29 @@ pub record IsHeld (numbers : List ℕ) (filled : List Bool) (held : List Page) :
   pub pages : length held ≡ length numbers
   pub blanks : AreBlanks filled held
 
--- the place of a frame, and the number of places where it has none
+-- what the representation keeps of slots
+pub record AreHeldSlots (numbers : List ℕ) (slots : List (Option VmSlot)) : Type 0 where
+  pub rising : IsRising numbers
+  pub places : length slots ≡ length numbers
+
+-- the number is in the list
+abbrev pub is_among : List ℕ → ℕ → Bool
+is_among numbers n = list_any (λ number. n == number) numbers
+
+-- the place of a number, and the number of places where it has none
 abbrev pub place_of : List ℕ → ℕ → ℕ
-place_of [] f = 0
-place_of (number ∷ numbers) f = cond (number == f) 0 (suc (place_of numbers f))
+place_of [] n = 0
+place_of (number ∷ numbers) n = cond (number == n) 0 (suc (place_of numbers n))
+
+-- there is a place for the number
+abbrev pub HasPlace : List ℕ → ℕ → Type 0
+HasPlace numbers n = place_of numbers n < length numbers
+
+-- what stands at the place of the number, and nothing where it has none
+abbrev pub cell_in : {X : Type 0} → List ℕ → List (Option X) → ℕ → Option X
+cell_in [] cells n = None
+cell_in (number ∷ numbers) [] n = None
+cell_in (number ∷ numbers) (cell ∷ cells) n = cond (n == number) cell (cell_in numbers cells n)
 
 -- whether the frame's place is filled
 abbrev pub is_filled : List ℕ → List Bool → ℕ → Bool
@@ -59,14 +84,21 @@ place_in h f = cond (is_filled h.numbers h.here f) (place_of h.numbers f) (lengt
 abbrev pub page_at : Held → ℕ → Option Page
 page_at h f = slice_get h.pages (place_in h f)
 
+-- a slot by its number, and nothing where it is not here
+abbrev pub held_slot : HeldSlots → ℕ → Option VmSlot
+held_slot held v = cell_in held.numbers held.slots v
+
 abbrev pub vm_at : Held → ℕ → Option VmSlot
-vm_at h v = slice_index_or h.vms v None
+vm_at h v = held_slot h.vms v
 
 abbrev pub with_page : Held → ℕ → Page → Held
 with_page h f page = record h { pages = slice_set h.pages (place_in h f) page }
 
+abbrev pub with_held_slot : HeldSlots → ℕ → VmSlot → HeldSlots
+with_held_slot held v vm = record held { slots = slice_set held.slots (place_of held.numbers v) (Some vm) }
+
 abbrev pub with_vm : Held → ℕ → VmSlot → Held
-with_vm h v vm = record h { vms = slice_set h.vms v (Some vm) }
+with_vm h v vm = record h { vms = with_held_slot h.vms v vm }
 
 -- the slot with other ends of its list
 abbrev pub with_ends : VmSlot → Ends → VmSlot

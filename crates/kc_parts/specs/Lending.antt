@@ -7,12 +7,17 @@ use Rattle.kc_page.specs.declared.page.Page.{Page}
 use Rattle.kc_page.specs.contracts.page.Page.{the_row as page_row}
 use Rattle.kc_vms.specs.Slots.{VmSlot}
 use Rattle.kc_vms.specs.contracts.vm.Vm.{the_row as vm_row}
-use Rattle.kc_parts.specs.Held.{Held, with_page, with_vm}
+use Rattle.kc_parts.specs.Held.{Held, HeldSlots, with_page, with_held_slot, with_vm}
 use Rattle.kc_parts.specs.contracts.parts.Parts.{the_row}
+use Rattle.kc_parts.specs.contracts.slots.VmSlots.{the_row as slots_row}
 
 -- the parts end with the page that is left behind the reference
 abbrev pub LendsPage : MutBor Held → ℕ → Option (MutBor Page) → Fml
 LendsPage parts f page = LendsIf the_row page_row parts page (with_page parts.now f) parts.now
+
+-- the slots end with the slot that is left behind the reference
+abbrev pub LendsSlot : MutBor HeldSlots → ℕ → Option (MutBor VmSlot) → Fml
+LendsSlot slots v vm = LendsIf slots_row vm_row slots vm (with_held_slot slots.now v) slots.now
 
 -- the parts end with the slot that is left behind the reference
 abbrev pub LendsVm : MutBor Held → ℕ → Option (MutBor VmSlot) → Fml

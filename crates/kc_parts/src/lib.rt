@@ -7,6 +7,7 @@ mod emptying;
 mod links;
 mod lists;
 mod parts;
+mod place;
 mod room;
 mod slots;
 mod wanted;

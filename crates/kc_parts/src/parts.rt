@@ -1,16 +1,17 @@
 //! Pages, slots and the ends of the free list, taken out and put back.
 ghost use Rattle.std.specs.Prelude.{◌≡◌, ◌↔◌, ℕ, ◌<◌, IsTrue, is_some, length, get_or, slice_get, IsSome, IfSome, IfOk, OnOk, OnErr, Option, Some, None, map, cond, true, false, replicate};
+ghost use Rattle.std.specs.List.{range_with_len};
 ghost use Rattle.std.specs.Option.{option_copied, option_copied_mut};
 ghost use Rattle.std.specs.Borrow.{sem};
-ghost use Rattle.kc_types.specs.declared.resource.Resource.TheVariants as resource;
 ghost use Rattle.kc_page.specs.Pages.{scrubbed_page};
-ghost use Rattle.kc_parts.specs.Held.{IsRising, place_of};
+ghost use Rattle.kc_parts.specs.Held.{IsRising};
 
 use crate::Room;
 use crate::blank::Blank;
-use crate::boot::{all_filled, all_numbers, boot_ends, boot_pages, boot_vms};
-use crate::slots::{lay_slots, move_slots};
-use crate::wanted::{empty_slots, slots_up_to, wanted_frames, wants_free};
+use crate::boot::{all_filled, all_numbers, boot_ends, boot_pages};
+use crate::place::place_of;
+use crate::slots::VmSlots;
+use crate::wanted::{wanted_frames, wanted_slots, wants_free};
 use kc_page::{Page, scrub_each};
 use kc_types::{Config, Ends, FrameNo, Memory, Resource, VmId};
 use kc_vms::Vm;
@@ -18,16 +19,16 @@ use std::alloc::Global;
 use std::marker::Model;
 use std::mem::{replace, swap};
 
-/// Parts that are in one hand: pages in places of their own, by rising frame number, VM slots, and the ends of
-/// the free list. A place stays where it is when its page is taken out, with a blank page in it, so what is
-/// put back needs no memory.
+/// Parts that are in one hand: pages and VM slots in places of their own, by rising number, and the ends of the
+/// free list. A place stays where it is when its page is taken out, with a blank page in it, so what is put
+/// back needs no memory.
 #[derive(Drop)]
 pub struct Parts {
     numbers: Vec<u32>,
     here: Vec<bool>,
     pages: Vec<Page>,
     blanks: Vec<Blank>,
-    vms: Vec<Option<Vm>>,
+    vms: VmSlots,
     free: Option<Ends>,
 }
 
@@ -41,36 +42,20 @@ impl Model for Parts {
 
     ghost coded = { Prim.hlevel (codes, map.code {R = nat_cmp} coded_ℕ coded_ℕ) };
 
-    ghost view = { λ p. record { numbers = p.numbers.items; here = p.here.items; pages = p.pages.items; vms = p.vms.items; free = p.free } };
+    ghost view = { λ p. record { numbers = p.numbers.items; here = p.here.items; pages = p.pages.items; vms = p.vms; free = p.free } };
 
     ghost invariant = { λ p. IsHeld p.numbers.items p.here.items p.pages.items };
 }
 
-/// The place of a frame among rising numbers, and their count where it has none. Where all frames have places
-/// it is found at once.
-fn place_of(numbers: &[u32], frame: u32) -> usize
-    requires { IsRising numbers.now }
-    ensures { result ≡ place_of numbers.now frame }
-{
-    let at = frame as usize;
-    if at < numbers.len() && numbers[at] == frame {
-        return at;
-    }
-    match numbers.binary_search(&frame) {
-        Ok(at) => at,
-        Err(_) => numbers.len(),
-    }
-}
-
 impl Parts {
-    ghost use Rattle.kc_types.specs.Configuration.{IsConfiguration};
+    ghost use Rattle.kc_types.specs.Configuration.{IsConfiguration, slot_count};
     ghost use Rattle.kc_model.specs.Boot.{boot};
-    ghost use Rattle.kc_parts.specs.Held.{IsHeld, blank_page, place_in, page_at, vm_at};
+    ghost use Rattle.kc_parts.specs.Held.{IsHeld, blank_page, place_in, page_at, held_slot, vm_at};
     ghost use Rattle.kc_parts.specs.States.{state_of, IsLinked};
     ghost use Rattle.kc_parts.specs.Booting.{IsWhole};
     ghost use Rattle.kc_parts.specs.Lending.{LendsPage, LendsVm, LendsFree, LendsPages};
     ghost use Rattle.kc_parts.specs.Cuts.{AreHere, IsSplit, AreSlotsFor, FitsInto, IsJoin, IsFull, held_at, is_wanted};
-    ghost use Rattle.kc_parts.specs.Moves.{IsWrite, IsLifted, IsLaid, IsEmptyPlace, WithSlots, only_at, page_among, slot_of};
+    ghost use Rattle.kc_parts.specs.Moves.{IsWrite, IsLifted, IsLaid, IsEmptyPlace, AreMoved, WithSlots, only_at, page_among};
 
     /// All parts of the boot state: every frame of the configuration, zeroed, every slot, empty, and the free
     /// list by rising number; `Memory` where a growth was refused.
@@ -80,6 +65,7 @@ impl Parts {
         ensures linked { IfOk result (IsLinked config.now) }
         ensures whole { IfOk result (IsWhole config.now) }
         ensures full { IfOk result IsFull }
+        ensures slots { IfOk result (λ parts. parts.vms.numbers ≡ range_with_len 0 (slot_count config.now)) }
         ensures config { OnOk result (IsConfiguration config.now) }
     {
         Ok(Parts {
@@ -87,7 +73,7 @@ impl Parts {
             here: all_filled(alloc, config.frames())?,
             pages: boot_pages(alloc, config)?,
             blanks: Vec::new(alloc),
-            vms: boot_vms(alloc, config)?,
+            vms: VmSlots::boot(alloc, config)?,
             free: Some(boot_ends(config)),
         })
     }
@@ -125,10 +111,7 @@ impl Parts {
     pub fn vm(&self, vm: VmId) -> Option<&Vm>
         ensures { option_copied result ≡ vm_at self.now vm }
     {
-        match self.vms.get(vm.index()) {
-            Some(Some(vm)) => Some(vm),
-            _ => None,
-        }
+        self.vms.get(vm)
     }
 
     /// A VM slot, for writing; `None` where it is not here.
@@ -136,7 +119,7 @@ impl Parts {
         ensures value { option_copied_mut result ≡ vm_at self.old vm }
         ensures* writes_back { sem 𝓛 (LendsVm self.entry vm result) }
     {
-        self.vms.get_mut(vm.index())?.as_mut()
+        self.vms.get_mut(vm)
     }
 
     /// The ends of the free list; `None` where they are not here.
@@ -156,11 +139,11 @@ impl Parts {
 
     /// How many frames and slots it can hold without memory.
     pub fn room(&self) -> Room
-        ensures { result ≡ record { frames = length self.now.numbers; slots = length self.now.vms } }
+        ensures { result ≡ record { frames = length self.now.numbers; slots = length self.now.vms.numbers } }
     {
         Room {
             frames: self.numbers.len(),
-            slots: self.vms.len(),
+            slots: self.vms.count(),
         }
     }
 
@@ -223,22 +206,23 @@ impl Parts {
     }
 
     /// Takes the resources out, all of which are here. What comes out has room for just these: a place for each
-    /// frame, and slots up to the highest. A resource may be named more than once. `Memory` where a growth was
-    /// refused, and then nothing has changed.
+    /// frame and for each slot. A resource may be named more than once. `Memory` where a growth was refused, and
+    /// then nothing has changed.
     pub fn take_out(&mut self, alloc: Global, wanted: &[Resource]) -> Result<Parts, Memory>
         requires { AreHere self.old wanted.now }
         // No clause can rule out want of memory: tests take parts out.
         ensures ok { IfOk result (λ taken. IsSplit self.old (is_wanted wanted.now) self.new taken) }
         ensures full { IfOk result IsFull }
         ensures fits { IfOk result (FitsInto self.new) }
-        ensures room { IfOk result (λ taken. AreSlotsFor (is_wanted wanted.now) (length taken.vms)) }
+        ensures room { IfOk result (λ taken. AreSlotsFor (is_wanted wanted.now) taken.vms.numbers) }
         ensures err { OnErr result (self.new ≡ self.old) }
     {
         let numbers = wanted_frames(alloc, wanted)?;
         let here = vec![in alloc; true; numbers.len()]?;
-        let mut vms = empty_slots(alloc, slots_up_to(wanted))?;
+        let slots = wanted_slots(alloc, wanted)?;
+        let mut vms = VmSlots::places(alloc, slots)?;
         let mut pages = self.blank_pages(alloc, numbers.len())?;
-        self.lift_slots(wanted, &mut vms);
+        self.lift_slots(&mut vms);
         let free = self.lift_free(wants_free(wanted));
         self.lift_pages(numbers.as_slice(), &mut pages);
         Ok(Parts {
@@ -256,7 +240,7 @@ impl Parts {
         requires { FitsInto self.old other }
         ensures joined { IsJoin self.old other self.new }
         ensures places { self.new.numbers ≡ self.old.numbers }
-        ensures slots { length self.new.vms ≡ length self.old.vms }
+        ensures slots { self.new.vms.numbers ≡ self.old.vms.numbers }
     {
         let Parts {
             numbers,
@@ -267,7 +251,7 @@ impl Parts {
             free,
         } = other;
         drop(blanks);
-        lay_slots(&mut self.vms, vms);
+        self.vms.put_back(vms);
         if free.is_some() {
             self.free = free;
         }
@@ -309,18 +293,13 @@ impl Parts {
         }
     }
 
-    /// Takes the slots among the resources, which are here, into places that are empty.
-    fn lift_slots(&mut self, wanted: &[Resource], vms: &mut Vec<Option<Vm>>)
-        requires here { AreHere self.old wanted.now }
-        requires room { (v : ℕ) → is_wanted wanted.now (resource.Vm v) ≡ true → v < length vms.old.items }
-        requires empty { (v : ℕ) → slot_of vms.old.items v ≡ None }
-        ensures taken { (v : ℕ) → slot_of vms.new.items v ≡ cond (is_wanted wanted.now (resource.Vm v)) (vm_at self.old v) None }
-        ensures left { (v : ℕ) → vm_at self.new v ≡ cond (is_wanted wanted.now (resource.Vm v)) None (vm_at self.old v) }
-        ensures length { length self.new.vms ≡ length self.old.vms }
-        ensures places { length vms.new.items ≡ length vms.old.items }
+    /// Takes the slots that these places, which are empty, are for.
+    fn lift_slots(&mut self, vms: &mut VmSlots)
+        requires { (v : ℕ) → held_slot vms.old v ≡ None }
+        ensures moved { AreMoved vms.old.numbers self.old.vms vms.old self.new.vms vms.new }
         ensures rest { WithSlots self.old self.new }
     {
-        move_slots(&mut self.vms, vms, wanted);
+        vms.take_from(&mut self.vms);
     }
 
     /// Takes the ends of the free list, where asked.

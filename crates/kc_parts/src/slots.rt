@@ -1,59 +1,148 @@
-//! Slots that move from parts to parts.
-ghost use Rattle.std.specs.Prelude.{◌≡◌, ℕ, ◌<◌, ◌==◌, cond, length, slice_set, true, Some, None};
-ghost use Rattle.kc_types.specs.declared.resource.Resource.TheVariants as resource;
+//! VM slots in places, and how they move from place to place.
+ghost use Rattle.std.specs.Prelude.{◌≡◌, ℕ, [], ◌∷◌, length, replicate, slice_index_or, IfOk, Some, None};
+ghost use Rattle.std.specs.Option.{option_copied, option_copied_mut};
+ghost use Rattle.std.specs.Borrow.{sem};
 ghost use Rattle.kc_vms.specs.Slots.{VmSlot};
-ghost use Rattle.kc_parts.specs.Cuts.{is_wanted, either};
-ghost use Rattle.kc_parts.specs.Moves.{slot_of};
+ghost use Rattle.kc_parts.specs.Held.{IsRising, HasPlace, is_among, place_of, held_slot};
+ghost use Rattle.kc_parts.specs.Booting.{boot_slots};
+ghost use Rattle.kc_parts.specs.Lending.{LendsSlot};
+ghost use Rattle.kc_parts.specs.Cuts.{either};
+ghost use Rattle.kc_parts.specs.Moves.{IsEmptySlot, IsSlotWrite, AreMoved};
 
-use kc_types::Resource;
+use crate::boot::{all_numbers, boot_vms};
+use crate::place::place_of;
+use kc_types::{Config, Memory, VmId};
 use kc_vms::Vm;
+use std::alloc::Global;
+use std::marker::Model;
 
-/// Moves the slots among the resources.
-pub(crate) fn move_slots(from: &mut Vec<Option<Vm>>, to: &mut Vec<Option<Vm>>, wanted: &[Resource])
-    requires room { (v : ℕ) → is_wanted wanted.now (resource.Vm v) ≡ true → (v < length from.old.items) × (v < length to.old.items) }
-    requires empty { (v : ℕ) → slot_of to.old.items v ≡ None }
-    ensures moved { (v : ℕ) → slot_of to.new.items v ≡ cond (is_wanted wanted.now (resource.Vm v)) (slot_of from.old.items v) None }
-    ensures left { (v : ℕ) → slot_of from.new.items v ≡ cond (is_wanted wanted.now (resource.Vm v)) None (slot_of from.old.items v) }
-    ensures length { length from.new.items ≡ length from.old.items }
-    ensures places { length to.new.items ≡ length to.old.items }
-{
-    for resource in wanted {
-        if let Resource::Vm(vm) = *resource {
-            move_slot(from, to, vm.index());
+/// VM slots in places of their own, by rising number. A place stays where it is when its slot is taken out, so
+/// what is put back needs no memory.
+#[derive(Drop)]
+pub(crate) struct VmSlots {
+    numbers: Vec<u32>,
+    slots: Vec<Option<Vm>>,
+}
+
+impl Model for VmSlots {
+    ghost use Rattle.std.specs.Coded.{codes, coded_ℕ};
+    ghost use Rattle.std.specs.Ordering.{nat_cmp};
+    ghost use Rattle.std.specs.FinMap as map;
+    ghost use Rattle.kc_parts.specs.Held.{HeldSlots, AreHeldSlots};
+
+    ghost Value = { HeldSlots };
+
+    ghost coded = { Prim.hlevel (codes, map.code {R = nat_cmp} coded_ℕ coded_ℕ) };
+
+    ghost view = { λ s. record { numbers = s.numbers.items; slots = s.slots.items } };
+
+    ghost invariant = { λ s. AreHeldSlots s.numbers.items s.slots.items };
+}
+
+impl VmSlots {
+    /// All slots of the configuration, empty, each in the place of its number.
+    pub(crate) fn boot(alloc: Global, config: &Config) -> Result<VmSlots, Memory>
+        ensures { IfOk result (λ slots. slots ≡ boot_slots config.now) }
+    {
+        Ok(VmSlots {
+            numbers: all_numbers(alloc, config.slots())?,
+            slots: boot_vms(alloc, config)?,
+        })
+    }
+
+    /// A place for each of these slots, with nothing in it.
+    pub(crate) fn places(alloc: Global, numbers: Vec<u32>) -> Result<VmSlots, Memory>
+        requires { IsRising numbers.items }
+        ensures { IfOk result (λ slots. slots ≡ record { numbers = numbers.items; slots = replicate (length numbers.items) None }) }
+    {
+        let mut slots = Vec::with_capacity(alloc, numbers.len())?;
+        for _ in 0..numbers.len() {
+            slots.push(None)?;
+        }
+        Ok(VmSlots { numbers, slots })
+    }
+
+    /// How many slots there are places for.
+    pub(crate) fn count(&self) -> usize
+        ensures { result ≡ length self.now.numbers }
+    {
+        self.numbers.len()
+    }
+
+    /// The place of a slot, and the number of places where it has none.
+    #[tactic(auto, using(crate::proofs::Cells::cell_place))]
+    fn place(&self, number: u32) -> usize
+        ensures place { result ≡ place_of self.now.numbers number }
+        ensures slot { slice_index_or self.now.slots result None ≡ held_slot self.now number }
+    {
+        place_of(self.numbers.as_slice(), number)
+    }
+
+    /// A slot; `None` where it is not here.
+    pub(crate) fn get(&self, vm: VmId) -> Option<&Vm>
+        ensures { option_copied result ≡ held_slot self.now vm }
+    {
+        let at = self.place(vm.index() as u32);
+        self.slots.get(at)?.as_ref()
+    }
+
+    /// A slot, for writing; `None` where it is not here.
+    pub(crate) fn get_mut(&mut self, vm: VmId) -> Option<&mut Vm>
+        ensures value { option_copied_mut result ≡ held_slot self.old vm }
+        ensures* writes_back { sem 𝓛 (LendsSlot self.entry vm result) }
+    {
+        let at = self.place(vm.index() as u32);
+        self.slots.get_mut(at)?.as_mut()
+    }
+
+    /// Takes a slot out of its place; `None` where it is not here.
+    fn take(&mut self, number: u32) -> Option<Vm>
+        ensures taken { result ≡ held_slot self.old number }
+        ensures rest { IsSlotWrite number None self.old self.new }
+    {
+        let at = self.place(number);
+        self.slots.get_mut(at)?.take()
+    }
+
+    /// Lays a slot into its place.
+    fn lay(&mut self, number: u32, vm: Vm)
+        requires { HasPlace self.old.numbers number }
+        ensures { IsSlotWrite number (Some vm) self.old self.new }
+    {
+        let at = self.place(number);
+        self.slots[at] = Some(vm);
+    }
+
+    /// Fills the places, which are empty, with what another has of their slots.
+    pub(crate) fn take_from(&mut self, other: &mut VmSlots)
+        requires { (v : ℕ) → held_slot self.old v ≡ None }
+        ensures { AreMoved self.old.numbers other.old self.old other.new self.new }
+    {
+        for at in 0..self.numbers.len() {
+            let number = self.numbers[at];
+            move_slot(other, self, number);
+        }
+    }
+
+    /// Puts slots back into their places, which are empty.
+    pub(crate) fn put_back(&mut self, mut other: VmSlots)
+        requires { (v : ℕ) (vm : VmSlot) → held_slot other v ≡ Some vm → IsEmptySlot self.old v }
+        ensures joined { (v : ℕ) → held_slot self.new v ≡ either (held_slot self.old v) (held_slot other v) }
+        ensures places { self.new.numbers ≡ self.old.numbers }
+    {
+        for at in 0..other.numbers.len() {
+            let number = other.numbers[at];
+            move_slot(&mut other, self, number);
         }
     }
 }
 
-/// Moves a slot, if it is there.
-fn move_slot(from: &mut Vec<Option<Vm>>, to: &mut Vec<Option<Vm>>, at: usize)
-    requires from { at < length from.old.items }
-    requires to { at < length to.old.items }
-    ensures moved { to.new.items ≡ slice_set to.old.items at (either (slot_of from.old.items at) (slot_of to.old.items at)) }
-    ensures left { from.new.items ≡ slice_set from.old.items at None }
+/// Moves a slot, if it is there, into its place, which is empty.
+fn move_slot(from: &mut VmSlots, to: &mut VmSlots, number: u32)
+    requires { (vm : VmSlot) → held_slot from.old number ≡ Some vm → IsEmptySlot to.old number }
+    ensures { AreMoved (number ∷ []) from.old to.old from.new to.new }
 {
-    if from[at].is_some() {
-        to[at] = from[at].take();
-    }
-}
-
-/// Lays slots into their places, which are empty.
-pub(crate) fn lay_slots(into: &mut Vec<Option<Vm>>, mut from: Vec<Option<Vm>>)
-    requires { (v : ℕ) (vm : VmSlot) → slot_of from.items v ≡ Some vm → (v < length into.old.items) × (slot_of into.old.items v ≡ None) }
-    ensures joined { (v : ℕ) → slot_of into.new.items v ≡ either (slot_of into.old.items v) (slot_of from.items v) }
-    ensures length { length into.new.items ≡ length into.old.items }
-{
-    while let Some(slot) = from.pop() {
-        lay_slot(into, from.len(), slot);
-    }
-}
-
-/// Lays a slot into its place, which is empty, if it is there.
-fn lay_slot(into: &mut Vec<Option<Vm>>, at: usize, slot: Option<Vm>)
-    requires { (vm : VmSlot) → slot ≡ Some vm → (at < length into.old.items) × (slot_of into.old.items at ≡ None) }
-    ensures joined { (v : ℕ) → slot_of into.new.items v ≡ either (slot_of into.old.items v) (cond (v == at) slot None) }
-    ensures length { length into.new.items ≡ length into.old.items }
-{
-    if slot.is_some() {
-        into[at] = slot;
+    if let Some(vm) = from.take(number) {
+        to.lay(number, vm);
     }
 }

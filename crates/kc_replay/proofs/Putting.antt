@@ -132,7 +132,7 @@ module _ (m : State) (calls : List Call) (feet : ℕ → Resources) (members : L
           (rw places.numbers (place-low m.config.frames f (ltb-true f m.config.frames (there (resource.Frame f) t))), page-none (page_at h f) (absent (resource.Frame f) t));
       slots = λ v vm e.
           let t = foot (resource.Vm v) (slot_part vm) (ap (option_map slot_part) e) in
-          (let l = ltb-true v (slot_count m.config) (there (resource.Vm v) t) in let n = places.slots in omega (arith, l, n), slot-none (vm_at h v) (absent (resource.Vm v) t));
+          (places.slots v (ltb-true v (slot_count m.config) (there (resource.Vm v) t)), slot-none (vm_at h v) (absent (resource.Vm v) t));
       ends = λ ends e.
           let t = foot resource.Free (ends_part ends) (ap (option_map ends_part) e) in
           ends-none h.free (absent resource.Free t);

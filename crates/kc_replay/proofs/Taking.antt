@@ -5,7 +5,7 @@ use Rattle.std.specs.Option.{option_map}
 use Rattle.std.proofs.lemmas.Grind.{common_steps}
 use Rattle.std.proofs.lemmas.Bool.{cases_lt, lt-ltb}
 use Rattle.std.proofs.lemmas.Option.{same_Some}
-use Rattle.std.proofs.lemmas.List.{map-id, get_or_past}
+use Rattle.std.proofs.lemmas.List.{map-id}
 use Rattle.std.proofs.lemmas.List.FromFn.{map-range_with_len_more}
 use Rattle.kc_types.specs.Limits.{frame_limit}
 use Rattle.kc_model.proofs.Configurations.{few-frames}
@@ -29,8 +29,9 @@ use Rattle.kc_links.specs.Chain.{unlinked}
 use Rattle.kc_links.specs.Ending.{listed}
 use Rattle.kc_parts.specs.Cuts.{HeldPart, held_at}
 use Rattle.kc_parts.specs.Cuts.HeldPart.{page_part, slot_part, ends_part}
-use Rattle.kc_parts.specs.Held.{Held, page_at, vm_at, link_of, links_of, ends_at}
+use Rattle.kc_parts.specs.Held.{Held, HasPlace, page_at, vm_at, link_of, links_of, ends_at}
 use Rattle.kc_parts.specs.States.{frame_in, slot_in, list_in, unlinked_slot, state_of, owner_at}
+use Rattle.kc_parts.proofs.Cells.{place-held}
 use Rattle.kc_parts.proofs.Seen.{frame-seen, slot-seen}
 use Rattle.kc_core.specs.Cores.{IsCore}
 use Rattle.kc_parts.specs.Restricted.{seen_link, seen_part, seen_at, exists_in, IsRestricted}
@@ -85,11 +86,12 @@ module _ (config : Configuration) (h : Held) (is : IsCore config h) where
           ((lists-all (state_of config h) is.lawful).slots v f v_low own)
 
   -- it has a place for each slot
-  pub slots-whole : slot_count config ≤ length h.vms
-  slots-whole = elim (cases_lt (length h.vms) (slot_count config)) [
-    | inl short ↦ let some = is.whole.vms (length h.vms) short in let none : vm_at h (length h.vms) ≡ None = get_or_past h.vms (length h.vms) None (omega arith) in let no = rw none at some in cc
-    | inr enough ↦ enough
-  ]
+  pub slots-whole : (v : ℕ) → v < slot_count config → HasPlace h.vms.numbers v
+  slots-whole v low = by_vm (vm_at h v) refl
+    where
+      by_vm : (there : Option VmSlot) → vm_at h v ≡ there → HasPlace h.vms.numbers v
+      by_vm None e = let some = is.whole.vms v low in let no = rw e at some in cc
+      by_vm (Some vm) e = place-held h.vms.numbers h.vms.slots v vm e
 
   -- a whole core has all of its state
   pub left-whole : (feet : ℕ → Resources) → IsLeft (state_of config h) feet [] h

@@ -1,5 +1,5 @@
 -- The calls of one wave over a store: each on its own parts.
-use Rattle.std.specs.Prelude.{ℕ, zero, suc, ◌≡◌, ◌≢◌, ◌<◌, ◌≤◌, true, cond, List, [], ◌∷◌, length, map, All, slice_index_or, Some, None}
+use Rattle.std.specs.Prelude.{ℕ, zero, suc, ◌≡◌, ◌≢◌, ◌<◌, true, cond, List, [], ◌∷◌, length, map, All, slice_index_or, Some, None}
 use Rattle.std.specs.List.{list_any, range_with_len}
 use Rattle.kc_types.specs.Configuration.{Configuration, slot_count}
 use Rattle.kc_types.specs.declared.call.Call.{Call}
@@ -15,7 +15,7 @@ use Rattle.kc_model.specs.Footprints.{call_at, state_at, reply_at}
 use Rattle.kc_plan.specs.Rows.{Rows, row_touches, row_at}
 use Rattle.kc_vms.specs.Slots.{VmSlot}
 use Rattle.kc_page.specs.declared.page.Page.{Page}
-use Rattle.kc_parts.specs.Held.{Held, page_at, vm_at}
+use Rattle.kc_parts.specs.Held.{Held, HasPlace, page_at, vm_at}
 use Rattle.kc_parts.specs.Restricted.{seen_at, exists_in, IsRestricted}
 use Rattle.kc_replay.specs.declared.task.Task.{Task}
 use Rattle.kc_replay.specs.declared.task.Finished.{Finished}
@@ -41,7 +41,7 @@ pub record IsLeft (m : State) (feet : ℕ → Resources) (ks : List ℕ) (h : He
 -- the store has a place for all of the configuration
 pub record HasPlaces (config : Configuration) (h : Held) : Type 0 where
   pub numbers : h.numbers ≡ range_with_len 0 config.frames
-  pub slots : slot_count config ≤ length h.vms
+  pub slots : (v : ℕ) → v < slot_count config → HasPlace h.vms.numbers v
 
 -- a wave: the state that it starts from, the calls of the trace, what each may touch, and which of them are the wave's
 pub record Wave : Type 0 where

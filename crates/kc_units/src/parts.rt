@@ -3,7 +3,8 @@ ghost use Rattle.std.specs.Prelude.{IfOk};
 ghost use Rattle.kc_parts.specs.Cuts.{FitsInto, IsFull};
 
 use kc_parts::{Parts, Room};
-use kc_types::{Config, FrameNo, Resource, VmId};
+use kc_types::{Config, FrameNo, Phase, Resource, VmId};
+use kc_vms::Vm;
 use std::test::Fail;
 
 /// The parts of the boot state.
@@ -67,6 +68,33 @@ fn a_page_a_slot_and_the_free_list_go_out_and_come_back(rt: HostRuntime) -> Resu
         let here = parts.has_all(wanted.as_slice());
         assert!(rt; here);
         assert_eq!(rt; parts.free().map(|ends| ends.count), Some(2));
+    }
+    Ok(())
+}
+
+#[test]
+fn each_wanted_slot_goes_out_in_one_place(rt: HostRuntime) -> Result<(), Fail> {
+    let alloc = rt.alloc();
+    let config = Config::try_new2(4, 1, 1, 1, Vec::new(alloc))
+        .ok()
+        .ok_or("no config")?;
+    let mut parts = Parts::boot(alloc, &config)?;
+    assert_eq!(rt; parts.room().slots, 64);
+    let first = VmId::try_new(0).ok_or("no slot")?;
+    let last = VmId::try_new(63).ok_or("no slot")?;
+    let slot = parts.vm_mut(last).ok_or("no slot")?;
+    assert!(rt; slot.register().is_ok());
+    let alone = [Resource::Vm(last)];
+    let both = [Resource::Vm(last), Resource::Vm(first), Resource::Vm(last)];
+    for (wanted, slots) in [(alone.as_slice(), 1), (both.as_slice(), 2)] {
+        let taken = out(&rt, &mut parts, wanted)?;
+        assert_eq!(rt; taken.room(), Room { frames: 0, slots });
+        assert_eq!(rt; taken.vm(last).map(Vm::phase), Some(Phase::Booting));
+        assert!(rt; !parts.has(Resource::Vm(last)));
+        parts.put_back(taken);
+        assert_eq!(rt; parts.room().slots, 64);
+        assert_eq!(rt; parts.vm(first).map(Vm::phase), Some(Phase::Empty));
+        assert_eq!(rt; parts.vm(last).map(Vm::phase), Some(Phase::Booting));
     }
     Ok(())
 }

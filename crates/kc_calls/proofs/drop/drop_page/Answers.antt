@@ -1,4 +1,4 @@
-use Rattle.std.proofs.Common.{◌≡◌, Some, refl, sym, ap, ◌∙◌}
+use Rattle.std.proofs.Common.{◌≡◌, Some, is_some, refl, sym, ap, ◌∙◌}
 use Rattle.std.specs.FinMap as map
 use Rattle.kc_types.specs.declared.resource.Resource.TheVariants as resource
 use Rattle.kc_types.specs.declared.call.Call.TheVariants.{Drop}
@@ -7,6 +7,7 @@ use Rattle.kc_model.proofs.GuestCalls.{IsMappedCall, guest_frame-served}
 use Rattle.kc_stage2.specs.Table.{Table}
 use Rattle.kc_parts.specs.Held.{vm_at}
 use Rattle.kc_parts.specs.States.{state_of}
+use Rattle.kc_parts.proofs.SlotChanges.{vm-set}
 use Rattle.kc_calls.specs.Applying.{IsAble}
 use Rattle.kc_calls.proofs.Frames.{some-lent, room-through}
 use Rattle.kc_calls.proofs.Needed.{slot-needed}
@@ -56,6 +57,9 @@ pub unwrap-frame-requires : goal.unwrap-frame-requires
 unwrap-frame-requires c =
     let k = goal.at.unwrap-frame-requires c in
     rw (is_mapped k.After-unmap) (rw (seen k.After-unwrap-gfn).mapped refl)
+
+pub unlink_vm-requires-clause-here : goal.unlink_vm-requires-clause-here
+unlink_vm-requires-clause-here c = ap is_some (vm-set c.args.parts.now c.unwrap-vm.result c.unwrap-slot.result.now _ (at (goal.at.unlink_vm-requires-clause-here c).After-unwrap-slot))
 
 pub unlink_vm-requires-clause-lists : goal.unlink_vm-requires-clause-lists
 unlink_vm-requires-clause-lists c = (linked-unmapped _ _ _ _ _ _ _ (unmapping (goal.at.unlink_vm-requires-clause-lists c).After-unwrap-frame)).lists

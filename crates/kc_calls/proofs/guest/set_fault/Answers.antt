@@ -3,6 +3,7 @@ use Rattle.kc_model.specs.State.{Slot, absent_vcpu}
 use Rattle.kc_parts.specs.Held.{vm_at}
 use Rattle.kc_parts.proofs.SlotChanges.{linked-vm}
 use Rattle.kc_refusals.proofs.Looked.{slot-is}
+use Rattle.kc_calls.proofs.Frames.{room-vm}
 use Rattle.kc_calls.proofs.Guests.{state-faulted}
 use Rattle.kc_calls.proofs.guest.set_fault.Goals as goal
 use Rattle.kc_calls.proofs.guest.set_fault.Goals.{After-unwrap-vm, After-unwrap-slot}
@@ -32,3 +33,8 @@ pub returns-clause-linked : goal.returns-clause-linked
 returns-clause-linked c =
     let k = goal.at.returns-clause-linked c in
     rw (is_vm k.After-unwrap-vm) (linked-vm _ _ _ _ _ c.requires.linked (at k.After-unwrap-slot) (rw c.set_fault.ensures refl) (rw c.set_fault.ensures refl))
+
+pub returns-clause-room : goal.returns-clause-room
+returns-clause-room c =
+    let k = goal.at.returns-clause-room c in
+    rw (is_vm k.After-unwrap-vm) (room-vm c.args.parts.now _ _ _ (at k.After-unwrap-slot))

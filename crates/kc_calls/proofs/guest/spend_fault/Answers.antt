@@ -1,6 +1,7 @@
 use Rattle.std.proofs.Common.{◌≡◌, Some, None, refl, sym}
 use Rattle.kc_parts.specs.Held.{vm_at}
 use Rattle.kc_parts.proofs.SlotChanges.{linked-vm}
+use Rattle.kc_calls.proofs.Frames.{room-vm}
 use Rattle.kc_calls.proofs.Guests.{state-faulted}
 use Rattle.kc_calls.proofs.guest.spend_fault.Goals as goal
 
@@ -14,3 +15,8 @@ pub returns-clause-linked : goal.returns-clause-linked
 returns-clause-linked c =
     let at : vm_at c.args.parts.now c.unwrap-vm.result ≡ Some c.unwrap-slot.result.now = sym (rw c.unwrap-slot.ensures at c.vm_mut.ensures.value) in
     linked-vm c.args.config.now c.args.parts.now c.unwrap-vm.result c.unwrap-slot.result.now _ c.requires.linked at (rw c.spend_fault.ensures refl) (rw c.spend_fault.ensures refl)
+
+pub returns-clause-room : goal.returns-clause-room
+returns-clause-room c =
+    let at : vm_at c.args.parts.now c.unwrap-vm.result ≡ Some c.unwrap-slot.result.now = sym (rw c.unwrap-slot.ensures at c.vm_mut.ensures.value) in
+    room-vm c.args.parts.now c.unwrap-vm.result c.unwrap-slot.result.now _ at

@@ -2,6 +2,7 @@ use Rattle.std.proofs.Common.{◌≡◌, false, Some, is_some, refl, sym, ap}
 use Rattle.kc_types.specs.declared.owner.Owner.TheVariants.{Vm}
 use Rattle.kc_parts.specs.Held.{vm_at}
 use Rattle.kc_parts.specs.States.{state_of}
+use Rattle.kc_parts.proofs.SlotChanges.{vm-set}
 use Rattle.kc_refusals.proofs.Looked.{slot-is}
 use Rattle.kc_calls.proofs.Hands.{IsHanding, map-fits, map-ok, loose-owned, owner-owned, linked-owned, state-handed, room-handed}
 use Rattle.kc_calls.proofs.hand.hand.Goals as goal
@@ -28,6 +29,9 @@ unwrap-requires c =
     let at = at_vm (goal.at.unwrap-requires c).After-unwrap-slot in
     map-ok _ _ (map-fits (state_of c.args.config.now c.args.parts.now) c.args.vm c.args.gfn c.unwrap-slot.result.now _ (slot-is c.args.config.now c.args.parts.now _ c.unwrap-slot.result.now c.requires.exists at) (c.requires.linked.vms _ _ at) c.requires.unmapped c.requires.fits)
     (rw c.table_mut.ensures.value at c.map.ensures.answer)
+
+pub append_vm-requires-clause-here : goal.append_vm-requires-clause-here
+append_vm-requires-clause-here c = ap is_some (vm-set c.args.parts.now c.args.vm c.unwrap-slot.result.now _ (at_vm (goal.at.append_vm-requires-clause-here c).After-unwrap-slot))
 
 pub append_vm-requires-clause-lists : goal.append_vm-requires-clause-lists
 append_vm-requires-clause-lists c = (linked-owned _ _ _ _ _ _ _ _ _ (handing (goal.at.append_vm-requires-clause-lists c).After-unwrap-page)).lists

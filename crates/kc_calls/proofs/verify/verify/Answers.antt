@@ -1,5 +1,4 @@
 use Rattle.std.proofs.Common.{◌≡◌, ◌<◌, true, is_some, Some, None, All, sym, ap, ◌∙◌}
-use Rattle.std.specs.Prelude.{slice_index_or}
 use Rattle.kc_types.specs.Configuration.{slot_count}
 use Rattle.kc_types.specs.declared.call.Call.TheVariants.{Verify}
 use Rattle.kc_types.specs.declared.resource.Resource.TheVariants as resource
@@ -8,11 +7,11 @@ use Rattle.kc_model.specs.State.{slot_at}
 use Rattle.kc_model.specs.Refusals.{refusal}
 use Rattle.kc_model.specs.Effects.{verified, with_phase}
 use Rattle.kc_model.proofs.Verifies.{verify-served}
-use Rattle.kc_parts.specs.Held.{vm_at}
+use Rattle.kc_parts.specs.Held.{held_slot, vm_at}
 use Rattle.kc_parts.specs.States.{state_of}
 use Rattle.kc_calls.specs.Applying.{IsAble}
 use Rattle.kc_calls.specs.Verifying.{mapped_in, IsImageHere}
-use Rattle.kc_calls.proofs.Frames.{some-lent}
+use Rattle.kc_calls.proofs.Frames.{some-lent, room-vm, room-through}
 use Rattle.kc_calls.proofs.Imaged.{slot-verified, images-needed}
 use Rattle.kc_calls.proofs.Verifying.{booting-here, state-phase, linked-phase}
 use Rattle.kc_calls.proofs.verify.verify.Goals as goal
@@ -66,6 +65,9 @@ returns-in-Some-clause-state c =
 pub returns-in-Some-clause-linked : goal.returns-in-Some-clause-linked
 returns-in-Some-clause-linked c = linked-phase _ _ _ _ _ Dead c.requires.able.linked (at (goal.at.returns-in-Some-clause-linked c).After-unwrap) c.kill.ensures
 
+pub returns-in-Some-clause-room : goal.returns-in-Some-clause-room
+returns-in-Some-clause-room c = room-vm c.args.parts.now _ _ _ (at (goal.at.returns-in-Some-clause-room c).After-unwrap)
+
 pub trim_images-requires-clause-slot : goal.trim_images-requires-clause-slot
 trim_images-requires-clause-slot c = here (goal.at.trim_images-requires-clause-slot c).After-unwrap-vm
 
@@ -78,7 +80,7 @@ unwrap-requires-2 c = some-lent _ _ c.vm_mut-2.ensures.value (c.trim_images.ensu
 pub activate-requires : goal.activate-requires
 activate-requires c =
     let k = goal.at.activate-requires c in
-    booting-here _ c.args.parts.now _ _ (served k.After-unwrap-vm) (ap (λ vms. slice_index_or vms c.unwrap-vm.result None) (sym c.trim_images.ensures.slots) ∙ at_trimmed k.After-unwrap-2)
+    booting-here _ c.args.parts.now _ _ (served k.After-unwrap-vm) (ap (λ vms. held_slot vms c.unwrap-vm.result) (sym c.trim_images.ensures.slots) ∙ at_trimmed k.After-unwrap-2)
 
 pub returns-clause-state : goal.returns-clause-state
 returns-clause-state c =
@@ -89,3 +91,6 @@ returns-clause-state c =
 
 pub returns-clause-linked : goal.returns-clause-linked
 returns-clause-linked c = linked-phase _ _ _ _ _ Active c.trim_images.ensures.linked (at_trimmed (goal.at.returns-clause-linked c).After-unwrap-2) c.activate.ensures
+
+pub returns-clause-room : goal.returns-clause-room
+returns-clause-room c = room-through _ _ _ c.trim_images.ensures.room (room-vm c.trim_images.new.parts _ _ _ (at_trimmed (goal.at.returns-clause-room c).After-unwrap-2))

@@ -13,19 +13,19 @@ invariant_of-result c =
 pub returns-clause-state : goal.returns-clause-state
 returns-clause-state c =
     let config = c.args.config.now in
-    ap (state_of config) (made config c.frames.ensures.kept _ _ _ _ _ (rw (← c.frames.ensures.value) c.in_ok-all_numbers.ensures) (rw (← c.frames-2.ensures.value) c.in_ok-all_filled.ensures) c.in_ok-boot_pages.ensures c.in_ok-boot_vms.ensures (ap Some c.boot_ends.ensures))
+    ap (state_of config) (made config c.frames.ensures.kept _ _ _ _ _ (rw (← c.frames.ensures.value) c.in_ok-all_numbers.ensures) (rw (← c.frames-2.ensures.value) c.in_ok-all_filled.ensures) c.in_ok-boot_pages.ensures c.in_ok-boot.ensures (ap Some c.boot_ends.ensures))
     ∙ state-boot config c.frames.ensures.kept
 
 pub returns-clause-linked : goal.returns-clause-linked
 returns-clause-linked c =
     let config = c.args.config.now in
-    subst (IsLinked config) (sym (made config c.frames.ensures.kept _ _ _ _ _ (rw (← c.frames.ensures.value) c.in_ok-all_numbers.ensures) (rw (← c.frames-2.ensures.value) c.in_ok-all_filled.ensures) c.in_ok-boot_pages.ensures c.in_ok-boot_vms.ensures (ap Some c.boot_ends.ensures)))
+    subst (IsLinked config) (sym (made config c.frames.ensures.kept _ _ _ _ _ (rw (← c.frames.ensures.value) c.in_ok-all_numbers.ensures) (rw (← c.frames-2.ensures.value) c.in_ok-all_filled.ensures) c.in_ok-boot_pages.ensures c.in_ok-boot.ensures (ap Some c.boot_ends.ensures)))
     (linked-boot config c.frames.ensures.kept)
 
 pub returns-clause-whole : goal.returns-clause-whole
 returns-clause-whole c =
     let config = c.args.config.now in
-    subst (IsWhole config) (sym (made config c.frames.ensures.kept _ _ _ _ _ (rw (← c.frames.ensures.value) c.in_ok-all_numbers.ensures) (rw (← c.frames-2.ensures.value) c.in_ok-all_filled.ensures) c.in_ok-boot_pages.ensures c.in_ok-boot_vms.ensures (ap Some c.boot_ends.ensures)))
+    subst (IsWhole config) (sym (made config c.frames.ensures.kept _ _ _ _ _ (rw (← c.frames.ensures.value) c.in_ok-all_numbers.ensures) (rw (← c.frames-2.ensures.value) c.in_ok-all_filled.ensures) c.in_ok-boot_pages.ensures c.in_ok-boot.ensures (ap Some c.boot_ends.ensures)))
     (whole-boot config c.frames.ensures.kept)
 
 pub returns-clause-full : goal.returns-clause-full

@@ -2,10 +2,10 @@ use Rattle.std.proofs.Common.{ℕ, ◌≡◌}
 use Rattle.std.specs.Prelude.{Some}
 use Rattle.std.specs.Vec.{vec_len}
 use Rattle.kc_page.specs.declared.page.Page.{Page}
-use Rattle.kc_parts.specs.Held.{IsHeld, page_at}
+use Rattle.kc_parts.specs.Held.{IsHeld, page_at, cell_in}
 use Rattle.kc_parts.specs.Cuts.{either}
 use Rattle.kc_parts.specs.Moves.{IsEmptyPlace}
-use Rattle.kc_parts.proofs.Filled.{cells, cell_in}
+use Rattle.kc_parts.proofs.Filled.{cells}
 use Rattle.kc_parts.proofs.parts.Parts.lay_pages.Given as goal
 
 abbrev pub invariant-loop-number : goal.invariant-loop-number

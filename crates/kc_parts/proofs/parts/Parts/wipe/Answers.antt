@@ -2,7 +2,7 @@ use Rattle.std.proofs.Common.{ℕ, ◌≡◌, ◌++◌, List, length, map, take,
 use Rattle.std.proofs.lemmas.List.{length-map, take_at}
 use Rattle.kc_page.specs.declared.page.Page.{Page}
 use Rattle.kc_page.specs.Pages.{scrubbed_page}
-use Rattle.kc_parts.specs.Held.{Held, IsHeld}
+use Rattle.kc_parts.specs.Held.{IsHeld}
 use Rattle.kc_parts.proofs.Blanks.{held-scrubbed}
 use Rattle.kc_parts.proofs.parts.Parts.wipe.Goals as goal
 
@@ -21,5 +21,5 @@ pub returns : goal.returns
 returns c =
     let p = c.self.inside in
     rw (← c.self.view_is)
-    (ap (λ (ps : List Page). record { numbers = p.numbers.items; here = p.here.items; pages = ps; vms = p.vms.items; free = p.free })
+    (ap (λ (ps : List Page). record { numbers = p.numbers.items; here = p.here.items; pages = ps; vms = p.vms; free = p.free })
     (written-back p.pages.items c.scrub_each.new.pages p.pages.len p.pages.ok.0 (c.scrub_each.ensures ∙ ap (map scrubbed_page) c.as_mut_slice.ensures.value)))

@@ -4,7 +4,7 @@ use Rattle.std.proofs.lemmas.Bool.{cases_lt}
 use Rattle.std.proofs.Math.Nat.{eq-or-lt_of_le}
 use Rattle.kc_parts.specs.Held.{IsRising}
 use Rattle.kc_parts.proofs.Places.{place-found, place-none}
-use Rattle.kc_parts.proofs.parts.place_of.Goals as goal
+use Rattle.kc_parts.proofs.place.place_of.Goals as goal
 
 rises : (ns : List ℕ) → IsRising ns → (i j : ℕ) → i ≤ j → j < length ns → get_or ns i 0 ≤ get_or ns j 0
 rises ns rising i j le within = elim (eq-or-lt_of_le le) [
@@ -19,16 +19,16 @@ apart ns x i low high k within e = elim (cases_lt k i) [
 ]
 
 pub returns-then-numbers-at : goal.returns-then-numbers-at
-returns-then-numbers-at c = sym (place-found c.args.numbers.now c.args.frame c.args.frame c.requires c.if-at-numbers.true c.if-numbers-at.true)
+returns-then-numbers-at c = sym (place-found c.args.numbers.now c.args.number c.args.number c.requires c.if-at-numbers.true c.if-numbers-at.true)
 
 pub returns-in-Ok : goal.returns-in-Ok
 returns-in-Ok c =
     let ns = c.args.numbers.now in
-    let found = searched ns c.args.frame (Ok c.in-Ok.at) c.in-Ok.ensures.position (rises ns c.requires) in
-    sym (place-found ns c.in-Ok.at c.args.frame c.requires found.0 found.1)
+    let found = searched ns c.args.number (Ok c.in-Ok.at) c.in-Ok.ensures.position (rises ns c.requires) in
+    sym (place-found ns c.in-Ok.at c.args.number c.requires found.0 found.1)
 
 pub returns-in-Err : goal.returns-in-Err
 returns-in-Err c =
     let ns = c.args.numbers.now in
-    let found = searched ns c.args.frame (Err c.in-Err.field-0) c.in-Err.ensures.position (rises ns c.requires) in
-    sym (place-none ns c.args.frame (apart ns c.args.frame c.in-Err.field-0 found.1 found.2))
+    let found = searched ns c.args.number (Err c.in-Err.field-0) c.in-Err.ensures.position (rises ns c.requires) in
+    sym (place-none ns c.args.number (apart ns c.args.number c.in-Err.field-0 found.1 found.2))

@@ -1,0 +1,19 @@
+//! The place of a number.
+ghost use Rattle.std.specs.Prelude.{◌≡◌};
+ghost use Rattle.kc_parts.specs.Held.{IsRising, place_of};
+
+/// The place of a number among rising numbers, and their count where it has none. Where all numbers have places
+/// it is found at once.
+pub(crate) fn place_of(numbers: &[u32], number: u32) -> usize
+    requires { IsRising numbers.now }
+    ensures { result ≡ place_of numbers.now number }
+{
+    let at = number as usize;
+    if at < numbers.len() && numbers[at] == number {
+        return at;
+    }
+    match numbers.binary_search(&number) {
+        Ok(at) => at,
+        Err(_) => numbers.len(),
+    }
+}
