@@ -164,7 +164,10 @@ pub fn read_calls<T: Source>(alloc: Global, source: &mut T) -> Result<Vec<Call>,
     let mut calls = Vec::new(alloc);
     loop {
         let part = stream.next(alloc, source)?;
-        let Part { calls: mut more, is_last } = part;
+        let Part {
+            calls: mut more,
+            is_last,
+        } = part;
         if calls.append(&mut more).is_err() {
             return Err(StreamFault::Memory);
         }
