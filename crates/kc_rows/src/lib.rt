@@ -30,6 +30,8 @@ mod replays;
 #[cfg(test)]
 mod second_version;
 #[cfg(test)]
+mod segments;
+#[cfg(test)]
 mod slots;
 #[cfg(test)]
 mod support;

@@ -1,5 +1,6 @@
 //! What the tests share.
 use crate::replays::by_workers;
+use crate::segments::in_parts;
 use kc_cli::{Mem, TextFault, audit_text, dump_text, replay_text};
 use kc_core::KCore;
 use kc_trace::read_trace;
@@ -157,7 +158,8 @@ pub fn gives(
     }
 }
 
-/// Whether an example's calls, after others, get its replies after theirs, whoever makes them, and leave a core in order.
+/// Whether an example's calls, after others, get its replies after theirs, whoever makes them and however they come, and
+/// leave a core in order.
 fn holds<R: Threads + Wait + Sync>(
     rt: &R,
     alloc: Global,
@@ -170,7 +172,8 @@ fn holds<R: Threads + Wait + Sync>(
     let (trace, replies) = (trace.as_bytes(), replies.as_bytes());
     let by_one = gives(rt, alloc, config, trace, Ok(()), replies);
     let by_any = by_workers(rt, alloc, config, trace, replies)?;
-    Some(by_one && by_any && leaves_no_findings(rt, alloc, config, trace)?)
+    let cut = in_parts(rt, alloc, config, trace, replies)?;
+    Some(by_one && by_any && cut && leaves_no_findings(rt, alloc, config, trace)?)
 }
 
 /// Each example's calls, after others, get its replies after theirs.

@@ -62,12 +62,16 @@ fn planned(alloc: Global, lines: &str) -> Result<String, Fail> {
 
 /// A line for each wave of a trace, whose header is left out: the numbers of its calls.
 fn waves(alloc: Global, lines: &str) -> Result<String, Fail> {
-    let core = booted(alloc)?;
+    waves_from(alloc, &booted(alloc)?, lines)
+}
+
+/// The same from a core on.
+fn waves_from(alloc: Global, core: &KCore, lines: &str) -> Result<String, Fail> {
     let calls = calls_of(alloc, lines)?;
     if calls.len() > 65_536 {
         return Err(Fail::from("too many calls"));
     }
-    let footprints = footprints(alloc, &core, calls.as_slice())?;
+    let footprints = footprints(alloc, core, calls.as_slice())?;
     let plan = Plan::make(alloc, &footprints)?;
     let mut text = String::new(alloc);
     for wave in 0..plan.waves() {
@@ -134,6 +138,21 @@ fn a_call_waits_for_no_call_that_shares_nothing(rt: HostRuntime) -> Result<(), F
         "1: 1\n1: 2\n2: 1\n1: free 5 6 7\n2: 5\n1: 3\n"
     );
     assert_eq!(rt; waves(alloc, lines)?.as_str(), "[0, 1, 3, 5]\n[2, 4]\n");
+    Ok(())
+}
+
+/// What a call may touch is worked out anew from the core that the segment before left.
+#[test]
+fn each_segment_is_planned_anew(rt: HostRuntime) -> Result<(), Fail> {
+    let alloc = rt.alloc();
+    let first = "hfault 1\nhfault 2\nhwrite 1 0 aa\ntake\n";
+    assert_eq!(rt; waves(alloc, first)?.as_str(), "[0, 1, 3]\n[2]\n");
+    let mut core = booted(alloc)?;
+    assert!(rt; core.run(alloc, calls_of(alloc, first)?.as_slice()).is_ok());
+    assert_eq!(rt;
+        waves_from(alloc, &core, "hfault 5\nhfault 3\n")?.as_str(),
+        "[0, 1]\n"
+    );
     Ok(())
 }
 
