@@ -12,8 +12,8 @@ use Rattle.kc_dump_text.specs.declared.stage.Stage.{Stage}
 use Rattle.kc_dump_text.specs.declared.stage.Stage.TheVariants.{AtSize, AtFrame}
 use Rattle.kc_dump_text.specs.declared.fault.DumpFault.{DumpFault}
 use Rattle.kc_dump_text.specs.declared.fault.DumpFault.TheVariants.{NoHeader, BadLine, Frame, Memory}
-use Rattle.kc_dump_text.specs.DumpText.{header}
-use Rattle.kc_dump_text.specs.Grammar.{spell, lines_of, after, runs, due, IsDumpText}
+use Rattle.kc_dump_text.specs.DumpText.{header, spell, lines_of}
+use Rattle.kc_dump_text.specs.Grammar.{after, runs, due, IsDumpText}
 use Rattle.kc_dump_text.specs.Refused.{IsEnd, Stuck, StopsFor, IsRefused}
 use Rattle.kc_dump_text.specs.Begun.{nothing, added}
 use Rattle.kc_dump_text.specs.Building.{Built}
@@ -22,7 +22,6 @@ use Rattle.kc_dump_text.proofs.LinesRead.{spelled-cut, only-line}
 use Rattle.kc_dump_text.proofs.Steps.{built-more, built-none}
 use Rattle.kc_dump_text.proofs.Fitting.{fits-of}
 use Rattle.kc_dump_text.proofs.Ranged.{first, some-same}
-use Rattle.kc_dump_text.proofs.SpelledLines.{text-lines}
 use Rattle.kc_dump_text.proofs.WholeText.{many}
 use Rattle.kc_dump_text.proofs.Told.{told-same}
 
@@ -99,14 +98,11 @@ not-stopped version d n rest fault is ran small s =
     by_rest [] t g = ended version fault (length s.lines) n s.stage s.rest (some-same s.stage (AtFrame n n) g) t s.why
     by_rest (z ∷ zs) t g = let a = first version s.stage z zs (AtFrame n n) g in s.stops.stuck z a.0 (flat_map spell zs) a.1 t
 
-lined : (text : List ℕ) (d : Dumped) → IsDumpText text d → text ≡ header d.version ++ flat_map spell (lines_of d)
-lined text d is = is.whole ∙ text-lines d
-
 -- behind a header of another version stands nothing of this
 as-version : (text rest : List ℕ) (d : Dumped) (version : Version) → IsDumpText text d → text ≡ header version ++ rest
     → (rest ≡ flat_map spell (lines_of d)) × (runs version (Some AtSize) (lines_of d) ≡ Some (AtFrame (length d.frames) (length d.frames)))
 as-version text rest d version is e =
-    let h = header-same d.version version (flat_map spell (lines_of d)) rest (sym (lined text d is) ∙ e) in
+    let h = header-same d.version version (flat_map spell (lines_of d)) rest (sym is.whole ∙ e) in
     (sym h.1, subst (λ v. runs v (Some AtSize) (lines_of d) ≡ Some (AtFrame (length d.frames) (length d.frames))) h.0 is.ordered)
 
 behind-header : (version : Version) (text rest : List ℕ) → text ≡ header version ++ rest → length text ≤ 1073741824 → length rest ≤ 1073741824
@@ -114,7 +110,7 @@ behind-header version text rest e small = let a = length-append (header version)
 
 -- no text of a dump is refused
 pub not-refused : (text : List ℕ) (d : Dumped) (fault : DumpFault) → length text ≤ 1073741824 → IsDumpText text d → IsRefused text fault → fault ≡ Memory
-not-refused text d NoHeader small is r = absurd (r d.version (flat_map spell (lines_of d)) (lined text d is))
+not-refused text d NoHeader small is r = absurd (r d.version (flat_map spell (lines_of d)) is.whole)
 not-refused text d Memory small is r = refl
 not-refused text d (BadLine n) small is r = (let a = as-version text r.1 d r.0 is r.2 in absurd (not-stopped r.0 d (length d.frames) r.1 (BadLine n) a.0 a.1 (behind-header r.0 text r.1 r.2 small) r.3))
 not-refused text d (Frame f) small is r = (let a = as-version text r.1 d r.0 is r.2 in absurd (not-stopped r.0 d (length d.frames) r.1 (Frame f) a.0 a.1 (behind-header r.0 text r.1 r.2 small) r.3))
@@ -126,8 +122,8 @@ no-lines (z ∷ zs) e = absurd (long-line z (flat_map spell zs) (sym e))
 -- a text is one dump's at most
 pub one-dump : (text : List ℕ) (d e : Dumped) → length text ≤ 1073741824 → IsDumpText text d → IsDumpText text e → d ≡ e
 one-dump text d e small is other =
-    let h = header-same d.version e.version (flat_map spell (lines_of d)) (flat_map spell (lines_of e)) (sym (lined text d is) ∙ lined text e other) in
-    let b = behind-header d.version text (flat_map spell (lines_of d)) (lined text d is) small in
+    let h = header-same d.version e.version (flat_map spell (lines_of d)) (flat_map spell (lines_of e)) (sym is.whole ∙ other.whole) in
+    let b = behind-header d.version text (flat_map spell (lines_of d)) is.whole small in
     let few : 0 + length (lines_of d) ≤ 1073741824 = (let m = many (lines_of d) in omega (arith, m, b)) in
     let end : Stage = AtFrame (length e.frames) (length e.frames) in
     let f = follow d.version (lines_of d) (lines_of e) [] AtSize (AtFrame (length d.frames) (length d.frames)) end (nothing d.version) [] (built-none d.version) few is.ordered

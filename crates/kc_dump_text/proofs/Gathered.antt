@@ -4,7 +4,7 @@ use Rattle.std.proofs.lemmas.List.{append-nil}
 use Rattle.kc_dump.specs.Dumps.{SlotDump, empty_dump}
 use Rattle.kc_dump_text.specs.declared.dump_line.DumpLine.{DumpLine}
 use Rattle.kc_dump_text.specs.declared.dump_line.DumpLine.TheVariants.{VmOf, LeafOf, EntryOf}
-use Rattle.kc_dump_text.specs.Grammar.{made, leaves_of, entries_of}
+use Rattle.kc_dump_text.specs.DumpText.{made, vm_of, leaves_of, entries_of}
 
 pub made-push : {X : Type 0} (make : ℕ → X → DumpLine) (i : ℕ) (xs : List X) (x : X) → made make i (xs ++ x ∷ []) ≡ made make i xs ++ make (i + length xs) x ∷ []
 made-push make i [] x = let e : i ≡ i + 0 = omega arith in ap (λ n. make n x ∷ []) e
@@ -58,10 +58,10 @@ gather-same pick make v (suc k) (slot ∷ slots) new low is = ap (λ l. made (ma
 
 -- the lines of slots of which one has other leaves or entries
 pub vms-same : (v k : ℕ) (slots : List SlotDump) (new : SlotDump) → k < length slots → new.phase ≡ (get_or slots k empty_dump).phase → new.list ≡ (get_or slots k empty_dump).list
-    → made (λ v (slot : SlotDump). VmOf v slot.phase slot.list) v (set slots k new) ≡ made (λ v (slot : SlotDump). VmOf v slot.phase slot.list) v slots
+    → made vm_of v (set slots k new) ≡ made vm_of v slots
 vms-same v k [] new low phase list = absurd (omega (arith, low))
 vms-same v zero (slot ∷ slots) new low phase list =
-    let rest = made (λ v (slot : SlotDump). VmOf v slot.phase slot.list) (v + 1) slots in
+    let rest = made vm_of (v + 1) slots in
     ap (λ p. VmOf v p new.list ∷ rest) phase ∙ ap (λ l. VmOf v slot.phase l ∷ rest) list
 vms-same v (suc k) (slot ∷ slots) new low phase list = ap (λ (l : List DumpLine). VmOf v slot.phase slot.list ∷ l) (vms-same (v + 1) k slots new (omega (arith, low)) phase list)
 

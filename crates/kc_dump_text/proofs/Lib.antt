@@ -1,4 +1,4 @@
-pub mod SpelledLines
+mod Spelled
 mod Limits
 mod Runs
 pub mod Ordered

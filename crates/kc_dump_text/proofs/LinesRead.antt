@@ -4,6 +4,7 @@ use Rattle.std.specs.Prelude.{◌==◌, not}
 use Rattle.std.specs.List.{flat_map, list_all}
 use Rattle.std.proofs.lemmas.Bool.{and_parts, eqb-true, eqb-false, not-true, ltb-true, ltb-false, cases_Bool}
 use Rattle.std.proofs.lemmas.List.{append-nil}
+use Rattle.std.proofs.lemmas.Grind.{flat_map-append}
 use Rattle.kc_dump.specs.declared.line.FrameLine.{FrameLine}
 use Rattle.kc_dump.specs.Ranges.{is_frame}
 use Rattle.kc_dump.specs.Dumps.{Dumped}
@@ -15,14 +16,14 @@ use Rattle.kc_dump_text.specs.declared.stage.Stage.TheVariants.{AtSize, AtFree, 
 use Rattle.kc_dump_text.specs.declared.fault.DumpFault.{DumpFault}
 use Rattle.kc_dump_text.specs.declared.fault.DumpFault.TheVariants.{BadLine, Frame}
 use Rattle.kc_types.specs.declared.version.Version.{Version}
-use Rattle.kc_dump_text.specs.Grammar.{spell, after, due, frames_at, LacksFrame, HasNoLine}
+use Rattle.kc_dump_text.specs.DumpText.{spell}
+use Rattle.kc_dump_text.specs.Grammar.{after, due, frames_at, LacksFrame, HasNoLine}
 use Rattle.kc_dump_text.specs.Begun.{added}
 use Rattle.kc_dump_text.specs.Building.{Built, Reached, IsWhole, IsStuck, end_fault, due_fault, line_fault}
 use Rattle.kc_dump_text.specs.Lines.{line_read}
 use Rattle.kc_dump_text.specs.Refused.{IsEnd, Stuck, StopsFor}
 use Rattle.kc_dump_text.proofs.Limits.{few-frames}
 use Rattle.kc_dump_text.proofs.ReadLines.{Fits, bare, spell-bare, bare-one-line, line-to, line-from}
-use Rattle.kc_dump_text.proofs.SpelledLines.{joined}
 use Rattle.kc_dump_text.proofs.Steps.{built-more}
 use Rattle.kc_dump_text.proofs.Fitting.{fits-of, frame-of}
 
@@ -119,7 +120,7 @@ module _ (version : Version) where
       record {
         built = built-more version stage l lines d next r.built ok;
         whole = r.whole ∙ ap (λ (s : List ℕ). flat_map spell lines ++ s) first ∙ sym (append_assoc (flat_map spell lines) (spell l) more)
-            ∙ ap (λ (s : List ℕ). flat_map spell lines ++ s ++ more) (sym (append-nil (spell l))) ∙ ap (λ (s : List ℕ). s ++ more) (sym (joined lines (l ∷ [])));
+            ∙ ap (λ (s : List ℕ). flat_map spell lines ++ s ++ more) (sym (append-nil (spell l))) ∙ ap (λ (s : List ℕ). s ++ more) (sym (flat_map-append spell lines (l ∷ [])));
       }
 
   -- ---- the end of the text

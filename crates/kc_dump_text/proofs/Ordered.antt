@@ -9,10 +9,11 @@ use Rattle.kc_dump.specs.declared.line.FrameLine.{FrameLine}
 use Rattle.kc_dump.specs.Ranges.{are_ends, is_entry, is_frame, IsDump}
 use Rattle.kc_dump.specs.Dumps.{Dumped, SlotDump, absent_line, empty_dump}
 use Rattle.kc_dump_text.specs.declared.dump_line.DumpLine.{DumpLine}
-use Rattle.kc_dump_text.specs.declared.dump_line.DumpLine.TheVariants.{SizeOf, FreeOf, VmOf, LeafOf, EntryOf, FrameOf}
+use Rattle.kc_dump_text.specs.declared.dump_line.DumpLine.TheVariants.{SizeOf, FreeOf, LeafOf, EntryOf, FrameOf}
 use Rattle.kc_dump_text.specs.declared.stage.Stage.{Stage}
 use Rattle.kc_dump_text.specs.declared.stage.Stage.TheVariants.{AtSize, AtFree, AtVm, AtLeaf, AtEntry, AtFrame}
-use Rattle.kc_dump_text.specs.Grammar.{made, leaves_of, entries_of, lines_of, when, after, runs}
+use Rattle.kc_dump_text.specs.DumpText.{made, vm_of, leaves_of, entries_of, lines_of}
+use Rattle.kc_dump_text.specs.Grammar.{when, after, runs}
 use Rattle.kc_dump_text.proofs.Limits.{some-slots}
 use Rattle.kc_dump_text.proofs.Runs.{runs-append}
 
@@ -27,7 +28,7 @@ both false b x y = x
 module _ (version : Version) where
   -- the lines of the slots
   vms-run : (frames v : ℕ) (slots : List SlotDump) → v + length slots ≡ slots_of version → 0 < length slots → ((k : ℕ) → k < length slots → are_ends frames (get_or slots k empty_dump).list ≡ true)
-      → runs version (Some (AtVm frames v)) (made (λ v (slot : SlotDump). VmOf v slot.phase slot.list) v slots) ≡ Some (AtLeaf frames 0 0)
+      → runs version (Some (AtVm frames v)) (made vm_of v slots) ≡ Some (AtLeaf frames 0 0)
   vms-run frames v [] all some ends = absurd (omega (arith, some))
   vms-run frames v (slot ∷ []) all some ends =
       let last : v + 1 ≡ slots_of version = omega (arith, all) in
@@ -36,7 +37,7 @@ module _ (version : Version) where
       ∙ ap (λ b. Some (if b then AtLeaf frames 0 0 else AtVm frames (v + 1))) (eq-eqb (v + 1) (slots_of version) last))
   vms-run frames v (slot ∷ next ∷ slots) all some ends =
       let more : v + 1 ≡ slots_of version → ⊥ = λ e. omega (arith, all, e) in
-      ap (λ s. runs version s (made (λ v (slot : SlotDump). VmOf v slot.phase slot.list) (v + 1) (next ∷ slots)))
+      ap (λ s. runs version s (made vm_of (v + 1) (next ∷ slots)))
       (passes ((v == v) && are_ends frames slot.list) _ (both (v == v) (are_ends frames slot.list) (eq-eqb v v refl) (ends 0 (omega arith)))
       ∙ ap (λ b. Some (if b then AtLeaf frames 0 0 else AtVm frames (v + 1))) (ne_eqb (v + 1) (slots_of version) more))
       ∙ vms-run frames (v + 1) (next ∷ slots) (omega (arith, all)) (omega arith) (λ k low. ends (suc k) (omega (arith, low)))
@@ -185,7 +186,7 @@ module _ (version : Version) where
 pub in-order : (d : Dumped) → IsDump d → runs d.version (Some AtSize) (lines_of d) ≡ Some (AtFrame (length d.frames) (length d.frames))
 in-order d is =
     let n = length d.frames in
-    let vms = made (λ v (slot : SlotDump). VmOf v slot.phase slot.list) 0 d.slots in
+    let vms = made vm_of 0 d.slots in
     let leaves = leaves-led d.version n 0 (AtLeaf n 0 0) d.slots (fresh 0 refl) (let s = is.slots in omega (arith, s)) is.roots in
     let entries = entries-entered d.version n 0 leaves.next d.slots (enterable leaves.next leaves.may) (λ k m low l. ap (λ w. is_entry d.version n w (get_or (get_or d.slots k empty_dump).entries m (0, 0))) (let z : 0 + k ≡ k = omega arith in z) ∙ is.entries k m low l) is.rising in
     let sized : after d.version AtSize (SizeOf n d.core d.leaves) ≡ Some (AtFree n) = passes _ (AtFree n)

@@ -12,7 +12,8 @@ use Rattle.kc_dump_text.specs.declared.dump_line.DumpLine.{DumpLine}
 use Rattle.kc_dump_text.specs.declared.dump_line.DumpLine.TheVariants.{SizeOf, FreeOf, VmOf, LeafOf, EntryOf, FrameOf}
 use Rattle.kc_dump_text.specs.declared.stage.Stage.{Stage}
 use Rattle.kc_dump_text.specs.declared.stage.Stage.TheVariants.{AtSize, AtFree, AtVm, AtLeaf, AtEntry, AtFrame}
-use Rattle.kc_dump_text.specs.Grammar.{made, leaves_of, entries_of, lines_of, after, runs}
+use Rattle.kc_dump_text.specs.DumpText.{made, leaves_of, entries_of, lines_of}
+use Rattle.kc_dump_text.specs.Grammar.{after, runs}
 use Rattle.kc_dump_text.proofs.Limits.{some-slots}
 use Rattle.kc_dump_text.proofs.Runs.{runs-append}
 use Rattle.kc_dump_text.proofs.Steps.{passed}

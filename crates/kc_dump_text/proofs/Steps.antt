@@ -15,9 +15,10 @@ use Rattle.kc_dump_text.specs.declared.dump_line.DumpLine.{DumpLine}
 use Rattle.kc_dump_text.specs.declared.dump_line.DumpLine.TheVariants.{SizeOf, FreeOf, VmOf, LeafOf, EntryOf, FrameOf}
 use Rattle.kc_dump_text.specs.declared.stage.Stage.{Stage}
 use Rattle.kc_dump_text.specs.declared.stage.Stage.TheVariants.{AtSize, AtFree, AtVm, AtLeaf, AtEntry, AtFrame}
-use Rattle.kc_dump_text.specs.Grammar.{made, leaves_of, entries_of, after, runs, when, frames_at}
+use Rattle.kc_dump_text.specs.DumpText.{made, vm_of, leaves_of, entries_of, rest_of}
+use Rattle.kc_dump_text.specs.Grammar.{after, runs, when, frames_at}
 use Rattle.kc_dump_text.specs.Begun.{added, with_leaf, with_entry, nothing}
-use Rattle.kc_dump_text.specs.Building.{rest_of, NoLeaves, NoEntries, AreLines, Shape, Within, Built}
+use Rattle.kc_dump_text.specs.Building.{NoLeaves, NoEntries, AreLines, Shape, Within, Built}
 use Rattle.kc_dump_text.proofs.Limits.{some-slots}
 use Rattle.kc_dump_text.proofs.Runs.{runs-append}
 use Rattle.kc_dump_text.proofs.Gathered.{made-push, leaves-gathered, entries-gathered, gather-bare, gather-push, gather-same, vms-same, bare-push}
@@ -27,7 +28,7 @@ passed true s t e = (refl, cc)
 passed false s t e = absurd cc
 
 abbrev vms_of : List SlotDump → List DumpLine
-vms_of slots = made (λ v (slot : SlotDump). VmOf v slot.phase slot.list) 0 slots
+vms_of slots = made vm_of 0 slots
 
 abbrev rest-on : List SlotDump → List FrameLine → List DumpLine
 rest-on slots frames = vms_of slots ++ (leaves_of 0 slots ++ (entries_of 0 slots ++ made FrameOf 0 frames))
@@ -48,7 +49,7 @@ rest-vm slots frames p e v long leaves entries none =
     let n = no-entry-lines (slots ++ new ∷ []) (bare-push (λ (s : SlotDump). s.entries) slots new refl entries refl) in
     let behind : rest-on (slots ++ new ∷ []) frames ≡ vms_of (slots ++ new ∷ []) = rw (l, n, none) (append-nil (vms_of (slots ++ new ∷ []))) in
     let place : v ≡ 0 + length slots = omega (arith, long) in
-    ap (λ (ls : List DumpLine). ls ++ VmOf v p e ∷ []) before ∙ ap (λ w. vms_of slots ++ VmOf w p e ∷ []) place ∙ sym (made-push (λ v (slot : SlotDump). VmOf v slot.phase slot.list) 0 slots new) ∙ sym behind
+    ap (λ (ls : List DumpLine). ls ++ VmOf v p e ∷ []) before ∙ ap (λ w. vms_of slots ++ VmOf w p e ∷ []) place ∙ sym (made-push vm_of 0 slots new) ∙ sym behind
 
 rest-leaf : (slots : List SlotDump) (frames : List FrameLine) (v n root : ℕ) → v < length slots → length (get_or slots v empty_dump).leaves ≡ n → NoLeaves (v + 1) slots → NoEntries 0 slots → frames ≡ []
     → rest-on slots frames ++ LeafOf v n root ∷ [] ≡ rest-on (set slots v (with_leaf (get_or slots v empty_dump) root)) frames

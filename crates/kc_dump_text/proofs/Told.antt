@@ -10,7 +10,7 @@ use Rattle.kc_dump.specs.declared.line.FrameLine.{FrameLine}
 use Rattle.kc_dump.specs.Dumps.{Dumped, SlotDump, empty_dump, slot_at, no_ends}
 use Rattle.kc_dump_text.specs.declared.dump_line.DumpLine.{DumpLine}
 use Rattle.kc_dump_text.specs.declared.dump_line.DumpLine.TheVariants.{SizeOf, FreeOf, VmOf, LeafOf, EntryOf, FrameOf}
-use Rattle.kc_dump_text.specs.Grammar.{made, leaves_of, entries_of, lines_of}
+use Rattle.kc_dump_text.specs.DumpText.{made, vm_of, leaves_of, entries_of, lines_of}
 use Rattle.kc_dump_text.proofs.Gathered.{gather, leaves-gathered, entries-gathered}
 
 -- ---- what a line tells
@@ -107,7 +107,7 @@ module _ {X : Type 0} (pick : SlotDump → List X) (make : ℕ → ℕ → X →
       ∙ gather-at (v + 1) k slots none
 
 abbrev vms_of : Dumped → List DumpLine
-vms_of d = made (λ v (slot : SlotDump). VmOf v slot.phase slot.list) 0 d.slots
+vms_of d = made vm_of 0 d.slots
 
 -- the four parts behind the two first lines
 parts : {Y : Type 0} (f : DumpLine → List Y) (d : Dumped) → flat_map f (vms_of d ++ (leaves_of 0 d.slots ++ (entries_of 0 d.slots ++ made FrameOf 0 d.frames)))
@@ -127,19 +127,19 @@ vms-told : (d : Dumped) → flat_map vm_in (lines_of d) ≡ map (λ (slot : Slot
 vms-told d =
     parts vm_in d
     ∙ rw (no-leaves vm_in d (λ v i root. refl), no-entries vm_in d (λ v e. refl), none-told vm_in FrameOf 0 d.frames (λ i x. refl)) (append-nil (flat_map vm_in (vms_of d)))
-    ∙ each-told vm_in (λ (slot : SlotDump). (slot.phase, slot.list)) (λ v (slot : SlotDump). VmOf v slot.phase slot.list) 0 d.slots (λ i x. refl)
+    ∙ each-told vm_in (λ (slot : SlotDump). (slot.phase, slot.list)) vm_of 0 d.slots (λ i x. refl)
 
 frames-told : (d : Dumped) → flat_map frame_in (lines_of d) ≡ d.frames
 frames-told d =
     parts frame_in d
-    ∙ rw (none-told frame_in (λ v (slot : SlotDump). VmOf v slot.phase slot.list) 0 d.slots (λ i x. refl), no-leaves frame_in d (λ v i root. refl), no-entries frame_in d (λ v e. refl)) refl
+    ∙ rw (none-told frame_in vm_of 0 d.slots (λ i x. refl), no-leaves frame_in d (λ v i root. refl), no-entries frame_in d (λ v e. refl)) refl
     ∙ each-told frame_in (λ x. x) FrameOf 0 d.frames (λ i x. refl) ∙ map-id d.frames
 
 roots-told : (d : Dumped) (v : ℕ) → flat_map (root_in v) (lines_of d) ≡ (slot_at d v).leaves
 roots-told d v =
     let z : v ≡ 0 + v = omega arith in
     parts (root_in v) d
-    ∙ rw (none-told (root_in v) (λ v (slot : SlotDump). VmOf v slot.phase slot.list) 0 d.slots (λ i x. refl), no-entries (root_in v) d (λ v e. refl), none-told (root_in v) FrameOf 0 d.frames (λ i x. refl))
+    ∙ rw (none-told (root_in v) vm_of 0 d.slots (λ i x. refl), no-entries (root_in v) d (λ v e. refl), none-told (root_in v) FrameOf 0 d.frames (λ i x. refl))
     (append-nil (flat_map (root_in v) (leaves_of 0 d.slots)))
     ∙ ap (flat_map (root_in v)) (leaves-gathered 0 d.slots) ∙ ap (λ w. flat_map (root_in w) (gather (λ (s : SlotDump). s.leaves) LeafOf 0 d.slots)) z
     ∙ gather-at (λ (s : SlotDump). s.leaves) LeafOf root_in (λ v i root. ap (λ b. if b then root ∷ [] else []) (eq-eqb v v refl)) (λ v w i root other. ap (λ b. if b then root ∷ [] else []) (ne_eqb v w other)) 0 v d.slots refl
@@ -148,7 +148,7 @@ entries-told : (d : Dumped) (v : ℕ) → flat_map (entry_in v) (lines_of d) ≡
 entries-told d v =
     let z : v ≡ 0 + v = omega arith in
     parts (entry_in v) d
-    ∙ rw (none-told (entry_in v) (λ v (slot : SlotDump). VmOf v slot.phase slot.list) 0 d.slots (λ i x. refl), no-leaves (entry_in v) d (λ v i root. refl), none-told (entry_in v) FrameOf 0 d.frames (λ i x. refl))
+    ∙ rw (none-told (entry_in v) vm_of 0 d.slots (λ i x. refl), no-leaves (entry_in v) d (λ v i root. refl), none-told (entry_in v) FrameOf 0 d.frames (λ i x. refl))
     (append-nil (flat_map (entry_in v) (entries_of 0 d.slots)))
     ∙ ap (flat_map (entry_in v)) (entries-gathered 0 d.slots) ∙ ap (λ w. flat_map (entry_in w) (gather (λ (s : SlotDump). s.entries) (λ v i e. EntryOf v e) 0 d.slots)) z
     ∙ gather-at (λ (s : SlotDump). s.entries) (λ v i e. EntryOf v e) entry_in (λ v i e. ap (λ b. if b then e ∷ [] else []) (eq-eqb v v refl)) (λ v w i e other. ap (λ b. if b then e ∷ [] else []) (ne_eqb v w other)) 0 v d.slots refl

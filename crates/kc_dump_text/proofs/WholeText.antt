@@ -13,12 +13,11 @@ use Rattle.kc_dump_text.specs.declared.dump_line.DumpLine.TheVariants.{SizeOf, F
 use Rattle.kc_dump_text.specs.declared.stage.Stage.TheVariants.{AtSize, AtFrame}
 use Rattle.kc_dump_text.specs.declared.fault.DumpFault.{DumpFault}
 use Rattle.kc_dump_text.specs.declared.fault.DumpFault.TheVariants.{NoHeader, BadLine, Frame, Memory}
-use Rattle.kc_dump_text.specs.DumpText.{header}
-use Rattle.kc_dump_text.specs.Grammar.{spell, lines_of, runs, IsDumpText}
-use Rattle.kc_dump_text.specs.Building.{rest_of, IsWhole, IsStuck}
+use Rattle.kc_dump_text.specs.DumpText.{header, spell, lines_of, rest_of}
+use Rattle.kc_dump_text.specs.Grammar.{runs, IsDumpText}
+use Rattle.kc_dump_text.specs.Building.{IsWhole, IsStuck}
 use Rattle.kc_dump_text.specs.Refused.{IsRefused}
 use Rattle.kc_dump_text.proofs.Ranged.{in-range}
-use Rattle.kc_dump_text.proofs.SpelledLines.{text-lines}
 use Rattle.kc_dump_text.proofs.ReadLines.{bare, spell-bare}
 
 pub many : (lines : List DumpLine) → length lines ≤ length (flat_map spell lines)
@@ -37,7 +36,7 @@ whole-text version text rest d e w =
     let b = w.2.built in
     let same = sym b.same in
     record {
-      whole = e ∙ ap (λ (l : List ℕ). header version ++ l) (w.2.whole ∙ append-nil (flat_map spell w.0) ∙ ap (flat_map spell) (lines-are version rest d w)) ∙ ap (λ v. header v ++ flat_map spell (lines_of d)) same ∙ sym (text-lines d);
+      whole = e ∙ ap (λ (l : List ℕ). header version ++ l) (w.2.whole ∙ append-nil (flat_map spell w.0) ∙ ap (flat_map spell) (lines-are version rest d w)) ∙ ap (λ v. header v ++ flat_map spell (lines_of d)) same;
       ordered = ap (λ v. runs v (Some AtSize) (lines_of d)) b.same ∙ ap (runs version (Some AtSize)) (sym (lines-are version rest d w)) ∙ b.ran ∙ ap (λ n. Some (AtFrame n n)) (sym b.shape.1);
     }
 

@@ -11,12 +11,9 @@ use Rattle.kc_dump_text.specs.declared.stage.Stage.{Stage}
 use Rattle.kc_dump_text.specs.declared.stage.Stage.TheVariants.{AtSize, AtFree, AtVm, AtLeaf, AtEntry, AtFrame}
 use Rattle.kc_dump_text.specs.declared.fault.DumpFault.{DumpFault}
 use Rattle.kc_dump_text.specs.declared.fault.DumpFault.TheVariants.{NoHeader, BadLine, Frame, Memory}
+use Rattle.kc_dump_text.specs.DumpText.{spell, rest_of}
 use Rattle.kc_dump_text.specs.Refused.{StopsFor}
-use Rattle.kc_dump_text.specs.Grammar.{spell, made, leaves_of, entries_of, runs, due, frames_at}
-
--- the lines of a dump behind that of the free list
-abbrev pub rest_of : Dumped → List DumpLine
-rest_of d = made (λ v (slot : SlotDump). VmOf v slot.phase slot.list) 0 d.slots ++ (leaves_of 0 d.slots ++ (entries_of 0 d.slots ++ made FrameOf 0 d.frames))
+use Rattle.kc_dump_text.specs.Grammar.{runs, due, frames_at}
 
 -- from this slot on they have no leaves
 abbrev pub NoLeaves : ℕ → List SlotDump → Type 0

@@ -1,6 +1,7 @@
 -- How a dump is spelled.
 use Rattle.std.specs.Prelude.{ℕ, ◌+◌, Bool, true, false, List, [], ◌∷◌, ◌++◌, length, codes, Option, Some, None}
 use Rattle.std.specs.Fmt.{decimal}
+use Rattle.std.specs.List.{flat_map}
 use Rattle.hex.specs.Hex.{encode_lower}
 use Rattle.kc_types.specs.declared.version.Version.{Version}
 use Rattle.kc_types.specs.declared.version.Version.TheVariants.{One, Two}
@@ -11,6 +12,8 @@ use Rattle.kc_types.specs.declared.slot.Phase.{Phase}
 use Rattle.kc_types.specs.declared.slot.Phase.TheVariants.{Empty, Booting, Active, Dead}
 use Rattle.kc_dump.specs.declared.line.FrameLine.{FrameLine}
 use Rattle.kc_dump.specs.Dumps.{Dumped, SlotDump}
+use Rattle.kc_dump_text.specs.declared.dump_line.DumpLine.{DumpLine}
+use Rattle.kc_dump_text.specs.declared.dump_line.DumpLine.TheVariants.{SizeOf, FreeOf, VmOf, LeafOf, EntryOf, FrameOf}
 
 -- words, each behind a space
 abbrev pub spaced : List (List ℕ) → List ℕ
@@ -50,51 +53,45 @@ abbrev pub header : Version → List ℕ
 header One = codes "kcore-dump 1" ++ 10 ∷ []
 header Two = codes "kcore-dump 2" ++ 10 ∷ []
 
-abbrev pub size_line : Dumped → List ℕ
-size_line d = line (codes "size") (decimal (length d.frames) ∷ decimal d.core ∷ decimal d.leaves ∷ [])
-
-abbrev pub free_line : Ends → List ℕ
-free_line ends = line (codes "free") (ends_words ends)
-
-abbrev pub vm_line : ℕ → SlotDump → List ℕ
-vm_line v slot = line (codes "vm") (decimal v ∷ phase_word slot.phase ∷ ends_words slot.list)
-
-abbrev pub leaf_line : ℕ → ℕ → ℕ → List ℕ
-leaf_line v n root = line (codes "leaf") (decimal v ∷ decimal n ∷ decimal root ∷ [])
-
-abbrev pub entry_line : ℕ → ℕ × ℕ → List ℕ
-entry_line v entry = line (codes "entry") (decimal v ∷ decimal entry.0 ∷ decimal entry.1 ∷ [])
-
 -- the words of a frame's line behind its share
 abbrev pub frame_rest : FrameLine → List (List ℕ)
 frame_rest frame = or_dash frame.gfn ∷ bit frame.present ∷ or_dash frame.prev ∷ or_dash frame.next ∷ encode_lower frame.digest ∷ []
 
-abbrev pub frame_line : ℕ → FrameLine → List ℕ
-frame_line f frame = line (codes "frame") (decimal f ∷ owner_word frame.owner ∷ decimal frame.share ∷ frame_rest frame)
+-- the text of a line
+abbrev pub spell : DumpLine → List ℕ
+spell (SizeOf frames core leaves) = line (codes "size") (decimal frames ∷ decimal core ∷ decimal leaves ∷ [])
+spell (FreeOf ends) = line (codes "free") (ends_words ends)
+spell (VmOf v phase ends) = line (codes "vm") (decimal v ∷ phase_word phase ∷ ends_words ends)
+spell (LeafOf v n root) = line (codes "leaf") (decimal v ∷ decimal n ∷ decimal root ∷ [])
+spell (EntryOf v entry) = line (codes "entry") (decimal v ∷ decimal entry.0 ∷ decimal entry.1 ∷ [])
+spell (FrameOf f frame) = line (codes "frame") (decimal f ∷ owner_word frame.owner ∷ decimal frame.share ∷ frame_rest frame)
 
--- lines by number, from this one on
-abbrev pub numbered : {X : Type 0} → (ℕ → X → List ℕ) → ℕ → List X → List ℕ
-numbered spell i [] = []
-numbered spell i (x ∷ xs) = spell i x ++ numbered spell (i + 1) xs
+-- a line each, by number from this one on
+abbrev pub made : {X : Type 0} → (ℕ → X → DumpLine) → ℕ → List X → List DumpLine
+made make i [] = []
+made make i (x ∷ xs) = make i x ∷ made make (i + 1) xs
 
-abbrev pub vm_lines : ℕ → List SlotDump → List ℕ
-vm_lines = numbered vm_line
+abbrev pub vm_of : ℕ → SlotDump → DumpLine
+vm_of v slot = VmOf v slot.phase slot.list
 
-abbrev pub leaf_lines : ℕ → ℕ → List ℕ → List ℕ
-leaf_lines v = numbered (leaf_line v)
+-- the leaves of these slots, of which the first has this number
+abbrev pub leaves_of : ℕ → List SlotDump → List DumpLine
+leaves_of v [] = []
+leaves_of v (slot ∷ slots) = made (LeafOf v) 0 slot.leaves ++ leaves_of (v + 1) slots
 
-abbrev pub all_leaf_lines : ℕ → List SlotDump → List ℕ
-all_leaf_lines = numbered (λ v slot. leaf_lines v 0 slot.leaves)
+-- the same of their entries
+abbrev pub entries_of : ℕ → List SlotDump → List DumpLine
+entries_of v [] = []
+entries_of v (slot ∷ slots) = made (λ i entry. EntryOf v entry) 0 slot.entries ++ entries_of (v + 1) slots
 
-abbrev pub entry_lines : ℕ → ℕ → List (ℕ × ℕ) → List ℕ
-entry_lines v = numbered (λ i entry. entry_line v entry)
+-- the lines of a dump behind that of the free list
+abbrev pub rest_of : Dumped → List DumpLine
+rest_of d = made vm_of 0 d.slots ++ (leaves_of 0 d.slots ++ (entries_of 0 d.slots ++ made FrameOf 0 d.frames))
 
-abbrev pub all_entry_lines : ℕ → List SlotDump → List ℕ
-all_entry_lines = numbered (λ v slot. entry_lines v 0 slot.entries)
-
-abbrev pub frame_lines : ℕ → List FrameLine → List ℕ
-frame_lines = numbered frame_line
+-- the lines of a dump behind its header
+abbrev pub lines_of : Dumped → List DumpLine
+lines_of d = SizeOf (length d.frames) d.core d.leaves ∷ FreeOf d.free ∷ rest_of d
 
 -- the one spelling of a dump
 abbrev pub dump_text : Dumped → List ℕ
-dump_text d = header d.version ++ (size_line d ++ (free_line d.free ++ (vm_lines 0 d.slots ++ (all_leaf_lines 0 d.slots ++ (all_entry_lines 0 d.slots ++ frame_lines 0 d.frames)))))
+dump_text d = header d.version ++ flat_map spell (lines_of d)

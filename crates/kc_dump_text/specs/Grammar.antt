@@ -1,43 +1,16 @@
 -- Which text is which dump, and why a text is none.
-use Rattle.std.specs.Prelude.{ℕ, ◌≡◌, ◌+◌, ◌==◌, ◌&&◌, ◌||◌, ◌⊎◌, nat_lt, nat_le, Bool, true, List, [], ◌∷◌, ◌++◌, length, codes, Option, Some, None, if◌then◌else◌}
-use Rattle.std.specs.Fmt.{decimal}
+use Rattle.std.specs.Prelude.{ℕ, ◌≡◌, ◌+◌, ◌==◌, ◌&&◌, ◌||◌, ◌⊎◌, nat_lt, nat_le, Bool, true, List, [], ◌∷◌, ◌++◌, length, Option, Some, None, if◌then◌else◌}
 use Rattle.kc_types.specs.Limits.{leaf_limit, leaf_entries}
 use Rattle.kc_types.specs.Configuration.{most_frames, slots_of}
 use Rattle.kc_types.specs.declared.version.Version.{Version}
 use Rattle.kc_dump.specs.declared.line.FrameLine.{FrameLine}
-use Rattle.kc_dump.specs.Dumps.{Dumped, SlotDump}
+use Rattle.kc_dump.specs.Dumps.{Dumped}
 use Rattle.kc_dump.specs.Ranges.{are_ends, is_entry, is_frame}
 use Rattle.kc_dump_text.specs.declared.dump_line.DumpLine.{DumpLine}
 use Rattle.kc_dump_text.specs.declared.dump_line.DumpLine.TheVariants.{SizeOf, FreeOf, VmOf, LeafOf, EntryOf, FrameOf}
 use Rattle.kc_dump_text.specs.declared.stage.Stage.{Stage}
 use Rattle.kc_dump_text.specs.declared.stage.Stage.TheVariants.{AtSize, AtFree, AtVm, AtLeaf, AtEntry, AtFrame}
-use Rattle.kc_dump_text.specs.DumpText.{line, phase_word, ends_words, free_line, leaf_line, entry_line, frame_line, dump_text}
-
--- the text of a line
-abbrev pub spell : DumpLine → List ℕ
-spell (SizeOf frames core leaves) = line (codes "size") (decimal frames ∷ decimal core ∷ decimal leaves ∷ [])
-spell (FreeOf ends) = free_line ends
-spell (VmOf v phase ends) = line (codes "vm") (decimal v ∷ phase_word phase ∷ ends_words ends)
-spell (LeafOf v n root) = leaf_line v n root
-spell (EntryOf v entry) = entry_line v entry
-spell (FrameOf f frame) = frame_line f frame
-
--- lines by number, from this one on
-abbrev pub made : {X : Type 0} → (ℕ → X → DumpLine) → ℕ → List X → List DumpLine
-made make i [] = []
-made make i (x ∷ xs) = make i x ∷ made make (i + 1) xs
-
-abbrev pub leaves_of : ℕ → List SlotDump → List DumpLine
-leaves_of v [] = []
-leaves_of v (slot ∷ slots) = made (LeafOf v) 0 slot.leaves ++ leaves_of (v + 1) slots
-
-abbrev pub entries_of : ℕ → List SlotDump → List DumpLine
-entries_of v [] = []
-entries_of v (slot ∷ slots) = made (λ i entry. EntryOf v entry) 0 slot.entries ++ entries_of (v + 1) slots
-
--- the lines of a dump
-abbrev pub lines_of : Dumped → List DumpLine
-lines_of d = SizeOf (length d.frames) d.core d.leaves ∷ FreeOf d.free ∷ (made (λ v (slot : SlotDump). VmOf v slot.phase slot.list) 0 d.slots ++ (leaves_of 0 d.slots ++ (entries_of 0 d.slots ++ made FrameOf 0 d.frames)))
+use Rattle.kc_dump_text.specs.DumpText.{spell, lines_of, dump_text}
 
 abbrev pub when : Bool → Stage → Option Stage
 when test stage = if test then Some stage else None
@@ -85,7 +58,7 @@ frames_at (AtFrame frames n) = frames
 
 -- the rest begins with the line of a frame in range with another number than the one due, or there is no rest
 abbrev pub LacksFrame : Version → Stage → List ℕ → ℕ → Type 0
-LacksFrame version stage rest f = (due stage ≡ Some f) × ((rest ≡ []) ⊎ ((other : ℕ) × (frame : FrameLine) × (more : List ℕ) × (rest ≡ frame_line other frame ++ more) × (nat_lt other (frames_at stage) && is_frame version (frames_at stage) frame ≡ true) × (other ≡ f → ⊥)))
+LacksFrame version stage rest f = (due stage ≡ Some f) × ((rest ≡ []) ⊎ ((other : ℕ) × (frame : FrameLine) × (more : List ℕ) × (rest ≡ spell (FrameOf other frame) ++ more) × (nat_lt other (frames_at stage) && is_frame version (frames_at stage) frame ≡ true) × (other ≡ f → ⊥)))
 
 -- no line that may stand there is the first of the rest
 abbrev pub HasNoLine : Version → Stage → List ℕ → Type 0

@@ -7,8 +7,8 @@ use Rattle.kc_dump_text.specs.declared.stage.Stage.TheVariants.{AtSize, AtFree, 
 use Rattle.kc_dump_text.specs.declared.fault.DumpFault.{DumpFault}
 use Rattle.kc_dump_text.specs.declared.fault.DumpFault.TheVariants.{NoHeader, BadLine, Frame, Memory}
 use Rattle.kc_types.specs.declared.version.Version.{Version}
-use Rattle.kc_dump_text.specs.DumpText.{header}
-use Rattle.kc_dump_text.specs.Grammar.{spell, runs, LacksFrame, HasNoLine}
+use Rattle.kc_dump_text.specs.DumpText.{header, spell}
+use Rattle.kc_dump_text.specs.Grammar.{runs, LacksFrame, HasNoLine}
 
 -- the text may end there
 abbrev pub IsEnd : Stage → Type 0

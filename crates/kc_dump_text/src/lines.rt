@@ -2,7 +2,8 @@
 ghost use Rattle.std.specs.Prelude.{◌≡◌, ◌≤◌, ◌+◌, ◌++◌, ◌∷◌, [], codes, length, vec_len, vec_capacity};
 ghost use Rattle.std.specs.Fmt.{decimal};
 ghost use Rattle.hex.specs.Hex.{encode_lower};
-ghost use Rattle.kc_dump_text.specs.DumpText.{spaced, or_dash, bit, phase_word, owner_word, ends_words, line, free_line, vm_line, frame_rest, frame_line};
+ghost use Rattle.kc_dump_text.specs.DumpText.{spaced, or_dash, bit, phase_word, owner_word, ends_words, line, frame_rest, spell};
+ghost use Rattle.kc_dump_text.specs.declared.dump_line.DumpLine.TheVariants.{FreeOf, VmOf, FrameOf};
 
 use kc_dump::{FrameLine, SlotDump};
 use kc_lines::{push_bytes, push_digits, push_number};
@@ -104,7 +105,7 @@ fn push_bit(text: &mut Vec<u8>, set: bool)
 /// Appends the line of the free list.
 pub fn push_free_line(text: &mut Vec<u8>, ends: &Ends)
     requires { vec_len text.old + 160 ≤ vec_capacity text.old }
-    ensures { text.new.items ≡ text.old.items ++ free_line ends.now }
+    ensures { text.new.items ≡ text.old.items ++ spell (FreeOf ends.now) }
 {
     push_bytes(text, b"free");
     push_ends(text, ends);
@@ -127,7 +128,7 @@ pub fn push_three(text: &mut Vec<u8>, name: &[u8], first: u32, second: u32, thir
 /// Appends the line of a slot.
 pub fn push_vm_line(text: &mut Vec<u8>, vm: u32, slot: &SlotDump)
     requires { vec_len text.old + 160 ≤ vec_capacity text.old }
-    ensures { text.new.items ≡ text.old.items ++ vm_line vm slot.now }
+    ensures { text.new.items ≡ text.old.items ++ spell (VmOf vm slot.now.phase slot.now.list) }
 {
     push_bytes(text, b"vm");
     push_number(text, vm);
@@ -153,7 +154,7 @@ fn push_frame_rest(text: &mut Vec<u8>, frame: &FrameLine)
 /// Appends the line of a frame.
 pub fn push_frame_line(text: &mut Vec<u8>, number: u32, frame: &FrameLine)
     requires { vec_len text.old + 160 ≤ vec_capacity text.old }
-    ensures { text.new.items ≡ text.old.items ++ frame_line number frame.now }
+    ensures { text.new.items ≡ text.old.items ++ spell (FrameOf number frame.now) }
 {
     push_bytes(text, b"frame");
     push_number(text, number);

@@ -1,10 +1,12 @@
 //! A dump as text.
 ghost use Rattle.std.specs.Prelude.{◌≡◌, ◌≤◌, ◌+◌, ◌++◌, ℕ, length, slice_index_or, IfOk, OnOk};
+ghost use Rattle.std.specs.List.{flat_map};
 ghost use Rattle.kc_types.specs.Limits.{frame_limit, slot_limit};
 ghost use Rattle.kc_dump.specs.Dumps.{empty_dump};
 ghost use Rattle.kc_dump.specs.Ranges.{IsDump};
 ghost use Rattle.kc_dump_text.specs.Grammar.{IsDumpText};
-ghost use Rattle.kc_dump_text.specs.DumpText.{dump_text, header, size_line, free_line, vm_lines, leaf_lines, all_leaf_lines, entry_lines, all_entry_lines, frame_lines};
+ghost use Rattle.kc_dump_text.specs.DumpText.{dump_text, header, spell, made, vm_of, leaves_of, entries_of};
+ghost use Rattle.kc_dump_text.specs.declared.dump_line.DumpLine.TheVariants.{SizeOf, FreeOf, LeafOf, EntryOf, FrameOf};
 
 use crate::lines::{LONGEST_LINE, push_frame_line, push_free_line, push_three, push_vm_line};
 use kc_dump::{Dump, FrameLine, SlotDump};
@@ -14,7 +16,7 @@ use std::alloc::Global;
 
 fn push_vms(text: &mut Vec<u8>, slots: &[SlotDump]) -> Result<(), Memory>
     requires { length slots.now ≤ slot_limit }
-    ensures { OnOk result (text.new.items ≡ text.old.items ++ vm_lines 0 slots.now) }
+    ensures { OnOk result (text.new.items ≡ text.old.items ++ flat_map spell (made vm_of 0 slots.now)) }
 {
     for i in 0..slots.len() {
         text.reserve(LONGEST_LINE)?;
@@ -25,7 +27,7 @@ fn push_vms(text: &mut Vec<u8>, slots: &[SlotDump]) -> Result<(), Memory>
 
 fn push_frames(text: &mut Vec<u8>, frames: &[FrameLine]) -> Result<(), Memory>
     requires { length frames.now ≤ frame_limit }
-    ensures { OnOk result (text.new.items ≡ text.old.items ++ frame_lines 0 frames.now) }
+    ensures { OnOk result (text.new.items ≡ text.old.items ++ flat_map spell (made FrameOf 0 frames.now)) }
 {
     for i in 0..frames.len() {
         text.reserve(LONGEST_LINE)?;
@@ -36,7 +38,7 @@ fn push_frames(text: &mut Vec<u8>, frames: &[FrameLine]) -> Result<(), Memory>
 
 fn push_leaves(text: &mut Vec<u8>, vm: u32, leaves: &[u32]) -> Result<(), Memory>
     requires { length leaves.now ≤ 1073741824 }
-    ensures { OnOk result (text.new.items ≡ text.old.items ++ leaf_lines vm 0 leaves.now) }
+    ensures { OnOk result (text.new.items ≡ text.old.items ++ flat_map spell (made (LeafOf vm) 0 leaves.now)) }
 {
     for i in 0..leaves.len() {
         text.reserve(LONGEST_LINE)?;
@@ -48,7 +50,7 @@ fn push_leaves(text: &mut Vec<u8>, vm: u32, leaves: &[u32]) -> Result<(), Memory
 fn push_all_leaves(text: &mut Vec<u8>, slots: &[SlotDump]) -> Result<(), Memory>
     requires few { length slots.now ≤ slot_limit }
     requires leaves { (v : ℕ) → length (slice_index_or slots.now v empty_dump).leaves ≤ 1073741824 }
-    ensures { OnOk result (text.new.items ≡ text.old.items ++ all_leaf_lines 0 slots.now) }
+    ensures { OnOk result (text.new.items ≡ text.old.items ++ flat_map spell (leaves_of 0 slots.now)) }
 {
     for i in 0..slots.len() {
         push_leaves(text, i as u32, slots[i].leaves())?;
@@ -57,7 +59,7 @@ fn push_all_leaves(text: &mut Vec<u8>, slots: &[SlotDump]) -> Result<(), Memory>
 }
 
 fn push_entries(text: &mut Vec<u8>, vm: u32, entries: &[(Gfn, FrameNo)]) -> Result<(), Memory>
-    ensures { OnOk result (text.new.items ≡ text.old.items ++ entry_lines vm 0 entries.now) }
+    ensures { OnOk result (text.new.items ≡ text.old.items ++ flat_map spell (made (λ i entry. EntryOf vm entry) 0 entries.now)) }
 {
     for i in 0..entries.len() {
         text.reserve(LONGEST_LINE)?;
@@ -69,7 +71,7 @@ fn push_entries(text: &mut Vec<u8>, vm: u32, entries: &[(Gfn, FrameNo)]) -> Resu
 
 fn push_all_entries(text: &mut Vec<u8>, slots: &[SlotDump]) -> Result<(), Memory>
     requires { length slots.now ≤ slot_limit }
-    ensures { OnOk result (text.new.items ≡ text.old.items ++ all_entry_lines 0 slots.now) }
+    ensures { OnOk result (text.new.items ≡ text.old.items ++ flat_map spell (entries_of 0 slots.now)) }
 {
     for i in 0..slots.len() {
         push_entries(text, i as u32, slots[i].entries())?;
@@ -79,7 +81,7 @@ fn push_all_entries(text: &mut Vec<u8>, slots: &[SlotDump]) -> Result<(), Memory
 
 /// The line of sizes.
 fn push_size(text: &mut Vec<u8>, dump: &Dump) -> Result<(), Memory>
-    ensures { OnOk result (text.new.items ≡ text.old.items ++ size_line dump.now) }
+    ensures { OnOk result (text.new.items ≡ text.old.items ++ spell (SizeOf (length dump.now.frames) dump.now.core dump.now.leaves)) }
 {
     text.reserve(LONGEST_LINE)?;
     let frames = dump.frames().len() as u32;
@@ -89,7 +91,7 @@ fn push_size(text: &mut Vec<u8>, dump: &Dump) -> Result<(), Memory>
 
 /// The line of the free list.
 fn push_free(text: &mut Vec<u8>, dump: &Dump) -> Result<(), Memory>
-    ensures { OnOk result (text.new.items ≡ text.old.items ++ free_line dump.now.free) }
+    ensures { OnOk result (text.new.items ≡ text.old.items ++ spell (FreeOf dump.now.free)) }
 {
     text.reserve(LONGEST_LINE)?;
     push_free_line(text, dump.free());

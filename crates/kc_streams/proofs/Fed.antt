@@ -12,7 +12,7 @@ use Rattle.kc_ends.specs.Ends.{ReadFailed, byte_limit}
 use Rattle.kc_trace.specs.declared.fault.TraceFault.{TraceFault}
 use Rattle.kc_trace.specs.declared.fault.TraceFault.TheVariants.{NoHeader, BadLine, NoNewline, TooManyCalls, Memory}
 use Rattle.kc_trace.specs.Trace.{IsTrace, IsRefused}
-use Rattle.kc_trace.specs.Machine.{◌>>=◌, Progress, Fails, start, longer, told, call_in, after_line, after_text_byte, after_header_byte, after_byte, step, feed, fed, fed_after, ended, reading}
+use Rattle.kc_trace.specs.Machine.{◌>>=◌, Progress, Fails, start, longer, told, call_in, after_line, after_header_byte, after_byte, step, feed, fed, fed_after, ended, reading}
 use Rattle.kc_trace.proofs.Traces.{feed-append, and_then_feed, added, Reads, reading_reads}
 use Rattle.kc_streams.specs.Streamed.{Streamed, answer, HasRead, GoesOn}
 

@@ -7,11 +7,6 @@ use Rattle.std.proofs.lemmas.List.Concat.{flat_map-cons}
 use Rattle.std.proofs.Math.Seq.{take-append-add, take-append-le}
 use Rattle.std.specs.Io.KnownBytes.{Appends}
 use Rattle.std.proofs.KnownBytes.{Appends-trans}
-use Rattle.kc_types.specs.declared.reply.Reply.{Reply}
-use Rattle.kc_types.specs.declared.version.Version.{Version}
-use Rattle.kc_types.specs.declared.call.Call.{Call}
-use Rattle.kc_trace.specs.ReplyText.{reply_line_of, reply_text_of}
-use Rattle.kc_trace.specs.Spelling.{header, line_of, text_of}
 use Rattle.std.specs.List.{flat_map}
 
 -- of this text the sink took a beginning, and what is left of it stands in the buffer
@@ -30,11 +25,12 @@ given_whole text piece old mid new given more = record {
 pub given_all : (text : List ℕ) (old new : Option (List ℕ)) → IsGiven text [] old new → Appends old new text
 given_all text old new given = rw (given.joined, append-nil given.sent) given.taken
 
-abbrev text_of_first : {X : Type 0} → (X → List ℕ) → List ℕ → ℕ → List X → List ℕ
+-- the first lines behind a front
+abbrev pub text_of_first : {X : Type 0} → (X → List ℕ) → List ℕ → ℕ → List X → List ℕ
 text_of_first line front n xs = front ++ flat_map line (take n xs)
 
 -- one line more, which the buffer took
-given_more : {X : Type 0} (line : X → List ℕ) (front : List ℕ) (n : ℕ) (xs : List X) (x : X) (piece more : List ℕ) (old new : Option (List ℕ)) → n < length xs → x ≡ get_or xs n x → IsGiven (text_of_first line front n xs) piece old new → more ≡ piece ++ line x
+pub given_more : {X : Type 0} (line : X → List ℕ) (front : List ℕ) (n : ℕ) (xs : List X) (x : X) (piece more : List ℕ) (old new : Option (List ℕ)) → n < length xs → x ≡ get_or xs n x → IsGiven (text_of_first line front n xs) piece old new → more ≡ piece ++ line x
     → IsGiven (text_of_first line front (n + 1) xs) more old new
 given_more {X} line front n xs x piece more old new lt is given grown =
     let one = get_or xs n x in
@@ -55,7 +51,7 @@ cut_short sent piece rest n =
     ]
 
 -- where a piece is cut short, a beginning of the whole text was taken
-begun : {X : Type 0} (line : X → List ℕ) (front : List ℕ) (n : ℕ) (xs : List X) (piece : List ℕ) (old mid new : Option (List ℕ)) → IsGiven (text_of_first line front n xs) piece old mid → ((k : ℕ) × Appends mid new (take k piece)) → (m : ℕ) × Appends old new (take m (front ++ flat_map line xs))
+pub begun : {X : Type 0} (line : X → List ℕ) (front : List ℕ) (n : ℕ) (xs : List X) (piece : List ℕ) (old mid new : Option (List ℕ)) → IsGiven (text_of_first line front n xs) piece old mid → ((k : ℕ) × Appends mid new (take k piece)) → (m : ℕ) × Appends old new (take m (front ++ flat_map line xs))
 begun line front n xs piece old mid new given cut =
     let rest = flat_map line (drop n xs) in
     let whole : front ++ flat_map line xs ≡ (given.sent ++ piece) ++ rest =
@@ -63,23 +59,3 @@ begun line front n xs piece old mid new given cut =
     ∙ sym (append_assoc front (flat_map line (take n xs)) rest) ∙ ap (λ (t : List ℕ). t ++ rest) given.joined in
     let begins = cut_short given.sent piece rest cut.0 in
     (begins.0, rw (whole, ← begins.1) (Appends-trans old mid new given.sent (take cut.0 piece) given.taken cut.1))
-
--- ---- replies
-
-abbrev reply_line : Reply → List ℕ
-reply_line reply = reply_line_of reply ++ 10 ∷ []
-
-pub replies_begun : (n : ℕ) (replies : List Reply) (piece : List ℕ) (old mid new : Option (List ℕ)) → IsGiven (reply_text_of (take n replies)) piece old mid → ((k : ℕ) × Appends mid new (take k piece)) → (m : ℕ) × Appends old new (take m (reply_text_of replies))
-replies_begun = begun reply_line []
-
--- ---- calls, behind the header
-
-abbrev call_line : Call → List ℕ
-call_line call = line_of call ++ 10 ∷ []
-
-pub given_call : (version : Version) (n : ℕ) (calls : List Call) (call : Call) (piece more : List ℕ) (old new : Option (List ℕ)) → n < length calls → call ≡ get_or calls n call → IsGiven (text_of version (take n calls)) piece old new → more ≡ piece ++ (line_of call ++ 10 ∷ [])
-    → IsGiven (text_of version (take (n + 1) calls)) more old new
-given_call version = given_more call_line (header version)
-
-pub calls_begun : (version : Version) (n : ℕ) (calls : List Call) (piece : List ℕ) (old mid new : Option (List ℕ)) → IsGiven (text_of version (take n calls)) piece old mid → ((k : ℕ) × Appends mid new (take k piece)) → (m : ℕ) × Appends old new (take m (text_of version calls))
-calls_begun version = begun call_line (header version)

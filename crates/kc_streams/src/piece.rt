@@ -1,7 +1,6 @@
 //! The piece of text that is given to a sink at once.
 ghost use Rattle.std.specs.Prelude.{◌≡◌, ◌≤◌, [], vec_capacity, IfOk};
-ghost use Rattle.kc_trace.specs.ReplyText.{longest_reply};
-ghost use Rattle.kc_trace.specs.Spelling.{longest_call};
+ghost use Rattle.kc_streams.specs.Lines.{longest_line};
 
 use kc_types::Memory;
 use std::alloc::Global;
@@ -9,11 +8,10 @@ use std::alloc::Global;
 /// The bytes of a piece of text.
 const PIECE: usize = 65_536;
 
-/// A piece without text, which has room for 65,536 bytes: for the longest reply or call many times over.
+/// A piece without text, which has room for 65,536 bytes: for the longest line many times over.
 pub fn empty_piece(alloc: Global) -> Result<Vec<u8>, Memory>
     ensures empty { IfOk result (λ piece. piece.items ≡ []) }
-    ensures replies { IfOk result (λ piece. longest_reply ≤ vec_capacity piece) }
-    ensures calls { IfOk result (λ piece. longest_call ≤ vec_capacity piece) }
+    ensures room { IfOk result (λ piece. longest_line ≤ vec_capacity piece) }
 {
     Ok(Vec::with_capacity(alloc, PIECE)?)
 }

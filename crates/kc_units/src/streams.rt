@@ -1,7 +1,6 @@
 //! Replies given to a sink, each in a piece of its own.
 use kc_ends::{FailAt, Mem};
-use kc_streams::give_replies;
-use kc_trace::LONGEST_REPLY;
+use kc_streams::{LONGEST_LINE, give_replies};
 use kc_types::{Data, Refusal, Reply};
 use std::alloc::Global;
 use std::test::Fail;
@@ -27,7 +26,7 @@ fn each_line_is_a_piece(rt: HostRuntime) -> Result<(), Fail> {
         let mut sink = FailAt::new(Mem::new(alloc), left);
         let outcome = give_replies(
             &mut sink,
-            Vec::with_capacity(alloc, LONGEST_REPLY)?,
+            Vec::with_capacity(alloc, LONGEST_LINE)?,
             &replies,
         );
         assert_eq!(rt; outcome.is_ok(), left == TEXT.len(), "{left}");

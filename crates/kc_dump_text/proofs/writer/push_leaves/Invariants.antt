@@ -1,6 +1,8 @@
 use Rattle.std.proofs.Common.{◌≡◌, ◌++◌, drop}
-use Rattle.kc_dump_text.specs.DumpText.{leaf_lines}
+use Rattle.std.specs.List.{flat_map}
+use Rattle.kc_dump_text.specs.declared.dump_line.DumpLine.TheVariants.{LeafOf}
+use Rattle.kc_dump_text.specs.DumpText.{spell, made}
 use Rattle.kc_dump_text.proofs.writer.push_leaves.Given as goal
 
 abbrev pub invariant-loop-i : goal.invariant-loop-i
-invariant-loop-i l = l.text.items ++ leaf_lines l.vm l.i (drop l.i l.leaves) ≡ l.initial.text.items ++ leaf_lines l.vm 0 l.leaves
+invariant-loop-i l = l.text.items ++ flat_map spell (made (LeafOf l.vm) l.i (drop l.i l.leaves)) ≡ l.initial.text.items ++ flat_map spell (made (LeafOf l.vm) 0 l.leaves)

@@ -1,4 +1,4 @@
-use Rattle.std.proofs.Common.{◌≡◌, ◌++◌, ◌+◌, ◌<◌, length, take, arith, refl, rules}
+use Rattle.std.proofs.Common.{◌≡◌, ◌++◌, ◌+◌, length, take, arith, refl, rules}
 use Rattle.std.proofs.lemmas.List.{length-take}
 use Rattle.kc_streams.specs.Streamed.{Streamed}
 use Rattle.kc_streams.proofs.Fed.{goes_on_ok, goes_on_err, too_many}
