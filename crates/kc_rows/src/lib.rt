@@ -2,6 +2,8 @@
 #![tactic(auto)]
 
 #[cfg(test)]
+mod blind;
+#[cfg(test)]
 mod configurations;
 #[cfg(test)]
 mod copies;
