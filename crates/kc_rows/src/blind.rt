@@ -74,11 +74,7 @@ fn differing(one: &[u8], other: &[u8], front: &[u8]) -> Option<usize> {
 
 /// In how many digests the dumps of both traces differ behind some calls, the one made by one worker and the other by
 /// three.
-fn digests_apart<R: Threads + Wait + Sync>(
-    rt: &R,
-    alloc: Global,
-    look: &Example,
-) -> Option<usize> {
+fn digests_apart<R: Threads + Wait + Sync>(rt: &R, alloc: Global, look: &Example) -> Option<usize> {
     let one = dump_after(rt, alloc, &ONE, look, 1)?;
     let other = dump_after(rt, alloc, &OTHER, look, 3)?;
     differing(one.as_slice(), other.as_slice(), KEPT.as_bytes())

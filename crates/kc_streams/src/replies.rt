@@ -19,11 +19,7 @@ impl Line for Reply {
 
 /// Gives the text of some replies to a sink, in pieces as large as the empty buffer has room for: memory does not
 /// grow. After an `Err` the sink has taken a beginning of the text.
-pub fn give_replies<K: Sink>(
-    out: &mut K,
-    piece: Vec<u8>,
-    replies: &[Reply],
-) -> Result<(), Failed>
+pub fn give_replies<K: Sink>(out: &mut K, piece: Vec<u8>, replies: &[Reply]) -> Result<(), Failed>
     requires out { K.failed out.old ≡ false }
     requires empty { piece.items ≡ [] }
     requires room { longest_line ≤ vec_capacity piece }
