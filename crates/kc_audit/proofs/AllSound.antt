@@ -16,11 +16,11 @@ use Rattle.kc_audit.specs.declared.finding.Finding.TheVariants as finding
 use Rattle.kc_audit.specs.declared.verdict.FrameVerdict.{FrameVerdict}
 use Rattle.kc_audit.specs.declared.verdict.FrameKind.{FrameKind}
 use Rattle.kc_audit.specs.declared.verdict.FrameKind.TheVariants as kind
-use Rattle.kc_dump.specs.Dumps.{Dumped, SlotDump, line_at, owner_at, slot_at, empty_dump, absent_line, maps}
+use Rattle.kc_dump.specs.Dump.{Dumped, SlotDump, line_at, line_owner, slot_dump_at, empty_dump, absent_line, maps}
 use Rattle.kc_dump.specs.Lists.{HasList}
 use Rattle.kc_dump.specs.Sound.{IsSound, IsSoundSlot}
 use Rattle.kc_audit.specs.Verdicts.{shows, named}
-use Rattle.kc_audit.specs.Findings.{is_mapped, verdict_of, verdicts_of, frames_named, list_owner, list_ends, list_name, AreLists, lists_named, is_gfn, says, has_double, all_rooted, entries_named, all_entries_named, wrong_leaves, wrong_empty, leaves_named, empty_named, findings_by, AreFindings}
+use Rattle.kc_audit.specs.Findings.{is_mapped, verdict_of, verdicts_of, frames_named, list_owner, list_ends, list_name, AreGoodLists, lists_named, is_gfn, says, has_double, all_rooted, entries_named, all_entries_named, wrong_leaves, wrong_empty, leaves_named, empty_named, findings_by, AreFindings}
 use Rattle.kc_dump.proofs.Owners.{same-is}
 use Rattle.kc_audit.proofs.Marked.{says-true}
 use Rattle.kc_audit.proofs.SoundFrames.{IsClear, sound-frame, frame-clear, gfn-mapped, and-right, and-none, or-parts, negated, negates}
@@ -64,10 +64,10 @@ empty-slot slot e phase =
     λ i. record { phase = phase i; list = record { head = head i; tail = tail i; count = count i }; leaves = leaves i; entries = entries i }
 
 -- what a frame that says so has
-said-parts : (lines : List FrameLine) (v g f : ℕ) → says lines v g f ≡ true → (owner_at lines f ≡ Vm v) × ((line_at lines f).gfn ≡ Some g)
+said-parts : (lines : List FrameLine) (v g f : ℕ) → says lines v g f ≡ true → (line_owner lines f ≡ Vm v) × ((line_at lines f).gfn ≡ Some g)
 said-parts lines v g f h =
-    let parts = both-parts (same_owner (owner_at lines f) (Vm v)) (is_gfn (line_at lines f).gfn g) h in
-    (same-is (owner_at lines f) (Vm v) parts.0, gfn-is (line_at lines f).gfn parts.1)
+    let parts = both-parts (same_owner (line_owner lines f) (Vm v)) (is_gfn (line_at lines f).gfn g) h in
+    (same-is (line_owner lines f) (Vm v) parts.0, gfn-is (line_at lines f).gfn parts.1)
   where
     both-parts : (a b : Bool) → (a && b) ≡ true → (a ≡ true) × (b ≡ true)
     both-parts true b e = (refl, e)
@@ -115,7 +115,7 @@ module _ (d : Dumped) where
     and-none (is_empty slot.phase) (has_something slot) (λ e. ap has_something (is.empty (phase-empty slot.phase e))),
   )
 
-  module _ (lists : List Bool) (good : AreLists d lists) where
+  module _ (lists : List Bool) (good : AreGoodLists d lists) where
     record Nothing : Type 0 where
       cores : frames_named kind.CoreOwner 0 (verdicts_of d) ≡ []
       links : frames_named kind.Linked 0 (verdicts_of d) ≡ []
@@ -161,32 +161,32 @@ module _ (d : Dumped) where
           let yes : get_or lists i false ≡ true = negated (get_or lists i false) (named-none (λ b. not b) (λ i b. list_name i) 0 lists false n.chains i within) in
           subst (λ k. HasList d.frames (list_owner k) (list_ends d k)) (let z : 0 + i ≡ i = omega arith in z) ((good.each i within).0 yes)
 
-      said : (v g f : ℕ) → v < length d.slots → maps (slot_at d v) g f ≡ true → says d.frames v g f ≡ true
+      said : (v g f : ℕ) → v < length d.slots → maps (slot_dump_at d v) g f ≡ true → says d.frames v g f ≡ true
       said v g f low there =
-          let es = (slot_at d v).entries in
+          let es = (slot_dump_at d v).entries in
           let p = entry-place es g f (0, 0) there in
           let none : entries_named d.frames v es ≡ [] = ap (λ w. entries_named d.frames w es) (let z : v ≡ 0 + v = omega arith in z) ∙ entries-none d.frames 0 d.slots n.entries v low in
           let told = negated _ (named-none (λ (e : ℕ × ℕ). not (says d.frames v e.0 e.1)) (λ i e. finding.Entry v e.0) 0 es (0, 0) none p.place p.within) in
           ap (says d.frames v g) (sym p.frame) ∙ ap (λ h. says d.frames v h (get_or es p.place (0, 0)).1) (sym p.gfn) ∙ told
 
-      mapped-sound : (v g f : ℕ) → (maps (slot_at d v) g f ≡ true) ↔ ((owner_at d.frames f ≡ Vm v) × ((line_at d.frames f).gfn ≡ Some g))
+      mapped-sound : (v g f : ℕ) → (maps (slot_dump_at d v) g f ≡ true) ↔ ((line_owner d.frames f ≡ Vm v) × ((line_at d.frames f).gfn ≡ Some g))
       mapped-sound v g f = (
         λ there. elim (cases_lt v (length d.slots)) [
           | inl low ↦ said-parts d.frames v g f (said v g f low there)
-          | inr past ↦ let none : maps (slot_at d v) g f ≡ false = ap (λ (s : SlotDump). maps s g f) (get_or_past d.slots v empty_dump past) in let clash : false ≡ true = sym none ∙ there in absurd (false≢true clash)
+          | inr past ↦ let none : maps (slot_dump_at d v) g f ≡ false = ap (λ (s : SlotDump). maps s g f) (get_or_past d.slots v empty_dump past) in let clash : false ≡ true = sym none ∙ there in absurd (false≢true clash)
         ],
         λ both. elim (cases_lt f (length d.frames)) [
           | inl low ↦
-              let is = gfn-mapped (is_mapped d f (owner_at d.frames f) (line_at d.frames f).gfn) (owner_at d.frames f) (line_at d.frames f).gfn v (clear f low).gfn both.0 in
+              let is = gfn-mapped (is_mapped d f (line_owner d.frames f) (line_at d.frames f).gfn) (line_owner d.frames f) (line_at d.frames f).gfn v (clear f low).gfn both.0 in
               sym (ap (λ o. is_mapped d f o (line_at d.frames f).gfn) both.0 ∙ ap (λ h. is_mapped d f (Vm v) h) both.1) ∙ is
-          | inr past ↦ let none : owner_at d.frames f ≡ Core = ap (λ (l : FrameLine). l.owner) (get_or_past d.frames f absent_line past) in let clash : Vm v ≡ Core = sym both.0 ∙ none in cc
+          | inr past ↦ let none : line_owner d.frames f ≡ Core = ap (λ (l : FrameLine). l.owner) (get_or_past d.frames f absent_line past) in let clash : Vm v ≡ Core = sym both.0 ∙ none in cc
         ],
       )
 
       all-sound : IsSound d
       all-sound = record {
-        each_frame = λ f low. sound-frame d.core f (is_mapped d f (owner_at d.frames f) (line_at d.frames f).gfn) (line_at d.frames f) (clear f low);
-        each_slot = λ v low. slot-sound (slot_at d v)
+        each_frame = λ f low. sound-frame d.core f (is_mapped d f (line_owner d.frames f) (line_at d.frames f).gfn) (line_at d.frames f) (clear f low);
+        each_slot = λ v low. slot-sound (slot_dump_at d v)
             (named-none (wrong_leaves d.leaves) (λ v s. finding.Leaves v) 0 d.slots empty_dump n.leaves v low)
             (named-none wrong_empty (λ v s. finding.Empty v) 0 d.slots empty_dump n.empties v low);
         free = good-list 0 (omega arith);
@@ -195,7 +195,7 @@ module _ (d : Dumped) where
       }
 
     module _ (is : IsSound d) where
-      mapped-there : (f : ℕ) (o : Owner) (h : Option ℕ) → owner_at d.frames f ≡ o → (line_at d.frames f).gfn ≡ h → is_some h ≡ is_vm o → is_vm o ≡ true → is_mapped d f o h ≡ true
+      mapped-there : (f : ℕ) (o : Owner) (h : Option ℕ) → line_owner d.frames f ≡ o → (line_at d.frames f).gfn ≡ h → is_some h ≡ is_vm o → is_vm o ≡ true → is_mapped d f o h ≡ true
       mapped-there f (Vm v) (Some g) oe he some vm = (is.mapped v g f).1 (oe, he)
       mapped-there f (Vm v) None oe he some vm = some
       mapped-there f Core h oe he some vm = cc
@@ -210,7 +210,7 @@ module _ (d : Dumped) where
 
       entries-right : (k : ℕ) → k < length d.slots → entries_named d.frames (0 + k) (get_or d.slots k empty_dump).entries ≡ []
       entries-right k low =
-          let es = (slot_at d k).entries in
+          let es = (slot_dump_at d k).entries in
           ap (λ w. entries_named d.frames w es) (let z : 0 + k ≡ k = omega arith in z)
           ∙ none-named (λ (e : ℕ × ℕ). not (says d.frames k e.0 e.1)) (λ i e. finding.Entry k e.0) 0 es (0, 0) (λ j within.
           let e = get_or es j (0, 0) in
@@ -232,8 +232,8 @@ module _ (d : Dumped) where
         gfns = none-kind kind.Gfn (λ f low. (is-clear f low).gfn);
         shares = none-kind kind.Share (λ f low. (is-clear f low).share);
         presents = none-kind kind.Present (λ f low. (is-clear f low).present);
-        leaves = none-named (wrong_leaves d.leaves) (λ v s. finding.Leaves v) 0 d.slots empty_dump (λ v low. (slot-right (slot_at d v) (is.each_slot v low)).0);
-        empties = none-named wrong_empty (λ v s. finding.Empty v) 0 d.slots empty_dump (λ v low. (slot-right (slot_at d v) (is.each_slot v low)).1);
+        leaves = none-named (wrong_leaves d.leaves) (λ v s. finding.Leaves v) 0 d.slots empty_dump (λ v low. (slot-right (slot_dump_at d v) (is.each_slot v low)).0);
+        empties = none-named wrong_empty (λ v s. finding.Empty v) 0 d.slots empty_dump (λ v low. (slot-right (slot_dump_at d v) (is.each_slot v low)).1);
         zeros = none-kind kind.Bytes (λ f low. (is-clear f low).bytes);
       }
 
@@ -244,5 +244,5 @@ module _ (d : Dumped) where
     λ is. are.named ∙ nothing-to-find are.lists are.good (nothing-wrong are.lists are.good is),
   )
 
-  pub none-sound-by : (lists : List Bool) → AreLists d lists → (found : List Finding) → found ≡ findings_by d lists → (found ≡ []) ↔ IsSound d
+  pub none-sound-by : (lists : List Bool) → AreGoodLists d lists → (found : List Finding) → found ≡ findings_by d lists → (found ≡ []) ↔ IsSound d
   none-sound-by lists good found named = none-sound found (record { lists = lists; good = good; named = named })

@@ -6,22 +6,22 @@ use Rattle.kc_types.specs.declared.owner.Owner.{Owner}
 use Rattle.kc_types.specs.declared.owner.Owner.TheVariants.{Core, Host, Free, Vm}
 use Rattle.kc_model.specs.Lawful.{same_owner}
 use Rattle.kc_dump.specs.declared.line.FrameLine.{FrameLine}
-use Rattle.kc_dump.specs.Dumps.{owner_at}
+use Rattle.kc_dump.specs.Dump.{line_owner}
 use Rattle.kc_dump.specs.Lists.{owned}
 use Rattle.kc_dump.specs.Sums.{sum_below}
 use Rattle.kc_audit.specs.Findings.{list_owner}
-use Rattle.kc_audit.specs.Counts.{place_of, AreCounts}
+use Rattle.kc_audit.specs.Counts.{list_place, AreOwnerCounts}
 
 -- no more frames than there are
 pub sum-low : (lines : List FrameLine) (owner : Owner) (n : ℕ) → sum_below (owned lines owner) n ≤ n
 sum-low lines owner zero = omega arith
-sum-low lines owner (suc n) = let rest = sum-low lines owner n in let last = one (same_owner (owner_at lines n) owner) in omega (arith, rest, last)
+sum-low lines owner (suc n) = let rest = sum-low lines owner n in let last = one (same_owner (line_owner lines n) owner) in omega (arith, rest, last)
   where
     one : (b : Bool) → cond b 1 0 ≤ 1
     one true = omega arith
     one false = omega arith
 
-placed : (owner : Owner) (q p : ℕ) → place_of owner ≡ Some q → same_owner owner (list_owner p) ≡ nat_eq q p
+placed : (owner : Owner) (q p : ℕ) → list_place owner ≡ Some q → same_owner owner (list_owner p) ≡ nat_eq q p
 placed Core q p e = cc
 placed Host q p e = cc
 placed Free q zero e = sym (eq-eqb q 0 (sym (same_Some 0 q e)))
@@ -32,7 +32,7 @@ placed (Vm v) q (suc w) e = let z = same_Some (v + 1) q e in elim (cases_eq v w)
   | inr other ↦ ne_eqb v w other ∙ sym (ne_eqb q (suc w) (λ s. other (omega (arith, z, s))))
 ]
 
-unplaced : (owner : Owner) (p : ℕ) → place_of owner ≡ None → same_owner owner (list_owner p) ≡ false
+unplaced : (owner : Owner) (p : ℕ) → list_place owner ≡ None → same_owner owner (list_owner p) ≡ false
 unplaced Core zero e = refl
 unplaced Core (suc w) e = refl
 unplaced Host zero e = refl
@@ -43,11 +43,11 @@ unplaced (Vm v) p e = cc
 next-sum : (lines : List FrameLine) (owner : Owner) (i : ℕ) → sum_below (owned lines owner) (i + 1) ≡ sum_below (owned lines owner) i + owned lines owner i
 next-sum lines owner i = let e : i + 1 ≡ suc i = omega arith in ap (sum_below (owned lines owner)) e
 
-pub counted-some : (lines : List FrameLine) (i lists q x : ℕ) (old : List ℕ) → place_of (owner_at lines i) ≡ Some q → q < lists → x ≡ get_or old q 0 + 1 → AreCounts lines i lists old → AreCounts lines (i + 1) lists (set old q x)
+pub counted-some : (lines : List FrameLine) (i lists q x : ℕ) (old : List ℕ) → list_place (line_owner lines i) ≡ Some q → q < lists → x ≡ get_or old q 0 + 1 → AreOwnerCounts lines i lists old → AreOwnerCounts lines (i + 1) lists (set old q x)
 counted-some lines i lists q x old place low more so_far = record {
   places = length-set old q x ∙ so_far.places;
   counted = λ p within.
-      let here : owned lines (list_owner p) i ≡ cond (nat_eq q p) 1 0 = ap (λ b. cond b 1 0) (placed (owner_at lines i) q p place) in
+      let here : owned lines (list_owner p) i ≡ cond (nat_eq q p) 1 0 = ap (λ b. cond b 1 0) (placed (line_owner lines i) q p place) in
       let before = so_far.counted p within in
       let next = next-sum lines (list_owner p) i in
       elim (cases_eq p q) [
@@ -63,11 +63,11 @@ counted-some lines i lists q x old place low more so_far = record {
       ];
 }
 
-pub counted-none : (lines : List FrameLine) (i lists : ℕ) (old : List ℕ) → place_of (owner_at lines i) ≡ None → AreCounts lines i lists old → AreCounts lines (i + 1) lists old
+pub counted-none : (lines : List FrameLine) (i lists : ℕ) (old : List ℕ) → list_place (line_owner lines i) ≡ None → AreOwnerCounts lines i lists old → AreOwnerCounts lines (i + 1) lists old
 counted-none lines i lists old place so_far = record {
   places = so_far.places;
   counted = λ p within.
-      let here : owned lines (list_owner p) i ≡ 0 = ap (λ b. cond b 1 0) (unplaced (owner_at lines i) p place) in
+      let here : owned lines (list_owner p) i ≡ 0 = ap (λ b. cond b 1 0) (unplaced (line_owner lines i) p place) in
       let before = so_far.counted p within in
       let next = next-sum lines (list_owner p) i in
       omega (arith, here, before, next);

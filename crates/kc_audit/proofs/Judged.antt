@@ -8,7 +8,7 @@ use Rattle.kc_types.specs.declared.owner.Owner.{Owner}
 use Rattle.kc_types.specs.declared.owner.Owner.TheVariants.{Core, Host, Free, Vm}
 use Rattle.kc_dump.specs.declared.line.FrameLine.{FrameLine}
 use Rattle.kc_audit.specs.declared.verdict.FrameVerdict.{FrameVerdict}
-use Rattle.kc_dump.specs.Dumps.{Dumped, line_at, absent_line}
+use Rattle.kc_dump.specs.Dump.{Dumped, line_at, absent_line}
 use Rattle.kc_audit.specs.Marks.{AreMarks}
 use Rattle.kc_audit.specs.Verdicts.{verdict_by, wrong_gfn}
 use Rattle.kc_audit.specs.Findings.{is_mapped, verdict_of, verdicts_of}

@@ -5,32 +5,32 @@ use Rattle.std.proofs.lemmas.List.{get_or_past, get_or_default}
 use Rattle.kc_types.specs.declared.owner.Owner.TheVariants.{Vm}
 use Rattle.kc_model.specs.Lawful.{same_owner}
 use Rattle.kc_dump.specs.declared.line.FrameLine.{FrameLine}
-use Rattle.kc_dump.specs.Dumps.{Dumped, SlotDump, line_at, owner_at, slot_at, maps, empty_dump}
+use Rattle.kc_dump.specs.Dump.{Dumped, SlotDump, line_at, line_owner, slot_dump_at, maps, empty_dump}
 use Rattle.kc_audit.specs.Findings.{says, is_gfn}
 use Rattle.kc_audit.specs.Marks.{has_entry, AreMarks}
 
 -- the frames of the first slots are marked
 pub record MarkedTo (d : Dumped) (marks : List Bool) (i : ℕ) : Type 0 where
-  pub done : (f v g : ℕ) → owner_at d.frames f ≡ Vm v → (line_at d.frames f).gfn ≡ Some g → v < i → get_or marks f false ≡ maps (slot_at d v) g f
-  pub left : (f v : ℕ) → owner_at d.frames f ≡ Vm v → i ≤ v → get_or marks f false ≡ false
+  pub done : (f v g : ℕ) → line_owner d.frames f ≡ Vm v → (line_at d.frames f).gfn ≡ Some g → v < i → get_or marks f false ≡ maps (slot_dump_at d v) g f
+  pub left : (f v : ℕ) → line_owner d.frames f ≡ Vm v → i ≤ v → get_or marks f false ≡ false
 
-pub says-true : (lines : List FrameLine) (v g f : ℕ) → owner_at lines f ≡ Vm v → (line_at lines f).gfn ≡ Some g → says lines v g f ≡ true
+pub says-true : (lines : List FrameLine) (v g f : ℕ) → line_owner lines f ≡ Vm v → (line_at lines f).gfn ≡ Some g → says lines v g f ≡ true
 says-true lines v g f owner gfn = ap (λ o. same_owner o (Vm v) && is_gfn (line_at lines f).gfn g) owner ∙ ap (λ h. nat_eq v v && is_gfn h g) gfn ∙ both (nat_eq v v) (nat_eq g g) (eq-eqb v v refl) (eq-eqb g g refl)
   where
     both : (a b : Bool) → a ≡ true → b ≡ true → (a && b) ≡ true
     both true b x y = y
     both false b x y = x
 
-other-slot : (lines : List FrameLine) (f v w : ℕ) → owner_at lines f ≡ Vm v → (v ≡ w → ⊥) → same_owner (owner_at lines f) (Vm w) ≡ false
+other-slot : (lines : List FrameLine) (f v w : ℕ) → line_owner lines f ≡ Vm v → (v ≡ w → ⊥) → same_owner (line_owner lines f) (Vm w) ≡ false
 other-slot lines f v w owner other = ap (λ o. same_owner o (Vm w)) owner ∙ ne_eqb v w other
 
 or-false : (a b : Bool) → a ≡ false → (a || b) ≡ b
 or-false true b e = cc
 or-false false b e = refl
 
-pub mark-more : (d : Dumped) (i w : ℕ) (entries : List (ℕ × ℕ)) (old new : List Bool) → w ≡ i → entries ≡ (slot_at d i).entries
+pub mark-more : (d : Dumped) (i w : ℕ) (entries : List (ℕ × ℕ)) (old new : List Bool) → w ≡ i → entries ≡ (slot_dump_at d i).entries
     → ((f g : ℕ) → says d.frames w g f ≡ true → get_or new f false ≡ (get_or old f false || has_entry entries g f))
-    → ((f : ℕ) → same_owner (owner_at d.frames f) (Vm w) ≡ false → get_or new f false ≡ get_or old f false)
+    → ((f : ℕ) → same_owner (line_owner d.frames f) (Vm w) ≡ false → get_or new f false ≡ get_or old f false)
     → MarkedTo d old i → MarkedTo d new (i + 1)
 mark-more d i w entries old new is these mine others so_far = record {
   done = λ f v g owner gfn low. elim (cases_lt v i) [
@@ -40,7 +40,7 @@ mark-more d i w entries old new is these mine others so_far = record {
         let there : v ≡ i = omega (arith, past, low) in
         mine f g (says-true d.frames w g f (owner ∙ ap Vm here) gfn)
         ∙ or-false (get_or old f false) (has_entry entries g f) (so_far.left f v owner past)
-        ∙ ap (λ es. has_entry es g f) (these ∙ ap (λ (k : ℕ). (slot_at d k).entries) (sym there))
+        ∙ ap (λ es. has_entry es g f) (these ∙ ap (λ (k : ℕ). (slot_dump_at d k).entries) (sym there))
   ];
   left = λ f v owner past. others f (other-slot d.frames f v w owner (λ e. omega (arith, e, is, past))) ∙ so_far.left f v owner (omega (arith, past));
 }
@@ -54,5 +54,5 @@ marked-all d marks i count all so_far = record {
   ];
 }
 
-pub slot-is : (d : Dumped) (slots : List SlotDump) (i : ℕ) (slot : SlotDump) → slots ≡ d.slots → i < length slots → slot ≡ get_or slots i slot → slot ≡ slot_at d i
+pub slot-is : (d : Dumped) (slots : List SlotDump) (i : ℕ) (slot : SlotDump) → slots ≡ d.slots → i < length slots → slot ≡ get_or slots i slot → slot ≡ slot_dump_at d i
 slot-is d slots i slot same low is = is ∙ get_or_default slots i slot empty_dump low ∙ ap (λ s. get_or s i empty_dump) same

@@ -4,11 +4,11 @@ use Rattle.std.specs.Prelude.{◌/◌}
 use Rattle.std.proofs.lemmas.Bool.{cases_eq, cases_lt}
 use Rattle.kc_model.specs.Lawful.{times_in, has_leaf}
 use Rattle.kc_model.specs.Resources.{is_in}
-use Rattle.kc_model.proofs.Members.{held-times_in, times_in-held}
+use Rattle.kc_model.proofs.States.Members.{held-times_in, times_in-held}
 use Rattle.kc_links.proofs.Times.{times-same, times-other}
 use Rattle.kc_dump.specs.declared.line.FrameLine.{FrameLine}
 use Rattle.kc_audit.specs.declared.finding.Finding.{Finding}
-use Rattle.kc_dump.specs.Dumps.{SlotDump, empty_dump}
+use Rattle.kc_dump.specs.Dump.{SlotDump, empty_dump}
 use Rattle.kc_audit.specs.Findings.{named_where, entries_named, all_entries_named, has_double, all_rooted}
 
 pub none-parts : (xs ys : List Finding) → xs ++ ys ≡ [] → (xs ≡ []) × (ys ≡ [])

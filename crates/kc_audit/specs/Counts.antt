@@ -8,13 +8,13 @@ use Rattle.kc_dump.specs.Lists.{owned}
 use Rattle.kc_audit.specs.Findings.{list_owner}
 
 -- the place of an owner's list among the lists
-abbrev pub place_of : Owner → Option ℕ
-place_of Core = None
-place_of Host = None
-place_of Free = Some 0
-place_of (Vm v) = Some (v + 1)
+abbrev pub list_place : Owner → Option ℕ
+list_place Core = None
+list_place Host = None
+list_place Free = Some 0
+list_place (Vm v) = Some (v + 1)
 
 -- the owners of so many lists have these numbers of frames among the first
-pub record AreCounts (lines : List FrameLine) (first : ℕ) (lists : ℕ) (counts : List ℕ) : Type 0 where
+pub record AreOwnerCounts (lines : List FrameLine) (first : ℕ) (lists : ℕ) (counts : List ℕ) : Type 0 where
   pub places : length counts ≡ lists
   pub counted : (p : ℕ) → p < lists → slice_index_or counts p 0 ≡ sum_below (owned lines (list_owner p)) first

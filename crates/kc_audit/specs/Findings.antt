@@ -13,13 +13,13 @@ use Rattle.kc_audit.specs.declared.finding.Finding.TheVariants as finding
 use Rattle.kc_audit.specs.declared.verdict.FrameVerdict.{FrameVerdict}
 use Rattle.kc_audit.specs.declared.verdict.FrameKind.{FrameKind}
 use Rattle.kc_audit.specs.declared.verdict.FrameKind.TheVariants as kind
-use Rattle.kc_dump.specs.Dumps.{Dumped, SlotDump, line_at, owner_at, slot_at, maps}
+use Rattle.kc_dump.specs.Dump.{Dumped, SlotDump, line_at, line_owner, slot_dump_at, maps}
 use Rattle.kc_dump.specs.Lists.{HasList}
 use Rattle.kc_audit.specs.Verdicts.{verdict_by, shows, named}
 
 -- whether the table of a frame's VM maps it where its record says
 abbrev pub is_mapped : Dumped → ℕ → Owner → Option ℕ → Bool
-is_mapped d f (Vm v) (Some g) = maps (slot_at d v) g f
+is_mapped d f (Vm v) (Some g) = maps (slot_dump_at d v) g f
 is_mapped d f (Vm v) None = false
 is_mapped d f Core gfn = false
 is_mapped d f Host gfn = false
@@ -48,7 +48,7 @@ list_owner (suc v) = Vm v
 
 abbrev pub list_ends : Dumped → ℕ → Ends
 list_ends d zero = d.free
-list_ends d (suc v) = (slot_at d v).list
+list_ends d (suc v) = (slot_dump_at d v).list
 
 abbrev pub list_name : ℕ → Finding
 list_name zero = finding.FreeChain
@@ -58,7 +58,7 @@ list_name (suc v) = finding.Chain v
 abbrev pub AreListsFrom : Dumped → ℕ → List Bool → Type 0
 AreListsFrom d start lists = (i : ℕ) → i < length lists → IsTrue (slice_index_or lists i false) ↔ HasList d.frames (list_owner (start + i)) (list_ends d (start + i))
 
-pub record AreLists (d : Dumped) (lists : List Bool) : Type 0 where
+pub record AreGoodLists (d : Dumped) (lists : List Bool) : Type 0 where
   pub count : length lists ≡ length d.slots + 1
   pub each : AreListsFrom d 0 lists
 
@@ -71,7 +71,7 @@ is_gfn (Some h) g = h == g
 
 -- the frame is the slot's, and has this guest frame
 abbrev pub says : List FrameLine → ℕ → ℕ → ℕ → Bool
-says lines v g f = same_owner (owner_at lines f) (Vm v) && is_gfn (line_at lines f).gfn g
+says lines v g f = same_owner (line_owner lines f) (Vm v) && is_gfn (line_at lines f).gfn g
 
 abbrev pub entries_named : List FrameLine → ℕ → List (ℕ × ℕ) → List Finding
 entries_named lines v = named_where (λ (e : ℕ × ℕ). not (says lines v e.0 e.1)) (λ i e. finding.Entry v e.0) 0
@@ -120,5 +120,5 @@ findings_by d lists =
 -- the findings of a dump: each kind in its place, each subject once, rising
 pub record AreFindings (d : Dumped) (found : List Finding) : Type 0 where
   pub lists : List Bool
-  pub good : AreLists d lists
+  pub good : AreGoodLists d lists
   pub named : found ≡ findings_by d lists

@@ -6,7 +6,7 @@ use Rattle.kc_dump.specs.Lists.{owned}
 use Rattle.kc_dump.specs.Sums.{sum_below}
 
 -- the frame may come next: it is there, is the owner's, and the one before it is this one
-pub record Fits (lines : List FrameLine) (owner : Owner) (before : Option ℕ) (f : ℕ) : Type 0 where
+pub record ComesNext (lines : List FrameLine) (owner : Owner) (before : Option ℕ) (f : ℕ) : Type 0 where
   pub line : FrameLine
   pub is : slice_get lines f ≡ Some line
   pub mine : line.owner ≡ owner
@@ -19,7 +19,7 @@ next_in (Some line) = line.next
 -- so many frames follow one another from here, and the last of them is the tail
 abbrev pub Walks : List FrameLine → Owner → Option ℕ → Option ℕ → Option ℕ → ℕ → Type 0
 Walks lines owner tail before here zero = (here ≡ None) × (before ≡ tail)
-Walks lines owner tail before here (suc n) = MatchOption here ⊥ (λ f. Fits lines owner before f × Walks lines owner tail (Some f) (next_in (slice_get lines f)) n)
+Walks lines owner tail before here (suc n) = MatchOption here ⊥ (λ f. ComesNext lines owner before f × Walks lines owner tail (Some f) (next_in (slice_get lines f)) n)
 
 -- how many frames the owner has
 abbrev pub count_owned : List FrameLine → Owner → ℕ

@@ -2,7 +2,7 @@
 ghost use Rattle.std.specs.Prelude.{◌≡◌, ◌+◌, ◌≤◌, ◌↔◌, [], length, map, IfOk};
 ghost use Rattle.std.specs.List.{range_with_len};
 ghost use Rattle.kc_types.specs.Limits.{frame_limit, slot_limit};
-ghost use Rattle.kc_audit.specs.Findings.{AreFindings, AreLists, AreListsFrom, verdicts_of, verdict_of};
+ghost use Rattle.kc_audit.specs.Findings.{AreFindings, AreGoodLists, AreListsFrom, verdicts_of, verdict_of};
 ghost use Rattle.kc_dump.specs.Sound.{IsSound};
 
 use crate::Finding;
@@ -33,7 +33,7 @@ fn verdicts(alloc: Global, dump: &Dump) -> Result<Vec<FrameVerdict>, Memory>
 }
 
 fn lists(alloc: Global, dump: &Dump) -> Result<Vec<bool>, Memory>
-    ensures lists { IfOk result (λ lists. AreLists dump.now lists.items) }
+    ensures lists { IfOk result (λ lists. AreGoodLists dump.now lists.items) }
     ensures few { IfOk result (λ lists. length lists.items ≤ slot_limit + 1) }
 {
     let counts = counts(alloc, dump)?;

@@ -3,14 +3,14 @@ ghost use Rattle.std.specs.Prelude.{◌≡◌, ◌↔◌, ◌<◌, false, length
 ghost use Rattle.kc_types.specs.declared.owner.Owner.TheVariants.{Core};
 ghost use Rattle.kc_model.specs.Lawful.{same_owner};
 ghost use Rattle.kc_dump.specs.Lists.{HasList};
-ghost use Rattle.kc_audit.specs.Walking.{Fits, Walks, count_owned};
+ghost use Rattle.kc_audit.specs.Walking.{ComesNext, Walks, count_owned};
 
 use kc_dump::FrameLine;
 use kc_types::{Ends, FrameNo, Owner};
 
 /// Whether a frame may come next in a list: it exists, is the owner's, and the one before it is this one.
 fn fits(lines: &[FrameLine], owner: &Owner, before: Option<FrameNo>, frame: FrameNo) -> bool
-    ensures fits { IsTrue result ↔ Fits lines.now owner.now before frame }
+    ensures fits { IsTrue result ↔ ComesNext lines.now owner.now before frame }
     ensures within { IsTrue result → frame < length lines.now }
 {
     match lines.get(frame.index()) {

@@ -1,7 +1,7 @@
 //! How many frames each list should hold.
 ghost use Rattle.std.specs.Prelude.{◌≡◌, ℕ, ◌<◌, ◌≤◌, ◌+◌, length, IfOk, IfSome, slice_index_or};
 ghost use Rattle.kc_types.specs.Limits.{frame_limit, slot_limit};
-ghost use Rattle.kc_audit.specs.Counts.{place_of, AreCounts};
+ghost use Rattle.kc_audit.specs.Counts.{list_place, AreOwnerCounts};
 
 use kc_dump::{Dump, FrameLine};
 use kc_types::{Memory, Owner, SLOT_LIMIT};
@@ -10,7 +10,7 @@ use std::alloc::Global;
 /// The place of an owner's list: 0 for the free list, a slot's number and one for its list; `None` for the core and
 /// the host, who have none.
 fn place_of(owner: &Owner) -> Option<usize>
-    ensures value { result ≡ place_of owner.now }
+    ensures value { result ≡ list_place owner.now }
     ensures low { IfSome result (λ place. place ≤ slot_limit) }
 {
     match owner {
@@ -23,8 +23,8 @@ fn place_of(owner: &Owner) -> Option<usize>
 /// Counts the frames of each owner that has a list, in one pass.
 fn count(lines: &[FrameLine], counts: &mut [u32])
     requires few { length lines.now ≤ frame_limit }
-    requires none { AreCounts lines.now 0 (slot_limit + 1) counts.old }
-    ensures { AreCounts lines.now (length lines.now) (slot_limit + 1) counts.new }
+    requires none { AreOwnerCounts lines.now 0 (slot_limit + 1) counts.old }
+    ensures { AreOwnerCounts lines.now (length lines.now) (slot_limit + 1) counts.new }
 {
     for i in 0..lines.len() {
         if let Some(place) = place_of(&lines[i].owner) {
@@ -36,7 +36,7 @@ fn count(lines: &[FrameLine], counts: &mut [u32])
 /// How many frames each list should hold.
 pub fn counts(alloc: Global, dump: &Dump) -> Result<Vec<u32>, Memory>
     // No clause can rule out want of memory: a test audits dumps.
-    ensures { IfOk result (λ counts. AreCounts dump.now.frames (length dump.now.frames) (slot_limit + 1) counts.items) }
+    ensures { IfOk result (λ counts. AreOwnerCounts dump.now.frames (length dump.now.frames) (slot_limit + 1) counts.items) }
 {
     let mut counts = vec![in alloc; 0u32; SLOT_LIMIT as usize + 1]?;
     count(dump.frames(), counts.as_mut_slice());

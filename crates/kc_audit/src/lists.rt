@@ -2,7 +2,7 @@
 ghost use Rattle.std.specs.Prelude.{◌≡◌, ℕ, ◌<◌, ◌≤◌, ◌+◌, ◌↔◌, false, length, IsTrue, slice_index_or};
 ghost use Rattle.kc_types.specs.Limits.{slot_limit};
 ghost use Rattle.kc_dump.specs.Lists.{HasList};
-ghost use Rattle.kc_audit.specs.Counts.{AreCounts};
+ghost use Rattle.kc_audit.specs.Counts.{AreOwnerCounts};
 ghost use Rattle.kc_audit.specs.Findings.{list_owner, list_ends, AreListsFrom};
 
 use crate::chain::has_list;
@@ -12,7 +12,7 @@ use kc_types::{Owner, VmId};
 /// Whether ends and links spell a list: at place 0 the free list, at the next ones those of the slots.
 fn judge_list(dump: &Dump, counts: &[u32], place: usize) -> bool
     requires place { place < length dump.now.slots + 1 }
-    requires counts { AreCounts dump.now.frames (length dump.now.frames) (slot_limit + 1) counts.now }
+    requires counts { AreOwnerCounts dump.now.frames (length dump.now.frames) (slot_limit + 1) counts.now }
     ensures { IsTrue result ↔ HasList dump.now.frames (list_owner place) (list_ends dump.now place) }
 {
     if place == 0 {
@@ -27,7 +27,7 @@ fn judge_list(dump: &Dump, counts: &[u32], place: usize) -> bool
 pub fn judge_lists(dump: &Dump, counts: &[u32], start: usize, out: &mut [bool])
     requires within { start + length out.old ≤ length dump.now.slots + 1 }
     requires few { length dump.now.slots ≤ slot_limit }
-    requires counts { AreCounts dump.now.frames (length dump.now.frames) (slot_limit + 1) counts.now }
+    requires counts { AreOwnerCounts dump.now.frames (length dump.now.frames) (slot_limit + 1) counts.now }
     ensures count { length out.new ≡ length out.old }
     ensures each { AreListsFrom dump.now start out.new }
 {

@@ -2,7 +2,7 @@
 ghost use Rattle.std.specs.Prelude.{◌≡◌, ℕ, ◌<◌, ◌||◌, true, false, length, IsTrue, IfOk, slice_index_or};
 ghost use Rattle.kc_types.specs.declared.owner.Owner.TheVariants.{Vm};
 ghost use Rattle.kc_model.specs.Lawful.{same_owner};
-ghost use Rattle.kc_dump.specs.Dumps.{owner_at};
+ghost use Rattle.kc_dump.specs.Dump.{line_owner};
 ghost use Rattle.kc_audit.specs.Findings.{says};
 ghost use Rattle.kc_audit.specs.Marks.{has_entry, AreMarks};
 
@@ -26,7 +26,7 @@ fn mark_slot(lines: &[FrameLine], vm: VmId, entries: &[(Gfn, FrameNo)], marks: &
     requires { length marks.old ≡ length lines.now }
     ensures count { length marks.new ≡ length marks.old }
     ensures mine { (f g : ℕ) → says lines.now vm g f ≡ true → slice_index_or marks.new f false ≡ (slice_index_or marks.old f false || has_entry entries.now g f) }
-    ensures others { (f : ℕ) → same_owner (owner_at lines.now f) (Vm vm) ≡ false → slice_index_or marks.new f false ≡ slice_index_or marks.old f false }
+    ensures others { (f : ℕ) → same_owner (line_owner lines.now f) (Vm vm) ≡ false → slice_index_or marks.new f false ≡ slice_index_or marks.old f false }
 {
     for i in 0..entries.len() {
         let (gfn, frame) = entries[i];

@@ -4,9 +4,9 @@ ghost use Rattle.std.specs.List.{range_with_len};
 ghost use Rattle.sha2.specs.Sha256.{sha256};
 ghost use Rattle.kc_types.specs.Limits.{frame_limit, slot_limit};
 ghost use Rattle.kc_model.specs.State.{zero_page};
-ghost use Rattle.kc_audit.specs.Counts.{AreCounts};
+ghost use Rattle.kc_audit.specs.Counts.{AreOwnerCounts};
 ghost use Rattle.kc_audit.specs.Marks.{AreMarks};
-ghost use Rattle.kc_audit.specs.Findings.{AreFindings, AreLists, AreListsFrom, verdicts_of, verdict_of};
+ghost use Rattle.kc_audit.specs.Findings.{AreFindings, AreGoodLists, AreListsFrom, verdicts_of, verdict_of};
 ghost use Rattle.kc_dump.specs.Sound.{IsSound};
 
 use crate::Finding;
@@ -53,7 +53,7 @@ fn judge_all_frames(
 fn judge_all_lists(rt: &(impl Threads + Sync), dump: &Dump, counts: &[u32], out: &mut [bool])
     requires count { length out.old ≡ length dump.now.slots + 1 }
     requires few { length dump.now.slots ≤ slot_limit }
-    requires counts { AreCounts dump.now.frames (length dump.now.frames) (slot_limit + 1) counts.now }
+    requires counts { AreOwnerCounts dump.now.frames (length dump.now.frames) (slot_limit + 1) counts.now }
     ensures count { length out.new ≡ length out.old }
     ensures each { AreListsFrom dump.now 0 out.new }
 {
@@ -62,7 +62,7 @@ fn judge_all_lists(rt: &(impl Threads + Sync), dump: &Dump, counts: &[u32], out:
         out,
         LISTS_A_CHUNK,
         |start: usize, chunk: &mut [bool]|
-            requires { (start + length chunk.now ≤ length dump.now.slots + 1) × (length dump.now.slots ≤ slot_limit) × AreCounts dump.now.frames (length dump.now.frames) (slot_limit + 1) counts.now }
+            requires { (start + length chunk.now ≤ length dump.now.slots + 1) × (length dump.now.slots ≤ slot_limit) × AreOwnerCounts dump.now.frames (length dump.now.frames) (slot_limit + 1) counts.now }
             ensures { (length chunk.exit.now ≡ length chunk.entry.now) × AreListsFrom dump.entry.now start chunk.exit.now }
         { judge_lists(dump, counts, start, chunk) },
     );
@@ -89,7 +89,7 @@ fn verdicts(
 }
 
 fn lists(rt: &(impl Threads + Sync), alloc: Global, dump: &Dump) -> Result<Vec<bool>, Memory>
-    ensures lists { IfOk result (λ lists. AreLists dump.now lists.items) }
+    ensures lists { IfOk result (λ lists. AreGoodLists dump.now lists.items) }
     ensures few { IfOk result (λ lists. length lists.items ≤ slot_limit + 1) }
 {
     let counts = counts(alloc, dump)?;

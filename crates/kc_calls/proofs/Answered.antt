@@ -11,9 +11,9 @@ use Rattle.kc_model.specs.State.{State, with_slot}
 use Rattle.kc_model.specs.Refusals.{refusal}
 use Rattle.kc_model.specs.Effects.{Outcome, effect}
 use Rattle.kc_model.specs.Next.{next, unless_refused}
-use Rattle.kc_vms.specs.Slots.{VmSlot}
+use Rattle.kc_vms.specs.Vm.{VmSlot}
 use Rattle.kc_links.specs.Ending.{listed}
-use Rattle.kc_parts.specs.Held.{Held, vm_at, with_vm, links_of}
+use Rattle.kc_parts.specs.Parts.{Held, vm_at, with_vm, links_of}
 use Rattle.kc_parts.specs.States.{state_of, unlinked_slot, IsLinked}
 use Rattle.kc_parts.proofs.SlotChanges.{vm-same, state-vm, linked-vm}
 use Rattle.kc_refusals.specs.LookUps.{looked_up}

@@ -8,16 +8,16 @@ use Rattle.kc_model.specs.State.{State, Slot, empty_slot}
 use Rattle.kc_model.specs.Refusals.{refusal, conditions}
 use Rattle.kc_model.specs.Effects.{cleared, scrubbed}
 use Rattle.kc_model.specs.Lawful.{times_in}
-use Rattle.kc_model.proofs.Answered.{vm-in}
-use Rattle.kc_vms.specs.Slots.{VmSlot}
+use Rattle.kc_model.proofs.Refusals.Answered.{vm-in}
+use Rattle.kc_vms.specs.Vm.{VmSlot}
 use Rattle.kc_links.specs.Chain.{Links}
 use Rattle.kc_links.specs.Ending.{listed, IsList, AreApart}
-use Rattle.kc_parts.specs.Held.{Held, vm_at, links_of}
-use Rattle.kc_parts.specs.States.{list_in, state_of, owner_at, free_of, frames_of, IsLinked, IsFreeMove}
+use Rattle.kc_parts.specs.Parts.{Held, vm_at, links_of}
+use Rattle.kc_parts.specs.States.{list_in, state_of, owner_at, free_of, listed_frames, IsLinked, IsFreeMove}
 use Rattle.kc_parts.specs.Emptying.{IsEmptied}
 use Rattle.kc_parts.proofs.SlotLists.{frames-here, ends-here, slot-owned}
 use Rattle.kc_refusals.proofs.Looked.{slot-is}
-use Rattle.kc_model.proofs.Served.{none-of}
+use Rattle.kc_model.proofs.Refusals.Served.{none-of}
 
 pub clear-served : (m : State) (v : ℕ) → refusal m (Clear v) ≡ None → v < slot_count m.config
 clear-served m v served = vm-in m v (none-of (conditions m (Clear v)) served 0)
@@ -44,7 +44,7 @@ module _ (config : Configuration) (old mid : Held) (v : ℕ) (list : Ends) (is :
   ends_are = rw is.there.is at is.had
 
   -- the list is spelled as before
-  listed-kept : listed (links_of mid) list ≡ frames_of old v
+  listed-kept : listed (links_of mid) list ≡ listed_frames old v
   listed-kept = ap (λ (links : Links). listed links list) is.emptied.links ∙ ap (λ ends. listed (links_of old) ends) ends_are ∙ sym (frames-here old v is.there.vm is.there.is)
 
   free-kept : free_of mid ≡ free_of old
@@ -80,7 +80,7 @@ module _ (config : Configuration) (old mid : Held) (v : ℕ) (list : Ends) (is :
       let m : State = state_of config old in
       move.state config
       ∙ ap (λ (s : State). record s { free = free_of new }) (is.emptied.state config is.linked is.low)
-      ∙ ap (λ fs. record (cleared_with m (frames_of old v)) { free = fs }) (free ∙ ap (λ fs. fs ++ listed (links_of mid) list) free-kept ∙ ap (λ fs. free_of old ++ fs) listed-kept)
+      ∙ ap (λ fs. record (cleared_with m (listed_frames old v)) { free = fs }) (free ∙ ap (λ fs. fs ++ listed (links_of mid) list) free-kept ∙ ap (λ fs. free_of old ++ fs) listed-kept)
       ∙ ap (λ fs. record (cleared_with m fs) { free = m.free ++ fs }) (frames-here old v is.there.vm is.there.is ∙ sym (ap (λ (slot : Slot). slot.frames) (slot-is config old v is.there.vm is.low is.there.is)))
     where
       cleared_with : State → List ℕ → State

@@ -10,18 +10,18 @@ use Rattle.kc_model.specs.Refusals.{backing}
 use Rattle.kc_model.specs.Effects.{freed, without, dropped}
 use Rattle.kc_model.specs.Lawful.{times_in}
 use Rattle.kc_model.specs.Local.{IsOrderly}
-use Rattle.kc_model.proofs.Members.{times_in-held}
+use Rattle.kc_model.proofs.States.Members.{times_in-held}
 use Rattle.kc_page.specs.declared.page.Page.{Page}
-use Rattle.kc_page.specs.Pages.{frame_of}
-use Rattle.kc_stage2.specs.Table.{Table}
-use Rattle.kc_vms.specs.Slots.{VmSlot, table_of, with_table}
+use Rattle.kc_page.specs.Page.{frame_of}
+use Rattle.kc_stage2.specs.Stage2.{Table}
+use Rattle.kc_vms.specs.Vm.{VmSlot, slot_table, with_table}
 use Rattle.kc_links.specs.Ending.{listed}
-use Rattle.kc_parts.specs.Held.{Held, page_at, vm_at, with_page, with_vm, link_of, links_of}
-use Rattle.kc_parts.specs.States.{list_in, unlinked_slot, state_of, owner_at, is_away, free_of, frames_of, IsLinked, IsFreeMove, IsSlotMove}
+use Rattle.kc_parts.specs.Parts.{Held, page_at, vm_at, with_page, with_vm, link_of, links_of}
+use Rattle.kc_parts.specs.States.{list_in, unlinked_slot, state_of, owner_at, is_away, free_of, listed_frames, IsLinked, IsFreeMove, IsSlotMove}
 use Rattle.kc_parts.proofs.Pages.{links-kept}
 use Rattle.kc_parts.proofs.SlotChanges.{vm-set, state-vm, linked-vm}
 use Rattle.kc_parts.proofs.SlotLists.{frames-here, slot-owned}
-use Rattle.kc_calls.specs.Applying.{IsSameRoom}
+use Rattle.kc_calls.specs.Applying.{KeepsPlaces}
 use Rattle.kc_calls.proofs.Frames.{changed, room-vm, room-slot_move, room-through, owned-near}
 use Rattle.kc_refusals.proofs.Looked.{slot-is}
 
@@ -43,7 +43,7 @@ pub record IsUnmapping (config : Configuration) (old : Held) (v g f : ℕ) (vm :
   pub low : v < slot_count config
   pub at : vm_at old v ≡ Some vm
   pub mapped : mapped_at (state_of config old) v g ≡ Some f
-  pub is_left : table ≡ record (table_of vm) { mapped = map.remove vm.slot.mapped g }
+  pub is_left : table ≡ record (slot_table vm) { mapped = map.remove vm.slot.mapped g }
 
 module _ (config : Configuration) (old : Held) (v g f : ℕ) (vm : VmSlot) (table : Table) (is : IsUnmapping config old v g f vm table) where
   abbrev pub unmapped_vm : VmSlot
@@ -59,16 +59,16 @@ module _ (config : Configuration) (old : Held) (v g f : ℕ) (vm : VmSlot) (tabl
   vm-unmapped : vm_at unmapped v ≡ Some unmapped_vm
   vm-unmapped = vm-set old v vm unmapped_vm is.at
 
-  frames-unmapped : frames_of unmapped v ≡ listed (links_of old) vm.slot.ends
+  frames-unmapped : listed_frames unmapped v ≡ listed (links_of old) vm.slot.ends
   frames-unmapped = frames-here unmapped v unmapped_vm vm-unmapped
 
   -- its frame is in the slot's list
-  pub inside-unmapped : 0 < times_in (frames_of unmapped v) f
+  pub inside-unmapped : 0 < times_in (listed_frames unmapped v) f
   inside-unmapped =
       let there : (slot_at (state_of config old) v).frames ≡ listed (links_of old) vm.slot.ends = ap (λ (slot : Slot). slot.frames) (slot-is config old v vm is.low is.at) in
       rw (frames-unmapped, ← there) (times_in-held (slot_at (state_of config old) v).frames f ((is.orderly.each_slot v is.low).listed g f is.mapped))
 
-  pub state-dropped : (mid new : Held) → IsSlotMove v unmapped mid → frames_of mid v ≡ without (frames_of unmapped v) f → state_of config new ≡ freed (state_of config mid) f
+  pub state-dropped : (mid new : Held) → IsSlotMove v unmapped mid → listed_frames mid v ≡ without (listed_frames unmapped v) f → state_of config new ≡ freed (state_of config mid) f
       → state_of config new ≡ dropped (state_of config old) v g (backing (mapped_at (state_of config old) v g))
   state-dropped mid new move frames state =
       state
@@ -91,7 +91,7 @@ module _ (config : Configuration) (old : Held) (v g f : ℕ) (vm : VmSlot) (tabl
       after : Slot
       after = unlinked_slot unmapped_vm.slot (without fs f)
 
-  pub room-unlinked : (mid : Held) → IsSlotMove v unmapped mid → IsSameRoom old mid
+  pub room-unlinked : (mid : Held) → IsSlotMove v unmapped mid → KeepsPlaces old mid
   room-unlinked mid move = room-through old unmapped mid (room-vm old v vm unmapped_vm is.at) (room-slot_move v unmapped mid move)
 
   -- the list that it was in is here

@@ -11,18 +11,18 @@ use Rattle.kc_types.specs.declared.resource.Resource.TheVariants as resource
 use Rattle.kc_model.specs.State.{Frame, frame_at, with_frame, untouched}
 use Rattle.kc_model.specs.Lawful.{times_in}
 use Rattle.kc_page.specs.declared.page.Page.{Page}
-use Rattle.kc_page.specs.Pages.{frame_of}
-use Rattle.kc_vms.specs.Slots.{VmSlot}
+use Rattle.kc_page.specs.Page.{frame_of}
+use Rattle.kc_vms.specs.Vm.{VmSlot}
 use Rattle.kc_links.specs.Chain.{Links}
 use Rattle.kc_links.specs.Ending.{listed}
 use Rattle.kc_links.proofs.Times.{times-same}
-use Rattle.kc_parts.specs.Held.{Held, page_at, vm_at, with_page, with_vm, link_of, links_of}
+use Rattle.kc_parts.specs.Parts.{Held, page_at, vm_at, with_page, with_vm, link_of, links_of}
 use Rattle.kc_parts.specs.States.{frame_in, list_in, state_of, here_of, owner_at, lacks_list, is_away, free_of, IsLinked, IsFreeMove, IsSlotMove}
 use Rattle.kc_parts.specs.Emptying.{IsEmptied}
 use Rattle.kc_parts.proofs.Pages.{page-set, page-other, links-kept}
 use Rattle.kc_parts.proofs.Seen.{frame-seen, state-page, here-page}
 use Rattle.kc_parts.proofs.SlotChanges.{here-vm}
-use Rattle.kc_calls.specs.Applying.{IsSameRoom}
+use Rattle.kc_calls.specs.Applying.{KeepsPlaces}
 
 -- what is lent is there where its value is
 pub some-lent : {X : Type 0} (r : Option (MutBor X)) (there : Option X) → option_copied_mut r ≡ there → is_some there ≡ true → IsSome r
@@ -51,7 +51,7 @@ pub changed : (config : Configuration) (h : Held) (f : ℕ) (page new : Page) (c
     → state_of config (with_page h f new) ≡ with_frame (state_of config h) f (change (frame_at (state_of config h) f))
 changed config h f page new change low at same to = state-page config h f page new at same ∙ ap (with_frame (state_of config h) f) (to ∙ ap change (sym (frame-is config h f page low at)))
 
-pub room-same : (h : Held) → IsSameRoom h h
+pub room-same : (h : Held) → KeepsPlaces h h
 room-same h = record { numbers = refl; filled = refl; here = λ r. refl; away = λ f away. (refl, refl) }
 
 none-some : {X : Type 0} (a b : Option X) → is_some a ≡ is_some b → is_none a ≡ is_none b
@@ -68,7 +68,7 @@ lacks-same old new here Free = none-some new.free old.free (here resource.Free)
 lacks-same old new here (Vm v) = none-some (vm_at new v) (vm_at old v) (here (resource.Vm v))
 
 -- a page changes and keeps its links, and its owner where its list is elsewhere
-pub room-page : (h : Held) (f : ℕ) (page new : Page) → page_at h f ≡ Some page → link_of new ≡ link_of page → (is_away h f ≡ true → new.meta.owner ≡ page.meta.owner) → IsSameRoom h (with_page h f new)
+pub room-page : (h : Held) (f : ℕ) (page new : Page) → page_at h f ≡ Some page → link_of new ≡ link_of page → (is_away h f ≡ true → new.meta.owner ≡ page.meta.owner) → KeepsPlaces h (with_page h f new)
 room-page h f page new at same own = record {
   numbers = refl;
   filled = refl;
@@ -87,19 +87,19 @@ room-page h f page new at same own = record {
       | inr other ↦ ap (λ there. (frame_in there).owner) (page-other h f g page new at other)
     ]
 
-pub room-vm : (h : Held) (v : ℕ) (vm new : VmSlot) → vm_at h v ≡ Some vm → IsSameRoom h (with_vm h v new)
+pub room-vm : (h : Held) (v : ℕ) (vm new : VmSlot) → vm_at h v ≡ Some vm → KeepsPlaces h (with_vm h v new)
 room-vm h v vm new at = record { numbers = refl; filled = refl; here = here-vm h v vm new at; away = λ f away. (refl, refl) }
 
-pub room-move : (old new : Held) → IsFreeMove old new → IsSameRoom old new
+pub room-move : (old new : Held) → IsFreeMove old new → KeepsPlaces old new
 room-move old new move = record { numbers = move.numbers; filled = move.filled; here = move.here; away = λ f away. (move.owners f, move.away f away) }
 
-pub room-slot_move : (v : ℕ) (old new : Held) → IsSlotMove v old new → IsSameRoom old new
+pub room-slot_move : (v : ℕ) (old new : Held) → IsSlotMove v old new → KeepsPlaces old new
 room-slot_move v old new move = record { numbers = move.numbers; filled = move.filled; here = move.here; away = λ f away. (move.owners f, move.away f away) }
 
-pub room-emptied : (config : Configuration) (v : ℕ) (old new : Held) → IsLinked config old → IsEmptied v old new → IsSameRoom old new
+pub room-emptied : (config : Configuration) (v : ℕ) (old new : Held) → IsLinked config old → IsEmptied v old new → KeepsPlaces old new
 room-emptied config v old new linked is = record { numbers = is.numbers; filled = is.filled; here = is.here; away = λ f away. (is.away config linked f away, ap (λ (links : Links). links f) is.links) }
 
-pub room-through : (old mid new : Held) → IsSameRoom old mid → IsSameRoom mid new → IsSameRoom old new
+pub room-through : (old mid new : Held) → KeepsPlaces old mid → KeepsPlaces mid new → KeepsPlaces old new
 room-through old mid new first second = record {
   numbers = second.numbers ∙ first.numbers;
   filled = second.filled ∙ first.filled;

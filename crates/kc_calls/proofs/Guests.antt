@@ -7,13 +7,13 @@ use Rattle.kc_types.specs.declared.call.Call.TheVariants.{GuestRead, Grant, Revo
 use Rattle.kc_model.specs.State.{State, Frame, Slot, frame_at, mapped_at, absent_vcpu, with_frame, with_slot, with_vcpu}
 use Rattle.kc_model.specs.Refusals.{refusal, backing, share_at}
 use Rattle.kc_model.specs.Effects.{effect, guest_read, with_fault}
-use Rattle.kc_model.proofs.Served.{when-none, positive}
-use Rattle.kc_model.proofs.GuestCalls.{guest_access-served, guest_frame-served}
+use Rattle.kc_model.proofs.Refusals.Served.{when-none, positive}
+use Rattle.kc_model.proofs.Lawful.GuestCalls.{guest_access-served, guest_frame-served}
 use Rattle.kc_page.specs.declared.page.Page.{Page}
-use Rattle.kc_page.specs.Pages.{frame_of}
-use Rattle.kc_vms.specs.Slots.{VmSlot}
-use Rattle.kc_vms.specs.Slots as slots
-use Rattle.kc_parts.specs.Held.{Held, page_at, vm_at, with_page, with_vm, link_of}
+use Rattle.kc_page.specs.Page.{frame_of}
+use Rattle.kc_vms.specs.Vm.{VmSlot}
+use Rattle.kc_vms.specs.Vm as slots
+use Rattle.kc_parts.specs.Parts.{Held, page_at, vm_at, with_page, with_vm, link_of}
 use Rattle.kc_parts.specs.States.{state_of, IsLinked}
 use Rattle.kc_parts.proofs.SlotChanges.{state-vm}
 use Rattle.kc_calls.proofs.Frames.{changed, frame-is}

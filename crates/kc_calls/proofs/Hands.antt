@@ -10,37 +10,37 @@ use Rattle.kc_model.specs.Refusals.{refusal, bad_vm, bad_frame, not_host, tables
 use Rattle.kc_types.specs.declared.refusal.Refusal.TheVariants.{TablesFull}
 use Rattle.kc_types.specs.declared.call.Call.TheVariants.{Remap}
 use Rattle.kc_model.specs.Linked.{LinkedSlot, linked_slot}
-use Rattle.kc_model.proofs.Served.{when-none, none-of}
-use Rattle.kc_model.proofs.Changes.{slot-here}
+use Rattle.kc_model.proofs.Refusals.Served.{when-none, none-of}
+use Rattle.kc_model.proofs.States.Changes.{slot-here}
 use Rattle.kc_model.specs.Effects.{effect, hand, with_leaf}
 use Rattle.kc_page.specs.declared.page.Page.{Page}
-use Rattle.kc_page.specs.Pages.{frame_of}
-use Rattle.kc_stage2.specs.Table.{Table, with_entry, fits}
-use Rattle.kc_stage2.specs.Faults.{fault_of, Answers}
+use Rattle.kc_page.specs.Page.{frame_of}
+use Rattle.kc_stage2.specs.Stage2.{Table, with_mapping, fits}
+use Rattle.kc_stage2.specs.Faults.{map_fault, Answers}
 use Rattle.kc_stage2.specs.declared.table.MapFault.{MapFault}
-use Rattle.kc_vms.specs.Slots.{VmSlot, table_of, with_table, with_page, next_gfn_of}
+use Rattle.kc_vms.specs.Vm.{VmSlot, slot_table, with_table, with_page, next_gfn_of}
 use Rattle.kc_types.specs.declared.refusal.Refusal.{Refusal}
 use Rattle.kc_vms.specs.Refusals.{next_page_refusal}
 use Rattle.kc_vms.specs.Refusals as refusals
 use Rattle.kc_vms.proofs.Rows.{refusal-remap}
 use Rattle.kc_links.specs.Ending.{listed}
-use Rattle.kc_parts.specs.Held.{Held, page_at, vm_at, links_of, link_of, with_vm}
-use Rattle.kc_parts.specs.Held as held
-use Rattle.kc_parts.specs.States.{frame_in, state_of, unlinked_slot, owner_at, frames_of, IsLinked, IsLoose, IsSlotMove}
+use Rattle.kc_parts.specs.Parts.{Held, page_at, vm_at, links_of, link_of, with_vm}
+use Rattle.kc_parts.specs.Parts as held
+use Rattle.kc_parts.specs.States.{frame_in, state_of, unlinked_slot, owner_at, listed_frames, IsLinked, IsLoose, IsSlotMove}
 use Rattle.kc_parts.proofs.Pages.{page-set, links-kept}
 use Rattle.kc_parts.proofs.Seen.{frame-seen, state-page, linked-moved}
 use Rattle.kc_parts.proofs.SlotChanges.{vm-set, state-vm, linked-vm}
 use Rattle.kc_parts.proofs.SlotLists.{frames-here}
-use Rattle.kc_calls.specs.Applying.{IsSameRoom}
+use Rattle.kc_calls.specs.Applying.{KeepsPlaces}
 use Rattle.kc_calls.proofs.Frames.{frame-is, room-page, room-vm, room-slot_move, room-through, host-near}
 use Rattle.kc_calls.proofs.Hosts.{loose-host, loose-page}
 use Rattle.kc_refusals.proofs.Looked.{fits-seen, slot-is}
 
 -- the table takes the guest frame
-pub map-fits : (m : State) (v g : ℕ) (vm : VmSlot) (frames : List ℕ) → slot_at m v ≡ unlinked_slot vm.slot frames → vm.room ≡ m.config.leaves → mapped_at m v g ≡ None → tables_full m v g ≡ None → fault_of (table_of vm) g ≡ None
+pub map-fits : (m : State) (v g : ℕ) (vm : VmSlot) (frames : List ℕ) → slot_at m v ≡ unlinked_slot vm.slot frames → vm.room ≡ m.config.leaves → mapped_at m v g ≡ None → tables_full m v g ≡ None → map_fault (slot_table vm) g ≡ None
 map-fits m v g vm frames is room unmapped room_left =
     let free : map.get vm.slot.mapped g ≡ None = ap (λ (slot : Slot). map.get slot.mapped g) (sym is) ∙ unmapped in
-    let left : fits (table_of vm) g ≡ true = not-false (fits (table_of vm) g) (when-none _ TablesFull (sym (fits-seen m v g vm frames is room) ∙ room_left)) in
+    let left : fits (slot_table vm) g ≡ true = not-false (fits (slot_table vm) g) (when-none _ TablesFull (sym (fits-seen m v g vm frames is room) ∙ room_left)) in
     rw (free, left) refl
 
 pub map-ok : (answer : Result Unit MapFault) (fault : Option MapFault) → fault ≡ None → Answers answer fault → IsOk answer
@@ -54,7 +54,7 @@ pub record IsHanding (config : Configuration) (old : Held) (v g f : ℕ) (vm : V
   pub at_vm : vm_at old v ≡ Some vm
   pub at : page_at old f ≡ Some page
   pub host : owner_at old f ≡ Host
-  pub maps : table ≡ with_entry (table_of vm) g f
+  pub maps : table ≡ with_mapping (slot_table vm) g f
   pub same : link_of new_page ≡ link_of page
   pub to : frame_of new_page ≡ record (frame_of page) { owner = Vm v; gfn = Some g; present = false }
 
@@ -88,7 +88,7 @@ module _ (config : Configuration) (old : Held) (v g f : ℕ) (vm : VmSlot) (tabl
   vm-owned : vm_at owned v ≡ Some mapped_vm
   vm-owned = vm-set old v vm mapped_vm is.at_vm
 
-  pub state-handed : (new : Held) → IsSlotMove v owned new → frames_of new v ≡ frames_of owned v ++ f ∷ [] → f < config.frames → state_of config new ≡ hand (state_of config old) v g f
+  pub state-handed : (new : Held) → IsSlotMove v owned new → listed_frames new v ≡ listed_frames owned v ++ f ∷ [] → f < config.frames → state_of config new ≡ hand (state_of config old) v g f
   state-handed new move frames f_low =
       move.state config mapped_vm vm-owned
       ∙ ap (λ fs. with_slot (state_of config owned) v (unlinked_slot mapped_vm.slot fs)) (frames ∙ ap (λ fs. fs ++ f ∷ []) frames-owned)
@@ -108,10 +108,10 @@ module _ (config : Configuration) (old : Held) (v g f : ℕ) (vm : VmSlot) (tabl
       after : Slot
       after = unlinked_slot mapped_vm.slot (fs ++ f ∷ [])
 
-      frames-owned : frames_of owned v ≡ fs
+      frames-owned : listed_frames owned v ≡ fs
       frames-owned = frames-here owned v mapped_vm vm-owned ∙ ap (λ links. listed links vm.slot.ends) (links-kept mapped f page new_page is.at is.same)
 
-  pub room-handed : (new : Held) → IsSlotMove v owned new → IsSameRoom old new
+  pub room-handed : (new : Held) → IsSlotMove v owned new → KeepsPlaces old new
   room-handed new move = room-through old owned new (room-through old mapped owned (room-vm old v vm mapped_vm is.at_vm) (room-page mapped f page new_page is.at is.same (λ away. let near = host-near mapped f is.host in let no = sym near ∙ away in cc))) (room-slot_move v owned new move)
 
 -- an answer without a refusal

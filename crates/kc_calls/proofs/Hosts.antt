@@ -9,13 +9,13 @@ use Rattle.kc_model.specs.State.{State, Frame, frame_at, with_frame, untouched, 
 use Rattle.kc_model.specs.Lawful.{times_in}
 use Rattle.kc_model.specs.Refusals.{refusal, conditions}
 use Rattle.kc_model.specs.Effects.{effect, host_takes, given}
-use Rattle.kc_model.proofs.Served.{host_fault-served, host_access-served, none-of}
-use Rattle.kc_model.proofs.Answered.{frame-in, was-host}
+use Rattle.kc_model.proofs.Refusals.Served.{host_fault-served, host_access-served, none-of}
+use Rattle.kc_model.proofs.Refusals.Answered.{frame-in, was-host}
 use Rattle.kc_page.specs.declared.page.Page.{Page}
-use Rattle.kc_page.specs.Pages.{frame_of}
+use Rattle.kc_page.specs.Page.{frame_of}
 use Rattle.kc_links.specs.Chain.{Links}
 use Rattle.kc_links.specs.Ending.{listed}
-use Rattle.kc_parts.specs.Held.{Held, page_at, with_page, link_of, links_of, ends_at}
+use Rattle.kc_parts.specs.Parts.{Held, page_at, with_page, link_of, links_of, ends_at}
 use Rattle.kc_parts.specs.States.{list_in, state_of, owner_at, IsLinked, IsLoose, IsFreeMove, free_of}
 use Rattle.kc_parts.proofs.Pages.{links-kept}
 use Rattle.kc_parts.proofs.Seen.{ends-page, linked-moved}

@@ -2,26 +2,26 @@
 use Rattle.std.proofs.Common.{ℕ, zero, suc, ◌≡◌, ◌<◌, ◌+◌, ◌-◌, ◌%◌, true, false, is_some, All, List, [], ◌∷◌, length, get_or, take, Option, Some, None, refl, sym, ap, subst, ◌∙◌, arith}
 use Rattle.std.specs.Ordering.{nat_cmp}
 use Rattle.std.specs.FinMap as map
-use Rattle.kc_model.proofs.VerifyLocal.{pages-same}
+use Rattle.kc_model.proofs.Local.VerifyLocal.{pages-same}
 use Rattle.kc_types.specs.Configuration.{Configuration, slot_count}
 use Rattle.kc_types.specs.declared.call.Call.TheVariants.{Verify}
 use Rattle.kc_types.specs.declared.resource.Resource.TheVariants as resource
 use Rattle.kc_model.specs.State.{State, Image, Slot, slot_at, mapped_at, frame_at, with_frame}
 use Rattle.kc_model.specs.Refusals.{refusal, backing, pages_of, is_short}
 use Rattle.kc_model.specs.Effects.{bytes_at, image_bytes, trimmed, all_trimmed}
-use Rattle.kc_model.proofs.Verifies.{verify-served, backing-of}
-use Rattle.kc_model.proofs.Slots.{none-at}
-use Rattle.kc_model.proofs.Needs.{not_short}
+use Rattle.kc_model.proofs.Lawful.Verifies.{verify-served, backing-of}
+use Rattle.kc_model.proofs.States.Slots.{none-at}
+use Rattle.kc_model.proofs.Local.Needs.{not_short}
 use Rattle.kc_page.specs.declared.page.Page.{Page}
-use Rattle.kc_page.specs.Bytes.{zeroed_from}
-use Rattle.kc_page.specs.Pages.{frame_of}
-use Rattle.kc_stage2.specs.Table.{Table}
-use Rattle.kc_vms.specs.Slots.{VmSlot, table_of}
-use Rattle.kc_parts.specs.Held.{Held, HeldSlots, page_at, held_slot, vm_at, links_of, with_page, link_of}
+use Rattle.kc_page.specs.PageBytes.{zeroed_from}
+use Rattle.kc_page.specs.Page.{frame_of}
+use Rattle.kc_stage2.specs.Stage2.{Table}
+use Rattle.kc_vms.specs.Vm.{VmSlot, slot_table}
+use Rattle.kc_parts.specs.Parts.{Held, HeldSlots, page_at, held_slot, vm_at, links_of, with_page, link_of}
 use Rattle.kc_parts.specs.States.{slot_in, state_of, IsLinked}
 use Rattle.kc_parts.proofs.Seen.{frame-seen, slot-seen}
 use Rattle.kc_links.specs.Chain.{Links}
-use Rattle.kc_calls.specs.Applying.{IsSameRoom, IsAble}
+use Rattle.kc_calls.specs.Applying.{KeepsPlaces, IsAble}
 use Rattle.kc_calls.specs.Verifying.{mapped_in, page_under, bytes_under, bytes_of_image, IsImageHere}
 use Rattle.kc_calls.proofs.Frames.{changed}
 use Rattle.kc_refusals.proofs.Looked.{slot-is}
@@ -44,7 +44,7 @@ image-seen config h v vm image low linked at here =
     ap (take image.len) (pages-same (bytes_under h (map.get vm.slot.mapped)) (bytes_at (state_of config h) v) image.base (pages_of image.len) (λ g from below. bytes-seen config h v vm g low linked at (here.pages g from below)))
 
 -- the images of a slot that is here, through its table
-pub image-through : (h : Held) (v : ℕ) (vm : VmSlot) (table : Table) (image : Image) → vm_at h v ≡ Some vm → table ≡ table_of vm → IsImageHere h (mapped_in (vm_at h v)) image → IsImageHere h (map.get table.mapped) image
+pub image-through : (h : Held) (v : ℕ) (vm : VmSlot) (table : Table) (image : Image) → vm_at h v ≡ Some vm → table ≡ slot_table vm → IsImageHere h (mapped_in (vm_at h v)) image → IsImageHere h (map.get table.mapped) image
 image-through h v vm table image at through here = subst (λ (t : Table). IsImageHere h (map.get t.mapped) image) (sym through) (subst (λ there. IsImageHere h (mapped_in there) image) at here)
 
 -- the last page of an image that is trimmed
@@ -70,7 +70,7 @@ pub images-kept : (config : Configuration) (old new : Held) (v : ℕ) (vm : VmSl
 images-kept config old new v vm images low slots at is = images-seen config old v vm images low (ap (λ (vms : HeldSlots). held_slot vms v) (sym slots) ∙ at) is
 
 -- an image is here as long as the places and the slots stay
-pub image-still : (old new : Held) (v : ℕ) (image : Image) → IsSameRoom old new → new.vms ≡ old.vms → IsImageHere old (mapped_in (vm_at old v)) image → IsImageHere new (mapped_in (vm_at new v)) image
+pub image-still : (old new : Held) (v : ℕ) (image : Image) → KeepsPlaces old new → new.vms ≡ old.vms → IsImageHere old (mapped_in (vm_at old v)) image → IsImageHere new (mapped_in (vm_at new v)) image
 image-still old new v image room slots here = subst (λ (vms : HeldSlots). IsImageHere new (mapped_in (held_slot vms v)) image) (sym slots) (record {
   mapped_pages = here.mapped_pages;
   pages = λ g from below. room.here (resource.Frame (backing (mapped_in (vm_at old v) g))) ∙ here.pages g from below;

@@ -1,6 +1,6 @@
 -- The replies to reads are bytes.
 use Rattle.std.proofs.Common.{ℕ, ◌≡◌, true, None, Some, Option, is_some, Result, Ok, Err, IsErr, IsOk, refl}
-use Rattle.kc_types.specs.Room.{is_data, room_of}
+use Rattle.kc_types.specs.ReplyBytes.{is_data, most_reply_bytes}
 use Rattle.kc_types.specs.declared.call.Call.{Call}
 use Rattle.kc_types.specs.declared.call.Call.TheVariants.{Take, Give, HostFault, HostRead, HostWrite, RegisterVm, RegisterVcpu, SetBoot, Remap, Verify, Map, GuestRead, GuestWrite, Grant, Revoke, GrantRange, RevokeRange, Drop, Clear}
 use Rattle.kc_model.specs.State.{State, mapped_at}
@@ -22,7 +22,7 @@ pub host-data : (m : State) (f off len : ℕ) → refusal m (HostRead f off len)
 host-data m f off len served = unfold next in rw served refl
 
 -- no other call may be answered bytes
-pub other-data : (m : State) (call : Call) → ((v c g off len : ℕ) → call ≡ GuestRead v c g off len → ⊥) → looked_up m call ≡ None → (room_of call ≡ 0 → ⊥) → is_data (next m call).0 ≡ true
+pub other-data : (m : State) (call : Call) → ((v c g off len : ℕ) → call ≡ GuestRead v c g off len → ⊥) → looked_up m call ≡ None → (most_reply_bytes call ≡ 0 → ⊥) → is_data (next m call).0 ≡ true
 other-data m (HostRead f off len) is_other served some = host-data m f off len served
 other-data m (GuestRead v c g off len) is_other served some = absurd (is_other v c g off len refl)
 other-data m Take is_other served some = absurd (some refl)

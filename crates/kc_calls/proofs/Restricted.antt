@@ -4,7 +4,7 @@ use Rattle.std.specs.Option.{option_map}
 use Rattle.std.proofs.lemmas.Bool.{lt-ltb, ltb-true}
 use Rattle.std.proofs.lemmas.Option.{same_Some}
 use Rattle.kc_types.specs.Limits.{frame_limit}
-use Rattle.kc_model.proofs.Configurations.{few-frames}
+use Rattle.kc_model.proofs.States.Configurations.{few-frames}
 use Rattle.kc_types.specs.Configuration.{slot_count}
 use Rattle.kc_types.specs.declared.call.Call.{Call}
 use Rattle.kc_types.specs.declared.link.Ends.{Ends}
@@ -21,23 +21,23 @@ use Rattle.kc_model.specs.Resources.{Resource, Resources, IsWithin, is_in, need}
 use Rattle.kc_model.specs.Local.{IsOrderly, cut}
 use Rattle.kc_model.specs.Links.{link_in, link_at, list_of}
 use Rattle.kc_model.specs.Linked.{frame_and_link, slot_and_ends, free_ends, linked_part_of, linked_slot, ends_of}
-use Rattle.kc_model.proofs.Merges.{frame-merged, slot-merged, free-merged}
-use Rattle.kc_model.proofs.Members.{times_in-held}
-use Rattle.kc_model.proofs.Sizes.{sized-next}
-use Rattle.kc_model.proofs.Keeps.{lawful-next}
-use Rattle.kc_model.proofs.Parts.{orderly-cut, need-merged}
-use Rattle.kc_model.proofs.Agreeing.{on-parts, keeps-others, slot_of_part, free_of_part}
-use Rattle.kc_model.proofs.Orderly.{owned-is}
-use Rattle.kc_model.proofs.LawfulTraces.{orderly-is, lists-all}
+use Rattle.kc_model.proofs.Local.Merges.{frame-merged, slot-merged, free-merged}
+use Rattle.kc_model.proofs.States.Members.{times_in-held}
+use Rattle.kc_model.proofs.States.Sizes.{sized-next}
+use Rattle.kc_model.proofs.Lawful.Keeps.{lawful-next}
+use Rattle.kc_model.proofs.Local.Parts.{orderly-cut, need-merged}
+use Rattle.kc_model.proofs.Local.Agreeing.{on-parts, keeps-others, slot_of_part, free_of_part}
+use Rattle.kc_model.proofs.Local.Orderly.{owned-is}
+use Rattle.kc_model.proofs.Lawful.LawfulTraces.{orderly-is, lists-all}
 use Rattle.kc_page.specs.declared.page.Page.{Page}
-use Rattle.kc_page.specs.Pages.{frame_of}
-use Rattle.kc_vms.specs.Slots.{VmSlot}
+use Rattle.kc_page.specs.Page.{frame_of}
+use Rattle.kc_vms.specs.Vm.{VmSlot}
 use Rattle.kc_links.specs.Chain.{unlinked}
 use Rattle.kc_links.specs.Ending.{listed}
 use Rattle.kc_links.proofs.Linked.{linked-holds}
 use Rattle.kc_links.proofs.Neighbours.{link_in-linked, chain-ends}
 use Rattle.kc_parts.specs.Cuts.HeldPart.{page_part, slot_part, ends_part}
-use Rattle.kc_parts.specs.Held.{Held, page_at, vm_at, link_of, links_of, ends_at}
+use Rattle.kc_parts.specs.Parts.{Held, page_at, vm_at, link_of, links_of, ends_at}
 use Rattle.kc_parts.specs.States.{frame_in, slot_in, list_in, unlinked_slot, state_of, here_of, owner_at, lacks_list, is_away}
 use Rattle.kc_parts.proofs.Seen.{frame-seen, slot-seen}
 use Rattle.kc_parts.proofs.Linked.{held-here}

@@ -12,13 +12,13 @@ use Rattle.kc_model.specs.State.{State, Frame, Slot, frame_at, mapped_at, untouc
 use Rattle.kc_model.specs.Refusals.{refusal, backing, share_at}
 use Rattle.kc_model.specs.Effects.{with_each, granted}
 use Rattle.kc_model.specs.Resources.{slot_of}
-use Rattle.kc_model.proofs.Served.{when-none}
-use Rattle.kc_model.proofs.Each.{none-in}
-use Rattle.kc_model.proofs.RangeCalls.{guest_range-served}
-use Rattle.kc_model.proofs.Measured.{set-here}
-use Rattle.kc_parts.specs.Held.{Held, page_at}
+use Rattle.kc_model.proofs.Refusals.Served.{when-none}
+use Rattle.kc_model.proofs.States.Each.{none-in}
+use Rattle.kc_model.proofs.Lawful.RangeCalls.{guest_range-served}
+use Rattle.kc_model.proofs.Safe.Measured.{set-here}
+use Rattle.kc_parts.specs.Parts.{Held, page_at}
 use Rattle.kc_parts.specs.States.{state_of}
-use Rattle.kc_calls.specs.Applying.{IsAble, IsSameRoom}
+use Rattle.kc_calls.specs.Applying.{IsAble, KeepsPlaces}
 use Rattle.kc_calls.specs.Sharing.{IsPageUnder}
 use Rattle.kc_calls.proofs.Needed.{mapped-needed}
 
@@ -31,7 +31,7 @@ found-here config h v g f is found =
 
 -- the guest frame is mapped to a page that is here, also after calls that leave the slots and the places as they are
 pub page-under : (config : Configuration) (old now : Held) (call : Call) (v g : ℕ) → IsAble config old call → slot_of call ≡ Some v → v < slot_count config → mapped_at (state_of config old) v g ≡ Some (backing (mapped_at (state_of config old) v g))
-    → (state_of config now).slots ≡ (state_of config old).slots → IsSameRoom old now → IsPageUnder config now v g
+    → (state_of config now).slots ≡ (state_of config old).slots → KeepsPlaces old now → IsPageUnder config now v g
 page-under config old now call v g able names low mapped slots room =
     let f = backing (mapped_at (state_of config old) v g) in
     record {

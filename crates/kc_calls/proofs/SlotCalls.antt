@@ -13,8 +13,8 @@ use Rattle.kc_types.specs.declared.reply.Reply.TheVariants as reply
 use Rattle.kc_types.specs.declared.slot.Phase.TheVariants.{Booting}
 use Rattle.kc_model.specs.Linked.{LinkedSlot}
 use Rattle.kc_vms.specs.Refusals.{register_refusal, add_vcpu_refusal, add_image_refusal}
-use Rattle.kc_vms.specs.Slots.{VmSlot, with_phase, with_vcpu, with_image}
-use Rattle.kc_parts.specs.Held.{Held, vm_at, with_vm}
+use Rattle.kc_vms.specs.Vm.{VmSlot, with_phase, with_vcpu, with_image}
+use Rattle.kc_parts.specs.Parts.{Held, vm_at, with_vm}
 use Rattle.kc_parts.specs.States.{state_of, unlinked_slot, IsLinked}
 use Rattle.kc_calls.specs.Applying.{IsAnswer}
 use Rattle.kc_refusals.proofs.Looked.{slot-is}

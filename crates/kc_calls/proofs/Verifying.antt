@@ -7,10 +7,10 @@ use Rattle.kc_types.specs.declared.slot.Phase.TheVariants.{Booting}
 use Rattle.kc_model.specs.State.{Slot, with_slot}
 use Rattle.kc_model.specs.Refusals.{refusal}
 use Rattle.kc_model.specs.Effects.{with_phase}
-use Rattle.kc_model.proofs.Verifies.{verify-served}
-use Rattle.kc_vms.specs.Slots as slots
-use Rattle.kc_vms.specs.Slots.{VmSlot}
-use Rattle.kc_parts.specs.Held.{Held, vm_at, with_vm}
+use Rattle.kc_model.proofs.Lawful.Verifies.{verify-served}
+use Rattle.kc_vms.specs.Vm as slots
+use Rattle.kc_vms.specs.Vm.{VmSlot}
+use Rattle.kc_parts.specs.Parts.{Held, vm_at, with_vm}
 use Rattle.kc_parts.specs.States.{state_of, IsLinked}
 use Rattle.kc_parts.proofs.SlotChanges.{state-vm, linked-vm}
 use Rattle.kc_refusals.proofs.Looked.{slot-is}

@@ -1,6 +1,6 @@
 -- What a call does with parts, beside what the rules say.
 use Rattle.std.specs.Prelude.{ℕ, ◌≡◌, true, is_some, if◌then◌else◌}
-use Rattle.kc_types.specs.Room.{readable, room_of}
+use Rattle.kc_types.specs.ReplyBytes.{readable, most_reply_bytes}
 use Rattle.kc_types.specs.declared.call.Call.{Call}
 use Rattle.kc_types.specs.declared.call.Call.TheVariants.{GuestRead}
 use Rattle.kc_types.specs.declared.reply.Reply.{Reply}
@@ -11,21 +11,21 @@ use Rattle.kc_model.specs.Ranged.{IsRanged}
 use Rattle.kc_model.specs.Next.{next}
 use Rattle.kc_model.specs.Resources.{Resource, Resources, merged, need, IsWithin}
 use Rattle.kc_model.specs.Local.{IsOrderly, cut}
-use Rattle.kc_parts.specs.Held.{Held, links_of}
+use Rattle.kc_parts.specs.Parts.{Held, links_of}
 use Rattle.kc_parts.specs.States.{state_of, here_of, owner_at, is_away, IsLinked}
 use Rattle.kc_parts.specs.Restricted.{IsRestricted, IsClosed}
 
 -- the same places, and the same parts in them; frames of a list whose ends are elsewhere keep their owner and their links
-pub record IsSameRoom (old new : Held) : Type 0 where
+pub record KeepsPlaces (old new : Held) : Type 0 where
   pub numbers : new.numbers ≡ old.numbers
   pub filled : new.here ≡ old.here
   pub here : (r : Resource) → here_of new r ≡ here_of old r
   pub away : (f : ℕ) → is_away old f ≡ true → (owner_at new f ≡ owner_at old f) × (links_of new f ≡ links_of old f)
 
 -- the most bytes that the reply carries to a call that is served: a guest frame that is not mapped answers none
-abbrev pub room_for : State → Call → ℕ
-room_for m (GuestRead v c g off len) = if is_some (mapped_at m v g) then readable len else 0
-room_for m call = room_of call
+abbrev pub reply_bytes_for : State → Call → ℕ
+reply_bytes_for m (GuestRead v c g off len) = if is_some (mapped_at m v g) then readable len else 0
+reply_bytes_for m call = most_reply_bytes call
 
 -- parts on which a call can be made: as orderly as those of a lawful state, with all that the call needs here
 pub record IsAble (config : Configuration) (h : Held) (call : Call) : Type 0 where
@@ -38,7 +38,7 @@ pub record IsAnswer (config : Configuration) (old new : Held) (call : Call) (ans
   pub reply : answer ≡ (next (state_of config old) call).0
   pub state : state_of config new ≡ (next (state_of config old) call).1
   pub linked : IsLinked config new
-  pub room : IsSameRoom old new
+  pub room : KeepsPlaces old new
 
 -- parts that are a lawful state's at some resources, links and ends with them: where the call needs no others, it can be
 -- made on them, answers what the state answers, and leaves the next state's parts at the same resources

@@ -2,7 +2,7 @@
 use Rattle.std.specs.Prelude.{ℕ, ◌≡◌, true, is_some, Some}
 use Rattle.kc_types.specs.Configuration.{Configuration}
 use Rattle.kc_model.specs.State.{mapped_at}
-use Rattle.kc_parts.specs.Held.{Held, page_at}
+use Rattle.kc_parts.specs.Parts.{Held, page_at}
 use Rattle.kc_parts.specs.States.{state_of}
 
 -- the guest frame is mapped to a frame whose page is here

@@ -7,8 +7,8 @@ use Rattle.kc_model.specs.State.{Image}
 use Rattle.kc_model.specs.Refusals.{backing, pages_of}
 use Rattle.kc_model.specs.Effects.{gfns_of, same_bytes}
 use Rattle.kc_page.specs.declared.page.Page.{Page}
-use Rattle.kc_vms.specs.Slots.{VmSlot}
-use Rattle.kc_parts.specs.Held.{Held, page_at}
+use Rattle.kc_vms.specs.Vm.{VmSlot}
+use Rattle.kc_parts.specs.Parts.{Held, page_at}
 use Rattle.kc_parts.specs.States.{frame_in}
 
 -- where a slot leads from a guest frame; nowhere if it is not here

@@ -4,7 +4,7 @@ ghost use Rattle.kc_types.specs.declared.call.Call.TheVariants.{Clear};
 ghost use Rattle.kc_model.specs.Refusals.{refusal};
 ghost use Rattle.kc_model.specs.Effects.{effect};
 ghost use Rattle.kc_parts.specs.States.{state_of, IsLinked};
-ghost use Rattle.kc_calls.specs.Applying.{IsSameRoom, IsAble};
+ghost use Rattle.kc_calls.specs.Applying.{KeepsPlaces, IsAble};
 
 use kc_parts::Parts;
 use kc_types::{Config, Reply};
@@ -17,7 +17,7 @@ pub fn clear(parts: &mut Parts, config: &Config, vm: u32) -> Reply
     ensures reply { result ≡ (effect (state_of config.now parts.old) (Clear vm)).0 }
     ensures state { state_of config.now parts.new ≡ (effect (state_of config.now parts.old) (Clear vm)).1 }
     ensures linked { IsLinked config.now parts.new }
-    ensures room { IsSameRoom parts.old parts.new }
+    ensures room { KeepsPlaces parts.old parts.new }
 {
     let vm = config.vm(vm).unwrap();
     let list = parts.empty_slot(vm);

@@ -1,10 +1,10 @@
 //! A call, by its kind.
 ghost use Rattle.std.specs.Prelude.{◌≡◌, ◌≤◌, true, None, IfOk, IsErr, OnOk, OnErr};
-ghost use Rattle.kc_types.specs.Room.{is_data, room_of};
+ghost use Rattle.kc_types.specs.ReplyBytes.{is_data, most_reply_bytes};
 ghost use Rattle.kc_model.specs.Next.{next};
 ghost use Rattle.kc_parts.specs.States.{state_of, IsLinked};
 ghost use Rattle.kc_refusals.specs.LookUps.{looked_up};
-ghost use Rattle.kc_calls.specs.Applying.{IsSameRoom, IsAble, room_for};
+ghost use Rattle.kc_calls.specs.Applying.{KeepsPlaces, IsAble, reply_bytes_for};
 
 use crate::clear::clear;
 use crate::drop::drop_page;
@@ -16,19 +16,19 @@ use crate::slots::{register_vcpu, register_vm, set_boot};
 use crate::verify::verify;
 use kc_parts::Parts;
 use kc_refusals::{mapped_under, refusal};
-use kc_types::{Call, Config, Memory, Reply, Spare};
+use kc_types::{Call, Config, Memory, Reply, ReplyBuffer};
 use std::alloc::Global;
 
 /// Carries out a call that no look-up refuses, on parts that hold what it needs, and leaves all else as it was.
 #[tactic(auto, unfolding(kc_model::specs::Next::next))]
-fn carry_out(parts: &mut Parts, config: &Config, call: &Call, room: Spare) -> Reply
+fn carry_out(parts: &mut Parts, config: &Config, call: &Call, room: ReplyBuffer) -> Reply
     requires served { looked_up (state_of config.now parts.old) call.now ≡ None }
     requires able { IsAble config.now parts.old call.now }
-    requires fits { room_for (state_of config.now parts.old) call.now ≤ room }
+    requires fits { reply_bytes_for (state_of config.now parts.old) call.now ≤ room }
     ensures reply { result ≡ (next (state_of config.now parts.old) call.now).0 }
     ensures state { state_of config.now parts.new ≡ (next (state_of config.now parts.old) call.now).1 }
     ensures linked { IsLinked config.now parts.new }
-    ensures room { IsSameRoom parts.old parts.new }
+    ensures room { KeepsPlaces parts.old parts.new }
 {
     match call {
         Call::Take => take(parts, config),
@@ -83,18 +83,23 @@ fn carry_out(parts: &mut Parts, config: &Config, call: &Call, room: Spare) -> Re
 
 /// Room for the reply to a call that no look-up refuses. `Memory` where a growth was refused, which comes only where the
 /// reply is bytes.
-fn make_room(alloc: Global, parts: &Parts, config: &Config, call: &Call) -> Result<Spare, Memory>
+fn make_room(
+    alloc: Global,
+    parts: &Parts,
+    config: &Config,
+    call: &Call,
+) -> Result<ReplyBuffer, Memory>
     requires { looked_up (state_of config.now parts.now) call.now ≡ None }
-    ensures room { IfOk result (λ room. room_for (state_of config.now parts.now) call.now ≤ room) }
+    ensures room { IfOk result (λ room. reply_bytes_for (state_of config.now parts.now) call.now ≤ room) }
     ensures memory { IsErr result → is_data (next (state_of config.now parts.now) call.now).0 ≡ true }
 {
     match call {
         Call::GuestRead { vm, gfn, .. } => if mapped_under(parts, config, *vm, *gfn).is_some() {
-            call.spare(alloc)
+            call.reply_buffer(alloc)
         } else {
-            Ok(Spare::none(alloc))
+            Ok(ReplyBuffer::none(alloc))
         },
-        _ => call.spare(alloc),
+        _ => call.reply_buffer(alloc),
     }
 }
 
@@ -111,7 +116,7 @@ pub fn apply(
     ensures reply { IfOk result (λ reply. reply ≡ (next (state_of config.now parts.old) call.now).0) }
     ensures state { OnOk result (state_of config.now parts.new ≡ (next (state_of config.now parts.old) call.now).1) }
     ensures linked { IsLinked config.now parts.new }
-    ensures room { IsSameRoom parts.old parts.new }
+    ensures room { KeepsPlaces parts.old parts.new }
     ensures err { OnErr result (parts.new ≡ parts.old) }
     ensures memory { IsErr result → is_data (next (state_of config.now parts.old) call.now).0 ≡ true }
 {
@@ -123,13 +128,13 @@ pub fn apply(
 }
 
 /// The same, with room for the bytes of the reply that was made before: nothing takes memory.
-pub fn answer(parts: &mut Parts, config: &Config, call: &Call, room: Spare) -> Reply
+pub fn answer(parts: &mut Parts, config: &Config, call: &Call, room: ReplyBuffer) -> Reply
     requires able { IsAble config.now parts.old call.now }
-    requires fits { room_of call.now ≤ room }
+    requires fits { most_reply_bytes call.now ≤ room }
     ensures reply { result ≡ (next (state_of config.now parts.old) call.now).0 }
     ensures state { state_of config.now parts.new ≡ (next (state_of config.now parts.old) call.now).1 }
     ensures linked { IsLinked config.now parts.new }
-    ensures room { IsSameRoom parts.old parts.new }
+    ensures room { KeepsPlaces parts.old parts.new }
 {
     match refusal(parts, config, call) {
         Some(refusal) => Reply::Refused(refusal),

@@ -3,9 +3,9 @@ ghost use Rattle.std.specs.Prelude.{◌≡◌, None, true, false, is_some};
 ghost use Rattle.kc_types.specs.declared.call.Call.TheVariants.{Drop};
 ghost use Rattle.kc_model.specs.Refusals.{refusal};
 ghost use Rattle.kc_model.specs.Effects.{effect, freed};
-ghost use Rattle.kc_parts.specs.Held.{page_at};
+ghost use Rattle.kc_parts.specs.Parts.{page_at};
 ghost use Rattle.kc_parts.specs.States.{state_of, IsLinked, IsLoose, is_away};
-ghost use Rattle.kc_calls.specs.Applying.{IsSameRoom, IsAble};
+ghost use Rattle.kc_calls.specs.Applying.{KeepsPlaces, IsAble};
 
 use kc_parts::Parts;
 use kc_types::{Config, FrameNo, Gfn, Owner, Reply};
@@ -19,7 +19,7 @@ fn free_frame(parts: &mut Parts, config: &Config, frame: FrameNo)
     requires free { is_some parts.old.free ≡ true }
     ensures state { state_of config.now parts.new ≡ freed (state_of config.now parts.old) frame }
     ensures linked { IsLinked config.now parts.new }
-    ensures room { IsSameRoom parts.old parts.new }
+    ensures room { KeepsPlaces parts.old parts.new }
 {
     let page = parts.frame_mut(frame).unwrap();
     page.meta.owner = Owner::Free;
@@ -36,7 +36,7 @@ pub fn drop_page(parts: &mut Parts, config: &Config, vm: u32, vcpu: u32, gfn: u3
     ensures reply { result ≡ (effect (state_of config.now parts.old) (Drop vm vcpu gfn)).0 }
     ensures state { state_of config.now parts.new ≡ (effect (state_of config.now parts.old) (Drop vm vcpu gfn)).1 }
     ensures linked { IsLinked config.now parts.new }
-    ensures room { IsSameRoom parts.old parts.new }
+    ensures room { KeepsPlaces parts.old parts.new }
 {
     let vm = config.vm(vm).unwrap();
     let gfn = Gfn::try_new(gfn).unwrap();

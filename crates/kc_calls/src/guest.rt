@@ -6,13 +6,13 @@ ghost use Rattle.kc_types.specs.declared.call.Call.TheVariants.{GuestRead, Guest
 ghost use Rattle.kc_model.specs.State.{slot_at, vcpu_at};
 ghost use Rattle.kc_model.specs.Refusals.{refusal};
 ghost use Rattle.kc_model.specs.Effects.{effect, with_fault, written};
-ghost use Rattle.kc_parts.specs.Held.{page_at, vm_at};
+ghost use Rattle.kc_parts.specs.Parts.{page_at, vm_at};
 ghost use Rattle.kc_parts.specs.States.{state_of, IsLinked};
-ghost use Rattle.kc_calls.specs.Applying.{IsAble, IsSameRoom, room_for};
+ghost use Rattle.kc_calls.specs.Applying.{IsAble, KeepsPlaces, reply_bytes_for};
 
 use kc_parts::Parts;
 use kc_refusals::mapped_at;
-use kc_types::{Config, Data, FrameNo, Gfn, Phase, Reply, Spare, VcpuId};
+use kc_types::{Config, Data, FrameNo, Gfn, Phase, Reply, ReplyBuffer, VcpuId};
 
 /// A registered virtual processor of an active slot waits for a guest frame.
 fn set_fault(parts: &mut Parts, config: &Config, vm: u32, vcpu: VcpuId, gfn: Gfn)
@@ -23,7 +23,7 @@ fn set_fault(parts: &mut Parts, config: &Config, vm: u32, vcpu: VcpuId, gfn: Gfn
     requires registered { (vcpu_at (state_of config.now parts.old) vm vcpu).registered ≡ true }
     ensures state { state_of config.now parts.new ≡ with_fault (state_of config.now parts.old) vm vcpu (Some gfn) }
     ensures linked { IsLinked config.now parts.new }
-    ensures room { IsSameRoom parts.old parts.new }
+    ensures room { KeepsPlaces parts.old parts.new }
 {
     let vm = config.vm(vm).unwrap();
     let slot = parts.vm_mut(vm).unwrap();
@@ -37,7 +37,7 @@ pub fn spend_fault(parts: &mut Parts, config: &Config, vm: u32, vcpu: VcpuId)
     requires linked { IsLinked config.now parts.old }
     ensures state { state_of config.now parts.new ≡ with_fault (state_of config.now parts.old) vm vcpu None }
     ensures linked { IsLinked config.now parts.new }
-    ensures room { IsSameRoom parts.old parts.new }
+    ensures room { KeepsPlaces parts.old parts.new }
 {
     let vm = config.vm(vm).unwrap();
     let slot = parts.vm_mut(vm).unwrap();
@@ -53,15 +53,15 @@ pub fn guest_read(
     gfn: u32,
     offset: u32,
     len: u32,
-    room: Spare,
+    room: ReplyBuffer,
 ) -> Reply
     requires served { refusal (state_of config.now parts.old) (GuestRead vm vcpu gfn offset len) ≡ None }
     requires able { IsAble config.now parts.old (GuestRead vm vcpu gfn offset len) }
-    requires room { room_for (state_of config.now parts.old) (GuestRead vm vcpu gfn offset len) ≤ room }
+    requires room { reply_bytes_for (state_of config.now parts.old) (GuestRead vm vcpu gfn offset len) ≤ room }
     ensures reply { result ≡ (effect (state_of config.now parts.old) (GuestRead vm vcpu gfn offset len)).0 }
     ensures state { state_of config.now parts.new ≡ (effect (state_of config.now parts.old) (GuestRead vm vcpu gfn offset len)).1 }
     ensures linked { IsLinked config.now parts.new }
-    ensures room { IsSameRoom parts.old parts.new }
+    ensures room { KeepsPlaces parts.old parts.new }
 {
     let vcpu = VcpuId::try_new(vcpu).unwrap();
     let gfn = Gfn::try_new(gfn).unwrap();
@@ -86,7 +86,7 @@ fn write_frame(parts: &mut Parts, config: &Config, frame: FrameNo, offset: u32, 
     requires linked { IsLinked config.now parts.old }
     ensures state { state_of config.now parts.new ≡ written (state_of config.now parts.old) frame offset bytes.now }
     ensures linked { IsLinked config.now parts.new }
-    ensures room { IsSameRoom parts.old parts.new }
+    ensures room { KeepsPlaces parts.old parts.new }
 {
     let page = parts.frame_mut(frame).unwrap();
     page.bytes.write(offset as usize, bytes.as_slice());
@@ -107,7 +107,7 @@ pub fn guest_write(
     ensures reply { result ≡ (effect (state_of config.now parts.old) (GuestWrite vm vcpu gfn offset bytes.now)).0 }
     ensures state { state_of config.now parts.new ≡ (effect (state_of config.now parts.old) (GuestWrite vm vcpu gfn offset bytes.now)).1 }
     ensures linked { IsLinked config.now parts.new }
-    ensures room { IsSameRoom parts.old parts.new }
+    ensures room { KeepsPlaces parts.old parts.new }
 {
     let vcpu = VcpuId::try_new(vcpu).unwrap();
     let gfn = Gfn::try_new(gfn).unwrap();

@@ -6,9 +6,9 @@ ghost use Rattle.kc_types.specs.declared.call.Call.TheVariants.{Remap, Map};
 ghost use Rattle.kc_model.specs.State.{mapped_at};
 ghost use Rattle.kc_model.specs.Refusals.{refusal, tables_full};
 ghost use Rattle.kc_model.specs.Effects.{effect, hand};
-ghost use Rattle.kc_parts.specs.Held.{page_at, vm_at};
+ghost use Rattle.kc_parts.specs.Parts.{page_at, vm_at};
 ghost use Rattle.kc_parts.specs.States.{state_of, owner_at, IsLinked};
-ghost use Rattle.kc_calls.specs.Applying.{IsSameRoom, IsAble};
+ghost use Rattle.kc_calls.specs.Applying.{KeepsPlaces, IsAble};
 
 use crate::guest::spend_fault;
 use kc_parts::Parts;
@@ -26,7 +26,7 @@ fn hand(parts: &mut Parts, config: &Config, vm: VmId, gfn: Gfn, frame: FrameNo)
     requires fits { tables_full (state_of config.now parts.old) vm gfn ≡ None }
     ensures state { state_of config.now parts.new ≡ hand (state_of config.now parts.old) vm gfn frame }
     ensures linked { IsLinked config.now parts.new }
-    ensures room { IsSameRoom parts.old parts.new }
+    ensures room { KeepsPlaces parts.old parts.new }
 {
     let slot = parts.vm_mut(vm).unwrap();
     slot.table_mut().map(gfn, frame).unwrap();
@@ -44,7 +44,7 @@ pub fn remap(parts: &mut Parts, config: &Config, vm: u32, image: u32, frame: u32
     ensures reply { result ≡ (effect (state_of config.now parts.old) (Remap vm image frame)).0 }
     ensures state { state_of config.now parts.new ≡ (effect (state_of config.now parts.old) (Remap vm image frame)).1 }
     ensures linked { IsLinked config.now parts.new }
-    ensures room { IsSameRoom parts.old parts.new }
+    ensures room { KeepsPlaces parts.old parts.new }
 {
     let vm = config.vm(vm).unwrap();
     let frame = config.frame(frame).unwrap();
@@ -61,7 +61,7 @@ pub fn map(parts: &mut Parts, config: &Config, vm: u32, vcpu: u32, frame: u32) -
     ensures reply { result ≡ (effect (state_of config.now parts.old) (Map vm vcpu frame)).0 }
     ensures state { state_of config.now parts.new ≡ (effect (state_of config.now parts.old) (Map vm vcpu frame)).1 }
     ensures linked { IsLinked config.now parts.new }
-    ensures room { IsSameRoom parts.old parts.new }
+    ensures room { KeepsPlaces parts.old parts.new }
 {
     let slot = config.vm(vm).unwrap();
     let vcpu = VcpuId::try_new(vcpu).unwrap();

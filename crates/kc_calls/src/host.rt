@@ -1,14 +1,14 @@
 //! The host's calls on frames: taking and giving them, mapping, reading and writing.
 ghost use Rattle.std.specs.Prelude.{◌≡◌, ◌≤◌, None, true, is_some};
-ghost use Rattle.kc_types.specs.Room.{readable};
+ghost use Rattle.kc_types.specs.ReplyBytes.{readable};
 ghost use Rattle.kc_types.specs.declared.call.Call.TheVariants.{Take, Give, HostFault, HostRead, HostWrite};
 ghost use Rattle.kc_model.specs.Refusals.{refusal};
 ghost use Rattle.kc_model.specs.Effects.{effect};
 ghost use Rattle.kc_parts.specs.States.{state_of, IsLinked};
-ghost use Rattle.kc_calls.specs.Applying.{IsSameRoom};
+ghost use Rattle.kc_calls.specs.Applying.{KeepsPlaces};
 
 use kc_parts::Parts;
-use kc_types::{Config, Data, Owner, Reply, Spare};
+use kc_types::{Config, Data, Owner, Reply, ReplyBuffer};
 
 /// The first free frame becomes the host's.
 pub fn take(parts: &mut Parts, config: &Config) -> Reply
@@ -17,7 +17,7 @@ pub fn take(parts: &mut Parts, config: &Config) -> Reply
     ensures reply { result ≡ (effect (state_of config.now parts.old) Take).0 }
     ensures state { state_of config.now parts.new ≡ (effect (state_of config.now parts.old) Take).1 }
     ensures linked { IsLinked config.now parts.new }
-    ensures room { IsSameRoom parts.old parts.new }
+    ensures room { KeepsPlaces parts.old parts.new }
 {
     let frame = parts.pop_free().unwrap();
     let page = parts.frame_mut(frame).unwrap();
@@ -34,7 +34,7 @@ pub fn give(parts: &mut Parts, config: &Config, frame: u32) -> Reply
     ensures reply { result ≡ (effect (state_of config.now parts.old) (Give frame)).0 }
     ensures state { state_of config.now parts.new ≡ (effect (state_of config.now parts.old) (Give frame)).1 }
     ensures linked { IsLinked config.now parts.new }
-    ensures room { IsSameRoom parts.old parts.new }
+    ensures room { KeepsPlaces parts.old parts.new }
 {
     let frame = config.frame(frame).unwrap();
     let page = parts.frame_mut(frame).unwrap();
@@ -52,7 +52,7 @@ pub fn host_fault(parts: &mut Parts, config: &Config, frame: u32) -> Reply
     ensures reply { result ≡ (effect (state_of config.now parts.old) (HostFault frame)).0 }
     ensures state { state_of config.now parts.new ≡ (effect (state_of config.now parts.old) (HostFault frame)).1 }
     ensures linked { IsLinked config.now parts.new }
-    ensures room { IsSameRoom parts.old parts.new }
+    ensures room { KeepsPlaces parts.old parts.new }
 {
     let frame = config.frame(frame).unwrap();
     let page = parts.frame_mut(frame).unwrap();
@@ -67,7 +67,7 @@ pub fn host_read(
     frame: u32,
     offset: u32,
     len: u32,
-    room: Spare,
+    room: ReplyBuffer,
 ) -> Reply
     requires served { refusal (state_of config.now parts.now) (HostRead frame offset len) ≡ None }
     requires room { readable len ≤ room }
@@ -91,7 +91,7 @@ pub fn host_write(
     ensures reply { result ≡ (effect (state_of config.now parts.old) (HostWrite frame offset bytes.now)).0 }
     ensures state { state_of config.now parts.new ≡ (effect (state_of config.now parts.old) (HostWrite frame offset bytes.now)).1 }
     ensures linked { IsLinked config.now parts.new }
-    ensures room { IsSameRoom parts.old parts.new }
+    ensures room { KeepsPlaces parts.old parts.new }
 {
     let frame = config.frame(frame).unwrap();
     let page = parts.frame_mut(frame).unwrap();

@@ -6,7 +6,7 @@ ghost use Rattle.kc_model.specs.Ranged.{IsWord};
 ghost use Rattle.kc_model.specs.Refusals.{refusal, share_at};
 ghost use Rattle.kc_model.specs.Effects.{effect, with_each, granted, revoked};
 ghost use Rattle.kc_parts.specs.States.{state_of, IsLinked};
-ghost use Rattle.kc_calls.specs.Applying.{IsAble, IsSameRoom};
+ghost use Rattle.kc_calls.specs.Applying.{IsAble, KeepsPlaces};
 ghost use Rattle.kc_calls.specs.Sharing.{IsPageUnder};
 
 use kc_page::PageRecord;
@@ -22,7 +22,7 @@ fn grant_page(parts: &mut Parts, config: &Config, vm: u32, gfn: u32)
     requires linked { IsLinked config.now parts.old }
     ensures state { state_of config.now parts.new ≡ with_each (state_of config.now parts.old) vm (gfn ∷ []) granted }
     ensures linked { IsLinked config.now parts.new }
-    ensures room { IsSameRoom parts.old parts.new }
+    ensures room { KeepsPlaces parts.old parts.new }
 {
     let frame = mapped_under(parts, config, vm, gfn).unwrap();
     let page = parts.frame_mut(frame).unwrap();
@@ -48,7 +48,7 @@ fn revoke_page(parts: &mut Parts, config: &Config, vm: u32, gfn: u32)
     requires linked { IsLinked config.now parts.old }
     ensures state { state_of config.now parts.new ≡ with_each (state_of config.now parts.old) vm (gfn ∷ []) revoked }
     ensures linked { IsLinked config.now parts.new }
-    ensures room { IsSameRoom parts.old parts.new }
+    ensures room { KeepsPlaces parts.old parts.new }
 {
     let frame = mapped_under(parts, config, vm, gfn).unwrap();
     let page = parts.frame_mut(frame).unwrap();
@@ -62,7 +62,7 @@ pub fn grant(parts: &mut Parts, config: &Config, vm: u32, vcpu: u32, gfn: u32) -
     ensures reply { result ≡ (effect (state_of config.now parts.old) (Grant vm vcpu gfn)).0 }
     ensures state { state_of config.now parts.new ≡ (effect (state_of config.now parts.old) (Grant vm vcpu gfn)).1 }
     ensures linked { IsLinked config.now parts.new }
-    ensures room { IsSameRoom parts.old parts.new }
+    ensures room { KeepsPlaces parts.old parts.new }
 {
     grant_page(parts, config, vm, gfn);
     Reply::Done
@@ -75,7 +75,7 @@ pub fn revoke(parts: &mut Parts, config: &Config, vm: u32, vcpu: u32, gfn: u32) 
     ensures reply { result ≡ (effect (state_of config.now parts.old) (Revoke vm vcpu gfn)).0 }
     ensures state { state_of config.now parts.new ≡ (effect (state_of config.now parts.old) (Revoke vm vcpu gfn)).1 }
     ensures linked { IsLinked config.now parts.new }
-    ensures room { IsSameRoom parts.old parts.new }
+    ensures room { KeepsPlaces parts.old parts.new }
 {
     revoke_page(parts, config, vm, gfn);
     Reply::Done
@@ -95,7 +95,7 @@ pub fn grant_range(
     ensures reply { result ≡ (effect (state_of config.now parts.old) (GrantRange vm vcpu gfn count)).0 }
     ensures state { state_of config.now parts.new ≡ (effect (state_of config.now parts.old) (GrantRange vm vcpu gfn count)).1 }
     ensures linked { IsLinked config.now parts.new }
-    ensures room { IsSameRoom parts.old parts.new }
+    ensures room { KeepsPlaces parts.old parts.new }
 {
     for at in gfn..gfn + count {
         grant_page(parts, config, vm, at);
@@ -117,7 +117,7 @@ pub fn revoke_range(
     ensures reply { result ≡ (effect (state_of config.now parts.old) (RevokeRange vm vcpu gfn count)).0 }
     ensures state { state_of config.now parts.new ≡ (effect (state_of config.now parts.old) (RevokeRange vm vcpu gfn count)).1 }
     ensures linked { IsLinked config.now parts.new }
-    ensures room { IsSameRoom parts.old parts.new }
+    ensures room { KeepsPlaces parts.old parts.new }
 {
     for at in gfn..gfn + count {
         revoke_page(parts, config, vm, at);

@@ -9,9 +9,9 @@ ghost use Rattle.kc_model.specs.State.{slot_at};
 ghost use Rattle.kc_model.specs.Lawful.{IsLawfulImage};
 ghost use Rattle.kc_model.specs.Refusals.{refusal, backing, pages_of};
 ghost use Rattle.kc_model.specs.Effects.{effect, is_approved, first_failing, trimmed, all_trimmed};
-ghost use Rattle.kc_parts.specs.Held.{vm_at};
+ghost use Rattle.kc_parts.specs.Parts.{vm_at};
 ghost use Rattle.kc_parts.specs.States.{state_of, IsLinked};
-ghost use Rattle.kc_calls.specs.Applying.{IsSameRoom, IsAble};
+ghost use Rattle.kc_calls.specs.Applying.{KeepsPlaces, IsAble};
 ghost use Rattle.kc_calls.specs.Verifying.{mapped_in, page_under, bytes_under, bytes_of_image, is_approved_digest, AreFourAlike, IsImageHere};
 
 use kc_digests::MeasureFour;
@@ -172,7 +172,7 @@ fn trim_image(parts: &mut Parts, config: &Config, vm: VmId, image: &Image)
     requires here { IsImageHere parts.old (mapped_in (vm_at parts.old vm)) image.now }
     ensures state { state_of config.now parts.new ≡ trimmed (state_of config.now parts.old) vm image.now }
     ensures linked { IsLinked config.now parts.new }
-    ensures room { IsSameRoom parts.old parts.new }
+    ensures room { KeepsPlaces parts.old parts.new }
     ensures slots { parts.new.vms ≡ parts.old.vms }
 {
     let slot = parts.vm(vm).unwrap();
@@ -190,7 +190,7 @@ fn trim_images(parts: &mut Parts, config: &Config, vm: VmId)
     requires here { All (IsImageHere parts.old (mapped_in (vm_at parts.old vm))) (slot_at (state_of config.now parts.old) vm).images }
     ensures state { state_of config.now parts.new ≡ all_trimmed (state_of config.now parts.old) vm (slot_at (state_of config.now parts.old) vm).images }
     ensures linked { IsLinked config.now parts.new }
-    ensures room { IsSameRoom parts.old parts.new }
+    ensures room { KeepsPlaces parts.old parts.new }
     ensures slots { parts.new.vms ≡ parts.old.vms }
 {
     let count = parts.vm(vm).unwrap().images().len();
@@ -207,7 +207,7 @@ pub fn verify(parts: &mut Parts, config: &Config, vm: u32) -> Reply
     ensures reply { result ≡ (effect (state_of config.now parts.old) (Verify vm)).0 }
     ensures state { state_of config.now parts.new ≡ (effect (state_of config.now parts.old) (Verify vm)).1 }
     ensures linked { IsLinked config.now parts.new }
-    ensures room { IsSameRoom parts.old parts.new }
+    ensures room { KeepsPlaces parts.old parts.new }
 {
     let vm = config.vm(vm).unwrap();
     if let Some(image) = first_unapproved(parts, config, vm) {

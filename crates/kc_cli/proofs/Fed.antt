@@ -10,8 +10,8 @@ use Rattle.kc_model.specs.Boot.{boot}
 use Rattle.kc_trace.specs.Trace.{IsTrace}
 use Rattle.kc_cli.specs.Engine.{IsReplayed}
 use Rattle.kc_model.specs.Next.{replies_from, state_after}
-use Rattle.kc_model.proofs.Runs.{replies_from-append, state_after-append}
-use Rattle.kc_replay.specs.Segments.{Replaying, IsFed}
+use Rattle.kc_model.proofs.States.Runs.{replies_from-append, state_after-append}
+use Rattle.kc_replay.specs.Replayer.{Replaying, IsFed}
 
 some_is : {X : Type 0} (x y : X) → Some x ≡ Some y → x ≡ y
 some_is x y e = cc

@@ -12,7 +12,7 @@ use Rattle.kc_trace.specs.ConfigText.{config_in}
 use Rattle.kc_trace.specs.ReplyText.{reply_text_of}
 use Rattle.kc_dump.specs.Dumping.{dump_of}
 use Rattle.kc_dump_text.specs.DumpText.{dump_text}
-use Rattle.kc_cli.specs.Engine.{IsConfigured, IsConfigFault, IsTold, IsReplayed, AreReplayed, IsReplyText, IsStateText, Gives, Begins}
+use Rattle.kc_cli.specs.Engine.{IsConfigured, IsConfigFault, IsTold, IsReplayed, AreReplayed, IsReplyText, IsStateText, Writes, Begins}
 use Rattle.kc_cli.specs.Outcomes.{Seen, TellsSources, TellsTexts, TellsReplay, TellsSink}
 use Rattle.kc_cli.specs.declared.fault.TextFault.{TextFault}
 use Rattle.kc_cli.specs.declared.fault.TextFault.TheVariants as texts
@@ -68,7 +68,7 @@ are_replayed None trace_left config replies core c t = tt
 are_replayed (Some text) None config replies core c t = tt
 are_replayed (Some text) (Some trace) config replies core c t = (config, c, t)
 
-pub gives_replies : (config trace old new : Option (List ℕ)) (replies : List Reply) (core : State) → AreReplayed config trace replies core → Appends old new (reply_text_of replies) → Gives IsReplyText config trace old new
+pub gives_replies : (config trace old new : Option (List ℕ)) (replies : List Reply) (core : State) → AreReplayed config trace replies core → Appends old new (reply_text_of replies) → Writes IsReplyText config trace old new
 gives_replies None trace old new replies core h taken = tt
 gives_replies (Some config) None old new replies core h taken = tt
 gives_replies (Some config) (Some trace) old new replies core h taken =
@@ -82,7 +82,7 @@ begins_replies (Some config) (Some trace) old new replies core h taken =
     let r = h.2 in
     (reply_text_of replies, taken.0, (h.0, r.calls, record { configured = h.1; traced = r.traced }, ap reply_text_of r.given), taken.1)
 
-pub gives_state : (config trace old new : Option (List ℕ)) (replies : List Reply) (core : State) → AreReplayed config trace replies core → Appends old new (dump_text (dump_of core)) → Gives IsStateText config trace old new
+pub gives_state : (config trace old new : Option (List ℕ)) (replies : List Reply) (core : State) → AreReplayed config trace replies core → Appends old new (dump_text (dump_of core)) → Writes IsStateText config trace old new
 gives_state None trace old new replies core h taken = tt
 gives_state (Some config) None old new replies core h taken = tt
 gives_state (Some config) (Some trace) old new replies core h taken =

@@ -1,7 +1,7 @@
 -- What the engine of audits leaves of what its source held.
 use Rattle.std.specs.Prelude.{◌≡◌, ◌≢◌, ◌↔◌, ℕ, Bool, List, [], length, take, Option, Some, None, IsTrue}
 use Rattle.std.specs.Io.KnownBytes.{Appends}
-use Rattle.kc_dump.specs.Dumps.{Dumped}
+use Rattle.kc_dump.specs.Dump.{Dumped}
 use Rattle.kc_dump.specs.Sound.{IsSound}
 use Rattle.kc_dump_text.specs.Grammar.{IsDumpText}
 use Rattle.kc_audit.specs.declared.finding.Finding.{Finding}

@@ -39,7 +39,7 @@ pub record HaveRead (config_source trace_source : Option (List ℕ)) (config : C
 abbrev pub IsTold : TextFault → Type 0
 IsTold fault = (fault ≢ texts.Config configs.Memory) × (fault ≢ texts.Trace traces.Memory) × (fault ≢ texts.Dump dumps.Memory)
 
--- reading ends in a fault of an end, of a text or of memory
+-- reading ends in a fault of a source, of a text or of memory
 pub record IsReadingFault (fault : TextFault) : Type 0 where
   pub workers : fault ≢ texts.Workers
   pub start : fault ≢ texts.Start
@@ -86,10 +86,10 @@ IsStateText config_text trace_text text =
     (config : Configuration) × (calls : List Call) × AreRead config_text trace_text config calls × (text ≡ dump_text (dump_of (state_after (boot config) calls)))
 
 -- the sink took such a text of what the sources held, where all of them tell
-abbrev pub Gives : (List ℕ → List ℕ → List ℕ → Type 0) → Option (List ℕ) → Option (List ℕ) → Option (List ℕ) → Option (List ℕ) → Type 0
-Gives IsText None trace old new = Unit {0}
-Gives IsText (Some config) None old new = Unit {0}
-Gives IsText (Some config) (Some trace) old new = (text : List ℕ) × IsText config trace text × Appends old new text
+abbrev pub Writes : (List ℕ → List ℕ → List ℕ → Type 0) → Option (List ℕ) → Option (List ℕ) → Option (List ℕ) → Option (List ℕ) → Type 0
+Writes IsText None trace old new = Unit {0}
+Writes IsText (Some config) None old new = Unit {0}
+Writes IsText (Some config) (Some trace) old new = (text : List ℕ) × IsText config trace text × Appends old new text
 
 -- the same of a beginning of the text
 abbrev pub Begins : (List ℕ → List ℕ → List ℕ → Type 0) → Option (List ℕ) → Option (List ℕ) → Option (List ℕ) → Option (List ℕ) → Type 0

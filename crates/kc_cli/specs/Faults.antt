@@ -9,8 +9,8 @@ use Rattle.kc_dump_text.specs.declared.fault.DumpFault.{DumpFault}
 use Rattle.kc_dump_text.specs.declared.fault.DumpFault.TheVariants as dumps
 use Rattle.kc_live.specs.declared.fault.LiveCause.{LiveCause}
 use Rattle.kc_live.specs.declared.fault.LiveCause.TheVariants as causes
-use Rattle.kc_ends.specs.declared.whole.ReadFault.{ReadFault}
-use Rattle.kc_ends.specs.declared.whole.ReadFault.TheVariants as reads
+use Rattle.kc_io.specs.declared.whole.ReadFault.{ReadFault}
+use Rattle.kc_io.specs.declared.whole.ReadFault.TheVariants as reads
 use Rattle.kc_streams.specs.declared.stream.StreamFault.{StreamFault}
 use Rattle.kc_streams.specs.declared.stream.StreamFault.TheVariants as streams
 use Rattle.kc_cli.specs.declared.fault.TextFault.{TextFault}
@@ -22,10 +22,10 @@ read_fault reads.Memory = texts.Memory
 read_fault reads.Read = texts.Read
 
 -- the fault that a fault of a trace's source is
-abbrev pub stream_fault : StreamFault → TextFault
-stream_fault (streams.Trace fault) = texts.Trace fault
-stream_fault streams.Memory = texts.Memory
-stream_fault streams.Read = texts.Read
+abbrev pub text_fault : StreamFault → TextFault
+text_fault (streams.Trace fault) = texts.Trace fault
+text_fault streams.Memory = texts.Memory
+text_fault streams.Read = texts.Read
 
 -- the fault that a fault of a configuration's text is
 abbrev pub config_fault : ConfigTextFault → TextFault
@@ -46,7 +46,7 @@ live_fault causes.Start = texts.Start
 live_fault causes.Unsettled = texts.Unsettled
 live_fault (causes.NotYours program call) = texts.Unsettled
 
--- 3 where memory, a thread or an end failed, 2 where the input is refused
+-- 3 where memory, a thread, a source or the sink failed, 2 where the input is refused
 abbrev pub status_of : TextFault → ℕ
 status_of (texts.Config configs.Memory) = 3
 status_of (texts.Config fault) = 2
@@ -85,17 +85,17 @@ dump_words_of (dumps.Frame frame) = codes "kcore: dump frame "
 dump_words_of dumps.Memory = codes "kcore: out of memory"
 
 -- a line up to its number, or to its end where it has none
-abbrev pub words_of : TextFault → List ℕ
-words_of (texts.Config fault) = config_words_of fault
-words_of (texts.Trace fault) = trace_words_of fault
-words_of (texts.Dump fault) = dump_words_of fault
-words_of texts.Workers = codes "kcore: bad number of workers"
-words_of texts.Memory = codes "kcore: out of memory"
-words_of texts.Start = codes "kcore: a worker could not be started"
-words_of texts.Unsettled = codes "kcore: history not settled"
-words_of (texts.BadActor program) = codes "kcore: bad actor of program "
-words_of texts.Read = codes "kcore: read failed"
-words_of texts.Write = codes "kcore: write failed"
+abbrev pub fault_words : TextFault → List ℕ
+fault_words (texts.Config fault) = config_words_of fault
+fault_words (texts.Trace fault) = trace_words_of fault
+fault_words (texts.Dump fault) = dump_words_of fault
+fault_words texts.Workers = codes "kcore: bad number of workers"
+fault_words texts.Memory = codes "kcore: out of memory"
+fault_words texts.Start = codes "kcore: a worker could not be started"
+fault_words texts.Unsettled = codes "kcore: history not settled"
+fault_words (texts.BadActor program) = codes "kcore: bad actor of program "
+fault_words texts.Read = codes "kcore: read failed"
+fault_words texts.Write = codes "kcore: write failed"
 
 -- the number in a line
 abbrev pub line_number_of : TextFault → Option ℕ
@@ -115,5 +115,5 @@ tail_of (texts.Dump (dumps.Frame frame)) = codes " missing or doubled\n"
 tail_of fault = codes "\n"
 
 -- the whole line, with the line feed
-abbrev pub line_of : TextFault → List ℕ
-line_of fault = words_of fault ++ numeral_of (line_number_of fault) ++ tail_of fault
+abbrev pub fault_line : TextFault → List ℕ
+fault_line fault = fault_words fault ++ numeral_of (line_number_of fault) ++ tail_of fault

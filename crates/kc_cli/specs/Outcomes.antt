@@ -1,4 +1,4 @@
--- What the outcome of an engine tells of its ends.
+-- What the outcome of an engine tells of its sources and its sink.
 use Rattle.std.specs.Prelude.{◌≡◌, ◌≢◌, ◌<◌, ◌⊎◌, ◌↔◌, ℕ, Bool, true, List, [], ◌∷◌, Option, Result, Err, IfErr, IfSome, OnOk, OnErr, IsErrOf}
 use Rattle.std.specs.List.{AllByRecursion}
 use Rattle.std.specs.Io.KnownBytes.{IsAtEnd}
@@ -6,7 +6,7 @@ use Rattle.kc_trace.specs.declared.config_text.ConfigTextFault.{ConfigTextFault}
 use Rattle.kc_trace.specs.declared.fault.TraceFault.{TraceFault}
 use Rattle.kc_trace.specs.ConfigText.{config_in}
 use Rattle.kc_trace.specs.Trace.{IsRefused}
-use Rattle.kc_ends.specs.Ends.{ReadFailed}
+use Rattle.kc_io.specs.Ends.{ReadFailed}
 use Rattle.kc_cli.specs.Engine.{IsConfigured, IsTold}
 use Rattle.kc_cli.specs.declared.fault.TextFault.{TextFault}
 use Rattle.kc_cli.specs.declared.fault.TextFault.TheVariants as texts

@@ -1,9 +1,9 @@
-//! The engine that audits a dump, over any ends.
+//! The engine that audits a dump, over any source and any sink.
 ghost use Rattle.std.specs.Prelude.{◌≡◌, ◌≤◌, ◌⊎◌, ◌∷◌, [], length, false, IfOk, IfErr, IfSome, Err};
 ghost use Rattle.std.specs.Io.KnownBytes.{IsAtEnd};
 ghost use Rattle.kc_dump_text.specs.declared.fault.DumpFault.{DumpFault};
-ghost use Rattle.kc_dump_text.specs.Refused.{IsRefused};
-ghost use Rattle.kc_ends.specs.Ends.{byte_limit};
+ghost use Rattle.kc_dump_text.specs.Refused.{IsRefusedDump};
+ghost use Rattle.kc_io.specs.Ends.{byte_limit};
 ghost use Rattle.kc_cli.specs.Audit.{IsAudited, Audits, BeginsAudit, IsDumpFault};
 ghost use Rattle.kc_cli.specs.Outcomes.{seen, TellsSources, TellsSink};
 
@@ -11,7 +11,7 @@ use crate::TextFault;
 use arrayvec::ArrayString;
 use kc_audit::audit_parallel;
 use kc_dump_text::read_dump;
-use kc_ends::{Sink, Source, read_whole, write_whole};
+use kc_io::{Sink, Source, read_whole, write_whole};
 use kc_report::report;
 use std::alloc::Global;
 use std::thread::Threads;
@@ -25,7 +25,7 @@ fn audited(
     requires { length text.now ≤ byte_limit }
     ensures ok { IfOk result (λ audit. IsAudited text.now audit.0 audit.1.bytes) }
     ensures fault { IfErr result IsDumpFault }
-    ensures dump { (fault : DumpFault) → result ≡ Err (TextFault.Dump fault) → IsRefused text.now fault }
+    ensures dump { (fault : DumpFault) → result ≡ Err (TextFault.Dump fault) → IsRefusedDump text.now fault }
 {
     let dump = read_dump(alloc, text)?;
     let Ok(found) = audit_parallel(rt, alloc, &dump) else {
@@ -53,7 +53,7 @@ pub fn audit_text<D: Source, K: Sink>(
     ensures sink { TellsSink (K.failed out.new) (BeginsAudit (D.left dump.old) (K.taken out.old) (K.taken out.new)) (out.new ≡ out.old) result }
 
     // A fault of the dump is that of all the bytes that the source held, and no other fault comes.
-    ensures dump { (fault : DumpFault) → result ≡ Err (TextFault.Dump fault) → IfSome (D.left dump.old) (λ text. IsRefused text fault) × IsAtEnd (D.left dump.new) }
+    ensures dump { (fault : DumpFault) → result ≡ Err (TextFault.Dump fault) → IfSome (D.left dump.old) (λ text. IsRefusedDump text fault) × IsAtEnd (D.left dump.new) }
     ensures others { IfErr result (λ fault. IsDumpFault fault ⊎ ((fault ≡ TextFault.Read) ⊎ (fault ≡ TextFault.Write))) }
 {
     let text = read_whole(alloc, dump)?;

@@ -1,9 +1,9 @@
-//! The engine that dumps the core that a trace leaves, over any ends.
+//! The engine that dumps the core that a trace leaves, over any sources and any sink.
 ghost use Rattle.std.specs.Prelude.{◌≡◌, ◌≢◌, ◌⊎◌, ◌∷◌, [], ℕ, take, false, IfErr, IfOk, OnOk, OnErr, Err};
 ghost use Rattle.std.specs.Io.KnownBytes.{Appends};
 ghost use Rattle.kc_dump.specs.Dumping.{dump_of};
 ghost use Rattle.kc_dump_text.specs.DumpText.{dump_text as text_of_dump};
-ghost use Rattle.kc_cli.specs.Engine.{IsStateText, Gives, Begins};
+ghost use Rattle.kc_cli.specs.Engine.{IsStateText, Writes, Begins};
 ghost use Rattle.kc_cli.specs.Outcomes.{seen, TellsSources, TellsTexts, TellsReplay, TellsSink};
 
 use crate::TextFault;
@@ -11,7 +11,7 @@ use crate::replaying::replay_texts;
 use kc_audit::dump;
 use kc_core::KCore;
 use kc_dump_text::write_dump;
-use kc_ends::{Sink, Source, write_whole};
+use kc_io::{Sink, Source, write_whole};
 use kc_replay::Outcome;
 use kc_types::Memory;
 use std::alloc::Global;
@@ -71,7 +71,7 @@ pub fn dump_text<C: Source, T: Source, K: Sink, R: Threads + Wait + Sync>(
     requires out { K.failed out.old ≡ false }
 
     // What is written is the dump's text for what the sources held.
-    ensures ok { OnOk result (Gives IsStateText (C.left config.old) (T.left trace.old) (K.taken out.old) (K.taken out.new)) }
+    ensures ok { OnOk result (Writes IsStateText (C.left config.old) (T.left trace.old) (K.taken out.old) (K.taken out.new)) }
     ensures sources { TellsSources (seen (C.failed config.new) (C.left config.old) (C.left config.new) ∷ seen (T.failed trace.new) (T.left trace.old) (T.left trace.new) ∷ []) result }
     ensures texts { TellsTexts (seen (C.failed config.new) (C.left config.old) (C.left config.new)) (seen (T.failed trace.new) (T.left trace.old) (T.left trace.new)) (trace.new ≡ trace.old) result }
     ensures replay { TellsReplay workers (C.left config.old) result }

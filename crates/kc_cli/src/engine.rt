@@ -1,13 +1,13 @@
-//! The engine that replays a trace, over any ends.
+//! The engine that replays a trace, over any sources and any sink.
 ghost use Rattle.std.specs.Prelude.{◌≡◌, ◌≢◌, ◌⊎◌, ◌∷◌, [], ℕ, take, false, IfErr, OnOk, OnErr, Err};
 ghost use Rattle.std.specs.Io.KnownBytes.{Appends};
 ghost use Rattle.kc_trace.specs.ReplyText.{reply_text_of};
-ghost use Rattle.kc_cli.specs.Engine.{IsReplyText, Gives, Begins};
+ghost use Rattle.kc_cli.specs.Engine.{IsReplyText, Writes, Begins};
 ghost use Rattle.kc_cli.specs.Outcomes.{seen, TellsSources, TellsTexts, TellsReplay, TellsSink};
 
 use crate::TextFault;
 use crate::replaying::replay_texts;
-use kc_ends::{Sink, Source};
+use kc_io::{Sink, Source};
 use kc_replay::Outcome;
 use kc_streams::{empty_piece, give_replies};
 use std::alloc::Global;
@@ -58,7 +58,7 @@ pub fn replay_text<C: Source, T: Source, K: Sink, R: Threads + Wait + Sync>(
     requires out { K.failed out.old ≡ false }
 
     // What is written is the reply text of what the sources held.
-    ensures ok { OnOk result (Gives IsReplyText (C.left config.old) (T.left trace.old) (K.taken out.old) (K.taken out.new)) }
+    ensures ok { OnOk result (Writes IsReplyText (C.left config.old) (T.left trace.old) (K.taken out.old) (K.taken out.new)) }
     ensures sources { TellsSources (seen (C.failed config.new) (C.left config.old) (C.left config.new) ∷ seen (T.failed trace.new) (T.left trace.old) (T.left trace.new) ∷ []) result }
     ensures texts { TellsTexts (seen (C.failed config.new) (C.left config.old) (C.left config.new)) (seen (T.failed trace.new) (T.left trace.old) (T.left trace.new)) (trace.new ≡ trace.old) result }
     ensures replay { TellsReplay workers (C.left config.old) result }

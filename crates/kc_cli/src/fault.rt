@@ -1,9 +1,9 @@
-//! What goes wrong between the ends.
+//! What goes wrong between the sources and the sink.
 ghost use Rattle.std.specs.Prelude.{◌≡◌, ◌≤◌, length};
-ghost use Rattle.kc_cli.specs.Faults.{read_fault, stream_fault, config_fault, dump_fault, status_of, words_of, config_words_of, trace_words_of, dump_words_of, line_number_of, tail_of};
+ghost use Rattle.kc_cli.specs.Faults.{read_fault, text_fault, config_fault, dump_fault, status_of, fault_words, config_words_of, trace_words_of, dump_words_of, line_number_of, tail_of};
 
 use kc_dump_text::DumpFault;
-use kc_ends::ReadFault;
+use kc_io::ReadFault;
 use kc_streams::StreamFault;
 use kc_trace::{ConfigTextFault, TraceFault};
 use kc_types::ConfigFault;
@@ -56,7 +56,7 @@ impl From<ReadFault> for TextFault {
 }
 
 impl From<StreamFault> for TextFault {
-    ghost from_gives = { λ fault made. made ≡ stream_fault fault };
+    ghost from_gives = { λ fault made. made ≡ text_fault fault };
 
     fn from(fault: StreamFault) -> TextFault {
         match fault {
@@ -90,7 +90,7 @@ impl From<DumpFault> for TextFault {
 }
 
 impl TextFault {
-    /// The exit status: 2 where the input is refused, 3 where memory or an end failed.
+    /// The exit status: 2 where the input is refused, 3 where memory, a thread, a source or the sink failed.
     pub const fn status(&self) -> u8
         ensures { result ≡ status_of self.now }
     {
@@ -113,7 +113,7 @@ impl TextFault {
 
     /// The words of its line, up to a number or the end.
     pub(crate) const fn words(&self) -> &'static str
-        ensures text { result.now ≡ words_of self.now }
+        ensures text { result.now ≡ fault_words self.now }
         ensures short { length result.now ≤ 48 }
     {
         match self {

@@ -1,4 +1,4 @@
-//! The engine that runs a trace live, over any ends.
+//! The engine that runs a trace live, over any sources and any sink.
 ghost use Rattle.std.specs.Prelude.{◌≡◌, ◌≢◌, ◌<◌, ◌≤◌, ◌⊎◌, ◌↔◌, ◌∷◌, [], ℕ, length, map, take, false, IfOk, IfErr, OnOk, OnErr, Err, IsErrOf};
 ghost use Rattle.std.specs.Io.KnownBytes.{Appends};
 ghost use Rattle.kc_types.specs.Limits.{call_limit};
@@ -6,9 +6,9 @@ ghost use Rattle.kc_model.specs.Boot.{boot};
 ghost use Rattle.kc_model.specs.Next.{state_after};
 ghost use Rattle.kc_model.specs.Wiped.{wiped};
 ghost use Rattle.kc_live.specs.Cuts.{KeepsOrders, MayRun};
-ghost use Rattle.kc_history.specs.Logs.{calls_of};
+ghost use Rattle.kc_history.specs.Book.{calls_of};
 ghost use Rattle.kc_trace.specs.Spelling.{trace_of};
-ghost use Rattle.kc_cli.specs.Engine.{Gives, Begins};
+ghost use Rattle.kc_cli.specs.Engine.{Writes, Begins};
 ghost use Rattle.kc_cli.specs.Outcomes.{seen, TellsSources, TellsTexts, TellsSink};
 ghost use Rattle.kc_cli.specs.Faults.{live_fault};
 ghost use Rattle.kc_cli.specs.Live.{IsLiveFault, CouldRun, IsLiveText, HasBadActor};
@@ -16,7 +16,7 @@ ghost use Rattle.kc_cli.specs.Live.{IsLiveFault, CouldRun, IsLiveText, HasBadAct
 use crate::TextFault;
 use crate::reading::read_both;
 use kc_core::KCore;
-use kc_ends::{Sink, Source};
+use kc_io::{Sink, Source};
 use kc_live::{Entry, History, LiveCause, LiveStop, run_trace};
 use kc_replay::{Gate, OpenGate, Outcome, ReplayFault, replay};
 use kc_streams::{empty_piece, give_trace};
@@ -184,7 +184,7 @@ pub fn live_text<C: Source, T: Source, K: Sink, G: Gate + Sync, R: Threads + Wai
     requires out { K.failed out.old ≡ false }
 
     // What is written is the trace read, which may run, in an order that keeps each actor's.
-    ensures ok { OnOk result (Gives IsLiveText (C.left config.old) (T.left trace.old) (K.taken out.old) (K.taken out.new)) }
+    ensures ok { OnOk result (Writes IsLiveText (C.left config.old) (T.left trace.old) (K.taken out.old) (K.taken out.new)) }
     ensures sources { TellsSources (seen (C.failed config.new) (C.left config.old) (C.left config.new) ∷ seen (T.failed trace.new) (T.left trace.old) (T.left trace.new) ∷ []) result }
     ensures texts { TellsTexts (seen (C.failed config.new) (C.left config.old) (C.left config.new)) (seen (T.failed trace.new) (T.left trace.old) (T.left trace.new)) (trace.new ≡ trace.old) result }
     ensures sink { TellsSink (K.failed out.new) (Begins IsLiveText (C.left config.old) (T.left trace.old) (K.taken out.old) (K.taken out.new)) (out.new ≡ out.old) result }

@@ -4,12 +4,12 @@ ghost use Rattle.std.specs.Io.KnownBytes.{IsAtEnd};
 ghost use Rattle.kc_types.specs.Limits.{call_limit};
 ghost use Rattle.kc_trace.specs.declared.config_text.ConfigTextFault.{ConfigTextFault};
 ghost use Rattle.kc_trace.specs.ConfigText.{config_in};
-ghost use Rattle.kc_ends.specs.Ends.{ReadFailed};
+ghost use Rattle.kc_io.specs.Ends.{ReadFailed};
 ghost use Rattle.kc_cli.specs.Engine.{HaveRead, IsReadingFault, IsConfigFault};
 ghost use Rattle.kc_cli.specs.Outcomes.{seen, TellsSources, TellsTexts};
 
 use crate::TextFault;
-use kc_ends::{Source, read_whole};
+use kc_io::{Source, read_whole};
 use kc_streams::read_calls;
 use kc_trace::read_config;
 use kc_types::{Call, Config};

@@ -6,14 +6,14 @@ ghost use Rattle.kc_types.specs.declared.reply.Reply.{Reply};
 ghost use Rattle.kc_types.specs.declared.call.Call.{Call};
 ghost use Rattle.kc_trace.specs.declared.fault.TraceFault.{TraceFault};
 ghost use Rattle.kc_trace.specs.Trace.{IsTrace, IsRefused};
-ghost use Rattle.kc_ends.specs.Ends.{ReadFailed};
-ghost use Rattle.kc_replay.specs.Segments.{IsFed};
+ghost use Rattle.kc_io.specs.Ends.{ReadFailed};
+ghost use Rattle.kc_replay.specs.Replayer.{IsFed};
 ghost use Rattle.kc_cli.specs.Engine.{IsReplayed, AreReplayed, IsReplayFault};
 ghost use Rattle.kc_cli.specs.Outcomes.{seen, TellsSources, TellsTexts, TellsReplay};
 
 use crate::TextFault;
 use crate::reading::read_configuration;
-use kc_ends::Source;
+use kc_io::Source;
 use kc_replay::{OpenGate, Outcome, ReplayFault, Replayer};
 use kc_streams::CallStream;
 use kc_types::{Call, Config, Reply};

@@ -3,7 +3,7 @@ use Rattle.std.proofs.Common.{◌≡◌, List, [], ◌∷◌, ◌++◌, Result, 
 use Rattle.kc_types.specs.declared.call.Call.{Call}
 use Rattle.kc_model.specs.State.{State}
 use Rattle.kc_model.specs.Next.{next, replies_from, state_after}
-use Rattle.kc_model.proofs.Runs.{replies_from-append, state_after-append}
+use Rattle.kc_model.proofs.States.Runs.{replies_from-append, state_after-append}
 
 pub replies_more : (m : State) (calls : List Call) (call : Call) → replies_from m (calls ++ call ∷ []) ≡ replies_from m calls ++ (next (state_after m calls) call).0 ∷ []
 replies_more m calls call = replies_from-append m calls (call ∷ [])

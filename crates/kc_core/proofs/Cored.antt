@@ -12,14 +12,14 @@ use Rattle.kc_model.specs.Lawful.{IsLawful, same_owner}
 use Rattle.kc_model.specs.Next.{next}
 use Rattle.kc_model.specs.Ranged.{IsRanged}
 use Rattle.kc_model.specs.Resources.{need, names_frame, slot_of, uses_free, of_slot, exists_slot, listed_in, is_in}
-use Rattle.kc_model.proofs.Keeps.{lawful-next}
-use Rattle.kc_model.proofs.Orderly.{listed-owned}
-use Rattle.kc_model.proofs.Changes.{exists}
-use Rattle.kc_model.proofs.LawfulTraces.{orderly-is}
-use Rattle.kc_parts.specs.Held.{Held, page_at, vm_at}
+use Rattle.kc_model.proofs.Lawful.Keeps.{lawful-next}
+use Rattle.kc_model.proofs.Local.Orderly.{listed-owned}
+use Rattle.kc_model.proofs.States.Changes.{exists}
+use Rattle.kc_model.proofs.Lawful.LawfulTraces.{orderly-is}
+use Rattle.kc_parts.specs.Parts.{Held, page_at, vm_at}
 use Rattle.kc_parts.specs.States.{state_of, here_of, IsLinked}
-use Rattle.kc_calls.specs.Applying.{IsAble, IsSameRoom}
-use Rattle.kc_core.specs.Cores.{IsCore}
+use Rattle.kc_calls.specs.Applying.{IsAble, KeepsPlaces}
+use Rattle.kc_core.specs.KCore.{IsCore}
 
 not_core : (owner other : Owner) → same_owner owner other ≡ true → (same_owner Core other ≡ false) → owner ≡ Core → ⊥
 not_core owner other same differs core = let no : same_owner owner other ≡ false = ap (λ o. same_owner o other) core ∙ differs in cc
@@ -67,7 +67,7 @@ module _ (config : Configuration) (h : Held) (is : IsCore config h) where
       here resource.Free needed = is.whole.free
 
 -- a core keeps itself where all that was here stays, and the state is lawful
-pub core-kept : (config : Configuration) (old new : Held) → IsCore config old → IsLawful (state_of config new) → IsLinked config new → IsSameRoom old new → IsCore config new
+pub core-kept : (config : Configuration) (old new : Held) → IsCore config old → IsLawful (state_of config new) → IsLinked config new → KeepsPlaces old new → IsCore config new
 core-kept config old new is lawful linked room = record {
   lawful = lawful;
   linked = linked;

@@ -9,10 +9,10 @@ use Rattle.kc_model.specs.Links.{first_of}
 use Rattle.kc_model.specs.Linked.{last_of, ends_of}
 use Rattle.kc_links.specs.Chain.{Links, first_or, last_or}
 use Rattle.kc_links.specs.Ending.{Chain, listed}
-use Rattle.kc_vms.specs.Slots.{VmSlot}
-use Rattle.kc_parts.specs.Held.{Held, vm_at, links_of}
+use Rattle.kc_vms.specs.Vm.{VmSlot}
+use Rattle.kc_parts.specs.Parts.{Held, vm_at, links_of}
 use Rattle.kc_parts.specs.States.{list_in, state_of}
-use Rattle.kc_core.specs.Cores.{IsCore}
+use Rattle.kc_core.specs.KCore.{IsCore}
 use Rattle.kc_core.proofs.Shown.{vm-listed}
 
 -- the first and the last of a sequence, by its links and by itself

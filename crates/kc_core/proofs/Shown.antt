@@ -9,7 +9,7 @@ use Rattle.std.proofs.lemmas.List.Elements.{filter-append}
 use Rattle.std.proofs.lemmas.List.FromFn.{map-range_with_len_more, length-map-range_with_len}
 use Rattle.std.proofs.lemmas.Option.{same_Some}
 use Rattle.kc_types.specs.Limits.{frame_limit}
-use Rattle.kc_model.proofs.Configurations.{few-frames}
+use Rattle.kc_model.proofs.States.Configurations.{few-frames}
 use Rattle.kc_types.specs.Configuration.{Configuration, slot_count}
 use Rattle.kc_types.specs.declared.link.Ends.{Ends}
 use Rattle.kc_types.specs.declared.link.Link.{Link}
@@ -20,15 +20,15 @@ use Rattle.kc_model.specs.Lawful.{same_owner, times_in}
 use Rattle.kc_model.specs.Links.{link_after, link_in, link_at, list_of, first_of}
 use Rattle.kc_page.specs.declared.page.Page.{Page}
 use Rattle.kc_page.specs.declared.page.PageRecord.{PageRecord}
-use Rattle.kc_page.specs.Pages.{frame_of, IsRecordOf}
-use Rattle.kc_vms.specs.Slots.{VmSlot}
-use Rattle.kc_links.specs.Chain.{Links, IsLinked as IsLinkedFrom, first_or}
+use Rattle.kc_page.specs.Page.{frame_of, IsRecordOf}
+use Rattle.kc_vms.specs.Vm.{VmSlot}
+use Rattle.kc_links.specs.Chain.{Links, NamesNeighbours as IsLinkedFrom, first_or}
 use Rattle.kc_links.specs.Ending.{listed, IsList}
 use Rattle.kc_links.proofs.Neighbours.{link_in-linked}
-use Rattle.kc_parts.specs.Held.{Held, page_at, vm_at, link_of, links_of}
+use Rattle.kc_parts.specs.Parts.{Held, page_at, vm_at, link_of, links_of}
 use Rattle.kc_parts.specs.States.{frame_in, slot_in, list_in, state_of}
 use Rattle.kc_parts.proofs.Seen.{frame-seen, slot-seen}
-use Rattle.kc_core.specs.Cores.{IsCore, shown, ShowsRecord}
+use Rattle.kc_core.specs.KCore.{IsCore, shown, ShowsRecord}
 
 one-of : (there : Bool) (n : ℕ) → there ≡ true → n ≡ cond there 1 0 → 0 < n
 one-of true n is e = omega (arith, e)

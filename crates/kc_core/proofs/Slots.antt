@@ -9,10 +9,10 @@ use Rattle.kc_types.specs.Configuration.{Configuration, slot_count}
 use Rattle.kc_types.specs.declared.owner.Owner.TheVariants.{Core, Vm}
 use Rattle.kc_model.specs.State.{State, Slot, Vcpu, slot_at, vcpu_at, mapped_at, absent_vcpu}
 use Rattle.kc_model.specs.Lawful.{IsLawful}
-use Rattle.kc_model.proofs.Changes.{exists}
-use Rattle.kc_model.proofs.Slots.{at-no_vcpus, slot-past}
-use Rattle.kc_vms.specs.Slots.{VmSlot}
-use Rattle.kc_parts.specs.Held.{Held, vm_at, links_of}
+use Rattle.kc_model.proofs.States.Changes.{exists}
+use Rattle.kc_model.proofs.States.Slots.{at-no_vcpus, slot-past}
+use Rattle.kc_vms.specs.Vm.{VmSlot}
+use Rattle.kc_parts.specs.Parts.{Held, vm_at, links_of}
 use Rattle.kc_parts.specs.States.{slot_in, unlinked_slot, state_of}
 use Rattle.kc_parts.proofs.Seen.{slot-seen}
 

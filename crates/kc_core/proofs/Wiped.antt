@@ -12,13 +12,13 @@ use Rattle.kc_types.specs.declared.owner.Owner.{Owner}
 use Rattle.kc_types.specs.declared.owner.Owner.TheVariants.{Core, Host, Free, Vm}
 use Rattle.kc_model.specs.State.{Frame}
 use Rattle.kc_model.specs.Wiped.{wiped, wiped_frame}
-use Rattle.kc_model.proofs.Wipes.{lawful-wiped}
+use Rattle.kc_model.proofs.Lawful.Wipes.{lawful-wiped}
 use Rattle.kc_page.specs.declared.page.Page.{Page}
-use Rattle.kc_page.specs.Pages.{frame_of, scrubbed_page}
-use Rattle.kc_parts.specs.Held.{Held, is_filled, place_of, place_in, page_at, vm_at, link_of, links_of, ends_at}
+use Rattle.kc_page.specs.Page.{frame_of, scrubbed_page}
+use Rattle.kc_parts.specs.Parts.{Held, is_filled, place_of, place_in, page_at, vm_at, link_of, links_of, ends_at}
 use Rattle.kc_parts.specs.States.{frame_in, slot_in, list_in, state_of, owner_at}
 use Rattle.kc_parts.proofs.Moving.{lists-same}
-use Rattle.kc_core.specs.Cores.{IsCore}
+use Rattle.kc_core.specs.KCore.{IsCore}
 use Rattle.kc_core.proofs.Shown.{pages-frames}
 
 -- all elements are written back

@@ -1,2 +1,2 @@
-pub mod Cores
+pub mod KCore
 pub mod Runs

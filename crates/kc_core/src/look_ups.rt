@@ -4,9 +4,9 @@ ghost use Rattle.kc_model.specs.Lawful.{same_owner};
 ghost use Rattle.kc_model.specs.Links.{frames_of, owned_by};
 ghost use Rattle.kc_model.specs.State.{frame_at, slot_at};
 ghost use Rattle.kc_links.specs.Ending.{listed};
-ghost use Rattle.kc_parts.specs.Held.{links_of, page_at};
+ghost use Rattle.kc_parts.specs.Parts.{links_of, page_at};
 ghost use Rattle.kc_parts.specs.States.{state_of};
-ghost use Rattle.kc_core.specs.Cores.{ShowsRecord};
+ghost use Rattle.kc_core.specs.KCore.{ShowsRecord};
 
 use kc_links::walk;
 use kc_page::PageRecord;

@@ -1,6 +1,6 @@
 //! The core, seen as a state that is lawful after every call.
 ghost use Rattle.std.specs.Prelude.{◌≡◌, ℕ, ◌+◌, ◌<◌, ◌≤◌, List, length, take, map, All, IsSome, IfSome, ◌↔◌, IfOk, IfErr, IsErr, OnOk, OnErr, true};
-ghost use Rattle.kc_types.specs.Room.{is_data, room_of};
+ghost use Rattle.kc_types.specs.ReplyBytes.{is_data, most_reply_bytes};
 ghost use Rattle.kc_model.specs.Boot.{boot};
 ghost use Rattle.kc_model.specs.Next.{next, replies_from, state_after};
 ghost use Rattle.kc_model.specs.Lawful.{IsLawful};
@@ -14,16 +14,18 @@ ghost use Rattle.kc_model.specs.State.{frame_at, slot_at, vcpu_at, mapped_at};
 ghost use Rattle.kc_model.specs.Links.{frames_of};
 ghost use Rattle.kc_model.specs.Linked.{ends_of};
 ghost use Rattle.kc_model.specs.Wiped.{wiped};
-ghost use Rattle.kc_page.specs.Pages.{frame_of, IsRecordOf};
+ghost use Rattle.kc_page.specs.Page.{frame_of, IsRecordOf};
 ghost use Rattle.kc_parts.specs.States.{state_of, unlinked_slot};
-ghost use Rattle.kc_core.specs.Cores.{IsCore};
+ghost use Rattle.kc_core.specs.KCore.{IsCore};
 
 use crate::look_ups::{frames_of, page_record};
 use crate::ranged::{read_all_numbers, read_numbers};
 use kc_calls::{answer, apply};
 use kc_page::{Page, PageBytes, PageRecord, scrub_all};
 use kc_parts::Parts;
-use kc_types::{Call, Config, Ends, FrameNo, Gfn, Memory, Owner, Phase, Reply, Spare, VcpuId};
+use kc_types::{
+    Call, Config, Ends, FrameNo, Gfn, Memory, Owner, Phase, Reply, ReplyBuffer, VcpuId,
+};
 use kc_vms::Vm;
 use std::alloc::Global;
 use std::marker::Model;
@@ -48,7 +50,7 @@ impl Model for KCore {
     ghost coded = { Prim.hlevel (codes, map.code {R = nat_cmp} coded_ℕ coded_ℕ) };
 
     ghost use Rattle.kc_parts.specs.States.{state_of};
-    ghost use Rattle.kc_core.specs.Cores.{IsCore};
+    ghost use Rattle.kc_core.specs.KCore.{IsCore};
 
     ghost view = { λ k. state_of k.config k.parts };
 
@@ -101,8 +103,8 @@ impl KCore {
 
     /// Answers a call: with the first refusal that applies, and then nothing has changed, or with its effect. The
     /// bytes of the reply lie in room made before by `Call::spare`, and nothing takes memory.
-    pub fn answer(&mut self, call: &Call, room: Spare) -> Reply
-        requires { room_of call.now ≤ room }
+    pub fn answer(&mut self, call: &Call, room: ReplyBuffer) -> Reply
+        requires { most_reply_bytes call.now ≤ room }
         ensures reply { result ≡ (next self.old call.now).0 }
         ensures state { self.new ≡ (next self.old call.now).1 }
         ensures lawful { IsLawful self.new }

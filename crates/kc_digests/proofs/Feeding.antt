@@ -10,7 +10,7 @@ use Rattle.sha2.specs.Sha256.{compress, digest_bytes, hash_after, initial_hash_2
 use Rattle.sha2.proofs.Absorbing256.{hash_after-append, hash_after_next}
 use Rattle.kc_digests.specs.declared.measure.MeasureFour.{MeasureFour}
 use Rattle.kc_digests.specs.Lanes.{of_four, state_lane}
-use Rattle.kc_digests.specs.Measures.{WasFed}
+use Rattle.kc_digests.specs.MeasureFour.{LaneWasFed}
 use Rattle.kc_digests.proofs.LaneLemmas.{below_four}
 
 -- what is done to each of four lists
@@ -36,7 +36,7 @@ hash_after_more ini m p (suc k) whole =
 
 -- whole blocks more are fed
 pub fed-more : (measure next : MeasureFour) (j : ℕ) (m p : List ℕ) → length p % 64 ≡ 0 → next.len ≡ (measure.len + length p) % 2 ^ 64
-    → state_lane j next.state ≡ hash_after (state_lane j measure.state) p (length p / 64) → WasFed measure j m → WasFed next j (m ++ p)
+    → state_lane j next.state ≡ hash_after (state_lane j measure.state) p (length p / 64) → LaneWasFed measure j m → LaneWasFed next j (m ++ p)
 fed-more measure next j m p whole count hash fed =
     let len = length-append m p in
     let before = fed.whole in
@@ -82,7 +82,7 @@ last-blocks tail front bytes len end n k same is to at short =
 
 -- the digest of a message whose last part and padding were fed
 pub digest-ended : (measure : MeasureFour) (j : ℕ) (m part last : List ℕ) (whole len : ℕ) → last ≡ drop whole part ++ padding len → len ≡ length (m ++ part) % 2 ^ 64
-    → WasFed measure j ((m ++ take whole part) ++ last) → digest_bytes (state_lane j measure.state) 8 ≡ sha256 (m ++ part)
+    → LaneWasFed measure j ((m ++ take whole part) ++ last) → digest_bytes (state_lane j measure.state) 8 ≡ sha256 (m ++ part)
 unfolding sha256
 digest-ended measure j m part last whole len ends is fed =
     let message : (m ++ take whole part) ++ drop whole part ≡ m ++ part =

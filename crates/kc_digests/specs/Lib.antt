@@ -1,3 +1,3 @@
 pub mod Lanes
 pub mod Digests
-pub mod Measures
+pub mod MeasureFour

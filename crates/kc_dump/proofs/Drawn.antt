@@ -15,15 +15,15 @@ use Rattle.kc_model.specs.State.{State, Frame, Slot, frame_at, slot_at, untouche
 use Rattle.kc_model.specs.Lawful.{IsLawful, IsLawfulSlot, same_owner, times_in, ListsOnce}
 use Rattle.kc_model.specs.Links.{first_of, link_after, link_in, link_at, list_of}
 use Rattle.kc_model.specs.Linked.{ends_of}
-use Rattle.kc_model.proofs.Members.{IsOnce, once-rest, same_number}
-use Rattle.kc_links.specs.Chain.{Links, IsLinked, first_or, unlinked}
+use Rattle.kc_model.proofs.States.Members.{IsOnce, once-rest, same_number}
+use Rattle.kc_links.specs.Chain.{Links, NamesNeighbours, first_or, unlinked}
 use Rattle.kc_links.proofs.Times.{times-same, times-other, once-first}
 use Rattle.kc_dump.specs.declared.line.FrameLine.{FrameLine}
-use Rattle.kc_dump.specs.Dumps.{Dumped, SlotDump, absent_line, line_at, owner_at, link_of, links_of, no_ends, empty_dump, maps}
-use Rattle.kc_dump.specs.Dumps as dumps
+use Rattle.kc_dump.specs.Dump.{Dumped, SlotDump, absent_line, line_at, line_owner, line_link, line_links, no_ends, empty_dump, maps}
+use Rattle.kc_dump.specs.Dump as dumps
 use Rattle.kc_dump.specs.Sound.{IsSoundFrame, IsSoundSlot, IsSound}
 use Rattle.kc_dump.specs.Lists.{HasList}
-use Rattle.kc_dump.specs.Dumping.{line_of, slot_dump, dump_of}
+use Rattle.kc_dump.specs.Dumping.{frame_line, slot_dump, dump_of}
 use Rattle.sha2.specs.Sha256.{sha256}
 use Rattle.kc_dump.proofs.Owners.{same-is}
 use Rattle.kc_stage2.proofs.Rising.{empty-entries}
@@ -31,7 +31,7 @@ use Rattle.kc_core.proofs.Ended.{first-same, last-same}
 use Rattle.kc_dump.proofs.Entries.{entry-get}
 
 -- a list whose members have their neighbours in it as links is linked
-linked-by : (links : Links) (before : Option ℕ) (fs : List ℕ) → IsOnce fs → ((f : ℕ) → 0 < times_in fs f → links f ≡ Some (link_after before fs f)) → IsLinked links before fs None
+linked-by : (links : Links) (before : Option ℕ) (fs : List ℕ) → IsOnce fs → ((f : ℕ) → 0 < times_in fs f → links f ≡ Some (link_after before fs f)) → NamesNeighbours links before fs None
 linked-by links before [] once each = tt
 linked-by links before (x ∷ xs) once each = (
   each x (let t = times-same x xs in omega (arith, t)) ∙ ap Some (here (nat_eq x x) (same_number x)),
@@ -59,21 +59,21 @@ module _ (m : State) (is : IsLawful m) where
   lines = (dump_of m).frames
 
   pub long : length lines ≡ m.config.frames
-  long = length-map-range_with_len (λ f. line_of (frame_at m f) (link_at m f)) 0 m.config.frames
+  long = length-map-range_with_len (λ f. frame_line (frame_at m f) (link_at m f)) 0 m.config.frames
 
-  pub line-low : (f : ℕ) → f < m.config.frames → line_at lines f ≡ line_of (frame_at m f) (link_at m f)
-  line-low f low = get_or-map-range_with_len (λ g. line_of (frame_at m g) (link_at m g)) 0 m.config.frames f f absent_line low (omega arith)
+  pub line-low : (f : ℕ) → f < m.config.frames → line_at lines f ≡ frame_line (frame_at m f) (link_at m f)
+  line-low f low = get_or-map-range_with_len (λ g. frame_line (frame_at m g) (link_at m g)) 0 m.config.frames f f absent_line low (omega arith)
 
   line-past : (f : ℕ) → m.config.frames ≤ f → line_at lines f ≡ absent_line
   line-past f past = get_or_past lines f absent_line (rw long past)
 
-  owner-same : (f : ℕ) → owner_at lines f ≡ (frame_at m f).owner
+  owner-same : (f : ℕ) → line_owner lines f ≡ (frame_at m f).owner
   owner-same f = elim (cases_lt f m.config.frames) [
     | inl low ↦ ap (λ (l : FrameLine). l.owner) (line-low f low)
     | inr past ↦ ap (λ (l : FrameLine). l.owner) (line-past f past) ∙ sym (ap (λ (x : Frame). x.owner) (get_or_past m.frames f (untouched Core) (rw is.frames past)))
   ]
 
-  links-low : (f : ℕ) → f < m.config.frames → links_of lines f ≡ Some (link_at m f)
+  links-low : (f : ℕ) → f < m.config.frames → line_links lines f ≡ Some (link_at m f)
   links-low f low =
       let at : slice_get lines f ≡ Some (get_or lines f absent_line) = slice_get-get_or lines f absent_line (rw long low) in
       ap (option_map (λ (l : FrameLine). linking l)) at ∙ ap (λ l. Some (linking l)) (line-low f low)
@@ -109,7 +109,7 @@ module _ (m : State) (is : IsLawful m) where
         head = sym (first-same fs);
         tail = sym (last-same None fs);
         count = refl;
-        linked = linked-by (links_of lines) None fs (at-most p fs lists) (λ f some.
+        linked = linked-by (line_links lines) None fs (at-most p fs lists) (λ f some.
             let mine = member p fs lists f some in
             links-low f (below f (λ core. other (sym mine ∙ core))) ∙ ap (λ l. Some (link_in l f)) (ap (list_of m) mine ∙ listed));
       };
@@ -160,7 +160,7 @@ module _ (m : State) (is : IsLawful m) where
     | inr past ↦ ap (λ (l : FrameLine). l.gfn) (line-past f past) ∙ sym (ap (λ (x : Frame). x.gfn) (get_or_past m.frames f (untouched Core) (rw is.frames past)))
   ]
 
-  mapped-drawn : (v g f : ℕ) → (maps (dumps.slot_at (dump_of m) v) g f ≡ true) ↔ ((owner_at lines f ≡ Vm v) × ((line_at lines f).gfn ≡ Some g))
+  mapped-drawn : (v g f : ℕ) → (maps (dumps.slot_at (dump_of m) v) g f ≡ true) ↔ ((line_owner lines f ≡ Vm v) × ((line_at lines f).gfn ≡ Some g))
   mapped-drawn v g f = elim (cases_lt v (slot_count m.config)) [
     | inl low ↦
         let there : maps (dumps.slot_at (dump_of m) v) g f ≡ maps (slot_dump (slot_at m v)) g f = ap (λ s. maps s g f) (slot-low v (rw slots low)) in

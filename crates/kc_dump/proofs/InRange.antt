@@ -20,8 +20,8 @@ use Rattle.kc_links.proofs.Times.{times-same}
 use Rattle.sha2.specs.Sha256.{sha256}
 use Rattle.sha2.proofs.Facts256.{length-sha256}
 use Rattle.kc_dump.specs.declared.line.FrameLine.{FrameLine}
-use Rattle.kc_dump.specs.Dumps.{SlotDump, empty_dump}
-use Rattle.kc_dump.specs.Dumping.{line_of, dump_of}
+use Rattle.kc_dump.specs.Dump.{SlotDump, empty_dump}
+use Rattle.kc_dump.specs.Dumping.{frame_line, dump_of}
 use Rattle.kc_dump.proofs.Sums.{sum-times, sum-ones}
 use Rattle.kc_dump.proofs.Entries.{entry-get, left, right, above, place-entry}
 use Rattle.kc_dump.proofs.Digests.{digest-bytes}
@@ -140,10 +140,10 @@ module _ (m : State) (is : IsLawful m) where
     rising = λ v n low. subst (λ (s : SlotDump). suc n < length s.entries → (get_or s.entries n (0, 0)).0 < (get_or s.entries (suc n) (0, 0)).0) (sym (slot-low m is v low))
         (λ within. sorted-rising (entries (slot_at m v).mapped) n (entries_sorted (slot_at m v).mapped) within);
     frames = λ f within. (let low : f < m.config.frames = rw (long m is) at within in
-        ap (λ (l : FrameLine). is_frame m.config.version (length (dump_of m).frames) l) (line-low m is f low) ∙ ap (λ n. is_frame m.config.version n (line_of (frame_at m f) (link_at m f))) (long m is) ∙ line-in f low);
+        ap (λ (l : FrameLine). is_frame m.config.version (length (dump_of m).frames) l) (line-low m is f low) ∙ ap (λ n. is_frame m.config.version n (frame_line (frame_at m f) (link_at m f))) (long m is) ∙ line-in f low);
   }
     where
-      line-in : (f : ℕ) → f < m.config.frames → is_frame m.config.version m.config.frames (line_of (frame_at m f) (link_at m f)) ≡ true
+      line-in : (f : ℕ) → f < m.config.frames → is_frame m.config.version m.config.frames (frame_line (frame_at m f) (link_at m f)) ≡ true
       line-in f low =
           let frame = is.each_frame f (rw is.frames low) in
           let links = near-of f (frame_at m f).owner refl low in

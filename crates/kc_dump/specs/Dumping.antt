@@ -7,11 +7,11 @@ use Rattle.kc_model.specs.State.{State, Frame, Slot, frame_at, slot_at}
 use Rattle.kc_model.specs.Links.{Link, link_at}
 use Rattle.kc_model.specs.Linked.{ends_of}
 use Rattle.kc_dump.specs.declared.line.FrameLine.{FrameLine}
-use Rattle.kc_dump.specs.Dumps.{Dumped, SlotDump}
+use Rattle.kc_dump.specs.Dump.{Dumped, SlotDump}
 
 -- a frame with its neighbours
-abbrev pub line_of : Frame → Link → FrameLine
-line_of frame link = record {
+abbrev pub frame_line : Frame → Link → FrameLine
+frame_line frame link = record {
   owner = frame.owner;
   share = frame.share;
   gfn = frame.gfn;
@@ -26,15 +26,15 @@ abbrev pub digests_of : State → List (List ℕ)
 digests_of m = map (λ (frame : Frame). sha256 frame.bytes) m.frames
 
 -- the first frames, so many of them
-abbrev pub lines_of : State → ℕ → List FrameLine
-lines_of m n = map (λ f. line_of (frame_at m f) (link_at m f)) (range_with_len 0 n)
+abbrev pub frame_lines : State → ℕ → List FrameLine
+frame_lines m n = map (λ f. frame_line (frame_at m f) (link_at m f)) (range_with_len 0 n)
 
 abbrev pub slot_dump : Slot → SlotDump
 slot_dump slot = record { phase = slot.phase; list = ends_of slot.frames; leaves = slot.leaves; entries = finite.entries slot.mapped }
 
 -- the first slots, so many of them
-abbrev pub slots_of : State → ℕ → List SlotDump
-slots_of m n = map (λ v. slot_dump (slot_at m v)) (range_with_len 0 n)
+abbrev pub slot_dumps : State → ℕ → List SlotDump
+slot_dumps m n = map (λ v. slot_dump (slot_at m v)) (range_with_len 0 n)
 
 abbrev pub dump_of : State → Dumped
 dump_of m = record {
@@ -43,5 +43,5 @@ dump_of m = record {
   leaves = m.config.leaves;
   free = ends_of m.free;
   slots = map slot_dump m.slots;
-  frames = lines_of m m.config.frames;
+  frames = frame_lines m m.config.frames;
 }

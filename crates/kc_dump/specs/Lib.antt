@@ -1,4 +1,4 @@
-pub mod Dumps
+pub mod Dump
 pub mod Ranges
 pub mod Lists
 pub mod Sums

@@ -8,7 +8,7 @@ use Rattle.kc_types.specs.declared.link.Ends.{Ends}
 use Rattle.kc_types.specs.declared.owner.Owner.{Owner}
 use Rattle.kc_types.specs.declared.owner.Owner.TheVariants.{Core, Host, Free, Vm}
 use Rattle.kc_dump.specs.declared.line.FrameLine.{FrameLine}
-use Rattle.kc_dump.specs.Dumps.{Dumped, line_at, slot_at}
+use Rattle.kc_dump.specs.Dump.{Dumped, line_at, slot_dump_at}
 
 -- there is none, or it is below the limit
 abbrev pub is_below : ℕ → Option ℕ → Bool
@@ -44,11 +44,11 @@ pub record IsDump (d : Dumped) : Type 0 where
   pub few_leaves : d.leaves ≤ leaf_limit
   pub slots : length d.slots ≡ slots_of d.version
   pub free : are_ends (length d.frames) d.free ≡ true
-  pub lists : (v : ℕ) → v < length d.slots → are_ends (length d.frames) (slot_at d v).list ≡ true
+  pub lists : (v : ℕ) → v < length d.slots → are_ends (length d.frames) (slot_dump_at d v).list ≡ true
   -- a slot may show more leaves than its table can have, but no more than a text of a gigabyte names
-  pub leaves : (v : ℕ) → length (slot_at d v).leaves ≤ 1073741824
-  pub roots : (v n : ℕ) → v < length d.slots → n < length (slot_at d v).leaves → slice_index_or (slot_at d v).leaves n 0 < leaf_entries
-  pub entries : (v n : ℕ) → v < length d.slots → n < length (slot_at d v).entries → is_entry d.version (length d.frames) v (slice_index_or (slot_at d v).entries n (0, 0)) ≡ true
+  pub leaves : (v : ℕ) → length (slot_dump_at d v).leaves ≤ 1073741824
+  pub roots : (v n : ℕ) → v < length d.slots → n < length (slot_dump_at d v).leaves → slice_index_or (slot_dump_at d v).leaves n 0 < leaf_entries
+  pub entries : (v n : ℕ) → v < length d.slots → n < length (slot_dump_at d v).entries → is_entry d.version (length d.frames) v (slice_index_or (slot_dump_at d v).entries n (0, 0)) ≡ true
   -- by rising guest frame
-  pub rising : (v n : ℕ) → v < length d.slots → suc n < length (slot_at d v).entries → (slice_index_or (slot_at d v).entries n (0, 0)).0 < (slice_index_or (slot_at d v).entries (suc n) (0, 0)).0
+  pub rising : (v n : ℕ) → v < length d.slots → suc n < length (slot_dump_at d v).entries → (slice_index_or (slot_dump_at d v).entries n (0, 0)).0 < (slice_index_or (slot_dump_at d v).entries (suc n) (0, 0)).0
   pub frames : (f : ℕ) → f < length d.frames → is_frame d.version (length d.frames) (line_at d.frames f) ≡ true

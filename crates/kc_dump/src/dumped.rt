@@ -19,7 +19,7 @@ pub struct Dump {
 }
 
 impl Model for Dump {
-    ghost use Rattle.kc_dump.specs.Dumps.{Dumped};
+    ghost use Rattle.kc_dump.specs.Dump.{Dumped};
     ghost use Rattle.kc_dump.specs.Ranges.{IsDump};
 
     ghost Value = { Dumped };

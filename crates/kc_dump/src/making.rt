@@ -5,7 +5,7 @@ ghost use Rattle.sha2.specs.Sha256.{sha256};
 ghost use Rattle.kc_types.specs.Configuration.{slot_count};
 ghost use Rattle.kc_model.specs.State.{frame_at, slot_at};
 ghost use Rattle.kc_model.specs.Links.{link_at};
-ghost use Rattle.kc_dump.specs.Dumping.{digests_of, line_of, lines_of, slot_dump, slots_of, dump_of};
+ghost use Rattle.kc_dump.specs.Dumping.{digests_of, frame_line, frame_lines, slot_dump, slot_dumps, dump_of};
 ghost use Rattle.kc_dump.specs.Sound.{IsSound};
 
 use crate::{Dump, FrameLine, SlotDump};
@@ -18,7 +18,7 @@ use std::thread::Threads;
 /// The records of all frames with the digests of their pages.
 fn lines(alloc: Global, core: &KCore, digests: &[[u8; 32]]) -> Result<Vec<FrameLine>, Memory>
     requires { digests.now ≡ digests_of core.now }
-    ensures { IfOk result (λ lines. lines.items ≡ lines_of core.now core.now.config.frames) }
+    ensures { IfOk result (λ lines. lines.items ≡ frame_lines core.now core.now.config.frames) }
 {
     let mut lines = Vec::with_capacity(alloc, digests.len())?;
     for number in 0..core.config().frames() {
@@ -50,7 +50,7 @@ fn slot(alloc: Global, core: &KCore, vm: u32) -> Result<SlotDump, Memory>
 
 /// All VM slots.
 fn slots(alloc: Global, core: &KCore) -> Result<Vec<SlotDump>, Memory>
-    ensures { IfOk result (λ slots. slots.items ≡ slots_of core.now (slot_count core.now.config)) }
+    ensures { IfOk result (λ slots. slots.items ≡ slot_dumps core.now (slot_count core.now.config)) }
 {
     let mut slots = Vec::new(alloc);
     for vm in 0..core.config().slots() {

@@ -15,7 +15,7 @@ pub struct SlotDump {
 }
 
 impl Model for SlotDump {
-    ghost use Rattle.kc_dump.specs.Dumps.{SlotDump as Value_of_slot};
+    ghost use Rattle.kc_dump.specs.Dump.{SlotDump as Value_of_slot};
 
     ghost Value = { Value_of_slot };
 
@@ -23,7 +23,7 @@ impl Model for SlotDump {
 }
 
 impl SlotDump {
-    ghost use Rattle.kc_dump.specs.Dumps.{SlotDump as Value_of_slot};
+    ghost use Rattle.kc_dump.specs.Dump.{SlotDump as Value_of_slot};
 
     /// A slot of these.
     pub fn new(phase: Phase, list: Ends, leaves: Vec<u32>, entries: Vec<(Gfn, FrameNo)>) -> SlotDump

@@ -11,7 +11,7 @@ use Rattle.kc_types.specs.declared.owner.Owner.{Owner}
 use Rattle.kc_types.specs.declared.owner.Owner.TheVariants.{Core, Host, Free, Vm}
 use Rattle.kc_dump.specs.declared.line.FrameLine.{FrameLine}
 use Rattle.kc_dump.specs.Ranges.{is_below, are_ends, is_entry, is_owner, is_frame}
-use Rattle.kc_dump.specs.Dumps.{Dumped, slot_at}
+use Rattle.kc_dump.specs.Dump.{Dumped, slot_dump_at}
 use Rattle.kc_dump_text.specs.declared.dump_line.DumpLine.{DumpLine}
 use Rattle.kc_dump_text.specs.declared.dump_line.DumpLine.TheVariants.{SizeOf, FreeOf, VmOf, LeafOf, EntryOf, FrameOf}
 use Rattle.kc_dump_text.specs.declared.stage.Stage.{Stage}
@@ -123,7 +123,7 @@ module _ (version : Version) where
       let a = ltb-true w (slots_of version) p.0 in
       let c = ltb-true root leaf_entries p.1 in
       let size = b.few v in
-      let is : length (slot_at d v).leaves ≡ n = b.shape.1 in
+      let is : length (slot_dump_at d v).leaves ≡ n = b.shape.1 in
       let small : k < 2 ^ 32 = elim (or_cases ((w == v) && (k == n)) (nat_lt v w && (k == 0)) u.1) [
         | inl y ↦ let z = eqb-true k n (and_parts (w == v) (k == n) y).1 in omega (arith, z, size, is, few)
         | inr y ↦ let z = eqb-true k 0 (and_parts (nat_lt v w) (k == 0) y).1 in omega (arith, z)

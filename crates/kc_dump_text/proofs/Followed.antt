@@ -6,16 +6,16 @@ use Rattle.std.proofs.lemmas.Bool.{le-ltb}
 use Rattle.std.proofs.lemmas.List.{append-nil}
 use Rattle.kc_types.specs.declared.version.Version.{Version}
 use Rattle.kc_types.specs.declared.version.Version.TheVariants.{One, Two}
-use Rattle.kc_dump.specs.Dumps.{Dumped}
+use Rattle.kc_dump.specs.Dump.{Dumped}
 use Rattle.kc_dump_text.specs.declared.dump_line.DumpLine.{DumpLine}
 use Rattle.kc_dump_text.specs.declared.stage.Stage.{Stage}
 use Rattle.kc_dump_text.specs.declared.stage.Stage.TheVariants.{AtSize, AtFrame}
 use Rattle.kc_dump_text.specs.declared.fault.DumpFault.{DumpFault}
 use Rattle.kc_dump_text.specs.declared.fault.DumpFault.TheVariants.{NoHeader, BadLine, Frame, Memory}
-use Rattle.kc_dump_text.specs.DumpText.{header, spell, lines_of}
+use Rattle.kc_dump_text.specs.DumpText.{dump_header, spell, dump_lines}
 use Rattle.kc_dump_text.specs.Grammar.{after, runs, due, IsDumpText}
-use Rattle.kc_dump_text.specs.Refused.{IsEnd, Stuck, StopsFor, IsRefused}
-use Rattle.kc_dump_text.specs.Begun.{nothing, added}
+use Rattle.kc_dump_text.specs.Refused.{IsEnd, Stuck, DumpStopsFor, IsRefusedDump}
+use Rattle.kc_dump_text.specs.Begun.{nothing, with_line}
 use Rattle.kc_dump_text.specs.Building.{Built}
 use Rattle.kc_dump_text.proofs.ReadLines.{bare, spell-bare, bare-one-line, line-to}
 use Rattle.kc_dump_text.proofs.LinesRead.{spelled-cut, only-line}
@@ -61,7 +61,7 @@ follow version (x ∷ xs) (y ∷ ys) before s t u d r b few h g e =
     let same : x ≡ y = same-line x y (sym read ∙ line-to y fy) in
     let next : a.0 ≡ c.0 = some-same a.0 c.0 (sym a.1 ∙ ap (after version s) same ∙ c.1) in
     let behind : flat_map spell xs ++ r ≡ flat_map spell ys = cancel (spell x) (flat_map spell xs ++ r) (flat_map spell ys) (sym other ∙ ap (λ (l : DumpLine). spell l ++ flat_map spell ys) (sym same)) in
-    let rec = follow version xs ys (before ++ x ∷ []) a.0 t u (added d x) r (built-more version s x before d a.0 b a.1) (let l = length-append before (x ∷ []) in omega (arith, l, few)) a.2
+    let rec = follow version xs ys (before ++ x ∷ []) a.0 t u (with_line d x) r (built-more version s x before d a.0 b a.1) (let l = length-append before (x ∷ []) in omega (arith, l, few)) a.2
     (subst (λ (z : Stage). runs version (Some z) ys ≡ Some u) (sym next) c.2) behind in
     record {
       rest = rec.rest;
@@ -71,9 +71,9 @@ follow version (x ∷ xs) (y ∷ ys) before s t u d r b few h g e =
     }
 
 -- a text has one header at most
-header-same : (v w : Version) (a b : List ℕ) → header v ++ a ≡ header w ++ b → (v ≡ w) × (a ≡ b)
-header-same One One a b e = (refl, cancel (header One) a b e)
-header-same Two Two a b e = (refl, cancel (header Two) a b e)
+header-same : (v w : Version) (a b : List ℕ) → dump_header v ++ a ≡ dump_header w ++ b → (v ≡ w) × (a ≡ b)
+header-same One One a b e = (refl, cancel (dump_header One) a b e)
+header-same Two Two a b e = (refl, cancel (dump_header Two) a b e)
 header-same One Two a b e = (let digits : ◌≡◌ {A = ℕ} 49 50 = ap (λ (l : List ℕ). get_or l 11 0) e in absurd (omega (arith, digits)))
 header-same Two One a b e = (let digits : ◌≡◌ {A = ℕ} 50 49 = ap (λ (l : List ℕ). get_or l 11 0) e in absurd (omega (arith, digits)))
 
@@ -87,11 +87,11 @@ ended version (Frame f) before n stage rest is none w =
     let no : due (AtFrame n n) ≡ None = ap (λ b. if b then Some n else None) (le-ltb n n (omega arith)) in
     let clash : None ≡ Some f = sym no ∙ some in absurd cc
 
-not-stopped : (version : Version) (d : Dumped) (n : ℕ) (rest : List ℕ) (fault : DumpFault) → rest ≡ flat_map spell (lines_of d) → runs version (Some AtSize) (lines_of d) ≡ Some (AtFrame n n)
-    → length rest ≤ 1073741824 → StopsFor version rest fault → ⊥
+not-stopped : (version : Version) (d : Dumped) (n : ℕ) (rest : List ℕ) (fault : DumpFault) → rest ≡ flat_map spell (dump_lines d) → runs version (Some AtSize) (dump_lines d) ≡ Some (AtFrame n n)
+    → length rest ≤ 1073741824 → DumpStopsFor version rest fault → ⊥
 not-stopped version d n rest fault is ran small s =
     let few : 0 + length s.lines ≤ 1073741824 = (let m = many s.lines in let a = length-append (flat_map spell s.lines) s.rest in let b = ap length s.stops.whole in omega (arith, m, a, b, small)) in
-    let f = follow version s.lines (lines_of d) [] AtSize s.stage (AtFrame n n) (nothing version) s.rest (built-none version) few s.stops.reached ran (sym s.stops.whole ∙ is) in
+    let f = follow version s.lines (dump_lines d) [] AtSize s.stage (AtFrame n n) (nothing version) s.rest (built-none version) few s.stops.reached ran (sym s.stops.whole ∙ is) in
     by_rest f.rest f.text f.goes_on
   where
     by_rest : (zs : List DumpLine) → s.rest ≡ flat_map spell zs → runs version (Some s.stage) zs ≡ Some (AtFrame n n) → ⊥
@@ -99,18 +99,18 @@ not-stopped version d n rest fault is ran small s =
     by_rest (z ∷ zs) t g = let a = first version s.stage z zs (AtFrame n n) g in s.stops.stuck z a.0 (flat_map spell zs) a.1 t
 
 -- behind a header of another version stands nothing of this
-as-version : (text rest : List ℕ) (d : Dumped) (version : Version) → IsDumpText text d → text ≡ header version ++ rest
-    → (rest ≡ flat_map spell (lines_of d)) × (runs version (Some AtSize) (lines_of d) ≡ Some (AtFrame (length d.frames) (length d.frames)))
+as-version : (text rest : List ℕ) (d : Dumped) (version : Version) → IsDumpText text d → text ≡ dump_header version ++ rest
+    → (rest ≡ flat_map spell (dump_lines d)) × (runs version (Some AtSize) (dump_lines d) ≡ Some (AtFrame (length d.frames) (length d.frames)))
 as-version text rest d version is e =
-    let h = header-same d.version version (flat_map spell (lines_of d)) rest (sym is.whole ∙ e) in
-    (sym h.1, subst (λ v. runs v (Some AtSize) (lines_of d) ≡ Some (AtFrame (length d.frames) (length d.frames))) h.0 is.ordered)
+    let h = header-same d.version version (flat_map spell (dump_lines d)) rest (sym is.whole ∙ e) in
+    (sym h.1, subst (λ v. runs v (Some AtSize) (dump_lines d) ≡ Some (AtFrame (length d.frames) (length d.frames))) h.0 is.ordered)
 
-behind-header : (version : Version) (text rest : List ℕ) → text ≡ header version ++ rest → length text ≤ 1073741824 → length rest ≤ 1073741824
-behind-header version text rest e small = let a = length-append (header version) rest in let b = ap length e in omega (arith, a, b, small)
+behind-header : (version : Version) (text rest : List ℕ) → text ≡ dump_header version ++ rest → length text ≤ 1073741824 → length rest ≤ 1073741824
+behind-header version text rest e small = let a = length-append (dump_header version) rest in let b = ap length e in omega (arith, a, b, small)
 
 -- no text of a dump is refused
-pub not-refused : (text : List ℕ) (d : Dumped) (fault : DumpFault) → length text ≤ 1073741824 → IsDumpText text d → IsRefused text fault → fault ≡ Memory
-not-refused text d NoHeader small is r = absurd (r d.version (flat_map spell (lines_of d)) is.whole)
+pub not-refused : (text : List ℕ) (d : Dumped) (fault : DumpFault) → length text ≤ 1073741824 → IsDumpText text d → IsRefusedDump text fault → fault ≡ Memory
+not-refused text d NoHeader small is r = absurd (r d.version (flat_map spell (dump_lines d)) is.whole)
 not-refused text d Memory small is r = refl
 not-refused text d (BadLine n) small is r = (let a = as-version text r.1 d r.0 is r.2 in absurd (not-stopped r.0 d (length d.frames) r.1 (BadLine n) a.0 a.1 (behind-header r.0 text r.1 r.2 small) r.3))
 not-refused text d (Frame f) small is r = (let a = as-version text r.1 d r.0 is r.2 in absurd (not-stopped r.0 d (length d.frames) r.1 (Frame f) a.0 a.1 (behind-header r.0 text r.1 r.2 small) r.3))
@@ -122,10 +122,10 @@ no-lines (z ∷ zs) e = absurd (long-line z (flat_map spell zs) (sym e))
 -- a text is one dump's at most
 pub one-dump : (text : List ℕ) (d e : Dumped) → length text ≤ 1073741824 → IsDumpText text d → IsDumpText text e → d ≡ e
 one-dump text d e small is other =
-    let h = header-same d.version e.version (flat_map spell (lines_of d)) (flat_map spell (lines_of e)) (sym is.whole ∙ other.whole) in
-    let b = behind-header d.version text (flat_map spell (lines_of d)) is.whole small in
-    let few : 0 + length (lines_of d) ≤ 1073741824 = (let m = many (lines_of d) in omega (arith, m, b)) in
+    let h = header-same d.version e.version (flat_map spell (dump_lines d)) (flat_map spell (dump_lines e)) (sym is.whole ∙ other.whole) in
+    let b = behind-header d.version text (flat_map spell (dump_lines d)) is.whole small in
+    let few : 0 + length (dump_lines d) ≤ 1073741824 = (let m = many (dump_lines d) in omega (arith, m, b)) in
     let end : Stage = AtFrame (length e.frames) (length e.frames) in
-    let f = follow d.version (lines_of d) (lines_of e) [] AtSize (AtFrame (length d.frames) (length d.frames)) end (nothing d.version) [] (built-none d.version) few is.ordered
-    (subst (λ v. runs v (Some AtSize) (lines_of e) ≡ Some end) (sym h.0) other.ordered) (append-nil (flat_map spell (lines_of d)) ∙ h.1) in
-    told-same d e h.0 (sym (f.whole ∙ ap (λ (ls : List DumpLine). lines_of d ++ ls) (no-lines f.rest f.text) ∙ append-nil (lines_of d)))
+    let f = follow d.version (dump_lines d) (dump_lines e) [] AtSize (AtFrame (length d.frames) (length d.frames)) end (nothing d.version) [] (built-none d.version) few is.ordered
+    (subst (λ v. runs v (Some AtSize) (dump_lines e) ≡ Some end) (sym h.0) other.ordered) (append-nil (flat_map spell (dump_lines d)) ∙ h.1) in
+    told-same d e h.0 (sym (f.whole ∙ ap (λ (ls : List DumpLine). dump_lines d ++ ls) (no-lines f.rest f.text) ∙ append-nil (dump_lines d)))

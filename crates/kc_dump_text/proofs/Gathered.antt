@@ -1,7 +1,7 @@
 -- One line more, and the lines of the slots.
 use Rattle.std.proofs.Common.{ℕ, zero, suc, ◌≡◌, ◌<◌, ◌≤◌, ◌+◌, List, [], ◌∷◌, ◌++◌, length, get_or, set, refl, sym, ap, ◌∙◌, append_assoc, arith}
 use Rattle.std.proofs.lemmas.List.{append-nil}
-use Rattle.kc_dump.specs.Dumps.{SlotDump, empty_dump}
+use Rattle.kc_dump.specs.Dump.{SlotDump, empty_dump}
 use Rattle.kc_dump_text.specs.declared.dump_line.DumpLine.{DumpLine}
 use Rattle.kc_dump_text.specs.declared.dump_line.DumpLine.TheVariants.{VmOf, LeafOf, EntryOf}
 use Rattle.kc_dump_text.specs.DumpText.{made, vm_of, leaves_of, entries_of}

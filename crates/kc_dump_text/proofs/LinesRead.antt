@@ -7,7 +7,7 @@ use Rattle.std.proofs.lemmas.List.{append-nil}
 use Rattle.std.proofs.lemmas.Grind.{flat_map-append}
 use Rattle.kc_dump.specs.declared.line.FrameLine.{FrameLine}
 use Rattle.kc_dump.specs.Ranges.{is_frame}
-use Rattle.kc_dump.specs.Dumps.{Dumped}
+use Rattle.kc_dump.specs.Dump.{Dumped}
 use Rattle.kc_lines.specs.Lines.{IsOneLine}
 use Rattle.kc_dump_text.specs.declared.dump_line.DumpLine.{DumpLine}
 use Rattle.kc_dump_text.specs.declared.dump_line.DumpLine.TheVariants.{SizeOf, FreeOf, VmOf, LeafOf, EntryOf, FrameOf}
@@ -18,10 +18,10 @@ use Rattle.kc_dump_text.specs.declared.fault.DumpFault.TheVariants.{BadLine, Fra
 use Rattle.kc_types.specs.declared.version.Version.{Version}
 use Rattle.kc_dump_text.specs.DumpText.{spell}
 use Rattle.kc_dump_text.specs.Grammar.{after, due, frames_at, LacksFrame, HasNoLine}
-use Rattle.kc_dump_text.specs.Begun.{added}
-use Rattle.kc_dump_text.specs.Building.{Built, Reached, IsWhole, IsStuck, end_fault, due_fault, line_fault}
+use Rattle.kc_dump_text.specs.Begun.{with_line}
+use Rattle.kc_dump_text.specs.Building.{Built, Reached, IsTextOf, IsStuck, end_fault, due_fault, line_fault}
 use Rattle.kc_dump_text.specs.Lines.{line_read}
-use Rattle.kc_dump_text.specs.Refused.{IsEnd, Stuck, StopsFor}
+use Rattle.kc_dump_text.specs.Refused.{IsEnd, Stuck, DumpStopsFor}
 use Rattle.kc_dump_text.proofs.Limits.{few-frames}
 use Rattle.kc_dump_text.proofs.ReadLines.{Fits, bare, spell-bare, bare-one-line, line-to, line-from}
 use Rattle.kc_dump_text.proofs.Steps.{built-more}
@@ -66,7 +66,7 @@ first-line rest bytes more l cut read = cut ∙ ap (λ (s : List ℕ). s ++ 10 �
 
 -- lines behind which no further one stands, for this reason
 pub stuck : (version : Version) (text : List ℕ) (fault : DumpFault) (lines : List DumpLine) (stage : Stage) (d : Dumped) (rest : List ℕ) → Reached version text lines stage d rest → HasNoLine version stage rest
-    → Stuck version (length lines) stage rest fault → StopsFor version text fault
+    → Stuck version (length lines) stage rest fault → DumpStopsFor version text fault
 stuck version text fault lines stage d rest r none why = record {
   lines = lines;
   stage = stage;
@@ -114,7 +114,7 @@ module _ (version : Version) where
   -- ---- one line more
 
   pub reached-more : (text : List ℕ) (stage : Stage) (lines : List DumpLine) (d : Dumped) (rest bytes more : List ℕ) (l : DumpLine) (next : Stage) → Reached version text lines stage d rest → rest ≡ bytes ++ 10 ∷ more
-      → line_read bytes ≡ Some l → after version stage l ≡ Some next → Reached version text (lines ++ l ∷ []) next (added d l) more
+      → line_read bytes ≡ Some l → after version stage l ≡ Some next → Reached version text (lines ++ l ∷ []) next (with_line d l) more
   reached-more text stage lines d rest bytes more l next r cut read ok =
       let first : rest ≡ spell l ++ more = cut ∙ ap (λ (s : List ℕ). s ++ 10 ∷ more) (line-from bytes l read) ∙ sym (spelled-cut l more) in
       record {
@@ -148,7 +148,7 @@ module _ (version : Version) where
         | inr h ↦ let none : None ≡ Some fault = rw h at e in absurd cc
       ]
 
-  pub whole-end : (text : List ℕ) (lines : List DumpLine) (stage : Stage) (d : Dumped) (n : ℕ) → EndsAt text lines stage d → end_fault stage n ≡ None → IsWhole version text d
+  pub whole-end : (text : List ℕ) (lines : List DumpLine) (stage : Stage) (d : Dumped) (n : ℕ) → EndsAt text lines stage d → end_fault stage n ≡ None → IsTextOf version text d
   whole-end text lines AtSize d n r e = absurd cc
   whole-end text lines (AtFree k) d n r e = absurd cc
   whole-end text lines (AtVm k v) d n r e = absurd cc

@@ -7,17 +7,17 @@ use Rattle.kc_types.specs.Configuration.{most_frames, slots_of}
 use Rattle.kc_types.specs.declared.version.Version.{Version}
 use Rattle.kc_dump.specs.declared.line.FrameLine.{FrameLine}
 use Rattle.kc_dump.specs.Ranges.{are_ends, is_entry, is_frame, IsDump}
-use Rattle.kc_dump.specs.Dumps.{Dumped, SlotDump, absent_line, empty_dump}
+use Rattle.kc_dump.specs.Dump.{Dumped, SlotDump, absent_line, empty_dump}
 use Rattle.kc_dump_text.specs.declared.dump_line.DumpLine.{DumpLine}
 use Rattle.kc_dump_text.specs.declared.dump_line.DumpLine.TheVariants.{SizeOf, FreeOf, LeafOf, EntryOf, FrameOf}
 use Rattle.kc_dump_text.specs.declared.stage.Stage.{Stage}
 use Rattle.kc_dump_text.specs.declared.stage.Stage.TheVariants.{AtSize, AtFree, AtVm, AtLeaf, AtEntry, AtFrame}
-use Rattle.kc_dump_text.specs.DumpText.{made, vm_of, leaves_of, entries_of, lines_of}
-use Rattle.kc_dump_text.specs.Grammar.{when, after, runs}
+use Rattle.kc_dump_text.specs.DumpText.{made, vm_of, leaves_of, entries_of, dump_lines}
+use Rattle.kc_dump_text.specs.Grammar.{stage_where, after, runs}
 use Rattle.kc_dump_text.proofs.Limits.{some-slots}
 use Rattle.kc_dump_text.proofs.Runs.{runs-append}
 
-passes : (test : Bool) (s : Stage) → test ≡ true → when test s ≡ Some s
+passes : (test : Bool) (s : Stage) → test ≡ true → stage_where test s ≡ Some s
 passes true s e = refl
 passes false s e = cc
 
@@ -183,7 +183,7 @@ module _ (version : Version) where
       begins stage (entered w least before) ok = passes (is_frame version frames line) (AtFrame frames 1) ok
 
 -- the lines of a dump in range are in order
-pub in-order : (d : Dumped) → IsDump d → runs d.version (Some AtSize) (lines_of d) ≡ Some (AtFrame (length d.frames) (length d.frames))
+pub in-order : (d : Dumped) → IsDump d → runs d.version (Some AtSize) (dump_lines d) ≡ Some (AtFrame (length d.frames) (length d.frames))
 in-order d is =
     let n = length d.frames in
     let vms = made vm_of 0 d.slots in

@@ -7,12 +7,12 @@ use Rattle.kc_types.specs.Configuration.{most_frames, slots_of}
 use Rattle.kc_types.specs.declared.version.Version.{Version}
 use Rattle.kc_dump.specs.declared.line.FrameLine.{FrameLine}
 use Rattle.kc_dump.specs.Ranges.{are_ends, is_entry, is_frame, IsDump}
-use Rattle.kc_dump.specs.Dumps.{Dumped, SlotDump, absent_line, empty_dump, slot_at}
+use Rattle.kc_dump.specs.Dump.{Dumped, SlotDump, absent_line, empty_dump, slot_dump_at}
 use Rattle.kc_dump_text.specs.declared.dump_line.DumpLine.{DumpLine}
 use Rattle.kc_dump_text.specs.declared.dump_line.DumpLine.TheVariants.{SizeOf, FreeOf, VmOf, LeafOf, EntryOf, FrameOf}
 use Rattle.kc_dump_text.specs.declared.stage.Stage.{Stage}
 use Rattle.kc_dump_text.specs.declared.stage.Stage.TheVariants.{AtSize, AtFree, AtVm, AtLeaf, AtEntry, AtFrame}
-use Rattle.kc_dump_text.specs.DumpText.{made, leaves_of, entries_of, lines_of}
+use Rattle.kc_dump_text.specs.DumpText.{made, leaves_of, entries_of, dump_lines}
 use Rattle.kc_dump_text.specs.Grammar.{after, runs}
 use Rattle.kc_dump_text.proofs.Limits.{some-slots}
 use Rattle.kc_dump_text.proofs.Runs.{runs-append}
@@ -227,8 +227,8 @@ module _ (version : Version) where
   as-entry-stage f s at = subst (IsEntryStage f) at.is (led at.v at.n)
 
 -- a dump whose lines are in order is in range
-pub in-range : (d : Dumped) → length d.slots ≡ slots_of d.version → ((v : ℕ) → length (slot_at d v).leaves ≤ 1073741824)
-    → runs d.version (Some AtSize) (lines_of d) ≡ Some (AtFrame (length d.frames) (length d.frames)) → IsDump d
+pub in-range : (d : Dumped) → length d.slots ≡ slots_of d.version → ((v : ℕ) → length (slot_dump_at d v).leaves ≤ 1073741824)
+    → runs d.version (Some AtSize) (dump_lines d) ≡ Some (AtFrame (length d.frames) (length d.frames)) → IsDump d
 in-range d long few r =
     let version = d.version in
     let f = length d.frames in
@@ -262,7 +262,7 @@ in-range d long few r =
       lists = vms.0;
       leaves = few;
       roots = λ v n. leaves.0 v n;
-      entries = λ v n low l. ap (λ w. is_entry version f w (get_or (slot_at d v).entries n (0, 0))) (let z : v ≡ 0 + v = omega arith in z) ∙ entries.each v n low l;
+      entries = λ v n low l. ap (λ w. is_entry version f w (get_or (slot_dump_at d v).entries n (0, 0))) (let z : v ≡ 0 + v = omega arith in z) ∙ entries.each v n low l;
       rising = entries.rising;
       frames = all-frames version f d.frames g.0 t entries.stage g.2;
     }

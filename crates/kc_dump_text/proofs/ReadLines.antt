@@ -12,15 +12,15 @@ use Rattle.kc_types.specs.Limits.{frame_limit, gfn_limit}
 use Rattle.kc_types.specs.declared.link.Ends.{Ends}
 use Rattle.kc_types.specs.declared.owner.Owner.{Owner}
 use Rattle.kc_dump.specs.declared.line.FrameLine.{FrameLine}
-use Rattle.kc_lines.specs.Words.{number_of}
+use Rattle.kc_lines.specs.Words.{number_in}
 use Rattle.kc_lines.specs.Lines.{IsOneLine}
 use Rattle.kc_lines.proofs.Numbers.{number_of-decimal}
 use Rattle.kc_lines.proofs.Words.{is_space, is_word, chosen, split_join, join_is_one_line, decimal_is_word}
 use Rattle.kc_dump_text.specs.DumpText.{spaced, line, or_dash, bit, phase_word, owner_word, ends_words, frame_rest, spell}
 use Rattle.kc_dump_text.specs.declared.dump_line.DumpLine.{DumpLine}
 use Rattle.kc_dump_text.specs.declared.dump_line.DumpLine.TheVariants.{SizeOf, FreeOf, VmOf, LeafOf, EntryOf, FrameOf}
-use Rattle.kc_dump_text.specs.Words.{under, or_dash_of, bit_of, phase_of, owner_of, digest_of, ends_of_words}
-use Rattle.kc_dump_text.specs.Lines.{entry_of_numbers, with_three, four_words, six_words, rest_of_words, frame_of_words, nine_words, line_of_words, line_read}
+use Rattle.kc_dump_text.specs.Words.{under, or_dash_of, bit_of, phase_of, owner_of, digest_in, ends_of_words}
+use Rattle.kc_dump_text.specs.Lines.{entry_of_numbers, with_three, line_of_four, line_of_six, rest_of_words, frame_of_words, nine_words, line_of_words, line_read}
 use Rattle.kc_dump_text.proofs.ReadWords.{map_some, then_some, name_is, number-from, under-to, under-from, DashFits, dash-to, dash-from, dash-word, bit-to, bit-from, bit-word, phase-to, phase-from, phase-is-word, OwnerFits, owner-to, owner-from, owner-is-word, DigestFits, digest-to, digest-from, digest-word, EndsFit, ends-to, ends-from}
 
 abbrev pub name_of : DumpLine → List ℕ
@@ -131,8 +131,8 @@ bare-one-line l fits = join_is_one_line (name_of l) (args_of l) (are-words l fit
 
 -- ---- a line that is spelled is read
 
-three-to : (name : List ℕ) (a b c : ℕ) → bytes_eq name (codes "free") ≡ false → a < 2 ^ 32 → b < 2 ^ 32 → c < 2 ^ 32 → four_words name (decimal a) (decimal b) (decimal c) ≡ with_three name a b c
-unfolding four_words
+three-to : (name : List ℕ) (a b c : ℕ) → bytes_eq name (codes "free") ≡ false → a < 2 ^ 32 → b < 2 ^ 32 → c < 2 ^ 32 → line_of_four name (decimal a) (decimal b) (decimal c) ≡ with_three name a b c
+unfolding line_of_four
 three-to name a b c other x y z = rw (other, number_of-decimal a x, number_of-decimal b y, number_of-decimal c z) refl
 
 entry-to : (v g f : ℕ) → g < gfn_limit → f < frame_limit → entry_of_numbers v g f ≡ Some (EntryOf v (g, f))
@@ -147,7 +147,7 @@ unfolding frame_of_words
 frame-to l fits = rw (owner-to l.owner fits.owner, number_of-decimal l.share fits.share, dash-to gfn_limit l.gfn (omega arith) fits.gfn) (rest-to l fits)
 
 words-to : (l : DumpLine) → Fits l → line_of_words (name_of l ∷ args_of l) ≡ Some l
-unfolding line_of_words four_words with_three six_words nine_words
+unfolding line_of_words line_of_four with_three line_of_six nine_words
 words-to (SizeOf f c l) fits = three-to (codes "size") f c l refl fits.0 fits.1 fits.2
 words-to (FreeOf ends) fits = ap (option_map FreeOf) (ends-to ends fits)
 words-to (VmOf v p ends) fits = rw (number_of-decimal v fits.0, phase-to p, ends-to ends fits.1) refl
@@ -187,27 +187,27 @@ three-from name a b c l e =
       ]
     ]
 
-four-from : (name a b c : List ℕ) (l : DumpLine) → four_words name a b c ≡ Some l → Spells (name ∷ a ∷ b ∷ c ∷ []) l
-unfolding four_words
+four-from : (name a b c : List ℕ) (l : DumpLine) → line_of_four name a b c ≡ Some l → Spells (name ∷ a ∷ b ∷ c ∷ []) l
+unfolding line_of_four
 four-from name a b c l e =
     elim (chosen (bytes_eq name (codes "free")) (option_map FreeOf (ends_of_words a b c)) _ (Some l) e) [
       | inl h ↦
           let r = map_some FreeOf (ends_of_words a b c) l h.1 in
           head-name name (codes "free") (a ∷ b ∷ c ∷ []) h.0 ∙ ap (λ (ws : List (List ℕ)). codes "free" ∷ ws) (ends-from a b c r.0 r.1) ∙ ap (λ l. name_of l ∷ args_of l) r.2
       | inr h ↦
-          let x = then_some (λ x. option_and_then (λ y. option_and_then (with_three name x y) (number_of c)) (number_of b)) (number_of a) l h.1 in
-          let y = then_some (λ y. option_and_then (with_three name x.0 y) (number_of c)) (number_of b) l x.2 in
-          let z = then_some (with_three name x.0 y.0) (number_of c) l y.2 in
+          let x = then_some (λ x. option_and_then (λ y. option_and_then (with_three name x y) (number_in c)) (number_in b)) (number_in a) l h.1 in
+          let y = then_some (λ y. option_and_then (with_three name x.0 y) (number_in c)) (number_in b) l x.2 in
+          let z = then_some (with_three name x.0 y.0) (number_in c) l y.2 in
           ap (λ (w : List ℕ). name ∷ w ∷ b ∷ c ∷ []) (number-from a x.0 x.1) ∙ ap (λ (w : List ℕ). name ∷ decimal x.0 ∷ w ∷ c ∷ []) (number-from b y.0 y.1)
           ∙ ap (λ (w : List ℕ). name ∷ decimal x.0 ∷ decimal y.0 ∷ w ∷ []) (number-from c z.0 z.1) ∙ three-from name x.0 y.0 z.0 l z.2
     ]
 
-six-from : (name v p h t n : List ℕ) (l : DumpLine) → six_words name v p h t n ≡ Some l → Spells (name ∷ v ∷ p ∷ h ∷ t ∷ n ∷ []) l
-unfolding six_words
+six-from : (name v p h t n : List ℕ) (l : DumpLine) → line_of_six name v p h t n ≡ Some l → Spells (name ∷ v ∷ p ∷ h ∷ t ∷ n ∷ []) l
+unfolding line_of_six
 six-from name v p h t n l e =
-    elim (chosen (bytes_eq name (codes "vm")) (option_and_then (λ v. option_and_then (λ p. option_map (VmOf v p) (ends_of_words h t n)) (phase_of p)) (number_of v)) None (Some l) e) [
+    elim (chosen (bytes_eq name (codes "vm")) (option_and_then (λ v. option_and_then (λ p. option_map (VmOf v p) (ends_of_words h t n)) (phase_of p)) (number_in v)) None (Some l) e) [
       | inl k ↦
-          let x = then_some (λ v. option_and_then (λ p. option_map (VmOf v p) (ends_of_words h t n)) (phase_of p)) (number_of v) l k.1 in
+          let x = then_some (λ v. option_and_then (λ p. option_map (VmOf v p) (ends_of_words h t n)) (phase_of p)) (number_in v) l k.1 in
           let y = then_some (λ p. option_map (VmOf x.0 p) (ends_of_words h t n)) (phase_of p) l x.2 in
           let z = map_some (VmOf x.0 y.0) (ends_of_words h t n) l y.2 in
           head-name name (codes "vm") (v ∷ p ∷ h ∷ t ∷ n ∷ []) k.0 ∙ ap (λ (w : List ℕ). codes "vm" ∷ w ∷ p ∷ h ∷ t ∷ n ∷ []) (number-from v x.0 x.1)
@@ -223,10 +223,10 @@ rest-from : (owner : Owner) (share : ℕ) (gfn : Option ℕ) (present prev next 
     → (owner_word owner ∷ decimal share ∷ or_dash gfn ∷ present ∷ prev ∷ next ∷ digest ∷ []) ≡ owner_word l.owner ∷ decimal l.share ∷ frame_rest l
 unfolding rest_of_words
 rest-from owner share gfn present prev next digest l e =
-    let a = then_some (λ a. option_and_then (λ b. option_and_then (λ c. option_map (λ d. record { owner = owner; share = share; gfn = gfn; present = a; prev = b; next = c; digest = d }) (digest_of digest)) (or_dash_of frame_limit next)) (or_dash_of frame_limit prev)) (bit_of present) l e in
-    let b = then_some (λ b. option_and_then (λ c. option_map (λ d. record { owner = owner; share = share; gfn = gfn; present = a.0; prev = b; next = c; digest = d }) (digest_of digest)) (or_dash_of frame_limit next)) (or_dash_of frame_limit prev) l a.2 in
-    let c = then_some (λ c. option_map (λ d. record { owner = owner; share = share; gfn = gfn; present = a.0; prev = b.0; next = c; digest = d }) (digest_of digest)) (or_dash_of frame_limit next) l b.2 in
-    let d = map_some {B = FrameLine} (λ d. record { owner = owner; share = share; gfn = gfn; present = a.0; prev = b.0; next = c.0; digest = d }) (digest_of digest) l c.2 in
+    let a = then_some (λ a. option_and_then (λ b. option_and_then (λ c. option_map (λ d. record { owner = owner; share = share; gfn = gfn; present = a; prev = b; next = c; digest = d }) (digest_in digest)) (or_dash_of frame_limit next)) (or_dash_of frame_limit prev)) (bit_of present) l e in
+    let b = then_some (λ b. option_and_then (λ c. option_map (λ d. record { owner = owner; share = share; gfn = gfn; present = a.0; prev = b; next = c; digest = d }) (digest_in digest)) (or_dash_of frame_limit next)) (or_dash_of frame_limit prev) l a.2 in
+    let c = then_some (λ c. option_map (λ d. record { owner = owner; share = share; gfn = gfn; present = a.0; prev = b.0; next = c; digest = d }) (digest_in digest)) (or_dash_of frame_limit next) l b.2 in
+    let d = map_some {B = FrameLine} (λ d. record { owner = owner; share = share; gfn = gfn; present = a.0; prev = b.0; next = c.0; digest = d }) (digest_in digest) l c.2 in
     ap (λ (ws : List (List ℕ)). owner_word owner ∷ decimal share ∷ or_dash gfn ∷ ws) (four-same (bit-from present a.0 a.1) (dash-from frame_limit prev b.0 b.1) (dash-from frame_limit next c.0 c.1) (digest-from digest d.0 d.1))
     ∙ ap (λ (l : FrameLine). owner_word l.owner ∷ decimal l.share ∷ frame_rest l) d.2
 
@@ -234,8 +234,8 @@ frame-from : (owner share gfn present prev next digest : List ℕ) (l : FrameLin
     → (owner ∷ share ∷ gfn ∷ present ∷ prev ∷ next ∷ digest ∷ []) ≡ owner_word l.owner ∷ decimal l.share ∷ frame_rest l
 unfolding frame_of_words
 frame-from owner share gfn present prev next digest l e =
-    let a = then_some (λ a. option_and_then (λ b. option_and_then (λ c. rest_of_words a b c present prev next digest) (or_dash_of gfn_limit gfn)) (number_of share)) (owner_of owner) l e in
-    let b = then_some (λ b. option_and_then (λ c. rest_of_words a.0 b c present prev next digest) (or_dash_of gfn_limit gfn)) (number_of share) l a.2 in
+    let a = then_some (λ a. option_and_then (λ b. option_and_then (λ c. rest_of_words a b c present prev next digest) (or_dash_of gfn_limit gfn)) (number_in share)) (owner_of owner) l e in
+    let b = then_some (λ b. option_and_then (λ c. rest_of_words a.0 b c present prev next digest) (or_dash_of gfn_limit gfn)) (number_in share) l a.2 in
     let c = then_some (λ c. rest_of_words a.0 b.0 c present prev next digest) (or_dash_of gfn_limit gfn) l b.2 in
     ap (λ (w : List ℕ). w ∷ share ∷ gfn ∷ present ∷ prev ∷ next ∷ digest ∷ []) (owner-from owner a.0 a.1)
     ∙ ap (λ (w : List ℕ). owner_word a.0 ∷ w ∷ gfn ∷ present ∷ prev ∷ next ∷ digest ∷ []) (number-from share b.0 b.1)
@@ -246,9 +246,9 @@ nine-from : (name f owner share gfn present prev next digest : List ℕ) (l : Du
     → Spells (name ∷ f ∷ owner ∷ share ∷ gfn ∷ present ∷ prev ∷ next ∷ digest ∷ []) l
 unfolding nine_words
 nine-from name f owner share gfn present prev next digest l e =
-    elim (chosen (bytes_eq name (codes "frame")) (option_and_then (λ f. option_map (FrameOf f) (frame_of_words owner share gfn present prev next digest)) (number_of f)) None (Some l) e) [
+    elim (chosen (bytes_eq name (codes "frame")) (option_and_then (λ f. option_map (FrameOf f) (frame_of_words owner share gfn present prev next digest)) (number_in f)) None (Some l) e) [
       | inl k ↦
-          let x = then_some (λ f. option_map (FrameOf f) (frame_of_words owner share gfn present prev next digest)) (number_of f) l k.1 in
+          let x = then_some (λ f. option_map (FrameOf f) (frame_of_words owner share gfn present prev next digest)) (number_in f) l k.1 in
           let y = map_some (FrameOf x.0) (frame_of_words owner share gfn present prev next digest) l x.2 in
           head-name name (codes "frame") (f ∷ owner ∷ share ∷ gfn ∷ present ∷ prev ∷ next ∷ digest ∷ []) k.0
           ∙ ap (λ (w : List ℕ). codes "frame" ∷ w ∷ owner ∷ share ∷ gfn ∷ present ∷ prev ∷ next ∷ digest ∷ []) (number-from f x.0 x.1)

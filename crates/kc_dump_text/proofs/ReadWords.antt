@@ -14,12 +14,12 @@ use Rattle.kc_types.specs.declared.owner.Owner.{Owner}
 use Rattle.kc_types.specs.declared.owner.Owner.TheVariants.{Core, Host, Free, Vm}
 use Rattle.kc_types.specs.declared.slot.Phase.{Phase}
 use Rattle.kc_types.specs.declared.slot.Phase.TheVariants.{Empty, Booting, Active, Dead}
-use Rattle.kc_lines.specs.Words.{number_of, data_of}
+use Rattle.kc_lines.specs.Words.{number_in, data_of}
 use Rattle.kc_lines.proofs.Numbers.{number_of-decimal, number_is_decimal}
 use Rattle.kc_lines.proofs.Digits.{data_is_spelled}
 use Rattle.kc_lines.proofs.Words.{is_word, chosen, decimal_is_word, encoded_is_word}
 use Rattle.kc_dump_text.specs.DumpText.{or_dash, bit, phase_word, owner_word, ends_words}
-use Rattle.kc_dump_text.specs.Words.{under, below_of, or_dash_of, bit_of, phase_of, owner_of, digest_of, ends_of_words}
+use Rattle.kc_dump_text.specs.Words.{under, below_of, or_dash_of, bit_of, phase_of, owner_of, digest_in, ends_of_words}
 use Rattle.kc_dump_text.proofs.DigestWords.{digest-read}
 
 pub map_some : {A B : Type 0} (f : A → B) (o : Option A) (y : B) → option_map f o ≡ Some y → (x : A) × (o ≡ Some x) × (f x ≡ y)
@@ -38,7 +38,7 @@ name_is name text e = (bytes_eq-Decides name text).0 e
 abbrev pub IsNumber : ℕ → Type 0
 IsNumber n = n < 2 ^ 32
 
-pub number-from : (word : List ℕ) (n : ℕ) → number_of word ≡ Some n → word ≡ decimal n
+pub number-from : (word : List ℕ) (n : ℕ) → number_in word ≡ Some n → word ≡ decimal n
 number-from word n e = (number_is_decimal word n e).0
 
 pub under-to : (limit n : ℕ) → n < limit → under limit n ≡ Some n
@@ -55,13 +55,13 @@ below-to : (limit n : ℕ) → n < limit → limit ≤ 2 ^ 32 → below_of limit
 below-to limit n lt le = rw (number_of-decimal n (omega arith)) (under-to limit n lt)
 
 below-from : (limit : ℕ) (word : List ℕ) (n : ℕ) → below_of limit word ≡ Some n → word ≡ decimal n
-below-from limit word n e = let r = then_some (under limit) (number_of word) n e in number-from word r.0 r.1 ∙ ap decimal (under-from limit r.0 n r.2)
+below-from limit word n e = let r = then_some (under limit) (number_in word) n e in number-from word r.0 r.1 ∙ ap decimal (under-from limit r.0 n r.2)
 
 -- a number's word is no name
-unnamed : (n : ℕ) (text : List ℕ) → n < 2 ^ 32 → number_of text ≡ None → bytes_eq (decimal n) text ≡ false
+unnamed : (n : ℕ) (text : List ℕ) → n < 2 ^ 32 → number_in text ≡ None → bytes_eq (decimal n) text ≡ false
 unnamed n text lt none =
     elim (cases_Bool (bytes_eq (decimal n) text)) [
-      | inl h ↦ let same : decimal n ≡ text = name_is _ _ h in let some : number_of text ≡ Some n = rw same at (number_of-decimal n lt) in absurd cc
+      | inl h ↦ let same : decimal n ≡ text = name_is _ _ h in let some : number_in text ≡ Some n = rw same at (number_of-decimal n lt) in absurd cc
       | inr h ↦ h
     ]
 
@@ -71,8 +71,8 @@ abbrev pub DashFits : ℕ → Option ℕ → Type 0
 DashFits limit None = Unit {0}
 DashFits limit (Some n) = n < limit
 
-dash-is-none : number_of (codes "-") ≡ None
-unfolding number_of
+dash-is-none : number_in (codes "-") ≡ None
+unfolding number_in
 dash-is-none = refl
 
 pub dash-to : (limit : ℕ) (o : Option ℕ) → limit ≤ 2 ^ 32 → DashFits limit o → or_dash_of limit (or_dash o) ≡ Some o
@@ -152,16 +152,16 @@ OwnerFits Core = Unit {0}
 OwnerFits Host = Unit {0}
 OwnerFits Free = Unit {0}
 
-core-is-none : number_of (codes "core") ≡ None
-unfolding number_of
+core-is-none : number_in (codes "core") ≡ None
+unfolding number_in
 core-is-none = refl
 
-host-is-none : number_of (codes "host") ≡ None
-unfolding number_of
+host-is-none : number_in (codes "host") ≡ None
+unfolding number_in
 host-is-none = refl
 
-free-is-none : number_of (codes "free") ≡ None
-unfolding number_of
+free-is-none : number_in (codes "free") ≡ None
+unfolding number_in
 free-is-none = refl
 
 pub owner-to : (o : Owner) → OwnerFits o → owner_of (owner_word o) ≡ Some o
@@ -196,11 +196,11 @@ pub record DigestFits (bytes : List ℕ) : Type 0 where
 digest-data : (bytes : List ℕ) → DigestFits bytes → IsData bytes
 digest-data bytes fits = let l = fits.long in record { nonempty = omega (arith, l); within = omega (arith, l); each_byte = fits.each }
 
-pub digest-to : (bytes : List ℕ) → DigestFits bytes → digest_of (encode_lower bytes) ≡ Some bytes
+pub digest-to : (bytes : List ℕ) → DigestFits bytes → digest_in (encode_lower bytes) ≡ Some bytes
 digest-to bytes fits = digest-read (encode_lower bytes) bytes (let l = fits.long in let s = length-encode_with lower_digits bytes in omega (arith, l, s)) refl fits.each
 
-pub digest-from : (word bytes : List ℕ) → digest_of word ≡ Some bytes → word ≡ encode_lower bytes
-unfolding digest_of
+pub digest-from : (word bytes : List ℕ) → digest_in word ≡ Some bytes → word ≡ encode_lower bytes
+unfolding digest_in
 digest-from word bytes e =
     elim (chosen (length word == 64) (data_of word) None (Some bytes) e) [
       | inl h ↦ (data_is_spelled word bytes h.1).0
@@ -227,7 +227,7 @@ three-same d e f = rw (d, e, f) refl
 pub ends-from : (head tail count : List ℕ) (ends : Ends) → ends_of_words head tail count ≡ Some ends → head ∷ tail ∷ count ∷ [] ≡ ends_words ends
 unfolding ends_of_words
 ends-from head tail count ends e =
-    let h = then_some (λ h. option_and_then (λ t. option_map (λ n. record { head = h; tail = t; count = n }) (number_of count)) (or_dash_of frame_limit tail)) (or_dash_of frame_limit head) ends e in
-    let t = then_some (λ t. option_map (λ n. record { head = h.0; tail = t; count = n }) (number_of count)) (or_dash_of frame_limit tail) ends h.2 in
-    let n = map_some {B = Ends} (λ n. record { head = h.0; tail = t.0; count = n }) (number_of count) ends t.2 in
+    let h = then_some (λ h. option_and_then (λ t. option_map (λ n. record { head = h; tail = t; count = n }) (number_in count)) (or_dash_of frame_limit tail)) (or_dash_of frame_limit head) ends e in
+    let t = then_some (λ t. option_map (λ n. record { head = h.0; tail = t; count = n }) (number_in count)) (or_dash_of frame_limit tail) ends h.2 in
+    let n = map_some {B = Ends} (λ n. record { head = h.0; tail = t.0; count = n }) (number_in count) ends t.2 in
     three-same (dash-from frame_limit head h.0 h.1) (dash-from frame_limit tail t.0 t.1) (number-from count n.0 n.1) ∙ ap ends_words n.2

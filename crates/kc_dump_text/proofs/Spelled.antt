@@ -3,8 +3,8 @@ use Rattle.std.proofs.Common.{◌≡◌, ◌<◌, ℕ, ◌+◌, List, ◌∷◌,
 use Rattle.std.specs.List.{flat_map}
 use Rattle.std.proofs.lemmas.Grind.{flat_map-append}
 use Rattle.std.proofs.lemmas.List.{drop_more}
-use Rattle.kc_dump.specs.Dumps.{Dumped, SlotDump}
-use Rattle.kc_dump_text.specs.DumpText.{header, spell, made, vm_of, leaves_of, entries_of, rest_of, dump_text}
+use Rattle.kc_dump.specs.Dump.{Dumped, SlotDump}
+use Rattle.kc_dump_text.specs.DumpText.{dump_header, spell, made, vm_of, leaves_of, entries_of, rest_of, dump_text}
 use Rattle.kc_dump_text.specs.declared.dump_line.DumpLine.{DumpLine}
 use Rattle.kc_dump_text.specs.declared.dump_line.DumpLine.TheVariants.{SizeOf, FreeOf, FrameOf}
 
@@ -19,7 +19,7 @@ slot-more all one step slots v slot text before more lt is begun grown =
     ∙ ap (λ (l : List ℕ). before ++ l) (sym (ap (flat_map spell) left ∙ flat_map-append spell (one v slot) rest)) ∙ begun
 
 -- the seven parts of a dump's text
-pub parts-spelled : (d : Dumped) → (((((header d.version ++ spell (SizeOf (length d.frames) d.core d.leaves)) ++ spell (FreeOf d.free)) ++ flat_map spell (made vm_of 0 d.slots)) ++ flat_map spell (leaves_of 0 d.slots)) ++ flat_map spell (entries_of 0 d.slots)) ++ flat_map spell (made FrameOf 0 d.frames) ≡ dump_text d
+pub parts-spelled : (d : Dumped) → (((((dump_header d.version ++ spell (SizeOf (length d.frames) d.core d.leaves)) ++ spell (FreeOf d.free)) ++ flat_map spell (made vm_of 0 d.slots)) ++ flat_map spell (leaves_of 0 d.slots)) ++ flat_map spell (entries_of 0 d.slots)) ++ flat_map spell (made FrameOf 0 d.frames) ≡ dump_text d
 parts-spelled d =
     let size = spell (SizeOf (length d.frames) d.core d.leaves) in
     let free = spell (FreeOf d.free) in

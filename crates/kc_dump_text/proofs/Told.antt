@@ -7,10 +7,10 @@ use Rattle.std.proofs.lemmas.List.{append-nil, ext_get_or, get_or-map, length-ma
 use Rattle.kc_types.specs.declared.link.Ends.{Ends}
 use Rattle.kc_types.specs.declared.slot.Phase.{Phase}
 use Rattle.kc_dump.specs.declared.line.FrameLine.{FrameLine}
-use Rattle.kc_dump.specs.Dumps.{Dumped, SlotDump, empty_dump, slot_at, no_ends}
+use Rattle.kc_dump.specs.Dump.{Dumped, SlotDump, empty_dump, slot_dump_at, no_ends}
 use Rattle.kc_dump_text.specs.declared.dump_line.DumpLine.{DumpLine}
 use Rattle.kc_dump_text.specs.declared.dump_line.DumpLine.TheVariants.{SizeOf, FreeOf, VmOf, LeafOf, EntryOf, FrameOf}
-use Rattle.kc_dump_text.specs.DumpText.{made, vm_of, leaves_of, entries_of, lines_of}
+use Rattle.kc_dump_text.specs.DumpText.{made, vm_of, leaves_of, entries_of, dump_lines}
 use Rattle.kc_dump_text.proofs.Gathered.{gather, leaves-gathered, entries-gathered}
 
 -- ---- what a line tells
@@ -123,19 +123,19 @@ no-leaves f d none = ap (flat_map f) (leaves-gathered 0 d.slots) ∙ gather-none
 no-entries : {Y : Type 0} (f : DumpLine → List Y) (d : Dumped) → ((v : ℕ) (e : ℕ × ℕ) → f (EntryOf v e) ≡ []) → flat_map f (entries_of 0 d.slots) ≡ []
 no-entries f d none = ap (flat_map f) (entries-gathered 0 d.slots) ∙ gather-none f (λ (s : SlotDump). s.entries) (λ v i e. EntryOf v e) 0 d.slots (λ v i e. none v e)
 
-vms-told : (d : Dumped) → flat_map vm_in (lines_of d) ≡ map (λ (slot : SlotDump). (slot.phase, slot.list)) d.slots
+vms-told : (d : Dumped) → flat_map vm_in (dump_lines d) ≡ map (λ (slot : SlotDump). (slot.phase, slot.list)) d.slots
 vms-told d =
     parts vm_in d
     ∙ rw (no-leaves vm_in d (λ v i root. refl), no-entries vm_in d (λ v e. refl), none-told vm_in FrameOf 0 d.frames (λ i x. refl)) (append-nil (flat_map vm_in (vms_of d)))
     ∙ each-told vm_in (λ (slot : SlotDump). (slot.phase, slot.list)) vm_of 0 d.slots (λ i x. refl)
 
-frames-told : (d : Dumped) → flat_map frame_in (lines_of d) ≡ d.frames
+frames-told : (d : Dumped) → flat_map frame_in (dump_lines d) ≡ d.frames
 frames-told d =
     parts frame_in d
     ∙ rw (none-told frame_in vm_of 0 d.slots (λ i x. refl), no-leaves frame_in d (λ v i root. refl), no-entries frame_in d (λ v e. refl)) refl
     ∙ each-told frame_in (λ x. x) FrameOf 0 d.frames (λ i x. refl) ∙ map-id d.frames
 
-roots-told : (d : Dumped) (v : ℕ) → flat_map (root_in v) (lines_of d) ≡ (slot_at d v).leaves
+roots-told : (d : Dumped) (v : ℕ) → flat_map (root_in v) (dump_lines d) ≡ (slot_dump_at d v).leaves
 roots-told d v =
     let z : v ≡ 0 + v = omega arith in
     parts (root_in v) d
@@ -144,7 +144,7 @@ roots-told d v =
     ∙ ap (flat_map (root_in v)) (leaves-gathered 0 d.slots) ∙ ap (λ w. flat_map (root_in w) (gather (λ (s : SlotDump). s.leaves) LeafOf 0 d.slots)) z
     ∙ gather-at (λ (s : SlotDump). s.leaves) LeafOf root_in (λ v i root. ap (λ b. if b then root ∷ [] else []) (eq-eqb v v refl)) (λ v w i root other. ap (λ b. if b then root ∷ [] else []) (ne_eqb v w other)) 0 v d.slots refl
 
-entries-told : (d : Dumped) (v : ℕ) → flat_map (entry_in v) (lines_of d) ≡ (slot_at d v).entries
+entries-told : (d : Dumped) (v : ℕ) → flat_map (entry_in v) (dump_lines d) ≡ (slot_dump_at d v).entries
 entries-told d v =
     let z : v ≡ 0 + v = omega arith in
     parts (entry_in v) d
@@ -156,19 +156,19 @@ entries-told d v =
 abbrev front : SlotDump → Phase × Ends
 front slot = (slot.phase, slot.list)
 
-slots-same : (d e : Dumped) → lines_of d ≡ lines_of e → d.slots ≡ e.slots
+slots-same : (d e : Dumped) → dump_lines d ≡ dump_lines e → d.slots ≡ e.slots
 slots-same d e same =
     let fronts : map front d.slots ≡ map front e.slots = sym (vms-told d) ∙ ap (flat_map vm_in) same ∙ vms-told e in
     let long : length d.slots ≡ length e.slots = sym (length-map d.slots front) ∙ ap length fronts ∙ length-map e.slots front in
     ext_get_or empty_dump d.slots e.slots long (λ v low.
     let within : v < length e.slots = omega (arith, low, long) in
-    let here : front (slot_at d v) ≡ front (slot_at e v) = sym (get_or-map front d.slots v empty_dump (front empty_dump) low) ∙ ap (λ xs. get_or xs v (front empty_dump)) fronts ∙ get_or-map front e.slots v empty_dump (front empty_dump) within in
-    let roots : (slot_at d v).leaves ≡ (slot_at e v).leaves = sym (roots-told d v) ∙ ap (flat_map (root_in v)) same ∙ roots-told e v in
-    let entries : (slot_at d v).entries ≡ (slot_at e v).entries = sym (entries-told d v) ∙ ap (flat_map (entry_in v)) same ∙ entries-told e v in
+    let here : front (slot_dump_at d v) ≡ front (slot_dump_at e v) = sym (get_or-map front d.slots v empty_dump (front empty_dump) low) ∙ ap (λ xs. get_or xs v (front empty_dump)) fronts ∙ get_or-map front e.slots v empty_dump (front empty_dump) within in
+    let roots : (slot_dump_at d v).leaves ≡ (slot_dump_at e v).leaves = sym (roots-told d v) ∙ ap (flat_map (root_in v)) same ∙ roots-told e v in
+    let entries : (slot_dump_at d v).entries ≡ (slot_dump_at e v).entries = sym (entries-told d v) ∙ ap (flat_map (entry_in v)) same ∙ entries-told e v in
     λ i. record { phase = (here i).0; list = (here i).1; leaves = roots i; entries = entries i })
 
 -- dumps of one version with the same lines are the same
-pub told-same : (d e : Dumped) → d.version ≡ e.version → lines_of d ≡ lines_of e → d ≡ e
+pub told-same : (d e : Dumped) → d.version ≡ e.version → dump_lines d ≡ dump_lines e → d ≡ e
 unfolding core_in leaves_in free_in
 told-same d e version same =
     let core : d.core ≡ e.core = ap core_in same in

@@ -6,17 +6,17 @@ use Rattle.std.proofs.lemmas.List.{append-nil}
 use Rattle.kc_types.specs.declared.version.Version.{Version}
 use Rattle.kc_types.specs.declared.version.Version.TheVariants.{One, Two}
 use Rattle.kc_types.specs.Configuration.{slots_of}
-use Rattle.kc_dump.specs.Dumps.{Dumped}
+use Rattle.kc_dump.specs.Dump.{Dumped}
 use Rattle.kc_dump.specs.Ranges.{IsDump}
 use Rattle.kc_dump_text.specs.declared.dump_line.DumpLine.{DumpLine}
 use Rattle.kc_dump_text.specs.declared.dump_line.DumpLine.TheVariants.{SizeOf, FreeOf}
 use Rattle.kc_dump_text.specs.declared.stage.Stage.TheVariants.{AtSize, AtFrame}
 use Rattle.kc_dump_text.specs.declared.fault.DumpFault.{DumpFault}
 use Rattle.kc_dump_text.specs.declared.fault.DumpFault.TheVariants.{NoHeader, BadLine, Frame, Memory}
-use Rattle.kc_dump_text.specs.DumpText.{header, spell, lines_of, rest_of}
+use Rattle.kc_dump_text.specs.DumpText.{dump_header, spell, dump_lines, rest_of}
 use Rattle.kc_dump_text.specs.Grammar.{runs, IsDumpText}
-use Rattle.kc_dump_text.specs.Building.{IsWhole, IsStuck}
-use Rattle.kc_dump_text.specs.Refused.{IsRefused}
+use Rattle.kc_dump_text.specs.Building.{IsTextOf, IsStuck}
+use Rattle.kc_dump_text.specs.Refused.{IsRefusedDump}
 use Rattle.kc_dump_text.proofs.Ranged.{in-range}
 use Rattle.kc_dump_text.proofs.ReadLines.{bare, spell-bare}
 
@@ -28,39 +28,39 @@ many (l ∷ lines) =
     let d = many lines in
     omega (arith, a, b, d)
 
-lines-are : (version : Version) (rest : List ℕ) (d : Dumped) (w : IsWhole version rest d) → w.0 ≡ lines_of d
+lines-are : (version : Version) (rest : List ℕ) (d : Dumped) (w : IsTextOf version rest d) → w.0 ≡ dump_lines d
 lines-are version rest d w = w.2.built.spelled ∙ ap (λ n. SizeOf n d.core d.leaves ∷ FreeOf d.free ∷ rest_of d) (sym w.2.built.shape.1)
 
-pub whole-text : (version : Version) (text rest : List ℕ) (d : Dumped) → text ≡ header version ++ rest → IsWhole version rest d → IsDumpText text d
+pub whole-text : (version : Version) (text rest : List ℕ) (d : Dumped) → text ≡ dump_header version ++ rest → IsTextOf version rest d → IsDumpText text d
 whole-text version text rest d e w =
     let b = w.2.built in
     let same = sym b.same in
     record {
-      whole = e ∙ ap (λ (l : List ℕ). header version ++ l) (w.2.whole ∙ append-nil (flat_map spell w.0) ∙ ap (flat_map spell) (lines-are version rest d w)) ∙ ap (λ v. header v ++ flat_map spell (lines_of d)) same;
-      ordered = ap (λ v. runs v (Some AtSize) (lines_of d)) b.same ∙ ap (runs version (Some AtSize)) (sym (lines-are version rest d w)) ∙ b.ran ∙ ap (λ n. Some (AtFrame n n)) (sym b.shape.1);
+      whole = e ∙ ap (λ (l : List ℕ). dump_header version ++ l) (w.2.whole ∙ append-nil (flat_map spell w.0) ∙ ap (flat_map spell) (lines-are version rest d w)) ∙ ap (λ v. dump_header v ++ flat_map spell (dump_lines d)) same;
+      ordered = ap (λ v. runs v (Some AtSize) (dump_lines d)) b.same ∙ ap (runs version (Some AtSize)) (sym (lines-are version rest d w)) ∙ b.ran ∙ ap (λ n. Some (AtFrame n n)) (sym b.shape.1);
     }
 
-pub whole-dump : (version : Version) (rest : List ℕ) (d : Dumped) → length rest ≤ 1073741824 → IsWhole version rest d → IsDump d
+pub whole-dump : (version : Version) (rest : List ℕ) (d : Dumped) → length rest ≤ 1073741824 → IsTextOf version rest d → IsDump d
 whole-dump version rest d small w =
     let b = w.2.built in
-    let text = whole-text version (header version ++ rest) rest d refl w in
+    let text = whole-text version (dump_header version ++ rest) rest d refl w in
     in-range d (b.shape.0 ∙ ap slots_of (sym b.same)) (λ v.
     let f = b.few v in
     let m = many w.0 in
     let l : length rest ≡ length (flat_map spell w.0) = ap length (w.2.whole ∙ append-nil (flat_map spell w.0)) in
     omega (arith, f, m, l, small)) text.ordered
 
-pub refused : (version : Version) (text rest : List ℕ) (fault : DumpFault) → text ≡ header version ++ rest → IsStuck version rest fault → IsRefused text fault
+pub refused : (version : Version) (text rest : List ℕ) (fault : DumpFault) → text ≡ dump_header version ++ rest → IsStuck version rest fault → IsRefusedDump text fault
 refused version text rest NoHeader e h = absurd h
 refused version text rest Memory e h = tt
 refused version text rest (BadLine n) e h = (version, rest, e, h)
 refused version text rest (Frame f) e h = (version, rest, e, h)
 
-long-header : (version : Version) (rest : List ℕ) → length (header version ++ rest) ≡ 13 + length rest
+long-header : (version : Version) (rest : List ℕ) → length (dump_header version ++ rest) ≡ 13 + length rest
 long-header One rest = omega arith
 long-header Two rest = omega arith
 
-pub too-short : (text : List ℕ) → length text < 13 → (version : Version) (rest : List ℕ) → text ≡ header version ++ rest → ⊥
+pub too-short : (text : List ℕ) → length text < 13 → (version : Version) (rest : List ℕ) → text ≡ dump_header version ++ rest → ⊥
 too-short text short version rest e = (let a : length text ≡ 13 + length rest = ap length e ∙ long-header version rest in omega (arith, a, short))
 
 pub take-drop : (n : ℕ) (xs : List ℕ) → xs ≡ take n xs ++ drop n xs

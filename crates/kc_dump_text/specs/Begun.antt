@@ -2,7 +2,7 @@
 use Rattle.std.specs.Prelude.{ℕ, ◌<◌, ◌≤◌, [], ◌∷◌, ◌++◌, length, slice_set}
 use Rattle.kc_types.specs.Limits.{slot_limit}
 use Rattle.kc_types.specs.declared.version.Version.{Version}
-use Rattle.kc_dump.specs.Dumps.{Dumped, SlotDump, slot_at, no_ends}
+use Rattle.kc_dump.specs.Dump.{Dumped, SlotDump, slot_dump_at, no_ends}
 use Rattle.kc_dump_text.specs.declared.dump_line.DumpLine.{DumpLine}
 use Rattle.kc_dump_text.specs.declared.dump_line.DumpLine.TheVariants.{SizeOf, FreeOf, VmOf, LeafOf, EntryOf, FrameOf}
 use Rattle.kc_dump_text.specs.declared.stage.Stage.{Stage}
@@ -21,19 +21,19 @@ IsStage (AtFrame frames n) = Unit {0}
 abbrev pub nothing : Version → Dumped
 nothing version = record { version = version; core = 0; leaves = 0; free = no_ends; slots = []; frames = [] }
 
-abbrev pub with_leaf : SlotDump → ℕ → SlotDump
-with_leaf slot root = record slot { leaves = slot.leaves ++ root ∷ [] }
+abbrev pub with_leaf_line : SlotDump → ℕ → SlotDump
+with_leaf_line slot root = record slot { leaves = slot.leaves ++ root ∷ [] }
 
-abbrev pub with_entry : SlotDump → ℕ × ℕ → SlotDump
-with_entry slot entry = record slot { entries = slot.entries ++ entry ∷ [] }
+abbrev pub with_entry_line : SlotDump → ℕ × ℕ → SlotDump
+with_entry_line slot entry = record slot { entries = slot.entries ++ entry ∷ [] }
 
-abbrev pub added : Dumped → DumpLine → Dumped
-added d (SizeOf frames core leaves) = record d { core = core; leaves = leaves }
-added d (FreeOf ends) = record d { free = ends }
-added d (VmOf v phase ends) = record d { slots = d.slots ++ record { phase = phase; list = ends; leaves = []; entries = [] } ∷ [] }
-added d (LeafOf v n root) = record d { slots = slice_set d.slots v (with_leaf (slot_at d v) root) }
-added d (EntryOf v entry) = record d { slots = slice_set d.slots v (with_entry (slot_at d v) entry) }
-added d (FrameOf f line) = record d { frames = d.frames ++ line ∷ [] }
+abbrev pub with_line : Dumped → DumpLine → Dumped
+with_line d (SizeOf frames core leaves) = record d { core = core; leaves = leaves }
+with_line d (FreeOf ends) = record d { free = ends }
+with_line d (VmOf v phase ends) = record d { slots = d.slots ++ record { phase = phase; list = ends; leaves = []; entries = [] } ∷ [] }
+with_line d (LeafOf v n root) = record d { slots = slice_set d.slots v (with_leaf_line (slot_dump_at d v) root) }
+with_line d (EntryOf v entry) = record d { slots = slice_set d.slots v (with_entry_line (slot_dump_at d v) entry) }
+with_line d (FrameOf f line) = record d { frames = d.frames ++ line ∷ [] }
 
 -- a line names only slots that are there
 abbrev pub HasSlot : Dumped → DumpLine → Type 0

@@ -4,7 +4,7 @@ use Rattle.std.specs.List.{flat_map}
 use Rattle.kc_types.specs.Configuration.{most_frames, slots_of}
 use Rattle.kc_types.specs.declared.version.Version.{Version}
 use Rattle.kc_dump.specs.Ranges.{is_frame}
-use Rattle.kc_dump.specs.Dumps.{Dumped, SlotDump, slot_at, empty_dump}
+use Rattle.kc_dump.specs.Dump.{Dumped, SlotDump, slot_dump_at, empty_dump}
 use Rattle.kc_dump_text.specs.declared.dump_line.DumpLine.{DumpLine}
 use Rattle.kc_dump_text.specs.declared.dump_line.DumpLine.TheVariants.{SizeOf, FreeOf, VmOf, LeafOf, EntryOf, FrameOf}
 use Rattle.kc_dump_text.specs.declared.stage.Stage.{Stage}
@@ -12,7 +12,7 @@ use Rattle.kc_dump_text.specs.declared.stage.Stage.TheVariants.{AtSize, AtFree, 
 use Rattle.kc_dump_text.specs.declared.fault.DumpFault.{DumpFault}
 use Rattle.kc_dump_text.specs.declared.fault.DumpFault.TheVariants.{NoHeader, BadLine, Frame, Memory}
 use Rattle.kc_dump_text.specs.DumpText.{spell, rest_of}
-use Rattle.kc_dump_text.specs.Refused.{StopsFor}
+use Rattle.kc_dump_text.specs.Refused.{DumpStopsFor}
 use Rattle.kc_dump_text.specs.Grammar.{runs, due, frames_at}
 
 -- from this slot on they have no leaves
@@ -35,7 +35,7 @@ abbrev pub Shape : Version → Stage → Dumped → Type 0
 Shape version AtSize d = (d.slots ≡ []) × (d.frames ≡ [])
 Shape version (AtFree frames) d = (d.slots ≡ []) × (d.frames ≡ [])
 Shape version (AtVm frames v) d = (length d.slots ≡ v) × (v < slots_of version) × NoLeaves 0 d.slots × NoEntries 0 d.slots × (d.frames ≡ [])
-Shape version (AtLeaf frames v n) d = (length d.slots ≡ slots_of version) × (length (slot_at d v).leaves ≡ n) × NoLeaves (v + 1) d.slots × NoEntries 0 d.slots × (d.frames ≡ [])
+Shape version (AtLeaf frames v n) d = (length d.slots ≡ slots_of version) × (length (slot_dump_at d v).leaves ≡ n) × NoLeaves (v + 1) d.slots × NoEntries 0 d.slots × (d.frames ≡ [])
 Shape version (AtEntry frames v least) d = (length d.slots ≡ slots_of version) × NoEntries (v + 1) d.slots × (d.frames ≡ [])
 Shape version (AtFrame frames n) d = (length d.slots ≡ slots_of version) × (length d.frames ≡ n)
 
@@ -56,7 +56,7 @@ pub record Built (version : Version) (stage : Stage) (lines : List DumpLine) (d 
   pub shape : Shape version stage d
   pub small : frames_at stage ≤ most_frames version
   pub within : Within stage
-  pub few : (v : ℕ) → length (slot_at d v).leaves ≤ length lines
+  pub few : (v : ℕ) → length (slot_dump_at d v).leaves ≤ length lines
 
 -- the text behind the header begins with lines that lead to this stage and this dump begun
 pub record Reached (version : Version) (text : List ℕ) (lines : List DumpLine) (stage : Stage) (d : Dumped) (rest : List ℕ) : Type 0 where
@@ -64,14 +64,14 @@ pub record Reached (version : Version) (text : List ℕ) (lines : List DumpLine)
   pub whole : text ≡ flat_map spell lines ++ rest
 
 -- the text behind the header is the lines of this dump
-abbrev pub IsWhole : Version → List ℕ → Dumped → Type 0
-IsWhole version text d = (lines : List DumpLine) × (frames : ℕ) × Reached version text lines (AtFrame frames frames) d []
+abbrev pub IsTextOf : Version → List ℕ → Dumped → Type 0
+IsTextOf version text d = (lines : List DumpLine) × (frames : ℕ) × Reached version text lines (AtFrame frames frames) d []
 
 -- the text behind the header is the lines of no dump, or memory ran out
 abbrev pub IsStuck : Version → List ℕ → DumpFault → Type 0
 IsStuck version text NoHeader = ⊥
-IsStuck version text (BadLine n) = StopsFor version text (BadLine n)
-IsStuck version text (Frame f) = StopsFor version text (Frame f)
+IsStuck version text (BadLine n) = DumpStopsFor version text (BadLine n)
+IsStuck version text (Frame f) = DumpStopsFor version text (Frame f)
 IsStuck version text Memory = Unit {0}
 
 -- what is wrong where the text ends

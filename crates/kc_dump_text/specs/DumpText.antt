@@ -11,7 +11,7 @@ use Rattle.kc_types.specs.declared.owner.Owner.TheVariants.{Core, Host, Free, Vm
 use Rattle.kc_types.specs.declared.slot.Phase.{Phase}
 use Rattle.kc_types.specs.declared.slot.Phase.TheVariants.{Empty, Booting, Active, Dead}
 use Rattle.kc_dump.specs.declared.line.FrameLine.{FrameLine}
-use Rattle.kc_dump.specs.Dumps.{Dumped, SlotDump}
+use Rattle.kc_dump.specs.Dump.{Dumped, SlotDump}
 use Rattle.kc_dump_text.specs.declared.dump_line.DumpLine.{DumpLine}
 use Rattle.kc_dump_text.specs.declared.dump_line.DumpLine.TheVariants.{SizeOf, FreeOf, VmOf, LeafOf, EntryOf, FrameOf}
 
@@ -49,9 +49,9 @@ abbrev pub ends_words : Ends → List (List ℕ)
 ends_words ends = or_dash ends.head ∷ or_dash ends.tail ∷ decimal ends.count ∷ []
 
 -- the first line of each dump, with its newline
-abbrev pub header : Version → List ℕ
-header One = codes "kcore-dump 1" ++ 10 ∷ []
-header Two = codes "kcore-dump 2" ++ 10 ∷ []
+abbrev pub dump_header : Version → List ℕ
+dump_header One = codes "kcore-dump 1" ++ 10 ∷ []
+dump_header Two = codes "kcore-dump 2" ++ 10 ∷ []
 
 -- the words of a frame's line behind its share
 abbrev pub frame_rest : FrameLine → List (List ℕ)
@@ -89,9 +89,9 @@ abbrev pub rest_of : Dumped → List DumpLine
 rest_of d = made vm_of 0 d.slots ++ (leaves_of 0 d.slots ++ (entries_of 0 d.slots ++ made FrameOf 0 d.frames))
 
 -- the lines of a dump behind its header
-abbrev pub lines_of : Dumped → List DumpLine
-lines_of d = SizeOf (length d.frames) d.core d.leaves ∷ FreeOf d.free ∷ rest_of d
+abbrev pub dump_lines : Dumped → List DumpLine
+dump_lines d = SizeOf (length d.frames) d.core d.leaves ∷ FreeOf d.free ∷ rest_of d
 
 -- the one spelling of a dump
 abbrev pub dump_text : Dumped → List ℕ
-dump_text d = header d.version ++ flat_map spell (lines_of d)
+dump_text d = dump_header d.version ++ flat_map spell (dump_lines d)

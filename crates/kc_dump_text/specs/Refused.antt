@@ -7,7 +7,7 @@ use Rattle.kc_dump_text.specs.declared.stage.Stage.TheVariants.{AtSize, AtFree, 
 use Rattle.kc_dump_text.specs.declared.fault.DumpFault.{DumpFault}
 use Rattle.kc_dump_text.specs.declared.fault.DumpFault.TheVariants.{NoHeader, BadLine, Frame, Memory}
 use Rattle.kc_types.specs.declared.version.Version.{Version}
-use Rattle.kc_dump_text.specs.DumpText.{header, spell}
+use Rattle.kc_dump_text.specs.DumpText.{dump_header, spell}
 use Rattle.kc_dump_text.specs.Grammar.{runs, LacksFrame, HasNoLine}
 
 -- the text may end there
@@ -20,7 +20,7 @@ IsEnd (AtEntry frames v least) = ⊥
 IsEnd (AtFrame frames n) = n ≡ frames
 
 -- the text behind the header begins with these lines, which lead to this stage, and no line that may stand there follows
-pub record StopsAt (version : Version) (text : List ℕ) (lines : List DumpLine) (stage : Stage) (rest : List ℕ) : Type 0 where
+pub record DumpStopsAt (version : Version) (text : List ℕ) (lines : List DumpLine) (stage : Stage) (rest : List ℕ) : Type 0 where
   pub whole : text ≡ flat_map spell lines ++ rest
   pub reached : runs version (Some AtSize) lines ≡ Some stage
   pub stuck : HasNoLine version stage rest
@@ -33,16 +33,16 @@ Stuck version before stage rest (Frame f) = LacksFrame version stage rest f
 Stuck version before stage rest Memory = ⊥
 
 -- the text behind the header is the lines of no dump, and this is the first reason
-pub record StopsFor (version : Version) (text : List ℕ) (fault : DumpFault) : Type 0 where
+pub record DumpStopsFor (version : Version) (text : List ℕ) (fault : DumpFault) : Type 0 where
   pub lines : List DumpLine
   pub stage : Stage
   pub rest : List ℕ
-  pub stops : StopsAt version text lines stage rest
+  pub stops : DumpStopsAt version text lines stage rest
   pub why : Stuck version (length lines) stage rest fault
 
 -- the text is no dump, and this is the first reason
-abbrev pub IsRefused : List ℕ → DumpFault → Type 0
-IsRefused text NoHeader = (version : Version) (rest : List ℕ) → text ≡ header version ++ rest → ⊥
-IsRefused text Memory = Unit {0}
-IsRefused text (BadLine n) = (version : Version) × (rest : List ℕ) × (text ≡ header version ++ rest) × StopsFor version rest (BadLine n)
-IsRefused text (Frame f) = (version : Version) × (rest : List ℕ) × (text ≡ header version ++ rest) × StopsFor version rest (Frame f)
+abbrev pub IsRefusedDump : List ℕ → DumpFault → Type 0
+IsRefusedDump text NoHeader = (version : Version) (rest : List ℕ) → text ≡ dump_header version ++ rest → ⊥
+IsRefusedDump text Memory = Unit {0}
+IsRefusedDump text (BadLine n) = (version : Version) × (rest : List ℕ) × (text ≡ dump_header version ++ rest) × DumpStopsFor version rest (BadLine n)
+IsRefusedDump text (Frame f) = (version : Version) × (rest : List ℕ) × (text ≡ dump_header version ++ rest) × DumpStopsFor version rest (Frame f)

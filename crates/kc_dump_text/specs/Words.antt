@@ -7,14 +7,14 @@ use Rattle.kc_types.specs.declared.owner.Owner.{Owner}
 use Rattle.kc_types.specs.declared.owner.Owner.TheVariants.{Core, Host, Free, Vm}
 use Rattle.kc_types.specs.declared.slot.Phase.{Phase}
 use Rattle.kc_types.specs.declared.slot.Phase.TheVariants.{Empty, Booting, Active, Dead}
-use Rattle.kc_lines.specs.Words.{number_of, data_of}
+use Rattle.kc_lines.specs.Words.{number_in, data_of}
 
 abbrev pub under : ℕ → ℕ → Option ℕ
 under limit n = if nat_lt n limit then Some n else None
 
 -- a number below the limit
 abbrev pub below_of : ℕ → List ℕ → Option ℕ
-below_of limit word = option_and_then (under limit) (number_of word)
+below_of limit word = option_and_then (under limit) (number_in word)
 
 -- such a number, or none for a dash
 unfoldable pub or_dash_of : ℕ → List ℕ → Option (Option ℕ)
@@ -39,9 +39,9 @@ owner_of word =
     else option_map Vm (below_of slot_limit word)
 
 -- 32 bytes in lower case digits
-unfoldable pub digest_of : List ℕ → Option (List ℕ)
-digest_of word = if length word == 64 then data_of word else None
+unfoldable pub digest_in : List ℕ → Option (List ℕ)
+digest_in word = if length word == 64 then data_of word else None
 
 -- three words as the ends of a list
 unfoldable pub ends_of_words : List ℕ → List ℕ → List ℕ → Option Ends
-ends_of_words head tail count = option_and_then (λ h. option_and_then (λ t. option_map (λ n. record { head = h; tail = t; count = n }) (number_of count)) (or_dash_of frame_limit tail)) (or_dash_of frame_limit head)
+ends_of_words head tail count = option_and_then (λ h. option_and_then (λ t. option_map (λ n. record { head = h; tail = t; count = n }) (number_in count)) (or_dash_of frame_limit tail)) (or_dash_of frame_limit head)

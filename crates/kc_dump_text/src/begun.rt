@@ -1,7 +1,7 @@
 //! A dump of which some lines were read.
 ghost use Rattle.std.specs.Prelude.{◌≡◌, OnOk};
 ghost use Rattle.kc_dump.specs.Ranges.{IsDump};
-ghost use Rattle.kc_dump_text.specs.Begun.{nothing, added, HasSlot};
+ghost use Rattle.kc_dump_text.specs.Begun.{nothing, with_line, HasSlot};
 
 use crate::dump_line::DumpLine;
 use kc_dump::{Dump, FrameLine, SlotDump};
@@ -21,7 +21,7 @@ pub struct Begun {
 }
 
 impl Model for Begun {
-    ghost use Rattle.kc_dump.specs.Dumps.{Dumped};
+    ghost use Rattle.kc_dump.specs.Dump.{Dumped};
 
     ghost Value = { Dumped };
 
@@ -46,7 +46,7 @@ impl Begun {
     /// One more line.
     pub fn add(&mut self, alloc: Global, line: DumpLine) -> Result<(), Memory>
         requires { HasSlot self.old line }
-        ensures { OnOk result (self.new ≡ added self.old line) }
+        ensures { OnOk result (self.new ≡ with_line self.old line) }
     {
         match line {
             DumpLine::SizeOf(_, core, leaves) => {

@@ -1,7 +1,7 @@
 //! One line of a dump's text.
 ghost use Rattle.std.specs.Prelude.{◌≡◌, ◌==◌, ◌∷◌};
 ghost use Rattle.std.specs.List.{slice_split};
-ghost use Rattle.kc_dump_text.specs.Lines.{entry_of_numbers, with_three, four_words, six_words, rest_of_words, frame_of_words, nine_words, line_of_words, line_read};
+ghost use Rattle.kc_dump_text.specs.Lines.{entry_of_numbers, with_three, line_of_four, line_of_six, rest_of_words, frame_of_words, nine_words, line_of_words, line_read};
 
 use crate::dump_line::DumpLine;
 use crate::words::{
@@ -35,9 +35,9 @@ fn with_three(name: &[u8], first: u32, second: u32, third: u32) -> Option<DumpLi
     }
 }
 
-#[tactic(auto, unfolding(crate::specs::Lines::four_words))]
+#[tactic(auto, unfolding(crate::specs::Lines::line_of_four))]
 fn read_four_words(name: &[u8], first: &[u8], second: &[u8], third: &[u8]) -> Option<DumpLine>
-    ensures { result ≡ four_words name.now first.now second.now third.now }
+    ensures { result ≡ line_of_four name.now first.now second.now third.now }
 {
     if name == b"free".as_slice() {
         return Some(DumpLine::FreeOf(read_ends(first, second, third)?));
@@ -48,7 +48,7 @@ fn read_four_words(name: &[u8], first: &[u8], second: &[u8], third: &[u8]) -> Op
     with_three(name, first, second, third)
 }
 
-#[tactic(auto, unfolding(crate::specs::Lines::six_words))]
+#[tactic(auto, unfolding(crate::specs::Lines::line_of_six))]
 fn read_six_words(
     name: &[u8],
     vm: &[u8],
@@ -57,7 +57,7 @@ fn read_six_words(
     tail: &[u8],
     count: &[u8],
 ) -> Option<DumpLine>
-    ensures { result ≡ six_words name.now vm.now phase.now head.now tail.now count.now }
+    ensures { result ≡ line_of_six name.now vm.now phase.now head.now tail.now count.now }
 {
     if name != b"vm".as_slice() {
         return None;

@@ -1,12 +1,12 @@
 //! Reading a dump.
 ghost use Rattle.std.specs.Prelude.{ℕ, List, ◌≡◌, ◌≤◌, ◌++◌, length, MatchOption, MatchResult};
 ghost use Rattle.kc_types.specs.declared.version.Version.{Version};
-ghost use Rattle.kc_dump.specs.Dumps.{Dumped};
+ghost use Rattle.kc_dump.specs.Dump.{Dumped};
 ghost use Rattle.kc_dump_text.specs.declared.fault.DumpFault.TheVariants.{Memory};
-ghost use Rattle.kc_dump_text.specs.DumpText.{header};
+ghost use Rattle.kc_dump_text.specs.DumpText.{dump_header};
 ghost use Rattle.kc_dump_text.specs.Grammar.{due, frames_at, IsDumpText};
-ghost use Rattle.kc_dump_text.specs.Building.{IsWhole, IsStuck, end_fault, due_fault, line_fault};
-ghost use Rattle.kc_dump_text.specs.Refused.{IsRefused};
+ghost use Rattle.kc_dump_text.specs.Building.{IsTextOf, IsStuck, end_fault, due_fault, line_fault};
+ghost use Rattle.kc_dump_text.specs.Refused.{IsRefusedDump};
 
 use crate::begun::Begun;
 use crate::dump_line::DumpLine;
@@ -99,7 +99,7 @@ fn line_fault(version: Version, stage: &Stage, line: &DumpLine, lines: u32) -> D
 /// The dump whose lines these are.
 fn read_lines(alloc: Global, version: Version, text: &[u8]) -> Result<Begun, DumpFault>
     requires { length text.now ≤ 1073741824 }
-    ensures { MatchResult result (λ begun. IsWhole version text.now begun) (λ fault. IsStuck version text.now fault) }
+    ensures { MatchResult result (λ begun. IsTextOf version text.now begun) (λ fault. IsStuck version text.now fault) }
 {
     let mut begun = Begun::new(alloc, version);
     let mut stage = Stage::AtSize;
@@ -128,7 +128,7 @@ fn read_lines(alloc: Global, version: Version, text: &[u8]) -> Result<Begun, Dum
 
 /// The version of the dump and what stands behind its header, if the text begins with one.
 fn behind_header(text: &[u8]) -> Option<(Version, &[u8])>
-    ensures { MatchOption result ((version : Version) (rest : List ℕ) → text.now ≡ header version ++ rest → ⊥) (λ cut. text.now ≡ header cut.0 ++ cut.1.now) }
+    ensures { MatchOption result ((version : Version) (rest : List ℕ) → text.now ≡ dump_header version ++ rest → ⊥) (λ cut. text.now ≡ dump_header cut.0 ++ cut.1.now) }
 {
     if text.len() < 13 {
         return None;
@@ -147,7 +147,7 @@ fn behind_header(text: &[u8]) -> Option<(Version, &[u8])>
 pub fn read_dump(alloc: Global, text: &[u8]) -> Result<Dump, DumpFault>
     requires { length text.now ≤ 1073741824 }
     // What is read is a dump, and what is refused is none, for its first fault.
-    ensures found { MatchResult result (λ dump. IsDumpText text.now dump) (λ fault. IsRefused text.now fault) }
+    ensures found { MatchResult result (λ dump. IsDumpText text.now dump) (λ fault. IsRefusedDump text.now fault) }
 
     // A dump's text is read as that dump, unless memory runs out.
     ensures only { (dump : Dumped) → IsDumpText text.now dump → MatchResult result (λ read. read ≡ dump) (λ fault. fault ≡ Memory) }

@@ -1,7 +1,7 @@
 //! Words of a dump's line.
 ghost use Rattle.std.specs.Prelude.{◌≡◌};
 ghost use Rattle.kc_types.specs.Limits.{frame_limit, slot_limit, gfn_limit};
-ghost use Rattle.kc_dump_text.specs.Words.{under, below_of, or_dash_of, bit_of, phase_of, owner_of, digest_of, ends_of_words};
+ghost use Rattle.kc_dump_text.specs.Words.{under, below_of, or_dash_of, bit_of, phase_of, owner_of, digest_in, ends_of_words};
 
 use kc_lines::{decode_into, read_number};
 use kc_types::{Ends, FrameNo, Gfn, Owner, Phase, VmId};
@@ -92,9 +92,9 @@ pub fn read_owner(word: &[u8]) -> Option<Owner>
 }
 
 /// The 32 bytes that 64 lower case digits are.
-#[tactic(auto, unfolding(crate::specs::Words::digest_of))]
+#[tactic(auto, unfolding(crate::specs::Words::digest_in))]
 pub fn read_digest(word: &[u8]) -> Option<[u8; 32]>
-    ensures { result ≡ digest_of word.now }
+    ensures { result ≡ digest_in word.now }
 {
     if word.len() != 64 {
         return None;

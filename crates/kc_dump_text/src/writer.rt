@@ -2,10 +2,10 @@
 ghost use Rattle.std.specs.Prelude.{◌≡◌, ◌≤◌, ◌+◌, ◌++◌, ℕ, length, slice_index_or, IfOk, OnOk};
 ghost use Rattle.std.specs.List.{flat_map};
 ghost use Rattle.kc_types.specs.Limits.{frame_limit, slot_limit};
-ghost use Rattle.kc_dump.specs.Dumps.{empty_dump};
+ghost use Rattle.kc_dump.specs.Dump.{empty_dump};
 ghost use Rattle.kc_dump.specs.Ranges.{IsDump};
 ghost use Rattle.kc_dump_text.specs.Grammar.{IsDumpText};
-ghost use Rattle.kc_dump_text.specs.DumpText.{dump_text, header, spell, made, vm_of, leaves_of, entries_of};
+ghost use Rattle.kc_dump_text.specs.DumpText.{dump_text, dump_header, spell, made, vm_of, leaves_of, entries_of};
 ghost use Rattle.kc_dump_text.specs.declared.dump_line.DumpLine.TheVariants.{SizeOf, FreeOf, LeafOf, EntryOf, FrameOf};
 
 use crate::lines::{LONGEST_LINE, push_frame_line, push_free_line, push_three, push_vm_line};
@@ -100,7 +100,7 @@ fn push_free(text: &mut Vec<u8>, dump: &Dump) -> Result<(), Memory>
 
 /// The first line.
 fn push_header(text: &mut Vec<u8>, version: Version) -> Result<(), Memory>
-    ensures { OnOk result (text.new.items ≡ text.old.items ++ header version) }
+    ensures { OnOk result (text.new.items ≡ text.old.items ++ dump_header version) }
 {
     text.reserve(LONGEST_LINE)?;
     match version {

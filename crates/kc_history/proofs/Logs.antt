@@ -4,17 +4,17 @@ use Rattle.std.proofs.lemmas.List.{map-append}
 use Rattle.kc_types.specs.Configuration.{Configuration}
 use Rattle.kc_types.specs.declared.call.Call.{Call}
 use Rattle.kc_types.specs.declared.reply.Reply.{Reply}
-use Rattle.kc_types.specs.Room.{bytes_in, room_of}
+use Rattle.kc_types.specs.ReplyBytes.{bytes_in, most_reply_bytes}
 use Rattle.kc_model.specs.State.{State}
 use Rattle.kc_model.specs.Boot.{boot}
 use Rattle.kc_model.specs.Next.{next}
-use Rattle.kc_model.proofs.Runs.{replies_from-append, state_after-append}
-use Rattle.kc_model.proofs.Rooms.{room-next}
+use Rattle.kc_model.proofs.States.Runs.{replies_from-append, state_after-append}
+use Rattle.kc_model.proofs.Refusals.Rooms.{room-next}
 use Rattle.kc_history.specs.declared.receipt.Entry.{Entry}
-use Rattle.kc_history.specs.Logs.{IsKept, calls_of, entry}
+use Rattle.kc_history.specs.Book.{IsKept, calls_of, entry}
 
 -- room made for the call is room for its reply
-pub room_made : (m : State) (call : Call) (reply : Reply) (spare : ℕ) → reply ≡ (next m call).0 → room_of call ≤ spare → bytes_in reply ≤ spare
+pub room_made : (m : State) (call : Call) (reply : Reply) (spare : ℕ) → reply ≡ (next m call).0 → most_reply_bytes call ≤ spare → bytes_in reply ≤ spare
 room_made m call reply spare is_reply made = let room = room-next m call in rw is_reply (omega arith)
 
 pub kept_more : (config : Configuration) (es : List Entry) (m n : State) (call : Call) (reply : Reply)

@@ -2,7 +2,7 @@
 use Rattle.std.specs.Prelude.{⊤}
 use Rattle.std.specs.Borrow.{follows_so, MutBor, Fml}
 use mathlib.Core.Option.{none}
-use Rattle.kc_history.specs.Seats.{SeatView}
+use Rattle.kc_history.specs.Seat.{SeatView}
 use Rattle.kc_history.specs.contracts.seat.Seat.{the_row}
 
 -- the seat ends at a value of which this holds

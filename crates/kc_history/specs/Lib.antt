@@ -1,5 +1,5 @@
-pub mod Logs
-pub mod Seats
+pub mod Book
+pub mod Seat
 pub mod Lending
 pub mod Settling
 pub mod Ready

@@ -2,7 +2,7 @@
 use Rattle.std.specs.Prelude.{◌≡◌, ℕ, ◌+◌, ◌<◌, ◌≤◌, ◌==◌, Bool, true, false, Some, List, [], ◌∷◌, ◌++◌, length, All, slice_get, slice_index_or, slice_set, if◌then◌else◌}
 use Rattle.kc_history.specs.declared.receipt.Entry.{Entry}
 use Rattle.kc_history.specs.declared.receipt.Receipt.{Receipt}
-use Rattle.kc_history.specs.Logs.{entry}
+use Rattle.kc_history.specs.Book.{entry}
 
 -- how often a number stands in a list
 abbrev pub times : ℕ → List ℕ → ℕ
@@ -41,14 +41,14 @@ pub record IsSettled (h : List Entry) (rows : List (List Receipt)) : Type 0 wher
   pub match : RowsMatch h rows
 
 -- the receipt may come next: no receipt had its number before, and it is not below the least
-pub record Fits (h : List Entry) (seen : List Bool) (least : ℕ) (r : Receipt) : Type 0 where
+pub record MayComeNext (h : List Entry) (seen : List Bool) (least : ℕ) (r : Receipt) : Type 0 where
   pub above : least ≤ r.number
   pub fresh : slice_index_or seen r.number false ≡ false
   pub says : slice_get h r.number ≡ Some (entry r.call r.reply)
 
 abbrev pub RowFits : List Entry → List Bool → ℕ → List Receipt → Type 0
 RowFits h seen least [] = Unit {0}
-RowFits h seen least (r ∷ rs) = Fits h seen least r × RowFits h (slice_set seen r.number true) (r.number + 1) rs
+RowFits h seen least (r ∷ rs) = MayComeNext h seen least r × RowFits h (slice_set seen r.number true) (r.number + 1) rs
 
 -- the marks after a row
 abbrev pub marked : List Bool → List Receipt → List Bool

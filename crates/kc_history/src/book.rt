@@ -23,7 +23,7 @@ pub struct Book {
 impl Model for Book {
     ghost use Rattle.std.specs.Prelude.{◌≤◌, vec_capacity};
     ghost use Rattle.kc_types.specs.Limits.{call_limit};
-    ghost use Rattle.kc_history.specs.Logs.{Log, IsKept};
+    ghost use Rattle.kc_history.specs.Book.{Log, IsKept};
 
     ghost Value = { Log };
 
@@ -33,7 +33,7 @@ impl Model for Book {
 }
 
 impl Book {
-    ghost use Rattle.kc_history.specs.Logs.{IsLegal, longer, receipt_of, new_log};
+    ghost use Rattle.kc_history.specs.Book.{IsLegal, longer, receipt_of, new_log};
 
     /// The core in the boot state of its configuration, no calls, and room for as many as there can be; `Memory`
     /// where a growth was refused.
@@ -94,7 +94,7 @@ pub struct History {
 }
 
 impl Model for History {
-    ghost use Rattle.kc_history.specs.Logs.{Log, IsKept};
+    ghost use Rattle.kc_history.specs.Book.{Log, IsKept};
 
     ghost Value = { Log };
 
@@ -104,7 +104,7 @@ impl Model for History {
 }
 
 impl History {
-    ghost use Rattle.kc_history.specs.Logs.{IsLegal, calls_of, end_state};
+    ghost use Rattle.kc_history.specs.Book.{IsLegal, calls_of, end_state};
 
     /// The configuration of the core.
     pub fn config(&self) -> &Config

@@ -1,8 +1,8 @@
 //! The core under its one lock.
 ghost use Rattle.std.specs.Prelude.{◌≡◌, ◌≢◌, ◌↔◌, Err, OnOk, OnErr};
 ghost use Rattle.kc_types.specs.Actors.{actor as actor_made};
-ghost use Rattle.kc_history.specs.Logs.{IsLegal};
-ghost use Rattle.kc_history.specs.Seats.{GainsReceipt};
+ghost use Rattle.kc_history.specs.Book.{IsLegal};
+ghost use Rattle.kc_history.specs.Seat.{GainsReceipt};
 
 use crate::book::{Book, History};
 use crate::fault::LiveFault;

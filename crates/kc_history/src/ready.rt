@@ -1,11 +1,11 @@
 //! A call, made ready before the lock is taken.
 ghost use Rattle.std.specs.Prelude.{◌≡◌, IfOk};
 ghost use Rattle.kc_model.specs.Next.{next};
-ghost use Rattle.kc_history.specs.Logs.{entry};
+ghost use Rattle.kc_history.specs.Book.{entry};
 
 use crate::receipt::{Entry, Receipt};
 use kc_core::KCore;
-use kc_types::{Call, Memory, Spare};
+use kc_types::{Call, Memory, ReplyBuffer};
 use std::alloc::Global;
 use std::marker::Model;
 
@@ -15,8 +15,8 @@ use std::marker::Model;
 pub struct Ready {
     call: Call,
     copy: Call,
-    room: Spare,
-    copy_room: Spare,
+    room: ReplyBuffer,
+    copy_room: ReplyBuffer,
 }
 
 impl Model for Ready {
@@ -37,8 +37,8 @@ impl Ready {
         ensures { IfOk result (λ ready. ready ≡ call) }
     {
         let copy = call.copy()?;
-        let room = call.spare(alloc)?;
-        let copy_room = call.spare(alloc)?;
+        let room = call.reply_buffer(alloc)?;
+        let copy_room = call.reply_buffer(alloc)?;
         Ok(Ready {
             call,
             copy,

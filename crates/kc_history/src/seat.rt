@@ -21,7 +21,7 @@ pub struct Seat {
 }
 
 impl Model for Seat {
-    ghost use Rattle.kc_history.specs.Seats.{SeatView};
+    ghost use Rattle.kc_history.specs.Seat.{SeatView};
 
     ghost Value = { SeatView };
 
@@ -29,8 +29,8 @@ impl Model for Seat {
 }
 
 impl Seat {
-    ghost use Rattle.kc_history.specs.Seats.{new_seat, gaining};
-    ghost use Rattle.kc_history.specs.Logs.{longer, receipt_of, reply_to};
+    ghost use Rattle.kc_history.specs.Seat.{new_seat, gaining};
+    ghost use Rattle.kc_history.specs.Book.{longer, receipt_of, reply_to};
 
     /// A seat with no receipts.
     pub fn new(alloc: Global, actor: Actor) -> Seat
@@ -101,7 +101,7 @@ impl Seat {
 
 impl Seat {
     ghost use Rattle.std.specs.Borrow.{sem};
-    ghost use Rattle.kc_history.specs.Seats.{LendsNewest, GainsReceipt};
+    ghost use Rattle.kc_history.specs.Seat.{LendsNewest, GainsReceipt};
     ghost use Rattle.kc_history.specs.Lending.{Rests};
 
     /// Makes one call of the core from this seat, and lends its receipt. The faults are those of `LiveCore::call`.

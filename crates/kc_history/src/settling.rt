@@ -1,8 +1,8 @@
 //! Whether the receipts of all callers are the history's, each once.
 ghost use Rattle.std.specs.Prelude.{◌≡◌, ◌↔◌, ◌≤◌, length, map, IsTrue, IfOk};
 ghost use Rattle.std.specs.Bool.{OnTrue};
-ghost use Rattle.kc_history.specs.Logs.{entry as entry_of};
-ghost use Rattle.kc_history.specs.Settling.{Fits, RowFits, RowsFit, IsSettled, marked};
+ghost use Rattle.kc_history.specs.Book.{entry as entry_of};
+ghost use Rattle.kc_history.specs.Settling.{MayComeNext, RowFits, RowsFit, IsSettled, marked};
 
 use crate::book::History;
 use crate::receipt::{Entry, Receipt};
@@ -33,7 +33,7 @@ fn is_of(entry: &Entry, receipt: &Receipt) -> bool
 /// says what the entry says.
 fn is_next(entries: &[Entry], seen: &[bool], least: u64, receipt: &Receipt) -> bool
     requires { length seen.now ≡ length entries.now }
-    ensures { IsTrue result ↔ Fits entries.now seen.now least receipt.now }
+    ensures { IsTrue result ↔ MayComeNext entries.now seen.now least receipt.now }
 {
     let number = receipt.number as usize;
     let Some(entry) = entries.get(number) else {

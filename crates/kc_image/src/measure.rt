@@ -13,7 +13,7 @@ pub struct Measure {
 }
 
 impl Measure {
-    ghost use Rattle.kc_image.specs.Measures.{WasFed};
+    ghost use Rattle.kc_image.specs.Measure.{WasFed};
 
     /// A measure that was fed no bytes.
     pub fn new() -> Measure

@@ -11,7 +11,7 @@ use Rattle.std.proofs.lemmas.Str.Parse.{IsNumeralModel, numerals_by_value, parse
 use Rattle.std.proofs.lemmas.Str.{IsUtf8-from_ascii}
 use Rattle.std.proofs.lemmas.Fmt.{decimal-digits_value, digits_decimal, digits_value-decimal, decimal_nonempty, first_decimal, decimal_digit, IsAscii-from_digits}
 use Rattle.std.proofs.lemmas.Bool.{ltb-true, lt-ltb, le-ltb, eqb-true, eqb-false, ne_eqb, cases_lt}
-use Rattle.kc_lines.specs.Words.{is_numeral, number_of}
+use Rattle.kc_lines.specs.Words.{is_numeral, number_in}
 
 abbrev pub AreDigits : List ℕ → Type 0
 AreDigits word = list_all is_ascii_digit word ≡ true
@@ -49,8 +49,8 @@ is_numeral_from word h =
     tests_from (list_all is_ascii_digit word) (length word == 0) (length word == 1) (get_or word 0 0 == 48) h.digits (ne_eqb _ _ some)
     (λ e. let one : length word ≡ 1 = h.first (eqb-true _ _ e) in rw one refl)
 
-number_when : (word : List ℕ) → is_numeral word ≡ true → digits_value 10 word < 2 ^ 32 → number_of word ≡ Some (digits_value 10 word)
-unfolding number_of
+number_when : (word : List ℕ) → is_numeral word ≡ true → digits_value 10 word < 2 ^ 32 → number_in word ≡ Some (digits_value 10 word)
+unfolding number_in
 number_when word e lt = rw (e, lt-ltb (digits_value 10 word) (2 ^ 32) lt) refl
 
 decimal_first : (n : ℕ) → n < 2 ^ 32 → get_or (decimal n) 0 0 ≡ 48 → (0 < n) ⊎ (n ≤ 0) → length (decimal n) ≡ 1
@@ -64,7 +64,7 @@ decimal_is_numeral n lt = record {
   first = λ h. decimal_first n lt h (cases_lt 0 n);
 }
 
-pub number_of-decimal : (n : ℕ) → n < 2 ^ 32 → number_of (decimal n) ≡ Some n
+pub number_of-decimal : (n : ℕ) → n < 2 ^ 32 → number_in (decimal n) ≡ Some n
 number_of-decimal n lt =
     let value : digits_value 10 (decimal n) ≡ n = digits_value-decimal own n (omega arith) in
     number_when (decimal n) (is_numeral_from (decimal n) (decimal_is_numeral n lt)) (omega arith) ∙ ap Some value
@@ -74,8 +74,8 @@ number_cases word true true n e = (refl, refl, cc)
 number_cases word true false n e = absurd cc
 number_cases word false b n e = absurd cc
 
-pub number_is_decimal : (word : List ℕ) (n : ℕ) → number_of word ≡ Some n → (word ≡ decimal n) × (n < 2 ^ 32)
-unfolding number_of
+pub number_is_decimal : (word : List ℕ) (n : ℕ) → number_in word ≡ Some n → (word ≡ decimal n) × (n < 2 ^ 32)
+unfolding number_in
 number_is_decimal word n e =
     let parts = number_cases word (is_numeral word) (nat_lt (digits_value 10 word) (2 ^ 32)) n e in
     let numeral = numeral_is word parts.0 in
@@ -86,8 +86,8 @@ not_below : (m n : ℕ) → (m < n → ⊥) → n ≤ m
 not_below m n h = elim (cases_lt m n) [ inl lt ↦ absurd (h lt) | inr le ↦ le ]
 
 -- what parsing a numeral gives
-pub parsed_is : {E : Type 0} (word : List ℕ) (r : Result ℕ E) → is_numeral word ≡ true → ParsesUnsigned 32 10 word r → result_ok r ≡ number_of word
-unfolding number_of
+pub parsed_is : {E : Type 0} (word : List ℕ) (r : Result ℕ E) → is_numeral word ≡ true → ParsesUnsigned 32 10 word r → result_ok r ≡ number_in word
+unfolding number_in
 parsed_is {E} word (Ok n) e h =
     let numeral = numeral_is word e in
     let parsed = parse_digits own {E = E} 32 word (Ok n) h numeral.digits in

@@ -12,8 +12,8 @@ abbrev pub is_numeral : List ℕ → Bool
 is_numeral word = list_all is_ascii_digit word && not (length word == 0) && (length word == 1 || not (slice_index word 0 == 48))
 
 -- a number of 32 bits
-unfoldable pub number_of : List ℕ → Option ℕ
-number_of word = if is_numeral word && nat_lt (digits_value 10 word) (2 ^ 32) then Some (digits_value 10 word) else None
+unfoldable pub number_in : List ℕ → Option ℕ
+number_in word = if is_numeral word && nat_lt (digits_value 10 word) (2 ^ 32) then Some (digits_value 10 word) else None
 
 -- a lower case hexadecimal digit
 abbrev pub is_lower_digit : ℕ → Bool

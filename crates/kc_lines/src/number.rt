@@ -2,7 +2,7 @@
 ghost use Rattle.std.specs.Prelude.{◌≡◌};
 ghost use Rattle.std.specs.Char.{is_ascii_digit};
 ghost use Rattle.std.specs.List.{list_all};
-ghost use Rattle.kc_lines.specs.Words.{is_numeral, number_of};
+ghost use Rattle.kc_lines.specs.Words.{is_numeral, number_in};
 
 use std::str;
 
@@ -20,9 +20,9 @@ fn is_numeral(word: &[u8]) -> bool
 }
 
 /// The number that a word is, up to 4,294,967,295.
-#[tactic(auto, unfolding(crate::specs::Words::number_of))]
+#[tactic(auto, unfolding(crate::specs::Words::number_in))]
 pub fn read_number(word: &[u8]) -> Option<u32>
-    ensures { result ≡ number_of word.now }
+    ensures { result ≡ number_in word.now }
 {
     if !is_numeral(word) {
         return None;

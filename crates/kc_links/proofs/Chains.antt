@@ -2,10 +2,10 @@
 use Rattle.std.proofs.Common.{ℕ, ◌≡◌, ◌<◌, ◌+◌, ◌-◌, inl, inr, List, [], ◌∷◌, ◌++◌, length-append, Option, Some, None, eq-eqb, refl, sym, ap, subst, ◌∙◌, arith}
 use Rattle.kc_model.specs.Lawful.{times_in}
 use Rattle.kc_model.specs.Effects.{without}
-use Rattle.kc_model.proofs.Members.{times_in-append, IsOnce, once-rest}
+use Rattle.kc_model.proofs.States.Members.{times_in-append, IsOnce, once-rest}
 use Rattle.kc_types.specs.declared.link.Link.{Link}
 use Rattle.kc_types.specs.declared.link.Ends.{Ends}
-use Rattle.kc_links.specs.Chain.{Links, unlinked, with_link, pointing_forward, pointing_back, first_or, last_or, IsLinked}
+use Rattle.kc_links.specs.Chain.{Links, unlinked, with_link, pointing_forward, pointing_back, first_or, last_or, NamesNeighbours}
 use Rattle.kc_links.specs.Ending.{Chain, listed, IsList, AreApart, starting, stopping}
 use Rattle.kc_links.proofs.Times.{times-same, once-first, without-none, Around, around}
 use Rattle.kc_links.proofs.Linked.{with_link-same, with_link-other, forward-other, back-other, first-where, last-where, last-append, linked-same, linked-split, linked-join, linked-forward, linked-back}
@@ -86,7 +86,7 @@ stopping-last a [] f ends tail = sym (last-append None a [])
 stopping-last a (x ∷ xs) f ends tail = tail ∙ last-append None a (f ∷ x ∷ xs) ∙ sym (last-append None a (x ∷ xs))
 
 -- two linked parts that share no frame are joined
-pub linked-joined : (m : Links) (a b : List ℕ) (middle before : Option ℕ) → IsLinked m None a middle → IsLinked m before b None → IsOnce a → IsOnce b → AreApart a b → IsLinked (pointing_back (pointing_forward m (last_or None a) (first_or None b)) (first_or None b) (last_or None a)) None (a ++ b) None
+pub linked-joined : (m : Links) (a b : List ℕ) (middle before : Option ℕ) → NamesNeighbours m None a middle → NamesNeighbours m before b None → IsOnce a → IsOnce b → AreApart a b → NamesNeighbours (pointing_back (pointing_forward m (last_or None a) (first_or None b)) (first_or None b) (last_or None a)) None (a ++ b) None
 linked-joined m a b middle before front back once_a once_b apart = linked-join _ None a b None
     (linked-same _ _ None a (first_or None b) (linked-forward m None a middle (first_or None b) front once_a)
     (λ g some. back-other _ (first_or None b) (last_or None a) g (λ first. elim (first-where None b g first) [
@@ -109,10 +109,10 @@ once-parts a b once = (
 )
 
 -- the frame between two parts, as the chain has it
-pub between-link : (m : Links) (a b : List ℕ) (f : ℕ) → IsLinked m None (a ++ f ∷ b) None → m f ≡ Some (between a b)
+pub between-link : (m : Links) (a b : List ℕ) (f : ℕ) → NamesNeighbours m None (a ++ f ∷ b) None → m f ≡ Some (between a b)
 between-link m a b f linked = (linked-split m None a (f ∷ b) None linked).1.0
 
-pub linked-unlink : (m : Links) (a b : List ℕ) (f : ℕ) → IsLinked m None (a ++ f ∷ b) None → IsLinked (links_unlinked m f (between a b)) None (a ++ b) None
+pub linked-unlink : (m : Links) (a b : List ℕ) (f : ℕ) → NamesNeighbours m None (a ++ f ∷ b) None → NamesNeighbours (links_unlinked m f (between a b)) None (a ++ b) None
 linked-unlink m a b f linked =
     let once = linked-once m None (a ++ f ∷ b) None 0 linked refl in
     let parts = linked-split m None a (f ∷ b) None linked in
@@ -159,7 +159,7 @@ leaves-frames m n ends new fs links same chain = rw (links, same) (chain-listed 
 -- a frame of the list, as an answer to a call has it
 pub list-between : (m : Links) (ends : Ends) (f : ℕ) (link : Link) → (list : IsList m ends) → (some : 0 < times_in (listed m ends) f) → m f ≡ Some link → (parts : Around (listed m ends) f) → link ≡ between parts.before parts.after
 list-between m ends f link list some is parts =
-    let linked : IsLinked m None (parts.before ++ f ∷ parts.after) None = subst (λ l. IsLinked m None l None) parts.whole list.linked in
+    let linked : NamesNeighbours m None (parts.before ++ f ∷ parts.after) None = subst (λ l. NamesNeighbours m None l None) parts.whole list.linked in
     let there = between-link m parts.before parts.after f linked in cc
 
 pub list-unlink : (m : Links) (ends : Ends) (f : ℕ) (link : Link) → IsList m ends → 0 < times_in (listed m ends) f → m f ≡ Some link → Chain (links_unlinked m f link) (ends_unlinked ends link) (without (listed m ends) f)

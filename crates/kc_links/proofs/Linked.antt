@@ -2,9 +2,9 @@
 use Rattle.std.proofs.Common.{ℕ, ◌≡◌, ◌<◌, ◌+◌, ◌⊎◌, inl, inr, List, [], ◌∷◌, ◌++◌, Option, Some, None, IsSome, eq-eqb, refl, sym, ap, ◌∙◌, arith}
 use Rattle.std.proofs.lemmas.Bool.{cases_eq, ne_eqb}
 use Rattle.kc_model.specs.Lawful.{times_in}
-use Rattle.kc_model.proofs.Members.{IsOnce, once-rest}
+use Rattle.kc_model.proofs.States.Members.{IsOnce, once-rest}
 use Rattle.kc_types.specs.declared.link.Link.{Link}
-use Rattle.kc_links.specs.Chain.{Links, with_link, or_unlinked, pointing_forward, pointing_back, first_or, last_or, IsLinked}
+use Rattle.kc_links.specs.Chain.{Links, with_link, or_unlinked, pointing_forward, pointing_back, first_or, last_or, NamesNeighbours}
 use Rattle.kc_links.proofs.Times.{times-same, times-other, once-first}
 
 pub with_link-same : (m : Links) (f : ℕ) (link : Link) → with_link m f link f ≡ Some link
@@ -40,31 +40,31 @@ pub last-append : (before : Option ℕ) (a b : List ℕ) → last_or before (a +
 last-append before [] b = refl
 last-append before (x ∷ xs) b = last-append (Some x) xs b
 
-pub linked-same : (m n : Links) (before : Option ℕ) (fs : List ℕ) (after : Option ℕ) → IsLinked m before fs after → ((g : ℕ) → 0 < times_in fs g → n g ≡ m g) → IsLinked n before fs after
+pub linked-same : (m n : Links) (before : Option ℕ) (fs : List ℕ) (after : Option ℕ) → NamesNeighbours m before fs after → ((g : ℕ) → 0 < times_in fs g → n g ≡ m g) → NamesNeighbours n before fs after
 linked-same m n before [] after linked same = tt
 linked-same m n before (f ∷ fs) after linked same =
     (same f (let t = times-same f fs in omega (arith, t)) ∙ linked.0, linked-same m n (Some f) fs after linked.1 (λ g some. same g (omega arith)))
 
-pub linked-holds : (m : Links) (before : Option ℕ) (fs : List ℕ) (after : Option ℕ) (g : ℕ) → IsLinked m before fs after → 0 < times_in fs g → IsSome (m g)
+pub linked-holds : (m : Links) (before : Option ℕ) (fs : List ℕ) (after : Option ℕ) (g : ℕ) → NamesNeighbours m before fs after → 0 < times_in fs g → IsSome (m g)
 linked-holds m before [] after g linked some = absurd (omega arith)
 linked-holds m before (f ∷ fs) after g linked some = elim (cases_eq g f) [
   | inl same ↦ rw (same, linked.0) refl
   | inr other ↦ linked-holds m (Some f) fs after g linked.1 (rw (times-other f fs g other) at some)
 ]
 
-pub linked-split : (m : Links) (before : Option ℕ) (a b : List ℕ) (after : Option ℕ) → IsLinked m before (a ++ b) after → IsLinked m before a (first_or after b) × IsLinked m (last_or before a) b after
+pub linked-split : (m : Links) (before : Option ℕ) (a b : List ℕ) (after : Option ℕ) → NamesNeighbours m before (a ++ b) after → NamesNeighbours m before a (first_or after b) × NamesNeighbours m (last_or before a) b after
 linked-split m before [] b after linked = (tt, linked)
 linked-split m before (f ∷ fs) b after linked =
     let rest = linked-split m (Some f) fs b after linked.1 in
     ((linked.0 ∙ ap (λ next. Some (record { prev = before; next = next })) (first-append after fs b), rest.0), rest.1)
 
-pub linked-join : (m : Links) (before : Option ℕ) (a b : List ℕ) (after : Option ℕ) → IsLinked m before a (first_or after b) → IsLinked m (last_or before a) b after → IsLinked m before (a ++ b) after
+pub linked-join : (m : Links) (before : Option ℕ) (a b : List ℕ) (after : Option ℕ) → NamesNeighbours m before a (first_or after b) → NamesNeighbours m (last_or before a) b after → NamesNeighbours m before (a ++ b) after
 linked-join m before [] b after front back = back
 linked-join m before (f ∷ fs) b after front back =
     (front.0 ∙ ap (λ next. Some (record { prev = before; next = next })) (sym (first-append after fs b)), linked-join m (Some f) fs b after front.1 back)
 
 -- the last frame's next one is another
-pub linked-forward : (m : Links) (before : Option ℕ) (fs : List ℕ) (after next : Option ℕ) → IsLinked m before fs after → IsOnce fs → IsLinked (pointing_forward m (last_or before fs) next) before fs next
+pub linked-forward : (m : Links) (before : Option ℕ) (fs : List ℕ) (after next : Option ℕ) → NamesNeighbours m before fs after → IsOnce fs → NamesNeighbours (pointing_forward m (last_or before fs) next) before fs next
 linked-forward m before [] after next linked once = tt
 linked-forward m before (f ∷ []) after next linked once =
     (with_link-same m f _ ∙ ap (λ link. Some (record (or_unlinked link) { next = next })) linked.0, tt)
@@ -77,7 +77,7 @@ linked-forward m before (f ∷ g ∷ gs) after next linked once = (
 )
 
 -- the one before the first frame is another
-pub linked-back : (m : Links) (before : Option ℕ) (fs : List ℕ) (after prev : Option ℕ) → IsLinked m before fs after → IsOnce fs → IsLinked (pointing_back m (first_or after fs) prev) prev fs after
+pub linked-back : (m : Links) (before : Option ℕ) (fs : List ℕ) (after prev : Option ℕ) → NamesNeighbours m before fs after → IsOnce fs → NamesNeighbours (pointing_back m (first_or after fs) prev) prev fs after
 linked-back m before [] after prev linked once = tt
 linked-back m before (f ∷ fs) after prev linked once = (
   with_link-same m f _ ∙ ap (λ link. Some (record (or_unlinked link) { prev = prev })) linked.0,

@@ -6,8 +6,8 @@ use Rattle.kc_types.specs.declared.link.Link.{Link}
 use Rattle.kc_model.specs.Lawful.{times_in}
 use Rattle.kc_model.specs.Links.{link_after, link_in, first_of}
 use Rattle.kc_model.specs.Linked.{ends_of, last_of}
-use Rattle.kc_model.proofs.Members.{IsOnce, once-rest}
-use Rattle.kc_links.specs.Chain.{Links, IsLinked, first_or, last_or}
+use Rattle.kc_model.proofs.States.Members.{IsOnce, once-rest}
+use Rattle.kc_links.specs.Chain.{Links, NamesNeighbours, first_or, last_or}
 use Rattle.kc_links.specs.Ending.{Chain}
 use Rattle.kc_links.proofs.Times.{times-other, times-same, once-first}
 
@@ -23,7 +23,7 @@ last-is before [] = refl
 last-is before (x ∷ xs) = last-is (Some x) xs
 
 -- a frame's link in a list that is linked is the list's
-pub link_in-linked : (links : Links) (before : Option ℕ) (fs : List ℕ) (f : ℕ) → IsLinked links before fs None → 0 < times_in fs f → links f ≡ Some (link_after before fs f)
+pub link_in-linked : (links : Links) (before : Option ℕ) (fs : List ℕ) (f : ℕ) → NamesNeighbours links before fs None → 0 < times_in fs f → links f ≡ Some (link_after before fs f)
 unfolding linking
 link_in-linked links before [] f linked some = absurd (omega (arith, some))
 link_in-linked links before (x ∷ xs) f linked some = elim (cases_eq x f) [
@@ -32,7 +32,7 @@ link_in-linked links before (x ∷ xs) f linked some = elim (cases_eq x f) [
 ]
 
 -- links that are the list's at each of its frames link it
-linked-each : (links : Links) (before : Option ℕ) (xs : List ℕ) → IsOnce xs → ((f : ℕ) → 0 < times_in xs f → links f ≡ Some (link_after before xs f)) → IsLinked links before xs None
+linked-each : (links : Links) (before : Option ℕ) (xs : List ℕ) → IsOnce xs → ((f : ℕ) → 0 < times_in xs f → links f ≡ Some (link_after before xs f)) → NamesNeighbours links before xs None
 linked-each links before [] once each = tt
 linked-each links before (x ∷ xs) once each = (
   each x (let one = times-same x xs in omega (arith, one)) ∙ rw (eq-eqb x x refl, ← first-is xs) refl,

@@ -2,9 +2,9 @@
 use Rattle.std.proofs.Common.{ℕ, zero, suc, ◌≡◌, ◌<◌, ◌≤◌, ◌+◌, inl, inr, List, [], ◌∷◌, length, Option, Some, None, refl, sym, ap, subst, ◌∙◌, arith}
 use Rattle.std.proofs.lemmas.Bool.{cases_eq}
 use Rattle.kc_model.specs.Lawful.{times_in}
-use Rattle.kc_model.proofs.Members.{IsOnce}
+use Rattle.kc_model.proofs.States.Members.{IsOnce}
 use Rattle.kc_types.specs.declared.link.Link.{Link}
-use Rattle.kc_links.specs.Chain.{Links, first_or, IsLinked, next_of, spelled}
+use Rattle.kc_links.specs.Chain.{Links, first_or, NamesNeighbours, next_of, spelled}
 use Rattle.kc_links.proofs.Times.{times-same, times-other}
 
 abbrev pub prev_of : Option Link → Option ℕ
@@ -32,7 +32,7 @@ pub record Deeper (m : Links) (n g : ℕ) : Type 0 where
   pub deep : IsDeep m steps (Some g)
   pub deeper : n < steps
 
-pub linked-deep : (m : Links) (before : Option ℕ) (fs : List ℕ) (after : Option ℕ) (n g : ℕ) → IsLinked m before fs after → IsDeep m n before → 0 < times_in fs g → Deeper m n g
+pub linked-deep : (m : Links) (before : Option ℕ) (fs : List ℕ) (after : Option ℕ) (n g : ℕ) → NamesNeighbours m before fs after → IsDeep m n before → 0 < times_in fs g → Deeper m n g
 linked-deep m before [] after n g linked deep some = absurd (omega arith)
 linked-deep m before (f ∷ fs) after n g linked deep some =
     let here = deep-first m n before (first_or after fs) f linked.0 deep in
@@ -42,14 +42,14 @@ linked-deep m before (f ∷ fs) after n g linked deep some =
           record { steps = later.steps; deep = later.deep; deeper = let d = later.deeper in omega (arith, d) }
     ]
 
-never-again : (m : Links) (f : ℕ) (fs : List ℕ) (after : Option ℕ) (n : ℕ) → IsLinked m (Some f) fs after → IsDeep m (suc n) (Some f) → (k : ℕ) → times_in fs f ≡ k → 1 + k ≤ 1
+never-again : (m : Links) (f : ℕ) (fs : List ℕ) (after : Option ℕ) (n : ℕ) → NamesNeighbours m (Some f) fs after → IsDeep m (suc n) (Some f) → (k : ℕ) → times_in fs f ≡ k → 1 + k ≤ 1
 never-again m f fs after n linked here zero is = omega arith
 never-again m f fs after n linked here (suc k) is =
     let later = linked-deep m (Some f) fs after (suc n) f linked here (rw is (omega arith)) in
     let same = deep-same m (suc n) later.steps (Some f) here later.deep in
     let d = later.deeper in absurd (omega (arith, same, d))
 
-pub linked-once : (m : Links) (before : Option ℕ) (fs : List ℕ) (after : Option ℕ) (n : ℕ) → IsLinked m before fs after → IsDeep m n before → IsOnce fs
+pub linked-once : (m : Links) (before : Option ℕ) (fs : List ℕ) (after : Option ℕ) (n : ℕ) → NamesNeighbours m before fs after → IsDeep m n before → IsOnce fs
 linked-once m before [] after n linked deep g = omega arith
 linked-once m before (f ∷ fs) after n linked deep g =
     let here = deep-first m n before (first_or after fs) f linked.0 deep in
@@ -58,7 +58,7 @@ linked-once m before (f ∷ fs) after n linked deep g =
       | inr other ↦ rw (times-other f fs g other) (linked-once m (Some f) fs after (suc n) linked.1 here g)
     ]
 
-pub spelled-linked : (m : Links) (before : Option ℕ) (fs : List ℕ) → IsLinked m before fs None → spelled m (length fs) (first_or None fs) ≡ fs
+pub spelled-linked : (m : Links) (before : Option ℕ) (fs : List ℕ) → NamesNeighbours m before fs None → spelled m (length fs) (first_or None fs) ≡ fs
 spelled-linked m before [] linked = refl
 spelled-linked m before (f ∷ fs) linked =
     ap (λ l. f ∷ l) (ap (λ link. spelled m (length fs) (next_of link)) linked.0 ∙ spelled-linked m (Some f) fs linked.1)

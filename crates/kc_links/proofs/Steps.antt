@@ -5,7 +5,7 @@ use Rattle.std.proofs.lemmas.Bool.{cases_eq, ne_eqb}
 use Rattle.std.proofs.lemmas.Map.Steps.{length-le_from_distinct_below}
 use Rattle.kc_types.specs.Limits.{frame_limit}
 use Rattle.kc_model.specs.Lawful.{times_in}
-use Rattle.kc_model.proofs.Members.{times_in-append, IsOnce, once-rest}
+use Rattle.kc_model.proofs.States.Members.{times_in-append, IsOnce, once-rest}
 use Rattle.kc_types.specs.declared.link.Link.{Link}
 use Rattle.kc_types.specs.declared.link.Ends.{Ends}
 use Rattle.kc_links.specs.Chain.{Links, unlinked, Holds, pointing_forward, pointing_back}

@@ -41,9 +41,9 @@ last_or before [] = before
 last_or before (f ∷ fs) = last_or (Some f) fs
 
 -- each frame's link names its neighbours: at the front the one before them all, at the back the one after them all
-abbrev pub IsLinked : Links → Option ℕ → List ℕ → Option ℕ → Type 0
-IsLinked links before [] after = Unit {0}
-IsLinked links before (f ∷ fs) after = (links f ≡ Some (record { prev = before; next = first_or after fs })) × IsLinked links (Some f) fs after
+abbrev pub NamesNeighbours : Links → Option ℕ → List ℕ → Option ℕ → Type 0
+NamesNeighbours links before [] after = Unit {0}
+NamesNeighbours links before (f ∷ fs) after = (links f ≡ Some (record { prev = before; next = first_or after fs })) × NamesNeighbours links (Some f) fs after
 
 abbrev pub next_of : Option Link → Option ℕ
 next_of None = None

@@ -2,14 +2,14 @@
 use Rattle.std.specs.Prelude.{ℕ, ◌≡◌, ◌<◌, List, length, Option, Some, None}
 use Rattle.kc_model.specs.Lawful.{times_in}
 use Rattle.kc_types.specs.declared.link.Ends.{Ends}
-use Rattle.kc_links.specs.Chain.{Links, IsLinked, first_or, last_or, spelled}
+use Rattle.kc_links.specs.Chain.{Links, NamesNeighbours, first_or, last_or, spelled}
 
 -- the ends are the first, the last and the length of the sequence, and its frames are linked both ways
 pub record Chain (links : Links) (ends : Ends) (frames : List ℕ) : Type 0 where
   pub head : ends.head ≡ first_or None frames
   pub tail : ends.tail ≡ last_or None frames
   pub count : ends.count ≡ length frames
-  pub linked : IsLinked links None frames None
+  pub linked : NamesNeighbours links None frames None
 
 -- the sequence that the links spell from the head on
 unfoldable pub listed : Links → Ends → List ℕ

@@ -11,10 +11,10 @@ use Rattle.kc_types.specs.declared.call.Actor.TheVariants.{Host, Vcpu}
 use Rattle.kc_types.specs.Actors.{actor}
 use Rattle.kc_history.specs.declared.receipt.Entry.{Entry}
 use Rattle.kc_history.specs.declared.receipt.Receipt.{Receipt}
-use Rattle.kc_history.specs.Logs.{entry}
+use Rattle.kc_history.specs.Book.{entry}
 use Rattle.kc_history.specs.Settling.{times, numbers_of, all_numbers, RisesFrom, RowMatches, RowsMatch, IsSettled}
-use Rattle.kc_live.specs.Programs.{calls_in, NoneIs, Apart}
-use Rattle.kc_history.specs.Logs.{calls_of}
+use Rattle.kc_live.specs.Program.{receipt_calls, NoneIs, Apart}
+use Rattle.kc_history.specs.Book.{calls_of}
 use Rattle.kc_model.specs.Histories.{same_actor, calls_by}
 
 pub same_actor-refl : (a : Actor) → same_actor a a ≡ true
@@ -74,13 +74,13 @@ Others a g base row =
 
 -- the first receipt is at this place
 at_place : (a : Actor) (g : ℕ → Option Entry) (base : ℕ) (e : Entry) (es : List Entry) (r : Receipt) (rs : List Receipt) → base ≡ r.number → g base ≡ Some e → g r.number ≡ Some (entry r.call r.reply) → actor r.call ≡ a
-    → calls_by a (calls_of es) ≡ calls_in rs → calls_by a (calls_of (e ∷ es)) ≡ calls_in (r ∷ rs)
+    → calls_by a (calls_of es) ≡ receipt_calls rs → calls_by a (calls_of (e ∷ es)) ≡ receipt_calls (r ∷ rs)
 at_place a g base e es r rs same at says own rest =
     let twice : Some e ≡ Some (entry r.call r.reply) = sym at ∙ (ap g same ∙ says) in
     let one : e ≡ entry r.call r.reply = cc in
     rw (one, own, same_actor-refl a, rest) refl
 
-by_row : (a : Actor) (g : ℕ → Option Entry) (base : ℕ) (h : List Entry) (row : List Receipt) → Tail g base h → RisesFrom base (numbers_of row) → SaysAll g row → OwnedBy a row → Others a g base row → calls_by a (calls_of h) ≡ calls_in row
+by_row : (a : Actor) (g : ℕ → Option Entry) (base : ℕ) (h : List Entry) (row : List Receipt) → Tail g base h → RisesFrom base (numbers_of row) → SaysAll g row → OwnedBy a row → Others a g base row → calls_by a (calls_of h) ≡ receipt_calls row
 by_row a g base [] [] tail rises says own others = refl
 by_row a g base [] (r ∷ rs) tail rises says own others = absurd (tail r.number (entry r.call r.reply) rises.0 says.0)
 by_row a g base (e ∷ es) [] tail rises says own others =
@@ -137,7 +137,7 @@ of_others a g n e (b ∷ owners) (row ∷ rows) own says apart at some =
 abbrev pub AllBy : List Entry → List Actor → List (List Receipt) → Type 0
 AllBy h [] rows = Unit {0}
 AllBy h (a ∷ owners) [] = Unit {0}
-AllBy h (a ∷ owners) (row ∷ rows) = (calls_by a (calls_of h) ≡ calls_in row) × AllBy h owners rows
+AllBy h (a ∷ owners) (row ∷ rows) = (calls_by a (calls_of h) ≡ receipt_calls row) × AllBy h owners rows
 
 -- the actors before are other than those behind
 abbrev Cross : List Actor → List Actor → Type 0

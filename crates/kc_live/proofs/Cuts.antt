@@ -12,12 +12,12 @@ use Rattle.kc_types.specs.declared.call.Call.{Call}
 use Rattle.kc_types.specs.declared.call.Actor.{Actor}
 use Rattle.kc_model.specs.Histories.{same_actor, calls_by}
 use Rattle.kc_history.specs.declared.receipt.Entry.{Entry}
-use Rattle.kc_history.specs.Logs.{calls_of}
-use Rattle.kc_live.specs.Programs.{ProgramView, NoneIs, Apart, actors_of, HasCalls}
+use Rattle.kc_history.specs.Book.{calls_of}
+use Rattle.kc_live.specs.Program.{ProgramView, NoneIs, Apart, actors_of, HasCalls}
 use Rattle.kc_live.specs.Plans.{count_of, stranger_in, stranger_from}
 use Rattle.kc_live.specs.declared.fault.LiveCause.{LiveCause}
 use Rattle.kc_live.specs.declared.fault.LiveCause.TheVariants.{NotYours, HistoryFull, Memory, Start, Unsettled, BadActor}
-use Rattle.kc_live.specs.Stops.{StopsFor}
+use Rattle.kc_live.specs.Stops.{IsCauseOf}
 use Rattle.kc_live.specs.Cuts.{StopsTrace, program_of, AreOf, OwnCalls, IsCut, IsPlaceOf, grown, noted, appearing, with_call, KeepsOrders}
 use Rattle.kc_live.proofs.Actors.{same_actor-refl, same_actor-true, same_actor-false}
 
@@ -163,7 +163,7 @@ some-none i call None none some = cc
 some-none i call (Some x) none some = cc
 
 -- why the programs of a trace stop is why the trace stops
-pub stops-trace : (config : Configuration) (calls : List Call) (ps : List ProgramView) (cause : LiveCause) → IsCut calls ps → StopsFor config ps cause → StopsTrace config calls cause
+pub stops-trace : (config : Configuration) (calls : List Call) (ps : List ProgramView) (cause : LiveCause) → IsCut calls ps → IsCauseOf config ps cause → StopsTrace config calls cause
 stops-trace config calls ps (BadActor i) cut stops = (ps, cut, stops)
 stops-trace config calls ps (NotYours i call) cut stops = some-none i call (stranger_from 0 ps) (strangers-none 0 ps cut.own) stops.1
 stops-trace config calls ps HistoryFull cut stops = let count = cut.count in let many = stops.1 in omega arith

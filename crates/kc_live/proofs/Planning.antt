@@ -3,7 +3,7 @@ use Rattle.std.proofs.Common.{◌≡◌, ◌≢◌, ℕ, ◌+◌, ◌<◌, List,
 use Rattle.std.proofs.lemmas.List.{take_more, map-append}
 use Rattle.kc_types.specs.Configuration.{Configuration}
 use Rattle.kc_types.specs.declared.call.Actor.{Actor}
-use Rattle.kc_live.specs.Programs.{ProgramView, NoneIs, Apart, actors_of}
+use Rattle.kc_live.specs.Program.{ProgramView, NoneIs, Apart, actors_of}
 use Rattle.kc_live.specs.Plans.{IsActor, AreActors, HaveActors, MayJoin}
 
 none_push : (a b : Actor) (owners : List Actor) → NoneIs a owners → b ≢ a → NoneIs a (owners ++ b ∷ [])

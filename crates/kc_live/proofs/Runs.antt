@@ -8,9 +8,9 @@ use Rattle.kc_types.specs.declared.call.Actor.{Actor}
 use Rattle.kc_types.specs.Actors.{actor}
 use Rattle.kc_history.specs.declared.receipt.Entry.{Entry}
 use Rattle.kc_history.specs.declared.receipt.Receipt.{Receipt}
-use Rattle.kc_live.specs.Programs.{ProgramView}
+use Rattle.kc_live.specs.Program.{ProgramView}
 use Rattle.kc_history.specs.Settling.{IsSettled}
-use Rattle.kc_live.specs.Programs.{calls_in, Apart, actors_of, HasCalls, HasBeginnings, HasNoOthers}
+use Rattle.kc_live.specs.Program.{receipt_calls, Apart, actors_of, HasCalls, HasBeginnings, HasNoOthers}
 use Rattle.kc_live.specs.Threads.{AreBeginnings}
 use Rattle.kc_model.specs.Histories.{same_actor}
 use Rattle.kc_live.specs.Plans.{stranger_in, stranger_from}
@@ -24,10 +24,10 @@ none_of : (o : Option ℕ) (i : ℕ) (rest : Option (ℕ × ℕ)) → option_map
 none_of None i rest h = (refl, h)
 none_of (Some c) i rest h = cc
 
-own_row : (a : Actor) (i : ℕ) (row : List Receipt) → position_from (λ c. not (same_actor a (actor c))) i (calls_in row) ≡ None → OwnedBy a row
+own_row : (a : Actor) (i : ℕ) (row : List Receipt) → position_from (λ c. not (same_actor a (actor c))) i (receipt_calls row) ≡ None → OwnedBy a row
 own_row a i [] h = tt
 own_row a i (r ∷ rs) h =
-    let both = none_first (same_actor a (actor r.call)) i (position_from (λ c. not (same_actor a (actor c))) (i + 1) (calls_in rs)) h in
+    let both = none_first (same_actor a (actor r.call)) i (position_from (λ c. not (same_actor a (actor c))) (i + 1) (receipt_calls rs)) h in
     (sym (same_actor-true a (actor r.call) both.0), own_row a (i + 1) rs both.1)
 
 none_here : (b : Bool) (i : ℕ) (rest : Option ℕ) → cond b (Some i) rest ≡ None → (b ≡ false) × (rest ≡ None)
@@ -42,22 +42,22 @@ none_taken test i (suc n) (call ∷ calls) none =
     let both = none_here (test call) i (position_from test (i + 1) calls) none in
     let rest = none_taken test (i + 1) n calls both.1 in rw (both.0, rest) refl
 
-own_rows : (i : ℕ) (ps : List ProgramView) (rows : List (List Receipt)) → AreBeginnings (map calls_in rows) (map (λ p. p.calls) ps) → stranger_from i ps ≡ None → OwnedRows (actors_of ps) rows
+own_rows : (i : ℕ) (ps : List ProgramView) (rows : List (List Receipt)) → AreBeginnings (map receipt_calls rows) (map (λ p. p.calls) ps) → stranger_from i ps ≡ None → OwnedRows (actors_of ps) rows
 own_rows i [] [] begun none = tt
 own_rows i [] (row ∷ rows) begun none = absurd begun
 own_rows i (p ∷ ps) [] begun none = absurd begun
 own_rows i (p ∷ ps) (row ∷ rows) begun none =
     let both = none_of (stranger_in p) i (stranger_from (i + 1) ps) none in
     let test = λ (c : Call). not (same_actor p.actor (actor c)) in
-    let from : position_from test 0 (calls_in row) ≡ None = ap (position_from test 0) begun.0.1 ∙ none_taken test 0 begun.0.0 p.calls (sym (position_from-zero test p.calls) ∙ both.0) in
+    let from : position_from test 0 (receipt_calls row) ≡ None = ap (position_from test 0) begun.0.1 ∙ none_taken test 0 begun.0.0 p.calls (sym (position_from-zero test p.calls) ∙ both.0) in
     (own_row p.actor 0 row from, own_rows (i + 1) ps rows begun.1 both.1)
 
-has_calls : (h : List Entry) (ps : List ProgramView) (rows : List (List Receipt)) → map calls_in rows ≡ map (λ p. p.calls) ps → AllBy h (actors_of ps) rows → HasCalls h ps
+has_calls : (h : List Entry) (ps : List ProgramView) (rows : List (List Receipt)) → map receipt_calls rows ≡ map (λ p. p.calls) ps → AllBy h (actors_of ps) rows → HasCalls h ps
 has_calls h [] rows same all = tt
 has_calls h (p ∷ ps) [] same all = cc
 has_calls h (p ∷ ps) (row ∷ rows) same all =
-    let first : calls_in row ≡ p.calls = cc in
-    let rest : map calls_in rows ≡ map (λ p. p.calls) ps = cc in (all.0 ∙ first, has_calls h ps rows rest all.1)
+    let first : receipt_calls row ≡ p.calls = cc in
+    let rest : map receipt_calls rows ≡ map (λ p. p.calls) ps = cc in (all.0 ∙ first, has_calls h ps rows rest all.1)
 
 own_from : (a : Actor) (i : ℕ) (calls : List Call) (n : ℕ) (call : Call) → position_from (λ c. not (same_actor a (actor c))) i calls ≡ None → n < length calls → call ≡ get_or calls n call → same_actor a (actor call) ≡ true
 own_from a i [] n call none lt is = absurd (omega arith)
@@ -70,18 +70,18 @@ own_call p n call none lt is =
     let test = λ (c : Call). not (same_actor p.actor (actor c)) in
     sym (same_actor-true p.actor (actor call) (own_from p.actor 0 p.calls n call (sym (position_from-zero test p.calls) ∙ none) lt is))
 
-has_beginnings : (h : List Entry) (ps : List ProgramView) (rows : List (List Receipt)) → AreBeginnings (map calls_in rows) (map (λ p. p.calls) ps) → AllBy h (actors_of ps) rows → HasBeginnings h ps
+has_beginnings : (h : List Entry) (ps : List ProgramView) (rows : List (List Receipt)) → AreBeginnings (map receipt_calls rows) (map (λ p. p.calls) ps) → AllBy h (actors_of ps) rows → HasBeginnings h ps
 has_beginnings h [] rows begun all = tt
 has_beginnings h (p ∷ ps) [] begun all = absurd begun
 has_beginnings h (p ∷ ps) (row ∷ rows) begun all = ((begun.0.0, all.0 ∙ begun.0.1), has_beginnings h ps rows begun.1 all.1)
 
-calls_in_rows : {X : Type 0} (items : X → List Receipt) (rows : List X) → map calls_in (map items rows) ≡ map (λ row. calls_in (items row)) rows
+calls_in_rows : {X : Type 0} (items : X → List Receipt) (rows : List X) → map receipt_calls (map items rows) ≡ map (λ row. receipt_calls (items row)) rows
 calls_in_rows items [] = refl
-calls_in_rows items (row ∷ rows) = ap (λ rest. calls_in (items row) ∷ rest) (calls_in_rows items rows)
+calls_in_rows items (row ∷ rows) = ap (λ rest. receipt_calls (items row) ∷ rest) (calls_in_rows items rows)
 
 -- the receipts of a settled history, a row for each program, each row of a beginning of the program's own calls
 module _ {X : Type 0} (items : X → List Receipt) (h : List Entry) (ps : List ProgramView) (rows : List X) (settled : IsSettled h (map items rows))
-    (begun : AreBeginnings (map (λ row. calls_in (items row)) rows) (map (λ p. p.calls) ps)) (own : stranger_from 0 ps ≡ None) (apart : Apart (actors_of ps)) where
+    (begun : AreBeginnings (map (λ row. receipt_calls (items row)) rows) (map (λ p. p.calls) ps)) (own : stranger_from 0 ps ≡ None) (apart : Apart (actors_of ps)) where
   owned : OwnedRows (actors_of ps) (map items rows)
   owned = own_rows 0 ps (map items rows) (rw (calls_in_rows items rows) begun) own
 
@@ -89,7 +89,7 @@ module _ {X : Type 0} (items : X → List Receipt) (h : List Entry) (ps : List P
   by_actors = settled_by_actors h (actors_of ps) (map items rows) settled owned apart
 
   -- where a row has all calls of its program, so has the history
-  pub run_calls : map (λ row. calls_in (items row)) rows ≡ map (λ p. p.calls) ps → HasCalls h ps
+  pub run_calls : map (λ row. receipt_calls (items row)) rows ≡ map (λ p. p.calls) ps → HasCalls h ps
   run_calls same = has_calls h ps (map items rows) (calls_in_rows items rows ∙ same) by_actors
 
   pub run_begun : HasBeginnings h ps

@@ -8,10 +8,10 @@ use Rattle.kc_types.specs.declared.call.Actor.{Actor}
 use Rattle.kc_model.specs.Histories.{same_actor, calls_by}
 use Rattle.kc_live.specs.declared.fault.LiveCause.{LiveCause}
 use Rattle.kc_live.specs.declared.fault.LiveCause.TheVariants.{NotYours, HistoryFull, Memory, Start, Unsettled, BadActor}
-use Rattle.kc_live.specs.Programs.{ProgramView, NoneIs, Apart, actors_of}
-use Rattle.kc_history.specs.Logs.{Log}
-use Rattle.kc_live.specs.Plans.{IsFirstBad, IsSound, count_of}
-use Rattle.kc_live.specs.Stops.{IsLeft}
+use Rattle.kc_live.specs.Program.{ProgramView, NoneIs, Apart, actors_of}
+use Rattle.kc_history.specs.Book.{Log}
+use Rattle.kc_live.specs.Plans.{IsFirstBad, MayRunTogether, count_of}
+use Rattle.kc_live.specs.Stops.{IsLeftHistory}
 
 -- the calls of the actor's program; none where it has no program
 abbrev pub program_of : Actor → List ProgramView → List Call
@@ -68,7 +68,7 @@ KeepsOrders made calls = (a : Actor) → calls_by a made ≡ calls_by a calls
 
 -- the trace may run: nothing is wrong with the programs that it is cut into
 abbrev pub MayRun : Configuration → List Call → Type 0
-MayRun config calls = (ps : List ProgramView) × IsCut calls ps × IsSound config ps
+MayRun config calls = (ps : List ProgramView) × IsCut calls ps × MayRunTogether config ps
 
 -- why a trace gives no answer: one of its actors is none of the core's, it has more calls than a history, or it may run, and the cause shows only in a run; memory may run out before
 abbrev pub StopsTrace : Configuration → List Call → LiveCause → Type 0
@@ -81,4 +81,4 @@ StopsTrace config calls Unsettled = MayRun config calls
 
 -- the history that a run of a trace left, for the programs that the trace is cut into
 abbrev pub IsLeftOf : Configuration → List Call → LiveCause → Log → Type 0
-IsLeftOf config calls cause left = (ps : List ProgramView) × IsCut calls ps × IsLeft config ps cause left
+IsLeftOf config calls cause left = (ps : List ProgramView) × IsCut calls ps × IsLeftHistory config ps cause left

@@ -1,4 +1,4 @@
-pub mod Programs
+pub mod Program
 pub mod Plans
 pub mod Threads
 pub mod Stops

@@ -8,18 +8,18 @@ use Rattle.kc_live.specs.declared.fault.LiveCause.{LiveCause}
 use Rattle.kc_live.specs.declared.fault.LiveCause.TheVariants.{NotYours, HistoryFull, Memory, Start, Unsettled, BadActor}
 use Rattle.kc_live.specs.declared.program.ThreadStop.{ThreadStop}
 use Rattle.kc_live.specs.declared.program.ThreadStop.TheVariants as stops
-use Rattle.kc_history.specs.Logs.{Log, IsLegal}
-use Rattle.kc_live.specs.Programs.{ProgramView, HasBeginnings, HasNoOthers}
-use Rattle.kc_live.specs.Plans.{HaveActors, IsFirstBad, stranger_from, count_of, IsSound}
+use Rattle.kc_history.specs.Book.{Log, IsLegal}
+use Rattle.kc_live.specs.Program.{ProgramView, HasBeginnings, HasNoOthers}
+use Rattle.kc_live.specs.Plans.{HaveActors, IsFirstBad, stranger_from, count_of, MayRunTogether}
 
 -- the programs are such that this is the cause: a bad actor goes before a call of another, and this before too many calls; programs with none of the three may run
-abbrev pub StopsFor : Configuration → List ProgramView → LiveCause → Type 0
-StopsFor config ps (BadActor i) = IsFirstBad config ps i
-StopsFor config ps (NotYours i call) = HaveActors config ps × (stranger_from 0 ps ≡ Some (i, call))
-StopsFor config ps HistoryFull = HaveActors config ps × (stranger_from 0 ps ≡ None) × (call_limit < count_of ps)
-StopsFor config ps Memory = IsSound config ps
-StopsFor config ps Start = IsSound config ps
-StopsFor config ps Unsettled = IsSound config ps
+abbrev pub IsCauseOf : Configuration → List ProgramView → LiveCause → Type 0
+IsCauseOf config ps (BadActor i) = IsFirstBad config ps i
+IsCauseOf config ps (NotYours i call) = HaveActors config ps × (stranger_from 0 ps ≡ Some (i, call))
+IsCauseOf config ps HistoryFull = HaveActors config ps × (stranger_from 0 ps ≡ None) × (call_limit < count_of ps)
+IsCauseOf config ps Memory = MayRunTogether config ps
+IsCauseOf config ps Start = MayRunTogether config ps
+IsCauseOf config ps Unsettled = MayRunTogether config ps
 
 -- the cause shows only in a run
 abbrev pub IsLate : LiveCause → Type 0
@@ -40,7 +40,7 @@ FitsHistory Start is_there = is_there ≡ true
 FitsHistory Unsettled is_there = is_there ≡ true
 
 -- the history of a run that gave no answer: it is legal, and where the receipts settled it is of the configuration handed in, has of each program's calls a beginning, and no others
-pub record IsLeft (machine : Configuration) (ps : List ProgramView) (cause : LiveCause) (left : Log) : Type 0 where
+pub record IsLeftHistory (machine : Configuration) (ps : List ProgramView) (cause : LiveCause) (left : Log) : Type 0 where
   pub legal : IsLegal left
   pub config : cause ≢ Unsettled → left.config ≡ machine
   pub begun : cause ≢ Unsettled → HasBeginnings left.entries ps

@@ -5,13 +5,13 @@ use Rattle.kc_history.specs.declared.receipt.Receipt.{Receipt}
 use Rattle.kc_history.specs.declared.fault.LiveFault.TheVariants.{Memory}
 use Rattle.kc_live.specs.declared.program.ThreadStop.{ThreadStop}
 use Rattle.kc_live.specs.declared.program.ThreadStop.TheVariants.{Start, Fault}
-use Rattle.kc_live.specs.Programs.{calls_in}
+use Rattle.kc_live.specs.Program.{receipt_calls}
 
 -- the receipts of a beginning of these calls, and of all of them where nothing stopped the thread
 pub record IsRun (calls : List Call) (receipts : List Receipt) (stop : Option ThreadStop) : Type 0 where
   pub count : ℕ
-  pub begun : calls_in receipts ≡ take count calls
-  pub whole : stop ≡ None → calls_in receipts ≡ calls
+  pub begun : receipt_calls receipts ≡ take count calls
+  pub whole : stop ≡ None → receipt_calls receipts ≡ calls
 
 -- row by row the calls are a beginning of these
 abbrev pub AreBeginnings : List (List Call) → List (List Call) → Type 0

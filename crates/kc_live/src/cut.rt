@@ -1,8 +1,8 @@
 //! A trace that is cut into programs and run.
 ghost use Rattle.std.specs.Prelude.{◌≡◌, [], ◌∷◌, is_some, IfSome, IfOk, IfErr, OnOk, MatchOption, IsTrue, ◌↔◌};
 ghost use Rattle.kc_types.specs.Actors.{actor as actor_made};
-ghost use Rattle.kc_history.specs.Logs.{calls_of};
-ghost use Rattle.kc_live.specs.Programs.{NoneIs, actors_of};
+ghost use Rattle.kc_history.specs.Book.{calls_of};
+ghost use Rattle.kc_live.specs.Program.{NoneIs, actors_of};
 ghost use Rattle.kc_live.specs.Cuts.{IsCut, IsLeftOf, IsPlaceOf, KeepsOrders, MayRun, StopsTrace, with_call};
 ghost use Rattle.kc_live.specs.Stops.{FitsHistory};
 

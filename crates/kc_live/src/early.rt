@@ -3,7 +3,7 @@ ghost use Rattle.std.specs.Prelude.{◌≡◌, ◌↔◌, ◌<◌, MatchOption, 
 ghost use Rattle.kc_types.specs.Actors.{actor as actor_made};
 ghost use Rattle.kc_types.specs.Limits.{call_limit};
 ghost use Rattle.kc_model.specs.Histories.{same_actor};
-ghost use Rattle.kc_live.specs.Programs.{NoneIs, actors_of};
+ghost use Rattle.kc_live.specs.Program.{NoneIs, actors_of};
 ghost use Rattle.kc_live.specs.Plans.{IsActor, HaveActors, MayJoin, IsFirstBad, stranger_from, stranger_in, count_of};
 
 use crate::program::Program;

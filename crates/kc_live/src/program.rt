@@ -21,7 +21,7 @@ pub struct Program {
 }
 
 impl Model for Program {
-    ghost use Rattle.kc_live.specs.Programs.{ProgramView};
+    ghost use Rattle.kc_live.specs.Program.{ProgramView};
 
     ghost Value = { ProgramView };
 

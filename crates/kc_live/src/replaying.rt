@@ -1,6 +1,6 @@
 //! A history that is replayed.
 ghost use Rattle.std.specs.Prelude.{◌≡◌, ◌<◌, ◌≤◌, ◌⊎◌, ◌↔◌, OnOk, IfOk, IfErr};
-ghost use Rattle.kc_history.specs.Logs.{calls_of, end_state, replies_of};
+ghost use Rattle.kc_history.specs.Book.{calls_of, end_state, replies_of};
 ghost use Rattle.kc_replay.specs.declared.fault.ReplayFault.TheVariants.{BadWorkers};
 
 use kc_history::{Entry, History};

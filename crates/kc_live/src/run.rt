@@ -1,10 +1,10 @@
 //! A whole live run: from programs to a closed history with its receipts.
 ghost use Rattle.std.specs.Prelude.{◌≡◌, ◌↔◌, ◌≤◌, map, true, false, is_some, IfOk, IfErr, OnOk, IfSome, MatchOption, IsTrue};
 ghost use Rattle.kc_types.specs.Limits.{call_limit};
-ghost use Rattle.kc_live.specs.Programs.{calls_in, HasCalls, HasNoOthers};
+ghost use Rattle.kc_live.specs.Program.{receipt_calls, HasCalls, HasNoOthers};
 ghost use Rattle.kc_history.specs.Settling.{IsSettled};
-ghost use Rattle.kc_live.specs.Plans.{IsSound};
-ghost use Rattle.kc_live.specs.Stops.{StopsFor, IsLate, IsLeft, FitsHistory, thread_cause};
+ghost use Rattle.kc_live.specs.Plans.{MayRunTogether};
+ghost use Rattle.kc_live.specs.Stops.{IsCauseOf, IsLate, IsLeftHistory, FitsHistory, thread_cause};
 
 use crate::early::{first_bad, first_stranger, has_too_many};
 use crate::fault::{LiveCause, LiveStop};
@@ -57,7 +57,7 @@ fn open(
 
 /// What is wrong with the programs.
 fn early_stop(config: &Config, programs: &[Program]) -> Option<LiveCause>
-    ensures cause { MatchOption result (IsSound config.now programs.now) (StopsFor config.now programs.now) }
+    ensures cause { MatchOption result (MayRunTogether config.now programs.now) (IsCauseOf config.now programs.now) }
     ensures early { IfSome result (λ cause. FitsHistory cause false) }
 {
     if let Some(program) = first_bad(config, programs) {
@@ -114,17 +114,17 @@ pub fn run_live<G: Gate + Sync, R: Threads + Wait + Sync>(
     gate: &G,
 ) -> Result<(History, Vec<Vec<Receipt>>), LiveStop>
     // The programs were in order, or the cause is what is wrong with them, or shows only in a run.
-    ensures sound { OnOk result (IsSound config programs.items) }
-    ensures stop { IfErr result (λ stop. StopsFor config programs.items stop.cause) }
+    ensures sound { OnOk result (MayRunTogether config programs.items) }
+    ensures stop { IfErr result (λ stop. IsCauseOf config programs.items stop.cause) }
     ensures history { IfErr result (λ stop. FitsHistory stop.cause (is_some stop.history)) }
-    ensures left { IfErr result (λ stop. IfSome stop.history (IsLeft config programs.items stop.cause)) }
+    ensures left { IfErr result (λ stop. IfSome stop.history (IsLeftHistory config programs.items stop.cause)) }
 
     // The history is of the configuration handed in, and the receipts are just those of it.
     ensures config { IfOk result (λ r. r.0.config ≡ config) }
     ensures settled { IfOk result (λ r. IsSettled r.0.entries (map (λ v. v.items) r.1.items)) }
 
     // Row by row the receipts are of the programs' calls, and so is the history, actor by actor.
-    ensures rows { IfOk result (λ r. map (λ row. calls_in row.items) r.1.items ≡ map (λ p. p.calls) programs.items) }
+    ensures rows { IfOk result (λ r. map (λ row. receipt_calls row.items) r.1.items ≡ map (λ p. p.calls) programs.items) }
     ensures calls { IfOk result (λ r. HasCalls r.0.entries programs.items) }
     ensures others { IfOk result (λ r. HasNoOthers r.0.entries programs.items) }
 {

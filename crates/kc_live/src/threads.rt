@@ -1,6 +1,6 @@
 //! One thread for each program.
 ghost use Rattle.std.specs.Prelude.{◌≡◌, ◌≤◌, [], length, map, vec_capacity, None, IfOk, IfSome};
-ghost use Rattle.kc_live.specs.Programs.{calls_in};
+ghost use Rattle.kc_live.specs.Program.{receipt_calls};
 ghost use Rattle.kc_live.specs.Threads.{IsRun, AreBeginnings, graver};
 
 use crate::program::{MakesCalls, Program, Ran, ThreadStop, run_program};
@@ -120,8 +120,8 @@ fn join_all<R: Threads>(
 ) -> Made
     requires empty { rows.items ≡ [] }
     requires room { length threads.items ≤ vec_capacity rows }
-    ensures begun { AreBeginnings (map (λ row. calls_in row.items) result.rows.items) threads.items }
-    ensures whole { result.stop ≡ None → map (λ row. calls_in row.items) result.rows.items ≡ threads.items }
+    ensures begun { AreBeginnings (map (λ row. receipt_calls row.items) result.rows.items) threads.items }
+    ensures whole { result.stop ≡ None → map (λ row. receipt_calls row.items) result.rows.items ≡ threads.items }
 {
     let mut rows = rows;
     let mut stop = None;
@@ -144,16 +144,16 @@ pub fn make_calls<G: Gate + Sync, R: Threads + Wait + Sync>(
     places: Places,
 ) -> Made
     requires { length programs.items ≤ places }
-    ensures begun { AreBeginnings (map (λ row. calls_in row.items) result.rows.items) (map (λ p. p.calls) programs.items) }
-    ensures whole { result.stop ≡ None → map (λ row. calls_in row.items) result.rows.items ≡ map (λ p. p.calls) programs.items }
+    ensures begun { AreBeginnings (map (λ row. receipt_calls row.items) result.rows.items) (map (λ p. p.calls) programs.items) }
+    ensures whole { result.stop ≡ None → map (λ row. receipt_calls row.items) result.rows.items ≡ map (λ p. p.calls) programs.items }
 {
     thread::scope(
         thread::scope_env(),
         rt,
         |scope| -> Made
             requires { length programs.items ≤ places }
-            ensures begun { AreBeginnings (map (λ row. calls_in row.items) result.rows.items) (map (λ p. p.calls) programs.items) }
-            ensures whole { result.stop ≡ None → map (λ row. calls_in row.items) result.rows.items ≡ map (λ p. p.calls) programs.items }
+            ensures begun { AreBeginnings (map (λ row. receipt_calls row.items) result.rows.items) (map (λ p. p.calls) programs.items) }
+            ensures whole { result.stop ≡ None → map (λ row. receipt_calls row.items) result.rows.items ≡ map (λ p. p.calls) programs.items }
         {
             let (mut threads, rows) = places.into_parts();
             let mut first = 0usize;

@@ -2,9 +2,9 @@
 ghost use Rattle.std.specs.Prelude.{◌≡◌, ℕ, ◌+◌, ◌<◌, ◌≤◌, List, length, slice_range, IfOk, vec_len};
 ghost use Rattle.kc_types.specs.Limits.{page_size};
 ghost use Rattle.kc_model.specs.State.{zero_page, overwritten};
-ghost use Rattle.kc_page.specs.Bytes.{zeroed_from};
+ghost use Rattle.kc_page.specs.PageBytes.{zeroed_from};
 
-use kc_types::{Data, Memory, PAGE_SIZE, Spare};
+use kc_types::{Data, Memory, PAGE_SIZE, ReplyBuffer};
 use std::alloc::Global;
 use std::marker::Model;
 
@@ -43,7 +43,7 @@ impl PageBytes {
     }
 
     /// A copy of `len` bytes from `offset` on, in room made before, which takes no memory.
-    pub fn read(&self, offset: usize, len: usize, room: Spare) -> Data
+    pub fn read(&self, offset: usize, len: usize, room: ReplyBuffer) -> Data
         requires some { 0 < len }
         requires within { offset + len ≤ page_size }
         requires room { len ≤ room }

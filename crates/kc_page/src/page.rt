@@ -1,6 +1,6 @@
 //! A page, and many of them.
 ghost use Rattle.std.specs.Prelude.{◌≡◌, map};
-ghost use Rattle.kc_page.specs.Pages.{scrubbed_page};
+ghost use Rattle.kc_page.specs.Page.{scrubbed_page};
 
 use crate::PageBytes;
 use kc_types::{FrameNo, Gfn, Owner};

@@ -5,8 +5,8 @@ use Rattle.std.proofs.lemmas.Bool.{cases_lt}
 use Rattle.std.proofs.lemmas.List.{get_or_past, get_or_default, length-map}
 use Rattle.std.proofs.lemmas.Option.{slice_get-get_or}
 use Rattle.kc_page.specs.declared.page.Page.{Page}
-use Rattle.kc_page.specs.Pages.{scrubbed_page}
-use Rattle.kc_parts.specs.Held.{Held, IsHeld, AreBlanks, blank_page, place_of, is_filled}
+use Rattle.kc_page.specs.Page.{scrubbed_page}
+use Rattle.kc_parts.specs.Parts.{Held, IsHeld, AreBlanks, blank_page, place_of, is_filled}
 use Rattle.kc_parts.specs.Cuts.{IsFull}
 use Rattle.kc_parts.specs.Moves.{page_among}
 use Rattle.kc_parts.proofs.Places.{place-found, filled-at}

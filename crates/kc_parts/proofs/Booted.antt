@@ -8,7 +8,7 @@ use Rattle.std.proofs.lemmas.List.{get_or_past, length-replicate}
 use Rattle.std.proofs.lemmas.List.FromFn.{length-map-range_with_len, get_or-map-range_with_len, get_or-range_with_len, length-range_with_len}
 use Rattle.std.proofs.lemmas.Option.{slice_get-get_or, same_Some}
 use Rattle.kc_types.specs.Limits.{frame_limit}
-use Rattle.kc_model.proofs.Configurations.{few-frames}
+use Rattle.kc_model.proofs.States.Configurations.{few-frames}
 use Rattle.kc_types.specs.Configuration.{Configuration, IsConfiguration, slot_count}
 use Rattle.kc_types.specs.declared.link.Ends.{Ends}
 use Rattle.kc_types.specs.declared.link.Link.{Link}
@@ -17,13 +17,13 @@ use Rattle.kc_types.specs.declared.owner.Owner.TheVariants.{Core, Host, Free, Vm
 use Rattle.kc_model.specs.Lawful.{times_in}
 use Rattle.kc_model.specs.State.{empty_slot}
 use Rattle.kc_model.specs.Boot.{boot, boot_owner, boot_frame, no_vms}
-use Rattle.kc_model.proofs.AtBoot.{times_in-range}
+use Rattle.kc_model.proofs.Lawful.AtBoot.{times_in-range}
 use Rattle.kc_page.specs.declared.page.Page.{Page}
-use Rattle.kc_vms.specs.Slots.{VmSlot, empty_vm}
+use Rattle.kc_vms.specs.Vm.{VmSlot, empty_vm}
 use Rattle.kc_links.specs.Chain.{Links, IsLinked as IsLinkedFrom, first_or, last_or, unlinked}
 use Rattle.kc_links.specs.Ending.{Chain, listed, IsList}
 use Rattle.kc_links.proofs.Chains.{chain-listed, chain-is_list}
-use Rattle.kc_parts.specs.Held.{Held, HeldSlots, IsHeld, page_at, vm_at, links_of, ends_at}
+use Rattle.kc_parts.specs.Parts.{Held, HeldSlots, IsHeld, page_at, vm_at, links_of, ends_at}
 use Rattle.kc_parts.specs.States.{frame_in, slot_in, state_of, owner_at, IsLinked}
 use Rattle.kc_parts.specs.Booting.{first_free, boot_prev, boot_next, boot_page, boot_ends, boot_slots, IsWhole}
 use Rattle.kc_parts.proofs.Blanks.{blanks-filled}

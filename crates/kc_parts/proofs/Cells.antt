@@ -1,8 +1,8 @@
 -- What stands at the places of numbers.
 use Rattle.std.proofs.Common.{ℕ, zero, suc, ◌≡◌, ◌≢◌, ◌<◌, Bool, true, false, cond, ◌||◌, nat_eq, List, [], ◌∷◌, length, get_or, set, replicate, Option, Some, None, refl, sym, ◌∙◌, ap, arith}
 use Rattle.std.proofs.lemmas.Bool.{ne_eqb, eqb-true}
-use Rattle.kc_vms.specs.Slots.{VmSlot}
-use Rattle.kc_parts.specs.Held.{IsRising, AreHeldSlots, HasPlace, is_among, place_of, cell_in}
+use Rattle.kc_vms.specs.Vm.{VmSlot}
+use Rattle.kc_parts.specs.Parts.{IsRising, AreHeldSlots, HasPlace, is_among, place_of, cell_in}
 use Rattle.kc_parts.specs.Moves.{IsSlotWrite}
 use Rattle.kc_parts.proofs.Filled.{swapped, cell-set}
 use Rattle.kc_parts.proofs.Writing.{place-number}

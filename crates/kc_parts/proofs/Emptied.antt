@@ -12,15 +12,15 @@ use Rattle.kc_types.specs.declared.resource.Resource.TheVariants as resource
 use Rattle.kc_model.specs.State.{State, empty_slot, with_slot, with_frame, untouched}
 use Rattle.kc_model.specs.Effects.{scrubbed}
 use Rattle.kc_model.specs.Lawful.{times_in}
-use Rattle.kc_model.proofs.Members.{times_in-append}
+use Rattle.kc_model.proofs.States.Members.{times_in-append}
 use Rattle.kc_page.specs.declared.page.Page.{Page}
-use Rattle.kc_vms.specs.Slots.{VmSlot, empty_vm}
+use Rattle.kc_vms.specs.Vm.{VmSlot, empty_vm}
 use Rattle.kc_links.specs.Chain.{Links, spelled, next_of}
 use Rattle.kc_links.specs.Ending.{listed, IsList}
 use Rattle.kc_links.proofs.Times.{times-same, times-other}
 use Rattle.kc_links.proofs.Steps.{inside-held}
-use Rattle.kc_parts.specs.Held.{Held, page_at, held_slot, vm_at, links_of, ends_at, with_page, with_vm, link_of}
-use Rattle.kc_parts.specs.States.{frame_in, unlinked_slot, state_of, here_of, owner_at, lacks_list, is_away, frames_of, AreLists, IsLinked}
+use Rattle.kc_parts.specs.Parts.{Held, page_at, held_slot, vm_at, links_of, ends_at, with_page, with_vm, link_of}
+use Rattle.kc_parts.specs.States.{frame_in, unlinked_slot, state_of, here_of, owner_at, lacks_list, is_away, listed_frames, AreLists, IsLinked}
 use Rattle.kc_parts.specs.Emptying.{untouched_page, with_untouched, with_scrubbed, all_scrubbed, IsEmptied}
 use Rattle.kc_parts.proofs.Pages.{page-set, page-other, links-kept}
 use Rattle.kc_parts.proofs.Seen.{state-page, here-page, linked-moved}
@@ -280,7 +280,7 @@ module _ (old : Held) (v : ℕ) (vm : VmSlot) (at : vm_at old v ≡ Some vm) whe
   pub slot-emptied : IsEmptied v old emptied
   slot-emptied =
       let kept = scrubbing reset fs in
-      let same : frames_of old v ≡ fs = frames-here old v vm at in
+      let same : listed_frames old v ≡ fs = frames-here old v vm at in
       record {
         numbers = kept.numbers;
         filled = kept.filled;

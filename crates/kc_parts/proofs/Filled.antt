@@ -5,7 +5,7 @@ use Rattle.std.proofs.lemmas.Bool.Decides.{nat_tests}
 use Rattle.std.proofs.lemmas.Option.{slice_get_past}
 use Rattle.std.proofs.lemmas.Bool.{ne_eqb, eqb-true, cond-false}
 use Rattle.kc_page.specs.declared.page.Page.{Page}
-use Rattle.kc_parts.specs.Held.{IsRising, is_among, place_of, is_filled, cell_in}
+use Rattle.kc_parts.specs.Parts.{IsRising, is_among, place_of, is_filled, cell_in}
 use Rattle.kc_parts.proofs.Places.{rising-rest}
 
 -- what the places have

@@ -11,13 +11,13 @@ use Rattle.kc_types.specs.declared.resource.Resource.{Resource}
 use Rattle.kc_types.specs.declared.resource.Resource.TheVariants as resource
 use Rattle.kc_model.specs.Lawful.{times_in}
 use Rattle.kc_model.specs.State.{Frame}
-use Rattle.kc_model.proofs.Members.{times_in-append}
-use Rattle.kc_vms.specs.Slots.{VmSlot}
+use Rattle.kc_model.proofs.States.Members.{times_in-append}
+use Rattle.kc_vms.specs.Vm.{VmSlot}
 use Rattle.kc_links.specs.Chain.{unlinked}
 use Rattle.kc_links.specs.Ending.{listed, IsList, KeepsOthers}
 use Rattle.kc_links.proofs.Times.{times-same, times-other, once-first}
 use Rattle.kc_links.proofs.Chains.{chain-once}
-use Rattle.kc_parts.specs.Held.{Held, page_at, vm_at, links_of, ends_at}
+use Rattle.kc_parts.specs.Parts.{Held, page_at, vm_at, links_of, ends_at}
 use Rattle.kc_parts.specs.States.{frame_in, slot_in, owner_at, here_of, AreLists, IsLoose, IsFreeMove}
 use Rattle.kc_parts.specs.Linking.{IsSameRest}
 use Rattle.kc_parts.proofs.Moving.{lists-moved, lists-same}

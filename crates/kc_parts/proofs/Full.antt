@@ -3,7 +3,7 @@ use Rattle.std.proofs.Common.{◌≡◌, ◌<◌, get_or, ◌∙◌, ap, arith}
 use Rattle.std.specs.List.{range_with_len}
 use Rattle.std.proofs.lemmas.List.FromFn.{get_or-range_with_len, length-range_with_len}
 use Rattle.kc_types.specs.Configuration.{Configuration}
-use Rattle.kc_parts.specs.Held.{Held}
+use Rattle.kc_parts.specs.Parts.{Held}
 use Rattle.kc_parts.specs.Booting.{IsWhole}
 use Rattle.kc_parts.specs.Cuts.{IsFull}
 

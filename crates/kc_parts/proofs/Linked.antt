@@ -6,10 +6,10 @@ use mathlib.Core.Path.{fun_ext}
 use Rattle.kc_types.specs.Limits.{frame_limit}
 use Rattle.kc_types.specs.declared.link.Link.{Link}
 use Rattle.kc_page.specs.declared.page.Page.{Page}
-use Rattle.kc_page.specs.Pages.{frame_of}
+use Rattle.kc_page.specs.Page.{frame_of}
 use Rattle.kc_links.specs.Chain.{with_link}
 use Rattle.kc_links.proofs.Linked.{with_link-same, with_link-other}
-use Rattle.kc_parts.specs.Held.{Held, page_at, with_page, link_of, links_of}
+use Rattle.kc_parts.specs.Parts.{Held, page_at, with_page, link_of, links_of}
 use Rattle.kc_parts.specs.Linking.{IsSameRest}
 use Rattle.kc_parts.proofs.Pages.{page-set, page-other, kept-at}
 

@@ -7,7 +7,7 @@ use Rattle.std.proofs.lemmas.Option.{slice_get_within}
 use mathlib.Core.Path.{fun_ext}
 use Rattle.kc_types.specs.Limits.{frame_limit}
 use Rattle.kc_page.specs.declared.page.Page.{Page}
-use Rattle.kc_parts.specs.Held.{Held, place_of, is_filled, place_in, page_at, with_page, link_of, links_of}
+use Rattle.kc_parts.specs.Parts.{Held, place_of, is_filled, place_in, page_at, with_page, link_of, links_of}
 
 slice_get-set_other : {X : Type 0} (xs : List X) (i k : ℕ) (y : X) → k ≢ i → slice_get (set xs i y) k ≡ slice_get xs k
 slice_get-set_other [] i k y other = refl

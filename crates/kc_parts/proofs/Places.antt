@@ -1,7 +1,7 @@
 -- A frame and its place.
 use Rattle.std.proofs.Common.{ℕ, zero, suc, ◌≡◌, ◌≢◌, ◌<◌, ◌≤◌, Bool, true, false, cond, nat_eq, eq-eqb, List, [], ◌∷◌, length, get_or, refl, ap, arith}
 use Rattle.std.proofs.lemmas.Bool.{ne_eqb}
-use Rattle.kc_parts.specs.Held.{IsRising, place_of, is_filled}
+use Rattle.kc_parts.specs.Parts.{IsRising, place_of, is_filled}
 
 pub rising-rest : (n : ℕ) (ns : List ℕ) → IsRising (n ∷ ns) → IsRising ns
 rising-rest n ns rising i j less within = rising (suc i) (suc j) (omega (arith, less)) (omega (arith, within))

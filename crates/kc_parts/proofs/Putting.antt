@@ -6,7 +6,7 @@ use Rattle.std.proofs.lemmas.List.{get_or_append_left, get_or_past}
 use Rattle.std.proofs.Math.Seq.{get_or-append_seam}
 use Rattle.std.proofs.Math.ListN.{length-append}
 use Rattle.kc_page.specs.declared.page.Page.{Page}
-use Rattle.kc_parts.specs.Held.{Held, IsHeld, IsRising, blank_page, page_at, cell_in}
+use Rattle.kc_parts.specs.Parts.{Held, IsHeld, IsRising, blank_page, page_at, cell_in}
 use Rattle.kc_parts.specs.Cuts.{either}
 use Rattle.kc_parts.specs.Moves.{AreFrames, IsEmptyPlace, IsLaid, only_at}
 use Rattle.kc_parts.proofs.Filled.{cells, cells-append, length-cells, cell-no_place}

@@ -5,7 +5,7 @@ use Rattle.std.specs.Option.{option_map}
 use Rattle.std.proofs.lemmas.Bool.{cases_eq, ne_eqb, lt-ltb, ltb-true}
 use Rattle.std.proofs.lemmas.Option.{same_Some}
 use Rattle.kc_types.specs.Limits.{frame_limit}
-use Rattle.kc_model.proofs.Configurations.{few-frames}
+use Rattle.kc_model.proofs.States.Configurations.{few-frames}
 use Rattle.kc_types.specs.Configuration.{slot_count}
 use Rattle.kc_types.specs.declared.link.Ends.{Ends}
 use Rattle.kc_types.specs.declared.link.Link.{Link}
@@ -18,16 +18,16 @@ use Rattle.kc_model.specs.Resources.{Resource, Resources, is_in, pick}
 use Rattle.kc_model.specs.Local.{cut}
 use Rattle.kc_model.specs.Links.{link_after, link_in, list_of, first_of}
 use Rattle.kc_model.specs.Linked.{LinkedPart, LinkedSlot, frame_and_link, slot_and_ends, free_ends, linked_part_of, linked_slot, ends_of, last_of}
-use Rattle.kc_model.proofs.Members.{IsOnce, once-rest, held-times_in}
-use Rattle.kc_model.proofs.Orderly.{owned-is}
+use Rattle.kc_model.proofs.States.Members.{IsOnce, once-rest, held-times_in}
+use Rattle.kc_model.proofs.Local.Orderly.{owned-is}
 use Rattle.kc_page.specs.declared.page.Page.{Page}
-use Rattle.kc_page.specs.Pages.{frame_of}
-use Rattle.kc_vms.specs.Slots.{VmSlot}
+use Rattle.kc_page.specs.Page.{frame_of}
+use Rattle.kc_vms.specs.Vm.{VmSlot}
 use Rattle.kc_links.specs.Chain.{Links, IsLinked as IsLinkedFrom, first_or, last_or, unlinked}
 use Rattle.kc_links.specs.Ending.{listed, IsList, Chain}
 use Rattle.kc_links.proofs.Chains.{chain-listed, chain-is_list}
 use Rattle.kc_links.proofs.Neighbours.{chain-each}
-use Rattle.kc_parts.specs.Held.{Held, page_at, vm_at, link_of, links_of, ends_at}
+use Rattle.kc_parts.specs.Parts.{Held, page_at, vm_at, link_of, links_of, ends_at}
 use Rattle.kc_parts.specs.Cuts.HeldPart.{page_part, slot_part, ends_part}
 use Rattle.kc_parts.specs.States.{frame_in, slot_in, list_in, unlinked_slot, state_of, here_of, owner_at, IsLinked}
 use Rattle.kc_parts.specs.Restricted.{seen_link, seen_part, seen_at, IsRestricted, has_ends, IsClosed}

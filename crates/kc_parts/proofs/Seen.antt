@@ -11,10 +11,10 @@ use Rattle.kc_types.specs.declared.owner.Owner.TheVariants.{Core, Host, Free, Vm
 use Rattle.kc_model.specs.Lawful.{times_in}
 use Rattle.kc_model.specs.State.{frame_at, slot_at, with_frame, untouched, empty_slot}
 use Rattle.kc_page.specs.declared.page.Page.{Page}
-use Rattle.kc_page.specs.Pages.{frame_of}
+use Rattle.kc_page.specs.Page.{frame_of}
 use Rattle.kc_links.specs.Chain.{Links, unlinked}
 use Rattle.kc_links.specs.Ending.{listed}
-use Rattle.kc_parts.specs.Held.{Held, page_at, vm_at, links_of, link_of, ends_at, with_page}
+use Rattle.kc_parts.specs.Parts.{Held, page_at, vm_at, links_of, link_of, ends_at, with_page}
 use Rattle.kc_parts.specs.States.{frame_in, slot_in, list_in, state_of, owner_at, IsLinked}
 use Rattle.kc_parts.proofs.Pages.{page-set, page-other, kept-at, links-kept}
 use Rattle.kc_parts.proofs.Moving.{lists-owner, lists-same}

@@ -8,9 +8,9 @@ use Rattle.kc_types.specs.declared.owner.Owner.TheVariants.{Core, Host, Free, Vm
 use Rattle.kc_types.specs.declared.resource.Resource.{Resource}
 use Rattle.kc_types.specs.declared.resource.Resource.TheVariants as resource
 use Rattle.kc_model.specs.State.{with_slot}
-use Rattle.kc_vms.specs.Slots.{VmSlot}
+use Rattle.kc_vms.specs.Vm.{VmSlot}
 use Rattle.kc_links.specs.Ending.{listed}
-use Rattle.kc_parts.specs.Held.{Held, vm_at, links_of, ends_at, with_vm}
+use Rattle.kc_parts.specs.Parts.{Held, vm_at, links_of, ends_at, with_vm}
 use Rattle.kc_parts.specs.States.{slot_in, unlinked_slot, state_of, here_of, owner_at, IsLinked}
 use Rattle.kc_parts.proofs.Cells.{cell-at_place, cell-other_place, cell-same}
 use Rattle.kc_parts.proofs.Moving.{lists-same}

@@ -11,13 +11,13 @@ use Rattle.kc_types.specs.declared.resource.Resource.{Resource}
 use Rattle.kc_types.specs.declared.resource.Resource.TheVariants as resource
 use Rattle.kc_model.specs.Lawful.{times_in}
 use Rattle.kc_model.specs.State.{Frame}
-use Rattle.kc_vms.specs.Slots.{VmSlot}
+use Rattle.kc_vms.specs.Vm.{VmSlot}
 use Rattle.kc_model.specs.Effects.{without}
 use Rattle.kc_links.proofs.Others.{without-same, without-other}
 use Rattle.kc_links.specs.Chain.{unlinked}
 use Rattle.kc_links.specs.Ending.{listed, IsList, KeepsOthers}
-use Rattle.kc_parts.specs.Held.{Held, page_at, held_slot, vm_at, links_of, ends_at, with_vm, with_ends}
-use Rattle.kc_parts.specs.States.{frame_in, slot_in, unlinked_slot, owner_at, here_of, frames_of, AreLists, IsLoose, IsSlotMove}
+use Rattle.kc_parts.specs.Parts.{Held, page_at, held_slot, vm_at, links_of, ends_at, with_vm, with_ends}
+use Rattle.kc_parts.specs.States.{frame_in, slot_in, unlinked_slot, owner_at, here_of, listed_frames, AreLists, IsLoose, IsSlotMove}
 use Rattle.kc_parts.specs.Linking.{IsSameRest}
 use Rattle.kc_parts.proofs.Moving.{same_or_other, lists-moved, lists-same}
 use Rattle.kc_parts.proofs.Relinked.{frames-stay, vms-stay, here-stays, free-stays, slot-stays, absent-others, away-stays}
@@ -42,7 +42,7 @@ module _ (old mid : Held) (v : ℕ) (vm : VmSlot) (e' : Ends) (frames : List ℕ
   pub at-moved : vm_at moved v ≡ Some (with_ends vm e')
   at-moved = vm-set mid v vm (with_ends vm e') at-mid
 
-  pub frames-moved : frames_of moved v ≡ listed (links_of mid) e'
+  pub frames-moved : listed_frames moved v ≡ listed (links_of mid) e'
   frames-moved = ap (λ there. (slot_in (links_of mid) there).frames) at-moved
 
   vms-others : (w : ℕ) → w ≢ v → vm_at moved w ≡ vm_at old w
@@ -78,7 +78,7 @@ module _ (old mid : Held) (v : ℕ) (vm : VmSlot) (e' : Ends) (frames : List ℕ
       config = config;
       frames = table-same (λ f. frame_in (page_at old f)) (λ f. frame_in (page_at moved f)) (range_with_len 0 config.frames) (frames-stay old mid (Vm v) frames rest are keeps owned) i;
       free = free-stays old mid (Vm v) frames rest are keeps owned (λ same. cc) i;
-      slots = table-set (λ w. slot_in (links_of old) (vm_at old w)) (λ w. slot_in (links_of moved) (vm_at moved w)) (slot_count config) v (unlinked_slot was.slot (frames_of moved v)) (here-slot was at_was)
+      slots = table-set (λ w. slot_in (links_of old) (vm_at old w)) (λ w. slot_in (links_of moved) (vm_at moved w)) (slot_count config) v (unlinked_slot was.slot (listed_frames moved v)) (here-slot was at_was)
           (λ w other. ap (slot_in (links_of mid)) (vms-others w other) ∙ slot-stays old mid (Vm v) frames rest are keeps owned w (other-slot v w other)) i;
     };
     linked = λ config linked. record {
@@ -92,9 +92,9 @@ module _ (old mid : Held) (v : ℕ) (vm : VmSlot) (e' : Ends) (frames : List ℕ
       here-all : (r : Resource) → here_of moved r ≡ here_of old r
       here-all r = here-vm mid v vm (with_ends vm e') at-mid r ∙ here-stays old mid (Vm v) frames rest are keeps owned r
 
-      here-slot : (was : VmSlot) → vm_at old v ≡ Some was → slot_in (links_of moved) (vm_at moved v) ≡ unlinked_slot was.slot (frames_of moved v)
+      here-slot : (was : VmSlot) → vm_at old v ≡ Some was → slot_in (links_of moved) (vm_at moved v) ≡ unlinked_slot was.slot (listed_frames moved v)
       here-slot was at_was =
-          ap (slot_in (links_of moved)) at-moved ∙ ap (unlinked_slot vm.slot) (sym frames-moved) ∙ ap (λ (there : VmSlot). unlinked_slot there.slot (frames_of moved v)) (ap vm-in (sym at ∙ at_was))
+          ap (slot_in (links_of moved)) at-moved ∙ ap (unlinked_slot vm.slot) (sym frames-moved) ∙ ap (λ (there : VmSlot). unlinked_slot there.slot (listed_frames moved v)) (ap vm-in (sym at ∙ at_was))
         where
           vm-in : Option VmSlot → VmSlot
           vm-in (Some there) = there
@@ -115,7 +115,7 @@ module _ (old mid : Held) (v : ℕ) (vm : VmSlot) (e' : Ends) (frames : List ℕ
           ends-in None = e'
 
 -- the list of a slot that is here
-pub frames-here : (h : Held) (v : ℕ) (vm : VmSlot) → vm_at h v ≡ Some vm → frames_of h v ≡ listed (links_of h) vm.slot.ends
+pub frames-here : (h : Held) (v : ℕ) (vm : VmSlot) → vm_at h v ≡ Some vm → listed_frames h v ≡ listed (links_of h) vm.slot.ends
 frames-here h v vm at = ap (λ there. (slot_in (links_of h) there).frames) at
 
 pub ends-here : (h : Held) (v : ℕ) (vm : VmSlot) → vm_at h v ≡ Some vm → ends_at h (Vm v) ≡ Some vm.slot.ends

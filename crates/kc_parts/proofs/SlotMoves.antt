@@ -2,8 +2,8 @@
 use Rattle.std.proofs.Common.{ℕ, ◌≡◌, ◌<◌, ◌≤◌, Bool, true, false, cond, length, get_or, take, refl, sym, ◌∙◌, ap}
 use Rattle.std.specs.Prelude.{Option, Some, None}
 use Rattle.std.proofs.lemmas.List.{take_all}
-use Rattle.kc_vms.specs.Slots.{VmSlot}
-use Rattle.kc_parts.specs.Held.{HeldSlots, is_among, held_slot}
+use Rattle.kc_vms.specs.Vm.{VmSlot}
+use Rattle.kc_parts.specs.Parts.{HeldSlots, is_among, held_slot}
 use Rattle.kc_parts.specs.Cuts.{either}
 use Rattle.kc_parts.specs.Moves.{IsEmptySlot, AreMoved}
 use Rattle.kc_parts.proofs.Named.{among-at}

@@ -4,7 +4,7 @@ use Rattle.std.specs.Prelude.{Option, Some, None}
 use Rattle.std.specs.Option.{option_map}
 use Rattle.kc_types.specs.declared.resource.Resource.{Resource}
 use Rattle.kc_types.specs.declared.resource.Resource.TheVariants as resource
-use Rattle.kc_parts.specs.Held.{Held, page_at, vm_at}
+use Rattle.kc_parts.specs.Parts.{Held, page_at, vm_at}
 use Rattle.kc_parts.specs.Cuts.{HeldPart, IsSplit, FitsInto}
 use Rattle.kc_parts.specs.Cuts.HeldPart.{page_part, slot_part, ends_part}
 use Rattle.kc_parts.proofs.Writing.{place-here}

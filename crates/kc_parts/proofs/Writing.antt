@@ -5,7 +5,7 @@ use Rattle.std.proofs.lemmas.Option.{slice_get_past}
 use Rattle.std.proofs.lemmas.Bool.{eqb-true}
 use Rattle.kc_types.specs.declared.link.Ends.{Ends}
 use Rattle.kc_page.specs.declared.page.Page.{Page}
-use Rattle.kc_parts.specs.Held.{Held, HeldSlots, IsHeld, IsRising, place_of, is_filled, page_at, cell_in}
+use Rattle.kc_parts.specs.Parts.{Held, HeldSlots, IsHeld, IsRising, place_of, is_filled, page_at, cell_in}
 use Rattle.kc_parts.specs.Moves.{IsWrite, page_among}
 use Rattle.kc_parts.proofs.Places.{place-found}
 use Rattle.kc_parts.proofs.Filled.{cells, page_at-cells, cells-set, cell-set, length-cells}

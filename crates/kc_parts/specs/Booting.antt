@@ -6,8 +6,8 @@ use Rattle.kc_types.specs.declared.link.Ends.{Ends}
 use Rattle.kc_model.specs.State.{zero_page}
 use Rattle.kc_model.specs.Boot.{boot_owner}
 use Rattle.kc_page.specs.declared.page.Page.{Page}
-use Rattle.kc_vms.specs.Slots.{empty_vm}
-use Rattle.kc_parts.specs.Held.{Held, HeldSlots, page_at, vm_at}
+use Rattle.kc_vms.specs.Vm.{empty_vm}
+use Rattle.kc_parts.specs.Parts.{Held, HeldSlots, page_at, vm_at}
 
 -- the first frame that is free at boot
 abbrev pub first_free : Configuration → ℕ

@@ -6,8 +6,8 @@ use Rattle.kc_types.specs.declared.link.Ends.{Ends}
 use Rattle.kc_types.specs.declared.resource.Resource.{Resource}
 use Rattle.kc_types.specs.declared.resource.Resource.TheVariants as resource
 use Rattle.kc_page.specs.declared.page.Page.{Page}
-use Rattle.kc_vms.specs.Slots.{VmSlot}
-use Rattle.kc_parts.specs.Held.{Held, IsRising, HasPlace, is_among, page_at, vm_at}
+use Rattle.kc_vms.specs.Vm.{VmSlot}
+use Rattle.kc_parts.specs.Parts.{Held, IsRising, HasPlace, is_among, page_at, vm_at}
 
 -- what can be held of one resource: a page with its record and links, a slot with the ends of its list, the ends of the free list
 pub data HeldPart : Type 0 where

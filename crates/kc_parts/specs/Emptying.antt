@@ -7,8 +7,8 @@ use Rattle.kc_model.specs.Effects.{scrubbed}
 use Rattle.kc_model.specs.Lawful.{times_in}
 use Rattle.kc_model.specs.Resources.{Resource}
 use Rattle.kc_page.specs.declared.page.Page.{Page}
-use Rattle.kc_parts.specs.Held.{Held, page_at, with_page, links_of}
-use Rattle.kc_parts.specs.States.{state_of, here_of, owner_at, is_away, frames_of, IsLinked}
+use Rattle.kc_parts.specs.Parts.{Held, page_at, with_page, links_of}
+use Rattle.kc_parts.specs.States.{state_of, here_of, owner_at, is_away, listed_frames, IsLinked}
 
 -- the page of an untouched free frame, with the links that it had
 abbrev pub untouched_page : Page → Page
@@ -35,8 +35,8 @@ pub record IsEmptied (v : ℕ) (old new : Held) : Type 0 where
   pub free : new.free ≡ old.free
   pub links : links_of new ≡ links_of old
   pub here : (r : Resource) → here_of new r ≡ here_of old r
-  pub owners : (config : Configuration) → IsLinked config old → (f : ℕ) → 0 < times_in (frames_of old v) f → owner_at new f ≡ Free
+  pub owners : (config : Configuration) → IsLinked config old → (f : ℕ) → 0 < times_in (listed_frames old v) f → owner_at new f ≡ Free
   pub away : (config : Configuration) → IsLinked config old → (f : ℕ) → is_away old f ≡ true → owner_at new f ≡ owner_at old f
   pub state : (config : Configuration) → IsLinked config old → v < slot_count config
-      → state_of config new ≡ record (state_of config old) { frames = scrubbed (state_of config old).frames (frames_of old v); slots = slice_set (state_of config old).slots v empty_slot }
+      → state_of config new ≡ record (state_of config old) { frames = scrubbed (state_of config old).frames (listed_frames old v); slots = slice_set (state_of config old).slots v empty_slot }
   pub linked : (config : Configuration) → IsLinked config old → IsLinked config new

@@ -5,9 +5,9 @@ use Rattle.kc_types.specs.declared.link.Ends.{Ends}
 use Rattle.kc_types.specs.contracts.link.Ends.{the_row as ends_row}
 use Rattle.kc_page.specs.declared.page.Page.{Page}
 use Rattle.kc_page.specs.contracts.page.Page.{the_row as page_row}
-use Rattle.kc_vms.specs.Slots.{VmSlot}
+use Rattle.kc_vms.specs.Vm.{VmSlot}
 use Rattle.kc_vms.specs.contracts.vm.Vm.{the_row as vm_row}
-use Rattle.kc_parts.specs.Held.{Held, HeldSlots, with_page, with_held_slot, with_vm}
+use Rattle.kc_parts.specs.Parts.{Held, HeldSlots, with_page, with_held_slot, with_vm}
 use Rattle.kc_parts.specs.contracts.parts.Parts.{the_row}
 use Rattle.kc_parts.specs.contracts.slots.VmSlots.{the_row as slots_row}
 

@@ -1,4 +1,4 @@
-pub mod Held
+pub mod Parts
 pub mod States
 pub mod Linking
 pub mod Booting

@@ -5,8 +5,8 @@ use Rattle.std.proofs.Common.{◌∙◌}
 use Rattle.std.proofs.lemmas.Bool.{ltb-true}
 use Rattle.kc_types.specs.Limits.{frame_limit}
 use Rattle.kc_types.specs.declared.link.Link.{Link}
-use Rattle.kc_page.specs.Pages.{frame_of}
-use Rattle.kc_parts.specs.Held.{Held, page_at, links_of}
+use Rattle.kc_page.specs.Page.{frame_of}
+use Rattle.kc_parts.specs.Parts.{Held, page_at, links_of}
 
 -- two parts are the same but for the links of their frames
 pub record IsSameRest (old new : Held) : Type 0 where

@@ -10,10 +10,10 @@ use Rattle.kc_model.specs.State.{State}
 use Rattle.kc_model.specs.Resources.{Resource, Resources, IsWithin, is_in}
 use Rattle.kc_model.specs.Links.{list_of}
 use Rattle.kc_model.specs.Linked.{LinkedPart, frame_and_link, slot_and_ends, free_ends, linked_part_of}
-use Rattle.kc_page.specs.Pages.{frame_of}
-use Rattle.kc_vms.specs.Slots.{VmSlot}
+use Rattle.kc_page.specs.Page.{frame_of}
+use Rattle.kc_vms.specs.Vm.{VmSlot}
 use Rattle.kc_links.specs.Chain.{unlinked}
-use Rattle.kc_parts.specs.Held.{Held, vm_at, link_of}
+use Rattle.kc_parts.specs.Parts.{Held, vm_at, link_of}
 use Rattle.kc_parts.specs.Cuts.{HeldPart, held_at}
 use Rattle.kc_parts.specs.Cuts.HeldPart.{page_part, slot_part, ends_part}
 

@@ -11,11 +11,11 @@ use Rattle.kc_model.specs.Resources.{Resource, Resources}
 use Rattle.kc_model.specs.Lawful.{times_in}
 use Rattle.kc_model.specs.Linked.{LinkedSlot}
 use Rattle.kc_page.specs.declared.page.Page.{Page}
-use Rattle.kc_page.specs.Pages.{frame_of}
-use Rattle.kc_vms.specs.Slots.{VmSlot}
+use Rattle.kc_page.specs.Page.{frame_of}
+use Rattle.kc_vms.specs.Vm.{VmSlot}
 use Rattle.kc_links.specs.Chain.{Links, unlinked}
 use Rattle.kc_links.specs.Ending.{listed, IsList}
-use Rattle.kc_parts.specs.Held.{Held, page_at, vm_at, links_of, ends_at}
+use Rattle.kc_parts.specs.Parts.{Held, page_at, vm_at, links_of, ends_at}
 
 abbrev pub frame_in : Option Page → Frame
 frame_in (Some page) = frame_of page
@@ -96,8 +96,8 @@ pub record IsFreeMove (old new : Held) : Type 0 where
   pub linked : (config : Configuration) → IsLinked config old → IsLinked config new
 
 -- the list of a slot, where the slot is here
-abbrev pub frames_of : Held → ℕ → List ℕ
-frames_of h v = (slot_in (links_of h) (vm_at h v)).frames
+abbrev pub listed_frames : Held → ℕ → List ℕ
+listed_frames h v = (slot_in (links_of h) (vm_at h v)).frames
 
 -- the list of a slot changes, and nothing else that is seen
 pub record IsSlotMove (v : ℕ) (old new : Held) : Type 0 where
@@ -106,5 +106,5 @@ pub record IsSlotMove (v : ℕ) (old new : Held) : Type 0 where
   pub here : (r : Resource) → here_of new r ≡ here_of old r
   pub owners : (f : ℕ) → owner_at new f ≡ owner_at old f
   pub away : (f : ℕ) → is_away old f ≡ true → links_of new f ≡ links_of old f
-  pub state : (config : Configuration) (vm : VmSlot) → vm_at old v ≡ Some vm → state_of config new ≡ with_slot (state_of config old) v (unlinked_slot vm.slot (frames_of new v))
+  pub state : (config : Configuration) (vm : VmSlot) → vm_at old v ≡ Some vm → state_of config new ≡ with_slot (state_of config old) v (unlinked_slot vm.slot (listed_frames new v))
   pub linked : (config : Configuration) → IsLinked config old → IsLinked config new

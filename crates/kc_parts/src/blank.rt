@@ -1,6 +1,6 @@
 //! Blank pages, which stand where no page is.
 ghost use Rattle.std.specs.Prelude.{◌≡◌, IfOk};
-ghost use Rattle.kc_parts.specs.Held.{blank_page};
+ghost use Rattle.kc_parts.specs.Parts.{blank_page};
 
 use kc_page::{Page, PageBytes, PageRecord};
 use kc_types::{Memory, Owner};
@@ -16,7 +16,7 @@ pub(crate) struct Blank {
 impl Model for Blank {
     ghost use Rattle.std.specs.Prelude.{◌≡◌};
     ghost use Rattle.kc_page.specs.declared.page.Page.{Page};
-    ghost use Rattle.kc_parts.specs.Held.{blank_page};
+    ghost use Rattle.kc_parts.specs.Parts.{blank_page};
 
     ghost Value = { Page };
 

@@ -3,7 +3,7 @@ ghost use Rattle.std.specs.Prelude.{◌≡◌, ◌<◌, ◌+◌, ◌≤◌, map,
 ghost use Rattle.std.specs.List.{range_with_len};
 ghost use Rattle.kc_types.specs.Configuration.{slot_count};
 ghost use Rattle.kc_model.specs.Boot.{boot_owner};
-ghost use Rattle.kc_vms.specs.Slots.{empty_vm};
+ghost use Rattle.kc_vms.specs.Vm.{empty_vm};
 ghost use Rattle.kc_parts.specs.Booting.{boot_prev, boot_next, boot_page, boot_ends};
 
 use kc_page::{Page, PageBytes, PageRecord};

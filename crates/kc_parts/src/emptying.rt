@@ -2,7 +2,7 @@
 ghost use Rattle.std.specs.Prelude.{◌≡◌, IsSome, IfSome};
 ghost use Rattle.kc_links.specs.Chain.{next_of};
 ghost use Rattle.kc_links.specs.Ending.{listed};
-ghost use Rattle.kc_parts.specs.Held.{vm_at, links_of};
+ghost use Rattle.kc_parts.specs.Parts.{vm_at, links_of};
 ghost use Rattle.kc_parts.specs.Emptying.{with_scrubbed, all_scrubbed, IsEmptied};
 
 use crate::Parts;

@@ -4,7 +4,7 @@ use kc_links::LinkStore;
 use kc_types::{FrameNo, Link};
 
 impl LinkStore for Parts {
-    ghost use Rattle.kc_parts.specs.Held.{links_of};
+    ghost use Rattle.kc_parts.specs.Parts.{links_of};
     ghost use Rattle.kc_parts.specs.Linking.{IsSameRest, rest_kept, rest_through, links_within};
 
     ghost links = { links_of };

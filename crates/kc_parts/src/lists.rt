@@ -5,8 +5,8 @@ ghost use Rattle.kc_types.specs.declared.owner.Owner.TheVariants as owner;
 ghost use Rattle.kc_model.specs.Lawful.{times_in};
 ghost use Rattle.kc_model.specs.Effects.{without};
 ghost use Rattle.kc_links.specs.Ending.{listed, IsList, AreApart};
-ghost use Rattle.kc_parts.specs.Held.{vm_at, links_of, ends_at, with_vm, with_ends};
-ghost use Rattle.kc_parts.specs.States.{AreLists, owner_at, free_of, frames_of, IsLoose, IsFreeMove, IsSlotMove};
+ghost use Rattle.kc_parts.specs.Parts.{vm_at, links_of, ends_at, with_vm, with_ends};
+ghost use Rattle.kc_parts.specs.States.{AreLists, owner_at, free_of, listed_frames, IsLoose, IsFreeMove, IsSlotMove};
 
 use crate::Parts;
 use kc_links::{append, pop_front, splice, unlink};
@@ -86,7 +86,7 @@ impl Parts {
         requires lists { AreLists (links_of self.old) (ends_at self.old) (owner_at self.old) }
         requires loose { IsLoose self.old frame }
         requires mine { owner_at self.old frame ≡ owner.Vm vm }
-        ensures frames { frames_of self.new vm ≡ frames_of self.old vm ++ frame ∷ [] }
+        ensures frames { listed_frames self.new vm ≡ listed_frames self.old vm ++ frame ∷ [] }
         ensures rest { IsSlotMove vm self.old self.new }
     {
         if let Some(slot) = self.vm(vm) {
@@ -100,8 +100,8 @@ impl Parts {
     pub fn unlink_vm(&mut self, vm: VmId, frame: FrameNo)
         requires here { IsSome (vm_at self.old vm) }
         requires lists { AreLists (links_of self.old) (ends_at self.old) (owner_at self.old) }
-        requires inside { 0 < times_in (frames_of self.old vm) frame }
-        ensures frames { frames_of self.new vm ≡ without (frames_of self.old vm) frame }
+        requires inside { 0 < times_in (listed_frames self.old vm) frame }
+        ensures frames { listed_frames self.new vm ≡ without (listed_frames self.old vm) frame }
         ensures loose { IsLoose self.new frame }
         ensures rest { IsSlotMove vm self.old self.new }
     {

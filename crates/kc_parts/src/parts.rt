@@ -3,8 +3,8 @@ ghost use Rattle.std.specs.Prelude.{◌≡◌, ◌↔◌, ℕ, ◌<◌, IsTrue, 
 ghost use Rattle.std.specs.List.{range_with_len};
 ghost use Rattle.std.specs.Option.{option_copied, option_copied_mut};
 ghost use Rattle.std.specs.Borrow.{sem};
-ghost use Rattle.kc_page.specs.Pages.{scrubbed_page};
-ghost use Rattle.kc_parts.specs.Held.{IsRising};
+ghost use Rattle.kc_page.specs.Page.{scrubbed_page};
+ghost use Rattle.kc_parts.specs.Parts.{IsRising};
 
 use crate::Room;
 use crate::blank::Blank;
@@ -19,9 +19,8 @@ use std::alloc::Global;
 use std::marker::Model;
 use std::mem::{replace, swap};
 
-/// Parts that are in one hand: pages and VM slots in places of their own, by rising number, and the ends of the
-/// free list. A place stays where it is when its page is taken out, with a blank page in it, so what is put
-/// back needs no memory.
+/// A store of pages, VM slots and the ends of the free list. Each page and each slot has a place of its own, by rising
+/// number, which stays when it is taken out, with a blank page in it: so putting it back takes no memory.
 #[derive(Drop)]
 pub struct Parts {
     numbers: Vec<u32>,
@@ -36,7 +35,7 @@ impl Model for Parts {
     ghost use Rattle.std.specs.Coded.{codes, coded_ℕ};
     ghost use Rattle.std.specs.Ordering.{nat_cmp};
     ghost use Rattle.std.specs.FinMap as map;
-    ghost use Rattle.kc_parts.specs.Held.{Held, IsHeld};
+    ghost use Rattle.kc_parts.specs.Parts.{Held, IsHeld};
 
     ghost Value = { Held };
 
@@ -50,7 +49,7 @@ impl Model for Parts {
 impl Parts {
     ghost use Rattle.kc_types.specs.Configuration.{IsConfiguration, slot_count};
     ghost use Rattle.kc_model.specs.Boot.{boot};
-    ghost use Rattle.kc_parts.specs.Held.{IsHeld, blank_page, place_in, page_at, held_slot, vm_at};
+    ghost use Rattle.kc_parts.specs.Parts.{IsHeld, blank_page, place_in, page_at, held_slot, vm_at};
     ghost use Rattle.kc_parts.specs.States.{state_of, IsLinked};
     ghost use Rattle.kc_parts.specs.Booting.{IsWhole};
     ghost use Rattle.kc_parts.specs.Lending.{LendsPage, LendsVm, LendsFree, LendsPages};

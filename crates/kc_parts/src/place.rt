@@ -1,6 +1,6 @@
 //! The place of a number.
 ghost use Rattle.std.specs.Prelude.{◌≡◌};
-ghost use Rattle.kc_parts.specs.Held.{IsRising, place_of};
+ghost use Rattle.kc_parts.specs.Parts.{IsRising, place_of};
 
 /// The place of a number among rising numbers, and their count where it has none. Where all numbers have places
 /// it is found at once.

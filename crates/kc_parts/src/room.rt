@@ -1,6 +1,6 @@
 //! How much parts can hold.
 
-/// How many frames and slots there are places for.
+/// How many pages and slots a store has places for.
 #[derive(Clone, Copy, Debug, PartialEq, Eq)]
 pub struct Room {
     /// Places for frames, filled or empty.

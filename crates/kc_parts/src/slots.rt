@@ -2,8 +2,8 @@
 ghost use Rattle.std.specs.Prelude.{◌≡◌, ℕ, [], ◌∷◌, length, replicate, slice_index_or, IfOk, Some, None};
 ghost use Rattle.std.specs.Option.{option_copied, option_copied_mut};
 ghost use Rattle.std.specs.Borrow.{sem};
-ghost use Rattle.kc_vms.specs.Slots.{VmSlot};
-ghost use Rattle.kc_parts.specs.Held.{IsRising, HasPlace, is_among, place_of, held_slot};
+ghost use Rattle.kc_vms.specs.Vm.{VmSlot};
+ghost use Rattle.kc_parts.specs.Parts.{IsRising, HasPlace, is_among, place_of, held_slot};
 ghost use Rattle.kc_parts.specs.Booting.{boot_slots};
 ghost use Rattle.kc_parts.specs.Lending.{LendsSlot};
 ghost use Rattle.kc_parts.specs.Cuts.{either};
@@ -28,7 +28,7 @@ impl Model for VmSlots {
     ghost use Rattle.std.specs.Coded.{codes, coded_ℕ};
     ghost use Rattle.std.specs.Ordering.{nat_cmp};
     ghost use Rattle.std.specs.FinMap as map;
-    ghost use Rattle.kc_parts.specs.Held.{HeldSlots, AreHeldSlots};
+    ghost use Rattle.kc_parts.specs.Parts.{HeldSlots, AreHeldSlots};
 
     ghost Value = { HeldSlots };
 

@@ -10,7 +10,7 @@ use Rattle.std.proofs.lemmas.List.Folds.{list_any-append}
 use Rattle.std.proofs.lemmas.Map.Keys.{IsDistinct-push}
 use Rattle.std.proofs.lemmas.Nat.{same_from_place}
 use Rattle.std.proofs.Math.ListN.{length-set, length-replicate}
-use Rattle.kc_plan.specs.Members.{is_in, added, AreFlags, AreSame}
+use Rattle.kc_plan.specs.Members.{is_in, with_member, AreFlags, AreSame}
 use Rattle.kc_plan.proofs.Shapes.{same_number, equal, and_left, and_right, both, or_false, or_true}
 
 added_by : (xs : List ℕ) (f : ℕ) (b : Bool) → is_in xs f ≡ b → (g : ℕ) → is_in (cond b xs (xs ++ f ∷ [])) g ≡ (is_in xs g || eqb f g)
@@ -24,24 +24,24 @@ added_by xs f false has g = list_any-append (eqb g) xs (f ∷ []) ∙ ap (λ (b 
     last : (f g : ℕ) → (eqb g f || false) ≡ eqb f g
     last f g = grind (arith, nat_tests)
 
-pub is_in_added : (xs : List ℕ) (f g : ℕ) → is_in (added xs f) g ≡ (is_in xs g || eqb f g)
+pub is_in_added : (xs : List ℕ) (f g : ℕ) → is_in (with_member xs f) g ≡ (is_in xs g || eqb f g)
 is_in_added xs f g = added_by xs f (is_in xs f) refl g
 
-pub length_added : (xs : List ℕ) (f : ℕ) → length xs ≤ length (added xs f)
+pub length_added : (xs : List ℕ) (f : ℕ) → length xs ≤ length (with_member xs f)
 length_added xs f = by (is_in xs f)
   where
     by : (b : Bool) → length xs ≤ length (cond b xs (xs ++ f ∷ []))
     by true = omega arith
     by false = omega (arith, length-append xs (f ∷ []))
 
-pub added_front : (xs : List ℕ) (f i : ℕ) → i < length xs → get_or (added xs f) i 0 ≡ get_or xs i 0
+pub added_front : (xs : List ℕ) (f i : ℕ) → i < length xs → get_or (with_member xs f) i 0 ≡ get_or xs i 0
 added_front xs f i low = by (is_in xs f)
   where
     by : (b : Bool) → get_or (cond b xs (xs ++ f ∷ [])) i 0 ≡ get_or xs i 0
     by true = refl
     by false = get_or_append_left xs (f ∷ []) 0 i low
 
-pub added_once : (xs : List ℕ) (f : ℕ) → IsDistinct eqb xs → IsDistinct eqb (added xs f)
+pub added_once : (xs : List ℕ) (f : ℕ) → IsDistinct eqb xs → IsDistinct eqb (with_member xs f)
 added_once xs f once = by (is_in xs f) refl
   where
     by : (b : Bool) → is_in xs f ≡ b → IsDistinct eqb (cond b xs (xs ++ f ∷ []))
@@ -49,12 +49,12 @@ added_once xs f once = by (is_in xs f) refl
     by false has = IsDistinct-push nat_eq_equiv xs f once has
 
 -- one of several sets
-module _ (p f : ℕ) (a b : List (List ℕ)) (low : p < length a) (sets : b ≡ set a p (added (get_or a p []) f)) where
+module _ (p f : ℕ) (a b : List (List ℕ)) (low : p < length a) (sets : b ≡ set a p (with_member (get_or a p []) f)) where
   other_set : (q : ℕ) → q ≢ p → get_or b q [] ≡ get_or a q []
-  other_set q ne = rw sets (get_or-set_other a p q (added (get_or a p []) f) [] ne)
+  other_set q ne = rw sets (get_or-set_other a p q (with_member (get_or a p []) f) [] ne)
 
-  this_set : get_or b p [] ≡ added (get_or a p []) f
-  this_set = rw sets (get_or-set_same a p (added (get_or a p []) f) [] low)
+  this_set : get_or b p [] ≡ with_member (get_or a p []) f
+  this_set = rw sets (get_or-set_same a p (with_member (get_or a p []) f) [] low)
 
   pub set_has : (q g : ℕ) → is_in (get_or b q []) g ≡ (is_in (get_or a q []) g || (eqb p q && eqb f g))
   set_has q g = by (eqb p q) refl
@@ -107,13 +107,13 @@ pub flags_same : (sets : List (List ℕ)) (flags after : List Bool) → AreFlags
 flags_same sets flags after are same = record { few = are.few; has = λ p f low. same.flag (f * length sets + p) ∙ are.has p f low }
 
 pub flags_added : (sets : List (List ℕ)) (flags : List Bool) (p f : ℕ) → p < length sets → f * length sets + p < length flags → AreFlags sets flags
-    → AreFlags (set sets p (added (get_or sets p []) f)) (set flags (f * length sets + p) true)
+    → AreFlags (set sets p (with_member (get_or sets p []) f)) (set flags (f * length sets + p) true)
 flags_added sets flags p f low room are =
-    let len : length (set sets p (added (get_or sets p []) f)) ≡ length sets = length-set sets p (added (get_or sets p []) f) in
+    let len : length (set sets p (with_member (get_or sets p []) f)) ≡ length sets = length-set sets p (with_member (get_or sets p []) f) in
     record { few = rw len are.few; has = λ q g there. rw len (each q g (rw len at there)) }
   where
-    each : (q g : ℕ) → q < length sets → get_or (set flags (f * length sets + p) true) (g * length sets + q) false ≡ is_in (get_or (set sets p (added (get_or sets p []) f)) q []) g
-    each q g there = by (eqb p q && eqb f g) refl ∙ sym (set_has p f sets (set sets p (added (get_or sets p []) f)) low refl q g)
+    each : (q g : ℕ) → q < length sets → get_or (set flags (f * length sets + p) true) (g * length sets + q) false ≡ is_in (get_or (set sets p (with_member (get_or sets p []) f)) q []) g
+    each q g there = by (eqb p q && eqb f g) refl ∙ sym (set_has p f sets (set sets p (with_member (get_or sets p []) f)) low refl q g)
       where
         by : (b : Bool) → (eqb p q && eqb f g) ≡ b → get_or (set flags (f * length sets + p) true) (g * length sets + q) false ≡ (is_in (get_or sets q []) g || (eqb p q && eqb f g))
         by true e =

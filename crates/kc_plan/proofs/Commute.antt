@@ -6,10 +6,10 @@ use Rattle.kc_model.specs.Ranged.{IsRanged}
 use Rattle.kc_model.specs.Resources.{need}
 use Rattle.kc_model.specs.Linked.{linked_part_at}
 use Rattle.kc_model.specs.Footprints.{call_at, state_at, part_at, footprint}
-use Rattle.kc_model.proofs.Agreeing.{agrees-next, keeps-rest}
-use Rattle.kc_model.proofs.Reaches.{need-within, footprint-keeps, not-held}
-use Rattle.kc_model.proofs.LinksKept.{links-kept}
-use Rattle.kc_model.proofs.LawfulTraces.{IsRangedTrace, lawful-at, orderly-at, lists-all}
+use Rattle.kc_model.proofs.Local.Agreeing.{agrees-next, keeps-rest}
+use Rattle.kc_model.proofs.Footprints.Reaches.{need-within, footprint-keeps, not-held}
+use Rattle.kc_model.proofs.Local.LinksKept.{links-kept}
+use Rattle.kc_model.proofs.Lawful.LawfulTraces.{IsRangedTrace, lawful-at, orderly-at, lists-all}
 use Rattle.waves.proofs.Laws.{commutes}
 use Rattle.kc_plan.specs.Commuting.{IsCommuting, IsCommutingLinked, HasNeeds, IsStepping}
 

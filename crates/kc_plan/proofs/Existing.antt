@@ -9,7 +9,7 @@ use Rattle.kc_types.specs.declared.owner.Owner.TheVariants.{Core, Free, Vm}
 use Rattle.kc_model.specs.State.{State, frame_at}
 use Rattle.kc_model.specs.Lawful.{IsLawful, same_owner}
 use Rattle.kc_model.specs.Footprints.{call_at, gains, reach}
-use Rattle.kc_model.proofs.Changes.{exists}
+use Rattle.kc_model.proofs.States.Changes.{exists}
 
 low-same : (n g f : ℕ) → (nat_lt g n && nat_eq g f) ≡ true → f < n
 low-same n g f h =

@@ -8,21 +8,21 @@ use Rattle.std.proofs.lemmas.Cmp.{nat_eq_equiv}
 use Rattle.std.proofs.lemmas.Map.Keys.{IsDistinct-push}
 use Rattle.std.specs.List.{IsDistinct}
 use Rattle.std.proofs.Math.ListN.{length-set}
-use Rattle.kc_plan.specs.Members.{added}
+use Rattle.kc_plan.specs.Members.{with_member}
 use Rattle.kc_plan.specs.Reach.{is_in}
 use Rattle.kc_plan.proofs.Added.{length_added, added_front, set_has, set_once}
 use Rattle.kc_plan.proofs.Shapes.{or_left, or_right, or_cases, both, and_left, and_right, same_number, equal}
-use Rattle.kc_plan.specs.Planner.{Held, members_of, is_near, IsExact, IsRelated, IsJoined, AreFreed, IsWider, IsFreeing, IsGrown}
+use Rattle.kc_plan.specs.Planner.{Reached, members_of, is_near, IsExact, IsRelated, IsJoined, AreFreed, IsWider, IsFreeing, IsGrown}
 
-module _ (size free p f : ℕ) (a b : Held) (low : p < size) (free_low : free < size) (exact : IsExact size free a) (sets : b.sets ≡ set a.sets p (added (get_or a.sets p []) f)) where
+module _ (size free p f : ℕ) (a b : Reached) (low : p < size) (free_low : free < size) (exact : IsExact size free a) (sets : b.sets ≡ set a.sets p (with_member (get_or a.sets p []) f)) where
   there : p < length a.sets
   there = let l = exact.sets_len in omega arith
 
   same_set : (q : ℕ) → q ≢ p → members_of b q ≡ members_of a q
-  same_set q ne = rw sets (get_or-set_other a.sets p q (added (get_or a.sets p []) f) [] ne)
+  same_set q ne = rw sets (get_or-set_other a.sets p q (with_member (get_or a.sets p []) f) [] ne)
 
-  new_set : members_of b p ≡ added (members_of a p) f
-  new_set = rw sets (get_or-set_same a.sets p (added (get_or a.sets p []) f) [] there)
+  new_set : members_of b p ≡ with_member (members_of a p) f
+  new_set = rw sets (get_or-set_same a.sets p (with_member (get_or a.sets p []) f) [] there)
 
   pub members_joined : (q g : ℕ) → is_in (members_of b q) g ≡ (is_in (members_of a q) g || (eqb p q && eqb f g))
   members_joined q g = set_has p f a.sets b.sets there sets q g
@@ -59,7 +59,7 @@ module _ (size free p f : ℕ) (a b : Held) (low : p < size) (free_low : free < 
           rw is (rw new_set (added_front (members_of a p) f i (subst (λ (x : ℕ). i < length (members_of a x)) is below)))
       by false e = ap (λ (xs : List ℕ). get_or xs i 0) (same_set q (λ is. let no : eqb p q ≡ true = rw is (equal p) in cc))
 
-  module _ (m : Held) (between : m.sets ≡ b.sets) (near_before : m.near ≡ a.near) (freed_before : m.freed ≡ a.freed) (n : ℕ) (count : n ≡ size) (related : IsRelated n p f m b) where
+  module _ (m : Reached) (between : m.sets ≡ b.sets) (near_before : m.near ≡ a.near) (freed_before : m.freed ≡ a.freed) (n : ℕ) (count : n ≡ size) (related : IsRelated n p f m b) where
     near_old : (q r : ℕ) → is_near a q r ≡ true → is_near b q r ≡ true
     near_old q r n = related.old q r (rw near_before n)
 
@@ -71,7 +71,7 @@ module _ (size free p f : ℕ) (a b : Held) (low : p < size) (free_low : free < 
 
     pub joined_exact : IsExact size free b
     joined_exact = record {
-      sets_len = rw sets (length-set a.sets p (added (get_or a.sets p []) f) ∙ exact.sets_len);
+      sets_len = rw sets (length-set a.sets p (with_member (get_or a.sets p []) f) ∙ exact.sets_len);
       near_len = related.near_len ∙ ap (λ (x : List (List Bool)). length x) near_before ∙ exact.near_len;
       rows_len = λ q below. related.rows_len q ∙ ap (λ (x : List (List Bool)). length (get_or x q [])) near_before ∙ exact.rows_len q below;
       freed_len = ap (λ (x : List ℕ). length x) (related.freed ∙ freed_before) ∙ exact.freed_len;
@@ -115,10 +115,10 @@ module _ (size free p f : ℕ) (a b : Held) (low : p < size) (free_low : free < 
       once = each_once;
     }
 
-pub joined : (size free p f n : ℕ) (a m b : Held) → p < size → free < size → IsExact size free a → m.sets ≡ set a.sets p (added (get_or a.sets p []) f) → m.near ≡ a.near → m.freed ≡ a.freed
+pub joined : (size free p f n : ℕ) (a m b : Reached) → p < size → free < size → IsExact size free a → m.sets ≡ set a.sets p (with_member (get_or a.sets p []) f) → m.near ≡ a.near → m.freed ≡ a.freed
     → n ≡ size → IsRelated n p f m b → IsJoined size free p f a b
 joined size free p f n a m b low free_low exact sets near freed count related =
-    let same : b.sets ≡ set a.sets p (added (get_or a.sets p []) f) = related.sets ∙ sets in
+    let same : b.sets ≡ set a.sets p (with_member (get_or a.sets p []) f) = related.sets ∙ sets in
     record { exact = joined_exact size free p f a b low free_low exact same m (sym related.sets) near freed n count related; sets = same; freed = related.freed ∙ freed }
 
 take_front : (xs ys : List ℕ) (n : ℕ) → n ≤ length xs → (n ≤ length (xs ++ ys)) × (take n (xs ++ ys) ≡ take n xs)
@@ -126,7 +126,7 @@ take_front xs ys zero low = (omega arith, refl)
 take_front [] ys (suc n) low = absurd (omega arith)
 take_front (x ∷ xs) ys (suc n) low = let rest = take_front xs ys n (omega arith) in ((let l = rest.0 in omega arith), ap (λ (zs : List ℕ). x ∷ zs) rest.1)
 
-front_kept : (xs : List ℕ) (f n : ℕ) → n ≤ length xs → (n ≤ length (added xs f)) × (take n (added xs f) ≡ take n xs)
+front_kept : (xs : List ℕ) (f n : ℕ) → n ≤ length xs → (n ≤ length (with_member xs f)) × (take n (with_member xs f) ≡ take n xs)
 front_kept xs f n low = by (is_in xs f)
   where
     by : (b : Bool) → (n ≤ length (cond b xs (xs ++ f ∷ []))) × (take n (cond b xs (xs ++ f ∷ [])) ≡ take n xs)
@@ -134,21 +134,21 @@ front_kept xs f n low = by (is_in xs f)
     by false = take_front xs (f ∷ []) n low
 
 -- a join puts the frame behind
-pub joined_grown : (size free p f : ℕ) (a b : Held) → p < size → IsExact size free a → IsJoined size free p f a b → IsGrown a b
+pub joined_grown : (size free p f : ℕ) (a b : Reached) → p < size → IsExact size free a → IsJoined size free p f a b → IsGrown a b
 joined_grown size free p f a b low exact j q n under = by (eqb p q) refl
   where
     by : (c : Bool) → eqb p q ≡ c → (n ≤ length (members_of b q)) × (take n (members_of b q) ≡ take n (members_of a q))
     by true e =
         let is : p ≡ q = same_number p q e in
-        let here : members_of b p ≡ added (members_of a p) f = ap (λ (xs : List (List ℕ)). get_or xs p []) j.sets ∙ get_or-set_same a.sets p (added (get_or a.sets p []) f) [] (let l = exact.sets_len in omega arith) in
-        let there : members_of b q ≡ added (members_of a q) f = subst (λ (x : ℕ). members_of b x ≡ added (members_of a x) f) is here in
+        let here : members_of b p ≡ with_member (members_of a p) f = ap (λ (xs : List (List ℕ)). get_or xs p []) j.sets ∙ get_or-set_same a.sets p (with_member (get_or a.sets p []) f) [] (let l = exact.sets_len in omega arith) in
+        let there : members_of b q ≡ with_member (members_of a q) f = subst (λ (x : ℕ). members_of b x ≡ with_member (members_of a x) f) is here in
         rw there (front_kept (members_of a q) f n under)
     by false e =
-        let there : members_of b q ≡ members_of a q = ap (λ (xs : List (List ℕ)). get_or xs q []) j.sets ∙ get_or-set_other a.sets p q (added (get_or a.sets p []) f) [] (λ (is : q ≡ p). let no : eqb p q ≡ true = rw is (equal p) in cc) in
+        let there : members_of b q ≡ members_of a q = ap (λ (xs : List (List ℕ)). get_or xs q []) j.sets ∙ get_or-set_other a.sets p q (with_member (get_or a.sets p []) f) [] (λ (is : q ≡ p). let no : eqb p q ≡ true = rw is (equal p) in cc) in
         rw there (under, refl)
 
 -- a join as a test
-pub joined_wider : (size free p f : ℕ) (a b : Held) → p < size → free < size → IsExact size free a → IsJoined size free p f a b → IsWider size free (λ q g. eqb p q && eqb f g) a b
+pub joined_wider : (size free p f : ℕ) (a b : Reached) → p < size → free < size → IsExact size free a → IsJoined size free p f a b → IsWider size free (λ q g. eqb p q && eqb f g) a b
 joined_wider size free p f a b low free_low exact j =
     record { exact = j.exact; sets = λ q g below. members_joined size free p f a b low free_low exact j.sets q g; grown = joined_grown size free p f a b low exact j }
 
@@ -157,11 +157,11 @@ same_true true b f g = sym (f refl)
 same_true false true f g = g refl
 same_true false false f g = refl
 
-slot_stays : (size free v f : ℕ) (b c : Held) → v < free → free < size → IsExact size free b → IsJoined size free free f b c → members_of c v ≡ members_of b v
+slot_stays : (size free v f : ℕ) (b c : Reached) → v < free → free < size → IsExact size free b → IsJoined size free free f b c → members_of c v ≡ members_of b v
 slot_stays size free v f b c low free_low exact j = same_set size free free f b c free_low free_low exact j.sets v (λ (e : v ≡ free). absurd (omega arith))
 
 -- one more of what the slot may have
-pub freeing_more : (size free v n f : ℕ) (a b c : Held) → v < free → free < size → IsFreeing size free v n a b → get_or (members_of a v) n 0 ≡ f → is_in (members_of a v) f ≡ true
+pub freeing_more : (size free v n f : ℕ) (a b c : Reached) → v < free → free < size → IsFreeing size free v n a b → get_or (members_of a v) n 0 ≡ f → is_in (members_of a v) f ≡ true
     → IsJoined size free free f b c → IsFreeing size free v (n + 1) a c
 freeing_more size free v n f a b c low free_low so_far is has j = record {
   exact = j.exact;
@@ -205,7 +205,7 @@ some_at (y ∷ xs) zero x e = let is : y ≡ x = cc in (is, at_place_of (y ∷ x
 some_at (y ∷ xs) (suc i) x e = let rest = some_at xs i x e in (rest.0, or_right (eqb x y) (is_in xs x) rest.1)
 
 -- and once all are there
-pub freed_all : (size free v n : ℕ) (a b c : Held) → v < free → free < size → IsExact size free a → IsFreeing size free v n a b → length (members_of a v) ≤ n
+pub freed_all : (size free v n : ℕ) (a b c : Reached) → v < free → free < size → IsExact size free a → IsFreeing size free v n a b → length (members_of a v) ≤ n
     → c.sets ≡ b.sets → c.near ≡ b.near → c.freed ≡ set b.freed v (length (members_of a v)) → AreFreed size free v a c
 freed_all size free v n a b c low free_low before so_far all sets near freed = record {
   exact = record {

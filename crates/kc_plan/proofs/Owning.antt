@@ -10,9 +10,9 @@ use Rattle.kc_types.specs.declared.owner.Owner.{Owner}
 use Rattle.kc_types.specs.declared.owner.Owner.TheVariants as owner
 use Rattle.kc_model.specs.State.{State, frame_at}
 use Rattle.kc_model.specs.Lawful.{IsLawful, same_owner}
-use Rattle.kc_model.proofs.Changes.{exists}
+use Rattle.kc_model.proofs.States.Changes.{exists}
 use Rattle.kc_plan.specs.Reach.{is_at}
-use Rattle.kc_plan.specs.Planner.{HasOneOwner, has_pair}
+use Rattle.kc_plan.specs.Planner.{HasOneOwnerEach, has_pair}
 use Rattle.kc_plan.specs.Owned.{IsOwned, IsOwnedBelow, principal_of}
 use Rattle.kc_plan.proofs.Shapes.{same_number, equal, and_right, and_false}
 use Rattle.kc_plan.proofs.Carried.{at_below, low_too, not_past, differs}
@@ -118,7 +118,7 @@ same_at : (o : Option ℕ) (p q : ℕ) → is_at o p ≡ true → is_at o q ≡ 
 same_at None p q h g = cc
 same_at (Some x) p q h g = sym (same_number x p h) ∙ same_number x q g
 
-pub one_owner : (m : State) (n : ℕ) (pairs : List (ℕ × ℕ)) → IsOwnedBelow m n pairs → HasOneOwner pairs
+pub one_owner : (m : State) (n : ℕ) (pairs : List (ℕ × ℕ)) → IsOwnedBelow m n pairs → HasOneOwnerEach pairs
 one_owner m n pairs so_far = record {
   same = λ p q f h g.
       same_at (principal_of (slot_count m.config) (frame_at m f).owner) p q

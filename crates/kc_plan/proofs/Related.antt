@@ -5,7 +5,7 @@ use Rattle.std.proofs.lemmas.Bool.{cases_lt}
 use Rattle.std.proofs.lemmas.List.{get_or-set_same, get_or-set_other}
 use Rattle.std.proofs.Math.ListN.{length-set}
 use Rattle.kc_plan.specs.Reach.{is_in}
-use Rattle.kc_plan.specs.Planner.{Held, members_of, is_near, IsRelated}
+use Rattle.kc_plan.specs.Planner.{Reached, members_of, is_near, IsRelated}
 use Rattle.kc_plan.proofs.Shapes.{or_left, or_right, or_cases, both, and_left, and_right, same_number, equal}
 
 -- the flag at row p and column q is raised
@@ -45,7 +45,7 @@ module _ (near : List (List Bool)) (p q : ℕ) (row : p < length near) (column :
           rw (is, this_row) (get_or-set_other (get_or near p []) q y true false (λ (at : y ≡ q). let yes : eqb q y ≡ true = rw at (equal q) in cc))
       by false b e g = ap (λ (xs : List Bool). get_or xs y false) (other_row x e)
 
-pub related_more : (n p f : ℕ) (a b : Held) (near : List (List Bool)) → p < length b.near → n < length b.near → n < length (get_or b.near p []) → p < length (get_or b.near n [])
+pub related_more : (n p f : ℕ) (a b : Reached) (near : List (List Bool)) → p < length b.near → n < length b.near → n < length (get_or b.near p []) → p < length (get_or b.near n [])
     → is_in (members_of a n) f ≡ true → near ≡ raised (raised b.near p n) n p → IsRelated n p f a b → IsRelated (n + 1) p f a (record { sets = b.sets; near = near; freed = b.freed })
 related_more n p f a b near p_low n_low n_in p_in has is so_far = rw is record {
   sets = so_far.sets;

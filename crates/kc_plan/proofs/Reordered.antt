@@ -9,16 +9,16 @@ use Rattle.kc_model.specs.Next.{next, state_after}
 use Rattle.kc_model.specs.Resources.{Resource, IsWithin, need, pick, merged, part_of}
 use Rattle.kc_model.specs.Local.{IsSameSize, AgreesOn}
 use Rattle.kc_model.specs.Footprints.{call_at, state_at, part_at, footprint}
-use Rattle.kc_model.proofs.Agreeing.{merged-agrees}
-use Rattle.kc_model.proofs.Sizes.{sized-next, sized-then}
-use Rattle.kc_model.proofs.Parts.{need-merged}
-use Rattle.kc_model.proofs.Places.{state_at-end}
-use Rattle.kc_model.proofs.Reaches.{footprint-keeps}
-use Rattle.kc_model.proofs.LawfulTraces.{orderly-at}
+use Rattle.kc_model.proofs.Local.Agreeing.{merged-agrees}
+use Rattle.kc_model.proofs.States.Sizes.{sized-next, sized-then}
+use Rattle.kc_model.proofs.Local.Parts.{need-merged}
+use Rattle.kc_model.proofs.States.Places.{state_at-end}
+use Rattle.kc_model.proofs.Footprints.Reaches.{footprint-keeps}
+use Rattle.kc_model.proofs.Lawful.LawfulTraces.{orderly-at}
 use Rattle.waves.specs.Reorder.{with_number, IsDue, IsTaken, IsReordering, left_by}
 use Rattle.waves.proofs.Reorders.{all_done, rest, due_finds, due_leaves, due_keeps, by_waves}
 use Rattle.kc_plan.specs.Commuting.{IsStep}
-use Rattle.kc_plan.specs.Reordering.{after_order, AnswersAlike, IsOrderFree, IsWaveOrderFree, IsReady}
+use Rattle.kc_plan.specs.Reordering.{after_order, AnswersAlike, IsOrderFree, IsWaveOrderFree, IsReadiness}
 use Rattle.kc_plan.proofs.Commute.{each-ranged, has_needs, is_stepping}
 
 pick-all : {X : Type 0} (d : X) (xs ys : List X) → pick (λ i. true) d xs ys ≡ xs
@@ -120,5 +120,5 @@ is_order_free m calls order is ranged fits = reordered m calls is ranged order f
 pub is_wave_order_free : IsWaveOrderFree
 is_wave_order_free m calls wave order is ranged plan each = reordered m calls is ranged order (by_waves (footprint m calls) wave (length calls) (λ k. false) order plan each)
 
-pub is_ready : IsReady
+pub is_ready : IsReadiness
 is_ready m calls order done k is ranged taken due = ready m calls is ranged order done k taken due

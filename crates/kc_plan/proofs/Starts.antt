@@ -6,8 +6,8 @@ use Rattle.std.proofs.Math.ListN.{length-set, length-replicate}
 use Rattle.std.proofs.lemmas.Map.Keys.{IsDistinct-from_apart}
 use Rattle.kc_plan.specs.Reach.{is_in}
 use Rattle.kc_plan.proofs.Shapes.{same_number, equal}
-use Rattle.kc_plan.specs.Members.{added}
-use Rattle.kc_plan.specs.Planner.{Held, is_near, HasOneOwner, AreApart, AreOwned, IsStart}
+use Rattle.kc_plan.specs.Members.{with_member}
+use Rattle.kc_plan.specs.Planner.{Reached, is_near, HasOneOwnerEach, AreUnrelated, AreOwned, IsStart}
 use Rattle.kc_plan.proofs.Added.{set_has, set_once}
 
 pub replicas : {A : Type 0} → (n i : ℕ) (z : A) → get_or (replicate n z) i z ≡ z
@@ -23,11 +23,11 @@ none_owned n = record {
 }
 
 pub owned_more : (n i p f : ℕ) (pairs : List (ℕ × ℕ)) (d : ℕ × ℕ) (a b : List (List ℕ)) → p < n → i < length pairs → (get_or pairs i d).0 ≡ p → (get_or pairs i d).1 ≡ f
-    → b ≡ set a p (added (get_or a p []) f) → AreOwned n (take i pairs) a → AreOwned n (take (i + 1) pairs) b
+    → b ≡ set a p (with_member (get_or a p []) f) → AreOwned n (take i pairs) a → AreOwned n (take (i + 1) pairs) b
 owned_more n i p f pairs d a b low below first second is so_far =
     let there : p < length a = let c = so_far.count in omega arith in
     record {
-      count = rw is (length-set a p (added (get_or a p []) f) ∙ so_far.count);
+      count = rw is (length-set a p (with_member (get_or a p []) f) ∙ so_far.count);
       has = λ q g.
           let more = list_any_more (λ (x : ℕ × ℕ). eqb x.0 q && eqb x.1 g) pairs i d below in
           set_has p f a b there is q g ∙ ap (λ (x : Bool). x || (eqb p q && eqb f g)) (so_far.has q g) ∙ sym (more ∙ rw (first, second) refl);
@@ -35,7 +35,7 @@ owned_more n i p f pairs d a b low below first second is so_far =
     }
 
 -- where no frame has two owners, each principal is near itself alone
-pub start_of : (n free : ℕ) (pairs : List (ℕ × ℕ)) (h : Held) → free < n → HasOneOwner pairs → AreOwned n pairs h.sets → AreApart n h.near → h.freed ≡ replicate n 0 → IsStart n free pairs h
+pub start_of : (n free : ℕ) (pairs : List (ℕ × ℕ)) (h : Reached) → free < n → HasOneOwnerEach pairs → AreOwned n pairs h.sets → AreUnrelated n h.near → h.freed ≡ replicate n 0 → IsStart n free pairs h
 start_of n free pairs h low one owned apart freed = record {
   exact = record {
     sets_len = owned.count;

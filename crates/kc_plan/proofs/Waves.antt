@@ -11,7 +11,7 @@ use Rattle.kc_model.specs.State.{State}
 use Rattle.kc_model.specs.Resources.{slot_of}
 use Rattle.kc_model.specs.Footprints.{call_at, footprint}
 use Rattle.kc_plan.specs.Commuting.{IsWaves}
-use Rattle.kc_plan.specs.Naming.{below, frame_of, names_of}
+use Rattle.kc_plan.specs.Naming.{below, named_frame, names_of}
 use Rattle.kc_plan.specs.Reach.{names_at, touches}
 use Rattle.kc_plan.specs.Owned.{IsOwned}
 use Rattle.kc_plan.specs.Planner.{IsInRange, has_pair}
@@ -33,7 +33,7 @@ length_names config (c ∷ cs) = ap suc (length_names config cs)
 pub names_range : (config : Configuration) (calls : List Call) (k : ℕ) → k < length (map (names_of config) calls) → IsInRange config.frames (slot_count config) (names_at (map (names_of config) calls) k)
 names_range config calls k low =
     let below_calls : k < length calls = rw (length_names config calls) at low in
-    rw (names_are config calls k below_calls) record { frame = below_low config.frames (frame_of (call_at calls k)); slot = below_low (slot_count config) (slot_of (call_at calls k)) }
+    rw (names_are config calls k below_calls) record { frame = below_low config.frames (named_frame (call_at calls k)); slot = below_low (slot_count config) (slot_of (call_at calls k)) }
 
 pub waves_are : (m : State) (calls : List Call) (pairs : List (ℕ × ℕ)) (wave : ℕ → ℕ) → IsOwned m pairs
     → ((k : ℕ) → k < length (map (names_of m.config) calls) → ComesJustAfter (touches (slot_count m.config) (has_pair pairs) (map (names_of m.config) calls)) wave k)

@@ -6,7 +6,7 @@ use Rattle.kc_model.specs.Resources.{Resource}
 use Rattle.kc_model.specs.Footprints.{footprint}
 use Rattle.kc_plan.specs.Commuting.{IsWaves}
 use Rattle.kc_plan.specs.Rows.{Rows, row_touches, row_at}
-use Rattle.kc_plan.specs.Plans.{wave_of}
+use Rattle.kc_plan.specs.Plan.{wave_of}
 
 -- the rows are the footprints of the calls, and the waves are theirs
 pub record AreFootprints (m : State) (calls : List Call) (footprints : Rows) : Type 0 where

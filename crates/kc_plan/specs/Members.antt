@@ -8,8 +8,8 @@ is_in xs f = list_any (eqb f) xs
 abbrev pub position_in : List ℕ → ℕ → Option ℕ
 position_in xs f = position (eqb f) xs
 
-abbrev pub added : List ℕ → ℕ → List ℕ
-added xs f = if is_in xs f then xs else xs ++ f ∷ []
+abbrev pub with_member : List ℕ → ℕ → List ℕ
+with_member xs f = if is_in xs f then xs else xs ++ f ∷ []
 
 -- the flags say of each number, from 0 on, and each set which has which; what is past their end is false
 pub record AreFlags (sets : List (List ℕ)) (flags : List Bool) : Type 0 where

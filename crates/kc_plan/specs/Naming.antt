@@ -8,14 +8,14 @@ use Rattle.kc_plan.specs.declared.names.Gain.{Gain}
 use Rattle.kc_plan.specs.declared.names.Gain.TheVariants.{Nothing, SlotTakesFrame, FreeTakesFrame, FreeTakesReach}
 use Rattle.kc_plan.specs.declared.names.Names.{Names}
 
-abbrev pub frame_of : Call → Option ℕ
-frame_of (Give f) = Some f
-frame_of (HostFault f) = Some f
-frame_of (HostRead f off len) = Some f
-frame_of (HostWrite f off bytes) = Some f
-frame_of (Remap v i f) = Some f
-frame_of (Map v c f) = Some f
-frame_of _ = None
+abbrev pub named_frame : Call → Option ℕ
+named_frame (Give f) = Some f
+named_frame (HostFault f) = Some f
+named_frame (HostRead f off len) = Some f
+named_frame (HostWrite f off bytes) = Some f
+named_frame (Remap v i f) = Some f
+named_frame (Map v c f) = Some f
+named_frame _ = None
 
 abbrev pub gain_of : Call → Gain
 gain_of (Give f) = FreeTakesFrame
@@ -32,7 +32,7 @@ below n (Some x) = if nat_lt x n then Some x else None
 
 abbrev pub names_of : Configuration → Call → Names
 names_of config call = record {
-  frame = below config.frames (frame_of call);
+  frame = below config.frames (named_frame call);
   slot = below (slot_count config) (slot_of call);
   free = uses_free call;
   gain = gain_of call;

@@ -2,14 +2,14 @@
 use Rattle.std.specs.Prelude.{◌≡◌, ℕ, ◌+◌, ◌<◌, ◌≤◌, Bool, true, false, ◌&&◌, ◌||◌, eqb, List, [], length, get_or, set, take, replicate, Option, Some, None, IfSome, ◌⊎◌}
 use Rattle.std.specs.List.{list_any, IsDistinct}
 use Rattle.kc_plan.specs.declared.names.Names.{Names}
-use Rattle.kc_plan.specs.Reach.{is_in, is_at, names_principal, gains_by, names_at, reach, touches}
+use Rattle.kc_plan.specs.Reach.{is_in, is_at, names_principal, gains_by, names_at, reaches, touches}
 use Rattle.waves.specs.Planned.{ComesJustAfter}
 use Rattle.kc_plan.specs.LastWaves.{IsFound, IsNoted, AreTracked}
-use Rattle.kc_plan.specs.Members.{added}
-use Rattle.kc_plan.specs.Plans.{wave_of}
+use Rattle.kc_plan.specs.Members.{with_member}
+use Rattle.kc_plan.specs.Plan.{wave_of}
 
 -- what each principal may have, which principals may have a frame in common, and how many of each slot's frames the free list has taken over
-pub record Held : Type 0 where
+pub record Reached : Type 0 where
   pub sets : List (List ℕ)
   pub near : List (List Bool)
   pub freed : List ℕ
@@ -20,10 +20,10 @@ pub record Stamps : Type 0 where
   pub principal_waves : List ℕ
   pub reach_waves : List ℕ
 
-abbrev pub members_of : Held → ℕ → List ℕ
+abbrev pub members_of : Reached → ℕ → List ℕ
 members_of h p = get_or h.sets p []
 
-abbrev pub is_near : Held → ℕ → ℕ → Bool
+abbrev pub is_near : Reached → ℕ → ℕ → Bool
 is_near h p q = get_or (get_or h.near p []) q false
 
 abbrev pub hit_frame : Option ℕ → List ℕ → Bool
@@ -35,7 +35,7 @@ hit_slot None near = false
 hit_slot (Some v) near = get_or near v false
 
 -- whether a call touches the principal p or what it may have
-abbrev pub is_hit : ℕ → Names → Held → ℕ → Bool
+abbrev pub is_hit : ℕ → Names → Reached → ℕ → Bool
 is_hit free n h p = hit_frame n.frame (members_of h p) || (hit_slot n.slot (get_or h.near p []) || (n.free && is_near h p free))
 
 -- the numbers that a call names are there
@@ -44,7 +44,7 @@ pub record IsInRange (frames free : ℕ) (n : Names) : Type 0 where
   pub slot : IfSome n.slot (λ v. v < free)
 
 -- the relation is exact, and the counts are right; size is the number of principals, free that of the free list
-pub record IsExact (size free : ℕ) (h : Held) : Type 0 where
+pub record IsExact (size free : ℕ) (h : Reached) : Type 0 where
   pub sets_len : length h.sets ≡ size
   pub near_len : length h.near ≡ size
   pub rows_len : (p : ℕ) → p < size → length (get_or h.near p []) ≡ size
@@ -57,31 +57,31 @@ pub record IsExact (size free : ℕ) (h : Held) : Type 0 where
   pub once : (p : ℕ) → IsDistinct eqb (members_of h p)
 
 -- the last wave of a call that touched the frame f, as far as frame_waves and the first n of principal_waves tell
-pub record IsLastOf (n f : ℕ) (h : Held) (s : Stamps) (high : ℕ) : Type 0 where
+pub record IsLastOf (n f : ℕ) (h : Reached) (s : Stamps) (high : ℕ) : Type 0 where
   pub named : get_or s.frame_waves f 0 ≤ high
   pub had : (p : ℕ) → p < n → is_in (members_of h p) f ≡ true → get_or s.principal_waves p 0 ≤ high
   pub got : (get_or s.frame_waves f 0 ≡ high) ⊎ ((p : ℕ) × (p < n) × (is_in (members_of h p) f ≡ true) × (get_or s.principal_waves p 0 ≡ high))
 
 -- high is the highest wave of a call that shares something with a call of these names
-abbrev pub IsHigh : ℕ → ℕ → Names → Held → Stamps → ℕ → Type 0
+abbrev pub IsHigh : ℕ → ℕ → Names → Reached → Stamps → ℕ → Type 0
 IsHigh size free n h s high =
     IsFound (λ k f. is_at n.frame f) (λ k p. names_principal free n p) (λ k p f. is_in (members_of h p) f) (λ k r. false) size 0 high
     (λ f. get_or s.frame_waves f 0) (λ p. get_or s.principal_waves p 0) (λ p. get_or s.reach_waves p 0)
 
 -- the highest waves of the first n principals are raised to w where the call touches them or what they may have
-pub record IsTop (n free w : ℕ) (names : Names) (h : Held) (before after : List ℕ) : Type 0 where
+pub record IsTop (n free w : ℕ) (names : Names) (h : Reached) (before after : List ℕ) : Type 0 where
   pub more : (p : ℕ) → get_or before p 0 ≤ get_or after p 0
   pub hit : (p : ℕ) → p < n → is_hit free names h p ≡ true → w ≤ get_or after p 0
   pub is : (p : ℕ) → (get_or after p 0 ≡ get_or before p 0) ⊎ ((get_or after p 0 ≡ w) × (is_hit free names h p ≡ true))
 
 -- a call of these names, of wave w, is written down
-abbrev pub IsWritten : ℕ → ℕ → Names → ℕ → Held → Stamps → Stamps → Type 0
+abbrev pub IsWritten : ℕ → ℕ → Names → ℕ → Reached → Stamps → Stamps → Type 0
 IsWritten size free n w h s t =
     IsNoted (λ k f. is_at n.frame f) (λ k p. names_principal free n p) (λ k p f. is_in (members_of h p) f) (λ k r. false) size 0 w (is_near h)
     (λ f. get_or s.frame_waves f 0) (λ p. get_or s.principal_waves p 0) (λ p. get_or s.reach_waves p 0) (λ f. get_or t.frame_waves f 0) (λ p. get_or t.principal_waves p 0) (λ p. get_or t.reach_waves p 0)
 
 -- the principal p is related to each that may have the frame f, both ways
-pub record IsRelated (n p f : ℕ) (a b : Held) : Type 0 where
+pub record IsRelated (n p f : ℕ) (a b : Reached) : Type 0 where
   pub sets : b.sets ≡ a.sets
   pub freed : b.freed ≡ a.freed
   pub near_len : length b.near ≡ length a.near
@@ -92,16 +92,16 @@ pub record IsRelated (n p f : ℕ) (a b : Held) : Type 0 where
   pub only : (q r : ℕ) → is_near b q r ≡ true → (is_near a q r ≡ true) ⊎ (((q ≡ p) × (is_in (members_of a r) f ≡ true)) ⊎ ((r ≡ p) × (is_in (members_of a q) f ≡ true)))
 
 -- what principals may have comes behind what they may have already
-abbrev pub IsGrown : Held → Held → Type 0
+abbrev pub IsGrown : Reached → Reached → Type 0
 IsGrown a b = (p n : ℕ) → n ≤ length (members_of a p) → (n ≤ length (members_of b p)) × (take n (members_of b p) ≡ take n (members_of a p))
 
-pub record AreFreed (size free v : ℕ) (a b : Held) : Type 0 where
+pub record AreFreed (size free v : ℕ) (a b : Reached) : Type 0 where
   pub exact : IsExact size free b
   pub sets : (p f : ℕ) → p < size → is_in (members_of b p) f ≡ (is_in (members_of a p) f || (eqb free p && is_in (members_of a v) f))
   pub grown : IsGrown a b
 
 -- the first n of what the slot v may have, the free list may have
-pub record IsFreeing (size free v n : ℕ) (a b : Held) : Type 0 where
+pub record IsFreeing (size free v n : ℕ) (a b : Reached) : Type 0 where
   pub exact : IsExact size free b
   pub freed : b.freed ≡ a.freed
   pub slot_same : members_of b v ≡ members_of a v
@@ -110,18 +110,18 @@ pub record IsFreeing (size free v n : ℕ) (a b : Held) : Type 0 where
   pub there : (i : ℕ) → i < n → is_in (members_of b free) (get_or (members_of a v) i 0) ≡ true
   pub grown : IsGrown a b
 
-pub record IsJoined (size free p f : ℕ) (a b : Held) : Type 0 where
+pub record IsJoined (size free p f : ℕ) (a b : Reached) : Type 0 where
   pub exact : IsExact size free b
-  pub sets : b.sets ≡ set a.sets p (added (get_or a.sets p []) f)
+  pub sets : b.sets ≡ set a.sets p (with_member (get_or a.sets p []) f)
   pub freed : b.freed ≡ a.freed
 
 -- each principal p gets the frames f that pass the test, and no others
-pub record IsWider (size free : ℕ) (test : ℕ → ℕ → Bool) (a b : Held) : Type 0 where
+pub record IsWider (size free : ℕ) (test : ℕ → ℕ → Bool) (a b : Reached) : Type 0 where
   pub exact : IsExact size free b
   pub sets : (p f : ℕ) → p < size → is_in (members_of b p) f ≡ (is_in (members_of a p) f || test p f)
   pub grown : IsGrown a b
 
-abbrev pub AreGained : ℕ → ℕ → Names → Held → Held → Type 0
+abbrev pub AreGained : ℕ → ℕ → Names → Reached → Reached → Type 0
 AreGained size free n a b = IsWider size free (λ p f. gains_by free (λ q g. is_in (members_of a q) g) n n.gain p f) a b
 
 abbrev pub set_at : Option ℕ → ℕ → List ℕ → List ℕ
@@ -137,11 +137,11 @@ abbrev pub AreBelow : ℕ → List (ℕ × ℕ) → Type 0
 AreBelow n pairs = (i : ℕ) → i < length pairs → (get_or pairs i (0, 0)).0 < n
 
 -- no frame has two owners
-pub record HasOneOwner (pairs : List (ℕ × ℕ)) : Type 0 where
+pub record HasOneOwnerEach (pairs : List (ℕ × ℕ)) : Type 0 where
   pub same : (p q f : ℕ) → has_pair pairs p f ≡ true → has_pair pairs q f ≡ true → p ≡ q
 
 -- each of the principals is near itself alone
-pub record AreApart (size : ℕ) (near : List (List Bool)) : Type 0 where
+pub record AreUnrelated (size : ℕ) (near : List (List Bool)) : Type 0 where
   pub count : length near ≡ size
   pub row : (p : ℕ) → p < size → get_or near p [] ≡ set (replicate size false) p true
 
@@ -151,17 +151,17 @@ pub record AreOwned (size : ℕ) (pairs : List (ℕ × ℕ)) (sets : List (List 
   pub has : (p f : ℕ) → is_in (get_or sets p []) f ≡ has_pair pairs p f
   pub once : (p : ℕ) → IsDistinct eqb (get_or sets p [])
 
-pub record IsStart (size free : ℕ) (pairs : List (ℕ × ℕ)) (h : Held) : Type 0 where
+pub record IsStart (size free : ℕ) (pairs : List (ℕ × ℕ)) (h : Reached) : Type 0 where
   pub exact : IsExact size free h
   pub sets : (p f : ℕ) → p < size → is_in (members_of h p) f ≡ has_pair pairs p f
 
 -- the waves of the first calls are planned, whatever those of the later ones are, and h and s are what the planner keeps then
-pub record IsGoing (frames free : ℕ) (start : ℕ → ℕ → Bool) (cs : List Names) (waves : List ℕ) (h : Held) (s : Stamps) : Type 0 where
+pub record IsGoing (frames free : ℕ) (start : ℕ → ℕ → Bool) (cs : List Names) (waves : List ℕ) (h : Reached) (s : Stamps) : Type 0 where
   pub planned : (wave : ℕ → ℕ) → ((j : ℕ) → j < length waves → wave j ≡ get_or waves j 0) → (k : ℕ) → k < length waves → ComesJustAfter (touches free start cs) wave k
   pub tracked : (wave : ℕ → ℕ) → ((j : ℕ) → j < length waves → wave j ≡ get_or waves j 0)
-      → AreTracked (λ k f. is_at (names_at cs k).frame f) (λ k p. names_principal free (names_at cs k) p) (reach free start cs) (touches free start cs) wave
+      → AreTracked (λ k f. is_at (names_at cs k).frame f) (λ k p. names_principal free (names_at cs k) p) (reaches free start cs) (touches free start cs) wave
       (free + 1) (length waves) (λ f. get_or s.frame_waves f 0) (λ p. get_or s.principal_waves p 0) (λ p. get_or s.reach_waves p 0)
-  pub sets : (p f : ℕ) → p < free + 1 → is_in (members_of h p) f ≡ reach free start cs (length waves) p f
+  pub sets : (p f : ℕ) → p < free + 1 → is_in (members_of h p) f ≡ reaches free start cs (length waves) p f
   pub exact : IsExact (free + 1) free h
   pub frame_low : (f : ℕ) → get_or s.frame_waves f 0 ≤ length waves
   pub principal_low : (p : ℕ) → get_or s.principal_waves p 0 ≤ length waves
@@ -176,4 +176,4 @@ ArePlanned free pairs cs waves = (k : ℕ) → k < length cs → ComesJustAfter 
 
 -- the sets have what each principal may have after all calls
 abbrev pub AreReached : ℕ → List (ℕ × ℕ) → List Names → List (List ℕ) → Type 0
-AreReached free pairs cs sets = (p f : ℕ) → p < free + 1 → is_in (get_or sets p []) f ≡ reach free (has_pair pairs) cs (length cs) p f
+AreReached free pairs cs sets = (p f : ℕ) → p < free + 1 → is_in (get_or sets p []) f ≡ reaches free (has_pair pairs) cs (length cs) p f

@@ -31,6 +31,6 @@ IsWaveOrderFree = (m : State) (calls : List Call) (wave : ℕ → ℕ) (order : 
     → AnswersAlike m calls m order × (after_order calls m order ≡ state_after m calls)
 
 -- in the store that calls in such an order leave, a call that is due needs no more than its footprint
-abbrev pub IsReady : Type 0
-IsReady = (m : State) (calls : List Call) (order : List ℕ) (done : ℕ → Bool) (k : ℕ) → IsLawful m → All IsRanged calls → IsTaken (footprint m calls) (length calls) (λ j. false) order done → IsDue (footprint m calls) (length calls) done k
+abbrev pub IsReadiness : Type 0
+IsReadiness = (m : State) (calls : List Call) (order : List ℕ) (done : ℕ → Bool) (k : ℕ) → IsLawful m → All IsRanged calls → IsTaken (footprint m calls) (length calls) (λ j. false) order done → IsDue (footprint m calls) (length calls) done k
     → IsWithin (need (after_order calls m order) (call_at calls k)) (footprint m calls k)

@@ -1,7 +1,7 @@
 //! Laws over the definitions alone.
 
 ghost use Rattle.kc_plan.specs.Commuting.{IsCommuting, IsCommutingLinked, HasNeeds, IsStepping};
-ghost use Rattle.kc_plan.specs.Reordering.{IsReady, IsOrderFree, IsWaveOrderFree};
+ghost use Rattle.kc_plan.specs.Reordering.{IsReadiness, IsOrderFree, IsWaveOrderFree};
 
 /// What a call needs lies in its footprint.
 pub fn needs()
@@ -28,5 +28,5 @@ pub fn reordering()
 
 /// In the store before a wave each of its calls needs no more than its footprint.
 pub fn readiness()
-    ensures { IsReady }
+    ensures { IsReadiness }
 {}

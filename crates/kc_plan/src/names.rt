@@ -1,7 +1,7 @@
 //! What a call names.
 ghost use Rattle.std.specs.Prelude.{◌≡◌};
 ghost use Rattle.kc_model.specs.Resources.{slot_of, uses_free};
-ghost use Rattle.kc_plan.specs.Naming.{frame_of, gain_of, below, names_of};
+ghost use Rattle.kc_plan.specs.Naming.{named_frame, gain_of, below, names_of};
 
 use kc_types::{Call, Config};
 
@@ -51,7 +51,7 @@ fn below(number: Option<u32>, bound: u32) -> Option<u32>
 }
 
 fn frame_of(call: &Call) -> Option<u32>
-    ensures { result ≡ frame_of call.now }
+    ensures { result ≡ named_frame call.now }
 {
     match call {
         Call::Give { frame }

@@ -2,7 +2,7 @@
 ghost use Rattle.std.specs.Prelude.{◌≡◌, ◌+◌, ◌<◌, IfOk};
 ghost use Rattle.kc_types.specs.Configuration.{slot_count};
 ghost use Rattle.kc_plan.specs.Owned.{IsOwned, principal_of};
-ghost use Rattle.kc_plan.specs.Planner.{AreBelow, HasOneOwner};
+ghost use Rattle.kc_plan.specs.Planner.{AreBelow, HasOneOwnerEach};
 
 use kc_core::KCore;
 use kc_types::{Memory, Owner};
@@ -22,7 +22,7 @@ fn principal_of(owner: Owner, slots: usize) -> Option<usize>
 /// The frames of the slots and of the free list, each with the number of its owner.
 pub(crate) fn owned_frames(alloc: Global, core: &KCore) -> Result<Vec<(usize, u32)>, Memory>
     ensures owned { IfOk result (λ pairs. IsOwned core.now pairs.items) }
-    ensures one { IfOk result (λ pairs. HasOneOwner pairs.items) }
+    ensures one { IfOk result (λ pairs. HasOneOwnerEach pairs.items) }
     ensures low { IfOk result (λ pairs. AreBelow (slot_count core.now.config + 1) pairs.items) }
 {
     let slots = core.config().slots() as usize;

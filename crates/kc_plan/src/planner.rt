@@ -5,7 +5,7 @@ ghost use Rattle.std.specs.List.{IsDistinct};
 ghost use Rattle.kc_plan.specs.Reach.{names_at};
 ghost use Rattle.kc_plan.specs.Rows.{AreRowsOf};
 ghost use Rattle.kc_plan.specs.Planner.{IsLastOf, IsHigh, IsTop, IsWritten, IsExact, IsInRange, set_at};
-ghost use Rattle.kc_plan.specs.Planner.{AreBelow, HasOneOwner, has_pair, ArePlanned, AreReached};
+ghost use Rattle.kc_plan.specs.Planner.{AreBelow, HasOneOwnerEach, has_pair, ArePlanned, AreReached};
 
 use crate::names::Names;
 use crate::reach_set::ReachSet;
@@ -204,7 +204,7 @@ pub(crate) fn walk_calls(
     requires free { free + 1 < 2 ^ 32 }
     requires few { length calls.now < 2 ^ 32 }
     requires pairs { AreBelow (free + 1) pairs.now }
-    requires one { HasOneOwner pairs.now }
+    requires one { HasOneOwnerEach pairs.now }
     ensures len { IfOk result (λ w. length w.waves.items ≡ length calls.now) }
     ensures plan { IfOk result (λ w. ArePlanned free pairs.now calls.now w.waves.items) }
     ensures count { IfOk result (λ w. length w.rows.items ≡ length calls.now) }

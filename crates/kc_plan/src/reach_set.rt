@@ -1,7 +1,7 @@
 //! A set of numbers that only grows and keeps the order in which they came.
 
 ghost use Rattle.std.specs.Prelude.{◌≡◌, length, slice_get, [], OnOk, OnErr};
-ghost use Rattle.kc_plan.specs.Members.{position_in, added};
+ghost use Rattle.kc_plan.specs.Members.{position_in, with_member};
 
 use indexmap::IndexSet;
 use std::alloc::{AllocError, Global};
@@ -52,7 +52,7 @@ impl ReachSet {
 
     /// Takes a number in.
     pub(crate) fn add(&mut self, number: u32) -> Result<(), AllocError>
-        ensures ok { OnOk result (self.new ≡ added self.old number) }
+        ensures ok { OnOk result (self.new ≡ with_member self.old number) }
         ensures err { OnErr result (self.new ≡ self.old) }
     {
         self.members.insert_full(number)?;

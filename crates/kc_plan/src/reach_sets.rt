@@ -1,6 +1,6 @@
 //! The sets of several principals, in which one look tells whether a number is a member.
 ghost use Rattle.std.specs.Prelude.{◌≡◌, ◌<◌, ◌^◌, length, get_or, set, replicate, [], IfOk, OnOk, OnErr};
-ghost use Rattle.kc_plan.specs.Members.{is_in, added, AreSame};
+ghost use Rattle.kc_plan.specs.Members.{is_in, with_member, AreSame};
 
 use crate::reach_set::ReachSet;
 use std::alloc::{AllocError, Global};
@@ -70,7 +70,7 @@ impl ReachSets {
     /// Takes a number into a principal's set.
     pub(crate) fn add(&mut self, principal: usize, number: u32) -> Result<(), AllocError>
         requires { principal < length self.old }
-        ensures ok { OnOk result (self.new ≡ set self.old principal (added (get_or self.old principal []) number)) }
+        ensures ok { OnOk result (self.new ≡ set self.old principal (with_member (get_or self.old principal []) number)) }
         ensures err { OnErr result (self.new ≡ self.old) }
     {
         let place = number as usize * self.sets.len() + principal;

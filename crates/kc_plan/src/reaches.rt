@@ -2,7 +2,7 @@
 ghost use Rattle.std.specs.Prelude.{◌≡◌, ℕ, ◌<◌, ◌^◌, ◌||◌, ◌&&◌, Bool, false, true, length, get_or, set, replicate, List, IfOk, OnOk, [], IfSome, eqb};
 ghost use Rattle.kc_plan.specs.Reach.{is_in, is_at, reach_of};
 ghost use Rattle.kc_plan.specs.Rows.{span_of, row_of};
-ghost use Rattle.kc_plan.specs.Planner.{is_hit, members_of, IsExact, IsJoined, AreGained, IsStart, AreApart, AreBelow, HasOneOwner, IsRelated, AreFreed, IsWider};
+ghost use Rattle.kc_plan.specs.Planner.{is_hit, members_of, IsExact, IsJoined, AreGained, IsStart, AreUnrelated, AreBelow, HasOneOwnerEach, IsRelated, AreFreed, IsWider};
 
 use crate::names::{Gain, Names};
 use crate::reach_set::ReachSet;
@@ -58,9 +58,9 @@ pub(crate) struct Reaches {
 }
 
 impl Model for Reaches {
-    ghost use Rattle.kc_plan.specs.Planner.{Held};
+    ghost use Rattle.kc_plan.specs.Planner.{Reached};
 
-    ghost Value = { Held };
+    ghost Value = { Reached };
 
     ghost view = { λ r. record { sets = r.sets; near = r.near.items; freed = r.freed.items } };
 }
@@ -258,7 +258,7 @@ impl Reaches {
 
 /// Flags for each principal that say that it is near itself alone.
 fn apart(alloc: Global, principals: usize) -> Result<Vec<Flags>, AllocError>
-    ensures { IfOk result (λ near. AreApart principals near.items) }
+    ensures { IfOk result (λ near. AreUnrelated principals near.items) }
 {
     let mut near = Vec::with_capacity(alloc, principals)?;
     for principal in 0..principals {
@@ -280,7 +280,7 @@ pub(crate) fn start(
     requires free { free < principals }
     requires few { principals < 2 ^ 32 }
     requires pairs { AreBelow principals pairs.now }
-    requires one { HasOneOwner pairs.now }
+    requires one { HasOneOwnerEach pairs.now }
     ensures { IfOk result (λ h. IsStart principals free pairs.now h) }
 {
     let mut sets = ReachSets::new(alloc, principals, frames)?;

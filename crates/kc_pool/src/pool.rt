@@ -1,7 +1,7 @@
 //! The pool that a VM's leaf tables come from.
 ghost use Rattle.std.specs.Prelude.{◌≡◌, ℕ, ◌+◌, ◌*◌, ◌<◌, ◌≤◌, Option, Some, None, length, map, IfOk, MatchOption, vec_len};
 ghost use Rattle.kc_types.specs.Limits.{leaf_entries, leaf_limit};
-ghost use Rattle.kc_pool.specs.Pool.{Pool, IsPool, new_pool, entry_at, with_entry, with_leaf, emptied};
+ghost use Rattle.kc_pool.specs.TablePool.{Pool, IsPool, new_pool, entry_at, with_cell, with_taken_leaf, emptied};
 
 use crate::LeafNo;
 use kc_types::{FrameNo, LEAF_ENTRIES, Memory};
@@ -18,7 +18,7 @@ pub struct TablePool {
 
 impl Model for TablePool {
     ghost use Rattle.std.specs.Prelude.{◌≡◌, ◌*◌, ◌≤◌, vec_len};
-    ghost use Rattle.kc_pool.specs.Pool.{Pool, IsPool};
+    ghost use Rattle.kc_pool.specs.TablePool.{Pool, IsPool};
 
     ghost Value = { Pool };
 
@@ -29,7 +29,7 @@ impl Model for TablePool {
 
 impl TablePool {
     /// This many leaves, none of them taken, or `Memory` where a growth was refused. Nothing else takes memory.
-    #[tactic(auto, unfolding(crate::specs::Pool::no_entries))]
+    #[tactic(auto, unfolding(crate::specs::TablePool::no_entries))]
     pub fn try_new(alloc: Global, leaves: u8) -> Result<TablePool, Memory>
         requires { leaves ≤ leaf_limit }
         ensures value { IfOk result (λ pool. pool ≡ new_pool leaves) }
@@ -52,7 +52,7 @@ impl TablePool {
 
     /// The next leaf, which has no entries.
     pub fn take_leaf(&mut self) -> Option<LeafNo>
-        ensures leaf { MatchOption result ((self.old.taken ≡ self.old.room) × (self.new ≡ self.old)) (λ leaf. (leaf ≡ self.old.taken) × (self.old.taken < self.old.room) × (self.new ≡ with_leaf self.old)) }
+        ensures leaf { MatchOption result ((self.old.taken ≡ self.old.room) × (self.new ≡ self.old)) (λ leaf. (leaf ≡ self.old.taken) × (self.old.taken < self.old.room) × (self.new ≡ with_taken_leaf self.old)) }
         ensures kept { IsPool self.new }
     {
         if self.taken == self.room {
@@ -76,7 +76,7 @@ impl TablePool {
     pub fn set_entry(&mut self, leaf: LeafNo, at: usize, frame: Option<FrameNo>)
         requires taken { leaf < self.old.taken }
         requires within { at < leaf_entries }
-        ensures value { self.new ≡ with_entry self.old leaf at frame }
+        ensures value { self.new ≡ with_cell self.old leaf at frame }
         ensures kept { IsPool self.new }
     {
         self.entries[leaf.index() * LEAF_ENTRIES + at] = frame;

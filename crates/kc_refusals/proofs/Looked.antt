@@ -11,14 +11,14 @@ use Rattle.std.proofs.lemmas.Grind.{common_steps}
 use Rattle.std.proofs.lemmas.Bool.{cases_lt}
 use Rattle.kc_types.specs.declared.refusal.Refusal.TheVariants.{TablesFull}
 use Rattle.kc_model.specs.Refusals.{when, tables_full}
-use Rattle.kc_stage2.specs.Table.{fits}
-use Rattle.kc_vms.specs.Slots.{VmSlot, table_of}
+use Rattle.kc_stage2.specs.Stage2.{fits}
+use Rattle.kc_vms.specs.Vm.{VmSlot, slot_table}
 use Rattle.kc_model.specs.State.{State, Frame, Slot, frame_at, slot_at, untouched, absent_vcpu, empty_slot}
-use Rattle.kc_model.proofs.Slots.{at-no_vcpus}
+use Rattle.kc_model.proofs.States.Slots.{at-no_vcpus}
 use Rattle.kc_page.specs.declared.page.Page.{Page}
 use Rattle.kc_page.specs.declared.page.PageRecord.{PageRecord}
-use Rattle.kc_page.specs.Pages.{frame_of}
-use Rattle.kc_parts.specs.Held.{Held, page_at, vm_at, links_of}
+use Rattle.kc_page.specs.Page.{frame_of}
+use Rattle.kc_parts.specs.Parts.{Held, page_at, vm_at, links_of}
 use Rattle.kc_parts.specs.States.{frame_in, slot_in, unlinked_slot, state_of, IsLinked, free_of, list_in}
 use Rattle.kc_types.specs.declared.link.Ends.{Ends}
 use Rattle.kc_links.specs.Ending.{listed}
@@ -55,7 +55,7 @@ pub mapped-none : (slot : Slot) (g : ℕ) → slot ≡ empty_slot → None ≡ m
 mapped-none slot g is = sym (ap (λ (there : Slot). map.get there.mapped g) is ∙ map.get-empty nat_cmp g)
 
 -- a slot's table takes a guest frame where the state says so
-pub fits-seen : (m : State) (v g : ℕ) (vm : VmSlot) (frames : List ℕ) → slot_at m v ≡ unlinked_slot vm.slot frames → vm.room ≡ m.config.leaves → tables_full m v g ≡ when (not (fits (table_of vm) g)) TablesFull
+pub fits-seen : (m : State) (v g : ℕ) (vm : VmSlot) (frames : List ℕ) → slot_at m v ≡ unlinked_slot vm.slot frames → vm.room ≡ m.config.leaves → tables_full m v g ≡ when (not (fits (slot_table vm) g)) TablesFull
 fits-seen m v g vm frames is room = rw is (ap (λ full. when full TablesFull) (rw (← room) (turned (list_any (λ root. root == g / 512) vm.slot.leaves) vm.room (length vm.slot.leaves))))
   where
     past : (n k : ℕ) → nat_le n k ≡ not (nat_lt k n)

@@ -9,8 +9,8 @@ use Rattle.kc_types.specs.declared.refusal.Refusal.TheVariants.{BadVm, NoVm, Wro
 use Rattle.kc_types.specs.declared.slot.Phase.{Phase}
 use Rattle.kc_model.specs.State.{Slot, slot_at, empty_slot}
 use Rattle.kc_model.specs.Refusals.{refusal, when, or_else, first_of_these, is_empty, is_booting, is_short}
-use Rattle.kc_vms.specs.Slots.{VmSlot}
-use Rattle.kc_parts.specs.Held.{Held, vm_at, links_of}
+use Rattle.kc_vms.specs.Vm.{VmSlot}
+use Rattle.kc_parts.specs.Parts.{Held, vm_at, links_of}
 use Rattle.kc_parts.specs.States.{slot_in, state_of}
 use Rattle.kc_parts.proofs.Seen.{slot-seen}
 

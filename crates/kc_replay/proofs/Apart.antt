@@ -14,18 +14,18 @@ use Rattle.kc_model.specs.Local.{IsSameSize, AgreesOn}
 use Rattle.kc_model.specs.Links.{list_of}
 use Rattle.kc_model.specs.Linked.{LinkedPart, linked_part_of}
 use Rattle.kc_model.specs.Footprints.{call_at, state_at}
-use Rattle.kc_model.proofs.Sizes.{sized-next, sized-then}
-use Rattle.kc_model.proofs.Agreeing.{merged-agrees, keeps-others}
-use Rattle.kc_model.proofs.Parts.{need-merged}
-use Rattle.kc_model.proofs.LinksKept.{links-kept}
-use Rattle.kc_model.proofs.Needs.{by_slot, by_free}
-use Rattle.kc_model.proofs.LawfulTraces.{IsRangedTrace, lawful-at, orderly-at, lists-all}
-use Rattle.kc_vms.specs.Slots.{VmSlot}
-use Rattle.kc_parts.specs.Held.{Held, vm_at}
+use Rattle.kc_model.proofs.States.Sizes.{sized-next, sized-then}
+use Rattle.kc_model.proofs.Local.Agreeing.{merged-agrees, keeps-others}
+use Rattle.kc_model.proofs.Local.Parts.{need-merged}
+use Rattle.kc_model.proofs.Local.LinksKept.{links-kept}
+use Rattle.kc_model.proofs.Local.Needs.{by_slot, by_free}
+use Rattle.kc_model.proofs.Lawful.LawfulTraces.{IsRangedTrace, lawful-at, orderly-at, lists-all}
+use Rattle.kc_vms.specs.Vm.{VmSlot}
+use Rattle.kc_parts.specs.Parts.{Held, vm_at}
 use Rattle.kc_parts.specs.Cuts.{HeldPart, held_at, IsSplit, IsJoin, either}
 use Rattle.kc_parts.specs.Cuts.HeldPart.{slot_part}
 use Rattle.kc_parts.specs.Restricted.{seen_part, seen_at, exists_in, has_ends, IsRestricted, IsClosed}
-use Rattle.kc_replay.specs.Wave.{AreFeet, out, IsLeft}
+use Rattle.kc_replay.specs.Wave.{AreFeet, out, IsRest}
 
 size-at : (m : State) (calls : List Call) (k : ℕ) → IsSameSize m (state_at m calls k)
 size-at m calls zero = record { config = refl; frames = refl; slots = refl }
@@ -148,7 +148,7 @@ module _ (m : State) (calls : List Call) (feet : ℕ → Resources) (is : IsLawf
   step-rest false o h t l is left = left ∙ is
 
   -- a call's parts taken out of the store are those of the state before it
-  pub taken : (ks : List ℕ) (k : ℕ) (h rest got : Held) → k < length calls → ((r : Resource) → feet k r ≡ true → out feet ks r ≡ false) → IsLeft m feet ks h → IsSplit h (feet k) rest got → IsRestricted (state_at m calls k) (feet k) got
+  pub taken : (ks : List ℕ) (k : ℕ) (h rest got : Held) → k < length calls → ((r : Resource) → feet k r ≡ true → out feet ks r ≡ false) → IsRest m feet ks h → IsSplit h (feet k) rest got → IsRestricted (state_at m calls k) (feet k) got
   taken ks k h rest got low free left split = record {
     parts = λ r.
         step-taken (feet k r) (out feet ks r) (exists_in m.config r) (seen_at h r) (seen_at got r) (linked_part_of m r) (linked_part_of (state_at m calls k) r) (free r) (are.exist k low r) (left.parts r)
@@ -164,7 +164,7 @@ module _ (m : State) (calls : List Call) (feet : ℕ → Resources) (is : IsLawf
       of-slot false was None vm split at = cc
       of-slot false was (Some t) vm split at = cc
 
-  pub rest-left : (ks : List ℕ) (k : ℕ) (h rest got : Held) → IsLeft m feet ks h → IsSplit h (feet k) rest got → IsLeft m feet (k ∷ ks) rest
+  pub rest-left : (ks : List ℕ) (k : ℕ) (h rest got : Held) → IsRest m feet ks h → IsSplit h (feet k) rest got → IsRest m feet (k ∷ ks) rest
   rest-left ks k h rest got left split = record {
     parts = λ r. step-rest (feet k r) (out feet ks r) (seen_at h r) (seen_at rest r) (cond (exists_in m.config r) (Some (linked_part_of m r)) None) (left.parts r) (ap (option_map seen_part) (split.rest_is r) ∙ shown-rest (feet k r) (held_at h r));
     rooms = λ v vm at. left.rooms v vm (of-slot (feet k (resource.Vm v)) (vm_at h v) (vm_at rest v) vm (split.rest_is (resource.Vm v)) at);
@@ -179,7 +179,7 @@ module _ (m : State) (calls : List Call) (feet : ℕ → Resources) (is : IsLawf
       of-slot true was (Some t) vm split at = cc
 
   -- once all calls are out, what stays is what they leave
-  pub all-out : (ks : List ℕ) (h : Held) → ((k : ℕ) (r : Resource) → k < length calls → feet k r ≡ true → out feet ks r ≡ true) → IsLeft m feet ks h → IsLeft (state_at m calls (length calls)) feet ks h
+  pub all-out : (ks : List ℕ) (h : Held) → ((k : ℕ) (r : Resource) → k < length calls → feet k r ≡ true → out feet ks r ≡ true) → IsRest m feet ks h → IsRest (state_at m calls (length calls)) feet ks h
   all-out ks h all left = record {
     parts = λ r. left.parts r ∙ by_out r (out feet ks r) refl;
     rooms = λ v vm at. left.rooms v vm at ∙ ap (λ config. config.leaves) (sym (config-at (length calls)));
@@ -208,7 +208,7 @@ module _ (m : State) (calls : List Call) (feet : ℕ → Resources) (is : IsLawf
 
   -- what a call left is put back
   pub back : (ks : List ℕ) (k : ℕ) (h done joined : Held) → k < length calls → ((r : Resource) → feet k r ≡ true → out feet ks r ≡ false)
-      → IsLeft (state_at m calls (length calls)) feet (k ∷ ks) h → IsRestricted (state_at m calls (suc k)) (feet k) done → IsJoin h done joined → IsLeft (state_at m calls (length calls)) feet ks joined
+      → IsRest (state_at m calls (length calls)) feet (k ∷ ks) h → IsRestricted (state_at m calls (suc k)) (feet k) done → IsJoin h done joined → IsRest (state_at m calls (length calls)) feet ks joined
   back ks k h done joined low free left is_done join = record {
     parts = λ r.
         step-back (feet k r) (out feet ks r) (exists_in (state_at m calls (length calls)).config r) (seen_at h r) (seen_at done r) (seen_at joined r) (linked_part_of (state_at m calls (length calls)) r) (linked_part_of (state_at m calls (suc k)) r)

@@ -5,8 +5,8 @@ use Rattle.std.proofs.lemmas.List.Concat.{flat_map-cons}
 use Rattle.kc_types.specs.declared.call.Call.{Call}
 use Rattle.kc_model.specs.State.{State}
 use Rattle.kc_model.specs.Next.{replies_from, state_after}
-use Rattle.kc_model.proofs.Runs.{replies_from-append, state_after-append}
-use Rattle.kc_replay.specs.Segments.{replies_to_each, state_after_each}
+use Rattle.kc_model.proofs.States.Runs.{replies_from-append, state_after-append}
+use Rattle.kc_replay.specs.Replayer.{replies_to_each, state_after_each}
 
 pub replies-joined : (m : State) (segments : List (List Call)) → replies_to_each m segments ≡ replies_from m (flat_map (λ calls. calls) segments)
 unfolding replies_to_each

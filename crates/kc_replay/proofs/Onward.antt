@@ -13,8 +13,8 @@ use Rattle.kc_model.specs.Ranged.{IsRanged}
 use Rattle.kc_model.specs.Resources.{Resource, Resources}
 use Rattle.kc_model.specs.Next.{next, replies_from, state_after}
 use Rattle.kc_model.specs.Footprints.{call_at, state_at, reply_at, footprint}
-use Rattle.kc_model.proofs.Places.{state_at-rest}
-use Rattle.kc_model.proofs.Keeps.{lawful-next}
+use Rattle.kc_model.proofs.States.Places.{state_at-rest}
+use Rattle.kc_model.proofs.Lawful.Keeps.{lawful-next}
 use Rattle.waves.specs.Order.{IsPlan}
 use Rattle.waves.specs.Reorder.{with_number, IsDue, IsTaken}
 use Rattle.waves.proofs.Reorders.{due_by_wave}
@@ -22,8 +22,8 @@ use Rattle.kc_plan.specs.Commuting.{IsWaves}
 use Rattle.kc_plan.specs.Reordering.{after_order, AnswersAlike}
 use Rattle.kc_plan.proofs.Commute.{each-ranged}
 use Rattle.kc_plan.proofs.Reordered.{alike, is_order_free}
-use Rattle.kc_replay.specs.Wave.{IsWave, AreReplied, calls_of}
-use Rattle.kc_plan.specs.Plans.{AreCalls, AreCallsOf}
+use Rattle.kc_replay.specs.Wave.{IsWave, AreReplied, wave_calls}
+use Rattle.kc_plan.specs.Plan.{AreCallNumbers, AreCallsOf}
 use Rattle.kc_replay.specs.Replay.{IsUpTo}
 use Rattle.kc_replay.proofs.Ready.{feet-of-wave}
 
@@ -81,7 +81,7 @@ module _ {Res : Type 0} (touches : ℕ → Res → Bool) (n : ℕ) where
   taken-more done mid final (k ∷ ks) more due onward = (due.0, taken-more (with_number k done) mid final ks more due.1 onward)
 
   -- the calls of a wave come after those of all lower waves, in whatever order
-  pub wave-taken : (wave : ℕ → ℕ) (w : ℕ) → IsPlan touches wave n → (ks : List ℕ) (done : ℕ → Bool) → AreCalls n ks → ((i : ℕ) → i < length ks → wave (get_or ks i 0) ≡ w)
+  pub wave-taken : (wave : ℕ → ℕ) (w : ℕ) → IsPlan touches wave n → (ks : List ℕ) (done : ℕ → Bool) → AreCallNumbers n ks → ((i : ℕ) → i < length ks → wave (get_or ks i 0) ≡ w)
       → ((i : ℕ) → i < length ks → done (get_or ks i 0) ≡ false) → ((j : ℕ) → j < n → wave j < w → done j ≡ true) → ((j : ℕ) → j < n → done j ≡ true → wave j ≤ w)
       → IsTaken touches n done ks (done_after ks done)
   unfolding done_after
@@ -112,9 +112,9 @@ after-more : (calls : List Call) (store : State) (order more : List ℕ) → aft
 after-more calls store [] more = refl
 after-more calls store (k ∷ ks) more = after-more calls (next store (call_at calls k)).1 ks more
 
-after-wave : (calls : List Call) (store : State) (ks : List ℕ) → state_at store (calls_of calls ks) (length ks) ≡ after_order calls store ks
+after-wave : (calls : List Call) (store : State) (ks : List ℕ) → state_at store (wave_calls calls ks) (length ks) ≡ after_order calls store ks
 after-wave calls store [] = refl
-after-wave calls store (k ∷ ks) = state_at-rest store (call_at calls k) (calls_of calls ks) (length ks) ∙ after-wave calls (next store (call_at calls k)).1 ks
+after-wave calls store (k ∷ ks) = state_at-rest store (call_at calls k) (wave_calls calls ks) (length ks) ∙ after-wave calls (next store (call_at calls k)).1 ks
 
 lawful-taken : {Res : Type 0} (touches : ℕ → Res → Bool) (calls : List Call) → All IsRanged calls → (order : List ℕ) (done final : ℕ → Bool) (store : State) → IsTaken touches (length calls) done order final → IsLawful store
     → IsLawful (after_order calls store order)
@@ -123,11 +123,11 @@ lawful-taken touches calls ranged (k ∷ ks) done final store due is =
     lawful-taken touches calls ranged ks (with_number k done) final (next store (call_at calls k)).1 due.1 (lawful-next store (call_at calls k) (each-ranged calls ranged k due.0.within) is)
 
 -- the replies of a wave's calls are those of the trace
-alike-get : (m : State) (calls : List Call) (store : State) (ks : List ℕ) → AnswersAlike m calls store ks → (i : ℕ) → i < length ks → reply_at store (calls_of calls ks) i ≡ reply_at m calls (get_or ks i 0)
+alike-get : (m : State) (calls : List Call) (store : State) (ks : List ℕ) → AnswersAlike m calls store ks → (i : ℕ) → i < length ks → reply_at store (wave_calls calls ks) i ≡ reply_at m calls (get_or ks i 0)
 alike-get m calls store [] same i low = absurd (omega (arith, low))
 alike-get m calls store (k ∷ ks) same zero low = same.0
 alike-get m calls store (k ∷ ks) same (suc i) low =
-    ap (λ (s : State). (next s (call_at (calls_of calls ks) i)).0) (state_at-rest store (call_at calls k) (calls_of calls ks) i) ∙ alike-get m calls (next store (call_at calls k)).1 ks same.1 i (omega (arith, low))
+    ap (λ (s : State). (next s (call_at (wave_calls calls ks) i)).0) (state_at-rest store (call_at calls k) (wave_calls calls ks) i) ∙ alike-get m calls (next store (call_at calls k)).1 ks same.1 i (omega (arith, low))
 
 same-replies : (m : State) (calls : List Call) (replies : List Reply) → length replies ≡ length calls → ((k : ℕ) → k < length calls → get_or replies k Done ≡ reply_at m calls k) → replies ≡ replies_from m calls
 same-replies m [] [] size each = refl
@@ -208,7 +208,7 @@ module _ (m : State) (calls : List Call) (is : IsLawful m) (ranged : All IsRange
     above-next j low (inr at) = let e : wave j ≡ suc w = ap wave (sym at.2) ∙ are.same at.0 at.1 in omega (arith, e)
 
     -- the calls of the next wave are taken
-    pub up-to-next : (after : State) (given : List Reply) → AreReplied store calls members replies given → after ≡ state_at store (calls_of calls members) (length members) → IsUpTo m calls wave (suc w) after given
+    pub up-to-next : (after : State) (given : List Reply) → AreReplied store calls members replies given → after ≡ state_at store (wave_calls calls members) (length members) → IsUpTo m calls wave (suc w) after given
     up-to-next after given replied end = record {
       order = up.order ++ members;
       done = done_after members up.done;
@@ -223,7 +223,7 @@ module _ (m : State) (calls : List Call) (is : IsLawful m) (ranged : All IsRange
         given-at : (k : ℕ) → ((i : ℕ) × (i < length members) × (get_or members i 0 ≡ k)) → get_or given k Done ≡ reply_at m calls k
         given-at k at =
             subst (λ (x : ℕ). get_or given x Done ≡ reply_at m calls x) at.2
-            (replied.given at.0 at.1 ∙ ap (λ (s : State). reply_at s (calls_of calls members) at.0) up.state
+            (replied.given at.0 at.1 ∙ ap (λ (s : State). reply_at s (wave_calls calls members) at.0) up.state
             ∙ alike-get m calls (after_order calls m up.order) members (alike m calls is ranged up.order members up.done (done_after members up.done) up.taken taken-next) at.0 at.1)
 
         by_wave : (k : ℕ) → k < length calls → wave k ≤ suc w → ((wave k < suc w) ⊎ (suc w ≤ wave k)) → get_or given k Done ≡ reply_at m calls k
@@ -231,13 +231,13 @@ module _ (m : State) (calls : List Call) (is : IsLawful m) (ranged : All IsRange
             replied.kept k (λ i at e. let is : wave k ≡ suc w = ap wave (sym e) ∙ are.same i at in omega (arith, less, is)) ∙ up.replied k low (omega (arith, less))
         by_wave k low le (inr more) = given-at k (are.all k low (omega (arith, more, le)))
 
-module _ (m : State) (calls : List Call) (members : List ℕ) (numbers : AreCalls (length calls) members) (replies : List Reply) (place : ℕ) (reply : Reply) (low : place < length members) (size : length replies ≡ length calls) where
+module _ (m : State) (calls : List Call) (members : List ℕ) (numbers : AreCallNumbers (length calls) members) (replies : List Reply) (place : ℕ) (reply : Reply) (low : place < length members) (size : length replies ≡ length calls) where
   -- the replies of one call more of a wave
-  pub given-more : reply ≡ reply_at m (calls_of calls members) place → ((i : ℕ) → i < place → i < length members → get_or replies (get_or members i 0) Done ≡ reply_at m (calls_of calls members) i)
-      → (i : ℕ) → i < place + 1 → i < length members → get_or (set replies (get_or members place 0) reply) (get_or members i 0) Done ≡ reply_at m (calls_of calls members) i
+  pub given-more : reply ≡ reply_at m (wave_calls calls members) place → ((i : ℕ) → i < place → i < length members → get_or replies (get_or members i 0) Done ≡ reply_at m (wave_calls calls members) i)
+      → (i : ℕ) → i < place + 1 → i < length members → get_or (set replies (get_or members place 0) reply) (get_or members i 0) Done ≡ reply_at m (wave_calls calls members) i
   given-more is before i less below = by_place (cases_eq i place)
     where
-      by_place : ((i ≡ place) ⊎ (i ≢ place)) → get_or (set replies (get_or members place 0) reply) (get_or members i 0) Done ≡ reply_at m (calls_of calls members) i
+      by_place : ((i ≡ place) ⊎ (i ≢ place)) → get_or (set replies (get_or members place 0) reply) (get_or members i 0) Done ≡ reply_at m (wave_calls calls members) i
       by_place (inl same) = rw same (get_or-set_same replies (get_or members place 0) reply Done (let l = numbers.within place low in omega (arith, l, size)) ∙ is)
       by_place (inr other) = get_or-set_other replies (get_or members place 0) (get_or members i 0) reply Done (numbers.once i place below low other) ∙ before i (omega (arith, less, other)) below
 
@@ -248,7 +248,7 @@ pub state-one : (m : State) (calls : List Call) (k : ℕ) → state_at m calls (
 state-one m calls k = let e : k + 1 ≡ suc k = omega arith in rw e refl
 
 -- the numbers of a wave's calls
-pub numbers_of : (m : State) (calls : List Call) (feet : ℕ → Resources) (members : List ℕ) → IsWave m calls feet members → AreCalls (length calls) members
+pub numbers_of : (m : State) (calls : List Call) (feet : ℕ → Resources) (members : List ℕ) → IsWave m calls feet members → AreCallNumbers (length calls) members
 numbers_of m calls feet members wave = record { within = wave.within; once = wave.once }
 
 pub each-of : {X : Type 0} (P : X → Type 0) (xs : List X) → AllByRecursion P xs → All P xs

@@ -21,27 +21,27 @@ use Rattle.kc_model.specs.Local.{cut}
 use Rattle.kc_model.specs.Links.{list_of}
 use Rattle.kc_model.specs.Linked.{LinkedPart, linked_part_of}
 use Rattle.kc_model.specs.Footprints.{state_at, reply_at}
-use Rattle.kc_model.proofs.LawfulTraces.{lawful-at}
+use Rattle.kc_model.proofs.Lawful.LawfulTraces.{lawful-at}
 use Rattle.kc_page.specs.declared.page.Page.{Page}
-use Rattle.kc_page.specs.Pages.{scrubbed_page}
-use Rattle.kc_vms.specs.Slots.{VmSlot}
+use Rattle.kc_page.specs.Page.{scrubbed_page}
+use Rattle.kc_vms.specs.Vm.{VmSlot}
 use Rattle.kc_parts.specs.Cuts.{HeldPart, held_at, IsJoin, FitsInto}
 use Rattle.kc_parts.specs.Cuts.HeldPart.{page_part, slot_part, ends_part}
-use Rattle.kc_parts.specs.Held.{Held, IsRising, place_of, page_at, vm_at}
+use Rattle.kc_parts.specs.Parts.{Held, IsRising, place_of, page_at, vm_at}
 use Rattle.kc_parts.specs.States.{state_of, here_of, IsLinked}
 use Rattle.kc_parts.proofs.Places.{place-found}
-use Rattle.kc_core.specs.Cores.{IsCore}
+use Rattle.kc_core.specs.KCore.{IsCore}
 use Rattle.kc_core.proofs.Wiped.{page-clean}
-use Rattle.kc_model.proofs.Changes.{exists}
+use Rattle.kc_model.proofs.States.Changes.{exists}
 use Rattle.kc_parts.specs.Restricted.{seen_part, exists_in, IsRestricted, IsClosed}
-use Rattle.kc_replay.specs.Wave.{IsLeft, HasPlaces, HasNoBytes, down_from, calls_of, feet_at, IsWave, IsTaskAt, IsFinishedAt}
+use Rattle.kc_replay.specs.Wave.{IsRest, HasPlaces, HasNoBytes, down_from, wave_calls, feet_at, IsWave, IsTaskAt, IsFinishedAt}
 use Rattle.kc_replay.specs.declared.task.Finished.{Finished}
-use Rattle.kc_model.proofs.Orderly.{owned-is}
+use Rattle.kc_model.proofs.Local.Orderly.{owned-is}
 use Rattle.kc_parts.proofs.Restricting.{linked-cut, state-cut, here-is}
 use Rattle.kc_replay.proofs.Apart.{config-at, all-out, back}
 use Rattle.kc_replay.proofs.Taking.{out-earlier, out-all, wave-ranged, low-in, wave-length, range-more, able-at, finished-at}
 use Rattle.kc_replay.proofs.Zips.{zip_last, zip_get, zip_through}
-use Rattle.kc_replay.specs.Working.{IsTaskOf, Answers, AnswersAll}
+use Rattle.kc_replay.specs.Working.{IsTaskOf, Finishes, AnswersAll}
 use Rattle.kc_replay.specs.declared.task.Task.{Task}
 
 seen-none : (there : Option HeldPart) → option_map seen_part there ≡ None → there ≡ None
@@ -105,22 +105,22 @@ cut-whole m is = λ i. record {
 
 module _ (m : State) (calls : List Call) (feet : ℕ → Resources) (members : List ℕ) (wave : IsWave m calls feet members) where
   abbrev pub last : State
-  last = state_at m (calls_of calls members) (length (calls_of calls members))
+  last = state_at m (wave_calls calls members) (length (wave_calls calls members))
 
   -- all of the wave's calls are out
-  pub switched : (h : Held) → IsLeft m (feet_at feet members) (down_from (length members)) h → IsLeft (state_at m (calls_of calls members) (length (calls_of calls members))) (feet_at feet members) (down_from (length members)) h
+  pub switched : (h : Held) → IsRest m (feet_at feet members) (down_from (length members)) h → IsRest (state_at m (wave_calls calls members) (length (wave_calls calls members))) (feet_at feet members) (down_from (length members)) h
   switched h left =
-      all-out m (calls_of calls members) (feet_at feet members) wave.lawful (wave-ranged m calls feet members wave) wave.feet_are (down_from (length members)) h
-      (λ k r low e. out-all m (calls_of calls members) (feet_at feet members) wave.feet_are (length members) k r (let l = low in let n = wave-length calls members in omega (arith, l, n)) e) left
+      all-out m (wave_calls calls members) (feet_at feet members) wave.lawful (wave-ranged m calls feet members wave) wave.feet_are (down_from (length members)) h
+      (λ k r low e. out-all m (wave_calls calls members) (feet_at feet members) wave.feet_are (length members) k r (let l = low in let n = wave-length calls members in omega (arith, l, n)) e) left
 
-  module _ (i : ℕ) (h : Held) (done : Finished) (low : i < length members) (left : IsLeft (state_at m (calls_of calls members) (length (calls_of calls members))) (feet_at feet members) (down_from (i + 1)) h) (at : IsFinishedAt m calls feet members i done) where
+  module _ (i : ℕ) (h : Held) (done : Finished) (low : i < length members) (left : IsRest (state_at m (wave_calls calls members) (length (wave_calls calls members))) (feet_at feet members) (down_from (i + 1)) h) (at : IsFinishedAt m calls feet members i done) where
     -- what is held of a call's parts is not in the store
     absent : (r : Resource) → feet_at feet members i r ≡ true → held_at h r ≡ None
-    absent r e = seen-none (held_at h r) (left.parts r ∙ ap (λ b. cond b None (cond (exists_in (state_at m (calls_of calls members) (length (calls_of calls members))).config r) (Some (linked_part_of (state_at m (calls_of calls members) (length (calls_of calls members))) r)) None))
-        (out-all m (calls_of calls members) (feet_at feet members) wave.feet_are (i + 1) i r (omega arith) e))
+    absent r e = seen-none (held_at h r) (left.parts r ∙ ap (λ b. cond b None (cond (exists_in (state_at m (wave_calls calls members) (length (wave_calls calls members))).config r) (Some (linked_part_of (state_at m (wave_calls calls members) (length (wave_calls calls members))) r)) None))
+        (out-all m (wave_calls calls members) (feet_at feet members) wave.feet_are (i + 1) i r (omega arith) e))
 
     foot : (r : Resource) (x : HeldPart) → held_at done.left.parts r ≡ Some x → feet_at feet members i r ≡ true
-    foot r x e = held-here (feet_at feet members i r) (held_at done.left.parts r) x (linked_part_of (state_at m (calls_of calls members) (suc i)) r) (at.parts.parts r) e
+    foot r x e = held-here (feet_at feet members i r) (held_at done.left.parts r) x (linked_part_of (state_at m (wave_calls calls members) (suc i)) r) (at.parts.parts r) e
 
     there : (r : Resource) → feet_at feet members i r ≡ true → exists_in m.config r ≡ true
     there r e = wave.feet_are.exist i (low-in m calls feet members wave i low) r e
@@ -138,41 +138,41 @@ module _ (m : State) (calls : List Call) (feet : ℕ → Resources) (members : L
           ends-none h.free (absent resource.Free t);
     }
 
-    pub back-wave : (joined : Held) → IsJoin h done.left.parts joined → IsLeft (state_at m (calls_of calls members) (length (calls_of calls members))) (feet_at feet members) (down_from i) joined
+    pub back-wave : (joined : Held) → IsJoin h done.left.parts joined → IsRest (state_at m (wave_calls calls members) (length (wave_calls calls members))) (feet_at feet members) (down_from i) joined
     back-wave joined join =
         let e : i + 1 ≡ suc i = omega arith in
-        back m (calls_of calls members) (feet_at feet members) wave.lawful (wave-ranged m calls feet members wave) wave.feet_are (down_from i) i h done.left.parts joined (low-in m calls feet members wave i low)
-        (λ r t. out-earlier m (calls_of calls members) (feet_at feet members) wave.feet_are i i r (omega arith) (low-in m calls feet members wave i low) t) (rw e at left) at.parts join
+        back m (wave_calls calls members) (feet_at feet members) wave.lawful (wave-ranged m calls feet members wave) wave.feet_are (down_from i) i h done.left.parts joined (low-in m calls feet members wave i low)
+        (λ r t. out-earlier m (wave_calls calls members) (feet_at feet members) wave.feet_are i i r (omega arith) (low-in m calls feet members wave i low) t) (rw e at left) at.parts join
 
-  lawful-last : IsLawful (state_at m (calls_of calls members) (length (calls_of calls members)))
-  lawful-last = lawful-at m (calls_of calls members) wave.lawful (wave-ranged m calls feet members wave) (length (calls_of calls members)) (omega arith)
+  lawful-last : IsLawful (state_at m (wave_calls calls members) (length (wave_calls calls members)))
+  lawful-last = lawful-at m (wave_calls calls members) wave.lawful (wave-ranged m calls feet members wave) (length (wave_calls calls members)) (omega arith)
 
-  config-last : (state_at m (calls_of calls members) (length (calls_of calls members))).config ≡ m.config
-  config-last = config-at m (calls_of calls members) (feet_at feet members) wave.lawful (wave-ranged m calls feet members wave) wave.feet_are (length (calls_of calls members))
+  config-last : (state_at m (wave_calls calls members) (length (wave_calls calls members))).config ≡ m.config
+  config-last = config-at m (wave_calls calls members) (feet_at feet members) wave.lawful (wave-ranged m calls feet members wave) wave.feet_are (length (wave_calls calls members))
 
-  module _ (h : Held) (left : IsLeft (state_at m (calls_of calls members) (length (calls_of calls members))) (feet_at feet members) [] h) where
-    restricted : IsRestricted (state_at m (calls_of calls members) (length (calls_of calls members))) (exists_in (state_at m (calls_of calls members) (length (calls_of calls members))).config) h
+  module _ (h : Held) (left : IsRest (state_at m (wave_calls calls members) (length (wave_calls calls members))) (feet_at feet members) [] h) where
+    restricted : IsRestricted (state_at m (wave_calls calls members) (length (wave_calls calls members))) (exists_in (state_at m (wave_calls calls members) (length (wave_calls calls members))).config) h
     restricted = record { parts = left.parts; rooms = left.rooms }
 
-    low-listed : (p : Owner) (f : ℕ) → is_in (list_of (state_at m (calls_of calls members) (length (calls_of calls members))) p) f ≡ true → f < (state_at m (calls_of calls members) (length (calls_of calls members))).config.frames
-    low-listed p f inside = listed-low (state_at m (calls_of calls members) (length (calls_of calls members))) lawful-last p f inside
+    low-listed : (p : Owner) (f : ℕ) → is_in (list_of (state_at m (wave_calls calls members) (length (wave_calls calls members))) p) f ≡ true → f < (state_at m (wave_calls calls members) (length (wave_calls calls members))).config.frames
+    low-listed p f inside = listed-low (state_at m (wave_calls calls members) (length (wave_calls calls members))) lawful-last p f inside
 
-    closed : IsClosed (state_at m (calls_of calls members) (length (calls_of calls members))) (exists_in (state_at m (calls_of calls members) (length (calls_of calls members))).config)
-    closed = record { exist = λ r e. e; lists = λ p f ends inside. lt-ltb f (state_at m (calls_of calls members) (length (calls_of calls members))).config.frames (low-listed p f inside) }
+    closed : IsClosed (state_at m (wave_calls calls members) (length (wave_calls calls members))) (exists_in (state_at m (wave_calls calls members) (length (wave_calls calls members))).config)
+    closed = record { exist = λ r e. e; lists = λ p f ends inside. lt-ltb f (state_at m (wave_calls calls members) (length (wave_calls calls members))).config.frames (low-listed p f inside) }
 
     pub linked-last : IsLinked m.config h
-    linked-last = subst (λ config. IsLinked config h) config-last (linked-cut (state_at m (calls_of calls members) (length (calls_of calls members))) (exists_in (state_at m (calls_of calls members) (length (calls_of calls members))).config) h lawful-last closed restricted)
+    linked-last = subst (λ config. IsLinked config h) config-last (linked-cut (state_at m (wave_calls calls members) (length (wave_calls calls members))) (exists_in (state_at m (wave_calls calls members) (length (wave_calls calls members))).config) h lawful-last closed restricted)
 
-    state-last : state_of m.config h ≡ state_at m (calls_of calls members) (length (calls_of calls members))
+    state-last : state_of m.config h ≡ state_at m (wave_calls calls members) (length (wave_calls calls members))
     state-last =
-        let end : State = state_at m (calls_of calls members) (length (calls_of calls members)) in
+        let end : State = state_at m (wave_calls calls members) (length (wave_calls calls members)) in
         subst (λ config. state_of config h ≡ end) config-last (state-cut end (exists_in end.config) h lawful-last closed restricted ∙ cut-whole end lawful-last)
 
     here-last : (r : Resource) → exists_in m.config r ≡ true → here_of h r ≡ true
-    here-last r e = here-is (state_at m (calls_of calls members) (length (calls_of calls members))) (exists_in (state_at m (calls_of calls members) (length (calls_of calls members))).config) h lawful-last closed restricted r ∙ ap (λ config. exists_in config r) config-last ∙ e
+    here-last r e = here-is (state_at m (wave_calls calls members) (length (wave_calls calls members))) (exists_in (state_at m (wave_calls calls members) (length (wave_calls calls members))).config) h lawful-last closed restricted r ∙ ap (λ config. exists_in config r) config-last ∙ e
 
     -- a whole core is left
-    pub core-last : HasPlaces m.config h → IsCore m.config h × (state_of m.config h ≡ state_at m (calls_of calls members) (length (calls_of calls members)))
+    pub core-last : HasPlaces m.config h → IsCore m.config h × (state_of m.config h ≡ state_at m (wave_calls calls members) (length (wave_calls calls members)))
     core-last places = (
       record {
         lawful = subst IsLawful (sym state-last) lawful-last;
@@ -181,7 +181,7 @@ module _ (m : State) (calls : List Call) (feet : ℕ → Resources) (members : L
           numbers = places.numbers;
           frames = λ f low. here-last (resource.Frame f) (lt-ltb f m.config.frames low);
           vms = λ v low. here-last (resource.Vm v) (lt-ltb v (slot_count m.config) low);
-          past = λ v some. ltb-true v (slot_count m.config) (sym (ap (λ config. exists_in config (resource.Vm v)) config-last) ∙ sym (here-is (state_at m (calls_of calls members) (length (calls_of calls members))) (exists_in (state_at m (calls_of calls members) (length (calls_of calls members))).config) h lawful-last closed restricted (resource.Vm v)) ∙ some);
+          past = λ v some. ltb-true v (slot_count m.config) (sym (ap (λ config. exists_in config (resource.Vm v)) config-last) ∙ sym (here-is (state_at m (wave_calls calls members) (length (wave_calls calls members))) (exists_in (state_at m (wave_calls calls members) (length (wave_calls calls members))).config) h lawful-last closed restricted (resource.Vm v)) ∙ some);
           free = here-last resource.Free refl;
         };
       },
@@ -211,16 +211,16 @@ module _ (m : State) (calls : List Call) (feet : ℕ → Resources) (members : L
   -- and what is left of each is what its call leaves
   pub all-finished : (done : List Finished) → AnswersAll m.config calls tasks done → AllZip (IsFinishedAt m calls feet members) (range_with_len 0 (length members)) done
   all-finished done answers =
-      zip_through (IsTaskAt m calls feet members) (Answers m.config calls) (IsFinishedAt m calls feet members)
+      zip_through (IsTaskAt m calls feet members) (Finishes m.config calls) (IsFinishedAt m calls feet members)
       (λ i task one at is. finished-at m calls feet members wave i task one at.within at is) (range_with_len 0 (length members)) tasks done zip answers
 
 -- one more reply is written
 module _ (m : State) (calls : List Call) (feet : ℕ → Resources) (members : List ℕ) (wave : IsWave m calls feet members) (replies : List Reply) (j number : ℕ) (reply : Reply) (low : j < length members) (is : number ≡ get_or members j 0) (within : number < length replies) where
-  pub back-more : reply ≡ reply_at m (calls_of calls members) j → ((i : ℕ) → j + 1 ≤ i → i < length members → get_or replies (get_or members i 0) Done ≡ reply_at m (calls_of calls members) i)
-      → (i : ℕ) → j ≤ i → i < length members → get_or (set replies number reply) (get_or members i 0) Done ≡ reply_at m (calls_of calls members) i
+  pub back-more : reply ≡ reply_at m (wave_calls calls members) j → ((i : ℕ) → j + 1 ≤ i → i < length members → get_or replies (get_or members i 0) Done ≡ reply_at m (wave_calls calls members) i)
+      → (i : ℕ) → j ≤ i → i < length members → get_or (set replies number reply) (get_or members i 0) Done ≡ reply_at m (wave_calls calls members) i
   back-more given before i from below = by_place (cases_eq i j)
     where
-      by_place : ((i ≡ j) ⊎ (i ≢ j)) → get_or (set replies number reply) (get_or members i 0) Done ≡ reply_at m (calls_of calls members) i
+      by_place : ((i ≡ j) ⊎ (i ≢ j)) → get_or (set replies number reply) (get_or members i 0) Done ≡ reply_at m (wave_calls calls members) i
       by_place (inl same) = rw (same, ← is) (get_or-set_same replies number reply Done within ∙ given)
       by_place (inr other) =
           let more : j < i = omega (arith, from, other) in

@@ -12,7 +12,7 @@ use Rattle.kc_model.specs.Ranged.{IsRanged}
 use Rattle.kc_model.specs.Next.{next}
 use Rattle.kc_model.specs.Resources.{Resource, Resources, IsWithin, need, names_frame, slot_of, uses_free, of_slot, exists_slot}
 use Rattle.kc_model.specs.Footprints.{call_at, reach, footprint}
-use Rattle.kc_model.proofs.Sizes.{sized-next}
+use Rattle.kc_model.proofs.States.Sizes.{sized-next}
 use Rattle.waves.specs.Reorder.{IsDue, IsTaken}
 use Rattle.waves.proofs.Laws.{rises}
 use Rattle.kc_plan.specs.Commuting.{IsWaves}
@@ -20,7 +20,7 @@ use Rattle.kc_plan.specs.Reordering.{after_order}
 use Rattle.kc_plan.proofs.Reordered.{is_ready}
 use Rattle.kc_plan.proofs.Existing.{reach-low}
 use Rattle.kc_parts.specs.Restricted.{exists_in}
-use Rattle.kc_replay.specs.Wave.{AreFeet, calls_of, feet_at}
+use Rattle.kc_replay.specs.Wave.{AreFeet, wave_calls, feet_at}
 use Rattle.kc_replay.proofs.Taking.{wave-call, wave-length}
 
 config-order : (calls : List Call) (store : State) (order : List ℕ) → (after_order calls store order).config ≡ store.config
@@ -62,7 +62,7 @@ module _ (m : State) (calls : List Call) (is : IsLawful m) (ranged : All IsRange
       → ((i : ℕ) → i < length members → wave (get_or members i 0) ≡ w)
       → ((i j : ℕ) → i < length members → j < length members → i ≢ j → get_or members i 0 ≢ get_or members j 0)
       → ((k : ℕ) (r : Resource) → k < length calls → feet k r ≡ footprint m calls k r)
-      → AreFeet (after_order calls m order) (calls_of calls members) (feet_at feet members)
+      → AreFeet (after_order calls m order) (wave_calls calls members) (feet_at feet members)
   feet-of-wave wave order done feet members w plan taken due same other rows = record {
     needs = λ i low r needed.
         let l = below i low in
@@ -72,14 +72,14 @@ module _ (m : State) (calls : List Call) (is : IsLawful m) (ranged : All IsRange
         ap (λ config. exists_in config r) (config-order calls m order) ∙ footprint-exists (get_or members i 0) r (sym (row i l r) ∙ e);
     slots = λ i v low e.
         let l = below i low in
-        ap (λ config. exists_slot config (slot_of (call_at (calls_of calls members) i)) v) (config-order calls m order) ∙ ap (λ call. exists_slot m.config (slot_of call) v) (wave-call calls members i l) ∙ sym (row i l (resource.Vm v)) ∙ e;
+        ap (λ config. exists_slot config (slot_of (call_at (wave_calls calls members) i)) v) (config-order calls m order) ∙ ap (λ call. exists_slot m.config (slot_of call) v) (wave-call calls members i l) ∙ sym (row i l (resource.Vm v)) ∙ e;
     free = λ i low e. let l = below i low in ap uses_free (wave-call calls members i l) ∙ sym (row i l resource.Free) ∙ e;
     apart = λ i j r il jl differ ei ej.
         let li = below i il in let lj = below j jl in
         side (get_or members i 0) (get_or members j 0) r (due i li).within (due j lj).within (other i j li lj differ) (same i li ∙ sym (same j lj)) (sym (row i li r) ∙ ei) (sym (row j lj r) ∙ ej);
   }
     where
-      below : (i : ℕ) → i < length (calls_of calls members) → i < length members
+      below : (i : ℕ) → i < length (wave_calls calls members) → i < length members
       below i low = rw (wave-length calls members) at low
 
       row : (i : ℕ) → i < length members → (r : Resource) → feet_at feet members i r ≡ footprint m calls (get_or members i 0) r

@@ -8,7 +8,7 @@ use Rattle.std.proofs.lemmas.Option.{same_Some}
 use Rattle.std.proofs.lemmas.List.{map-id}
 use Rattle.std.proofs.lemmas.List.FromFn.{map-range_with_len_more}
 use Rattle.kc_types.specs.Limits.{frame_limit}
-use Rattle.kc_model.proofs.Configurations.{few-frames}
+use Rattle.kc_model.proofs.States.Configurations.{few-frames}
 use Rattle.kc_types.specs.Configuration.{Configuration, slot_count}
 use Rattle.kc_types.specs.declared.call.Call.{Call}
 use Rattle.kc_types.specs.declared.link.Ends.{Ends}
@@ -20,30 +20,30 @@ use Rattle.kc_model.specs.Lawful.{IsLawful, times_in}
 use Rattle.kc_model.specs.Resources.{Resource, Resources, is_in}
 use Rattle.kc_model.specs.Links.{link_in, link_at, list_of}
 use Rattle.kc_model.specs.Linked.{frame_and_link, slot_and_ends, free_ends, linked_part_of, linked_slot, ends_of}
-use Rattle.kc_model.proofs.Members.{times_in-held}
-use Rattle.kc_model.proofs.LawfulTraces.{lists-all}
+use Rattle.kc_model.proofs.States.Members.{times_in-held}
+use Rattle.kc_model.proofs.Lawful.LawfulTraces.{lists-all}
 use Rattle.kc_page.specs.declared.page.Page.{Page}
-use Rattle.kc_page.specs.Pages.{frame_of}
-use Rattle.kc_vms.specs.Slots.{VmSlot}
+use Rattle.kc_page.specs.Page.{frame_of}
+use Rattle.kc_vms.specs.Vm.{VmSlot}
 use Rattle.kc_links.specs.Chain.{unlinked}
 use Rattle.kc_links.specs.Ending.{listed}
 use Rattle.kc_parts.specs.Cuts.{HeldPart, held_at}
 use Rattle.kc_parts.specs.Cuts.HeldPart.{page_part, slot_part, ends_part}
-use Rattle.kc_parts.specs.Held.{Held, HasPlace, page_at, vm_at, link_of, links_of, ends_at}
+use Rattle.kc_parts.specs.Parts.{Held, HasPlace, page_at, vm_at, link_of, links_of, ends_at}
 use Rattle.kc_parts.specs.States.{frame_in, slot_in, list_in, unlinked_slot, state_of, owner_at}
 use Rattle.kc_parts.proofs.Cells.{place-held}
 use Rattle.kc_parts.proofs.Seen.{frame-seen, slot-seen}
-use Rattle.kc_core.specs.Cores.{IsCore}
+use Rattle.kc_core.specs.KCore.{IsCore}
 use Rattle.kc_parts.specs.Restricted.{seen_link, seen_part, seen_at, exists_in, IsRestricted}
 use Rattle.kc_model.specs.Footprints.{call_at, state_at}
-use Rattle.kc_model.proofs.LawfulTraces.{IsRangedTrace, lawful-at}
+use Rattle.kc_model.proofs.Lawful.LawfulTraces.{IsRangedTrace, lawful-at}
 use Rattle.kc_types.specs.declared.call.Call.TheVariants.{Take}
 use Rattle.kc_parts.specs.Cuts.{IsSplit, AreHere, is_wanted}
 use Rattle.kc_calls.specs.Applying.{IsAble, IsAnswer}
 use Rattle.kc_replay.specs.declared.task.Task.{Task}
 use Rattle.kc_replay.specs.declared.task.Finished.{Finished}
-use Rattle.kc_replay.specs.Working.{IsTaskOf, Answers}
-use Rattle.kc_replay.specs.Wave.{AreFeet, out, IsLeft, down_from, calls_of, feet_at, IsWave, IsTaskAt, IsFinishedAt}
+use Rattle.kc_replay.specs.Working.{IsTaskOf, Finishes}
+use Rattle.kc_replay.specs.Wave.{AreFeet, out, IsRest, down_from, wave_calls, feet_at, IsWave, IsTaskAt, IsFinishedAt}
 use Rattle.kc_replay.proofs.Apart.{config-at, closed-at, needs-at, taken, rest-left}
 use Rattle.kc_calls.proofs.Restricted.{able-cut, reply-is, restricted-after}
 use Rattle.kc_links.proofs.Neighbours.{link_in-linked, chain-ends}
@@ -94,7 +94,7 @@ module _ (config : Configuration) (h : Held) (is : IsCore config h) where
       by_vm (Some vm) e = place-held h.vms.numbers h.vms.slots v vm e
 
   -- a whole core has all of its state
-  pub left-whole : (feet : ℕ → Resources) → IsLeft (state_of config h) feet [] h
+  pub left-whole : (feet : ℕ → Resources) → IsRest (state_of config h) feet [] h
   left-whole feet = record { parts = parts; rooms = is.linked.vms }
     where
       parts : (r : Resource) → seen_at h r ≡ cond (exists_in config r) (Some (linked_part_of (state_of config h) r)) None
@@ -151,7 +151,7 @@ module _ (m : State) (calls : List Call) (feet : ℕ → Resources) (are : AreFe
       by_last (inr past) rest = let same : k ≡ i = omega (arith, low, past) in let t : feet i r ≡ true = subst (λ n. feet n r ≡ true) same e in rw t refl
 
   -- what a call may touch is here
-  pub here-before : (i : ℕ) (h : Held) (r : Resource) → i < length calls → IsLeft m feet (down_from i) h → feet i r ≡ true → IsSome (held_at h r)
+  pub here-before : (i : ℕ) (h : Held) (r : Resource) → i < length calls → IsRest m feet (down_from i) h → feet i r ≡ true → IsSome (held_at h r)
   here-before i h r low left e =
       some-held (held_at h r) (left.parts r ∙ rw (out-earlier i i r (omega arith) low e, are.exist i low r e) refl)
     where
@@ -163,34 +163,34 @@ pub range-more : (n : ℕ) → range_with_len 0 (n + 1) ≡ range_with_len 0 n +
 range-more n = sym (map-id (range_with_len 0 (n + 1))) ∙ map-range_with_len_more (λ f. f) 0 n n (omega arith) ∙ ap (λ fs. fs ++ n ∷ []) (map-id (range_with_len 0 n))
 
 -- the i-th call of the wave
-pub wave-call : (calls : List Call) (members : List ℕ) (i : ℕ) → i < length members → call_at (calls_of calls members) i ≡ call_at calls (get_or members i 0)
+pub wave-call : (calls : List Call) (members : List ℕ) (i : ℕ) → i < length members → call_at (wave_calls calls members) i ≡ call_at calls (get_or members i 0)
 wave-call calls [] i low = absurd (omega (arith, low))
 wave-call calls (k ∷ members) zero low = refl
 wave-call calls (k ∷ members) (suc i) low = wave-call calls members i (omega (arith, low))
 
-pub wave-length : (calls : List Call) (members : List ℕ) → length (calls_of calls members) ≡ length members
+pub wave-length : (calls : List Call) (members : List ℕ) → length (wave_calls calls members) ≡ length members
 wave-length calls [] = refl
 wave-length calls (k ∷ members) = ap suc (wave-length calls members)
 
 module _ (m : State) (calls : List Call) (feet : ℕ → Resources) (members : List ℕ) (wave : IsWave m calls feet members) where
-  pub wave-ranged : IsRangedTrace (calls_of calls members)
+  pub wave-ranged : IsRangedTrace (wave_calls calls members)
   wave-ranged k low =
       let below : k < length members = rw (wave-length calls members) at low in
       rw (wave-call calls members k below) (wave.ranged (get_or members k 0) Take (wave.within k below))
 
-  pub low-in : (i : ℕ) → i < length members → i < length (calls_of calls members)
+  pub low-in : (i : ℕ) → i < length members → i < length (wave_calls calls members)
   low-in i low = rw (wave-length calls members) low
 
-  pub here-wave : (i : ℕ) (h : Held) (wanted : List Resource) → i < length members → ((r : Resource) → is_wanted wanted r ≡ feet_at feet members i r) → IsLeft m (feet_at feet members) (down_from i) h → AreHere h wanted
-  here-wave i h wanted low is left r e = here-before m (calls_of calls members) (feet_at feet members) wave.feet_are i h r (low-in i low) left (sym (is r) ∙ e)
+  pub here-wave : (i : ℕ) (h : Held) (wanted : List Resource) → i < length members → ((r : Resource) → is_wanted wanted r ≡ feet_at feet members i r) → IsRest m (feet_at feet members) (down_from i) h → AreHere h wanted
+  here-wave i h wanted low is left r e = here-before m (wave_calls calls members) (feet_at feet members) wave.feet_are i h r (low-in i low) left (sym (is r) ∙ e)
 
-  pub taken-wave : (i : ℕ) (h rest got : Held) → i < length members → IsLeft m (feet_at feet members) (down_from i) h → IsSplit h (feet_at feet members i) rest got
-      → IsRestricted (state_at m (calls_of calls members) i) (feet_at feet members i) got × IsLeft m (feet_at feet members) (down_from (i + 1)) rest
+  pub taken-wave : (i : ℕ) (h rest got : Held) → i < length members → IsRest m (feet_at feet members) (down_from i) h → IsSplit h (feet_at feet members i) rest got
+      → IsRestricted (state_at m (wave_calls calls members) i) (feet_at feet members i) got × IsRest m (feet_at feet members) (down_from (i + 1)) rest
   taken-wave i h rest got low left split =
       let e : i + 1 ≡ suc i = omega arith in (
-        taken m (calls_of calls members) (feet_at feet members) wave.lawful wave-ranged wave.feet_are (down_from i) i h rest got (low-in i low)
-            (λ r t. out-earlier m (calls_of calls members) (feet_at feet members) wave.feet_are i i r (omega arith) (low-in i low) t) left split,
-        rw e (rest-left m (calls_of calls members) (feet_at feet members) wave.lawful wave-ranged wave.feet_are (down_from i) i h rest got left split),
+        taken m (wave_calls calls members) (feet_at feet members) wave.lawful wave-ranged wave.feet_are (down_from i) i h rest got (low-in i low)
+            (λ r t. out-earlier m (wave_calls calls members) (feet_at feet members) wave.feet_are i i r (omega arith) (low-in i low) t) left split,
+        rw e (rest-left m (wave_calls calls members) (feet_at feet members) wave.lawful wave-ranged wave.feet_are (down_from i) i h rest got left split),
       )
 
   -- so a task of it can be done
@@ -199,24 +199,24 @@ module _ (m : State) (calls : List Call) (feet : ℕ → Resources) (members : L
     within = rw at.number (wave.within i low);
     able =
         subst (λ call. IsAble m.config task.parts call) (sym (ap (call_at calls) at.number ∙ sym (wave-call calls members i low)))
-        (subst (λ config. IsAble config task.parts (call_at (calls_of calls members) i)) (config-at m (calls_of calls members) (feet_at feet members) wave.lawful wave-ranged wave.feet_are i)
-        (able-cut (state_at m (calls_of calls members) i) (feet_at feet members i) task.parts (call_at (calls_of calls members) i)
-        (lawful-at m (calls_of calls members) wave.lawful wave-ranged i (let l = low-in i low in omega (arith, l)))
-        (closed-at m (calls_of calls members) (feet_at feet members) wave.lawful wave-ranged wave.feet_are i (low-in i low))
-        at.parts (needs-at m (calls_of calls members) (feet_at feet members) wave.lawful wave-ranged wave.feet_are i (low-in i low))));
+        (subst (λ config. IsAble config task.parts (call_at (wave_calls calls members) i)) (config-at m (wave_calls calls members) (feet_at feet members) wave.lawful wave-ranged wave.feet_are i)
+        (able-cut (state_at m (wave_calls calls members) i) (feet_at feet members i) task.parts (call_at (wave_calls calls members) i)
+        (lawful-at m (wave_calls calls members) wave.lawful wave-ranged i (let l = low-in i low in omega (arith, l)))
+        (closed-at m (wave_calls calls members) (feet_at feet members) wave.lawful wave-ranged wave.feet_are i (low-in i low))
+        at.parts (needs-at m (wave_calls calls members) (feet_at feet members) wave.lawful wave-ranged wave.feet_are i (low-in i low))));
   }
 
   -- and what it leaves is what the call leaves
-  pub finished-at : (i : ℕ) (task : Task) (done : Finished) → i < length members → IsTaskAt m calls feet members i task → Answers m.config calls task done → IsFinishedAt m calls feet members i done
+  pub finished-at : (i : ℕ) (task : Task) (done : Finished) → i < length members → IsTaskAt m calls feet members i task → Finishes m.config calls task done → IsFinishedAt m calls feet members i done
   finished-at i task done low at answers =
-      let s : State = state_at m (calls_of calls members) i in
-      let call : Call = call_at (calls_of calls members) i in
-      let lawful : IsLawful s = lawful-at m (calls_of calls members) wave.lawful wave-ranged i (let l = low-in i low in omega (arith, l)) in
-      let closed = closed-at m (calls_of calls members) (feet_at feet members) wave.lawful wave-ranged wave.feet_are i (low-in i low) in
-      let needs = needs-at m (calls_of calls members) (feet_at feet members) wave.lawful wave-ranged wave.feet_are i (low-in i low) in
+      let s : State = state_at m (wave_calls calls members) i in
+      let call : Call = call_at (wave_calls calls members) i in
+      let lawful : IsLawful s = lawful-at m (wave_calls calls members) wave.lawful wave-ranged i (let l = low-in i low in omega (arith, l)) in
+      let closed = closed-at m (wave_calls calls members) (feet_at feet members) wave.lawful wave-ranged wave.feet_are i (low-in i low) in
+      let needs = needs-at m (wave_calls calls members) (feet_at feet members) wave.lawful wave-ranged wave.feet_are i (low-in i low) in
       let is : call_at calls task.number ≡ call = ap (call_at calls) at.number ∙ sym (wave-call calls members i low) in
       let answer : IsAnswer s.config task.parts done.left.parts call done.reply =
-      subst (λ config. IsAnswer config task.parts done.left.parts call done.reply) (sym (config-at m (calls_of calls members) (feet_at feet members) wave.lawful wave-ranged wave.feet_are i))
+      subst (λ config. IsAnswer config task.parts done.left.parts call done.reply) (sym (config-at m (wave_calls calls members) (feet_at feet members) wave.lawful wave-ranged wave.feet_are i))
       (subst (λ call. IsAnswer m.config task.parts done.left.parts call done.reply) is answers.answer) in
       record {
         number = answers.number ∙ at.number;

@@ -1,4 +1,4 @@
 pub mod Wave
 pub mod Working
 pub mod Replay
-pub mod Segments
+pub mod Replayer

@@ -8,14 +8,14 @@ use Rattle.kc_model.specs.State.{State}
 use Rattle.kc_model.specs.Footprints.{state_at, reply_at, footprint}
 use Rattle.waves.specs.Reorder.{IsTaken}
 use Rattle.kc_plan.specs.Reordering.{after_order}
-use Rattle.kc_replay.specs.Wave.{AreReplied, calls_of}
+use Rattle.kc_replay.specs.Wave.{AreReplied, wave_calls}
 
 -- the calls of a wave are taken, in some order, and their replies stand in their places
 pub record IsWaveTaken (m : State) (calls : List Call) (members : List ℕ) (old new : List Reply) (left : State) : Type 0 where
   pub order : List ℕ
   pub same : IsPermutation members order
   pub replied : AreReplied m calls order old new
-  pub state : left ≡ state_at m (calls_of calls order) (length order)
+  pub state : left ≡ state_at m (wave_calls calls order) (length order)
 
 -- the calls of the waves up to w are taken, in whatever order, and their replies stand in their places
 pub record IsUpTo (m : State) (calls : List Call) (wave : ℕ → ℕ) (w : ℕ) (store : State) (replies : List Reply) : Type 0 where

@@ -13,9 +13,9 @@ use Rattle.kc_model.specs.Lawful.{IsLawful}
 use Rattle.kc_model.specs.Ranged.{IsRanged}
 use Rattle.kc_model.specs.Footprints.{call_at, state_at, reply_at}
 use Rattle.kc_plan.specs.Rows.{Rows, row_touches, row_at}
-use Rattle.kc_vms.specs.Slots.{VmSlot}
+use Rattle.kc_vms.specs.Vm.{VmSlot}
 use Rattle.kc_page.specs.declared.page.Page.{Page}
-use Rattle.kc_parts.specs.Held.{Held, HasPlace, page_at, vm_at}
+use Rattle.kc_parts.specs.Parts.{Held, HasPlace, page_at, vm_at}
 use Rattle.kc_parts.specs.Restricted.{seen_at, exists_in, IsRestricted}
 use Rattle.kc_replay.specs.declared.task.Task.{Task}
 use Rattle.kc_replay.specs.declared.task.Finished.{Finished}
@@ -34,7 +34,7 @@ abbrev pub out : (ℕ → Resources) → List ℕ → Resources
 out feet ks r = list_any (λ k. feet k r) ks
 
 -- the store lacks what the calls may touch, and has all else of the state
-pub record IsLeft (m : State) (feet : ℕ → Resources) (ks : List ℕ) (h : Held) : Type 0 where
+pub record IsRest (m : State) (feet : ℕ → Resources) (ks : List ℕ) (h : Held) : Type 0 where
   pub parts : (r : Resource) → seen_at h r ≡ cond (out feet ks r) None (cond (exists_in m.config r) (Some (linked_part_of m r)) None)
   pub rooms : (v : ℕ) (vm : VmSlot) → vm_at h v ≡ Some vm → vm.room ≡ m.config.leaves
 
@@ -51,8 +51,8 @@ pub record Wave : Type 0 where
   pub members : List ℕ
 
 -- the calls of the wave
-abbrev pub calls_of : List Call → List ℕ → List Call
-calls_of calls members = map (λ k. call_at calls k) members
+abbrev pub wave_calls : List Call → List ℕ → List Call
+wave_calls calls members = map (λ k. call_at calls k) members
 
 -- the foot of each call of a trace
 abbrev pub foot_of : Rows → ℕ → Resources
@@ -67,7 +67,7 @@ pub record IsWave (m : State) (calls : List Call) (feet : ℕ → Resources) (me
   pub lawful : IsLawful m
   pub ranged : All IsRanged calls
   pub within : (i : ℕ) → i < length members → slice_index_or members i 0 < length calls
-  pub feet_are : AreFeet m (calls_of calls members) (feet_at feet members)
+  pub feet_are : AreFeet m (wave_calls calls members) (feet_at feet members)
   -- no call stands twice
   pub once : (i j : ℕ) → i < length members → j < length members → i ≢ j → slice_index_or members i 0 ≢ slice_index_or members j 0
 
@@ -79,16 +79,16 @@ down_from (suc i) = i ∷ down_from i
 pub record IsTaskAt (m : State) (calls : List Call) (feet : ℕ → Resources) (members : List ℕ) (i : ℕ) (task : Task) : Type 0 where
   pub within : i < length members
   pub number : task.number ≡ slice_index_or members i 0
-  pub parts : IsRestricted (state_at m (calls_of calls members) i) (feet_at feet members i) task.parts
+  pub parts : IsRestricted (state_at m (wave_calls calls members) i) (feet_at feet members i) task.parts
 
 pub record IsFinishedAt (m : State) (calls : List Call) (feet : ℕ → Resources) (members : List ℕ) (i : ℕ) (done : Finished) : Type 0 where
   pub number : done.left.number ≡ slice_index_or members i 0
-  pub reply : done.reply ≡ reply_at m (calls_of calls members) i
-  pub parts : IsRestricted (state_at m (calls_of calls members) (suc i)) (feet_at feet members i) done.left.parts
+  pub reply : done.reply ≡ reply_at m (wave_calls calls members) i
+  pub parts : IsRestricted (state_at m (wave_calls calls members) (suc i)) (feet_at feet members i) done.left.parts
 
 -- the wave's calls have their replies, and all else is as before
 pub record AreReplied (m : State) (calls : List Call) (members : List ℕ) (old new : List Reply) : Type 0 where
-  pub given : (i : ℕ) → i < length members → slice_index_or new (slice_index_or members i 0) Done ≡ reply_at m (calls_of calls members) i
+  pub given : (i : ℕ) → i < length members → slice_index_or new (slice_index_or members i 0) Done ≡ reply_at m (wave_calls calls members) i
   pub kept : (k : ℕ) → ((i : ℕ) → i < length members → slice_index_or members i 0 ≢ k) → slice_index_or new k Done ≡ slice_index_or old k Done
   pub size : length new ≡ length old
 

@@ -15,12 +15,12 @@ pub record IsTaskOf (config : Configuration) (calls : List Call) (task : Task) :
   pub able : IsAble config task.parts (call_at calls task.number)
 
 -- the reply to a task, and the parts that it leaves
-pub record Answers (config : Configuration) (calls : List Call) (task : Task) (done : Finished) : Type 0 where
+pub record Finishes (config : Configuration) (calls : List Call) (task : Task) (done : Finished) : Type 0 where
   pub number : done.left.number ≡ task.number
   pub answer : IsAnswer config task.parts done.left.parts (call_at calls task.number) done.reply
 
 abbrev pub AnswersAll : Configuration → List Call → List Task → List Finished → Type 0
-AnswersAll config calls tasks done = AllZip (Answers config calls) tasks done
+AnswersAll config calls tasks done = AllZip (Finishes config calls) tasks done
 
 -- what stands for no configuration
 abbrev pub no_config : Configuration

@@ -4,7 +4,7 @@ ghost use Rattle.std.specs.List.{flat_map};
 ghost use Rattle.kc_types.specs.declared.call.Call.{Call};
 ghost use Rattle.kc_model.specs.State.{State};
 ghost use Rattle.kc_model.specs.Next.{replies_from, state_after};
-ghost use Rattle.kc_replay.specs.Segments.{replies_to_each, state_after_each};
+ghost use Rattle.kc_replay.specs.Replayer.{replies_to_each, state_after_each};
 
 /// Taking the segments of a trace in turn is taking the trace, however it is cut.
 pub fn cutting()

@@ -5,7 +5,7 @@ ghost use Rattle.kc_model.specs.State.{State};
 ghost use Rattle.kc_model.specs.Blind.{ShowsNothing};
 ghost use Rattle.kc_model.specs.Boot.{boot};
 ghost use Rattle.kc_model.specs.Next.{replies_from, state_after};
-ghost use Rattle.kc_replay.specs.Segments.{IsFed};
+ghost use Rattle.kc_replay.specs.Replayer.{IsFed};
 ghost use Rattle.kc_replay.specs.declared.fault.ReplayFault.TheVariants.{BadWorkers, Broken};
 
 use crate::Gate;
@@ -57,7 +57,7 @@ impl Model for Replayer {
     ghost use Rattle.std.specs.FinMap as map;
     ghost use Rattle.std.specs.Ordering.{nat_cmp};
     ghost use Rattle.kc_types.specs.Limits.{call_limit};
-    ghost use Rattle.kc_replay.specs.Segments.{Replaying};
+    ghost use Rattle.kc_replay.specs.Replayer.{Replaying};
 
     ghost Value = { Replaying };
 

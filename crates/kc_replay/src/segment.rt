@@ -7,8 +7,8 @@ ghost use Rattle.kc_model.specs.Lawful.{IsLawful};
 ghost use Rattle.kc_model.specs.Next.{replies_from, state_after};
 ghost use Rattle.kc_model.specs.Footprints.{state_at};
 ghost use Rattle.kc_plan.specs.Footprints.{AreFootprints};
-ghost use Rattle.kc_replay.specs.Wave.{IsWave, AreReplied, calls_of, foot_of};
-ghost use Rattle.kc_plan.specs.Plans.{AreCalls};
+ghost use Rattle.kc_replay.specs.Wave.{IsWave, AreReplied, wave_calls, foot_of};
+ghost use Rattle.kc_plan.specs.Plan.{AreCallNumbers};
 ghost use Rattle.kc_replay.specs.Replay.{IsWaveTaken};
 
 use crate::Gate;
@@ -37,10 +37,10 @@ fn answer_wave<G: Gate>(
     replies: &mut [Reply],
     gate: &G,
 ) -> Result<(), Memory>
-    requires members { AreCalls (length calls.now) members.now }
+    requires members { AreCallNumbers (length calls.now) members.now }
     requires room { length replies.old ≡ length calls.now }
     ensures replies { OnOk result (AreReplied core.old calls.now members.now replies.old replies.new) }
-    ensures state { OnOk result (core.new ≡ state_at core.old (calls_of calls.now members.now) (length members.now)) }
+    ensures state { OnOk result (core.new ≡ state_at core.old (wave_calls calls.now members.now) (length members.now)) }
 {
     for place in 0..members.len() {
         let number = members[place];
@@ -68,7 +68,7 @@ fn share_wave<R: Threads + Wait + Sync, G: Gate + Sync>(
     requires rows { length feet.now.rows ≡ length calls.now }
     requires room { length replies.old ≡ length calls.now }
     ensures replies { OnOk result (AreReplied core calls.now members.now replies.old replies.new) }
-    ensures state { IfOk result (λ left. left ≡ state_at core (calls_of calls.now members.now) (length members.now)) }
+    ensures state { IfOk result (λ left. left ≡ state_at core (wave_calls calls.now members.now) (length members.now)) }
 {
     let (config, mut parts) = core.into_parts();
     run_wave(
@@ -98,7 +98,7 @@ fn hashed(core: &KCore, call: &Call) -> u32 {
 
 /// Whether the calls of a wave but the longest are work enough to start threads for.
 fn is_worth_threads(core: &KCore, calls: &[Call], members: &[usize]) -> bool
-    requires members { AreCalls (length calls.now) members.now }
+    requires members { AreCallNumbers (length calls.now) members.now }
 {
     let mut all: u32 = 0;
     let mut longest = 0;
@@ -124,7 +124,7 @@ fn take_wave<R: Threads + Wait + Sync, G: Gate + Sync>(
 ) -> Result<KCore, ReplayFault>
     requires wave { (order : List ℕ) → IsPermutation members.now order → IsWave core calls.now (foot_of feet.now) order }
     requires rows { length feet.now.rows ≡ length calls.now }
-    requires members { AreCalls (length calls.now) members.now }
+    requires members { AreCallNumbers (length calls.now) members.now }
     requires room { length replies.old ≡ length calls.now }
     ensures { IfOk result (IsWaveTaken core calls.now members.now replies.old replies.new) }
 {

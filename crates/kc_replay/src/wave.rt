@@ -2,9 +2,9 @@
 ghost use Rattle.std.specs.Prelude.{◌≡◌, length, OnOk, OnErr, IfOk};
 ghost use Rattle.std.specs.List.{AllZip, range_with_len};
 ghost use Rattle.kc_model.specs.Footprints.{state_at};
-ghost use Rattle.kc_core.specs.Cores.{IsCore};
+ghost use Rattle.kc_core.specs.KCore.{IsCore};
 ghost use Rattle.kc_parts.specs.States.{state_of};
-ghost use Rattle.kc_replay.specs.Wave.{Wave, IsWave, IsLeft, HasPlaces, IsTaskAt, IsFinishedAt, AreReplied, HasNoBytes, calls_of, foot_of, feet_at, down_from};
+ghost use Rattle.kc_replay.specs.Wave.{Wave, IsWave, IsRest, HasPlaces, IsTaskAt, IsFinishedAt, AreReplied, HasNoBytes, wave_calls, foot_of, feet_at, down_from};
 
 use crate::Gate;
 use crate::fault::ReplayFault;
@@ -31,7 +31,7 @@ fn take_tasks(
     requires core { IsCore wave.start.config store.old }
     requires state { state_of wave.start.config store.old ≡ wave.start }
     ensures tasks { IfOk result (λ ts. AllZip (IsTaskAt wave.start wave.calls (foot_of feet.now) members.now) (range_with_len 0 (length members.now)) ts.items) }
-    ensures store { OnOk result (IsLeft wave.start (feet_at (foot_of feet.now) members.now) (down_from (length members.now)) store.new) }
+    ensures store { OnOk result (IsRest wave.start (feet_at (foot_of feet.now) members.now) (down_from (length members.now)) store.new) }
     ensures places { OnOk result (HasPlaces wave.start.config store.new) }
 {
     let mut tasks = Vec::with_capacity(alloc, members.len())?;
@@ -49,12 +49,12 @@ fn put_all(store: &mut Parts, mut done: Vec<Finished>, replies: &mut [Reply])
     ghost wave: { Wave }
     requires wave { IsWave wave.start wave.calls wave.feet wave.members }
     requires done { AllZip (IsFinishedAt wave.start wave.calls wave.feet wave.members) (range_with_len 0 (length wave.members)) done.items }
-    requires store { IsLeft (state_at wave.start (calls_of wave.calls wave.members) (length wave.members)) (feet_at wave.feet wave.members) (down_from (length wave.members)) store.old }
+    requires store { IsRest (state_at wave.start (wave_calls wave.calls wave.members) (length wave.members)) (feet_at wave.feet wave.members) (down_from (length wave.members)) store.old }
     requires places { HasPlaces wave.start.config store.old }
     requires room { length replies.old ≡ length wave.calls }
     ensures core { IsCore wave.start.config store.new }
     ensures replies { AreReplied wave.start wave.calls wave.members replies.old replies.new }
-    ensures state { state_of wave.start.config store.new ≡ state_at wave.start (calls_of wave.calls wave.members) (length wave.members) }
+    ensures state { state_of wave.start.config store.new ≡ state_at wave.start (wave_calls wave.calls wave.members) (length wave.members) }
 {
     while let Some(finished) = done.pop() {
         let Finished { reply, left } = finished;
@@ -88,7 +88,7 @@ fn share_out<R: Threads + Wait + Sync, G: Gate + Sync>(
     requires room { length replies.old ≡ length wave.calls }
     ensures replies { OnOk result (AreReplied wave.start wave.calls wave.members replies.old replies.new) }
     ensures core { OnOk result (IsCore config.now store.new) }
-    ensures state { OnOk result (state_of config.now store.new ≡ state_at wave.start (calls_of wave.calls wave.members) (length wave.members)) }
+    ensures state { OnOk result (state_of config.now store.new ≡ state_at wave.start (wave_calls wave.calls wave.members) (length wave.members)) }
 {
     let tasks = take_tasks(alloc, store, feet, members)?;
     let lanes = cut_lanes(alloc, tasks, workers)?;
@@ -118,7 +118,7 @@ pub(crate) fn run_wave<R: Threads + Wait + Sync, G: Gate + Sync>(
     requires room { length replies.old ≡ length calls.now }
     ensures replies { OnOk result (AreReplied (state_of config.now store.old) calls.now members.now replies.old replies.new) }
     ensures core { OnOk result (IsCore config.now store.new) }
-    ensures state { OnOk result (state_of config.now store.new ≡ state_at (state_of config.now store.old) (calls_of calls.now members.now) (length members.now)) }
+    ensures state { OnOk result (state_of config.now store.new ≡ state_at (state_of config.now store.old) (wave_calls calls.now members.now) (length members.now)) }
     ensures wiped { OnErr result (HasNoBytes store.new) }
 {
     let outcome = share_out(

@@ -4,7 +4,7 @@ ghost use Rattle.std.specs.List.{AllZip};
 ghost use Rattle.std.specs.Prelude.{List};
 ghost use Rattle.kc_types.specs.Configuration.{Configuration};
 ghost use Rattle.kc_types.specs.declared.call.Call.{Call};
-ghost use Rattle.kc_replay.specs.Working.{Answers, AnswersAll, IsTaskOf, no_config};
+ghost use Rattle.kc_replay.specs.Working.{Finishes, AnswersAll, IsTaskOf, no_config};
 
 use crate::Gate;
 use crate::fault::ReplayFault;
@@ -27,7 +27,7 @@ fn finish<G: Gate>(
     gate: &G,
 ) -> Result<Finished, Memory>
     requires { IsTaskOf config.now calls.now task }
-    ensures { IfOk result (Answers config.now calls.now task) }
+    ensures { IfOk result (Finishes config.now calls.now task) }
 {
     let mut left = task;
     gate.before(left.number);

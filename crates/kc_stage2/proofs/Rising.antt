@@ -7,7 +7,7 @@ use Rattle.std.specs.Ordering.{nat_cmp}
 use Rattle.std.specs.Cmp.{nat_cmp_total, ranked}
 use Rattle.std.specs.FinMap.{FinMap, entries, empty, insert, entries-insert, len-entries, len-empty}
 use Rattle.std.specs.FinMap.Entries as entry
-use Rattle.kc_pool.specs.Pool.{Pool, entry_at}
+use Rattle.kc_pool.specs.TablePool.{Pool, entry_at}
 use Rattle.kc_stage2.specs.Levels.{put, map_of, look_up, mapped_by}
 
 -- the entry of a guest frame, where it is mapped

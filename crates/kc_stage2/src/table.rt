@@ -3,8 +3,8 @@ ghost use Rattle.std.specs.Prelude.{◌≡◌, ℕ, ◌/◌, ◌≤◌, IfOk, On
 ghost use Rattle.std.specs.Ordering.{nat_cmp};
 ghost use Rattle.std.specs.FinMap as finite;
 ghost use Rattle.kc_types.specs.Limits.{leaf_limit};
-ghost use Rattle.kc_stage2.specs.Table.{Table, new_table, with_entry, fits};
-ghost use Rattle.kc_stage2.specs.Faults.{Answers, fault_of};
+ghost use Rattle.kc_stage2.specs.Stage2.{Table, new_table, with_mapping, fits};
+ghost use Rattle.kc_stage2.specs.Faults.{Answers, map_fault};
 
 use crate::entries::entries_of;
 use crate::levels::Levels;
@@ -27,7 +27,7 @@ pub struct Stage2 {
 }
 
 impl Model for Stage2 {
-    ghost use Rattle.kc_stage2.specs.Table.{Table, table_code};
+    ghost use Rattle.kc_stage2.specs.Stage2.{Table, table_code};
 
     ghost Value = { Table };
 
@@ -88,8 +88,8 @@ impl Stage2 {
     /// Maps a guest frame that isn't mapped yet. `Mapped` where it is, else `TablesFull` where its root slot has
     /// no leaf and the pool has none left.
     pub fn map(&mut self, gfn: Gfn, frame: FrameNo) -> Result<(), MapFault>
-        ensures answer { Answers result (fault_of self.old gfn) }
-        ensures ok { OnOk result (self.new ≡ with_entry self.old gfn frame) }
+        ensures answer { Answers result (map_fault self.old gfn) }
+        ensures ok { OnOk result (self.new ≡ with_mapping self.old gfn frame) }
         ensures err { OnErr result (self.new ≡ self.old) }
     {
         if self.get(gfn).is_some() {

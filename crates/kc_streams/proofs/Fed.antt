@@ -8,11 +8,11 @@ use Rattle.std.specs.Io.KnownBytes.{Consumes, IsAtEnd}
 use Rattle.kc_types.specs.Limits.{call_limit}
 use Rattle.kc_types.specs.declared.version.Version.{Version}
 use Rattle.kc_types.specs.declared.call.Call.{Call}
-use Rattle.kc_ends.specs.Ends.{ReadFailed, byte_limit}
+use Rattle.kc_io.specs.Ends.{ReadFailed, byte_limit}
 use Rattle.kc_trace.specs.declared.fault.TraceFault.{TraceFault}
 use Rattle.kc_trace.specs.declared.fault.TraceFault.TheVariants.{NoHeader, BadLine, NoNewline, TooManyCalls, Memory}
 use Rattle.kc_trace.specs.Trace.{IsTrace, IsRefused}
-use Rattle.kc_trace.specs.Machine.{◌>>=◌, Progress, Fails, start, longer, told, call_in, after_line, after_header_byte, after_byte, step, feed, fed, fed_after, ended, reading}
+use Rattle.kc_trace.specs.Machine.{◌>>=◌, Progress, Fails, start, with_byte, told, call_in, after_line, after_header_byte, after_byte, step, feed, fed, fed_after, ended, reading}
 use Rattle.kc_trace.proofs.Traces.{feed-append, and_then_feed, added, Reads, reading_reads}
 use Rattle.kc_streams.specs.Streamed.{Streamed, answer, HasRead, GoesOn}
 
@@ -48,7 +48,7 @@ line_counts p None lt = tt
 line_counts p (Some call) lt = (refl, omega (arith, lt))
 
 text_counts : (p : Progress) (byte : ℕ) (full newline : Bool) → nat_le call_limit p.calls ≡ full → p.calls ≤ call_limit
-    → IfOk (if full then Err TooManyCalls else if newline then after_line p (call_in p.version p.line) else Ok (record p { line = longer p.line byte }, [])) (Counts p)
+    → IfOk (if full then Err TooManyCalls else if newline then after_line p (call_in p.version p.line) else Ok (record p { line = with_byte p.line byte }, [])) (Counts p)
 text_counts p byte true newline f le = tt
 text_counts p byte false true f le = line_counts p (call_in p.version p.line) (leb-false call_limit p.calls f)
 text_counts p byte false false f le = (omega arith, le)

@@ -4,8 +4,8 @@ use Rattle.std.specs.Io.KnownBytes.{Consumes}
 use Rattle.kc_types.specs.Limits.{call_limit}
 use Rattle.kc_types.specs.declared.call.Call.{Call}
 use Rattle.kc_trace.specs.declared.fault.TraceFault.{TraceFault}
-use Rattle.kc_ends.specs.declared.whole.ReadFault.{ReadFault}
-use Rattle.kc_ends.specs.declared.whole.ReadFault.TheVariants as reads
+use Rattle.kc_io.specs.declared.whole.ReadFault.{ReadFault}
+use Rattle.kc_io.specs.declared.whole.ReadFault.TheVariants as reads
 use Rattle.kc_streams.specs.declared.stream.StreamFault.{StreamFault}
 use Rattle.kc_streams.specs.declared.stream.StreamFault.TheVariants as streams
 use Rattle.kc_trace.specs.Machine.{Progress, Reader, start, feed}

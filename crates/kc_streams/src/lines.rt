@@ -4,7 +4,7 @@ ghost use Rattle.std.specs.List.{flat_map};
 ghost use Rattle.std.specs.Io.KnownBytes.{Appends};
 ghost use Rattle.kc_streams.specs.Lines.{longest_line};
 
-use kc_ends::{Failed, Sink, write_whole};
+use kc_io::{Failed, Sink, write_whole};
 use kc_trace::LONGEST_CALL;
 
 /// The bytes of the longest line, with its newline: a call's.

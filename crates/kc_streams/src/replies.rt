@@ -5,7 +5,7 @@ ghost use Rattle.kc_trace.specs.ReplyText.{reply_line_of, reply_text_of};
 ghost use Rattle.kc_streams.specs.Lines.{longest_line};
 
 use crate::lines::{Line, give_lines};
-use kc_ends::{Failed, Sink};
+use kc_io::{Failed, Sink};
 use kc_trace::push_reply;
 use kc_types::Reply;
 

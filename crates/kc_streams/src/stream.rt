@@ -5,10 +5,10 @@ ghost use Rattle.kc_types.specs.Limits.{call_limit};
 ghost use Rattle.kc_types.specs.declared.call.Call.{Call};
 ghost use Rattle.kc_trace.specs.declared.fault.TraceFault.{TraceFault};
 ghost use Rattle.kc_trace.specs.Trace.{IsTrace, IsRefused};
-ghost use Rattle.kc_ends.specs.Ends.{ReadFailed, byte_limit};
+ghost use Rattle.kc_io.specs.Ends.{ReadFailed, byte_limit};
 ghost use Rattle.kc_streams.specs.Streamed.{HasRead, GoesOn};
 
-use kc_ends::{Failed, MOST_BYTES, ReadFault, Source};
+use kc_io::{Failed, MOST_BYTES, ReadFault, Source};
 use kc_trace::{TraceFault, TraceReader};
 use kc_types::Call;
 use std::alloc::Global;
@@ -64,7 +64,7 @@ pub struct CallStream {
 
 impl Model for CallStream {
     ghost use Rattle.std.specs.Prelude.{◌≤◌};
-    ghost use Rattle.kc_ends.specs.Ends.{byte_limit};
+    ghost use Rattle.kc_io.specs.Ends.{byte_limit};
     ghost use Rattle.kc_streams.specs.Streamed.{Streamed};
 
     ghost Value = { Streamed };

@@ -5,7 +5,7 @@ ghost use Rattle.kc_trace.specs.Spelling.{line_of, trace_of};
 ghost use Rattle.kc_streams.specs.Lines.{longest_line};
 
 use crate::lines::{Line, give_lines};
-use kc_ends::{Failed, Sink};
+use kc_io::{Failed, Sink};
 use kc_trace::{push_call, push_header, version_of};
 use kc_types::Call;
 

@@ -10,7 +10,7 @@ use Rattle.kc_types.specs.declared.version.Version.{Version}
 use Rattle.kc_types.specs.declared.call.Call.{Call}
 use Rattle.kc_trace.specs.declared.fault.TraceFault.{TraceFault}
 use Rattle.kc_trace.specs.declared.fault.TraceFault.TheVariants.{NoHeader, BadLine, TooManyCalls}
-use Rattle.kc_trace.specs.Machine.{◌>>=◌, Progress, told, longest_line, longer, longer_each, call_in, after_line, with_front, step, feed}
+use Rattle.kc_trace.specs.Machine.{◌>>=◌, Progress, told, longest_line, with_byte, longer_each, call_in, after_line, with_front, step, feed}
 use Rattle.kc_lines.specs.Lines.{IsOneLine}
 use Rattle.kc_lines.proofs.Newlines.{tail_is}
 
@@ -46,7 +46,7 @@ onto_none : (read : Result (Progress × List Call) TraceFault) → with_front []
 onto_none (Ok x) = refl
 onto_none (Err f) = refl
 
-grows : (p : Progress) (byte : ℕ) → p.header_left ≡ [] → p.calls < call_limit → (byte == 10) ≡ false → step p byte ≡ Ok (record p { line = longer p.line byte }, [])
+grows : (p : Progress) (byte : ℕ) → p.header_left ≡ [] → p.calls < call_limit → (byte == 10) ≡ false → step p byte ≡ Ok (record p { line = with_byte p.line byte }, [])
 unfolding step
 grows p byte behind few other = rw (behind, lt-leb call_limit p.calls few, other) refl
 
@@ -55,7 +55,7 @@ unfolding feed
 feed_run [] p rest behind few h = refl
 feed_run (byte ∷ run) p rest behind few h =
     let parts = and_parts (not (byte == 10)) (list_all (λ b. not (b == 10)) run) h in
-    let q : Progress = record p { line = longer p.line byte } in
+    let q : Progress = record p { line = with_byte p.line byte } in
     rw (grows p byte behind few (not-true (byte == 10) parts.0)) (onto_none (feed q (run ++ rest)) ∙ feed_run run q rest behind few parts.1)
 
 -- the same where no more is there

@@ -12,8 +12,8 @@ use Rattle.kc_types.specs.declared.call.Call.{Call}
 use Rattle.kc_types.specs.declared.call.Call.TheVariants.{Take, Give, HostFault, HostRead, HostWrite, RegisterVm, RegisterVcpu, SetBoot, Remap, Verify, Map, GuestRead, GuestWrite, Grant, Revoke, GrantRange, RevokeRange, Drop, Clear}
 use Rattle.kc_model.specs.Ranged.{IsWord, IsRanged}
 use Rattle.kc_trace.specs.Spelling.{words_of, line_of}
-use Rattle.kc_lines.specs.Words.{number_of, data_of}
-use Rattle.kc_trace.specs.Reading.{one_word, with_one_number, with_two_numbers, with_three_numbers, with_four_numbers, host_access, guest_access, two_words, three_words, four_words, five_words, six_words, call_of_words, call_of}
+use Rattle.kc_lines.specs.Words.{number_in, data_of}
+use Rattle.kc_trace.specs.Reading.{one_word, with_one_number, with_two_numbers, with_three_numbers, with_four_numbers, host_access, read_guest_access, two_words, three_words, four_words, five_words, six_words, call_of_words, call_of}
 use Rattle.kc_lines.proofs.Numbers.{number_is_decimal}
 use Rattle.kc_lines.proofs.Digits.{data_is_spelled}
 use Rattle.kc_lines.proofs.Words.{is_space, chosen}
@@ -94,22 +94,22 @@ bytes_are name text last arguments make call spelled fits named e =
 
 host_access_is : (name last : List ℕ) (a b : ℕ) (call : Call) → IsWord a → IsWord b → host_access name a b last ≡ Some call → IsSpelled (name ∷ decimal a ∷ decimal b ∷ last ∷ []) call
 host_access_is name last a b call fits_a fits_b e =
-    elim (chosen (bytes_eq name (codes "hwrite")) (option_map (HostWrite a b) (data_of last)) (option_and_then (with_three_numbers name a b) (number_of last)) (Some call) e) [
+    elim (chosen (bytes_eq name (codes "hwrite")) (option_map (HostWrite a b) (data_of last)) (option_and_then (with_three_numbers name a b) (number_in last)) (Some call) e) [
       | inl h ↦ bytes_are name (codes "hwrite") last (λ words. decimal a ∷ decimal b ∷ words) (HostWrite a b) call (λ bytes. refl) (λ bytes fits. (fits_a, fits_b, fits)) h.0 h.1
       | inr h ↦
-          let c = then_some (with_three_numbers name a b) (number_of last) call h.1 in
+          let c = then_some (with_three_numbers name a b) (number_in last) call h.1 in
           let number = number_is_decimal last c.0 c.1 in
           subst (λ (w : List ℕ). IsSpelled (name ∷ decimal a ∷ decimal b ∷ w ∷ []) call) (sym number.0) (three_numbers_are name a b c.0 call (fits_a, fits_b, number.1) c.2)
     ]
 
-guest_access_is : (name last : List ℕ) (a b c d : ℕ) (call : Call) → IsWord a → IsWord b → IsWord c → IsWord d → guest_access name a b c d last ≡ Some call
+guest_access_is : (name last : List ℕ) (a b c d : ℕ) (call : Call) → IsWord a → IsWord b → IsWord c → IsWord d → read_guest_access name a b c d last ≡ Some call
     → IsSpelled (name ∷ decimal a ∷ decimal b ∷ decimal c ∷ decimal d ∷ last ∷ []) call
 guest_access_is name last a b c d call fits_a fits_b fits_c fits_d e =
-    elim (chosen (bytes_eq name (codes "gwrite")) (option_map (GuestWrite a b c d) (data_of last)) (cond (bytes_eq name (codes "gread")) (option_map (GuestRead a b c d) (number_of last)) None) (Some call) e) [
+    elim (chosen (bytes_eq name (codes "gwrite")) (option_map (GuestWrite a b c d) (data_of last)) (cond (bytes_eq name (codes "gread")) (option_map (GuestRead a b c d) (number_in last)) None) (Some call) e) [
       | inl h ↦ bytes_are name (codes "gwrite") last (λ words. decimal a ∷ decimal b ∷ decimal c ∷ decimal d ∷ words) (GuestWrite a b c d) call (λ bytes. refl) (λ bytes fits. (fits_a, fits_b, fits_c, fits_d, fits)) h.0 h.1
-      | inr h ↦ elim (chosen (bytes_eq name (codes "gread")) (option_map (GuestRead a b c d) (number_of last)) None (Some call) h.1) [
+      | inr h ↦ elim (chosen (bytes_eq name (codes "gread")) (option_map (GuestRead a b c d) (number_in last)) None (Some call) h.1) [
         | inl g ↦
-            let len = map_some (GuestRead a b c d) (number_of last) call g.1 in
+            let len = map_some (GuestRead a b c d) (number_in last) call g.1 in
             let number = number_is_decimal last len.0 len.1 in
             let spelled = is_named name (codes "gread") (decimal a ∷ decimal b ∷ decimal c ∷ decimal d ∷ decimal len.0 ∷ []) (GuestRead a b c d len.0) g.0 refl (fits_a, fits_b, fits_c, fits_d, number.1) in
             subst (λ (w : List ℕ). IsSpelled (name ∷ decimal a ∷ decimal b ∷ decimal c ∷ decimal d ∷ w ∷ []) call) (sym number.0)
@@ -119,9 +119,9 @@ guest_access_is name last a b c d call fits_a fits_b fits_c fits_d e =
     ]
 
 -- a number is read, and what follows holds of the number
-numeral_then : (word : List ℕ) (then : ℕ → Option Call) (call : Call) (spelled : List ℕ → Type 0) → ((a : ℕ) → IsWord a → then a ≡ Some call → spelled (decimal a)) → option_and_then then (number_of word) ≡ Some call → spelled word
+numeral_then : (word : List ℕ) (then : ℕ → Option Call) (call : Call) (spelled : List ℕ → Type 0) → ((a : ℕ) → IsWord a → then a ≡ Some call → spelled (decimal a)) → option_and_then then (number_in word) ≡ Some call → spelled word
 numeral_then word then call spelled holds e =
-    let a = then_some then (number_of word) call e in
+    let a = then_some then (number_in word) call e in
     let number = number_is_decimal word a.0 a.1 in
     subst spelled (sym number.0) (holds a.0 number.1 a.2)
 
@@ -130,36 +130,36 @@ two_are name first call e = numeral_then first (with_one_number name) call (λ w
 
 three_are : (name first second : List ℕ) (call : Call) → three_words name first second ≡ Some call → IsSpelled (name ∷ first ∷ second ∷ []) call
 three_are name first second call e =
-    numeral_then first (λ a. option_and_then (with_two_numbers name a) (number_of second)) call (λ w. IsSpelled (name ∷ w ∷ second ∷ []) call)
+    numeral_then first (λ a. option_and_then (with_two_numbers name a) (number_in second)) call (λ w. IsSpelled (name ∷ w ∷ second ∷ []) call)
     (λ a fits_a. numeral_then second (with_two_numbers name a) call (λ w. IsSpelled (name ∷ decimal a ∷ w ∷ []) call) (λ b fits_b h. two_numbers_are name a b call fits_a fits_b h)) e
 
 four_are : (name first second third : List ℕ) (call : Call) → four_words name first second third ≡ Some call → IsSpelled (name ∷ first ∷ second ∷ third ∷ []) call
 four_are name first second third call e =
-    numeral_then first (λ a. option_and_then (λ b. host_access name a b third) (number_of second)) call (λ w. IsSpelled (name ∷ w ∷ second ∷ third ∷ []) call)
+    numeral_then first (λ a. option_and_then (λ b. host_access name a b third) (number_in second)) call (λ w. IsSpelled (name ∷ w ∷ second ∷ third ∷ []) call)
     (λ a fits_a. numeral_then second (λ b. host_access name a b third) call (λ w. IsSpelled (name ∷ decimal a ∷ w ∷ third ∷ []) call) (λ b fits_b h. host_access_is name third a b call fits_a fits_b h)) e
 
-last_two_are : (name third fourth : List ℕ) (a b : ℕ) (call : Call) → IsWord a → IsWord b → option_and_then (λ c. option_and_then (with_four_numbers name a b c) (number_of fourth)) (number_of third) ≡ Some call
+last_two_are : (name third fourth : List ℕ) (a b : ℕ) (call : Call) → IsWord a → IsWord b → option_and_then (λ c. option_and_then (with_four_numbers name a b c) (number_in fourth)) (number_in third) ≡ Some call
     → IsSpelled (name ∷ decimal a ∷ decimal b ∷ third ∷ fourth ∷ []) call
 last_two_are name third fourth a b call fits_a fits_b e =
-    numeral_then third (λ c. option_and_then (with_four_numbers name a b c) (number_of fourth)) call (λ w. IsSpelled (name ∷ decimal a ∷ decimal b ∷ w ∷ fourth ∷ []) call)
+    numeral_then third (λ c. option_and_then (with_four_numbers name a b c) (number_in fourth)) call (λ w. IsSpelled (name ∷ decimal a ∷ decimal b ∷ w ∷ fourth ∷ []) call)
     (λ c fits_c. numeral_then fourth (with_four_numbers name a b c) call (λ w. IsSpelled (name ∷ decimal a ∷ decimal b ∷ decimal c ∷ w ∷ []) call) (λ d fits_d h. four_numbers_are name a b c d call (fits_a, fits_b, fits_c, fits_d) h)) e
 
 five_are : (name first second third fourth : List ℕ) (call : Call) → five_words name first second third fourth ≡ Some call → IsSpelled (name ∷ first ∷ second ∷ third ∷ fourth ∷ []) call
 five_are name first second third fourth call e =
-    numeral_then first (λ a. option_and_then (λ b. option_and_then (λ c. option_and_then (with_four_numbers name a b c) (number_of fourth)) (number_of third)) (number_of second)) call (λ w. IsSpelled (name ∷ w ∷ second ∷ third ∷ fourth ∷ []) call)
-    (λ a fits_a. numeral_then second (λ b. option_and_then (λ c. option_and_then (with_four_numbers name a b c) (number_of fourth)) (number_of third)) call (λ w. IsSpelled (name ∷ decimal a ∷ w ∷ third ∷ fourth ∷ []) call) (λ b fits_b h. last_two_are name third fourth a b call fits_a fits_b h)) e
+    numeral_then first (λ a. option_and_then (λ b. option_and_then (λ c. option_and_then (with_four_numbers name a b c) (number_in fourth)) (number_in third)) (number_in second)) call (λ w. IsSpelled (name ∷ w ∷ second ∷ third ∷ fourth ∷ []) call)
+    (λ a fits_a. numeral_then second (λ b. option_and_then (λ c. option_and_then (with_four_numbers name a b c) (number_in fourth)) (number_in third)) call (λ w. IsSpelled (name ∷ decimal a ∷ w ∷ third ∷ fourth ∷ []) call) (λ b fits_b h. last_two_are name third fourth a b call fits_a fits_b h)) e
 
-guest_are : (name third fourth last : List ℕ) (a b : ℕ) (call : Call) → IsWord a → IsWord b → option_and_then (λ c. option_and_then (λ d. guest_access name a b c d last) (number_of fourth)) (number_of third) ≡ Some call
+guest_are : (name third fourth last : List ℕ) (a b : ℕ) (call : Call) → IsWord a → IsWord b → option_and_then (λ c. option_and_then (λ d. read_guest_access name a b c d last) (number_in fourth)) (number_in third) ≡ Some call
     → IsSpelled (name ∷ decimal a ∷ decimal b ∷ third ∷ fourth ∷ last ∷ []) call
 guest_are name third fourth last a b call fits_a fits_b e =
-    numeral_then third (λ c. option_and_then (λ d. guest_access name a b c d last) (number_of fourth)) call (λ w. IsSpelled (name ∷ decimal a ∷ decimal b ∷ w ∷ fourth ∷ last ∷ []) call)
-    (λ c fits_c. numeral_then fourth (λ d. guest_access name a b c d last) call (λ w. IsSpelled (name ∷ decimal a ∷ decimal b ∷ decimal c ∷ w ∷ last ∷ []) call) (λ d fits_d h. guest_access_is name last a b c d call fits_a fits_b fits_c fits_d h)) e
+    numeral_then third (λ c. option_and_then (λ d. read_guest_access name a b c d last) (number_in fourth)) call (λ w. IsSpelled (name ∷ decimal a ∷ decimal b ∷ w ∷ fourth ∷ last ∷ []) call)
+    (λ c fits_c. numeral_then fourth (λ d. read_guest_access name a b c d last) call (λ w. IsSpelled (name ∷ decimal a ∷ decimal b ∷ decimal c ∷ w ∷ last ∷ []) call) (λ d fits_d h. guest_access_is name last a b c d call fits_a fits_b fits_c fits_d h)) e
 
 six_are : (name first second third fourth fifth : List ℕ) (call : Call) → six_words name first second third fourth fifth ≡ Some call → IsSpelled (name ∷ first ∷ second ∷ third ∷ fourth ∷ fifth ∷ []) call
 six_are name first second third fourth fifth call e =
-    numeral_then first (λ a. option_and_then (λ b. option_and_then (λ c. option_and_then (λ d. guest_access name a b c d fifth) (number_of fourth)) (number_of third)) (number_of second)) call
+    numeral_then first (λ a. option_and_then (λ b. option_and_then (λ c. option_and_then (λ d. read_guest_access name a b c d fifth) (number_in fourth)) (number_in third)) (number_in second)) call
     (λ w. IsSpelled (name ∷ w ∷ second ∷ third ∷ fourth ∷ fifth ∷ []) call)
-    (λ a fits_a. numeral_then second (λ b. option_and_then (λ c. option_and_then (λ d. guest_access name a b c d fifth) (number_of fourth)) (number_of third)) call (λ w. IsSpelled (name ∷ decimal a ∷ w ∷ third ∷ fourth ∷ fifth ∷ []) call)
+    (λ a fits_a. numeral_then second (λ b. option_and_then (λ c. option_and_then (λ d. read_guest_access name a b c d fifth) (number_in fourth)) (number_in third)) call (λ w. IsSpelled (name ∷ decimal a ∷ w ∷ third ∷ fourth ∷ fifth ∷ []) call)
     (λ b fits_b h. guest_are name third fourth fifth a b call fits_a fits_b h)) e
 
 words_are_spelled : (words : List (List ℕ)) (call : Call) → call_of_words words ≡ Some call → IsSpelled words call

@@ -11,8 +11,8 @@ use Rattle.kc_types.specs.declared.version.Version.TheVariants.{One, Two}
 use Rattle.kc_types.specs.declared.call.Call.{Call}
 use Rattle.kc_trace.specs.declared.fault.TraceFault.{TraceFault}
 use Rattle.kc_trace.specs.declared.fault.TraceFault.TheVariants.{NoHeader, BadLine, NoNewline, TooManyCalls, Memory}
-use Rattle.kc_trace.specs.Spelling.{line_of, lines_of, header, stands_in}
-use Rattle.kc_trace.specs.Machine.{◌>>=◌, Gives, Fails, Progress, longest_line, start, longer, told, standing, call_of_kept, call_in, after_line, step, feed, feed_each, line_ended, ended, reading}
+use Rattle.kc_trace.specs.Spelling.{line_of, lines_of, trace_header, stands_in}
+use Rattle.kc_trace.specs.Machine.{◌>>=◌, Gives, Fails, Progress, longest_line, start, with_byte, told, standing, call_of_kept, call_in, after_line, step, feed, feed_each, line_ended, ended, reading}
 use Rattle.kc_lines.specs.Lines.{IsOneLine}
 use Rattle.kc_trace.specs.Trace.{IsCallOf, AreCalls, StopsAt, IsTrace, IsRefused}
 use Rattle.kc_trace.proofs.Lines.{line_fits, line_is_one, call_of-line_of}
@@ -26,7 +26,7 @@ kept line = cond (nat_le (length line) longest_line) (Some line) None
 length_pushed : (line : List ℕ) (byte : ℕ) → length (line ++ byte ∷ []) ≡ length line + 1
 length_pushed line byte = omega (arith, length-append line (byte ∷ []))
 
-longer-kept : (line : List ℕ) (byte : ℕ) → longer (kept line) byte ≡ kept (line ++ byte ∷ [])
+longer-kept : (line : List ℕ) (byte : ℕ) → with_byte (kept line) byte ≡ kept (line ++ byte ∷ [])
 longer-kept line byte =
     let more = length_pushed line byte in
     elim (cases_lt (length line) longest_line) [
@@ -261,14 +261,14 @@ through_digit (byte ∷ bytes) = elim (cases_eq byte 49) [
 abbrev name : List ℕ
 name = codes "kcore-trace "
 
-header_is : (v : Version) (rest : List ℕ) → header v ++ rest ≡ name ++ digit v ∷ 10 ∷ rest
+header_is : (v : Version) (rest : List ℕ) → trace_header v ++ rest ≡ name ++ digit v ∷ 10 ∷ rest
 header_is One rest = refl
 header_is Two rest = refl
 
 abbrev HeaderCases : List ℕ → Type 0
 HeaderCases text =
-    ((v : Version) × (rest : List ℕ) × (text ≡ header v ++ rest) × (outcome start text ≡ outcome (in_header v []) rest))
-    ⊎ ((outcome start text ≡ Err NoHeader) × ((v : Version) (rest : List ℕ) → text ≡ header v ++ rest → ⊥))
+    ((v : Version) × (rest : List ℕ) × (text ≡ trace_header v ++ rest) × (outcome start text ≡ outcome (in_header v []) rest))
+    ⊎ ((outcome start text ≡ Err NoHeader) × ((v : Version) (rest : List ℕ) → text ≡ trace_header v ++ rest → ⊥))
 
 behind_name : (one two : List ℕ) → name ++ one ≡ name ++ two → one ≡ two
 behind_name one two e = cc
@@ -288,7 +288,7 @@ abbrev pub Reads : List ℕ → Result (List Call) TraceFault → Type 0
 Reads text (Ok calls) = IsTrace text calls
 Reads text (Err fault) = IsRefused text fault
 
-behind_header : (v : Version) (text rest : List ℕ) (read : Result (List Call) TraceFault) → text ≡ header v ++ rest → Answers v 0 rest read → Reads text read
+behind_header : (v : Version) (text rest : List ℕ) (read : Result (List Call) TraceFault) → text ≡ trace_header v ++ rest → Answers v 0 rest read → Reads text read
 behind_header v text rest (Ok calls) e h = record { version = v; whole = rw (e, h.0) refl; each = h.1; few = omega (arith, h.2) }
 behind_header v text rest (Err NoHeader) e h = absurd h.4
 behind_header v text rest (Err (BadLine n)) e h = (v, h.0, h.1, rw (e, h.2) refl, h.3, subst (λ k. StopsAt v k h.1 (BadLine n)) (zero-add (length h.0)) h.4)
@@ -385,7 +385,7 @@ lines_again v (call ∷ calls) before fits few =
     let cut : lines_of (call ∷ calls) ≡ line_of call ++ 10 ∷ lines_of calls = flat_map-cons (λ (c : Call). line_of c ++ 10 ∷ []) call calls ∙ append_assoc (line_of call) (10 ∷ []) (lines_of calls) in
     ap (outcome (at_line v before [])) cut ∙ call_again v before call (lines_of calls) (omega (arith, few)) fits.0 ∙ ap (onto (call ∷ [])) more
 
-header_again : (v : Version) → feed start (header v) ≡ Ok (in_header v [], [])
+header_again : (v : Version) → feed start (trace_header v) ≡ Ok (in_header v [], [])
 unfolding feed step
 header_again One = refl
 header_again Two = refl
@@ -393,4 +393,4 @@ header_again Two = refl
 -- a trace is read as its calls
 pub reading-trace : (text : List ℕ) (calls : List Call) → IsTrace text calls → reading text ≡ Ok calls
 reading-trace text calls h =
-    reading_is text ∙ ap (outcome start) h.whole ∙ skip (header h.version) (lines_of calls) start (in_header h.version []) (header_again h.version) ∙ lines_again h.version calls 0 h.each (omega (arith, h.few))
+    reading_is text ∙ ap (outcome start) h.whole ∙ skip (trace_header h.version) (lines_of calls) start (in_header h.version []) (header_again h.version) ∙ lines_again h.version calls 0 h.each (omega (arith, h.few))

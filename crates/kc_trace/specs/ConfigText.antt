@@ -50,14 +50,14 @@ abbrev pub member_count : Members → ℕ
 member_count no_members = 0
 member_count (member key value members) = suc (member_count members)
 
-abbrev pub version_of : Option ℕ → Option Version
-version_of None = None
-version_of (Some n) = if n == 1 then Some One else if n == 2 then Some Two else None
+abbrev pub version_numbered : Option ℕ → Option Version
+version_numbered None = None
+version_numbered (Some n) = if n == 1 then Some One else if n == 2 then Some Two else None
 
 -- the version of an object of so many members: the first of five, and of six what stands under `version`
 abbrev pub version_in : Data → Option ℕ → Option Version
 version_in value None = None
-version_in value (Some count) = if count == 5 then Some One else if count == 6 then version_of (number_in (codes "version") value) else None
+version_in value (Some count) = if count == 5 then Some One else if count == 6 then version_numbered (number_in (codes "version") value) else None
 
 -- the configuration that a value is: an object of exactly the five keys, or of these and `version`
 abbrev pub shape_in : Data → Option Configuration

@@ -6,7 +6,7 @@ use Rattle.kc_types.specs.declared.call.Call.{Call}
 use Rattle.kc_trace.specs.declared.fault.TraceFault.{TraceFault}
 use Rattle.kc_trace.specs.declared.fault.TraceFault.TheVariants.{NoHeader, BadLine, NoNewline, TooManyCalls, Memory}
 use Rattle.kc_types.specs.Limits.{call_limit}
-use Rattle.kc_trace.specs.Spelling.{header, stands_in}
+use Rattle.kc_trace.specs.Spelling.{trace_header, stands_in}
 use Rattle.kc_trace.specs.Reading.{call_of}
 
 -- the ? of the definitions
@@ -38,21 +38,21 @@ pub record Progress : Type 0 where
 
 -- in front of the header
 abbrev pub start : Progress
-start = record { header_left = header One; version = One; calls = 0; line = Some [] }
+start = record { header_left = trace_header One; version = One; calls = 0; line = Some [] }
 
 -- the length of the longest line: `gwrite`, four numbers and 4,096 bytes
 abbrev pub longest_line : ℕ
 longest_line = 8243
 
 -- the line with one more byte
-abbrev pub longer : Option (List ℕ) → ℕ → Option (List ℕ)
-longer None byte = None
-longer (Some line) byte = if nat_lt (length line) longest_line then Some (line ++ byte ∷ []) else None
+abbrev pub with_byte : Option (List ℕ) → ℕ → Option (List ℕ)
+with_byte None byte = None
+with_byte (Some line) byte = if nat_lt (length line) longest_line then Some (line ++ byte ∷ []) else None
 
 -- the same of some bytes
 abbrev pub longer_each : Option (List ℕ) → List ℕ → Option (List ℕ)
 longer_each line [] = line
-longer_each line (byte ∷ bytes) = longer_each (longer line byte) bytes
+longer_each line (byte ∷ bytes) = longer_each (with_byte line byte) bytes
 
 -- the call, if it may stand in a text of this version
 abbrev pub standing : Version → Option Call → Option Call
@@ -78,7 +78,7 @@ abbrev pub after_text_byte : Progress → ℕ → Result (Progress × List Call)
 after_text_byte progress byte =
     if nat_le call_limit progress.calls then Err TooManyCalls
     else if byte == 10 then after_line progress (call_in progress.version progress.line)
-    else Ok (record progress { line = longer progress.line byte }, [])
+    else Ok (record progress { line = with_byte progress.line byte }, [])
 
 -- the version that the header tells, where this byte is to come of the first version's: the digit 2 may stand for its 1
 abbrev pub told : ℕ → ℕ → Version → Option Version

@@ -4,7 +4,7 @@ use Rattle.std.specs.List.{slice_split}
 use Rattle.std.specs.Str.{bytes_eq}
 use Rattle.kc_types.specs.declared.call.Call.{Call}
 use Rattle.kc_types.specs.declared.call.Call.TheVariants.{Take, Give, HostFault, HostRead, HostWrite, RegisterVm, RegisterVcpu, SetBoot, Remap, Verify, Map, GuestRead, GuestWrite, Grant, Revoke, GrantRange, RevokeRange, Drop, Clear}
-use Rattle.kc_lines.specs.Words.{number_of, data_of}
+use Rattle.kc_lines.specs.Words.{number_in, data_of}
 
 -- ---- a name and so many numbers
 
@@ -44,35 +44,35 @@ with_four_numbers name first second third fourth =
 abbrev pub host_access : List ℕ → ℕ → ℕ → List ℕ → Option Call
 host_access name first second last =
     if bytes_eq name (codes "hwrite") then option_map (HostWrite first second) (data_of last)
-    else option_and_then (with_three_numbers name first second) (number_of last)
+    else option_and_then (with_three_numbers name first second) (number_in last)
 
 -- four numbers, and a number or bytes
-abbrev pub guest_access : List ℕ → ℕ → ℕ → ℕ → ℕ → List ℕ → Option Call
-guest_access name vm vcpu gfn offset last =
+abbrev pub read_guest_access : List ℕ → ℕ → ℕ → ℕ → ℕ → List ℕ → Option Call
+read_guest_access name vm vcpu gfn offset last =
     if bytes_eq name (codes "gwrite") then option_map (GuestWrite vm vcpu gfn offset) (data_of last)
-    else if bytes_eq name (codes "gread") then option_map (GuestRead vm vcpu gfn offset) (number_of last)
+    else if bytes_eq name (codes "gread") then option_map (GuestRead vm vcpu gfn offset) (number_in last)
     else None
 
 -- ---- a name and so many words
 
 abbrev pub two_words : List ℕ → List ℕ → Option Call
-two_words name first = option_and_then (with_one_number name) (number_of first)
+two_words name first = option_and_then (with_one_number name) (number_in first)
 
 abbrev pub three_words : List ℕ → List ℕ → List ℕ → Option Call
 three_words name first second =
-    option_and_then (λ a. option_and_then (with_two_numbers name a) (number_of second)) (number_of first)
+    option_and_then (λ a. option_and_then (with_two_numbers name a) (number_in second)) (number_in first)
 
 abbrev pub four_words : List ℕ → List ℕ → List ℕ → List ℕ → Option Call
 four_words name first second third =
-    option_and_then (λ a. option_and_then (λ b. host_access name a b third) (number_of second)) (number_of first)
+    option_and_then (λ a. option_and_then (λ b. host_access name a b third) (number_in second)) (number_in first)
 
 abbrev pub five_words : List ℕ → List ℕ → List ℕ → List ℕ → List ℕ → Option Call
 five_words name first second third fourth =
-    option_and_then (λ a. option_and_then (λ b. option_and_then (λ c. option_and_then (with_four_numbers name a b c) (number_of fourth)) (number_of third)) (number_of second)) (number_of first)
+    option_and_then (λ a. option_and_then (λ b. option_and_then (λ c. option_and_then (with_four_numbers name a b c) (number_in fourth)) (number_in third)) (number_in second)) (number_in first)
 
 abbrev pub six_words : List ℕ → List ℕ → List ℕ → List ℕ → List ℕ → List ℕ → Option Call
 six_words name first second third fourth fifth =
-    option_and_then (λ a. option_and_then (λ b. option_and_then (λ c. option_and_then (λ d. guest_access name a b c d fifth) (number_of fourth)) (number_of third)) (number_of second)) (number_of first)
+    option_and_then (λ a. option_and_then (λ b. option_and_then (λ c. option_and_then (λ d. read_guest_access name a b c d fifth) (number_in fourth)) (number_in third)) (number_in second)) (number_in first)
 
 -- by the number of words, and then by the name
 unfoldable pub call_of_words : List (List ℕ) → Option Call

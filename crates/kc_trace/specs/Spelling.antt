@@ -54,13 +54,13 @@ stands_in One call = not (is_new call)
 stands_in Two call = true
 
 -- the first line of each trace, with its newline
-abbrev pub header : Version → List ℕ
-header One = codes "kcore-trace 1" ++ 10 ∷ []
-header Two = codes "kcore-trace 2" ++ 10 ∷ []
+abbrev pub trace_header : Version → List ℕ
+trace_header One = codes "kcore-trace 1" ++ 10 ∷ []
+trace_header Two = codes "kcore-trace 2" ++ 10 ∷ []
 
 -- the text of some calls under the header of a version
 abbrev pub text_of : Version → List Call → List ℕ
-text_of version calls = header version ++ lines_of calls
+text_of version calls = trace_header version ++ lines_of calls
 
 -- the first version in which all of these calls may stand
 unfoldable pub version_of : List Call → Version

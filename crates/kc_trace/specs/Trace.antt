@@ -8,7 +8,7 @@ use Rattle.kc_model.specs.Ranged.{IsRanged}
 use Rattle.kc_lines.specs.Lines.{IsOneLine}
 use Rattle.kc_trace.specs.declared.fault.TraceFault.{TraceFault}
 use Rattle.kc_trace.specs.declared.fault.TraceFault.TheVariants.{NoHeader, BadLine, NoNewline, TooManyCalls, Memory}
-use Rattle.kc_trace.specs.Spelling.{line_of, lines_of, header, text_of, stands_in}
+use Rattle.kc_trace.specs.Spelling.{line_of, lines_of, trace_header, text_of, stands_in}
 
 -- a call that a trace of this version may have: its numbers and bytes are in range
 abbrev pub IsCallOf : Version → Call → Type 0
@@ -35,8 +35,8 @@ pub record IsTrace (text : List ℕ) (calls : List Call) : Type 0 where
 
 -- the text is none, and this is the first reason
 abbrev pub IsRefused : List ℕ → TraceFault → Type 0
-IsRefused text NoHeader = (version : Version) (rest : List ℕ) → text ≡ header version ++ rest → ⊥
+IsRefused text NoHeader = (version : Version) (rest : List ℕ) → text ≡ trace_header version ++ rest → ⊥
 IsRefused text Memory = Unit {0}
-IsRefused text (BadLine number) = (version : Version) × (calls : List Call) × (rest : List ℕ) × (text ≡ header version ++ (lines_of calls ++ rest)) × AreCalls version calls × StopsAt version (length calls) rest (BadLine number)
-IsRefused text NoNewline = (version : Version) × (calls : List Call) × (rest : List ℕ) × (text ≡ header version ++ (lines_of calls ++ rest)) × AreCalls version calls × StopsAt version (length calls) rest NoNewline
-IsRefused text TooManyCalls = (version : Version) × (calls : List Call) × (rest : List ℕ) × (text ≡ header version ++ (lines_of calls ++ rest)) × AreCalls version calls × StopsAt version (length calls) rest TooManyCalls
+IsRefused text (BadLine number) = (version : Version) × (calls : List Call) × (rest : List ℕ) × (text ≡ trace_header version ++ (lines_of calls ++ rest)) × AreCalls version calls × StopsAt version (length calls) rest (BadLine number)
+IsRefused text NoNewline = (version : Version) × (calls : List Call) × (rest : List ℕ) × (text ≡ trace_header version ++ (lines_of calls ++ rest)) × AreCalls version calls × StopsAt version (length calls) rest NoNewline
+IsRefused text TooManyCalls = (version : Version) × (calls : List Call) × (rest : List ℕ) × (text ≡ trace_header version ++ (lines_of calls ++ rest)) × AreCalls version calls × StopsAt version (length calls) rest TooManyCalls

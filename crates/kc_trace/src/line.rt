@@ -1,7 +1,7 @@
 //! One line as a call.
 ghost use Rattle.std.specs.Prelude.{◌≡◌, ◌==◌, [], ◌∷◌, IfOk, MatchOption};
 ghost use Rattle.std.specs.List.{slice_split};
-ghost use Rattle.kc_trace.specs.Reading.{one_word, with_one_number, with_two_numbers, with_three_numbers, with_four_numbers, two_words, three_words, host_access, four_words, five_words, guest_access, six_words, call_of_words, call_of};
+ghost use Rattle.kc_trace.specs.Reading.{one_word, with_one_number, with_two_numbers, with_three_numbers, with_four_numbers, two_words, three_words, host_access, four_words, five_words, read_guest_access, six_words, call_of_words, call_of};
 
 use kc_lines::{read_data, read_number, split_word};
 use kc_types::Call;
@@ -162,7 +162,7 @@ fn read_guest_access(
     place: (u32, u32, u32, u32),
     last: &[u8],
 ) -> Result<Option<Call>, AllocError>
-    ensures { IfOk result (λ found. found ≡ guest_access name.now place.0 place.1 place.2 place.3 last.now) }
+    ensures { IfOk result (λ found. found ≡ read_guest_access name.now place.0 place.1 place.2 place.3 last.now) }
 {
     let (vm, vcpu, gfn, offset) = place;
     if name == b"gwrite".as_slice() {

@@ -4,7 +4,7 @@ ghost use Rattle.std.specs.List.{list_any, join_with_byte};
 ghost use Rattle.std.specs.Fmt.{decimal};
 ghost use Rattle.hex.specs.Hex.{encode_lower};
 ghost use Rattle.kc_types.specs.Limits.{call_limit};
-ghost use Rattle.kc_trace.specs.Spelling.{is_new, stands_in, version_of, header, line_of, longest_call, trace_of};
+ghost use Rattle.kc_trace.specs.Spelling.{is_new, stands_in, version_of, trace_header, line_of, longest_call, trace_of};
 
 use kc_lines::{push_bytes, push_digits, push_number};
 use kc_types::{Call, Data, Memory, Version};
@@ -183,7 +183,7 @@ pub fn version_of(calls: &[Call]) -> Version
 /// Appends the first line of a trace of this version and its newline, for which there is room.
 pub fn push_header(text: &mut Vec<u8>, version: Version)
     requires { vec_len text.old + 14 ≤ vec_capacity text.old }
-    ensures line { text.new.items ≡ text.old.items ++ header version }
+    ensures line { text.new.items ≡ text.old.items ++ trace_header version }
     ensures capacity { vec_capacity text.old ≤ vec_capacity text.new }
 {
     match version {

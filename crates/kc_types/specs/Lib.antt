@@ -4,4 +4,4 @@ pub mod Actors
 pub mod Refusals
 pub mod Configuration
 pub mod ConfigFaults
-pub mod Room
+pub mod ReplyBytes

@@ -1,7 +1,7 @@
 //! Reading a source to its end, and writing bytes to a sink.
 ghost use Rattle.std.specs.Prelude.{◌≡◌, false, IfSome};
 
-use kc_ends::{FailAt, Failed, Mem, ReadFault, Std, read_whole, write_whole};
+use kc_io::{FailAt, Failed, Mem, ReadFault, Std, read_whole, write_whole};
 
 fn of_bytes(rt: &HostRuntime, count: usize) -> Option<Mem>
     ensures { IfSome result (λ made. made.failed ≡ false) }

@@ -1,7 +1,7 @@
 //! A reader and a writer of std that are interrupted before each answer, and fail after the first.
 ghost use Rattle.std.specs.Prelude.{◌≤◌, IfOk};
 
-use kc_ends::{Failed, Sink, Source, Std};
+use kc_io::{Failed, Sink, Source, Std};
 use std::io;
 use std::io::{ErrorKind, Read, Write};
 

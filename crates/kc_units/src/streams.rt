@@ -1,5 +1,5 @@
 //! Replies given to a sink, each in a piece of its own.
-use kc_ends::{FailAt, Mem};
+use kc_io::{FailAt, Mem};
 use kc_streams::{LONGEST_LINE, give_replies};
 use kc_types::{Data, Refusal, Reply};
 use std::alloc::Global;

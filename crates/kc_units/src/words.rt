@@ -1,5 +1,5 @@
 //! The words after the program's name.
-use kc_words::{ArgFault, Job, job_of};
+use kc_args::{ArgFault, Job, job_of};
 use std::alloc::Global;
 
 /// The job, or the exit status of the fault, where 3 stands for memory.

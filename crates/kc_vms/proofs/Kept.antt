@@ -12,10 +12,10 @@ use Rattle.kc_model.specs.State.{Vcpu, Image, absent_vcpu, no_vcpus}
 use Rattle.kc_model.specs.Refusals.{first_of_these, pages_of, overlaps, is_short, when}
 use Rattle.kc_model.specs.Lawful.{IsLawfulVcpu, IsLawfulImage}
 use Rattle.kc_model.specs.Linked.{LinkedSlot}
-use Rattle.kc_model.proofs.Served.{when-none, none-of}
-use Rattle.kc_model.proofs.Slots.{lawful-empty_slot, at-no_vcpus, waits-not, each-place, apart-push, apart-set}
-use Rattle.kc_model.proofs.Answered.{is_short-is}
-use Rattle.kc_vms.specs.Slots.{IsSlot, image_of}
+use Rattle.kc_model.proofs.Refusals.Served.{when-none, none-of}
+use Rattle.kc_model.proofs.States.Slots.{lawful-empty_slot, at-no_vcpus, waits-not, each-place, apart-push, apart-set}
+use Rattle.kc_model.proofs.Refusals.Answered.{is_short-is}
+use Rattle.kc_vms.specs.Vm.{IsSlot, image_of}
 use Rattle.kc_vms.specs.Refusals.{no_vm, not_booting, next_page_refusal}
 
 pub slot-empty : IsSlot Empty no_vcpus []

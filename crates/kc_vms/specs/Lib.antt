@@ -1,3 +1,3 @@
-pub mod Slots
+pub mod Vm
 pub mod Refusals
 pub mod Lending

@@ -5,7 +5,7 @@ ghost use Rattle.std.specs.Borrow.{sem};
 ghost use Rattle.kc_types.specs.Limits.{gfn_limit, image_size_limit, leaf_limit};
 ghost use Rattle.kc_model.specs.State.{no_vcpus};
 ghost use Rattle.kc_model.specs.Refusals.{pages_of, first_of_these, overlaps};
-ghost use Rattle.kc_vms.specs.Slots.{IsVm, empty_vm, vcpu_of, next_gfn_of, with_phase, with_vcpu, with_fault, with_image, with_page, table_of};
+ghost use Rattle.kc_vms.specs.Vm.{IsVm, empty_vm, vcpu_of, next_gfn_of, with_phase, with_vcpu, with_fault, with_image, with_page, slot_table};
 ghost use Rattle.kc_vms.specs.Refusals.{Answers, no_vm, not_booting, register_refusal, add_vcpu_refusal, add_image_refusal, next_page_refusal};
 
 use arrayvec::ArrayVec;
@@ -30,7 +30,7 @@ impl Model for Vm {
     ghost use Rattle.std.specs.Coded.{codes, coded_ℕ};
     ghost use Rattle.std.specs.Ordering.{nat_cmp};
     ghost use Rattle.std.specs.FinMap as map;
-    ghost use Rattle.kc_vms.specs.Slots.{VmSlot, IsSlot};
+    ghost use Rattle.kc_vms.specs.Vm.{VmSlot, IsSlot};
 
     ghost Value = { VmSlot };
 
@@ -100,7 +100,7 @@ impl Vm {
 
     /// The table from guest frames to frames.
     pub fn table(&self) -> &Stage2
-        ensures { result.now ≡ table_of self.now }
+        ensures { result.now ≡ slot_table self.now }
     {
         &self.table
     }
@@ -108,7 +108,7 @@ impl Vm {
     /// The table from guest frames to frames, for writing.
     pub fn table_mut(&mut self) -> &mut Stage2
         ensures* writes_back { sem 𝓛 (LendsTable self.entry result) }
-        ensures value { result.now ≡ table_of self.old }
+        ensures value { result.now ≡ slot_table self.old }
     {
         &mut self.table
     }

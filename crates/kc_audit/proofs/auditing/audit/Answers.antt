@@ -1,5 +1,5 @@
 use Rattle.rayon.proofs.ListFacts.{IfOk-then}
-use Rattle.kc_audit.specs.Findings.{AreLists}
+use Rattle.kc_audit.specs.Findings.{AreGoodLists}
 use Rattle.kc_audit.proofs.AllSound.{none-sound-by}
 use Rattle.kc_audit.proofs.auditing.audit.Goals as goal
 
@@ -7,5 +7,5 @@ pub returns-clause-sound : goal.returns-clause-sound
 returns-clause-sound c =
     let d = c.args.dump.now in
     let lists = c.as_slice-2.result.now in
-    let good : AreLists d lists = rw c.as_slice-2.ensures.value c.in_ok-lists.ensures.lists in
+    let good : AreGoodLists d lists = rw c.as_slice-2.ensures.value c.in_ok-lists.ensures.lists in
     IfOk-then c.findings.result _ _ c.findings.ensures (λ found named. none-sound-by d lists good found.items named)

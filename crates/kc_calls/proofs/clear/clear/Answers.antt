@@ -2,7 +2,7 @@ use Rattle.std.proofs.Common.{◌≡◌, ◌<◌, true, is_some, refl, ap, ◌�
 use Rattle.kc_types.specs.Configuration.{slot_count}
 use Rattle.kc_types.specs.declared.resource.Resource.TheVariants as resource
 use Rattle.kc_types.specs.declared.call.Call.TheVariants.{Clear}
-use Rattle.kc_parts.specs.Held.{vm_at}
+use Rattle.kc_parts.specs.Parts.{vm_at}
 use Rattle.kc_parts.specs.States.{state_of}
 use Rattle.kc_calls.specs.Applying.{IsAble}
 use Rattle.kc_calls.proofs.Needed.{slot-needed}

@@ -12,4 +12,4 @@ returns-then-is_some-clause-memory c = λ refused.
 
 pub returns-in_default-clause-memory : goal.returns-in_default-clause-memory
 returns-in_default-clause-memory c = λ refused.
-    other-data (state_of c.args.config.now c.args.parts.now) c.args.call.now c.in_default.not-GuestRead c.requires (not-steady c.spare-in_default.result _ c.spare-in_default.ensures.none refused)
+    other-data (state_of c.args.config.now c.args.parts.now) c.args.call.now c.in_default.not-GuestRead c.requires (not-steady c.reply_buffer-in_default.result _ c.reply_buffer-in_default.ensures.none refused)

@@ -3,9 +3,9 @@ use Rattle.std.specs.FinMap as map
 use Rattle.kc_types.specs.declared.resource.Resource.TheVariants as resource
 use Rattle.kc_types.specs.declared.call.Call.TheVariants.{Drop}
 use Rattle.kc_model.specs.State.{mapped_at}
-use Rattle.kc_model.proofs.GuestCalls.{IsMappedCall, guest_frame-served}
-use Rattle.kc_stage2.specs.Table.{Table}
-use Rattle.kc_parts.specs.Held.{vm_at}
+use Rattle.kc_model.proofs.Lawful.GuestCalls.{IsMappedCall, guest_frame-served}
+use Rattle.kc_stage2.specs.Stage2.{Table}
+use Rattle.kc_parts.specs.Parts.{vm_at}
 use Rattle.kc_parts.specs.States.{state_of}
 use Rattle.kc_parts.proofs.SlotChanges.{vm-set}
 use Rattle.kc_calls.specs.Applying.{IsAble}

@@ -2,7 +2,7 @@ use Rattle.std.proofs.Common.{◌≡◌, ◌<◌, true, is_some, Some, refl, sym
 use Rattle.kc_types.specs.Configuration.{slot_count}
 use Rattle.kc_types.specs.declared.reply.Reply.TheVariants as reply
 use Rattle.kc_model.specs.State.{mapped_at}
-use Rattle.kc_parts.specs.Held.{page_at, vm_at}
+use Rattle.kc_parts.specs.Parts.{page_at, vm_at}
 use Rattle.kc_parts.specs.States.{state_of}
 use Rattle.kc_calls.proofs.Frames.{some-shown}
 use Rattle.kc_calls.proofs.Needed.{slot-needed, mapped-needed}

@@ -1,6 +1,6 @@
 use Rattle.std.proofs.Common.{◌≡◌, Some, get_or, refl, sym, ap, ◌∙◌}
 use Rattle.kc_model.specs.State.{Slot, absent_vcpu}
-use Rattle.kc_parts.specs.Held.{vm_at}
+use Rattle.kc_parts.specs.Parts.{vm_at}
 use Rattle.kc_parts.proofs.SlotChanges.{linked-vm}
 use Rattle.kc_refusals.proofs.Looked.{slot-is}
 use Rattle.kc_calls.proofs.Frames.{room-vm}

@@ -1,5 +1,5 @@
 use Rattle.std.proofs.Common.{◌≡◌, Some, None, refl, sym}
-use Rattle.kc_parts.specs.Held.{vm_at}
+use Rattle.kc_parts.specs.Parts.{vm_at}
 use Rattle.kc_parts.proofs.SlotChanges.{linked-vm}
 use Rattle.kc_calls.proofs.Frames.{room-vm}
 use Rattle.kc_calls.proofs.Guests.{state-faulted}

@@ -1,6 +1,6 @@
 use Rattle.std.proofs.Common.{◌≡◌, Some, is_some, refl, sym, ap}
 use Rattle.kc_model.specs.State.{overwritten}
-use Rattle.kc_parts.specs.Held.{page_at}
+use Rattle.kc_parts.specs.Parts.{page_at}
 use Rattle.kc_parts.proofs.Seen.{linked-kept}
 use Rattle.kc_calls.proofs.Frames.{changed, room-page}
 use Rattle.kc_calls.proofs.guest.write_frame.Goals as goal

@@ -1,6 +1,6 @@
 use Rattle.std.proofs.Common.{◌≡◌, false, Some, is_some, refl, sym, ap}
 use Rattle.kc_types.specs.declared.owner.Owner.TheVariants.{Vm}
-use Rattle.kc_parts.specs.Held.{vm_at}
+use Rattle.kc_parts.specs.Parts.{vm_at}
 use Rattle.kc_parts.specs.States.{state_of}
 use Rattle.kc_parts.proofs.SlotChanges.{vm-set}
 use Rattle.kc_refusals.proofs.Looked.{slot-is}

@@ -1,7 +1,7 @@
 use Rattle.std.proofs.Common.{◌≡◌, eq-eqb, true, is_some, refl, ◌∙◌}
 use Rattle.kc_types.specs.declared.resource.Resource.TheVariants as resource
-use Rattle.kc_model.proofs.HandCalls.{IsMap, map-served}
-use Rattle.kc_parts.specs.Held.{vm_at}
+use Rattle.kc_model.proofs.Lawful.HandCalls.{IsMap, map-served}
+use Rattle.kc_parts.specs.Parts.{vm_at}
 use Rattle.kc_parts.specs.States.{state_of}
 use Rattle.kc_calls.proofs.Needed.{slot-needed, frame-needed}
 use Rattle.kc_calls.proofs.Hands.{host-owner}

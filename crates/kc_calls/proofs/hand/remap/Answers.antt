@@ -3,10 +3,10 @@ use Rattle.kc_types.specs.declared.call.Call.TheVariants.{Remap}
 use Rattle.kc_types.specs.declared.resource.Resource.TheVariants as resource
 use Rattle.kc_model.specs.State.{mapped_at, slot_at}
 use Rattle.kc_model.specs.Refusals.{refusal, next_gfn, tables_full}
-use Rattle.kc_model.proofs.HandCalls.{IsRemap, remap-served}
-use Rattle.kc_vms.specs.Slots.{VmSlot}
+use Rattle.kc_model.proofs.Lawful.HandCalls.{IsRemap, remap-served}
+use Rattle.kc_vms.specs.Vm.{VmSlot}
 use Rattle.kc_links.specs.Ending.{listed}
-use Rattle.kc_parts.specs.Held.{vm_at, links_of}
+use Rattle.kc_parts.specs.Parts.{vm_at, links_of}
 use Rattle.kc_parts.specs.States.{state_of, unlinked_slot}
 use Rattle.kc_parts.proofs.SlotChanges.{linked-vm}
 use Rattle.kc_calls.specs.Applying.{IsAble}

@@ -1,7 +1,7 @@
 use Rattle.std.proofs.Common.{◌≡◌, ◌<◌, Some, refl, sym, ap, ◌∙◌}
 use Rattle.kc_model.specs.State.{Frame, frame_at}
 use Rattle.kc_types.specs.declared.owner.Owner.TheVariants.{Host}
-use Rattle.kc_parts.specs.Held.{page_at}
+use Rattle.kc_parts.specs.Parts.{page_at}
 use Rattle.kc_parts.specs.States.{state_of, frame_in, owner_at, IsLoose}
 use Rattle.kc_parts.proofs.Pages.{page-set}
 use Rattle.kc_parts.proofs.Seen.{linked-moved, frame-seen}

@@ -1,8 +1,8 @@
 use Rattle.std.proofs.Common.{◌≡◌, ◌<◌, Some, true, refl, sym}
-use Rattle.kc_parts.specs.Held.{page_at}
+use Rattle.kc_parts.specs.Parts.{page_at}
 use Rattle.kc_parts.specs.States.{state_of}
 use Rattle.kc_parts.proofs.Seen.{linked-kept}
-use Rattle.kc_model.proofs.Served.{host_fault-served}
+use Rattle.kc_model.proofs.Refusals.Served.{host_fault-served}
 use Rattle.kc_calls.proofs.Frames.{some-lent, there, changed, room-page}
 use Rattle.kc_calls.proofs.Hosts.{fault-touched}
 use Rattle.kc_calls.proofs.host.host_fault.Goals as goal

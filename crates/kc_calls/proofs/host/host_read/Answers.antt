@@ -1,8 +1,8 @@
 use Rattle.std.proofs.Common.{◌≡◌, ◌+◌, Some, sym, ap, ◌∙◌, slice_range}
 use Rattle.kc_types.specs.declared.reply.Reply.TheVariants as reply
 use Rattle.kc_model.specs.State.{Frame}
-use Rattle.kc_model.proofs.Served.{host_access-served}
-use Rattle.kc_parts.specs.Held.{page_at}
+use Rattle.kc_model.proofs.Refusals.Served.{host_access-served}
+use Rattle.kc_parts.specs.Parts.{page_at}
 use Rattle.kc_parts.specs.States.{state_of}
 use Rattle.kc_calls.proofs.Frames.{some-shown, there, frame-is}
 use Rattle.kc_calls.proofs.Hosts.{access-touched}

@@ -1,9 +1,9 @@
 use Rattle.std.proofs.Common.{◌≡◌, ◌<◌, length, Some, refl, sym}
-use Rattle.kc_parts.specs.Held.{page_at}
+use Rattle.kc_parts.specs.Parts.{page_at}
 use Rattle.kc_parts.specs.States.{state_of}
 use Rattle.kc_parts.proofs.Seen.{linked-kept}
 use Rattle.kc_model.specs.State.{overwritten}
-use Rattle.kc_model.proofs.Served.{host_access-served}
+use Rattle.kc_model.proofs.Refusals.Served.{host_access-served}
 use Rattle.kc_calls.proofs.Frames.{some-lent, there, changed, room-page}
 use Rattle.kc_calls.proofs.Hosts.{access-touched}
 use Rattle.kc_calls.proofs.host.host_write.Goals as goal

@@ -1,5 +1,5 @@
 use Rattle.std.proofs.Common.{◌≡◌, ◌<◌, ◌∷◌, Some, is_some, refl, sym, ap, ◌∙◌}
-use Rattle.kc_parts.specs.Held.{page_at}
+use Rattle.kc_parts.specs.Parts.{page_at}
 use Rattle.kc_parts.specs.States.{free_of, IsLoose}
 use Rattle.kc_calls.proofs.Frames.{room-page, room-move, room-through, taken-near}
 use Rattle.kc_calls.proofs.Hosts.{state-taken, linked-taken}

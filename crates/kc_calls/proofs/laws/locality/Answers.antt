@@ -1,6 +1,6 @@
-use Rattle.kc_model.proofs.Agreeing.{on-parts}
-use Rattle.kc_model.proofs.Parts.{orderly-cut, need-merged}
-use Rattle.kc_model.proofs.LawfulTraces.{orderly-is}
+use Rattle.kc_model.proofs.Local.Agreeing.{on-parts}
+use Rattle.kc_model.proofs.Local.Parts.{orderly-cut, need-merged}
+use Rattle.kc_model.proofs.Lawful.LawfulTraces.{orderly-is}
 use Rattle.kc_calls.proofs.Restricted.{able-cut, reply-is, closed-after, restricted-after}
 use Rattle.kc_calls.proofs.laws.locality.Goals as goal
 

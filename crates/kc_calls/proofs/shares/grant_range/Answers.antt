@@ -1,7 +1,7 @@
 use Rattle.std.proofs.Common.{◌+◌, ◌-◌, refl, ap, ◌∙◌, arith}
 use Rattle.kc_model.specs.State.{State}
 use Rattle.kc_model.specs.Effects.{granted}
-use Rattle.kc_model.proofs.RangeCalls.{IsRangeCall, guest_range-served}
+use Rattle.kc_model.proofs.Lawful.RangeCalls.{IsRangeCall, guest_range-served}
 use Rattle.kc_parts.specs.States.{state_of}
 use Rattle.kc_calls.proofs.Frames.{room-through}
 use Rattle.kc_calls.proofs.Sharing.{page-under, one-done, share-more, few-ranged}

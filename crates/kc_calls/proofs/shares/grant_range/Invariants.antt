@@ -3,7 +3,7 @@ use Rattle.std.specs.List.{range_with_len}
 use Rattle.kc_model.specs.Refusals.{share_at}
 use Rattle.kc_model.specs.Effects.{with_each, granted}
 use Rattle.kc_parts.specs.States.{state_of, IsLinked}
-use Rattle.kc_calls.specs.Applying.{IsSameRoom}
+use Rattle.kc_calls.specs.Applying.{KeepsPlaces}
 use Rattle.kc_calls.proofs.shares.grant_range.Given as goal
 
 -- what is left to do leads where the whole does
@@ -14,5 +14,5 @@ invariant-loop-at l = record {
   slots : (state_of l.config l.parts).slots ≡ (state_of l.config l.initial.parts).slots;
   few : (h : ℕ) → share_at (state_of l.config l.parts) l.vm h ≤ share_at (state_of l.config l.initial.parts) l.vm h + (l.at - l.gfn);
   linked : IsLinked l.config l.parts;
-  room : IsSameRoom l.initial.parts l.parts;
+  room : KeepsPlaces l.initial.parts l.parts;
 }

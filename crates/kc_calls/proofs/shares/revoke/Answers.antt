@@ -1,5 +1,5 @@
 use Rattle.std.proofs.Common.{refl}
-use Rattle.kc_model.proofs.GuestCalls.{IsMappedCall, guest_frame-served}
+use Rattle.kc_model.proofs.Lawful.GuestCalls.{IsMappedCall, guest_frame-served}
 use Rattle.kc_parts.specs.States.{state_of}
 use Rattle.kc_calls.proofs.Frames.{room-same}
 use Rattle.kc_calls.proofs.Sharing.{page-under}

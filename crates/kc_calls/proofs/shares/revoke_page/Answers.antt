@@ -1,7 +1,7 @@
 use Rattle.std.proofs.Common.{◌≡◌, Some, refl, sym, ◌∙◌}
 use Rattle.kc_model.specs.State.{mapped_at}
 use Rattle.kc_model.specs.Effects.{revoked}
-use Rattle.kc_parts.specs.Held.{page_at}
+use Rattle.kc_parts.specs.Parts.{page_at}
 use Rattle.kc_parts.specs.States.{state_of}
 use Rattle.kc_parts.proofs.Seen.{linked-kept}
 use Rattle.kc_calls.proofs.Frames.{some-lent, room-page}

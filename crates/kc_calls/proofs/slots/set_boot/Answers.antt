@@ -3,7 +3,7 @@ use Rattle.kc_types.specs.Limits.{gfn_limit}
 use Rattle.kc_types.specs.Configuration.{slot_count}
 use Rattle.kc_types.specs.declared.refusal.Refusal.TheVariants.{BadVm, BadGfn, BadRange}
 use Rattle.kc_model.specs.Refusals.{pages_of}
-use Rattle.kc_parts.specs.Held.{vm_at}
+use Rattle.kc_parts.specs.Parts.{vm_at}
 use Rattle.kc_parts.specs.States.{state_of}
 use Rattle.kc_calls.proofs.Frames.{some-lent}
 use Rattle.kc_refusals.proofs.Looked.{slot-is}

@@ -1,6 +1,6 @@
 use Rattle.std.proofs.Common.{ℕ, ◌≡◌, ◌≤◌, ◌-◌, ◌*◌, List, min, ap, ◌∙◌, subst, arith}
 use Rattle.std.specs.FinMap as map
-use Rattle.kc_image.specs.Measures.{WasFed}
+use Rattle.kc_image.specs.Measure.{WasFed}
 use Rattle.kc_parts.specs.States.{frame_in}
 use Rattle.kc_calls.specs.Verifying.{bytes_under}
 use Rattle.kc_calls.proofs.Measuring.{fed-more, whole-more}

@@ -1,7 +1,7 @@
 use Rattle.std.proofs.Common.{◌≡◌, ◌-◌, ◌*◌, ◌≤◌, take, length}
 use Rattle.std.specs.List.{flat_map, range_with_len}
 use Rattle.std.specs.FinMap as map
-use Rattle.kc_image.specs.Measures.{WasFed}
+use Rattle.kc_image.specs.Measure.{WasFed}
 use Rattle.kc_calls.specs.Verifying.{bytes_under}
 use Rattle.kc_calls.proofs.verify.digest_of.Given as goal
 

@@ -5,7 +5,7 @@ use Rattle.std.specs.FinMap as finite
 use Rattle.sha2.specs.Sha256.{sha256}
 use Rattle.kc_model.specs.State.{Image}
 use Rattle.kc_model.specs.Refusals.{pages_of}
-use Rattle.kc_digests.specs.Measures.{WasFed}
+use Rattle.kc_digests.specs.MeasureFour.{LaneWasFed}
 use Rattle.kc_calls.specs.Verifying.{bytes_under, bytes_of_image}
 use Rattle.kc_calls.proofs.Measuring.{joined, joined-more, last-fed, page-at}
 use Rattle.kc_calls.proofs.verify.digests_of_four.Goals as goal
@@ -24,7 +24,7 @@ loop-number-preserved c =
     record {
       fed = λ j image low.
           let base = (get_or images j image).base in
-          subst (λ (fed : List ℕ). WasFed c.pages.new.self j fed) (ap (λ (page : List ℕ). joined bytes base n ++ page) (at j image low).0 ∙ sym (joined-more bytes base n))
+          subst (λ (fed : List ℕ). LaneWasFed c.pages.new.self j fed) (ap (λ (page : List ℕ). joined bytes base n ++ page) (at j image low).0 ∙ sym (joined-more bytes base n))
           (c.pages.ensures j low _ (c.loop-number.invariant.fed j image low));
       whole = λ j image low.
           let base = (get_or images j image).base in

@@ -3,10 +3,10 @@ use Rattle.std.proofs.lemmas.List.{take_all}
 use Rattle.std.specs.FinMap as finite
 use Rattle.sha2.specs.Sha256.{sha256}
 use Rattle.kc_model.specs.State.{Image, slot_at}
-use Rattle.kc_stage2.specs.Table.{Table}
-use Rattle.kc_vms.specs.Slots.{table_of}
+use Rattle.kc_stage2.specs.Stage2.{Table}
+use Rattle.kc_vms.specs.Vm.{slot_table}
 use Rattle.kc_model.specs.Effects.{first_failing, is_approved}
-use Rattle.kc_parts.specs.Held.{vm_at}
+use Rattle.kc_parts.specs.Parts.{vm_at}
 use Rattle.kc_parts.specs.States.{state_of}
 use Rattle.kc_calls.specs.Verifying.{mapped_in, bytes_of_image, is_approved_digest, IsImageHere}
 use Rattle.kc_calls.proofs.FirstFailing.{none-more, fails-at, fails-map}
@@ -34,7 +34,7 @@ here c = subst (λ images. All (IsImageHere c.args.parts.now (mapped_in (vm_at c
 
 through : (c : After-images-images) → All (IsImageHere c.args.parts.now (finite.get c.unwrap-slot.result.now.slot.mapped)) c.images-images.result.now
 through c = λ i image low.
-    image-through c.args.parts.now c.args.vm c.unwrap-slot.result.now (table_of c.unwrap-slot.result.now) _ (at (goal.at.After-images-images c).After-unwrap-slot) refl (here c i image low)
+    image-through c.args.parts.now c.args.vm c.unwrap-slot.result.now (slot_table c.unwrap-slot.result.now) _ (at (goal.at.After-images-images c).After-unwrap-slot) refl (here c i image low)
 
 pub digests_of_four-requires-clause-here : goal.digests_of_four-requires-clause-here
 digests_of_four-requires-clause-here c =

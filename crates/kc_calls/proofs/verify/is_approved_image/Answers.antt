@@ -2,10 +2,10 @@ use Rattle.std.proofs.Common.{◌≡◌, Some, refl, sym, ap, ◌∙◌}
 use Rattle.std.specs.List.{list_any}
 use Rattle.std.specs.FinMap as map
 use Rattle.sha2.specs.Sha256.{sha256}
-use Rattle.kc_stage2.specs.Table.{Table}
+use Rattle.kc_stage2.specs.Stage2.{Table}
 use Rattle.kc_model.specs.Effects.{same_bytes}
-use Rattle.kc_vms.specs.Slots.{table_of}
-use Rattle.kc_parts.specs.Held.{vm_at}
+use Rattle.kc_vms.specs.Vm.{slot_table}
+use Rattle.kc_parts.specs.Parts.{vm_at}
 use Rattle.kc_calls.specs.Verifying.{bytes_of_image}
 use Rattle.kc_calls.proofs.Measuring.{approved-is}
 use Rattle.kc_calls.proofs.Imaged.{image-seen, image-through}
@@ -22,7 +22,7 @@ returns c =
     let slot = c.unwrap-slot.result.now in
     let at : vm_at parts c.args.vm ≡ Some slot = sym (rw c.unwrap-slot.ensures at c.vm.ensures) in
     let through = c.table.ensures in
-    let here = image-through parts c.args.vm slot (table_of slot) c.args.image.now at refl c.requires.here in
+    let here = image-through parts c.args.vm slot (slot_table slot) c.args.image.now at refl c.requires.here in
     let digest = c.digest_of-digest.ensures
     ∙ ap (λ (t : Table). sha256 (bytes_of_image parts (map.get t.mapped) c.args.image.now)) through
     ∙ ap sha256 (image-seen c.args.config.now parts c.args.vm slot c.args.image.now c.requires.low c.requires.linked at here) in

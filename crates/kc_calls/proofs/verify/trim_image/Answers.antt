@@ -1,8 +1,8 @@
 use Rattle.std.proofs.Common.{◌≡◌, ◌+◌, ◌-◌, Some, refl, sym, ap, ◌∙◌}
 use Rattle.std.specs.FinMap as map
-use Rattle.kc_stage2.specs.Table.{Table}
+use Rattle.kc_stage2.specs.Stage2.{Table}
 use Rattle.kc_model.specs.Refusals.{backing, pages_of}
-use Rattle.kc_parts.specs.Held.{vm_at, page_at}
+use Rattle.kc_parts.specs.Parts.{vm_at, page_at}
 use Rattle.kc_parts.proofs.Seen.{linked-kept}
 use Rattle.kc_calls.proofs.Frames.{room-page}
 use Rattle.kc_calls.proofs.Imaged.{state-trimmed}

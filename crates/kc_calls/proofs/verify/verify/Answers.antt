@@ -6,8 +6,8 @@ use Rattle.kc_types.specs.declared.slot.Phase.TheVariants.{Active, Dead}
 use Rattle.kc_model.specs.State.{slot_at}
 use Rattle.kc_model.specs.Refusals.{refusal}
 use Rattle.kc_model.specs.Effects.{verified, with_phase}
-use Rattle.kc_model.proofs.Verifies.{verify-served}
-use Rattle.kc_parts.specs.Held.{held_slot, vm_at}
+use Rattle.kc_model.proofs.Lawful.Verifies.{verify-served}
+use Rattle.kc_parts.specs.Parts.{held_slot, vm_at}
 use Rattle.kc_parts.specs.States.{state_of}
 use Rattle.kc_calls.specs.Applying.{IsAble}
 use Rattle.kc_calls.specs.Verifying.{mapped_in, IsImageHere}

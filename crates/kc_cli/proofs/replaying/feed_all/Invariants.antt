@@ -3,7 +3,7 @@ use Rattle.std.specs.Prelude.{IsSome}
 use Rattle.kc_types.specs.Limits.{call_limit}
 use Rattle.kc_types.specs.declared.call.Call.{Call}
 use Rattle.kc_types.specs.declared.reply.Reply.{Reply}
-use Rattle.kc_replay.specs.Segments.{IsFed}
+use Rattle.kc_replay.specs.Replayer.{IsFed}
 use Rattle.kc_cli.proofs.replaying.feed_all.Given as goal
 
 abbrev pub invariant-loop-rest : goal.invariant-loop-rest

@@ -1,7 +1,7 @@
 use Rattle.std.proofs.Common.{◌≡◌, ◌++◌}
 use Rattle.kc_links.specs.Chain.{spelled}
 use Rattle.kc_links.specs.Ending.{listed}
-use Rattle.kc_parts.specs.Held.{links_of}
+use Rattle.kc_parts.specs.Parts.{links_of}
 use Rattle.kc_core.proofs.look_ups.listed.Given as goal
 
 -- the frames so far and those to come are the list

@@ -1,8 +1,8 @@
 use Rattle.std.proofs.Common.{◌<◌, length, refl, ap, arith}
 use Rattle.kc_model.specs.State.{frame_at}
 use Rattle.kc_model.specs.Links.{link_at}
-use Rattle.kc_page.specs.Pages.{IsRecordOf}
-use Rattle.kc_dump.specs.Dumping.{line_of}
+use Rattle.kc_page.specs.Page.{IsRecordOf}
+use Rattle.kc_dump.specs.Dumping.{frame_line}
 use Rattle.kc_dump.proofs.Made.{more, line-made, digest-at}
 use Rattle.kc_dump.proofs.making.lines.Goals as goal
 
@@ -16,5 +16,5 @@ loop-number-preserved c =
     let before = c.loop-number-test.true in
     let long = c.config.ensures.lawful.frames in
     let low : n < length m.frames = omega (arith, end, same, before, long) in
-    more (λ f. line_of (frame_at m f) (link_at m f)) n n c.loop-number.lines.items _ _ c.loop-number.invariant c.in_ok-push.ensures.items
+    more (λ f. frame_line (frame_at m f) (link_at m f)) n n c.loop-number.lines.items _ _ c.loop-number.invariant c.in_ok-push.ensures.items
     (line-made m n c.unwrap-meta.result _ is (digest-at m c.args.digests.now n _ c.requires low)) refl

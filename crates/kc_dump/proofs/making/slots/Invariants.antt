@@ -1,6 +1,6 @@
 use Rattle.std.proofs.Common.{◌≡◌}
-use Rattle.kc_dump.specs.Dumping.{slots_of}
+use Rattle.kc_dump.specs.Dumping.{slot_dumps}
 use Rattle.kc_dump.proofs.making.slots.Given as goal
 
 abbrev pub invariant-loop-vm : goal.invariant-loop-vm
-invariant-loop-vm l = l.slots.items ≡ slots_of l.core l.vm
+invariant-loop-vm l = l.slots.items ≡ slot_dumps l.core l.vm

@@ -1,6 +1,6 @@
 use Rattle.std.proofs.Common.{◌∙◌, ap, sym, [], ◌∷◌, ◌++◌}
 use Rattle.kc_types.specs.Actors.{actor}
-use Rattle.kc_live.specs.Programs.{ProgramView, NoneIs, actors_of}
+use Rattle.kc_live.specs.Program.{ProgramView, NoneIs, actors_of}
 use Rattle.kc_live.specs.Cuts.{IsPlaceOf}
 use Rattle.kc_live.proofs.Cuts.{placed, place-none}
 use Rattle.kc_live.proofs.cut.add_call.Goals as goal

@@ -1,7 +1,7 @@
 use Rattle.std.proofs.Common.{drop}
 use Rattle.std.specs.Prelude.{◌↔◌}
-use Rattle.kc_live.specs.Programs.{NoneIs}
-use Rattle.kc_live.specs.Programs.{actors_of}
+use Rattle.kc_live.specs.Program.{NoneIs}
+use Rattle.kc_live.specs.Program.{actors_of}
 use Rattle.kc_live.proofs.early.is_free.Given as goal
 
 abbrev pub invariant-loop-program : goal.invariant-loop-program

@@ -1,9 +1,9 @@
 use Rattle.std.proofs.Common.{◌≡◌}
-use Rattle.kc_live.specs.Programs.{calls_in}
+use Rattle.kc_live.specs.Program.{receipt_calls}
 use Rattle.kc_live.proofs.program.run_program.Given as goal
 
 abbrev pub invariant-loop-call : goal.invariant-loop-call
 invariant-loop-call g l = record {
-  made : calls_in l.seat.receipts ≡ l.yielded;
+  made : receipt_calls l.seat.receipts ≡ l.yielded;
   actor : l.seat.actor ≡ l.initial.seat.actor;
 }

@@ -1,5 +1,5 @@
 use Rattle.std.proofs.Common.{◌≡◌, take}
-use Rattle.kc_history.specs.Logs.{calls_of}
+use Rattle.kc_history.specs.Book.{calls_of}
 use Rattle.kc_live.proofs.replaying.copied_calls.Given as goal
 
 abbrev pub invariant-loop-entry : goal.invariant-loop-entry

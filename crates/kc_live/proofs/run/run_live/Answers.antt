@@ -1,11 +1,11 @@
 use Rattle.std.proofs.Common.{◌≡◌, ◌∙◌, true}
-use Rattle.kc_live.specs.Plans.{IsSound}
+use Rattle.kc_live.specs.Plans.{MayRunTogether}
 use Rattle.kc_live.proofs.Runs.{run_calls, run_others, run_begun}
 use Rattle.kc_live.proofs.run.run_live.Goals as goal
 
 pub returns-in-Some-stop-clause-left : goal.returns-in-Some-stop-clause-left
 returns-in-Some-stop-clause-left g c =
-    let sound : IsSound c.args.config c.args.programs.items = rw c.as_slice.ensures.value at c.in_default.ensures.cause in
+    let sound : MayRunTogether c.args.config c.args.programs.items = rw c.as_slice.ensures.value at c.in_default.ensures.cause in
     let yes : c.is_answer.result ≡ true = cc in
     let answer = c.is_answer.ensures.0 yes in
     let settled = rw c.as_slice-2.ensures.value at answer.1 in
@@ -19,7 +19,7 @@ returns-in-Some-stop-clause-left g c =
 
 pub returns-clause-calls : goal.returns-clause-calls
 returns-clause-calls g c =
-    let sound : IsSound c.args.config c.args.programs.items = rw c.as_slice.ensures.value at c.in_default.ensures.cause in
+    let sound : MayRunTogether c.args.config c.args.programs.items = rw c.as_slice.ensures.value at c.in_default.ensures.cause in
     let yes : c.is_answer.result ≡ true = cc in
     let answer = c.is_answer.ensures.0 yes in
     let settled = rw c.as_slice-2.ensures.value at answer.1 in
@@ -27,7 +27,7 @@ returns-clause-calls g c =
 
 pub returns-clause-others : goal.returns-clause-others
 returns-clause-others g c =
-    let sound : IsSound c.args.config c.args.programs.items = rw c.as_slice.ensures.value at c.in_default.ensures.cause in
+    let sound : MayRunTogether c.args.config c.args.programs.items = rw c.as_slice.ensures.value at c.in_default.ensures.cause in
     let yes : c.is_answer.result ≡ true = cc in
     let answer = c.is_answer.ensures.0 yes in
     let settled = rw c.as_slice-2.ensures.value at answer.1 in

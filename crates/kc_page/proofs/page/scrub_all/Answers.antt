@@ -3,7 +3,7 @@ use Rattle.std.proofs.lemmas.List.{ext_get_or, get_or-map, length-map}
 use Rattle.kc_types.specs.declared.owner.Owner.TheVariants.{Core}
 use Rattle.kc_model.specs.State.{zero_page}
 use Rattle.kc_page.specs.declared.page.Page.{Page}
-use Rattle.kc_page.specs.Pages.{scrubbed_page}
+use Rattle.kc_page.specs.Page.{scrubbed_page}
 use Rattle.kc_page.proofs.page.scrub_all.Goals as goal
 
 blank : Page

@@ -1,5 +1,5 @@
 use Rattle.std.proofs.Common.{◌≡◌, replicate, Some}
-use Rattle.kc_vms.specs.Slots.{empty_vm}
+use Rattle.kc_vms.specs.Vm.{empty_vm}
 use Rattle.kc_parts.proofs.boot.boot_vms.Given as goal
 
 abbrev pub invariant-loop : goal.invariant-loop

@@ -2,7 +2,7 @@ use Rattle.std.proofs.Common.{◌≢◌, ◌<◌, ◌≤◌, ℕ, length, List, 
 use Rattle.std.proofs.lemmas.List.Sorted.{searched}
 use Rattle.std.proofs.lemmas.Bool.{cases_lt}
 use Rattle.std.proofs.Math.Nat.{eq-or-lt_of_le}
-use Rattle.kc_parts.specs.Held.{IsRising}
+use Rattle.kc_parts.specs.Parts.{IsRising}
 use Rattle.kc_parts.proofs.Places.{place-found, place-none}
 use Rattle.kc_parts.proofs.place.place_of.Goals as goal
 

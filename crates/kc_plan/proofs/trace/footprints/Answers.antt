@@ -2,7 +2,7 @@ use Rattle.std.proofs.Common.{◌≡◌, ◌≤◌, length, map, ap, ◌∙◌}
 use Rattle.kc_types.specs.Limits.{frame_limit, slot_limit}
 use Rattle.kc_types.specs.Configuration.{Configuration, slot_count}
 use Rattle.kc_plan.specs.Naming.{names_of}
-use Rattle.kc_plan.specs.Plans.{wave_of}
+use Rattle.kc_plan.specs.Plan.{wave_of}
 use Rattle.kc_plan.proofs.Waves.{names_range, waves_are, length_names}
 use Rattle.kc_plan.proofs.Exact.{row_touches_is, rows_are}
 use Rattle.kc_plan.proofs.trace.footprints.Goals as goal

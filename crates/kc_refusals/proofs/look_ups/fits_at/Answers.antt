@@ -1,7 +1,7 @@
 use Rattle.std.proofs.Common.{refl, ap, sym, ◌∙◌, not}
 use Rattle.kc_types.specs.declared.refusal.Refusal.TheVariants.{TablesFull}
 use Rattle.kc_model.specs.Refusals.{when}
-use Rattle.kc_stage2.specs.Table.{Table, fits}
+use Rattle.kc_stage2.specs.Stage2.{Table, fits}
 use Rattle.kc_parts.specs.States.{state_of}
 use Rattle.kc_refusals.proofs.Looked.{fits-seen}
 use Rattle.kc_refusals.proofs.look_ups.fits_at.Goals as goal

@@ -1,7 +1,7 @@
 use Rattle.std.proofs.Common.{inl, inr, refl, sym, ap, ◌∙◌}
 use Rattle.std.proofs.lemmas.Bool.{cases_lt}
 use Rattle.kc_types.specs.Configuration.{slot_count}
-use Rattle.kc_parts.specs.Held.{links_of}
+use Rattle.kc_parts.specs.Parts.{links_of}
 use Rattle.kc_parts.specs.States.{slot_in}
 use Rattle.kc_parts.proofs.Seen.{slot-seen}
 use Rattle.kc_refusals.proofs.Looked.{slot-past}

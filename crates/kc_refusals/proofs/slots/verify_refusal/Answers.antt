@@ -1,6 +1,6 @@
 use Rattle.std.proofs.Common.{◌≡◌, Some, true, false, inl, inr, sym, ◌∙◌, refl}
 use Rattle.kc_types.specs.declared.slot.Phase.TheVariants.{Empty, Booting, Active, Dead}
-use Rattle.kc_parts.specs.Held.{vm_at}
+use Rattle.kc_parts.specs.Parts.{vm_at}
 use Rattle.kc_refusals.proofs.Verifying.{refusal-absent, refusal-here}
 use Rattle.kc_refusals.proofs.slots.verify_refusal.Goals as goal
 

@@ -1,4 +1,4 @@
-use Rattle.kc_model.proofs.HostBlind.{shows_nothing}
+use Rattle.kc_model.proofs.Blind.HostBlind.{shows_nothing}
 use Rattle.kc_replay.proofs.segment.answer_in_order.Goals as goal
 
 pub returns-in-Ok-clause-blind : goal.returns-in-Ok-clause-blind

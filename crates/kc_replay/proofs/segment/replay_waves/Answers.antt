@@ -3,9 +3,9 @@ use Rattle.std.specs.List.Sorted.{IsPermutation}
 use Rattle.kc_types.specs.declared.call.Call.{Call}
 use Rattle.kc_model.specs.State.{State}
 use Rattle.kc_model.specs.Ranged.{IsRanged}
-use Rattle.kc_model.proofs.HostBlind.{shows_nothing}
+use Rattle.kc_model.proofs.Blind.HostBlind.{shows_nothing}
 use Rattle.kc_plan.specs.Commuting.{IsWaves}
-use Rattle.kc_plan.specs.Plans.{wave_of, highest, AreCallsOf}
+use Rattle.kc_plan.specs.Plan.{wave_of, highest, AreCallsOf}
 use Rattle.kc_plan.specs.Footprints.{AreFootprints}
 use Rattle.kc_plan.specs.Rows.{Rows}
 use Rattle.kc_plan.proofs.Listing.{at_most}

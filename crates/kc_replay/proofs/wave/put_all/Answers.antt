@@ -7,10 +7,10 @@ use Rattle.kc_model.specs.State.{State}
 use Rattle.kc_model.specs.Resources.{Resources}
 use Rattle.kc_model.specs.Footprints.{state_at}
 use Rattle.kc_parts.specs.Cuts.{FitsInto, IsJoin}
-use Rattle.kc_parts.specs.Held.{Held}
+use Rattle.kc_parts.specs.Parts.{Held}
 use Rattle.kc_parts.specs.States.{state_of}
-use Rattle.kc_core.specs.Cores.{IsCore}
-use Rattle.kc_replay.specs.Wave.{IsLeft, HasPlaces, IsFinishedAt, IsWave, calls_of, feet_at, down_from}
+use Rattle.kc_core.specs.KCore.{IsCore}
+use Rattle.kc_replay.specs.Wave.{IsRest, HasPlaces, IsFinishedAt, IsWave, wave_calls, feet_at, down_from}
 use Rattle.kc_replay.proofs.Zips.{zip_length}
 use Rattle.kc_replay.proofs.Taking.{wave-length}
 use Rattle.kc_replay.proofs.Putting.{fits-wave, back-wave, core-last, popped, len-popped, back-more, kept-more}
@@ -99,11 +99,11 @@ loop-finished-preserved-in-Some g c =
 
 -- nothing is out any more
 ended : (m : State) (calls : List Call) (feet : ℕ → Resources) (members : List ℕ) (h : Held) (n : ℕ) → IsWave m calls feet members → n ≡ 0
-    → IsLeft (state_at m (calls_of calls members) (length (calls_of calls members))) (feet_at feet members) (down_from n) h → HasPlaces m.config h
-    → IsCore m.config h × (state_of m.config h ≡ state_at m (calls_of calls members) (length members))
+    → IsRest (state_at m (wave_calls calls members) (length (wave_calls calls members))) (feet_at feet members) (down_from n) h → HasPlaces m.config h
+    → IsCore m.config h × (state_of m.config h ≡ state_at m (wave_calls calls members) (length members))
 ended m calls feet members h n wave none left places =
     let both = core-last m calls feet members wave h (rw none at left) places in
-    (both.0, subst (λ n. state_of m.config h ≡ state_at m (calls_of calls members) n) (wave-length calls members) both.1)
+    (both.0, subst (λ n. state_of m.config h ≡ state_at m (wave_calls calls members) n) (wave-length calls members) both.1)
 
 pub returns-clause-core : goal.returns-clause-core
 returns-clause-core g c =

@@ -6,9 +6,9 @@ use Rattle.kc_model.specs.State.{State}
 use Rattle.kc_model.specs.Resources.{Resources}
 use Rattle.kc_model.specs.Footprints.{state_at}
 use Rattle.kc_parts.specs.States.{state_of}
-use Rattle.kc_core.specs.Cores.{IsCore}
-use Rattle.kc_replay.specs.Wave.{IsWave, IsLeft, IsFinishedAt, foot_of, calls_of, feet_at, down_from}
-use Rattle.kc_replay.specs.Working.{IsTaskOf, Answers, AnswersAll}
+use Rattle.kc_core.specs.KCore.{IsCore}
+use Rattle.kc_replay.specs.Wave.{IsWave, IsRest, IsFinishedAt, foot_of, wave_calls, feet_at, down_from}
+use Rattle.kc_replay.specs.Working.{IsTaskOf, Finishes, AnswersAll}
 use Rattle.kc_replay.proofs.Zips.{all_lanes, zip_lanes}
 use Rattle.kc_replay.proofs.Taking.{wave-length}
 use Rattle.kc_replay.proofs.Putting.{all-able, all-finished, switched}
@@ -49,20 +49,20 @@ put_all-requires g c =
     let config : c.args.config.now ≡ g.wave.start.config = ap (λ (s : State). s.config) r.0 in
     let foot = foot_of c.args.feet.now in
     let wave = across (λ feet members. IsWave g.wave.start g.wave.calls feet members) g.wave.feet (foot_of c.args.feet.now) g.wave.members c.args.members.now (sym r.1.1.0) (sym r.1.1.1.0) r.1.1.1.1.0 in
-    let joined = zip_lanes (λ lane. lane.items) (λ lane. lane.items) (Answers c.args.config.now c.args.calls.now) c.in_ok-lanes.lanes.items c.in_ok-all.all.items c.in_ok-all.ensures in
+    let joined = zip_lanes (λ lane. lane.items) (λ lane. lane.items) (Finishes c.args.config.now c.args.calls.now) c.in_ok-lanes.lanes.items c.in_ok-all.all.items c.in_ok-all.ensures in
     let answers : AnswersAll c.args.config.now c.args.calls.now c.in_ok-tasks.tasks.items c.in_ok-finished.finished.items = rw (← c.in_ok-lanes.ensures, c.in_ok-finished.ensures) joined in
     let finished =
     all-finished g.wave.start g.wave.calls (foot_of c.args.feet.now) c.args.members.now wave c.in_ok-tasks.tasks.items c.in_ok-tasks.ensures.tasks c.in_ok-finished.finished.items
     (subst (λ (config : Configuration). AnswersAll config g.wave.calls c.in_ok-tasks.tasks.items c.in_ok-finished.finished.items) config
     (subst (λ (calls : List Call). AnswersAll c.args.config.now calls c.in_ok-tasks.tasks.items c.in_ok-finished.finished.items) r.1.0 answers)) in
     let left =
-    subst (λ n. IsLeft (state_at g.wave.start (calls_of g.wave.calls c.args.members.now) n) (feet_at (foot_of c.args.feet.now) c.args.members.now) (down_from (length c.args.members.now)) c.take_tasks.new.store)
+    subst (λ n. IsRest (state_at g.wave.start (wave_calls g.wave.calls c.args.members.now) n) (feet_at (foot_of c.args.feet.now) c.args.members.now) (down_from (length c.args.members.now)) c.take_tasks.new.store)
     (wave-length g.wave.calls c.args.members.now) (switched g.wave.start g.wave.calls (foot_of c.args.feet.now) c.args.members.now wave c.take_tasks.new.store c.in_ok-tasks.ensures.store) in (
       r.1.1.1.1.0,
       (
         across (λ feet members. AllZip (IsFinishedAt g.wave.start g.wave.calls feet members) (range_with_len 0 (length members)) c.in_ok-finished.finished.items) (foot_of c.args.feet.now) g.wave.feet c.args.members.now g.wave.members r.1.1.0 r.1.1.1.0 finished,
         (
-          across (λ feet members. IsLeft (state_at g.wave.start (calls_of g.wave.calls members) (length members)) (feet_at feet members) (down_from (length members)) c.take_tasks.new.store) (foot_of c.args.feet.now) g.wave.feet c.args.members.now g.wave.members r.1.1.0 r.1.1.1.0 left,
+          across (λ feet members. IsRest (state_at g.wave.start (wave_calls g.wave.calls members) (length members)) (feet_at feet members) (down_from (length members)) c.take_tasks.new.store) (foot_of c.args.feet.now) g.wave.feet c.args.members.now g.wave.members r.1.1.0 r.1.1.1.0 left,
           (c.in_ok-tasks.ensures.places, r.1.1.1.1.1.1.1),
         ),
       ),

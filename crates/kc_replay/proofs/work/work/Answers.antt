@@ -2,13 +2,13 @@ use Rattle.std.proofs.Common.{◌∙◌, sym, rules, ◌≡◌, length}
 use Rattle.std.proofs.lemmas.Iterator.Consumers.{YieldsList-end}
 use Rattle.std.proofs.lemmas.Iterator.Adapters.{YieldsList-from_vec}
 use Rattle.std.proofs.lemmas.List.{map-id}
-use Rattle.kc_replay.specs.Working.{Answers}
+use Rattle.kc_replay.specs.Working.{Finishes}
 use Rattle.kc_replay.proofs.Zips.{zip_push}
 use Rattle.kc_replay.proofs.work.work.Goals as goal
 
 pub loop-task-preserved : goal.loop-task-preserved
 loop-task-preserved g c =
-    rw c.in_ok-push.ensures.items (zip_push (Answers c.args.config.now c.args.calls.now) c.loop-task.yielded c.loop-task.done.items c.in-Some.task c.in_ok-finished.finished c.loop-task.invariant c.in_ok-finished.ensures)
+    rw c.in_ok-push.ensures.items (zip_push (Finishes c.args.config.now c.args.calls.now) c.loop-task.yielded c.loop-task.done.items c.in-Some.task c.in_ok-finished.finished c.loop-task.invariant c.in_ok-finished.ensures)
 
 pub returns : goal.returns
 returns g c =

@@ -1,5 +1,5 @@
 use Rattle.std.proofs.Common.{◌≡◌, ◌≤◌, ◌-◌, ℕ, List, false}
-use Rattle.kc_ends.specs.Ends.{byte_limit}
+use Rattle.kc_io.specs.Ends.{byte_limit}
 use Rattle.kc_streams.specs.Streamed.{HasRead}
 use Rattle.kc_streams.proofs.stream.read_calls.Given as goal
 

@@ -1,4 +1,4 @@
-use Rattle.kc_model.proofs.Keeps.{lawful-next}
+use Rattle.kc_model.proofs.Lawful.Keeps.{lawful-next}
 use Rattle.kc_core.proofs.Cored.{able, core-kept}
 use Rattle.kc_core.proofs.one_thread.KCore.answer.Goals as goal
 

@@ -1,5 +1,5 @@
-use Rattle.kc_model.proofs.Safe.{safe}
-use Rattle.kc_model.proofs.HostBlind.{shows_nothing}
+use Rattle.kc_model.proofs.Safe.Safe.{safe}
+use Rattle.kc_model.proofs.Blind.HostBlind.{shows_nothing}
 use Rattle.kc_core.proofs.Answered.{where_ok}
 use Rattle.kc_core.proofs.one_thread.KCore.answer_all.Goals as goal
 

@@ -1,4 +1,4 @@
-use Rattle.kc_model.proofs.AtBoot.{lawful-boot}
+use Rattle.kc_model.proofs.Lawful.AtBoot.{lawful-boot}
 use Rattle.kc_core.proofs.one_thread.KCore.boot.Goals as goal
 
 pub invariant_of-result : goal.invariant_of-result

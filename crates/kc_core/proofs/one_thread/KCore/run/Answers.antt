@@ -1,9 +1,9 @@
 use Rattle.std.proofs.lemmas.List.{take_all}
 use Rattle.kc_model.specs.Next.{replies_from, state_after}
 use Rattle.std.proofs.Common.{ap, ◌∙◌, ◌≡◌, ◌+◌, ◌++◌, ◌∷◌, [], arith, vec_len}
-use Rattle.kc_model.proofs.Runs.{replies_from-more, state_after-more}
-use Rattle.kc_model.proofs.Safe.{safe}
-use Rattle.kc_model.proofs.HostBlind.{shows_nothing}
+use Rattle.kc_model.proofs.States.Runs.{replies_from-more, state_after-more}
+use Rattle.kc_model.proofs.Safe.Safe.{safe}
+use Rattle.kc_model.proofs.Blind.HostBlind.{shows_nothing}
 use Rattle.kc_core.proofs.one_thread.KCore.run.Goals as goal
 
 pub loop-done-preserved : goal.loop-done-preserved

@@ -1,11 +1,11 @@
 use Rattle.std.proofs.Common.{List, ◌≡◌, map, ap, ◌∙◌, subst, sym}
 use Rattle.std.proofs.lemmas.List.{length-map}
 use Rattle.kc_page.specs.declared.page.Page.{Page}
-use Rattle.kc_page.specs.Pages.{scrubbed_page}
+use Rattle.kc_page.specs.Page.{scrubbed_page}
 use Rattle.kc_parts.specs.Lending.{refilled}
 use Rattle.kc_parts.specs.States.{state_of}
 use Rattle.kc_parts.proofs.Full.{full_from_whole}
-use Rattle.kc_core.specs.Cores.{IsCore}
+use Rattle.kc_core.specs.KCore.{IsCore}
 use Rattle.kc_core.proofs.Wiped.{refilled-same, state-clean, core-clean}
 use Rattle.kc_core.proofs.one_thread.KCore.wipe.Goals as goal
 

@@ -2,7 +2,7 @@ use Rattle.std.proofs.Common.{◌≡◌, ℕ, ◌+◌, ◌-◌, ◌*◌, ◌/◌
 use Rattle.std.proofs.lemmas.List.{length-take-le}
 use Rattle.sha2.specs.Sha256.{digest_bytes, padding}
 use Rattle.kc_digests.specs.Lanes.{of_four, state_lane}
-use Rattle.kc_digests.specs.Measures.{WasFed}
+use Rattle.kc_digests.specs.MeasureFour.{LaneWasFed}
 use Rattle.kc_digests.proofs.LaneLemmas.{below_four}
 use Rattle.kc_digests.proofs.Feeding.{digest-ended, ended-part, of_four-each, of_four-map}
 use Rattle.kc_digests.proofs.measure.MeasureFour.end.Goals as goal
@@ -17,8 +17,8 @@ returns c = λ j low fed was.
     let whole : ℕ = length first / 64 * 64 in
     let len : ℕ = (c.feed.new.self.len + (length first - whole)) % 2 ^ 64 in
     let same : length part ≡ length first = of_four-each (λ part. length part ≡ length first) _ _ _ _ refl c.requires.second c.requires.third c.requires.fourth j low in
-    let begun : WasFed c.feed.new.self j (fed ++ take whole part) =
-    subst (λ (p : List ℕ). WasFed c.feed.new.self j (fed ++ p)) (of_four-map (take whole) first second third fourth j low) (c.feed.ensures j low fed was) in
+    let begun : LaneWasFed c.feed.new.self j (fed ++ take whole part) =
+    subst (λ (p : List ℕ). LaneWasFed c.feed.new.self j (fed ++ p)) (of_four-map (take whole) first second third fourth j low) (c.feed.ensures j low fed was) in
     let counted = begun.count in
     let blocks = begun.whole in
     let both = length-append fed part in

@@ -1,7 +1,7 @@
 use Rattle.std.proofs.Common.{◌≡◌, ◌++◌, Some, sym}
 use Rattle.kc_types.specs.declared.owner.Owner.TheVariants.{Free}
 use Rattle.kc_links.specs.Ending.{listed}
-use Rattle.kc_parts.specs.Held.{links_of}
+use Rattle.kc_parts.specs.Parts.{links_of}
 use Rattle.kc_parts.specs.States.{owner_at}
 use Rattle.kc_parts.proofs.FreeMoves.{free-moved}
 use Rattle.kc_parts.proofs.Emptied.{owned-joined}

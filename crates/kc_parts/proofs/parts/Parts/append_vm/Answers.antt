@@ -2,8 +2,8 @@ use Rattle.std.proofs.Common.{ℕ, ◌≡◌, ◌<◌, ◌++◌, ◌∷◌, [], 
 use Rattle.kc_types.specs.declared.owner.Owner.TheVariants.{Vm}
 use Rattle.kc_model.specs.Lawful.{times_in}
 use Rattle.kc_links.specs.Ending.{listed}
-use Rattle.kc_parts.specs.Held.{vm_at, links_of, with_vm, with_ends}
-use Rattle.kc_parts.specs.States.{owner_at, frames_of}
+use Rattle.kc_parts.specs.Parts.{vm_at, links_of, with_vm, with_ends}
+use Rattle.kc_parts.specs.States.{owner_at, listed_frames}
 use Rattle.kc_parts.proofs.FreeMoves.{owned-appended}
 use Rattle.kc_parts.proofs.SlotLists.{slot-moved, frames-moved, frames-here, ends-here, slot-owned, ends-set}
 use Rattle.kc_parts.proofs.parts.Parts.append_vm.Goals as goal
@@ -31,7 +31,7 @@ append-requires-clause-apart c =
 pub returns-in-Some-clause-frames : goal.returns-in-Some-clause-frames
 returns-in-Some-clause-frames c =
     let k = goal.at.returns-in-Some-clause-frames c in
-    ap (λ h. frames_of h c.args.vm) (longer k.After-set_list)
+    ap (λ h. listed_frames h c.args.vm) (longer k.After-set_list)
     ∙ frames-moved c.args.self.now c.append.new.store c.args.vm c.in-Some.slot.now c.append.new.ends (listed (links_of c.args.self.now) c.in-Some.slot.now.slot.ends ++ c.args.frame ∷ []) c.append.ensures.rest (at k.In-Some) c.requires.lists (rw c.list.ensures at c.append.ensures.others) (own k.In-Some)
     ∙ rw c.list.ensures at c.append.ensures.frames
     ∙ ap (λ fs. fs ++ c.args.frame ∷ []) (sym (frames-here c.args.self.now c.args.vm c.in-Some.slot.now (at k.In-Some)))

@@ -1,5 +1,5 @@
 use Rattle.std.proofs.Common.{◌≡◌, replicate}
-use Rattle.kc_parts.specs.Held.{blank_page}
+use Rattle.kc_parts.specs.Parts.{blank_page}
 use Rattle.kc_parts.proofs.parts.Parts.blank_pages.Given as goal
 
 abbrev pub invariant-loop : goal.invariant-loop

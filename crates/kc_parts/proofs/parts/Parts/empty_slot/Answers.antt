@@ -1,8 +1,8 @@
 use Rattle.std.proofs.Common.{◌≡◌, Some, sym, ap, ◌∙◌}
 use Rattle.kc_types.specs.declared.link.Ends.{Ends}
-use Rattle.kc_vms.specs.Slots.{VmSlot}
+use Rattle.kc_vms.specs.Vm.{VmSlot}
 use Rattle.kc_links.specs.Ending.{listed}
-use Rattle.kc_parts.specs.Held.{vm_at, with_vm, links_of}
+use Rattle.kc_parts.specs.Parts.{vm_at, with_vm, links_of}
 use Rattle.kc_parts.specs.Emptying.{all_scrubbed}
 use Rattle.kc_parts.proofs.Emptied.{reset, emptied, slot-emptied}
 use Rattle.kc_parts.proofs.parts.Parts.empty_slot.Goals as goal

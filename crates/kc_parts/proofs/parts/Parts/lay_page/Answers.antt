@@ -1,5 +1,5 @@
 use Rattle.std.proofs.Common.{◌∙◌, ap, true}
-use Rattle.kc_parts.specs.Held.{place_of}
+use Rattle.kc_parts.specs.Parts.{place_of}
 use Rattle.kc_parts.proofs.Writing.{write-place}
 use Rattle.kc_parts.proofs.Blanks.{held-set, blank-there}
 use Rattle.kc_parts.proofs.parts.Parts.lay_page.Goals as goal

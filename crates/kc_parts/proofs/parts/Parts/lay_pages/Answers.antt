@@ -1,5 +1,5 @@
 use Rattle.std.proofs.Common.{◌∙◌, sym, ap, refl, arith}
-use Rattle.kc_parts.specs.Held.{page_at}
+use Rattle.kc_parts.specs.Parts.{page_at}
 use Rattle.kc_parts.specs.Cuts.{either}
 use Rattle.kc_parts.proofs.Filled.{cells, page_at-cells}
 use Rattle.kc_parts.proofs.SlotMoves.{either-none}

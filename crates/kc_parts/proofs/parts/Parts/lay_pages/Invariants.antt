@@ -2,7 +2,7 @@ use Rattle.std.proofs.Common.{ℕ, ◌≡◌}
 use Rattle.std.specs.Prelude.{Some}
 use Rattle.std.specs.Vec.{vec_len}
 use Rattle.kc_page.specs.declared.page.Page.{Page}
-use Rattle.kc_parts.specs.Held.{IsHeld, page_at, cell_in}
+use Rattle.kc_parts.specs.Parts.{IsHeld, page_at, cell_in}
 use Rattle.kc_parts.specs.Cuts.{either}
 use Rattle.kc_parts.specs.Moves.{IsEmptyPlace}
 use Rattle.kc_parts.proofs.Filled.{cells}

@@ -1,5 +1,5 @@
 use Rattle.std.proofs.Common.{◌∙◌, ap, false}
-use Rattle.kc_parts.specs.Held.{place_of}
+use Rattle.kc_parts.specs.Parts.{place_of}
 use Rattle.kc_parts.proofs.Writing.{write-place, place-here}
 use Rattle.kc_parts.proofs.Blanks.{held-set}
 use Rattle.kc_parts.proofs.parts.Parts.lift_page.Goals as goal

@@ -1,7 +1,7 @@
 use Rattle.std.proofs.Common.{ℕ, ◌≡◌, ◌<◌, ◌≤◌, length, get_or, map, take}
 use Rattle.std.specs.Prelude.{Some}
 use Rattle.kc_page.specs.declared.page.Page.{Page}
-use Rattle.kc_parts.specs.Held.{blank_page, page_at}
+use Rattle.kc_parts.specs.Parts.{blank_page, page_at}
 use Rattle.kc_parts.specs.Moves.{IsLifted}
 use Rattle.kc_parts.proofs.parts.Parts.lift_pages.Given as goal
 

@@ -1,6 +1,6 @@
 use Rattle.std.proofs.Common.{◌∙◌, ap, subst}
 use Rattle.std.specs.Prelude.{slice_get}
-use Rattle.kc_parts.specs.Held.{Held, IsRising}
+use Rattle.kc_parts.specs.Parts.{Held, IsRising}
 use Rattle.kc_parts.proofs.Writing.{full-page}
 use Rattle.kc_parts.proofs.parts.Parts.pages.Goals as goal
 

@@ -1,7 +1,7 @@
 use Rattle.std.proofs.Common.{ℕ, ◌≡◌, ◌++◌, List, length, take, drop, refl, ◌∙◌, ap, subst}
 use Rattle.std.specs.Prelude.{slice_get}
 use Rattle.kc_page.specs.declared.page.Page.{Page}
-use Rattle.kc_parts.specs.Held.{Held, IsRising}
+use Rattle.kc_parts.specs.Parts.{Held, IsRising}
 use Rattle.kc_parts.proofs.Writing.{full-page}
 use Rattle.kc_parts.proofs.Blanks.{held-refilled}
 use Rattle.kc_parts.proofs.parts.Parts.pages_mut.Goals as goal

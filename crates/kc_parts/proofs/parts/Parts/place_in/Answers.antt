@@ -1,5 +1,5 @@
 use Rattle.std.proofs.Common.{◌≡◌, true, false, sym, ◌∙◌, arith}
-use Rattle.kc_parts.specs.Held.{place_of, is_filled}
+use Rattle.kc_parts.specs.Parts.{place_of, is_filled}
 use Rattle.kc_parts.proofs.Places.{filled-at, filled-nowhere}
 use Rattle.kc_parts.proofs.parts.Parts.place_in.Goals.{else-at-len-via-then-at-len+else-index, else-at-len-via-else-at-len}
 use Rattle.kc_parts.proofs.parts.Parts.place_in.Goals as goal

@@ -1,7 +1,7 @@
 use Rattle.std.proofs.Common.{◌≡◌, Some, sym, refl}
 use Rattle.kc_types.specs.declared.owner.Owner.TheVariants.{Free}
 use Rattle.kc_links.specs.Ending.{listed}
-use Rattle.kc_parts.specs.Held.{links_of}
+use Rattle.kc_parts.specs.Parts.{links_of}
 use Rattle.kc_parts.proofs.FreeMoves.{free-moved, loose-first, popped-within}
 use Rattle.kc_parts.proofs.parts.Parts.pop_free.Goals as goal
 

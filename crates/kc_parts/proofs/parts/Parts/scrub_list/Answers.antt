@@ -1,6 +1,6 @@
 use Rattle.std.proofs.Common.{◌+◌, ◌-◌, sym, ap, ◌∙◌, arith}
 use Rattle.kc_links.specs.Chain.{spelled}
-use Rattle.kc_parts.specs.Held.{Held, links_of}
+use Rattle.kc_parts.specs.Parts.{Held, links_of}
 use Rattle.kc_parts.specs.Emptying.{with_scrubbed, all_scrubbed}
 use Rattle.kc_parts.proofs.Emptied.{walk-step, walk-none, walk-listed}
 use Rattle.kc_parts.proofs.parts.Parts.scrub_list.Goals.{in-Some, in_default}

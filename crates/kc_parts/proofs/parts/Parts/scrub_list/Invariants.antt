@@ -1,6 +1,6 @@
 use Rattle.std.proofs.Common.{◌≡◌, ◌-◌}
 use Rattle.kc_links.specs.Chain.{spelled}
-use Rattle.kc_parts.specs.Held.{links_of}
+use Rattle.kc_parts.specs.Parts.{links_of}
 use Rattle.kc_parts.specs.Emptying.{all_scrubbed}
 use Rattle.kc_parts.proofs.parts.Parts.scrub_list.Given as goal
 

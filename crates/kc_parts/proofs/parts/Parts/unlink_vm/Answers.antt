@@ -4,8 +4,8 @@ use Rattle.kc_model.specs.Lawful.{times_in}
 use Rattle.kc_model.specs.Effects.{without}
 use Rattle.kc_links.specs.Ending.{listed}
 use Rattle.kc_links.proofs.Others.{without-same}
-use Rattle.kc_parts.specs.Held.{vm_at, links_of, with_vm, with_ends}
-use Rattle.kc_parts.specs.States.{frames_of, owner_at}
+use Rattle.kc_parts.specs.Parts.{vm_at, links_of, with_vm, with_ends}
+use Rattle.kc_parts.specs.States.{listed_frames, owner_at}
 use Rattle.kc_parts.proofs.SlotLists.{slot-moved, loose-left, frames-moved, frames-here, ends-here, slot-owned, ends-set, within-without}
 use Rattle.kc_parts.proofs.parts.Parts.unlink_vm.Goals as goal
 use Rattle.kc_parts.proofs.parts.Parts.unlink_vm.Goals.{In-Some, After-set_list}
@@ -29,7 +29,7 @@ unlink-requires-clause-inside c = rw c.list.ensures (rw (frames-here c.args.self
 pub returns-in-Some-clause-frames : goal.returns-in-Some-clause-frames
 returns-in-Some-clause-frames c =
     let k = goal.at.returns-in-Some-clause-frames c in
-    ap (λ h. frames_of h c.args.vm) (left k.After-set_list)
+    ap (λ h. listed_frames h c.args.vm) (left k.After-set_list)
     ∙ frames-moved c.args.self.now c.unlink.new.store c.args.vm c.in-Some.slot.now c.unlink.new.ends (listed (links_of c.args.self.now) c.in-Some.slot.now.slot.ends) c.unlink.ensures.rest (at k.In-Some) c.requires.lists (rw c.list.ensures at c.unlink.ensures.others) (own k.In-Some)
     ∙ rw c.list.ensures at c.unlink.ensures.frames
     ∙ ap (λ fs. without fs c.args.frame) (sym (frames-here c.args.self.now c.args.vm c.in-Some.slot.now (at k.In-Some)))

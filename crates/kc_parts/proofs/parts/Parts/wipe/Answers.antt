@@ -1,8 +1,8 @@
 use Rattle.std.proofs.Common.{ℕ, ◌≡◌, ◌++◌, List, length, map, take, drop, sym, ap, subst, ◌∙◌}
 use Rattle.std.proofs.lemmas.List.{length-map, take_at}
 use Rattle.kc_page.specs.declared.page.Page.{Page}
-use Rattle.kc_page.specs.Pages.{scrubbed_page}
-use Rattle.kc_parts.specs.Held.{IsHeld}
+use Rattle.kc_page.specs.Page.{scrubbed_page}
+use Rattle.kc_parts.specs.Parts.{IsHeld}
 use Rattle.kc_parts.proofs.Blanks.{held-scrubbed}
 use Rattle.kc_parts.proofs.parts.Parts.wipe.Goals as goal
 

@@ -1,5 +1,5 @@
 use Rattle.std.proofs.Common.{◌<◌, length, get_or, ap, arith, ◌∙◌}
-use Rattle.kc_parts.specs.Held.{HeldSlots}
+use Rattle.kc_parts.specs.Parts.{HeldSlots}
 use Rattle.kc_parts.proofs.SlotMoves.{next-fits}
 use Rattle.kc_parts.proofs.slots.VmSlots.take_from.Goals as goal
 

@@ -1,6 +1,6 @@
 use Rattle.std.proofs.Common.{◌≡◌, ◌+◌, ◌*◌, ◌<◌, ℕ, List, Bool, length, get_or, [], arith, rules}
 use Rattle.std.proofs.lemmas.Grind.{common_steps}
-use Rattle.kc_plan.specs.Members.{added, AreFlags}
+use Rattle.kc_plan.specs.Members.{with_member, AreFlags}
 use Rattle.kc_plan.proofs.Added.{flags_same, flags_added}
 use Rattle.kc_plan.proofs.reach_sets.ReachSets.add.Goals as goal
 
@@ -11,5 +11,5 @@ invariant_of-self-2 c =
     let count : c.len.result ≡ length c.self.inside.sets.items = search rules in
     let are : AreFlags c.self.inside.sets.items c.make_room.new.flags.items = flags_same c.self.inside.sets.items c.self.inside.flags.items c.make_room.new.flags.items c.self.invariant c.make_room.ensures.same in
     let room : c.args.number * length c.self.inside.sets.items + c.args.principal < length c.make_room.new.flags.items = rw (← count) c.in_ok-make_room.ensures.room in
-    let new : c.add.new.self ≡ added (get_or c.self.inside.sets.items c.args.principal []) c.args.number = grind (arith, common_steps) in
+    let new : c.add.new.self ≡ with_member (get_or c.self.inside.sets.items c.args.principal []) c.args.number = grind (arith, common_steps) in
     rw (count, new) (flags_added c.self.inside.sets.items c.make_room.new.flags.items c.args.principal c.args.number low room are)

@@ -3,7 +3,7 @@ use Rattle.std.proofs.lemmas.Grind.{common_steps}
 use Rattle.std.proofs.lemmas.List.{get_or_read}
 use Rattle.std.proofs.Math.ListN.{length-set}
 use Rattle.kc_plan.specs.Members.{is_in}
-use Rattle.kc_plan.specs.Planner.{Held}
+use Rattle.kc_plan.specs.Planner.{Reached}
 use Rattle.kc_plan.proofs.Related.{raised, related_more}
 use Rattle.kc_plan.proofs.reaches.Reaches.relate.Goals as goal
 use Rattle.kc_plan.proofs.reaches.Reaches.relate.Goals.{then-contains, else-contains}
@@ -11,12 +11,12 @@ use Rattle.kc_plan.proofs.reaches.Reaches.relate.Goals.{then-contains, else-cont
 pub loop-other-preserved : goal.loop-other-preserved
 unfolding raised
 loop-other-preserved c =
-    let b : Held = record { sets = c.loop-other.self-inside.sets; near = c.loop-other.self-inside.near.items; freed = c.loop-other.self-inside.freed.items } in
+    let b : Reached = record { sets = c.loop-other.self-inside.sets; near = c.loop-other.self-inside.near.items; freed = c.loop-other.self-inside.freed.items } in
     let p : ℕ = c.args.principal in
     let n : ℕ = c.loop-other.other in
     let so_far = c.loop-other.invariant in
     let same = so_far.sets in
-    let size : length c.self.inside.sets ≡ length c.args.self.now.sets = ap (λ (h : Held). length h.sets) c.self.view_is in
+    let size : length c.self.inside.sets ≡ length c.args.self.now.sets = ap (λ (h : Reached). length h.sets) c.self.view_is in
     let as_many : length c.args.self.now.near ≡ length c.args.self.now.sets = c.requires.near in
     let end = c.len-other-end.ensures in
     let p_low : p < length c.loop-other.self-inside.near.items = let l = so_far.near_len in let r = c.requires.sets in omega arith in

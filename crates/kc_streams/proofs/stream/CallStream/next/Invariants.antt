@@ -1,5 +1,5 @@
 use Rattle.std.proofs.Common.{◌≡◌, ◌≤◌, ◌<◌, ◌-◌, length, false}
-use Rattle.kc_ends.specs.Ends.{byte_limit}
+use Rattle.kc_io.specs.Ends.{byte_limit}
 use Rattle.kc_streams.specs.Streamed.{GoesOn}
 use Rattle.kc_streams.proofs.stream.CallStream.next.Given as goal
 

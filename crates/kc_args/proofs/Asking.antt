@@ -1,0 +1,64 @@
+-- What clap's clauses say of the program's command.
+use Rattle.std.proofs.Common.{◌≡◌, ◌⊎◌, ℕ, inl, inr, List, [], Option, Some, None, Result, Ok, Err, refl, ap, true}
+use Rattle.std.specs.Option.{option_map_or}
+use Rattle.std.specs.Str.Parse.{ParsesUnsigned}
+use Rattle.std.specs.Prelude.{option_map}
+use Rattle.std.specs.Box.{box_value}
+use Rattle.std.specs.Prelude.{Box}
+use Rattle.clap.specs.Walk.{byte_or_zero}
+use Rattle.clap.specs.Words.{App, Text, Row, ReadsOne, is_simple, is_simple_and_free, subcommand_of, subcommand_name_of, subcommand_rows, subcommand_rows_of, fault_of, IsAmong}
+use Rattle.clap.specs.declared.parser.matches.ArgMatches.{ArgMatches}
+use Rattle.clap.specs.declared.parser.matches.ArgMatches.TheViews.{out-ArgMatches, out-SubCommand}
+use Rattle.clap.specs.declared.parser.matches.SubCommand.{SubCommand}
+use Rattle.clap.specs.declared.error.kind.ErrorKind.{ErrorKind}
+use Rattle.clap.specs.declared.error.kind.ErrorKind.TheVariants.{OutOfMemory}
+use Rattle.clap.proofs.WalkLemmas.{byte_read}
+use Rattle.clap.proofs.OnLiterals.{clap_on_literals}
+use Rattle.kc_args.specs.declared.job.Job.{Job}
+use Rattle.kc_args.specs.declared.job.ArgFault.{ArgFault}
+use Rattle.kc_args.specs.declared.job.ArgFault.TheVariants.{Memory, Words}
+use Rattle.kc_args.specs.Commands.{kcore}
+use Rattle.kc_args.specs.Jobs.{in_range, Asks, IsJobIn, HasStatus, IsRefusal}
+
+pub kcore_is_simple : is_simple kcore ≡ true
+unfolding clap_on_literals
+kcore_is_simple = refl
+
+pub kcore_is_free : is_simple_and_free kcore ≡ true
+unfolding clap_on_literals
+kcore_is_free = refl
+
+-- a subcommand, if there is one, and its rows
+abbrev pub Entered : Type 0
+Entered = Option (Text × List Row)
+
+asked_in : (entered : Entered) (name : Text) (rows : List Row) (job : Job) → Some name ≡ option_map (λ p. p.0) entered → Some rows ≡ option_map (λ p. p.1) entered → IsJobIn name rows job → Asks entered job
+asked_in None name rows job n e h = absurd cc
+asked_in (Some found) name rows job n e h = let same : found.1 ≡ rows = cc in let named : found.0 ≡ name = cc in rw (same, named) h
+
+pub asked_within : (words : List Text) (entered : Entered) (name : Text) (rows : List Row) (job : Job) → entered ≡ subcommand_of kcore words → Some name ≡ option_map (λ p. p.0) entered → Some rows ≡ option_map (λ p. p.1) entered → IsJobIn name rows job → Asks (subcommand_of kcore words) job
+asked_within words entered name rows job is n e h = rw is at (asked_in entered name rows job n e h)
+
+named_in : {Z : Type 0} (found : Option (Box SubCommand Z)) → option_map (λ b. (out-SubCommand (box_value b)).name.now) found ≡ option_map (λ p. p.0) (subcommand_rows found)
+named_in None = refl
+named_in (Some b) = refl
+
+-- the name of the subcommand that the parse met
+pub named : (m : ArgMatches) → subcommand_name_of m ≡ option_map (λ p. p.0) (subcommand_rows_of m)
+named m = named_in (out-ArgMatches m).subcommand
+
+pub refused_for : (words : List Text) (app : App) (kind : ErrorKind) (fault : ArgFault) → app ≡ kcore → (kind ≡ OutOfMemory) ⊎ IsAmong kind (fault_of app words) → HasStatus kind fault → IsRefusal words fault
+refused_for words app kind Memory same among h = tt
+refused_for words app kind (Words text status) same (inl none) h = absurd (h.0 none)
+refused_for words app kind (Words text status) same (inr among) h = (kind, rw same at among, h.1)
+
+-- what is read of the option, as a byte, is what its text says
+pub workers_read : {E : Type 0} (G : Text → Result ℕ E → Type 0) (said : Option Text) (read : Option ℕ) → ((text : Text) (r : Result ℕ E) → G text r → ParsesUnsigned 8 10 text r)
+    → (said ≡ None → read ≡ None) → ((text : Text) → said ≡ Some text → ReadsOne G text read)
+    → option_map_or in_range read 1 ≡ option_map_or (λ text. in_range (byte_or_zero text)) said 1
+workers_read {E} G None read gives none value = rw (none refl) refl
+workers_read {E} G (Some text) (Some n) gives none value = ap in_range (byte_read {E = E} text (Ok n) (gives text (Ok n) (value text refl)))
+workers_read {E} G (Some text) None gives none value = let read = value text refl in ap in_range (byte_read {E = E} text (Err read.0) (gives text (Err read.0) read.1))
+
+pub nothing_refused : (words : List Text) (app : App) → app ≡ kcore → fault_of app words ≡ [] → fault_of kcore words ≡ []
+nothing_refused words app same none = rw same at none

@@ -1,0 +1,62 @@
+-- What words ask for, and which are refused.
+use Rattle.std.specs.Prelude.{◌≡◌, ◌≢◌, ◌↔◌, ◌&&◌, false, IsTrue, ℕ, nat_le, List, [], codes, Option, Some, None, option_map, if◌then◌else◌}
+use Rattle.std.specs.Option.{option_map_or}
+use Rattle.std.specs.Borrow.{Bor}
+use Rattle.clap.specs.Words.{Text, Row, first_of, one_of, subcommand_of, fault_of, IsAmong}
+use Rattle.clap.specs.Walk.{byte_or_zero}
+use Rattle.clap.specs.declared.error.kind.ErrorKind.{ErrorKind}
+use Rattle.clap.specs.declared.error.kind.ErrorKind.TheVariants.{DisplayHelp, DisplayVersion, OutOfMemory}
+use Rattle.kc_args.specs.declared.job.Job.{Job}
+use Rattle.kc_args.specs.declared.job.Job.TheVariants.{Replay, Live, Audit}
+use Rattle.kc_args.specs.declared.job.ArgFault.{ArgFault}
+use Rattle.kc_args.specs.declared.job.ArgFault.TheVariants.{Memory, Words}
+use Rattle.kc_args.specs.Commands.{kcore}
+
+-- 1 to 64: the command's rules let no other number of workers through
+abbrev pub in_range : ℕ → ℕ
+in_range n = if nat_le 1 n && nat_le n 64 then n else 1
+
+-- the number of workers that the words say; 1 where they say none
+abbrev pub workers_in : List Row → ℕ
+workers_in rows = option_map_or (λ text. in_range (byte_or_zero text)) (one_of (codes "workers") rows) 1
+
+-- the path of the configuration, and the number of workers, are those of the rows
+abbrev pub HasOptions : List Row → Option (Bor Text) → ℕ → Type 0
+HasOptions rows config workers = (option_map (λ s. s.now) config ≡ first_of (codes "config") rows) × (workers ≡ workers_in rows)
+
+-- the flag stands among the words
+abbrev pub IsSet : Text → List Row → Type 0
+IsSet flag rows = first_of flag rows ≡ Some (codes "true")
+
+-- what the subcommand of this name asks for, by the rows of its options: there are `replay`, `live` and `audit` alone
+abbrev pub IsJobIn : Text → List Row → Job → Type 0
+IsJobIn name rows (Replay config workers dump) = (name ≢ codes "live") × (name ≢ codes "audit") × HasOptions rows config workers × (IsTrue dump ↔ IsSet (codes "dump") rows)
+IsJobIn name rows (Live config workers) = (name ≡ codes "live") × HasOptions rows config workers
+IsJobIn name rows Audit = name ≡ codes "audit"
+
+-- the same where there may be no subcommand: then it is as if `replay` stood there alone
+abbrev pub Asks : Option (Text × List Row) → Job → Type 0
+Asks None (Replay config workers dump) = HasOptions [] config workers × (dump ≡ false)
+Asks None (Live config workers) = ⊥
+Asks None Audit = ⊥
+Asks (Some found) job = IsJobIn found.0 found.1 job
+
+-- clap's rules find no fault in the words, and the job is what they hold for the program's command
+pub record IsJob (words : List Text) (job : Job) : Type 0 where
+  pub faultless : fault_of kcore words ≡ []
+  pub asked : Asks (subcommand_of kcore words) job
+
+-- 0 where the text was asked for, 2 for wrong words
+abbrev pub exit_status : ErrorKind → ℕ
+exit_status DisplayHelp = 0
+exit_status DisplayVersion = 0
+exit_status _ = 2
+
+abbrev pub HasStatus : ErrorKind → ArgFault → Type 0
+HasStatus kind Memory = Unit {0}
+HasStatus kind (Words text status) = (kind ≢ OutOfMemory) × (status ≡ exit_status kind)
+
+-- words are refused for a fault that clap's rules find in them, with its status
+abbrev pub IsRefusal : List Text → ArgFault → Type 0
+IsRefusal words Memory = Unit {0}
+IsRefusal words (Words text status) = (kind : ErrorKind) × IsAmong kind (fault_of kcore words) × (status ≡ exit_status kind)

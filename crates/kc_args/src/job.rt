@@ -1,0 +1,229 @@
+//! What the program is asked to do.
+ghost use Rattle.std.specs.Prelude.{◌≡◌, ◌↔◌, IfOk, IfErr, IsTrue, map, false, option_map, codes};
+ghost use Rattle.clap.specs.declared.builder.command.Command.TheViews.{out-Command as fields_of};
+ghost use Rattle.clap.specs.Words.{app_of, rule_of, found_of, rows_of, first_of};
+ghost use Rattle.clap.specs.Values.{kind_of};
+ghost use Rattle.kc_args.specs.Commands.{kcore, replay, live, audit, config_rule, workers_rule, dump_rule};
+ghost use Rattle.kc_args.specs.Jobs.{in_range, workers_in, IsSet, IsJob, IsJobIn, IsRefusal, HasStatus};
+
+use clap::error::ErrorKind;
+use clap::{Arg, ArgAction, ArgMatches, Command, Error};
+use std::alloc::{AllocError, Global};
+
+/// What the program is asked to do.
+#[derive(Clone, Copy, Debug, PartialEq, Eq)]
+pub enum Job<'a> {
+    /// Replay the trace on standard input, with the configuration in a file where a path is given, by 1 to 64 workers,
+    /// and write the replies, or the dump of the core that it leaves.
+    Replay {
+        config: Option<&'a str>,
+        workers: u32,
+        dump: bool,
+    },
+    /// Run the trace on standard input live, with the configuration in a file where a path is given, and replay the
+    /// history by 1 to 64 workers.
+    Live {
+        config: Option<&'a str>,
+        workers: u32,
+    },
+    /// Audit the dump on standard input.
+    Audit,
+}
+
+/// Why there is no job.
+#[derive(Debug, Drop)]
+pub enum ArgFault {
+    /// A growth of memory was refused.
+    Memory,
+    /// What is to be printed, and the exit status: 0 for help, which was asked for, and 2 for wrong words.
+    Words(String, u8),
+}
+
+impl From<AllocError> for ArgFault {
+    ghost use Rattle.kc_args.specs.declared.job.ArgFault.TheVariants.{Memory};
+
+    ghost from_gives = { λ _ made. made ≡ Memory };
+
+    fn from(_refused: AllocError) -> ArgFault {
+        ArgFault::Memory
+    }
+}
+
+fn config_arg<'a>(alloc: Global) -> Arg<'a>
+    ensures rule { rule_of result ≡ config_rule }
+    ensures local { result.global ≡ false }
+{
+    Arg::new(alloc, "config")
+        .long("config")
+        .value_name("PATH")
+        .help("A JSON text: frames, core, host, leaves and approved")
+}
+
+fn workers_arg<'a>(alloc: Global) -> Arg<'a>
+    ensures rule { rule_of result ≡ workers_rule }
+    ensures local { result.global ≡ false }
+{
+    Arg::new(alloc, "workers")
+        .long("workers")
+        .value_name("N")
+        .value_parser(clap::value_parser!(u8).range(1..=64))
+        .help(
+            "How many threads make the calls of a replay, from 1 to 64; 1 where this is not given",
+        )
+}
+
+fn dump_arg<'a>(alloc: Global) -> Arg<'a>
+    ensures rule { rule_of result ≡ dump_rule }
+    ensures local { result.global ≡ false }
+{
+    Arg::new(alloc, "dump")
+        .long("dump")
+        .action(ArgAction::SetTrue)
+        .help("Write the dump of the core that the trace leaves, in place of the replies")
+}
+
+fn replay_command<'a>(alloc: Global) -> Result<Command<'a>, AllocError>
+    ensures app { IfOk result (λ c. app_of c ≡ replay) }
+    ensures local { IfOk result (λ c. (fields_of c).has_globals ≡ false) }
+{
+    Command::new(alloc, "replay")
+        .about(
+            "Replay the trace on standard input and write the replies (what no words at all ask for)",
+        )
+        .arg(config_arg(alloc))?
+        .arg(workers_arg(alloc))?
+        .arg(dump_arg(alloc))
+}
+
+fn live_command<'a>(alloc: Global) -> Result<Command<'a>, AllocError>
+    ensures app { IfOk result (λ c. app_of c ≡ live) }
+    ensures local { IfOk result (λ c. (fields_of c).has_globals ≡ false) }
+{
+    Command::new(alloc, "live")
+        .about(
+            "Run the trace's actors in a thread each, and write their calls as they were answered",
+        )
+        .arg(config_arg(alloc))?
+        .arg(workers_arg(alloc))
+}
+
+fn audit_command<'a>(alloc: Global) -> Command<'a>
+    ensures app { app_of result ≡ audit }
+    ensures local { (fields_of result).has_globals ≡ false }
+{
+    Command::new(alloc, "audit").about(
+        "Say what is wrong with the dump on standard input; the status is 1 where something is",
+    )
+}
+
+/// The whole command.
+fn command<'a>(alloc: Global) -> Result<Command<'a>, AllocError>
+    ensures app { IfOk result (λ c. app_of c ≡ kcore) }
+{
+    let replay = replay_command(alloc)?;
+    let live = live_command(alloc)?;
+    let base = Command::new(alloc, "kcore")
+        .no_binary_name(true)
+        .about("Replay calls on the trusted core of a hypervisor")
+        .subcommand(replay)?;
+    base.subcommand(live)?.subcommand(audit_command(alloc))
+}
+
+/// What is printed in place of a job.
+fn refused(alloc: Global, error: &Error) -> ArgFault
+    ensures { HasStatus (kind_of error.now) result }
+{
+    if error.kind() == ErrorKind::OutOfMemory {
+        return ArgFault::Memory;
+    }
+    let status = if error.use_stderr() { 2 } else { 0 };
+    match error.to_string(alloc) {
+        Ok(text) => ArgFault::Words(text, status),
+        Err(_) => ArgFault::Memory,
+    }
+}
+
+/// The first text of an option, if it has one.
+fn text_in<'a>(matches: &ArgMatches<'a>, option: &str) -> Option<&'a str>
+    ensures { option_map (λ s. s.now) result ≡ first_of option.now (rows_of (found_of matches.now)) }
+{
+    matches.get_str(option)
+}
+
+/// Whether the flag stands among the words: `clap` gives it the text `true` then, and else `false`.
+fn is_set(matches: &ArgMatches<'_>, flag: &str) -> bool
+    ensures { IsTrue result ↔ IsSet flag.now (rows_of (found_of matches.now)) }
+{
+    match text_in(matches, flag) {
+        Some(text) => text == "true",
+        None => false,
+    }
+}
+
+/// The number, or 1 where the command's rules do not let it through.
+fn in_range(workers: u8) -> u32
+    ensures { result ≡ in_range workers }
+{
+    if (1..=64).contains(&workers) {
+        u32::from(workers)
+    } else {
+        1
+    }
+}
+
+/// The number of workers; 1 where the words have none.
+fn workers_in(matches: &ArgMatches<'_>) -> u32
+    ensures { result ≡ workers_in (rows_of (found_of matches.now)) }
+{
+    match matches.get_one::<u8>("workers") {
+        Some(workers) => in_range(workers),
+        None => 1,
+    }
+}
+
+fn is_named(name: &str, command: &str) -> bool
+    ensures { IsTrue result ↔ (name.now ≡ command.now) }
+{
+    name == command
+}
+
+/// What the subcommand of this name asks for.
+fn job_in<'a>(name: &str, found: &ArgMatches<'a>) -> Job<'a>
+    ensures { IsJobIn name.now (rows_of (found_of found.now)) result }
+{
+    if is_named(name, "audit") {
+        return Job::Audit;
+    }
+    let config = text_in(found, "config");
+    let workers = workers_in(found);
+    if is_named(name, "live") {
+        return Job::Live { config, workers };
+    }
+    let dump = is_set(found, "dump");
+    Job::Replay {
+        config,
+        workers,
+        dump,
+    }
+}
+
+/// What the words, without the program's name, ask for: `replay` or `live`, with or without `--config PATH` and
+/// `--workers N` with a number from 1 to 64, `replay` also with `--dump`; `audit`; and `replay` for no words at all.
+pub fn job_of<'a>(alloc: Global, words: &'a [&'a str]) -> Result<Job<'a>, ArgFault>
+    // The job is what the words say by the command's rules, and only words that break them are refused.
+    ensures job { IfOk result (IsJob (map (λ w. w.now) words.entry.now)) }
+    ensures refused { IfErr result (IsRefusal (map (λ w. w.now) words.entry.now)) }
+{
+    let matches = match command(alloc)?.try_get_matches_from(words) {
+        Ok(matches) => matches,
+        Err(error) => return Err(refused(alloc, &error)),
+    };
+    match matches.subcommand() {
+        Some((name, found)) => Ok(job_in(name, found)),
+        None => Ok(Job::Replay {
+            config: None,
+            workers: 1,
+            dump: false,
+        }),
+    }
+}

@@ -1,0 +1,32 @@
+-- What a core keeps of its parts.
+use Rattle.std.specs.Prelude.{ℕ, ◌≡◌, Bool, true, false, if◌then◌else◌, Some, None}
+use Rattle.std.specs.Option.{option_map}
+use Rattle.kc_types.specs.Configuration.{Configuration}
+use Rattle.kc_types.specs.declared.owner.Owner.{Owner}
+use Rattle.kc_types.specs.declared.owner.Owner.TheVariants.{Core, Host, Free, Vm}
+use Rattle.kc_page.specs.declared.page.Page.{Page}
+use Rattle.kc_page.specs.declared.page.PageRecord.{PageRecord}
+use Rattle.kc_model.specs.Lawful.{IsLawful}
+use Rattle.kc_parts.specs.Parts.{Held, page_at}
+use Rattle.kc_parts.specs.States.{state_of, IsLinked}
+use Rattle.kc_parts.specs.Booting.{IsWhole}
+
+-- all parts are here, linked, and those of a lawful state
+pub record IsCore (config : Configuration) (parts : Held) : Type 0 where
+  pub lawful : IsLawful (state_of config parts)
+  pub linked : IsLinked config parts
+  pub whole : IsWhole config parts
+
+-- whether the owner's frames stand in a list
+abbrev pub has_list : Owner → Bool
+has_list Core = false
+has_list Host = false
+has_list Free = true
+has_list (Vm v) = true
+
+-- the record of a page, with its neighbours where its owner has a list
+abbrev pub shown : PageRecord → PageRecord
+shown meta = record meta { prev = if has_list meta.owner then meta.prev else None; next = if has_list meta.owner then meta.next else None }
+
+abbrev pub ShowsRecord : Held → ℕ → PageRecord → Type 0
+ShowsRecord parts f meta = Some meta ≡ option_map (λ (page : Page). shown page.meta) (page_at parts f)

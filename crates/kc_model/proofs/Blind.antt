@@ -1,0 +1,4 @@
+pub mod Unseen
+pub mod Blinds
+pub mod Private
+pub mod HostBlind

@@ -1,0 +1,13 @@
+pub mod AtBoot
+pub mod Moves
+pub mod HostCalls
+pub mod SlotCalls
+pub mod GuestCalls
+pub mod RangeCalls
+pub mod HandCalls
+pub mod Clears
+pub mod Drops
+pub mod Verifies
+pub mod Keeps
+pub mod Wipes
+pub mod LawfulTraces

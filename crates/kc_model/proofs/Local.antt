@@ -1,0 +1,12 @@
+pub mod Merges
+pub mod Locals
+pub mod GuestLocals
+pub mod VerifyLocal
+pub mod Needs
+pub mod RangeLocals
+pub mod Locality
+pub mod Agreeing
+pub mod Orderly
+pub mod LinksKept
+pub mod Parts
+pub mod Spelled

@@ -1,0 +1,14 @@
+pub mod ZeroPage
+pub mod Runs
+pub mod Frames
+pub mod Lists
+pub mod Slots
+pub mod Leaves
+pub mod Configurations
+pub mod Changes
+pub mod Tables
+pub mod Pages
+pub mod Each
+pub mod Members
+pub mod Sizes
+pub mod Places

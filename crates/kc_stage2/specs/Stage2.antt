@@ -1,0 +1,37 @@
+-- A VM's table as a value: the map, the root slots that have leaves, and how many leaves there can be.
+use Rattle.std.specs.Prelude.{ℕ, ◌/◌, ◌==◌, Bool, ◌||◌, List, [], ◌∷◌, ◌++◌, length, nat_lt, if◌then◌else◌, refl}
+use Rattle.std.specs.Ordering.{nat_cmp}
+use Rattle.std.specs.Coded.{Coded, code_by, coded×, coded_list, coded_ℕ}
+use Rattle.std.specs.List.{list_any}
+use Rattle.std.specs.FinMap as map
+use Rattle.kc_types.specs.Limits.{leaf_entries}
+
+pub record Table : Type 0 where
+  pub mapped : map.FinMap nat_cmp ℕ
+  pub leaves : List ℕ
+  pub room : ℕ
+
+abbrev pub table_code : Coded Table
+table_code = code_by (map.FinMap nat_cmp ℕ × (List ℕ × ℕ)) (coded× (map.code coded_ℕ coded_ℕ) (coded× (coded_list coded_ℕ) coded_ℕ))
+    (λ t. (t.mapped, (t.leaves, t.room))) (λ p. record { mapped = p.0; leaves = p.1.0; room = p.1.1 }) (λ _. refl)
+
+abbrev pub new_table : ℕ → Table
+new_table room = record { mapped = map.empty; leaves = []; room = room }
+
+-- the root slot has a leaf
+abbrev pub has_slot : List ℕ → ℕ → Bool
+has_slot leaves slot = list_any (λ root. root == slot) leaves
+
+-- the guest frame's root slot has one
+abbrev pub has_leaf : List ℕ → ℕ → Bool
+has_leaf leaves g = has_slot leaves (g / leaf_entries)
+
+abbrev pub fits : Table → ℕ → Bool
+fits t g = has_leaf t.leaves g || nat_lt (length t.leaves) t.room
+
+-- the leaves with the root slot among them
+abbrev pub with_root_slot : List ℕ → ℕ → List ℕ
+with_root_slot leaves slot = if has_slot leaves slot then leaves else leaves ++ slot ∷ []
+
+abbrev pub with_mapping : Table → ℕ → ℕ → Table
+with_mapping t g f = record t { mapped = map.insert t.mapped g f; leaves = with_root_slot t.leaves (g / leaf_entries) }

@@ -1,0 +1,27 @@
+-- How many bytes a reply carries, and how many the reply to a call may carry.
+use Rattle.std.specs.Prelude.{ℕ, Bool, true, false, length, nat_le, if◌then◌else◌}
+use Rattle.kc_types.specs.Limits.{page_size}
+use Rattle.kc_types.specs.declared.call.Call.{Call}
+use Rattle.kc_types.specs.declared.call.Call.TheVariants.{HostRead, GuestRead}
+use Rattle.kc_types.specs.declared.reply.Reply.{Reply}
+use Rattle.kc_types.specs.declared.reply.Reply.TheVariants.{Data}
+
+-- the bytes that a reply carries
+abbrev pub bytes_in : Reply → ℕ
+bytes_in (Data bytes) = length bytes
+bytes_in _ = 0
+
+-- whether a reply is bytes
+abbrev pub is_data : Reply → Bool
+is_data (Data bytes) = true
+is_data _ = false
+
+-- the bytes of a read, which is refused where it asks for more than a page
+abbrev pub readable : ℕ → ℕ
+readable len = if nat_le len page_size then len else 0
+
+-- the most bytes that the reply to a call may carry
+abbrev pub most_reply_bytes : Call → ℕ
+most_reply_bytes (HostRead f off len) = readable len
+most_reply_bytes (GuestRead v c g off len) = readable len
+most_reply_bytes _ = 0

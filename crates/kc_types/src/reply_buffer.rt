@@ -1,0 +1,101 @@
+//! Room for a reply, made before its call.
+ghost use Rattle.std.specs.Prelude.{◌≡◌, ◌<◌, ◌≤◌, length, IfOk, IsOk};
+ghost use Rattle.kc_types.specs.Limits.{page_size};
+ghost use Rattle.kc_types.specs.ReplyBytes.{bytes_in, readable, most_reply_bytes};
+
+use crate::{Call, Data, Memory, PAGE_SIZE, Reply};
+use std::alloc::Global;
+use std::marker::Model;
+
+/// Room for the bytes of one reply, seen as how many bytes it has room for.
+#[derive(Debug, Drop)]
+pub struct ReplyBuffer {
+    room: Vec<u8>,
+}
+
+impl Model for ReplyBuffer {
+    ghost use Rattle.std.specs.Prelude.{◌≡◌, ℕ, [], vec_capacity};
+
+    ghost Value = { ℕ };
+
+    ghost view = { λ s. vec_capacity s.room };
+
+    ghost invariant = { λ s. s.room.items ≡ [] };
+}
+
+impl ReplyBuffer {
+    /// Room for no bytes, which takes no memory.
+    pub fn none(alloc: Global) -> ReplyBuffer {
+        ReplyBuffer {
+            room: Vec::new(alloc),
+        }
+    }
+
+    /// Room for this many bytes.
+    fn with_room(alloc: Global, room: usize) -> Result<ReplyBuffer, Memory>
+        // No clause can rule out want of memory: tests make room.
+        ensures { IfOk result (λ spare. room ≤ spare) }
+    {
+        Ok(ReplyBuffer {
+            room: Vec::with_capacity(alloc, room)?,
+        })
+    }
+
+    /// These 1 to 4,096 bytes in the room, which takes no memory.
+    pub fn filled(self, bytes: &[u8]) -> Data
+        requires some { 0 < length bytes.now }
+        requires page { length bytes.now ≤ page_size }
+        requires room { length bytes.now ≤ self }
+        ensures { result ≡ bytes.now }
+    {
+        let ReplyBuffer { mut room } = self;
+        room.extend_from_slice(bytes).unwrap();
+        Data::try_new(room).unwrap()
+    }
+}
+
+/// The bytes that a read of this length may answer.
+fn readable(len: u32) -> usize
+    ensures { result ≡ readable len }
+{
+    if len <= PAGE_SIZE { len as usize } else { 0 }
+}
+
+impl Call {
+    /// Room for the bytes of the call's reply, made before the call is; `Memory` where a growth was refused, which
+    /// comes for reads alone.
+    pub fn reply_buffer(&self, alloc: Global) -> Result<ReplyBuffer, Memory>
+        ensures room { IfOk result (λ spare. most_reply_bytes self.now ≤ spare) }
+        ensures none { most_reply_bytes self.now ≡ 0 → IsOk result }
+    {
+        match self {
+            Call::HostRead { len, .. } | Call::GuestRead { len, .. } => {
+                let room = readable(*len);
+                if room == 0 {
+                    Ok(ReplyBuffer::none(alloc))
+                } else {
+                    ReplyBuffer::with_room(alloc, room)
+                }
+            },
+            _ => Ok(ReplyBuffer::none(alloc)),
+        }
+    }
+}
+
+impl Reply {
+    /// A copy of the reply in room made before, which takes no memory.
+    pub fn copy_into(&self, spare: ReplyBuffer) -> Reply
+        requires { bytes_in self.now ≤ spare }
+        ensures { result ≡ self.now }
+    {
+        match self {
+            Reply::Done => Reply::Done,
+            Reply::Frame(frame) => Reply::Frame(*frame),
+            Reply::Image(image) => Reply::Image(*image),
+            Reply::Data(data) => Reply::Data(spare.filled(data.as_slice())),
+            Reply::Fault(gfn) => Reply::Fault(*gfn),
+            Reply::Rejected(image) => Reply::Rejected(*image),
+            Reply::Refused(refusal) => Reply::Refused(*refusal),
+        }
+    }
+}

@@ -1,0 +1,67 @@
+-- A VM slot as a value, what it keeps by itself, and how it changes.
+use Rattle.std.specs.Prelude.{ℕ, ◌≡◌, ◌≤◌, ◌+◌, List, [], ◌∷◌, ◌++◌, length, All, Option, slice_index_or, slice_set}
+use Rattle.kc_types.specs.Limits.{vcpu_limit, image_limit}
+use Rattle.kc_types.specs.declared.slot.Phase.{Phase}
+use Rattle.kc_types.specs.declared.slot.Phase.TheVariants.{Empty}
+use Rattle.kc_model.specs.State.{Vcpu, Image, absent_vcpu, no_vcpus, empty_slot}
+use Rattle.kc_model.specs.Lawful.{IsLawfulVcpu, IsLawfulImage, Apart}
+use Rattle.kc_model.specs.Linked.{LinkedSlot, linked_slot}
+use Rattle.kc_stage2.specs.Stage2.{Table}
+
+-- a slot with the ends of its list, and how many leaves its table can have
+pub record VmSlot : Type 0 where
+  pub slot : LinkedSlot
+  pub room : ℕ
+
+-- what a slot keeps by itself, whatever its list and its table are
+pub record IsSlot (phase : Phase) (vcpus : List Vcpu) (images : List Image) : Type 0 where
+  pub vcpu_count : length vcpus ≡ vcpu_limit
+  -- only a registered virtual processor of an active slot waits
+  pub each_vcpu : (c : ℕ) → IsLawfulVcpu phase (slice_index_or vcpus c absent_vcpu)
+  pub few_images : length images ≤ image_limit
+  pub each_image : All IsLawfulImage images
+  -- no guest frame is in two images
+  pub apart : Apart images
+  pub empty_vcpus : phase ≡ Empty → vcpus ≡ no_vcpus
+  pub empty_images : phase ≡ Empty → images ≡ []
+
+abbrev pub IsVm : VmSlot → Type 0
+IsVm vm = IsSlot vm.slot.phase vm.slot.vcpus vm.slot.images
+
+-- a slot as at boot
+abbrev pub empty_vm : ℕ → VmSlot
+empty_vm room = record { slot = linked_slot empty_slot; room = room }
+
+abbrev pub vcpu_of : LinkedSlot → ℕ → Vcpu
+vcpu_of slot c = slice_index_or slot.vcpus c absent_vcpu
+
+abbrev pub image_of : LinkedSlot → ℕ → Image
+image_of slot i = slice_index_or slot.images i (record { base = 0; len = 0; pages = 0 })
+
+-- the guest frame of the next page of an image
+abbrev pub next_gfn_of : LinkedSlot → ℕ → ℕ
+next_gfn_of slot i = (image_of slot i).base + (image_of slot i).pages
+
+abbrev pub with_phase : LinkedSlot → Phase → LinkedSlot
+with_phase slot phase = record slot { phase = phase }
+
+abbrev pub with_vcpu : LinkedSlot → ℕ → Vcpu → LinkedSlot
+with_vcpu slot c vcpu = record slot { vcpus = slice_set slot.vcpus c vcpu }
+
+abbrev pub with_fault : LinkedSlot → ℕ → Option ℕ → LinkedSlot
+with_fault slot c fault = with_vcpu slot c (record (vcpu_of slot c) { fault = fault })
+
+-- the slot with an image more, which has no pages yet
+abbrev pub with_image : LinkedSlot → ℕ → ℕ → LinkedSlot
+with_image slot base len = record slot { images = slot.images ++ record { base = base; len = len; pages = 0 } ∷ [] }
+
+-- the slot with a page more of an image
+abbrev pub with_page : LinkedSlot → ℕ → LinkedSlot
+with_page slot i = record slot { images = slice_set slot.images i (record (image_of slot i) { pages = (image_of slot i).pages + 1 }) }
+
+-- the table of the slot
+abbrev pub slot_table : VmSlot → Table
+slot_table vm = record { mapped = vm.slot.mapped; leaves = vm.slot.leaves; room = vm.room }
+
+abbrev pub with_table : VmSlot → Table → VmSlot
+with_table vm table = record { slot = record vm.slot { mapped = table.mapped; leaves = table.leaves }; room = table.room }
