@@ -1,35 +1,77 @@
 //! The host is blind: two traces that differ in a byte which a VM writes to memory that it keeps to itself.
-use crate::support::{Example, NOTHING, SMALL, dumped, hold};
+use crate::stories::{NOTHING, Story, hold, texts};
+use crate::support::{SMALL, dumped};
 use std::alloc::Global;
 use std::sync::Wait;
 use std::test::Fail;
 use std::thread::Threads;
 
 /// A VM boots, is supplied with frame 2 where it first touches memory, and writes a byte there.
-const ONE: Example = Example {
-    calls: "hfault 1\nhwrite 1 0 616263\nregvm 0\nregvcpu 0 0\nsetboot 0 0 3\nremap 0 0 1\nverify 0\ngread 0 0 7 0 1\nmap 0 0 2\ngwrite 0 0 7 0 2a\ngread 0 0 7 0 1\n",
-    replies: "done\ndone\ndone\ndone\nimage 0\ndone\ndone\nfault 7\ndone\ndone\ndata 2a\n",
+const ONE: Story = Story {
+    says: "A VM writes a byte",
+    calls: &[
+        ("hfault 1", "done"),
+        ("hwrite 1 0 616263", "done"),
+        ("regvm 0", "done"),
+        ("regvcpu 0 0", "done"),
+        ("setboot 0 0 3", "image 0"),
+        ("remap 0 0 1", "done"),
+        ("verify 0", "done"),
+        ("gread 0 0 7 0 1", "fault 7"),
+        ("map 0 0 2", "done"),
+        ("gwrite 0 0 7 0 2a", "done"),
+        ("gread 0 0 7 0 1", "data 2a"),
+    ],
+    leaves: &["frame 1 0 0 0 0 - 2", "frame 2 0 0 7 0 1 -"],
 };
 
 /// The same with another byte.
-const OTHER: Example = Example {
-    calls: "hfault 1\nhwrite 1 0 616263\nregvm 0\nregvcpu 0 0\nsetboot 0 0 3\nremap 0 0 1\nverify 0\ngread 0 0 7 0 1\nmap 0 0 2\ngwrite 0 0 7 0 2b\ngread 0 0 7 0 1\n",
-    replies: "done\ndone\ndone\ndone\nimage 0\ndone\ndone\nfault 7\ndone\ndone\ndata 2b\n",
+const OTHER: Story = Story {
+    says: "It writes another byte",
+    calls: &[
+        ("hfault 1", "done"),
+        ("hwrite 1 0 616263", "done"),
+        ("regvm 0", "done"),
+        ("regvcpu 0 0", "done"),
+        ("setboot 0 0 3", "image 0"),
+        ("remap 0 0 1", "done"),
+        ("verify 0", "done"),
+        ("gread 0 0 7 0 1", "fault 7"),
+        ("map 0 0 2", "done"),
+        ("gwrite 0 0 7 0 2b", "done"),
+        ("gread 0 0 7 0 1", "data 2b"),
+    ],
+    leaves: &["frame 1 0 0 0 0 - 2", "frame 2 0 0 7 0 1 -"],
 };
 
 /// Frame 2 in the dump of a core in which the VM has it, without its digest.
 const KEPT: &str = "frame 2 0 0 7 0 1 - ";
 
 /// The VM ends, and the host gets its frames.
-const ENDS: Example = Example {
-    calls: "clear 0\ntake\ntake\ntake\ntake\ntake\nhfault 2\nhread 2 0 1\n",
-    replies: "done\nframe 5\nframe 6\nframe 7\nframe 1\nframe 2\ndone\ndata 00\n",
+const ENDS: Story = Story {
+    says: "It ends, and the host gets its frames",
+    calls: &[
+        ("clear 0", "done"),
+        ("take", "frame 5"),
+        ("take", "frame 6"),
+        ("take", "frame 7"),
+        ("take", "frame 1"),
+        ("take", "frame 2"),
+        ("hfault 2", "done"),
+        ("hread 2 0 1", "data 00"),
+    ],
+    leaves: &["free - - 0", "vm 0 empty - - 0", "frame 2 host 0 - 1 - -"],
 };
 
 /// The VM shares another frame, and the host reads that.
-const SHARES: Example = Example {
-    calls: "grant 0 0 0\nhfault 1\nhread 1 0 3\n",
-    replies: "done\ndone\ndata 616263\n",
+const SHARES: Story = Story {
+    says: "It shares another frame, and the host reads that",
+    calls: &[
+        ("grant 0 0 0", "done"),
+        ("hfault 1", "done"),
+        ("hread 1 0 3", "data 616263"),
+    ],
+    leaves: &["frame 1 0 1 0 1 - 2", "frame 2 0 0 7 0 1 -"],
 };
 
 #[test]
@@ -43,11 +85,11 @@ fn the_host_is_answered_alike(rt: HostRuntime) {
 fn dump_after<R: Threads + Wait + Sync>(
     rt: &R,
     alloc: Global,
-    before: &Example,
-    look: &Example,
+    before: &Story,
+    look: &Story,
     workers: u32,
 ) -> Option<Vec<u8>> {
-    let trace = format!(in alloc; "kcore-trace 1\n{}{}", before.calls, look.calls).ok()?;
+    let (trace, _replies) = texts(alloc, before, look).ok()?;
     let (outcome, text) = dumped(rt, alloc, SMALL, trace.as_bytes(), workers).ok()?;
     outcome.ok()?;
     Some(text)
@@ -74,7 +116,7 @@ fn differing(one: &[u8], other: &[u8], front: &[u8]) -> Option<usize> {
 
 /// In how many digests the dumps of both traces differ behind some calls, the one made by one worker and the other by
 /// three.
-fn digests_apart<R: Threads + Wait + Sync>(rt: &R, alloc: Global, look: &Example) -> Option<usize> {
+fn digests_apart<R: Threads + Wait + Sync>(rt: &R, alloc: Global, look: &Story) -> Option<usize> {
     let one = dump_after(rt, alloc, &ONE, look, 1)?;
     let other = dump_after(rt, alloc, &OTHER, look, 3)?;
     differing(one.as_slice(), other.as_slice(), KEPT.as_bytes())

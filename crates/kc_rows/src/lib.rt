@@ -34,12 +34,10 @@ mod second_version;
 #[cfg(test)]
 mod segments;
 #[cfg(test)]
-mod slots;
+mod stories;
 #[cfg(test)]
 mod support;
 #[cfg(test)]
 mod telling;
 #[cfg(test)]
 mod traces;
-#[cfg(test)]
-mod vms;

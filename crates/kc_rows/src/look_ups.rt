@@ -2,7 +2,7 @@
 
 use crate::support::{after, answers, has_frames};
 use kc_core::KCore;
-use kc_types::{FrameNo, Owner};
+use kc_types::{FrameNo, Gfn, Owner, Phase};
 use std::process::Abort;
 
 /// A free frame is taken, and frame 2 given.
@@ -102,5 +102,41 @@ fn wiping_leaves_records(rt: HostRuntime) {
         assert!(rt; begins_with(&core, 1, b"abc\0"));
         core.wipe(&rt);
         check_wiped(&rt, &core);
+    }
+}
+
+/// A VM whose frame 1 is mapped at guest frame 0, and whose first virtual processor waits for guest frame 7.
+const WAITS: &str =
+    "hfault 1\nhwrite 1 0 616263\nregvm 0\nregvcpu 0 0\nsetboot 0 0 3\nremap 0 0 1\nverify 0\ngread 0 0 7 0 1\n";
+
+fn check_slot(rt: &impl Abort, core: &KCore) {
+    assert!(rt; core.phase(0) == Some(Phase::Active));
+    assert!(rt; core.leaves(0) == Some([0].as_slice()));
+    assert!(rt; core.fault(0, 0) == Gfn::try_new(7));
+    assert!(rt; is_number(core.lookup(0, 0), Some(1)));
+}
+
+#[test]
+fn a_slot_is_shown(rt: HostRuntime) {
+    let core = after(rt.alloc(), WAITS);
+    assert!(rt; core.is_some());
+    if let Some(core) = core {
+        check_slot(&rt, &core);
+    }
+}
+
+fn check_nothing(rt: &impl Abort, core: &KCore) {
+    assert!(rt; core.phase(15) == Some(Phase::Empty));
+    assert!(rt; core.phase(16).is_none() && core.leaves(16).is_none());
+    assert!(rt; core.fault(16, 0).is_none() && core.fault(0, 8).is_none());
+    assert!(rt; core.lookup(16, 0).is_none() && core.lookup(0, 262_144).is_none());
+}
+
+#[test]
+fn what_does_not_exist_is_not_shown(rt: HostRuntime) {
+    let core = after(rt.alloc(), "");
+    assert!(rt; core.is_some());
+    if let Some(core) = core {
+        check_nothing(&rt, &core);
     }
 }

@@ -235,11 +235,11 @@ fn holds(alloc: Global, case: &Case) -> bool {
     is_refused(alloc, before.as_str(), call.as_str(), case.3)
 }
 
-/// The number of the first case that does not hold.
-pub fn first_failure(alloc: Global, cases: &[Case]) -> Option<usize> {
-    for (number, case) in cases.iter().enumerate() {
+/// The call of the first case that does not hold.
+pub fn first_failure(alloc: Global, cases: &[Case]) -> Option<&'static str> {
+    for case in cases {
         if !holds(alloc, case) {
-            return Some(number);
+            return Some(case.2);
         }
     }
     None

@@ -1,27 +1,11 @@
 //! What the tests share.
-use crate::replays::by_workers;
-use crate::segments::in_parts;
 use kc_cli::{Mem, TextFault, audit_text, dump_text, replay_text};
 use kc_core::KCore;
 use kc_trace::read_trace;
 use kc_types::{Call, Config, Owner, Reply};
 use std::alloc::{AllocError, Global};
-use std::process::Abort;
 use std::sync::Wait;
 use std::thread::Threads;
-
-/// The calls of a trace, and the replies that they get.
-#[derive(Drop)]
-pub struct Example {
-    pub calls: &'static str,
-    pub replies: &'static str,
-}
-
-/// No calls.
-pub const NOTHING: Example = Example {
-    calls: "",
-    replies: "",
-};
 
 /// 8 frames: 0 is the core's, 1 to 4 are the host's, 5 to 7 are free.
 pub const SMALL: &str =
@@ -130,19 +114,6 @@ pub fn audited(
     Ok((outcome, out.bytes))
 }
 
-/// Whether the core that a trace leaves is dumped alike with one worker and with three, and nothing is found in its dump.
-fn leaves_no_findings(
-    rt: &(impl Threads + Wait + Sync),
-    alloc: Global,
-    config: &str,
-    trace: &[u8],
-) -> Option<bool> {
-    let (by_one, text) = dumped(rt, alloc, config, trace, 1).ok()?;
-    let (by_three, again) = dumped(rt, alloc, config, trace, 3).ok()?;
-    let (sound, _report) = audited(rt, alloc, text.as_slice()).ok()?;
-    Some(by_one == Ok(()) && by_three == Ok(()) && text == again && sound == Ok(true))
-}
-
 /// Whether the engine answers so to a configuration and a trace, and writes this.
 pub fn gives(
     rt: &(impl Threads + Wait + Sync),
@@ -155,40 +126,5 @@ pub fn gives(
     match replayed(rt, alloc, config, trace) {
         Ok((answered, written)) => answered == outcome && written.as_slice() == text,
         Err(_) => false,
-    }
-}
-
-/// Whether an example's calls, after others, get its replies after theirs, whoever makes them and however they come, and
-/// leave a core in order.
-fn holds<R: Threads + Wait + Sync>(
-    rt: &R,
-    alloc: Global,
-    config: &str,
-    before: &Example,
-    example: &Example,
-) -> Option<bool> {
-    let trace = format!(in alloc; "kcore-trace 1\n{}{}", before.calls, example.calls).ok()?;
-    let replies = format!(in alloc; "{}{}", before.replies, example.replies).ok()?;
-    let (trace, replies) = (trace.as_bytes(), replies.as_bytes());
-    let by_one = gives(rt, alloc, config, trace, Ok(()), replies);
-    let by_any = by_workers(rt, alloc, config, trace, replies)?;
-    let cut = in_parts(rt, alloc, config, trace, replies)?;
-    Some(by_one && by_any && cut && leaves_no_findings(rt, alloc, config, trace)?)
-}
-
-/// Each example's calls, after others, get its replies after theirs.
-pub fn hold(
-    rt: &(impl Abort + Threads + Wait + Sync),
-    alloc: Global,
-    config: &str,
-    before: &Example,
-    examples: &[Example],
-) {
-    for example in examples {
-        assert!(rt;
-            holds(rt, alloc, config, before, example) == Some(true),
-            "at {}",
-            example.calls
-        );
     }
 }
