@@ -1,9 +1,9 @@
 -- The answer to a call, by its refusal and its effect.
-use Rattle.std.proofs.Common.{ℕ, ◌≡◌, ◌↔◌, ◌<◌, ◌≤◌, inl, inr, None, Some, Option, IsSome, sym, ap, ◌∙◌}
+use Rattle.std.proofs.Common.{ℕ, ◌≡◌, ◌↔◌, ◌<◌, ◌≤◌, inl, inr, None, Some, Option, IsSome, Result, Ok, Err, IfOk, OnOk, OnErr, refl, sym, ap, ◌∙◌}
 use Rattle.std.proofs.lemmas.Bool.{cases_lt}
 use Rattle.kc_types.specs.Configuration.{Configuration}
 use Rattle.kc_types.specs.declared.call.Call.{Call}
-use Rattle.kc_types.specs.declared.call.Call.TheVariants.{Take, Give, HostFault, HostRead, HostWrite, RegisterVm, RegisterVcpu, SetBoot, Remap, Verify, Map, GuestRead, GuestWrite, Grant, Revoke, GrantRange, RevokeRange, Drop, Clear}
+use Rattle.kc_types.specs.declared.memory.Memory.{Memory}
 use Rattle.kc_types.specs.declared.refusal.Refusal.{Refusal}
 use Rattle.kc_types.specs.declared.reply.Reply.{Reply}
 use Rattle.kc_types.specs.declared.reply.Reply.TheVariants as reply
@@ -16,8 +16,7 @@ use Rattle.kc_links.specs.Ending.{listed}
 use Rattle.kc_parts.specs.Parts.{Held, vm_at, with_vm, links_of}
 use Rattle.kc_parts.specs.States.{state_of, unlinked_slot, IsLinked}
 use Rattle.kc_parts.proofs.SlotChanges.{vm-same, state-vm, linked-vm}
-use Rattle.kc_refusals.specs.LookUps.{looked_up}
-use Rattle.kc_calls.specs.Applying.{IsAnswer}
+use Rattle.kc_calls.specs.Applying.{IsAnswer, KeepsPlaces}
 use Rattle.kc_calls.proofs.Frames.{room-same, room-vm}
 
 -- a call by its refusal
@@ -25,53 +24,45 @@ next-by : (m : State) (call : Call) (why : Option Refusal) → refusal m call �
 unfolding next
 next-by m call why is = ap (λ why. unless_refused why m call) is
 
--- a refusal that is looked up is the call's
-looked-refusal : (m : State) (call : Call) (why : Refusal) → looked_up m call ≡ Some why → refusal m call ≡ Some why
-looked-refusal m Take why is = is
-looked-refusal m (Give a) why is = is
-looked-refusal m (HostFault a) why is = is
-looked-refusal m (HostRead a b d) why is = is
-looked-refusal m (HostWrite a b d) why is = is
-looked-refusal m (RegisterVm a) why is = cc
-looked-refusal m (RegisterVcpu a b) why is = cc
-looked-refusal m (SetBoot a b d) why is = cc
-looked-refusal m (Remap a b d) why is = is
-looked-refusal m (Verify a) why is = is
-looked-refusal m (Map a b d) why is = is
-looked-refusal m (GuestRead a b d e f) why is = is
-looked-refusal m (GuestWrite a b d e f) why is = is
-looked-refusal m (Grant a b d) why is = is
-looked-refusal m (Revoke a b d) why is = is
-looked-refusal m (GrantRange a b d e) why is = is
-looked-refusal m (RevokeRange a b d e) why is = is
-looked-refusal m (Drop a b d) why is = is
-looked-refusal m (Clear a) why is = is
-
-pub answer-refused : (config : Configuration) (h : Held) (call : Call) (why : Refusal) → IsLinked config h → refusal (state_of config h) call ≡ Some why → IsAnswer config h h call (reply.Refused why)
-answer-refused config h call why linked is =
-    let by = next-by (state_of config h) call (Some why) is in
+-- a call that is refused, and leaves what is seen as it was
+pub answer-kept : (config : Configuration) (old new : Held) (call : Call) (why : Refusal) → refusal (state_of config old) call ≡ Some why → state_of config new ≡ state_of config old → IsLinked config new → KeepsPlaces old new
+    → IsAnswer config old new call (reply.Refused why)
+answer-kept config old new call why is same linked room =
+    let by = next-by (state_of config old) call (Some why) is in
     record {
       reply = sym (ap (λ (o : Outcome). o.0) by);
-      state = sym (ap (λ (o : Outcome). o.1) by);
+      state = same ∙ sym (ap (λ (o : Outcome). o.1) by);
       linked = linked;
-      room = room-same h;
+      room = room;
     }
 
-pub answer-looked_up : (config : Configuration) (h : Held) (call : Call) (why : Refusal) → IsLinked config h → looked_up (state_of config h) call ≡ Some why → IsAnswer config h h call (reply.Refused why)
-answer-looked_up config h call why linked is = answer-refused config h call why linked (looked-refusal (state_of config h) call why is)
+pub answer-refused : (config : Configuration) (h : Held) (call : Call) (why : Refusal) → IsLinked config h → refusal (state_of config h) call ≡ Some why → IsAnswer config h h call (reply.Refused why)
+answer-refused config h call why linked is = answer-kept config h h call why is refl linked (room-same h)
+
+-- a call that is served
+pub answer-served : (config : Configuration) (old new : Held) (call : Call) (reply : Reply) → refusal (state_of config old) call ≡ None → reply ≡ (effect (state_of config old) call).0 → state_of config new ≡ (effect (state_of config old) call).1
+    → IsLinked config new → KeepsPlaces old new → IsAnswer config old new call reply
+answer-served config old new call reply served replied left linked room =
+    let by = next-by (state_of config old) call None served in
+    record {
+      reply = replied ∙ sym (ap (λ (o : Outcome). o.0) by);
+      state = left ∙ sym (ap (λ (o : Outcome). o.1) by);
+      linked = linked;
+      room = room;
+    }
+
+-- what a call promises where it may also want memory, and then leaves everything as it was
+pub answer-parts : (config : Configuration) (old new : Held) (call : Call) (result : Result Reply Memory) → IsLinked config old → IfOk result (IsAnswer config old new call) → OnErr result (new ≡ old)
+    → IfOk result (λ reply. reply ≡ (next (state_of config old) call).0) × OnOk result (state_of config new ≡ (next (state_of config old) call).1) × IsLinked config new × KeepsPlaces old new
+answer-parts config old new call (Ok reply) linked answer same = (answer.reply, answer.state, answer.linked, answer.room)
+answer-parts config old new call (Err memory) linked answer same = (tt, tt, rw same linked, rw same (room-same old))
 
 -- a call that changes a slot alone, and not the ends of its list
 pub answer-slot : (config : Configuration) (h : Held) (v : ℕ) (vm new : VmSlot) (call : Call) (reply : Reply) → IsLinked config h → vm_at h v ≡ Some vm → new.slot.ends ≡ vm.slot.ends → new.room ≡ vm.room
     → refusal (state_of config h) call ≡ None → effect (state_of config h) call ≡ (reply, with_slot (state_of config h) v (unlinked_slot new.slot (listed (links_of h) new.slot.ends)))
     → IsAnswer config h (with_vm h v new) call reply
 answer-slot config h v vm new call reply linked at ends room served does =
-    let by = next-by (state_of config h) call None served ∙ does in
-    record {
-      reply = sym (ap (λ (o : Outcome). o.0) by);
-      state = state-vm config h v vm new at ∙ sym (ap (λ (o : Outcome). o.1) by);
-      linked = linked-vm config h v vm new linked at ends room;
-      room = room-vm h v vm new at;
-    }
+    answer-served config h (with_vm h v new) call reply served (sym (ap (λ (o : Outcome). o.0) does)) (state-vm config h v vm new at ∙ sym (ap (λ (o : Outcome). o.1) does)) (linked-vm config h v vm new linked at ends room) (room-vm h v vm new at)
 
 -- a call that the slot refuses
 pub answer-slot_refused : (config : Configuration) (h : Held) (v : ℕ) (vm new : VmSlot) (call : Call) (why : Refusal) → IsLinked config h → vm_at h v ≡ Some vm → new ≡ vm

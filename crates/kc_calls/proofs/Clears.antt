@@ -16,7 +16,7 @@ use Rattle.kc_parts.specs.Parts.{Held, vm_at, links_of}
 use Rattle.kc_parts.specs.States.{list_in, state_of, owner_at, free_of, listed_frames, IsLinked, IsFreeMove}
 use Rattle.kc_parts.specs.Emptying.{IsEmptied}
 use Rattle.kc_parts.proofs.SlotLists.{frames-here, ends-here, slot-owned}
-use Rattle.kc_refusals.proofs.Looked.{slot-is}
+use Rattle.kc_parts.proofs.Looked.{slot-is}
 use Rattle.kc_model.proofs.Refusals.Served.{none-of}
 
 pub clear-served : (m : State) (v : ℕ) → refusal m (Clear v) ≡ None → v < slot_count m.config

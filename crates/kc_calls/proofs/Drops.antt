@@ -23,7 +23,7 @@ use Rattle.kc_parts.proofs.SlotChanges.{vm-set, state-vm, linked-vm}
 use Rattle.kc_parts.proofs.SlotLists.{frames-here, slot-owned}
 use Rattle.kc_calls.specs.Applying.{KeepsPlaces}
 use Rattle.kc_calls.proofs.Frames.{changed, room-vm, room-slot_move, room-through, owned-near}
-use Rattle.kc_refusals.proofs.Looked.{slot-is}
+use Rattle.kc_parts.proofs.Looked.{slot-is}
 
 -- a page becomes free, and its frame the last of the free ones
 pub state-freed : (config : Configuration) (old new : Held) (f : ℕ) (page freed_page : Page) → f < config.frames → page_at old f ≡ Some page → link_of freed_page ≡ link_of page
@@ -99,7 +99,3 @@ module _ (config : Configuration) (old : Held) (v g f : ℕ) (vm : VmSlot) (tabl
   near-unlinked mid move =
       let mine : owner_at unmapped f ≡ Vm v = slot-owned unmapped v unmapped_vm linked-unmapped.lists vm-unmapped f (rw frames-unmapped at inside-unmapped) in
       owned-near mid v f (move.owners f ∙ mine) (move.here (resource.Vm v) ∙ ap is_some vm-unmapped)
-
--- the frame that the slot's table has is the state's
-pub mapped-is : (config : Configuration) (h : Held) (v g : ℕ) (vm : VmSlot) → v < slot_count config → vm_at h v ≡ Some vm → map.get vm.slot.mapped g ≡ mapped_at (state_of config h) v g
-mapped-is config h v g vm low at = ap (λ (slot : Slot). map.get slot.mapped g) (sym (slot-is config h v vm low at))

@@ -1,14 +1,13 @@
 -- A frame of parts that is here, and its change.
-use Rattle.std.proofs.Common.{ℕ, ◌≡◌, ◌<◌, inl, inr, true, false, ◌∷◌, Option, Some, None, is_some, is_none, IsSome, MutBor, Bor, refl, sym, ap, ◌∙◌, arith}
+use Rattle.std.proofs.Common.{ℕ, ◌≡◌, ◌<◌, inl, inr, true, false, ◌∷◌, Option, Some, None, is_some, is_none, refl, sym, ap, ◌∙◌, arith}
 use Rattle.std.proofs.lemmas.Bool.{cases_eq}
-use Rattle.std.specs.Option.{option_copied, option_copied_mut}
 use Rattle.kc_types.specs.Configuration.{Configuration}
 use Rattle.kc_types.specs.declared.link.Ends.{Ends}
 use Rattle.kc_types.specs.declared.owner.Owner.{Owner}
 use Rattle.kc_types.specs.declared.owner.Owner.TheVariants.{Core, Host, Free, Vm}
 use Rattle.kc_types.specs.declared.resource.Resource.{Resource}
 use Rattle.kc_types.specs.declared.resource.Resource.TheVariants as resource
-use Rattle.kc_model.specs.State.{Frame, frame_at, with_frame, untouched}
+use Rattle.kc_model.specs.State.{Frame, frame_at, with_frame}
 use Rattle.kc_model.specs.Lawful.{times_in}
 use Rattle.kc_page.specs.declared.page.Page.{Page}
 use Rattle.kc_page.specs.Page.{frame_of}
@@ -23,25 +22,6 @@ use Rattle.kc_parts.proofs.Pages.{page-set, page-other, links-kept}
 use Rattle.kc_parts.proofs.Seen.{frame-seen, state-page, here-page}
 use Rattle.kc_parts.proofs.SlotChanges.{here-vm}
 use Rattle.kc_calls.specs.Applying.{KeepsPlaces}
-
--- what is lent is there where its value is
-pub some-lent : {X : Type 0} (r : Option (MutBor X)) (there : Option X) → option_copied_mut r ≡ there → is_some there ≡ true → IsSome r
-some-lent None None is some = cc
-some-lent None (Some x) is some = cc
-some-lent (Some r) there is some = refl
-
-pub some-shown : {X : Type 0} (r : Option (Bor X)) (there : Option X) → option_copied r ≡ there → is_some there ≡ true → IsSome r
-some-shown None None is some = cc
-some-shown None (Some x) is some = cc
-some-shown (Some r) there is some = refl
-
--- a frame that is not as it would be if it were not here is here
-pub there : (config : Configuration) (h : Held) (f : ℕ) → f < config.frames → (frame_at (state_of config h) f ≡ untouched Core → ⊥) → is_some (page_at h f) ≡ true
-there config h f low touched = by_page (page_at h f) refl
-  where
-    by_page : (at : Option Page) → page_at h f ≡ at → is_some at ≡ true
-    by_page None e = absurd (touched (frame-seen config h f low ∙ ap frame_in e))
-    by_page (Some page) e = refl
 
 pub frame-is : (config : Configuration) (h : Held) (f : ℕ) (page : Page) → f < config.frames → page_at h f ≡ Some page → frame_at (state_of config h) f ≡ frame_of page
 frame-is config h f page low at = frame-seen config h f low ∙ ap frame_in at
@@ -109,6 +89,10 @@ room-through old mid new first second = record {
       let two = second.away f (ap (lacks_list mid) one.0 ∙ lacks-same old mid first.here (owner_at old f) ∙ away) in
       (two.0 ∙ one.0, two.1 ∙ one.1);
 }
+
+-- who owns a frame is seen
+pub host-owner : (config : Configuration) (h : Held) (f : ℕ) → f < config.frames → (frame_at (state_of config h) f).owner ≡ Host → owner_at h f ≡ Host
+host-owner config h f low host = sym (ap (λ (frame : Frame). frame.owner) (frame-seen config h f low)) ∙ host
 
 -- a frame of the host's is in no list, so in none that is elsewhere
 pub host-near : (h : Held) (f : ℕ) → owner_at h f ≡ Host → is_away h f ≡ false

@@ -6,10 +6,10 @@ use Rattle.std.proofs.lemmas.Bool.{not-false}
 use Rattle.kc_types.specs.Configuration.{Configuration, slot_count}
 use Rattle.kc_types.specs.declared.owner.Owner.TheVariants.{Host, Vm}
 use Rattle.kc_model.specs.State.{State, Frame, Slot, Image, frame_at, slot_at, mapped_at, with_frame, with_slot}
-use Rattle.kc_model.specs.Refusals.{refusal, bad_vm, bad_frame, not_host, tables_full, next_gfn, conditions}
+use Rattle.kc_model.specs.Refusals.{refusal, bad_vm, bad_frame, not_host, tables_full, next_gfn, pending, conditions}
 use Rattle.kc_types.specs.declared.refusal.Refusal.TheVariants.{TablesFull}
-use Rattle.kc_types.specs.declared.call.Call.TheVariants.{Remap}
-use Rattle.kc_model.specs.Linked.{LinkedSlot, linked_slot}
+use Rattle.kc_types.specs.declared.call.Call.TheVariants.{Remap, Map}
+use Rattle.kc_model.specs.Linked.{linked_slot}
 use Rattle.kc_model.proofs.Refusals.Served.{when-none, none-of}
 use Rattle.kc_model.proofs.States.Changes.{slot-here}
 use Rattle.kc_model.specs.Effects.{effect, hand, with_leaf}
@@ -18,23 +18,21 @@ use Rattle.kc_page.specs.Page.{frame_of}
 use Rattle.kc_stage2.specs.Stage2.{Table, with_mapping, fits}
 use Rattle.kc_stage2.specs.Faults.{map_fault, Answers}
 use Rattle.kc_stage2.specs.declared.table.MapFault.{MapFault}
-use Rattle.kc_vms.specs.Vm.{VmSlot, slot_table, with_table, with_page, next_gfn_of}
-use Rattle.kc_types.specs.declared.refusal.Refusal.{Refusal}
+use Rattle.kc_vms.specs.Vm.{VmSlot, slot_table, with_table, with_page}
 use Rattle.kc_vms.specs.Refusals.{next_page_refusal}
-use Rattle.kc_vms.specs.Refusals as refusals
 use Rattle.kc_vms.proofs.Rows.{refusal-remap}
 use Rattle.kc_links.specs.Ending.{listed}
 use Rattle.kc_parts.specs.Parts.{Held, page_at, vm_at, links_of, link_of, with_vm}
 use Rattle.kc_parts.specs.Parts as held
 use Rattle.kc_parts.specs.States.{frame_in, state_of, unlinked_slot, owner_at, listed_frames, IsLinked, IsLoose, IsSlotMove}
 use Rattle.kc_parts.proofs.Pages.{page-set, links-kept}
-use Rattle.kc_parts.proofs.Seen.{frame-seen, state-page, linked-moved}
+use Rattle.kc_parts.proofs.Seen.{state-page, linked-moved}
 use Rattle.kc_parts.proofs.SlotChanges.{vm-set, state-vm, linked-vm}
 use Rattle.kc_parts.proofs.SlotLists.{frames-here}
 use Rattle.kc_calls.specs.Applying.{KeepsPlaces}
 use Rattle.kc_calls.proofs.Frames.{frame-is, room-page, room-vm, room-slot_move, room-through, host-near}
 use Rattle.kc_calls.proofs.Hosts.{loose-host, loose-page}
-use Rattle.kc_refusals.proofs.Looked.{fits-seen, slot-is}
+use Rattle.kc_parts.proofs.Looked.{fits-seen, slot-is}
 
 -- the table takes the guest frame
 pub map-fits : (m : State) (v g : ℕ) (vm : VmSlot) (frames : List ℕ) → slot_at m v ≡ unlinked_slot vm.slot frames → vm.room ≡ m.config.leaves → mapped_at m v g ≡ None → tables_full m v g ≡ None → map_fault (slot_table vm) g ≡ None
@@ -114,29 +112,17 @@ module _ (config : Configuration) (old : Held) (v g f : ℕ) (vm : VmSlot) (tabl
   pub room-handed : (new : Held) → IsSlotMove v owned new → KeepsPlaces old new
   room-handed new move = room-through old owned new (room-through old mapped owned (room-vm old v vm mapped_vm is.at_vm) (room-page mapped f page new_page is.at is.same (λ away. let near = host-near mapped f is.host in let no = sym near ∙ away in cc))) (room-slot_move v owned new move)
 
--- an answer without a refusal
-pub answers-ok : {X : Type 0} (answer : Result X Refusal) (why : Option Refusal) → why ≡ None → refusals.Answers answer why → IsOk answer
-answers-ok (Ok x) why none is = refl
-answers-ok (Err e) why none is = let no = rw none at is in cc
-
 -- the frame of a served `remap` may become the slot's
 pub remap-fits : (m : State) (v i f : ℕ) → refusal m (Remap v i f) ≡ None → tables_full m v (next_gfn m v i) ≡ None
 remap-fits m v i f served = none-of (conditions m (Remap v i f)) served 7
+
+pub map-fitting : (m : State) (v c f : ℕ) → refusal m (Map v c f) ≡ None → tables_full m v (pending m v c) ≡ None
+map-fitting m v c f served = none-of (conditions m (Map v c f)) served 9
 
 -- and the image has a next page
 pub remap-page : (m : State) (v i f : ℕ) → refusal m (Remap v i f) ≡ None → next_page_refusal (linked_slot (slot_at m v)) i ≡ None
 remap-page m v i f served =
     none-of (bad_vm m v ∷ bad_frame m f ∷ next_page_refusal (linked_slot (slot_at m v)) i ∷ not_host m f ∷ tables_full m v (next_gfn m v i) ∷ []) (sym (refusal-remap m v i f) ∙ served) 2
-
-pub host-owner : (config : Configuration) (h : Held) (f : ℕ) → f < config.frames → (frame_at (state_of config h) f).owner ≡ Host → owner_at h f ≡ Host
-host-owner config h f low host = sym (ap (λ (frame : Frame). frame.owner) (frame-seen config h f low)) ∙ host
-
--- a slot's own look at its next page
-pub next_page-slot : (slot : LinkedSlot) (there : Slot) (frames : List ℕ) (i : ℕ) → there ≡ unlinked_slot slot frames → next_page_refusal slot i ≡ next_page_refusal (linked_slot there) i
-next_page-slot slot there frames i is = rw is refl
-
-pub next_gfn-slot : (slot : LinkedSlot) (m : State) (v i : ℕ) (frames : List ℕ) → slot_at m v ≡ unlinked_slot slot frames → next_gfn_of slot i ≡ next_gfn m v i
-next_gfn-slot slot m v i frames is = rw is refl
 
 -- after the hand the slot is as before, but for the frame
 module _ (config : Configuration) (old new : Held) (v g f : ℕ) (vm : VmSlot) (state : state_of config new ≡ hand (state_of config old) v g f) (low : v < length (state_of config old).slots) (low' : v < slot_count config) (at : vm_at new v ≡ Some vm) where

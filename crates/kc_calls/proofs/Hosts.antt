@@ -1,15 +1,18 @@
 -- The host's calls on parts.
-use Rattle.std.proofs.Common.{ℕ, zero, suc, ◌≡◌, ◌<◌, inl, inr, false, [], ◌∷◌, ◌++◌, Some, None, refl, sym, ap, ◌∙◌, arith}
+use Rattle.std.proofs.Common.{ℕ, zero, suc, ◌≡◌, ◌<◌, false, length, List, [], ◌∷◌, ◌++◌, Some, None, refl, sym, ap, ◌∙◌, arith}
+use Rattle.std.proofs.lemmas.Bool.{ne_eqb}
 use Rattle.kc_types.specs.Configuration.{Configuration}
 use Rattle.kc_types.specs.declared.link.Ends.{Ends}
 use Rattle.kc_types.specs.declared.owner.Owner.{Owner}
 use Rattle.kc_types.specs.declared.owner.Owner.TheVariants.{Core, Host, Free, Vm}
-use Rattle.kc_types.specs.declared.call.Call.TheVariants.{Take, Give, HostFault, HostRead}
-use Rattle.kc_model.specs.State.{State, Frame, frame_at, with_frame, untouched, zero_page}
+use Rattle.kc_types.specs.declared.call.Call.TheVariants.{Take, Give}
+use Rattle.kc_types.specs.declared.reply.Reply.TheVariants as reply
+use Rattle.kc_types.specs.declared.refusal.Refusal.TheVariants.{NoFree}
+use Rattle.kc_model.specs.State.{State, frame_at, with_frame, zero_page}
 use Rattle.kc_model.specs.Lawful.{times_in}
 use Rattle.kc_model.specs.Refusals.{refusal, conditions}
 use Rattle.kc_model.specs.Effects.{effect, host_takes, given}
-use Rattle.kc_model.proofs.Refusals.Served.{host_fault-served, host_access-served, none-of}
+use Rattle.kc_model.proofs.Refusals.Served.{none-of}
 use Rattle.kc_model.proofs.Refusals.Answered.{frame-in, was-host}
 use Rattle.kc_page.specs.declared.page.Page.{Page}
 use Rattle.kc_page.specs.Page.{frame_of}
@@ -25,19 +28,6 @@ pub give-served : (m : State) (f : ℕ) → refusal m (Give f) ≡ None → (f <
 give-served m f served =
     let none = none-of (conditions m (Give f)) served in
     (frame-in m f (none 0), was-host m f (none 1))
-
--- what is given, mapped or read is not untouched
-pub give-touched : (m : State) (f : ℕ) → refusal m (Give f) ≡ None → frame_at m f ≡ untouched Core → ⊥
-give-touched m f served is = let host = sym (give-served m f served).1 ∙ ap (λ (frame : Frame). frame.owner) is in cc
-
-pub fault-touched : (m : State) (f : ℕ) → refusal m (HostFault f) ≡ None → frame_at m f ≡ untouched Core → ⊥
-fault-touched m f served is = elim (host_fault-served m f served).1 [
-  | inl host ↦ let core = sym host ∙ ap (λ (frame : Frame). frame.owner) is in cc
-  | inr shared ↦ let none : (frame_at m f).share ≡ 0 = ap (λ (frame : Frame). frame.share) is in omega (arith, shared, none)
-]
-
-pub access-touched : (m : State) (f off len : ℕ) → refusal m (HostRead f off len) ≡ None → frame_at m f ≡ untouched Core → ⊥
-access-touched m f off len served is = let absent = sym (host_access-served m f off len served).present ∙ ap (λ (frame : Frame). frame.present) is in cc
 
 -- the host's frames are in no list
 pub loose-host : (config : Configuration) (h : Held) (f : ℕ) → IsLinked config h → owner_at h f ≡ Host → IsLoose h f
@@ -55,6 +45,17 @@ loose-host config h f linked host = record {
     by_count : (owner : Owner) (ends : Ends) → ends_at h owner ≡ Some ends → (n : ℕ) → times_in (listed (links_of h) ends) f ≡ n → n ≡ 0
     by_count owner ends is zero e = refl
     by_count owner ends is (suc n) e = absurd (no_ends owner ends (sym (linked.lists.owned owner ends f is (rw e (omega arith))) ∙ host) is)
+
+-- no frame is free
+pub take-none : (config : Configuration) (h : Held) → free_of h ≡ [] → refusal (state_of config h) Take ≡ Some NoFree
+take-none config h none = rw none refl
+
+pub state-none : (config : Configuration) (old new : Held) → IsFreeMove old new → free_of old ≡ [] → free_of new ≡ [] → state_of config new ≡ state_of config old
+state-none config old new move before after = move.state config ∙ ap (λ fs. record (state_of config old) { free = fs }) (after ∙ sym before)
+
+-- one is
+pub take-some : (config : Configuration) (h : Held) (f : ℕ) (rest : List ℕ) → free_of h ≡ f ∷ rest → (refusal (state_of config h) Take ≡ None) × (reply.Frame f ≡ (effect (state_of config h) Take).0)
+take-some config h f rest first = (rw (first, ne_eqb (suc (length rest)) 0 (λ e. omega (arith, e))) refl, ap (λ fs. (host_takes (state_of config h) fs).0) (sym first))
 
 -- the first free frame is the host's
 pub state-taken : (config : Configuration) (old mid : Held) (f : ℕ) (page new : Page) → IsFreeMove old mid → free_of old ≡ f ∷ free_of mid → f < config.frames → page_at mid f ≡ Some page → link_of new ≡ link_of page

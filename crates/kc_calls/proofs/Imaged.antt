@@ -24,7 +24,7 @@ use Rattle.kc_links.specs.Chain.{Links}
 use Rattle.kc_calls.specs.Applying.{KeepsPlaces, IsAble}
 use Rattle.kc_calls.specs.Verifying.{mapped_in, page_under, bytes_under, bytes_of_image, IsImageHere}
 use Rattle.kc_calls.proofs.Frames.{changed}
-use Rattle.kc_refusals.proofs.Looked.{slot-is}
+use Rattle.kc_parts.proofs.Looked.{slot-is}
 use Rattle.kc_calls.proofs.Needed.{slot-needed, mapped-needed}
 
 -- where a guest frame leads, in a slot that is here

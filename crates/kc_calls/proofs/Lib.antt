@@ -6,6 +6,7 @@ pub mod Hands
 pub mod Hosts
 pub mod Guests
 pub mod Verifying
+pub mod Booted
 pub mod Measuring
 pub mod Imaged
 pub mod FirstFailing

@@ -1,5 +1,5 @@
 -- Granting and revoking on parts, one guest frame after another.
-use Rattle.std.proofs.Common.{ℕ, suc, ◌≡◌, ◌<◌, ◌≤◌, ◌+◌, inl, inr, true, nat_le, None, Some, List, [], ◌∷◌, get_or, set, is_some, ap, subst, ◌∙◌, arith, get_or-set_other}
+use Rattle.std.proofs.Common.{ℕ, suc, ◌≡◌, ◌<◌, ◌≤◌, ◌+◌, inl, inr, true, nat_le, None, Some, List, [], ◌∷◌, get_or, set, is_some, sym, ap, subst, ◌∙◌, arith, get_or-set_other}
 use Rattle.std.proofs.lemmas.Bool.{cases_eq, leb-false}
 use Rattle.std.specs.List.{range_with_len}
 use Rattle.std.specs.FinMap as map
@@ -8,7 +8,7 @@ use Rattle.kc_types.specs.declared.call.Call.{Call}
 use Rattle.kc_types.specs.declared.call.Call.TheVariants.{GrantRange}
 use Rattle.kc_types.specs.declared.owner.Owner.TheVariants.{Core}
 use Rattle.kc_types.specs.declared.resource.Resource.TheVariants as resource
-use Rattle.kc_model.specs.State.{State, Frame, Slot, frame_at, mapped_at, untouched, empty_slot}
+use Rattle.kc_model.specs.State.{State, Frame, Slot, frame_at, mapped_at, with_frame, untouched, empty_slot}
 use Rattle.kc_model.specs.Refusals.{refusal, backing, share_at}
 use Rattle.kc_model.specs.Effects.{with_each, granted}
 use Rattle.kc_model.specs.Resources.{slot_of}
@@ -19,26 +19,23 @@ use Rattle.kc_model.proofs.Safe.Measured.{set-here}
 use Rattle.kc_parts.specs.Parts.{Held, page_at}
 use Rattle.kc_parts.specs.States.{state_of}
 use Rattle.kc_calls.specs.Applying.{IsAble, KeepsPlaces}
-use Rattle.kc_calls.specs.Sharing.{IsPageUnder}
 use Rattle.kc_calls.proofs.Needed.{mapped-needed}
 
--- the frame at a guest frame is the one that was found
-pub found-here : (config : Configuration) (h : Held) (v g f : ℕ) → IsPageUnder config h v g → mapped_at (state_of config h) v g ≡ Some f → is_some (page_at h f) ≡ true
-found-here config h v g f is found =
-    let were = is.mapped in
-    let same : is.frame ≡ f = cc in
-    subst (λ x. is_some (page_at h x) ≡ true) same is.here
+-- one frame that is changed, as the frame at its guest frame
+pub each-one : (change : Frame → Frame) (m : State) (v g f : ℕ) → mapped_at m v g ≡ Some f → with_frame m f (change (frame_at m f)) ≡ with_each m v (g ∷ []) change
+each-one change m v g f mapped = ap (λ at. with_frame m (backing at) (change (frame_at m (backing at)))) (sym mapped)
 
--- the guest frame is mapped to a page that is here, also after calls that leave the slots and the places as they are
-pub page-under : (config : Configuration) (old now : Held) (call : Call) (v g : ℕ) → IsAble config old call → slot_of call ≡ Some v → v < slot_count config → mapped_at (state_of config old) v g ≡ Some (backing (mapped_at (state_of config old) v g))
-    → (state_of config now).slots ≡ (state_of config old).slots → KeepsPlaces old now → IsPageUnder config now v g
-page-under config old now call v g able names low mapped slots room =
-    let f = backing (mapped_at (state_of config old) v g) in
-    record {
-      frame = f;
-      mapped = ap (λ (slots : List Slot). map.get (get_or slots v empty_slot).mapped g) slots ∙ mapped;
-      here = room.here (resource.Frame f) ∙ mapped-needed config old call able v g f names low mapped;
-    }
+-- calls that leave the slots as they are leave what is mapped
+pub mapped-still : (m now : State) (v g : ℕ) → now.slots ≡ m.slots → mapped_at m v g ≡ Some (backing (mapped_at m v g)) → mapped_at now v g ≡ Some (backing (mapped_at m v g))
+mapped-still m now v g slots mapped = ap (λ (slots : List Slot). map.get (get_or slots v empty_slot).mapped g) slots ∙ mapped
+
+-- and its page, which is here, where the places stay too
+pub page-still : (config : Configuration) (old now : Held) (call : Call) (v g f : ℕ) → IsAble config old call → slot_of call ≡ Some v → v < slot_count config → mapped_at (state_of config old) v g ≡ Some (backing (mapped_at (state_of config old) v g))
+    → mapped_at (state_of config now) v g ≡ Some (backing (mapped_at (state_of config old) v g)) → KeepsPlaces old now → mapped_at (state_of config now) v g ≡ Some f → is_some (page_at now f) ≡ true
+page-still config old now call v g f able names low mapped still room found =
+    let b : ℕ = backing (mapped_at (state_of config old) v g) in
+    let same : b ≡ f = cc in
+    subst (λ x. is_some (page_at now x) ≡ true) same (room.here (resource.Frame b) ∙ mapped-needed config old call able v g b names low mapped)
 
 -- one guest frame of the range is done
 pub one-done : (change : Frame → Frame) (m new goal : State) (v g n left : ℕ) → n ≡ suc left → new ≡ with_each m v (g ∷ []) change → with_each m v (range_with_len g n) change ≡ goal → with_each new v (range_with_len (g + 1) left) change ≡ goal

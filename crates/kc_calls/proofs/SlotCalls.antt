@@ -17,7 +17,7 @@ use Rattle.kc_vms.specs.Vm.{VmSlot, with_phase, with_vcpu, with_image}
 use Rattle.kc_parts.specs.Parts.{Held, vm_at, with_vm}
 use Rattle.kc_parts.specs.States.{state_of, unlinked_slot, IsLinked}
 use Rattle.kc_calls.specs.Applying.{IsAnswer}
-use Rattle.kc_refusals.proofs.Looked.{slot-is}
+use Rattle.kc_parts.proofs.Looked.{slot-is}
 use Rattle.kc_calls.proofs.Answered.{answer-slot}
 
 pub vm-fits : (m : State) (v : ℕ) → v < slot_count m.config → bad_vm m v ≡ None

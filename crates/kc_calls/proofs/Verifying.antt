@@ -13,7 +13,7 @@ use Rattle.kc_vms.specs.Vm.{VmSlot}
 use Rattle.kc_parts.specs.Parts.{Held, vm_at, with_vm}
 use Rattle.kc_parts.specs.States.{state_of, IsLinked}
 use Rattle.kc_parts.proofs.SlotChanges.{state-vm, linked-vm}
-use Rattle.kc_refusals.proofs.Looked.{slot-is}
+use Rattle.kc_parts.proofs.Looked.{slot-is}
 
 -- a slot that is here boots where the state says so
 pub booting-here : (config : Configuration) (h : Held) (v : ℕ) (vm : VmSlot) → refusal (state_of config h) (Verify v) ≡ None → vm_at h v ≡ Some vm → vm.slot.phase ≡ Booting

@@ -1,11 +1,9 @@
 -- What a call does with parts, beside what the rules say.
-use Rattle.std.specs.Prelude.{ℕ, ◌≡◌, true, is_some, if◌then◌else◌}
-use Rattle.kc_types.specs.ReplyBytes.{readable, most_reply_bytes}
+use Rattle.std.specs.Prelude.{ℕ, ◌≡◌, true}
 use Rattle.kc_types.specs.declared.call.Call.{Call}
-use Rattle.kc_types.specs.declared.call.Call.TheVariants.{GuestRead}
 use Rattle.kc_types.specs.declared.reply.Reply.{Reply}
 use Rattle.kc_types.specs.Configuration.{Configuration}
-use Rattle.kc_model.specs.State.{State, mapped_at}
+use Rattle.kc_model.specs.State.{State}
 use Rattle.kc_model.specs.Lawful.{IsLawful}
 use Rattle.kc_model.specs.Ranged.{IsRanged}
 use Rattle.kc_model.specs.Next.{next}
@@ -21,11 +19,6 @@ pub record KeepsPlaces (old new : Held) : Type 0 where
   pub filled : new.here ≡ old.here
   pub here : (r : Resource) → here_of new r ≡ here_of old r
   pub away : (f : ℕ) → is_away old f ≡ true → (owner_at new f ≡ owner_at old f) × (links_of new f ≡ links_of old f)
-
--- the most bytes that the reply carries to a call that is served: a guest frame that is not mapped answers none
-abbrev pub reply_bytes_for : State → Call → ℕ
-reply_bytes_for m (GuestRead v c g off len) = if is_some (mapped_at m v g) then readable len else 0
-reply_bytes_for m call = most_reply_bytes call
 
 -- parts on which a call can be made: as orderly as those of a lawful state, with all that the call needs here
 pub record IsAble (config : Configuration) (h : Held) (call : Call) : Type 0 where

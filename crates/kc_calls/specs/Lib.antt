@@ -1,3 +1,4 @@
 pub mod Applying
 pub mod Verifying
-pub mod Sharing
+pub mod Guests
+pub mod Hands

@@ -8,6 +8,7 @@ mod guest;
 mod hand;
 mod host;
 pub mod laws;
+mod ranges;
 mod shares;
 mod slots;
 mod verify;

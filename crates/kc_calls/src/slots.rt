@@ -14,7 +14,7 @@ pub fn register_vm(parts: &mut Parts, config: &Config, vm: u32) -> Reply
     let Some(vm) = config.vm(vm) else {
         return Reply::Refused(Refusal::BadVm);
     };
-    let slot = parts.vm_mut(vm).unwrap();
+    let slot = parts.slot_mut(vm);
     match slot.register() {
         Ok(()) => Reply::Done,
         Err(refusal) => Reply::Refused(refusal),
@@ -32,7 +32,7 @@ pub fn register_vcpu(parts: &mut Parts, config: &Config, vm: u32, vcpu: u32) -> 
     let Some(vcpu) = VcpuId::try_new(vcpu) else {
         return Reply::Refused(Refusal::BadVcpu);
     };
-    let slot = parts.vm_mut(vm).unwrap();
+    let slot = parts.slot_mut(vm);
     match slot.add_vcpu(vcpu) {
         Ok(()) => Reply::Done,
         Err(refusal) => Reply::Refused(refusal),
@@ -53,7 +53,7 @@ pub fn set_boot(parts: &mut Parts, config: &Config, vm: u32, base: u32, len: u32
     if len == 0 || len > IMAGE_SIZE_LIMIT {
         return Reply::Refused(Refusal::BadRange);
     }
-    let slot = parts.vm_mut(vm).unwrap();
+    let slot = parts.slot_mut(vm);
     match slot.add_image(base, len) {
         Ok(image) => Reply::Image(image),
         Err(refusal) => Reply::Refused(refusal),

@@ -1,5 +1,6 @@
 //! Verifying a VM: its boot images are measured, and it becomes active or dead.
-ghost use Rattle.std.specs.Prelude.{◌≡◌, ◌+◌, ◌<◌, ◌↔◌, All, IsTrue, Some, None, true, is_some, length, map};
+ghost use Rattle.std.specs.Prelude.{◌≡◌, ◌+◌, ◌<◌, ◌↔◌, ◌||◌, ◌==◌, All, IsTrue, IfOk, Some, None, true, is_some, length, map};
+ghost use Rattle.std.specs.List.{list_any};
 ghost use Rattle.std.specs.FinMap as finite;
 ghost use Rattle.sha2.specs.Sha256.{sha256};
 ghost use Rattle.kc_types.specs.Limits.{gfn_limit, page_size};
@@ -7,11 +8,12 @@ ghost use Rattle.kc_types.specs.Configuration.{slot_count};
 ghost use Rattle.kc_types.specs.declared.call.Call.TheVariants.{Verify};
 ghost use Rattle.kc_model.specs.State.{slot_at};
 ghost use Rattle.kc_model.specs.Lawful.{IsLawfulImage};
-ghost use Rattle.kc_model.specs.Refusals.{refusal, backing, pages_of};
+ghost use Rattle.kc_model.specs.Refusals.{refusal, backing, pages_of, is_short};
 ghost use Rattle.kc_model.specs.Effects.{effect, is_approved, first_failing, trimmed, all_trimmed};
+ghost use Rattle.kc_vms.specs.Refusals.{Answers};
 ghost use Rattle.kc_parts.specs.Parts.{vm_at};
 ghost use Rattle.kc_parts.specs.States.{state_of, IsLinked};
-ghost use Rattle.kc_calls.specs.Applying.{KeepsPlaces, IsAble};
+ghost use Rattle.kc_calls.specs.Applying.{IsAble, IsAnswer, KeepsPlaces};
 ghost use Rattle.kc_calls.specs.Verifying.{mapped_in, page_under, bytes_under, bytes_of_image, is_approved_digest, AreFourAlike, IsImageHere};
 
 use kc_digests::MeasureFour;
@@ -19,7 +21,8 @@ use kc_image::{Approved, Measure, pages_of};
 use kc_page::Page;
 use kc_parts::Parts;
 use kc_stage2::Stage2;
-use kc_types::{Config, FrameNo, Gfn, Image, PAGE_SIZE, Reply, VmId};
+use kc_types::{Config, FrameNo, Gfn, Image, PAGE_SIZE, Phase, Refusal, Reply, VmId};
+use kc_vms::Vm;
 
 /// The frame at a mapped guest frame.
 fn frame_under(table: &Stage2, gfn: u32) -> FrameNo
@@ -38,8 +41,7 @@ fn page_under<'a>(parts: &'a Parts, table: &Stage2, gfn: u32) -> &'a Page
     requires here { is_some (page_under parts.now (finite.get table.now.mapped) gfn) ≡ true }
     ensures { page_under parts.now (finite.get table.now.mapped) gfn ≡ Some result.now }
 {
-    let frame = frame_under(table, gfn);
-    parts.frame(frame).unwrap()
+    parts.page(frame_under(table, gfn))
 }
 
 /// The bytes of a page of an image, by its number from the image's first page on.
@@ -118,7 +120,7 @@ fn is_approved_image(parts: &Parts, config: &Config, vm: VmId, image: &Image) ->
     requires here { IsImageHere parts.now (mapped_in (vm_at parts.now vm)) image.now }
     ensures { result ≡ is_approved (state_of config.now parts.now) vm image.now }
 {
-    let slot = parts.vm(vm).unwrap();
+    let slot = parts.slot(vm);
     let digest = digest_of(parts, slot.table(), image);
     Approved::new(config.approved()).is_approved(&digest)
 }
@@ -151,7 +153,7 @@ fn first_unapproved(parts: &Parts, config: &Config, vm: VmId) -> Option<u32>
     requires here { All (IsImageHere parts.now (mapped_in (vm_at parts.now vm))) (slot_at (state_of config.now parts.now) vm).images }
     ensures { result ≡ first_failing (is_approved (state_of config.now parts.now) vm) (slot_at (state_of config.now parts.now) vm).images }
 {
-    let slot = parts.vm(vm).unwrap();
+    let slot = parts.slot(vm);
     let images = slot.images();
     if are_four_alike(images) {
         return first_unapproved_digest(config, &digests_of_four(parts, slot.table(), images));
@@ -175,9 +177,9 @@ fn trim_image(parts: &mut Parts, config: &Config, vm: VmId, image: &Image)
     ensures room { KeepsPlaces parts.old parts.new }
     ensures slots { parts.new.vms ≡ parts.old.vms }
 {
-    let slot = parts.vm(vm).unwrap();
+    let slot = parts.slot(vm);
     let frame = frame_under(slot.table(), image.base + (pages_of(image.len) - 1));
-    let page = parts.frame_mut(frame).unwrap();
+    let page = parts.page_mut(frame);
     let used = (image.len - 1) % PAGE_SIZE + 1;
     page.bytes.zero_from(used as usize);
 }
@@ -193,15 +195,61 @@ fn trim_images(parts: &mut Parts, config: &Config, vm: VmId)
     ensures room { KeepsPlaces parts.old parts.new }
     ensures slots { parts.new.vms ≡ parts.old.vms }
 {
-    let count = parts.vm(vm).unwrap().images().len();
+    let count = parts.slot(vm).images().len();
     for i in 0..count {
-        let image = parts.vm(vm).unwrap().images()[i];
+        let image = parts.slot(vm).images()[i];
         trim_image(parts, config, vm, &image);
     }
 }
 
-/// The slot becomes active if all its images are approved, and dead if one is not.
-pub fn verify(parts: &mut Parts, config: &Config, vm: u32) -> Reply
+/// Whether the image lacks a page.
+fn is_short(image: &Image) -> bool
+    ensures { result ≡ is_short image.now }
+{
+    image.pages < pages_of(image.len)
+}
+
+/// Whether one of the images lacks a page.
+fn any_is_short(images: &[Image]) -> bool
+    ensures { result ≡ list_any is_short images.now }
+{
+    images.iter().any(|image| is_short(image))
+}
+
+/// Whether a slot has no image, or one that lacks a page.
+fn lacks_pages(slot: &Vm) -> bool
+    ensures { result ≡ (length slot.now.slot.images == 0 || list_any is_short slot.now.slot.images) }
+{
+    let images = slot.images();
+    images.is_empty() || any_is_short(images)
+}
+
+/// The slot of this number, which is booting and has all pages of its images. A slot that is not here counts as
+/// empty.
+fn booted_slot(parts: &Parts, config: &Config, vm: u32) -> Result<VmId, Refusal>
+    ensures answer { Answers result (refusal (state_of config.now parts.now) (Verify vm)) }
+    ensures slot { IfOk result (λ slot. slot ≡ vm) }
+{
+    let Some(vm) = config.vm(vm) else {
+        return Err(Refusal::BadVm);
+    };
+    let Some(slot) = parts.vm(vm) else {
+        return Err(Refusal::NoVm);
+    };
+    match slot.phase() {
+        Phase::Empty => Err(Refusal::NoVm),
+        Phase::Booting => if lacks_pages(slot) {
+            Err(Refusal::ImageShort)
+        } else {
+            Ok(vm)
+        },
+        Phase::Active | Phase::Dead => Err(Refusal::WrongPhase),
+    }
+}
+
+/// Measures the images of a slot, which is booting and has all their pages: it becomes active if all are approved,
+/// and dead if one is not.
+fn measure_slot(parts: &mut Parts, config: &Config, vm: VmId) -> Reply
     requires served { refusal (state_of config.now parts.old) (Verify vm) ≡ None }
     requires able { IsAble config.now parts.old (Verify vm) }
     ensures reply { result ≡ (effect (state_of config.now parts.old) (Verify vm)).0 }
@@ -209,12 +257,22 @@ pub fn verify(parts: &mut Parts, config: &Config, vm: u32) -> Reply
     ensures linked { IsLinked config.now parts.new }
     ensures room { KeepsPlaces parts.old parts.new }
 {
-    let vm = config.vm(vm).unwrap();
     if let Some(image) = first_unapproved(parts, config, vm) {
-        parts.vm_mut(vm).unwrap().kill();
+        parts.slot_mut(vm).kill();
         return Reply::Rejected(image);
     }
     trim_images(parts, config, vm);
-    parts.vm_mut(vm).unwrap().activate();
+    parts.slot_mut(vm).activate();
     Reply::Done
+}
+
+/// The slot becomes active if all its images are approved, and dead if one is not.
+pub fn verify(parts: &mut Parts, config: &Config, vm: u32) -> Reply
+    requires { IsAble config.now parts.old (Verify vm) }
+    ensures { IsAnswer config.now parts.old parts.new (Verify vm) result }
+{
+    match booted_slot(parts, config, vm) {
+        Ok(vm) => measure_slot(parts, config, vm),
+        Err(refusal) => Reply::Refused(refusal),
+    }
 }

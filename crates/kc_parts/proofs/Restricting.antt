@@ -1,8 +1,8 @@
 -- Parts that are a state's are linked, and are seen as what is cut from it.
-use Rattle.std.proofs.Common.{ℕ, zero, suc, ◌≡◌, ◌≢◌, ◌<◌, ◌≤◌, ◌+◌, ◌⊎◌, inl, inr, Bool, true, false, cond, eq-eqb, List, [], ◌∷◌, length, map, get_or, Option, Some, None, is_some, refl, sym, ap, ◌∙◌, subst, arith}
+use Rattle.std.proofs.Common.{ℕ, zero, suc, ◌≡◌, ◌<◌, ◌≤◌, ◌+◌, Bool, true, false, cond, List, [], ◌∷◌, length, map, get_or, Option, Some, None, is_some, refl, sym, ap, ◌∙◌, subst, arith}
 use Rattle.std.specs.List.{range_with_len}
 use Rattle.std.specs.Option.{option_map}
-use Rattle.std.proofs.lemmas.Bool.{cases_eq, ne_eqb, lt-ltb, ltb-true}
+use Rattle.std.proofs.lemmas.Bool.{lt-ltb, ltb-true}
 use Rattle.std.proofs.lemmas.Option.{same_Some}
 use Rattle.kc_types.specs.Limits.{frame_limit}
 use Rattle.kc_model.proofs.States.Configurations.{few-frames}
@@ -13,17 +13,17 @@ use Rattle.kc_types.specs.declared.owner.Owner.{Owner}
 use Rattle.kc_types.specs.declared.owner.Owner.TheVariants.{Core, Host, Free, Vm}
 use Rattle.kc_types.specs.declared.resource.Resource.TheVariants as resource
 use Rattle.kc_model.specs.State.{State, Frame, frame_at, slot_at, empty_slot, untouched}
-use Rattle.kc_model.specs.Lawful.{IsLawful, same_owner, times_in}
+use Rattle.kc_model.specs.Lawful.{IsLawful, same_owner}
 use Rattle.kc_model.specs.Resources.{Resource, Resources, is_in, pick}
 use Rattle.kc_model.specs.Local.{cut}
-use Rattle.kc_model.specs.Links.{link_after, link_in, list_of, first_of}
-use Rattle.kc_model.specs.Linked.{LinkedPart, LinkedSlot, frame_and_link, slot_and_ends, free_ends, linked_part_of, linked_slot, ends_of, last_of}
-use Rattle.kc_model.proofs.States.Members.{IsOnce, once-rest, held-times_in}
+use Rattle.kc_model.specs.Links.{link_in, list_of}
+use Rattle.kc_model.specs.Linked.{LinkedPart, LinkedSlot, frame_and_link, slot_and_ends, free_ends, linked_part_of, linked_slot, ends_of}
+use Rattle.kc_model.proofs.States.Members.{IsOnce, held-times_in}
 use Rattle.kc_model.proofs.Local.Orderly.{owned-is}
 use Rattle.kc_page.specs.declared.page.Page.{Page}
 use Rattle.kc_page.specs.Page.{frame_of}
 use Rattle.kc_vms.specs.Vm.{VmSlot}
-use Rattle.kc_links.specs.Chain.{Links, IsLinked as IsLinkedFrom, first_or, last_or, unlinked}
+use Rattle.kc_links.specs.Chain.{unlinked}
 use Rattle.kc_links.specs.Ending.{listed, IsList, Chain}
 use Rattle.kc_links.proofs.Chains.{chain-listed, chain-is_list}
 use Rattle.kc_links.proofs.Neighbours.{chain-each}

@@ -15,6 +15,10 @@ use Rattle.kc_parts.specs.contracts.slots.VmSlots.{the_row as slots_row}
 abbrev pub LendsPage : MutBor Held → ℕ → Option (MutBor Page) → Fml
 LendsPage parts f page = LendsIf the_row page_row parts page (with_page parts.now f) parts.now
 
+-- the same of a page that is here
+abbrev pub LendsPageHere : MutBor Held → ℕ → MutBor Page → Fml
+LendsPageHere parts f page = Lends the_row page_row parts page (with_page parts.now f)
+
 -- the slots end with the slot that is left behind the reference
 abbrev pub LendsSlot : MutBor HeldSlots → ℕ → Option (MutBor VmSlot) → Fml
 LendsSlot slots v vm = LendsIf slots_row vm_row slots vm (with_held_slot slots.now v) slots.now
@@ -22,6 +26,10 @@ LendsSlot slots v vm = LendsIf slots_row vm_row slots vm (with_held_slot slots.n
 -- the parts end with the slot that is left behind the reference
 abbrev pub LendsVm : MutBor Held → ℕ → Option (MutBor VmSlot) → Fml
 LendsVm parts v vm = LendsIf the_row vm_row parts vm (with_vm parts.now v) parts.now
+
+-- the same of a slot that is here
+abbrev pub LendsVmHere : MutBor Held → ℕ → MutBor VmSlot → Fml
+LendsVmHere parts v vm = Lends the_row vm_row parts vm (with_vm parts.now v)
 
 -- the parts end with the ends that are left behind the reference
 abbrev pub LendsFree : MutBor Held → Option (MutBor Ends) → Fml

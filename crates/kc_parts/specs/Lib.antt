@@ -7,3 +7,4 @@ pub mod Cuts
 pub mod Moves
 pub mod Emptying
 pub mod Restricted
+pub mod LookUps

@@ -6,6 +6,7 @@ mod boot;
 mod emptying;
 mod links;
 mod lists;
+mod look_ups;
 mod parts;
 mod place;
 mod room;

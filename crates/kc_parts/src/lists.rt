@@ -27,7 +27,7 @@ impl Parts {
     pub fn pop_free(&mut self) -> Option<FrameNo>
         requires here { IsSome self.old.free }
         requires lists { AreLists (links_of self.old) (ends_at self.old) (owner_at self.old) }
-        ensures frames { MatchOption result (free_of self.old ≡ []) (λ frame. free_of self.old ≡ frame ∷ free_of self.new) }
+        ensures frames { MatchOption result ((free_of self.old ≡ []) × (free_of self.new ≡ [])) (λ frame. free_of self.old ≡ frame ∷ free_of self.new) }
         ensures loose { IfSome result (IsLoose self.new) }
         ensures rest { IsFreeMove self.old self.new }
     {

@@ -52,7 +52,7 @@ impl Parts {
     ghost use Rattle.kc_parts.specs.Parts.{IsHeld, blank_page, place_in, page_at, held_slot, vm_at};
     ghost use Rattle.kc_parts.specs.States.{state_of, IsLinked};
     ghost use Rattle.kc_parts.specs.Booting.{IsWhole};
-    ghost use Rattle.kc_parts.specs.Lending.{LendsPage, LendsVm, LendsFree, LendsPages};
+    ghost use Rattle.kc_parts.specs.Lending.{LendsPage, LendsPageHere, LendsVm, LendsVmHere, LendsFree, LendsPages};
     ghost use Rattle.kc_parts.specs.Cuts.{AreHere, IsSplit, AreSlotsFor, FitsInto, IsJoin, IsFull, held_at, is_wanted};
     ghost use Rattle.kc_parts.specs.Moves.{IsWrite, IsLifted, IsLaid, IsEmptyPlace, AreMoved, WithSlots, only_at, page_among};
 
@@ -106,6 +106,23 @@ impl Parts {
         self.pages.get_mut(at)
     }
 
+    /// The page of a frame that is here.
+    pub fn page(&self, frame: FrameNo) -> &Page
+        requires { IsSome (page_at self.now frame) }
+        ensures { page_at self.now frame ≡ Some result.now }
+    {
+        self.frame(frame).unwrap()
+    }
+
+    /// The page of a frame that is here, for writing.
+    pub fn page_mut(&mut self, frame: FrameNo) -> &mut Page
+        requires { IsSome (page_at self.old frame) }
+        ensures value { page_at self.old frame ≡ Some result.now }
+        ensures* writes_back { sem 𝓛 (LendsPageHere self.entry frame result) }
+    {
+        self.frame_mut(frame).unwrap()
+    }
+
     /// A VM slot; `None` where it is not here.
     pub fn vm(&self, vm: VmId) -> Option<&Vm>
         ensures { option_copied result ≡ vm_at self.now vm }
@@ -119,6 +136,23 @@ impl Parts {
         ensures* writes_back { sem 𝓛 (LendsVm self.entry vm result) }
     {
         self.vms.get_mut(vm)
+    }
+
+    /// A VM slot that is here.
+    pub fn slot(&self, vm: VmId) -> &Vm
+        requires { IsSome (vm_at self.now vm) }
+        ensures { vm_at self.now vm ≡ Some result.now }
+    {
+        self.vm(vm).unwrap()
+    }
+
+    /// A VM slot that is here, for writing.
+    pub fn slot_mut(&mut self, vm: VmId) -> &mut Vm
+        requires { IsSome (vm_at self.old vm) }
+        ensures value { vm_at self.old vm ≡ Some result.now }
+        ensures* writes_back { sem 𝓛 (LendsVmHere self.entry vm result) }
+    {
+        self.vm_mut(vm).unwrap()
     }
 
     /// The ends of the free list; `None` where they are not here.

@@ -31,14 +31,15 @@ impl ReplyBuffer {
         }
     }
 
-    /// Room for this many bytes.
-    fn with_room(alloc: Global, room: usize) -> Result<ReplyBuffer, Memory>
-        // No clause can rule out want of memory: tests make room.
-        ensures { IfOk result (λ spare. room ≤ spare) }
+    /// The room, grown to this many bytes where it has less; `Memory` where that growth was refused.
+    pub fn at_least(self, len: usize) -> Result<ReplyBuffer, Memory>
+        // No clause can rule out want of memory: tests make reads.
+        ensures enough { IfOk result (λ spare. len ≤ spare) }
+        ensures none { len ≤ self → IsOk result }
     {
-        Ok(ReplyBuffer {
-            room: Vec::with_capacity(alloc, room)?,
-        })
+        let ReplyBuffer { mut room } = self;
+        room.reserve_exact(len)?;
+        Ok(ReplyBuffer { room })
     }
 
     /// These 1 to 4,096 bytes in the room, which takes no memory.
@@ -70,12 +71,7 @@ impl Call {
     {
         match self {
             Call::HostRead { len, .. } | Call::GuestRead { len, .. } => {
-                let room = readable(*len);
-                if room == 0 {
-                    Ok(ReplyBuffer::none(alloc))
-                } else {
-                    ReplyBuffer::with_room(alloc, room)
-                }
+                ReplyBuffer::none(alloc).at_least(readable(*len))
             },
             _ => Ok(ReplyBuffer::none(alloc)),
         }

@@ -1,9 +1,10 @@
-use Rattle.std.proofs.Common.{sym, ◌∙◌}
-use Rattle.kc_calls.proofs.Answered.{answer-looked_up}
+use Rattle.kc_calls.specs.Applying.{IsAnswer}
 use Rattle.kc_calls.proofs.dispatch.answer.Goals as goal
 
-pub returns-in-Some-clause-reply : goal.returns-in-Some-clause-reply
-returns-in-Some-clause-reply c = (answer-looked_up c.args.config.now c.args.parts.now c.args.call.now c.in-Some.refusal c.requires.able.linked (sym c.refusal.ensures ∙ c.in-Some.is)).reply
+pub unwrap-requires : goal.unwrap-requires
+unwrap-requires c = c.answer_in.ensures.fits c.requires.fits
 
-pub returns-in-Some-clause-state : goal.returns-in-Some-clause-state
-returns-in-Some-clause-state c = (answer-looked_up c.args.config.now c.args.parts.now c.args.call.now c.in-Some.refusal c.requires.able.linked (sym c.refusal.ensures ∙ c.in-Some.is)).state
+pub returns : goal.returns
+returns c =
+    let is : IsAnswer c.args.config.now c.args.parts.now c.answer_in.new.parts c.args.call.now c.unwrap.result = rw c.unwrap.ensures at c.answer_in.ensures.answer in
+    record { reply = is.reply; state = is.state; linked = is.linked; room = is.room }

@@ -1,9 +1,8 @@
-use Rattle.std.proofs.Common.{sym, ◌∙◌}
-use Rattle.kc_calls.proofs.Answered.{answer-looked_up}
+use Rattle.kc_calls.proofs.Answered.{answer-parts}
 use Rattle.kc_calls.proofs.dispatch.apply.Goals as goal
 
-pub returns-in-Some-clause-reply : goal.returns-in-Some-clause-reply
-returns-in-Some-clause-reply c = (answer-looked_up c.args.config.now c.args.parts.now c.args.call.now c.in-Some.refusal c.requires.linked (sym c.refusal.ensures ∙ c.in-Some.is)).reply
-
-pub returns-in-Some-clause-state : goal.returns-in-Some-clause-state
-returns-in-Some-clause-state c = (answer-looked_up c.args.config.now c.args.parts.now c.args.call.now c.in-Some.refusal c.requires.linked (sym c.refusal.ensures ∙ c.in-Some.is)).state
+pub returns : goal.returns
+returns c =
+    let made = c.answer_in.ensures in
+    let is = answer-parts c.args.config.now c.args.parts.now c.answer_in.new.parts c.args.call.now c.answer_in.result c.requires.linked made.answer made.err in
+    record { reply = is.0; state = is.1; linked = is.2; room = is.3; err = made.err; memory = made.memory }

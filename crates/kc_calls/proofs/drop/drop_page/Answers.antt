@@ -1,89 +1,80 @@
-use Rattle.std.proofs.Common.{◌≡◌, Some, is_some, refl, sym, ap, ◌∙◌}
-use Rattle.std.specs.FinMap as map
+use Rattle.std.proofs.Common.{◌≡◌, Some, None, is_some, refl, ap, ◌∙◌}
 use Rattle.kc_types.specs.declared.resource.Resource.TheVariants as resource
 use Rattle.kc_types.specs.declared.call.Call.TheVariants.{Drop}
+use Rattle.kc_types.specs.declared.reply.Reply.TheVariants as reply
 use Rattle.kc_model.specs.State.{mapped_at}
+use Rattle.kc_model.specs.Refusals.{refusal}
 use Rattle.kc_model.proofs.Lawful.GuestCalls.{IsMappedCall, guest_frame-served}
-use Rattle.kc_stage2.specs.Stage2.{Table}
-use Rattle.kc_parts.specs.Parts.{vm_at}
 use Rattle.kc_parts.specs.States.{state_of}
 use Rattle.kc_parts.proofs.SlotChanges.{vm-set}
 use Rattle.kc_calls.specs.Applying.{IsAble}
-use Rattle.kc_calls.proofs.Frames.{some-lent, room-through}
-use Rattle.kc_calls.proofs.Needed.{slot-needed}
-use Rattle.kc_calls.proofs.Drops.{IsUnmapping, linked-unmapped, inside-unmapped, state-dropped, room-unlinked, mapped-is, near-unlinked}
+use Rattle.kc_calls.proofs.Frames.{room-through}
+use Rattle.kc_calls.proofs.Needed.{slot-needed, mapped-needed}
+use Rattle.kc_calls.proofs.Answered.{answer-refused, answer-served}
+use Rattle.kc_calls.proofs.Drops.{IsUnmapping, linked-unmapped, inside-unmapped, state-dropped, room-unlinked, near-unlinked}
 use Rattle.kc_calls.proofs.drop.drop_page.Goals as goal
-use Rattle.kc_calls.proofs.drop.drop_page.Goals.{After-unwrap-gfn, After-unwrap-slot, After-unmap, After-unwrap-frame}
+use Rattle.kc_calls.proofs.drop.drop_page.Goals.{In-Ok, After-unmap}
 
-is_vm : (c : After-unwrap-gfn) → c.unwrap-vm.result ≡ c.args.vm
-is_vm c = rw c.unwrap-vm.ensures at c.vm.ensures.value
+able : (c : In-Ok) → IsAble c.args.config.now c.args.parts.now (Drop c.in-Ok.found.vm c.args.vcpu c.in-Ok.found.gfn)
+able c = rw (c.in-Ok.ensures.mapped.vm, c.in-Ok.ensures.mapped.gfn) c.requires
 
-is_gfn : (c : After-unwrap-gfn) → c.unwrap-gfn.result ≡ c.args.gfn
-is_gfn c = rw c.unwrap-gfn.ensures at c.try_new.ensures.value
+served : (c : In-Ok) → refusal (state_of c.args.config.now c.args.parts.now) (Drop c.in-Ok.found.vm c.args.vcpu c.in-Ok.found.gfn) ≡ None
+served c = rw (c.in-Ok.ensures.mapped.vm, c.in-Ok.ensures.mapped.gfn) c.in-Ok.ensures.answer
 
-able : (c : After-unwrap-gfn) → IsAble c.args.config.now c.args.parts.now (Drop c.unwrap-vm.result c.args.vcpu c.unwrap-gfn.result)
-able c = rw (is_vm c, is_gfn c) c.requires.able
+seen : (c : In-Ok) → IsMappedCall (state_of c.args.config.now c.args.parts.now) c.in-Ok.found.vm c.args.vcpu c.in-Ok.found.gfn
+seen c = (guest_frame-served _ _ _ _ _ (served c)).0
 
-seen : (c : After-unwrap-gfn) → IsMappedCall (state_of c.args.config.now c.args.parts.now) c.unwrap-vm.result c.args.vcpu c.unwrap-gfn.result
-seen c = rw (is_vm c, is_gfn c) (guest_frame-served _ _ _ _ _ c.requires.served).0
+mapped : (c : In-Ok) → mapped_at (state_of c.args.config.now c.args.parts.now) c.in-Ok.found.vm c.in-Ok.found.gfn ≡ Some c.in-Ok.found.frame
+mapped c = rw (c.in-Ok.ensures.mapped.vm, c.in-Ok.ensures.mapped.gfn) c.in-Ok.ensures.mapped.mapped
 
-at : (c : After-unwrap-slot) → vm_at c.args.parts.now c.unwrap-vm.result ≡ Some c.unwrap-slot.result.now
-at c = sym (rw c.unwrap-slot.ensures at c.vm_mut.ensures.value)
-
--- what the table had is what the state maps
-is_mapped : (c : After-unmap) → c.unmap.result ≡ mapped_at (state_of c.args.config.now c.args.parts.now) c.unwrap-vm.result c.unwrap-gfn.result
-is_mapped c =
-    let k = goal.at.After-unmap c in
-    c.unmap.ensures.value ∙ ap (λ (t : Table). map.get t.mapped c.unwrap-gfn.result) c.table_mut.ensures.value ∙ mapped-is c.args.config.now c.args.parts.now _ _ _ (seen k.After-unwrap-gfn).call.vm (at k.After-unwrap-slot)
-
-unmapping : (c : After-unwrap-frame) → IsUnmapping c.args.config.now c.args.parts.now c.unwrap-vm.result c.unwrap-gfn.result c.unwrap-frame.result c.unwrap-slot.result.now c.unmap.new.self
+unmapping : (c : After-unmap) → IsUnmapping c.args.config.now c.args.parts.now c.in-Ok.found.vm c.in-Ok.found.gfn c.in-Ok.found.frame c.slot_mut-slot.result.now c.unmap.new.self
 unmapping c =
-    let k = goal.at.After-unwrap-frame c in
+    let k = (goal.at.After-unmap c).In-Ok in
     record {
-      orderly = (able k.After-unwrap-gfn).orderly;
-      linked = (able k.After-unwrap-gfn).linked;
-      low = (seen k.After-unwrap-gfn).call.vm;
-      at = at k.After-unwrap-slot;
-      mapped = sym (is_mapped k.After-unmap) ∙ c.unwrap-frame.ensures;
+      orderly = c.requires.orderly;
+      linked = c.requires.linked;
+      low = (seen k).call.vm;
+      at = c.slot_mut-slot.ensures.value;
+      mapped = mapped k;
       is_left = rw c.table_mut.ensures.value at c.unmap.ensures.table;
     }
 
-pub unwrap-slot-requires : goal.unwrap-slot-requires
-unwrap-slot-requires c =
-    let k = (goal.at.unwrap-slot-requires c).After-unwrap-gfn in
-    some-lent _ _ c.vm_mut.ensures.value (slot-needed _ _ _ (able k) c.unwrap-vm.result refl (seen k).call.vm)
-
-pub unwrap-frame-requires : goal.unwrap-frame-requires
-unwrap-frame-requires c =
-    let k = goal.at.unwrap-frame-requires c in
-    rw (is_mapped k.After-unmap) (rw (seen k.After-unwrap-gfn).mapped refl)
+pub slot_mut-slot-requires : goal.slot_mut-slot-requires
+slot_mut-slot-requires c = let k = (goal.at.slot_mut-slot-requires c).In-Ok in slot-needed _ _ _ (able k) c.in-Ok.found.vm refl (seen k).call.vm
 
 pub unlink_vm-requires-clause-here : goal.unlink_vm-requires-clause-here
-unlink_vm-requires-clause-here c = ap is_some (vm-set c.args.parts.now c.unwrap-vm.result c.unwrap-slot.result.now _ (at (goal.at.unlink_vm-requires-clause-here c).After-unwrap-slot))
+unlink_vm-requires-clause-here c = ap is_some (vm-set c.args.parts.now c.in-Ok.found.vm c.slot_mut-slot.result.now _ c.slot_mut-slot.ensures.value)
 
 pub unlink_vm-requires-clause-lists : goal.unlink_vm-requires-clause-lists
-unlink_vm-requires-clause-lists c = (linked-unmapped _ _ _ _ _ _ _ (unmapping (goal.at.unlink_vm-requires-clause-lists c).After-unwrap-frame)).lists
+unlink_vm-requires-clause-lists c = (linked-unmapped _ _ _ _ _ _ _ (unmapping (goal.at.unlink_vm-requires-clause-lists c).After-unmap)).lists
 
 pub unlink_vm-requires-clause-inside : goal.unlink_vm-requires-clause-inside
-unlink_vm-requires-clause-inside c = inside-unmapped _ _ _ _ _ _ _ (unmapping (goal.at.unlink_vm-requires-clause-inside c).After-unwrap-frame)
+unlink_vm-requires-clause-inside c = inside-unmapped _ _ _ _ _ _ _ (unmapping (goal.at.unlink_vm-requires-clause-inside c).After-unmap)
 
 pub free_frame-requires-clause-linked : goal.free_frame-requires-clause-linked
-free_frame-requires-clause-linked c = c.unlink_vm.ensures.rest.linked _ (linked-unmapped _ _ _ _ _ _ _ (unmapping (goal.at.free_frame-requires-clause-linked c).After-unwrap-frame))
+free_frame-requires-clause-linked c = c.unlink_vm.ensures.rest.linked _ (linked-unmapped _ _ _ _ _ _ _ (unmapping (goal.at.free_frame-requires-clause-linked c).After-unmap))
+
+pub free_frame-requires-clause-here : goal.free_frame-requires-clause-here
+free_frame-requires-clause-here c =
+    let k = (goal.at.free_frame-requires-clause-here c).In-Ok in
+    c.unlink_vm.ensures.rest.here (resource.Frame c.in-Ok.found.frame) ∙ mapped-needed _ _ _ (able k) c.in-Ok.found.vm c.in-Ok.found.gfn _ refl (seen k).call.vm (mapped k)
 
 pub free_frame-requires-clause-free : goal.free_frame-requires-clause-free
-free_frame-requires-clause-free c = c.unlink_vm.ensures.rest.here resource.Free ∙ c.requires.able.here resource.Free refl
+free_frame-requires-clause-free c = c.unlink_vm.ensures.rest.here resource.Free ∙ c.requires.here resource.Free refl
 
 pub free_frame-requires-clause-near : goal.free_frame-requires-clause-near
 free_frame-requires-clause-near c =
-    let k = goal.at.free_frame-requires-clause-near c in
-    near-unlinked _ _ _ _ _ _ _ (unmapping k.After-unwrap-frame) c.unlink_vm.new.self c.unlink_vm.ensures.rest
+    near-unlinked _ _ _ _ _ _ _ (unmapping (goal.at.free_frame-requires-clause-near c).After-unmap) c.unlink_vm.new.self c.unlink_vm.ensures.rest
 
-pub returns-clause-state : goal.returns-clause-state
-returns-clause-state c =
-    let k = goal.at.returns-clause-state c in
-    rw (← is_vm k.After-unwrap-gfn, ← is_gfn k.After-unwrap-gfn) (state-dropped _ _ _ _ _ _ _ (unmapping k.After-unwrap-frame) c.unlink_vm.new.self c.free_frame.new.parts c.unlink_vm.ensures.rest c.unlink_vm.ensures.frames c.free_frame.ensures.state)
+pub returns-in-Ok : goal.returns-in-Ok
+returns-in-Ok c =
+    let k = goal.at.returns-in-Ok c in
+    let is = unmapping k.After-unmap in
+    let left = c.unlink_vm.ensures in
+    let done = c.free_frame.ensures in
+    rw (← c.in-Ok.ensures.mapped.vm, ← c.in-Ok.ensures.mapped.gfn) (answer-served c.args.config.now c.args.parts.now c.free_frame.new.parts (Drop c.in-Ok.found.vm c.args.vcpu c.in-Ok.found.gfn) reply.Done (served k.In-Ok) refl
+    (state-dropped _ _ _ _ _ _ _ is c.unlink_vm.new.self c.free_frame.new.parts left.rest left.frames done.state) done.linked
+    (room-through _ _ _ (room-unlinked _ _ _ _ _ _ _ is c.unlink_vm.new.self left.rest) done.room))
 
-pub returns-clause-room : goal.returns-clause-room
-returns-clause-room c =
-    let k = goal.at.returns-clause-room c in
-    room-through _ _ _ (room-unlinked _ _ _ _ _ _ _ (unmapping k.After-unwrap-frame) c.unlink_vm.new.self c.unlink_vm.ensures.rest) c.free_frame.ensures.room
+pub returns-in-Err : goal.returns-in-Err
+returns-in-Err c = answer-refused _ _ _ c.in-Err.refusal c.requires.linked c.in-Err.ensures.answer

@@ -1,23 +1,19 @@
-use Rattle.std.proofs.Common.{◌≡◌, false, Some, is_some, refl, sym, ap}
+use Rattle.std.proofs.Common.{false, Some, is_some, refl, ap}
 use Rattle.kc_types.specs.declared.owner.Owner.TheVariants.{Vm}
-use Rattle.kc_parts.specs.Parts.{vm_at}
 use Rattle.kc_parts.specs.States.{state_of}
 use Rattle.kc_parts.proofs.SlotChanges.{vm-set}
-use Rattle.kc_refusals.proofs.Looked.{slot-is}
+use Rattle.kc_parts.proofs.Looked.{slot-is}
 use Rattle.kc_calls.proofs.Hands.{IsHanding, map-fits, map-ok, loose-owned, owner-owned, linked-owned, state-handed, room-handed}
 use Rattle.kc_calls.proofs.hand.hand.Goals as goal
-use Rattle.kc_calls.proofs.hand.hand.Goals.{After-unwrap-slot, After-unwrap-page}
+use Rattle.kc_calls.proofs.hand.hand.Goals.{After-page_mut-page}
 
-at_vm : (c : After-unwrap-slot) → vm_at c.args.parts.now c.args.vm ≡ Some c.unwrap-slot.result.now
-at_vm c = sym (rw c.unwrap-slot.ensures at c.vm_mut.ensures.value)
-
-handing : (c : After-unwrap-page) → IsHanding c.args.config.now c.args.parts.now c.args.vm c.args.gfn c.args.frame c.unwrap-slot.result.now c.map.new.self c.unwrap-page.result.now
-    (record c.unwrap-page.result.now { meta = record c.unwrap-page.result.now.meta { owner = Vm c.args.vm; gfn = Some c.args.gfn; present = false } })
+handing : (c : After-page_mut-page) → IsHanding c.args.config.now c.args.parts.now c.args.vm c.args.gfn c.args.frame c.slot_mut-slot.result.now c.map.new.self c.page_mut-page.result.now
+    (record c.page_mut-page.result.now { meta = record c.page_mut-page.result.now.meta { owner = Vm c.args.vm; gfn = Some c.args.gfn; present = false } })
 handing c = record {
   linked = c.requires.linked;
   low = c.requires.exists;
-  at_vm = at_vm (goal.at.After-unwrap-page c).After-unwrap-slot;
-  at = sym (rw c.unwrap-page.ensures at c.frame_mut.ensures.value);
+  at_vm = c.slot_mut-slot.ensures.value;
+  at = c.page_mut-page.ensures.value;
   host = c.requires.host;
   maps = rw (c.unwrap.ensures, c.table_mut.ensures.value) at c.map.ensures.ok;
   same = refl;
@@ -26,29 +22,29 @@ handing c = record {
 
 pub unwrap-requires : goal.unwrap-requires
 unwrap-requires c =
-    let at = at_vm (goal.at.unwrap-requires c).After-unwrap-slot in
-    map-ok _ _ (map-fits (state_of c.args.config.now c.args.parts.now) c.args.vm c.args.gfn c.unwrap-slot.result.now _ (slot-is c.args.config.now c.args.parts.now _ c.unwrap-slot.result.now c.requires.exists at) (c.requires.linked.vms _ _ at) c.requires.unmapped c.requires.fits)
+    let at = c.slot_mut-slot.ensures.value in
+    map-ok _ _ (map-fits (state_of c.args.config.now c.args.parts.now) c.args.vm c.args.gfn c.slot_mut-slot.result.now _ (slot-is c.args.config.now c.args.parts.now _ c.slot_mut-slot.result.now c.requires.exists at) (c.requires.linked.vms _ _ at) c.requires.unmapped c.requires.fits)
     (rw c.table_mut.ensures.value at c.map.ensures.answer)
 
 pub append_vm-requires-clause-here : goal.append_vm-requires-clause-here
-append_vm-requires-clause-here c = ap is_some (vm-set c.args.parts.now c.args.vm c.unwrap-slot.result.now _ (at_vm (goal.at.append_vm-requires-clause-here c).After-unwrap-slot))
+append_vm-requires-clause-here c = ap is_some (vm-set c.args.parts.now c.args.vm c.slot_mut-slot.result.now _ c.slot_mut-slot.ensures.value)
 
 pub append_vm-requires-clause-lists : goal.append_vm-requires-clause-lists
-append_vm-requires-clause-lists c = (linked-owned _ _ _ _ _ _ _ _ _ (handing (goal.at.append_vm-requires-clause-lists c).After-unwrap-page)).lists
+append_vm-requires-clause-lists c = (linked-owned _ _ _ _ _ _ _ _ _ (handing (goal.at.append_vm-requires-clause-lists c).After-page_mut-page)).lists
 
 pub append_vm-requires-clause-loose : goal.append_vm-requires-clause-loose
-append_vm-requires-clause-loose c = loose-owned _ _ _ _ _ _ _ _ _ (handing (goal.at.append_vm-requires-clause-loose c).After-unwrap-page)
+append_vm-requires-clause-loose c = loose-owned _ _ _ _ _ _ _ _ _ (handing (goal.at.append_vm-requires-clause-loose c).After-page_mut-page)
 
 pub append_vm-requires-clause-mine : goal.append_vm-requires-clause-mine
-append_vm-requires-clause-mine c = owner-owned _ _ _ _ _ _ _ _ _ (handing (goal.at.append_vm-requires-clause-mine c).After-unwrap-page)
+append_vm-requires-clause-mine c = owner-owned _ _ _ _ _ _ _ _ _ (handing (goal.at.append_vm-requires-clause-mine c).After-page_mut-page)
 
 pub returns-clause-state : goal.returns-clause-state
 returns-clause-state c =
-    let is = handing (goal.at.returns-clause-state c).After-unwrap-page in
+    let is = handing (goal.at.returns-clause-state c).After-page_mut-page in
     state-handed _ _ _ _ _ _ _ _ _ is c.append_vm.new.self c.append_vm.ensures.rest c.append_vm.ensures.frames (c.requires.linked.frames c.args.frame (ap is_some is.at))
 
 pub returns-clause-linked : goal.returns-clause-linked
-returns-clause-linked c = c.append_vm.ensures.rest.linked _ (linked-owned _ _ _ _ _ _ _ _ _ (handing (goal.at.returns-clause-linked c).After-unwrap-page))
+returns-clause-linked c = c.append_vm.ensures.rest.linked _ (linked-owned _ _ _ _ _ _ _ _ _ (handing (goal.at.returns-clause-linked c).After-page_mut-page))
 
 pub returns-clause-room : goal.returns-clause-room
-returns-clause-room c = room-handed _ _ _ _ _ _ _ _ _ (handing (goal.at.returns-clause-room c).After-unwrap-page) c.append_vm.new.self c.append_vm.ensures.rest
+returns-clause-room c = room-handed _ _ _ _ _ _ _ _ _ (handing (goal.at.returns-clause-room c).After-page_mut-page) c.append_vm.new.self c.append_vm.ensures.rest

@@ -1,34 +1,39 @@
-use Rattle.std.proofs.Common.{◌≡◌, ◌<◌, Some, true, refl, sym}
-use Rattle.kc_parts.specs.Parts.{page_at}
+use Rattle.std.proofs.Common.{◌≡◌, ◌<◌, true, None, eq-eqb, refl}
+use Rattle.kc_types.specs.declared.call.Call.TheVariants.{HostFault}
+use Rattle.kc_types.specs.declared.reply.Reply.TheVariants as reply
+use Rattle.kc_model.specs.Refusals.{refusal}
+use Rattle.kc_model.proofs.Refusals.Served.{host_fault-served}
 use Rattle.kc_parts.specs.States.{state_of}
 use Rattle.kc_parts.proofs.Seen.{linked-kept}
-use Rattle.kc_model.proofs.Refusals.Served.{host_fault-served}
-use Rattle.kc_calls.proofs.Frames.{some-lent, there, changed, room-page}
-use Rattle.kc_calls.proofs.Hosts.{fault-touched}
+use Rattle.kc_calls.specs.Applying.{IsAble}
+use Rattle.kc_calls.proofs.Needed.{frame-needed}
+use Rattle.kc_calls.proofs.Frames.{changed, room-page}
+use Rattle.kc_calls.proofs.Answered.{answer-refused, answer-served}
 use Rattle.kc_calls.proofs.host.host_fault.Goals as goal
-use Rattle.kc_calls.proofs.host.host_fault.Goals.{After-unwrap-frame, After-unwrap-page}
+use Rattle.kc_calls.proofs.host.host_fault.Goals.{In-Ok}
 
-is_frame : (c : After-unwrap-frame) → c.unwrap-frame.result ≡ c.args.frame
-is_frame c = rw c.unwrap-frame.ensures at c.frame.ensures.value
+able : (c : In-Ok) → IsAble c.args.config.now c.args.parts.now (HostFault c.in-Ok.frame)
+able c = rw c.in-Ok.ensures.frame c.requires
 
-low : (c : After-unwrap-frame) → c.unwrap-frame.result < c.args.config.now.frames
-low c = rw (is_frame c) (host_fault-served (state_of c.args.config.now c.args.parts.now) c.args.frame c.requires.served).0
+served : (c : In-Ok) → refusal (state_of c.args.config.now c.args.parts.now) (HostFault c.in-Ok.frame) ≡ None
+served c = rw c.in-Ok.ensures.frame c.in-Ok.ensures.answer
 
-at : (c : After-unwrap-page) → page_at c.args.parts.now c.unwrap-frame.result ≡ Some c.unwrap-page.result.now
-at c = sym (rw c.unwrap-page.ensures at c.frame_mut.ensures.value)
+low : (c : In-Ok) → c.in-Ok.frame < c.args.config.now.frames
+low c = (host_fault-served (state_of c.args.config.now c.args.parts.now) c.in-Ok.frame (served c)).0
 
-pub unwrap-page-requires : goal.unwrap-page-requires
-unwrap-page-requires c =
-    let k = (goal.at.unwrap-page-requires c).After-unwrap-frame in
-    some-lent _ _ c.frame_mut.ensures.value (there c.args.config.now c.args.parts.now _ (low k) (rw (is_frame k) (fault-touched (state_of c.args.config.now c.args.parts.now) c.args.frame c.requires.served)))
+pub page_mut-page-requires : goal.page_mut-page-requires
+page_mut-page-requires c =
+    let k = (goal.at.page_mut-page-requires c).In-Ok in
+    frame-needed _ _ _ (able k) c.in-Ok.frame (eq-eqb c.in-Ok.frame c.in-Ok.frame refl) (low k)
 
-pub returns-clause-state : goal.returns-clause-state
-returns-clause-state c =
-    let k = goal.at.returns-clause-state c in
-    rw (← is_frame k.After-unwrap-frame) (changed c.args.config.now c.args.parts.now _ _ _ (λ frame. record frame { present = true }) (low k.After-unwrap-frame) (at k.After-unwrap-page) refl refl)
+pub returns-in-Ok : goal.returns-in-Ok
+returns-in-Ok c =
+    let k = (goal.at.returns-in-Ok c).In-Ok in
+    let at = c.page_mut-page.ensures.value in
+    rw (← c.in-Ok.ensures.frame) (answer-served c.args.config.now c.args.parts.now _ (HostFault c.in-Ok.frame) reply.Done (served k) refl
+    (changed c.args.config.now c.args.parts.now _ _ _ (λ frame. record frame { present = true }) (low k) at refl refl)
+    (linked-kept _ _ _ _ _ c.requires.linked at refl refl)
+    (room-page _ _ _ _ at refl (λ away. refl)))
 
-pub returns-clause-linked : goal.returns-clause-linked
-returns-clause-linked c = linked-kept _ _ _ _ _ c.requires.linked (at (goal.at.returns-clause-linked c).After-unwrap-page) refl refl
-
-pub returns-clause-room : goal.returns-clause-room
-returns-clause-room c = room-page _ _ _ _ (at (goal.at.returns-clause-room c).After-unwrap-page) refl (λ away. refl)
+pub returns-in-Err : goal.returns-in-Err
+returns-in-Err c = answer-refused _ _ _ c.in-Err.refusal c.requires.linked c.in-Err.ensures.answer

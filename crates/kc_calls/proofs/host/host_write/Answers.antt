@@ -1,37 +1,36 @@
-use Rattle.std.proofs.Common.{◌≡◌, ◌<◌, length, Some, refl, sym}
-use Rattle.kc_parts.specs.Parts.{page_at}
+use Rattle.std.proofs.Common.{◌≡◌, None, length, eq-eqb, refl}
+use Rattle.kc_types.specs.declared.call.Call.TheVariants.{HostWrite}
+use Rattle.kc_types.specs.declared.reply.Reply.TheVariants as reply
+use Rattle.kc_model.specs.Refusals.{refusal}
+use Rattle.kc_model.proofs.Refusals.Served.{IsHostAccess, host_access-served}
 use Rattle.kc_parts.specs.States.{state_of}
-use Rattle.kc_parts.proofs.Seen.{linked-kept}
-use Rattle.kc_model.specs.State.{overwritten}
-use Rattle.kc_model.proofs.Refusals.Served.{host_access-served}
-use Rattle.kc_calls.proofs.Frames.{some-lent, there, changed, room-page}
-use Rattle.kc_calls.proofs.Hosts.{access-touched}
+use Rattle.kc_calls.specs.Applying.{IsAble}
+use Rattle.kc_calls.proofs.Needed.{frame-needed}
+use Rattle.kc_calls.proofs.Answered.{answer-refused, answer-served}
 use Rattle.kc_calls.proofs.host.host_write.Goals as goal
-use Rattle.kc_calls.proofs.host.host_write.Goals.{After-unwrap-frame, After-unwrap-page}
+use Rattle.kc_calls.proofs.host.host_write.Goals.{In-Ok}
 
-is_frame : (c : After-unwrap-frame) → c.unwrap-frame.result ≡ c.args.frame
-is_frame c = rw c.unwrap-frame.ensures at c.frame.ensures.value
+able : (c : In-Ok) → IsAble c.args.config.now c.args.parts.now (HostWrite c.in-Ok.frame c.args.offset c.args.bytes.now)
+able c = rw c.in-Ok.ensures.frame c.requires
 
-low : (c : After-unwrap-frame) → c.unwrap-frame.result < c.args.config.now.frames
-low c = rw (is_frame c) (host_access-served (state_of c.args.config.now c.args.parts.now) c.args.frame c.args.offset (length c.args.bytes.now) c.requires.served).frame
+served : (c : In-Ok) → refusal (state_of c.args.config.now c.args.parts.now) (HostWrite c.in-Ok.frame c.args.offset c.args.bytes.now) ≡ None
+served c = rw (c.in-Ok.ensures.frame, ← c.as_slice.ensures.value) c.in-Ok.ensures.answer
 
-at : (c : After-unwrap-page) → page_at c.args.parts.now c.unwrap-frame.result ≡ Some c.unwrap-page.result.now
-at c = sym (rw c.unwrap-page.ensures at c.frame_mut.ensures.value)
+seen : (c : In-Ok) → IsHostAccess (state_of c.args.config.now c.args.parts.now) c.in-Ok.frame c.args.offset (length c.args.bytes.now)
+seen c = host_access-served _ _ _ _ (served c)
 
-pub unwrap-page-requires : goal.unwrap-page-requires
-unwrap-page-requires c =
-    let k = (goal.at.unwrap-page-requires c).After-unwrap-frame in
-    some-lent _ _ c.frame_mut.ensures.value (there c.args.config.now c.args.parts.now _ (low k)
-    (rw (is_frame k) (access-touched (state_of c.args.config.now c.args.parts.now) c.args.frame c.args.offset (length c.args.bytes.now) c.requires.served)))
+pub write_frame-requires-clause-here : goal.write_frame-requires-clause-here
+write_frame-requires-clause-here c =
+    let k = (goal.at.write_frame-requires-clause-here c).In-Ok in
+    frame-needed _ _ _ (able k) c.in-Ok.frame (eq-eqb c.in-Ok.frame c.in-Ok.frame refl) (seen k).frame
 
-pub returns-clause-state : goal.returns-clause-state
-returns-clause-state c =
-    let k = goal.at.returns-clause-state c in
-    rw (← is_frame k.After-unwrap-frame) (changed c.args.config.now c.args.parts.now _ _ _ (λ frame. record frame { bytes = overwritten frame.bytes c.args.offset c.args.bytes.now }) (low k.After-unwrap-frame) (at k.After-unwrap-page) refl
-    (rw (c.write.ensures, c.as_slice.ensures.value) refl))
+pub write_frame-requires-clause-within : goal.write_frame-requires-clause-within
+write_frame-requires-clause-within c = (seen (goal.at.write_frame-requires-clause-within c).In-Ok).within
 
-pub returns-clause-linked : goal.returns-clause-linked
-returns-clause-linked c = linked-kept _ _ _ _ _ c.requires.linked (at (goal.at.returns-clause-linked c).After-unwrap-page) refl refl
+pub returns-in-Ok : goal.returns-in-Ok
+returns-in-Ok c =
+    let done = c.write_frame.ensures in
+    rw (← c.in-Ok.ensures.frame) (answer-served c.args.config.now c.args.parts.now _ (HostWrite c.in-Ok.frame c.args.offset c.args.bytes.now) reply.Done (served (goal.at.returns-in-Ok c).In-Ok) refl done.state done.linked done.room)
 
-pub returns-clause-room : goal.returns-clause-room
-returns-clause-room c = room-page _ _ _ _ (at (goal.at.returns-clause-room c).After-unwrap-page) refl (λ away. refl)
+pub returns-in-Err : goal.returns-in-Err
+returns-in-Err c = answer-refused _ _ _ c.in-Err.refusal c.requires.linked (rw (← c.as_slice.ensures.value) c.in-Err.ensures.answer)

@@ -1,28 +1,35 @@
-use Rattle.std.proofs.Common.{◌≡◌, ◌<◌, ◌∷◌, Some, is_some, refl, sym, ap, ◌∙◌}
-use Rattle.kc_parts.specs.Parts.{page_at}
-use Rattle.kc_parts.specs.States.{free_of, IsLoose}
+use Rattle.std.proofs.Common.{◌≡◌, [], is_some, refl, sym, ap, ◌∙◌}
+use Rattle.kc_types.specs.declared.call.Call.TheVariants.{Take}
+use Rattle.kc_types.specs.declared.refusal.Refusal.TheVariants.{NoFree}
+use Rattle.kc_types.specs.declared.resource.Resource.TheVariants as resource
+use Rattle.kc_types.specs.declared.reply.Reply.TheVariants as reply
+use Rattle.kc_parts.specs.States.{free_of}
 use Rattle.kc_calls.proofs.Frames.{room-page, room-move, room-through, taken-near}
-use Rattle.kc_calls.proofs.Hosts.{state-taken, linked-taken}
+use Rattle.kc_calls.proofs.Answered.{answer-kept, answer-served}
+use Rattle.kc_calls.proofs.Hosts.{take-none, state-none, take-some, state-taken, linked-taken}
 use Rattle.kc_calls.proofs.host.take.Goals as goal
-use Rattle.kc_calls.proofs.host.take.Goals.{After-unwrap-page}
 
-at : (c : After-unwrap-page) → page_at c.pop_free.new.self c.unwrap-frame.result ≡ Some c.unwrap-page.result.now
-at c = sym (rw c.unwrap-page.ensures at c.frame_mut.ensures.value)
+pub pop_free-requires-clause-here : goal.pop_free-requires-clause-here
+pop_free-requires-clause-here c = c.requires.here resource.Free refl
 
-pub returns-clause-state : goal.returns-clause-state
-returns-clause-state c =
-    let is = at (goal.at.returns-clause-state c).After-unwrap-page in
-    let first : free_of c.args.parts.now ≡ c.unwrap-frame.result ∷ free_of c.pop_free.new.self = rw c.unwrap-frame.ensures at c.pop_free.ensures.frames in
-    let low : c.unwrap-frame.result < c.args.config.now.frames = (c.pop_free.ensures.rest.linked c.args.config.now c.requires.linked).frames c.unwrap-frame.result (ap is_some is) in
-    state-taken _ _ c.pop_free.new.self _ _ _ c.pop_free.ensures.rest first low is refl refl
+pub returns-in_default : goal.returns-in_default
+returns-in_default c =
+    let none : (free_of c.args.parts.now ≡ []) × (free_of c.pop_free.new.self ≡ []) = rw c.in_default.is at c.pop_free.ensures.frames in
+    let move = c.pop_free.ensures.rest in
+    answer-kept c.args.config.now c.args.parts.now c.pop_free.new.self Take NoFree (take-none c.args.config.now c.args.parts.now none.0) (state-none c.args.config.now c.args.parts.now c.pop_free.new.self move none.0 none.1) (move.linked _ c.requires.linked) (room-move _ _ move)
 
-pub returns-clause-linked : goal.returns-clause-linked
-returns-clause-linked c =
-    let loose : IsLoose c.pop_free.new.self c.unwrap-frame.result = rw c.unwrap-frame.ensures at c.pop_free.ensures.loose in
-    linked-taken _ c.pop_free.new.self _ _ _ (c.pop_free.ensures.rest.linked _ c.requires.linked) loose (at (goal.at.returns-clause-linked c).After-unwrap-page) refl
-
-pub returns-clause-room : goal.returns-clause-room
-returns-clause-room c =
-    let first : free_of c.args.parts.now ≡ c.unwrap-frame.result ∷ free_of c.pop_free.new.self = rw c.unwrap-frame.ensures at c.pop_free.ensures.frames in
-    let near = taken-near c.args.config.now c.args.parts.now c.pop_free.new.self c.unwrap-frame.result c.requires.linked c.pop_free.ensures.rest first in
-    room-through c.args.parts.now c.pop_free.new.self _ (room-move _ _ c.pop_free.ensures.rest) (room-page c.pop_free.new.self _ _ _ (at (goal.at.returns-clause-room c).After-unwrap-page) refl (λ away. let no = sym near ∙ away in cc))
+pub returns : goal.returns
+returns c =
+    let config = c.args.config.now in
+    let old = c.args.parts.now in
+    let mid = c.pop_free.new.self in
+    let move = c.pop_free.ensures.rest in
+    let first = c.in-Some.ensures.frames in
+    let at = c.page_mut-page.ensures.value in
+    let linked = move.linked config c.requires.linked in
+    let near = taken-near config old mid c.in-Some.frame c.requires.linked move first in
+    let some = take-some config old _ _ first in
+    answer-served config old _ Take _ some.0 (ap reply.Frame c.number.ensures.value ∙ some.1)
+    (state-taken config old mid _ _ _ move first (linked.frames _ (ap is_some at)) at refl refl)
+    (linked-taken config mid _ _ _ linked c.in-Some.ensures.loose at refl)
+    (room-through old mid _ (room-move _ _ move) (room-page mid _ _ _ at refl (λ away. let no = sym near ∙ away in cc)))

@@ -1,22 +1,33 @@
-use Rattle.std.proofs.Common.{refl, arith}
-use Rattle.kc_model.proofs.Lawful.GuestCalls.{IsMappedCall, guest_frame-served}
+use Rattle.std.proofs.Common.{refl, ap, ◌∙◌, arith}
+use Rattle.kc_types.specs.declared.call.Call.TheVariants.{Grant}
+use Rattle.kc_types.specs.declared.reply.Reply.TheVariants as reply
+use Rattle.kc_model.specs.State.{frame_at}
+use Rattle.kc_model.specs.Refusals.{backing}
+use Rattle.kc_model.specs.Effects.{granted}
+use Rattle.kc_model.proofs.Lawful.GuestCalls.{guest_frame-served}
 use Rattle.kc_parts.specs.States.{state_of}
-use Rattle.kc_calls.proofs.Frames.{room-same}
+use Rattle.kc_calls.proofs.Needed.{mapped-needed}
+use Rattle.kc_calls.proofs.Answered.{answer-refused, answer-served}
 use Rattle.kc_calls.proofs.Guests.{few-granted}
-use Rattle.kc_calls.proofs.Sharing.{page-under}
+use Rattle.kc_calls.proofs.Sharing.{each-one}
 use Rattle.kc_calls.proofs.shares.grant.Goals as goal
-use Rattle.kc_calls.proofs.shares.grant.Goals.{Start}
 
-call : (c : Start) → IsMappedCall (state_of c.args.config.now c.args.parts.now) c.args.vm c.args.vcpu c.args.gfn
-call c = (guest_frame-served (state_of c.args.config.now c.args.parts.now) c.args.vm c.args.vcpu c.args.gfn _ c.requires.served).0
+pub grant_frame-requires-clause-here : goal.grant_frame-requires-clause-here
+grant_frame-requires-clause-here c =
+    mapped-needed _ _ _ c.requires c.args.vm c.args.gfn _ refl (guest_frame-served (state_of c.args.config.now c.args.parts.now) _ c.args.vcpu c.args.gfn _ c.in-Ok.ensures.answer).0.call.vm c.in-Ok.ensures.mapped
 
-pub grant_page-requires-clause-low : goal.grant_page-requires-clause-low
-grant_page-requires-clause-low c = (call (goal.at.grant_page-requires-clause-low c).Start).call.gfn
+pub grant_frame-requires-clause-few : goal.grant_frame-requires-clause-few
+grant_frame-requires-clause-few c =
+    let m = state_of c.args.config.now c.args.parts.now in
+    let few = few-granted m c.args.vm c.args.vcpu c.args.gfn c.in-Ok.ensures.answer in
+    let same = ap (λ at. (frame_at m (backing at)).share) c.in-Ok.ensures.mapped in
+    omega (arith, few, same)
 
-pub grant_page-requires-clause-here : goal.grant_page-requires-clause-here
-grant_page-requires-clause-here c =
-    let is = call (goal.at.grant_page-requires-clause-here c).Start in
-    page-under _ _ _ _ _ _ c.requires.able refl is.call.vm is.mapped refl (room-same _)
+pub returns-in-Ok : goal.returns-in-Ok
+returns-in-Ok c =
+    let done = c.grant_frame.ensures in
+    answer-served c.args.config.now c.args.parts.now _ (Grant c.args.vm c.args.vcpu c.args.gfn) reply.Done c.in-Ok.ensures.answer refl
+    (done.state ∙ each-one granted (state_of c.args.config.now c.args.parts.now) c.args.vm c.args.gfn _ c.in-Ok.ensures.mapped) done.linked done.room
 
-pub grant_page-requires-clause-few : goal.grant_page-requires-clause-few
-grant_page-requires-clause-few c = let few = few-granted (state_of c.args.config.now c.args.parts.now) c.args.vm c.args.vcpu c.args.gfn c.requires.served in omega (arith, few)
+pub returns-in-Err : goal.returns-in-Err
+returns-in-Err c = answer-refused _ _ _ c.in-Err.refusal c.requires.linked c.in-Err.ensures.answer

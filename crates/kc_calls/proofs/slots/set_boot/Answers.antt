@@ -1,18 +1,17 @@
-use Rattle.std.proofs.Common.{◌≡◌, ◌<◌, ◌≤◌, ◌+◌, inl, inr, arith, Some, refl, sym, ◌∙◌}
+use Rattle.std.proofs.Common.{◌≡◌, ◌<◌, ◌≤◌, ◌+◌, inl, inr, arith, Some, refl, ◌∙◌}
 use Rattle.kc_types.specs.Limits.{gfn_limit}
 use Rattle.kc_types.specs.Configuration.{slot_count}
 use Rattle.kc_types.specs.declared.refusal.Refusal.TheVariants.{BadVm, BadGfn, BadRange}
 use Rattle.kc_model.specs.Refusals.{pages_of}
 use Rattle.kc_parts.specs.Parts.{vm_at}
 use Rattle.kc_parts.specs.States.{state_of}
-use Rattle.kc_calls.proofs.Frames.{some-lent}
-use Rattle.kc_refusals.proofs.Looked.{slot-is}
+use Rattle.kc_parts.proofs.Looked.{slot-is}
 use Rattle.kc_calls.proofs.Needed.{slot-needed}
 use Rattle.kc_calls.proofs.Answered.{answer-refused, answer-slot_refused, past-limit}
 use Rattle.kc_calls.proofs.SlotCalls.{IsFitting, vm-past, refusal-bad_gfn, refusal-bad_range, refusal-set_boot, answer-set_boot}
 use Rattle.kc_calls.proofs.slots.set_boot.Goals as goal
 use Rattle.kc_calls.proofs.slots.set_boot.Goals.{then-base-ge-GFN_LIMIT-via-then-base-ge-GFN_LIMIT, then-base-ge-GFN_LIMIT-via-else-base-ge-GFN_LIMIT+then-pages_of-base, then-len-eq0-via-then-len-eq0, then-len-eq0-via-else-len-eq0+then-len-gt-IMAGE_SIZE_LIMIT}
-use Rattle.kc_calls.proofs.slots.set_boot.Goals.{In-Some, Else-pages_of-base, Else-len-gt-IMAGE_SIZE_LIMIT, After-unwrap-slot}
+use Rattle.kc_calls.proofs.slots.set_boot.Goals.{In-Some, Else-pages_of-base, Else-len-gt-IMAGE_SIZE_LIMIT, After-slot_mut-slot}
 
 low : (c : In-Some) → c.args.vm < slot_count c.args.config.now
 low c = c.in-Some.ensures.valid.0 refl
@@ -33,8 +32,8 @@ fits c =
       small = let h = c.if-len-gt-IMAGE_SIZE_LIMIT.false in omega (arith, h);
     }
 
-at : (c : After-unwrap-slot) → vm_at c.args.parts.now c.args.vm ≡ Some c.unwrap-slot.result.now
-at c = rw c.in-Some.ensures.value at (sym (rw c.unwrap-slot.ensures at c.vm_mut.ensures.value))
+at : (c : After-slot_mut-slot) → vm_at c.args.parts.now c.args.vm ≡ Some c.slot_mut-slot.result.now
+at c = rw c.in-Some.ensures.value at c.slot_mut-slot.ensures.value
 
 pub returns-in_default : goal.returns-in_default
 returns-in_default c = answer-refused _ _ _ BadVm c.requires.linked (rw (vm-past (state_of c.args.config.now c.args.parts.now) c.args.vm (past-limit _ _ _ c.in_default.is c.vm.ensures.valid)) refl)
@@ -54,18 +53,17 @@ returns-then-len-eq0 c =
       | then-len-eq0-via-else-len-eq0+then-len-gt-IMAGE_SIZE_LIMIT w ↦ inr (let h = w.if-len-gt-IMAGE_SIZE_LIMIT.true in omega (arith, h))
     ]))
 
-pub unwrap-slot-requires : goal.unwrap-slot-requires
-unwrap-slot-requires c =
-    some-lent _ _ c.vm_mut.ensures.value (rw c.in-Some.ensures.value (slot-needed _ _ _ c.requires c.args.vm refl (low (goal.at.unwrap-slot-requires c).In-Some)))
+pub slot_mut-slot-requires : goal.slot_mut-slot-requires
+slot_mut-slot-requires c = rw c.in-Some.ensures.value (slot-needed _ _ _ c.requires c.args.vm refl (low (goal.at.slot_mut-slot-requires c).In-Some))
 
 pub returns-in-Ok : goal.returns-in-Ok
 returns-in-Ok c =
     let k = goal.at.returns-in-Ok c in
-    rw c.in-Some.ensures.value (answer-set_boot _ _ _ _ _ _ _ _ c.requires.linked (low k.In-Some) (fits k.Else-len-gt-IMAGE_SIZE_LIMIT) (at k.After-unwrap-slot) c.in-Ok.ensures.answer c.in-Ok.ensures.number c.in-Ok.ensures.ok)
+    rw c.in-Some.ensures.value (answer-set_boot _ _ _ _ _ _ _ _ c.requires.linked (low k.In-Some) (fits k.Else-len-gt-IMAGE_SIZE_LIMIT) (at k.After-slot_mut-slot) c.in-Ok.ensures.answer c.in-Ok.ensures.number c.in-Ok.ensures.ok)
 
 pub returns-in-Err : goal.returns-in-Err
 returns-in-Err c =
     let k = goal.at.returns-in-Err c in
-    rw c.in-Some.ensures.value (answer-slot_refused _ _ _ _ _ _ c.in-Err.refusal c.requires.linked (at k.After-unwrap-slot) c.in-Err.ensures.err
-    (refusal-set_boot (state_of c.args.config.now c.args.parts.now) _ _ _ c.unwrap-slot.result.now.slot _ (low k.In-Some) (fits k.Else-len-gt-IMAGE_SIZE_LIMIT)
-    (slot-is c.args.config.now c.args.parts.now _ _ (low k.In-Some) (at k.After-unwrap-slot)) ∙ c.in-Err.ensures.answer))
+    rw c.in-Some.ensures.value (answer-slot_refused _ _ _ _ _ _ c.in-Err.refusal c.requires.linked (at k.After-slot_mut-slot) c.in-Err.ensures.err
+    (refusal-set_boot (state_of c.args.config.now c.args.parts.now) _ _ _ c.slot_mut-slot.result.now.slot _ (low k.In-Some) (fits k.Else-len-gt-IMAGE_SIZE_LIMIT)
+    (slot-is c.args.config.now c.args.parts.now _ _ (low k.In-Some) (at k.After-slot_mut-slot)) ∙ c.in-Err.ensures.answer))

@@ -1,4 +1,4 @@
-use Rattle.std.proofs.Common.{◌≡◌, ◌+◌, ◌<◌, ℕ, Some, None, All, length, get_or, refl, take, sym, ap, subst, ◌∙◌}
+use Rattle.std.proofs.Common.{◌≡◌, ◌+◌, ◌<◌, ℕ, None, All, length, get_or, refl, take, sym, ap, subst, ◌∙◌}
 use Rattle.std.proofs.lemmas.List.{take_all}
 use Rattle.std.specs.FinMap as finite
 use Rattle.sha2.specs.Sha256.{sha256}
@@ -12,15 +12,11 @@ use Rattle.kc_calls.specs.Verifying.{mapped_in, bytes_of_image, is_approved_dige
 use Rattle.kc_calls.proofs.FirstFailing.{none-more, fails-at, fails-map}
 use Rattle.kc_calls.proofs.Imaged.{image-seen, image-through, images-seen}
 use Rattle.kc_calls.proofs.verify.first_unapproved.Goals as goal
-use Rattle.kc_calls.proofs.verify.first_unapproved.Goals.{After-unwrap-slot, After-images-images, In-loop-i}
-
--- the slot is here
-at : (c : After-unwrap-slot) → vm_at c.args.parts.now c.args.vm ≡ Some c.unwrap-slot.result.now
-at c = sym (rw c.unwrap-slot.ensures at c.vm.ensures)
+use Rattle.kc_calls.proofs.verify.first_unapproved.Goals.{After-images-images, In-loop-i}
 
 -- the images that are tried are the state's
 seen : (c : After-images-images) → (slot_at (state_of c.args.config.now c.args.parts.now) c.args.vm).images ≡ c.images-images.result.now
-seen c = images-seen _ c.args.parts.now _ _ _ c.requires.low (at (goal.at.After-images-images c).After-unwrap-slot) c.images-images.ensures.value
+seen c = images-seen _ c.args.parts.now _ _ _ c.requires.low c.slot-slot.ensures c.images-images.ensures.value
 
 -- those that were tried are approved
 before : (c : In-loop-i) → first_failing (is_approved (state_of c.args.config.now c.args.parts.now) c.args.vm) (take c.loop-i.i c.images-images.result.now) ≡ None
@@ -32,9 +28,9 @@ before c =
 here : (c : After-images-images) → All (IsImageHere c.args.parts.now (mapped_in (vm_at c.args.parts.now c.args.vm))) c.images-images.result.now
 here c = subst (λ images. All (IsImageHere c.args.parts.now (mapped_in (vm_at c.args.parts.now c.args.vm))) images) (seen c) c.requires.here
 
-through : (c : After-images-images) → All (IsImageHere c.args.parts.now (finite.get c.unwrap-slot.result.now.slot.mapped)) c.images-images.result.now
+through : (c : After-images-images) → All (IsImageHere c.args.parts.now (finite.get c.slot-slot.result.now.slot.mapped)) c.images-images.result.now
 through c = λ i image low.
-    image-through c.args.parts.now c.args.vm c.unwrap-slot.result.now (slot_table c.unwrap-slot.result.now) _ (at (goal.at.After-images-images c).After-unwrap-slot) refl (here c i image low)
+    image-through c.args.parts.now c.args.vm c.slot-slot.result.now (slot_table c.slot-slot.result.now) _ c.slot-slot.ensures refl (here c i image low)
 
 pub digests_of_four-requires-clause-here : goal.digests_of_four-requires-clause-here
 digests_of_four-requires-clause-here c =
@@ -50,7 +46,7 @@ returns-then-are_four_alike c =
     let same = λ (i : ℕ) (d : Image) (low : i < length c.images-images.result.now).
     ap (λ (t : Table). is_approved_digest c.args.config.now (sha256 (bytes_of_image parts (finite.get t.mapped) (get_or c.images-images.result.now i d)))) c.table.ensures
     ∙ ap (λ bytes. is_approved_digest c.args.config.now (sha256 bytes))
-    (image-seen c.args.config.now parts c.args.vm c.unwrap-slot.result.now _ c.requires.low c.requires.linked (at k.After-unwrap-slot) (through k.After-images-images i d low)) in
+    (image-seen c.args.config.now parts c.args.vm c.slot-slot.result.now _ c.requires.low c.requires.linked c.slot-slot.ensures (through k.After-images-images i d low)) in
     c.first_unapproved_digest.ensures
     ∙ ap (first_failing (is_approved_digest c.args.config.now)) c.digests_of_four.ensures
     ∙ fails-map test (is_approved_digest c.args.config.now) digest c.images-images.result.now same

@@ -1,11 +1,10 @@
-use Rattle.std.proofs.Common.{◌≡◌, Some, refl, sym, ap, ◌∙◌}
+use Rattle.std.proofs.Common.{refl, ap, ◌∙◌}
 use Rattle.std.specs.List.{list_any}
 use Rattle.std.specs.FinMap as map
 use Rattle.sha2.specs.Sha256.{sha256}
 use Rattle.kc_stage2.specs.Stage2.{Table}
 use Rattle.kc_model.specs.Effects.{same_bytes}
 use Rattle.kc_vms.specs.Vm.{slot_table}
-use Rattle.kc_parts.specs.Parts.{vm_at}
 use Rattle.kc_calls.specs.Verifying.{bytes_of_image}
 use Rattle.kc_calls.proofs.Measuring.{approved-is}
 use Rattle.kc_calls.proofs.Imaged.{image-seen, image-through}
@@ -13,14 +12,13 @@ use Rattle.kc_calls.proofs.verify.is_approved_image.Goals as goal
 
 pub digest_of-digest-requires-clause-here : goal.digest_of-digest-requires-clause-here
 digest_of-digest-requires-clause-here c =
-    let at : vm_at c.args.parts.now c.args.vm ≡ Some c.unwrap-slot.result.now = sym (rw c.unwrap-slot.ensures at c.vm.ensures) in
-    image-through c.args.parts.now c.args.vm c.unwrap-slot.result.now c.table.result.now c.args.image.now at c.table.ensures c.requires.here
+    image-through c.args.parts.now c.args.vm c.slot-slot.result.now c.table.result.now c.args.image.now c.slot-slot.ensures c.table.ensures c.requires.here
 
 pub returns : goal.returns
 returns c =
     let parts = c.args.parts.now in
-    let slot = c.unwrap-slot.result.now in
-    let at : vm_at parts c.args.vm ≡ Some slot = sym (rw c.unwrap-slot.ensures at c.vm.ensures) in
+    let slot = c.slot-slot.result.now in
+    let at = c.slot-slot.ensures in
     let through = c.table.ensures in
     let here = image-through parts c.args.vm slot (slot_table slot) c.args.image.now at refl c.requires.here in
     let digest = c.digest_of-digest.ensures

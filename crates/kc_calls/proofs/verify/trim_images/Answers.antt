@@ -10,14 +10,14 @@ use Rattle.kc_calls.proofs.verify.trim_images.Goals.{After-images-count, In-loop
 
 -- the images that are counted are the state's
 counted : (c : After-images-count) → (slot_at (state_of c.args.config.now c.args.parts.now) c.args.vm).images ≡ c.images-count.result.now
-counted c = images-seen _ c.args.parts.now _ _ _ c.requires.low (sym (rw c.unwrap.ensures at c.vm.ensures)) c.images-count.ensures.value
+counted c = images-seen _ c.args.parts.now _ _ _ c.requires.low c.slot.ensures c.images-count.ensures.value
 
 low : (c : In-loop-i) → c.loop-i.i < length (slot_at (state_of c.args.config.now c.args.parts.now) c.args.vm).images
 low c = subst (λ images. c.loop-i.i < length images) (sym (counted (goal.at.In-loop-i c).After-images-count)) c.loop-i-test.true
 
 -- and so are those that an iteration reads
 seen : (c : After-images) → (slot_at (state_of c.args.config.now c.args.parts.now) c.args.vm).images ≡ c.images.result.now
-seen c = images-kept _ c.args.parts.now c.loop-i.parts _ _ _ c.requires.low c.loop-i.invariant.slots (sym (rw c.unwrap-in-loop-i.ensures at c.vm-in-loop-i.ensures)) c.images.ensures.value
+seen c = images-kept _ c.args.parts.now c.loop-i.parts _ _ _ c.requires.low c.loop-i.invariant.slots c.slot-in-loop-i.ensures c.images.ensures.value
 
 pub trim_image-requires-clause-here : goal.trim_image-requires-clause-here
 trim_image-requires-clause-here c =

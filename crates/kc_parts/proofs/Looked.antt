@@ -1,0 +1,72 @@
+-- A look-up shows the frame or the slot of the state.
+use Rattle.std.proofs.Common.{ℕ, ◌≡◌, ◌<◌, ◌≤◌, ◌/◌, inl, inr, Bool, true, false, not, ◌&&◌, ◌||◌, ◌==◌, nat_le, nat_lt, List, length, Some, None, get_or, refl, sym, ap, ◌∙◌, arith}
+use Rattle.std.proofs.lemmas.List.{get_or_past}
+use Rattle.std.proofs.lemmas.List.FromFn.{length-map-range_with_len}
+use Rattle.std.specs.Ordering.{nat_cmp}
+use Rattle.std.specs.FinMap as map
+use Rattle.kc_types.specs.Configuration.{Configuration, slot_count}
+use Rattle.kc_types.specs.declared.owner.Owner.TheVariants.{Core}
+use Rattle.std.specs.List.{list_any}
+use Rattle.std.proofs.lemmas.Grind.{common_steps}
+use Rattle.std.proofs.lemmas.Bool.{cases_lt}
+use Rattle.kc_types.specs.declared.refusal.Refusal.TheVariants.{TablesFull}
+use Rattle.kc_model.specs.Refusals.{when, tables_full}
+use Rattle.kc_stage2.specs.Stage2.{fits}
+use Rattle.kc_vms.specs.Vm.{VmSlot, slot_table}
+use Rattle.kc_model.specs.State.{State, Frame, Slot, frame_at, slot_at, untouched, absent_vcpu, empty_slot}
+use Rattle.kc_model.proofs.States.Slots.{at-no_vcpus}
+use Rattle.kc_page.specs.declared.page.Page.{Page}
+use Rattle.kc_page.specs.declared.page.PageRecord.{PageRecord}
+use Rattle.kc_page.specs.Page.{frame_of}
+use Rattle.kc_parts.specs.Parts.{Held, page_at, vm_at, links_of}
+use Rattle.kc_parts.specs.States.{frame_in, slot_in, unlinked_slot, state_of}
+use Rattle.kc_links.specs.Ending.{listed}
+use Rattle.kc_parts.proofs.Seen.{frame-seen, slot-seen}
+use Rattle.kc_parts.specs.LookUps.{IsMetaOf}
+
+-- the record of an untouched frame of the core's
+abbrev pub no_record : PageRecord
+no_record = record { owner = Core; share = 0; gfn = None; present = false; prev = None; next = None }
+
+meta-of : (frame : Frame) (page : Page) → frame ≡ frame_of page → IsMetaOf frame page.meta
+meta-of frame page is = rw is (record { owner = refl; share = refl; gfn = refl; present = refl })
+
+meta-none : (frame : Frame) → frame ≡ untouched Core → IsMetaOf frame no_record
+meta-none frame is = rw is (record { owner = refl; share = refl; gfn = refl; present = refl })
+
+pub meta-here : (config : Configuration) (h : Held) (f : ℕ) (page : Page) → f < config.frames → page_at h f ≡ Some page → IsMetaOf (frame_at (state_of config h) f) page.meta
+meta-here config h f page low at = meta-of (frame_at (state_of config h) f) page (frame-seen config h f low ∙ ap frame_in at)
+
+pub meta-absent : (config : Configuration) (h : Held) (f : ℕ) → f < config.frames → page_at h f ≡ None → IsMetaOf (frame_at (state_of config h) f) no_record
+meta-absent config h f low at = meta-none (frame_at (state_of config h) f) (frame-seen config h f low ∙ ap frame_in at)
+
+pub meta-past : (config : Configuration) (h : Held) (f : ℕ) → config.frames ≤ f → IsMetaOf (frame_at (state_of config h) f) no_record
+meta-past config h f past = meta-none (frame_at (state_of config h) f) (get_or_past (state_of config h).frames f (untouched Core) (rw (length-map-range_with_len (λ g. frame_in (page_at h g)) 0 config.frames) past))
+
+pub slot-past : (config : Configuration) (h : Held) (v : ℕ) → slot_count config ≤ v → slot_at (state_of config h) v ≡ empty_slot
+slot-past config h v past = get_or_past (state_of config h).slots v empty_slot (rw (length-map-range_with_len (λ w. slot_in (links_of h) (vm_at h w)) 0 (slot_count config)) past)
+
+-- an empty slot has no virtual processor and no mapped guest frame
+pub vcpu-none : (slot : Slot) (c : ℕ) → slot ≡ empty_slot → absent_vcpu ≡ get_or slot.vcpus c absent_vcpu
+vcpu-none slot c is = sym (ap (λ (there : Slot). get_or there.vcpus c absent_vcpu) is ∙ at-no_vcpus c)
+
+pub mapped-none : (slot : Slot) (g : ℕ) → slot ≡ empty_slot → None ≡ map.get slot.mapped g
+mapped-none slot g is = sym (ap (λ (there : Slot). map.get there.mapped g) is ∙ map.get-empty nat_cmp g)
+
+-- a slot's table takes a guest frame where the state says so
+pub fits-seen : (m : State) (v g : ℕ) (vm : VmSlot) (frames : List ℕ) → slot_at m v ≡ unlinked_slot vm.slot frames → vm.room ≡ m.config.leaves → tables_full m v g ≡ when (not (fits (slot_table vm) g)) TablesFull
+fits-seen m v g vm frames is room = rw is (ap (λ full. when full TablesFull) (rw (← room) (turned (list_any (λ root. root == g / 512) vm.slot.leaves) vm.room (length vm.slot.leaves))))
+  where
+    past : (n k : ℕ) → nat_le n k ≡ not (nat_lt k n)
+    past n k = elim (cases_lt k n) [
+      | inl low ↦ grind (arith, common_steps, low)
+      | inr high ↦ grind (arith, common_steps, high)
+    ]
+
+    turned : (a : Bool) (n k : ℕ) → (not a && nat_le n k) ≡ not (a || nat_lt k n)
+    turned true n k = refl
+    turned false n k = past n k
+
+-- the slot of a number that is here
+pub slot-is : (config : Configuration) (h : Held) (v : ℕ) (vm : VmSlot) → v < slot_count config → vm_at h v ≡ Some vm → slot_at (state_of config h) v ≡ unlinked_slot vm.slot (listed (links_of h) vm.slot.ends)
+slot-is config h v vm low at = slot-seen config h v low ∙ ap (slot_in (links_of h)) at

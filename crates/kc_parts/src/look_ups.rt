@@ -1,0 +1,121 @@
+//! Look-ups by number, which answer for all numbers: what is not here counts as untouched.
+ghost use Rattle.std.specs.Prelude.{◌≡◌, not, IfOk, Some};
+ghost use Rattle.std.specs.Option.{option_copied};
+ghost use Rattle.kc_model.specs.State.{frame_at, slot_at, vcpu_at, mapped_at};
+ghost use Rattle.kc_types.specs.declared.refusal.Refusal.TheVariants.{TablesFull};
+ghost use Rattle.kc_model.specs.Refusals.{when, tables_full, next_gfn};
+ghost use Rattle.kc_model.specs.Linked.{linked_slot};
+ghost use Rattle.kc_vms.specs.Vm.{VmSlot};
+ghost use Rattle.kc_vms.specs.Refusals.{Answers, next_page_refusal};
+ghost use Rattle.kc_parts.specs.Parts.{vm_at, links_of};
+ghost use Rattle.kc_parts.specs.States.{state_of, slot_in, IsLinked};
+ghost use Rattle.kc_parts.specs.LookUps.{IsMetaOf};
+
+use crate::Parts;
+use kc_page::PageRecord;
+use kc_types::{Config, FrameNo, Gfn, Owner, Phase, Refusal, Vcpu, VcpuId};
+use kc_vms::Vm;
+
+/// The record of an untouched frame of the core's.
+const UNTOUCHED: PageRecord = PageRecord {
+    owner: Owner::Core,
+    share: 0,
+    gfn: None,
+    present: false,
+    prev: None,
+    next: None,
+};
+
+impl Parts {
+    /// The record of a frame.
+    pub fn record_of(&self, config: &Config, frame: u32) -> PageRecord
+        ensures { IsMetaOf (frame_at (state_of config.now self.now) frame) result }
+    {
+        match config.frame(frame) {
+            Some(frame) => match self.frame(frame) {
+                Some(page) => page.meta,
+                None => UNTOUCHED,
+            },
+            None => UNTOUCHED,
+        }
+    }
+
+    /// The slot of this number, where it is here.
+    fn slot_of(&self, config: &Config, vm: u32) -> Option<&Vm>
+        ensures value { slot_at (state_of config.now self.now) vm ≡ slot_in (links_of self.now) (option_copied result) }
+        ensures here { (slot : VmSlot) → option_copied result ≡ Some slot → vm_at self.now vm ≡ Some slot }
+    {
+        match config.vm(vm) {
+            Some(vm) => self.vm(vm),
+            None => None,
+        }
+    }
+
+    /// The phase of a slot.
+    pub fn phase_of(&self, config: &Config, vm: u32) -> Phase
+        ensures { result ≡ (slot_at (state_of config.now self.now) vm).phase }
+    {
+        match self.slot_of(config, vm) {
+            Some(slot) => slot.phase(),
+            None => Phase::Empty,
+        }
+    }
+
+    /// A virtual processor of a slot.
+    pub fn vcpu_of(&self, config: &Config, vm: u32, vcpu: VcpuId) -> Vcpu
+        ensures { result ≡ vcpu_at (state_of config.now self.now) vm vcpu }
+    {
+        match self.slot_of(config, vm) {
+            Some(slot) => slot.vcpu(vcpu),
+            None => Vcpu {
+                registered: false,
+                fault: None,
+            },
+        }
+    }
+
+    /// The frame at a guest frame of a slot.
+    pub fn mapping_of(&self, config: &Config, vm: u32, gfn: Gfn) -> Option<FrameNo>
+        ensures { result ≡ mapped_at (state_of config.now self.now) vm gfn }
+    {
+        match self.slot_of(config, vm) {
+            Some(slot) => slot.table().get(gfn),
+            None => None,
+        }
+    }
+
+    /// The guest frame that a virtual processor of a slot waits for.
+    pub fn pending_of(&self, config: &Config, vm: u32, vcpu: VcpuId) -> Option<Gfn>
+        ensures { result ≡ (vcpu_at (state_of config.now self.now) vm vcpu).fault }
+    {
+        match self.slot_of(config, vm) {
+            Some(slot) => match slot.vcpu(vcpu).fault {
+                Some(gfn) => Gfn::try_new(gfn),
+                None => None,
+            },
+            None => None,
+        }
+    }
+
+    /// The guest frame of the next page of a slot's image, or why it has none.
+    pub fn next_page_of(&self, config: &Config, vm: u32, image: u32) -> Result<Gfn, Refusal>
+        ensures answer { Answers result (next_page_refusal (linked_slot (slot_at (state_of config.now self.now) vm)) image) }
+        ensures gfn { IfOk result (λ gfn. gfn ≡ next_gfn (state_of config.now self.now) vm image) }
+    {
+        match self.slot_of(config, vm) {
+            Some(slot) => slot.next_page(image),
+            None => Err(Refusal::NoVm),
+        }
+    }
+
+    /// Whether the root slot of a slot's guest frame has a leaf or can take one.
+    pub fn fits_in(&self, config: &Config, vm: u32, gfn: Gfn) -> bool
+        requires { IsLinked config.now self.now }
+        ensures { tables_full (state_of config.now self.now) vm gfn ≡ when (not result) TablesFull }
+    {
+        match self.slot_of(config, vm) {
+            Some(slot) => slot.table().fits(gfn),
+            None => config.leaves() > 0,
+        }
+    }
+}

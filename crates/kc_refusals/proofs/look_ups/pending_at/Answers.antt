@@ -1,8 +1,0 @@
-use Rattle.std.proofs.Common.{ap}
-use Rattle.kc_model.specs.State.{Vcpu, slot_at}
-use Rattle.kc_parts.specs.States.{state_of}
-use Rattle.kc_refusals.proofs.Looked.{vcpu-none}
-use Rattle.kc_refusals.proofs.look_ups.pending_at.Goals as goal
-
-pub returns-in-None : goal.returns-in-None
-returns-in-None c = ap (λ (vcpu : Vcpu). vcpu.fault) (vcpu-none (slot_at (state_of c.args.config.now c.args.parts.now) c.args.vm) c.args.vcpu c.in-None.ensures.value)
