@@ -27,7 +27,7 @@ audit = new_app (codes "audit")
 
 -- the command with `replay` alone
 abbrev pub base : App
-base = with_subcommand (on_top (λ s. record s { no_binary_name = true }) (new_app (codes "kcore"))) replay.top
+base = with_subcommand (on_top (λ s. record s { no_binary_name = true; has_version = true }) (new_app (codes "kcore"))) replay.top
 
 -- the command with `replay` and `live`
 abbrev pub more : App

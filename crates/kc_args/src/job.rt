@@ -30,12 +30,15 @@ pub enum Job<'a> {
     Audit,
 }
 
+/// What `--version` prints behind the program's name.
+const VERSION: &str = "2.0.0";
+
 /// Why there is no job.
 #[derive(Debug, Drop)]
 pub enum ArgFault {
     /// A growth of memory was refused.
     Memory,
-    /// What is to be printed, and the exit status: 0 for help, which was asked for, and 2 for wrong words.
+    /// What is to be printed, and the exit status: 0 for help or the version, which was asked for, and 2 for wrong words.
     Words(String, u8),
 }
 
@@ -90,6 +93,7 @@ fn replay_command<'a>(alloc: Global) -> Result<Command<'a>, AllocError>
         .about(
             "Replay the trace on standard input and write the replies (what no words at all ask for)",
         )
+        .override_usage("kcore replay [OPTIONS]")
         .arg(config_arg(alloc))?
         .arg(workers_arg(alloc))?
         .arg(dump_arg(alloc))
@@ -103,6 +107,7 @@ fn live_command<'a>(alloc: Global) -> Result<Command<'a>, AllocError>
         .about(
             "Run the trace's actors in a thread each, and write their calls as they were answered",
         )
+        .override_usage("kcore live [OPTIONS]")
         .arg(config_arg(alloc))?
         .arg(workers_arg(alloc))
 }
@@ -111,9 +116,11 @@ fn audit_command<'a>(alloc: Global) -> Command<'a>
     ensures app { app_of result ≡ audit }
     ensures local { (fields_of result).has_globals ≡ false }
 {
-    Command::new(alloc, "audit").about(
-        "Say what is wrong with the dump on standard input; the status is 1 where something is",
-    )
+    Command::new(alloc, "audit")
+        .about(
+            "Say what is wrong with the dump on standard input; the status is 1 where something is",
+        )
+        .override_usage("kcore audit")
 }
 
 /// The whole command.
@@ -124,6 +131,7 @@ fn command<'a>(alloc: Global) -> Result<Command<'a>, AllocError>
     let live = live_command(alloc)?;
     let base = Command::new(alloc, "kcore")
         .no_binary_name(true)
+        .version(VERSION)
         .about("Replay calls on the trusted core of a hypervisor")
         .subcommand(replay)?;
     base.subcommand(live)?.subcommand(audit_command(alloc))

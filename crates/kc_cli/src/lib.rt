@@ -17,4 +17,5 @@ pub use fault::TextFault;
 pub use kc_args::{ArgFault, Job, job_of};
 pub use kc_io::{FailAt, Failed, Mem, ReadFault, Sink, Source, Std, read_whole, write_whole};
 pub use live::live_text;
+pub use reading::DEFAULT_CONFIG;
 pub use telling::tell;

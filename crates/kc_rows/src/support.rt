@@ -1,5 +1,5 @@
 //! What the tests share.
-use kc_cli::{Mem, TextFault, audit_text, dump_text, replay_text};
+use kc_cli::{DEFAULT_CONFIG, Mem, TextFault, audit_text, dump_text, replay_text};
 use kc_core::KCore;
 use kc_trace::read_trace;
 use kc_types::{Call, Config, Owner, Reply};
@@ -8,8 +8,7 @@ use std::sync::Wait;
 use std::thread::Threads;
 
 /// 8 frames: 0 is the core's, 1 to 4 are the host's, 5 to 7 are free.
-pub const SMALL: &str =
-    "{\"frames\":8,\"core\":1,\"host\":4,\"leaves\":1,\"approved\":[\"ba7816bf8f01cfea414140de5dae2223b00361a396177a9cb410ff61f20015ad\"]}";
+pub const SMALL: &str = DEFAULT_CONFIG;
 
 /// The SHA-256 digest of `abc`, from the examples of FIPS 180-4.
 pub const ABC: [u8; 32] = [

@@ -4,7 +4,7 @@
 ghost use Rattle.std.specs.Prelude.{◌≡◌, false};
 
 use kc_cli::{
-    ArgFault, Job, Mem, Source, Std, TextFault, audit_text, dump_text, job_of, live_text,
+    ArgFault, DEFAULT_CONFIG, Job, Mem, Source, Std, TextFault, audit_text, dump_text, job_of, live_text,
     replay_text, tell,
 };
 use kc_replay::OpenGate;
@@ -14,11 +14,6 @@ use std::io::{Error, ErrorKind};
 use std::process::ExitCode;
 use std::sync::Wait;
 use std::thread::Threads;
-
-/// The configuration where no file is named: 8 frames, of which the first is the core's and the next four are
-/// the host's, one leaf table a VM, and the digest of `abc` approved.
-const DEFAULT_CONFIG: &[u8; 122] =
-    b"{\"frames\":8,\"core\":1,\"host\":4,\"leaves\":1,\"approved\":[\"ba7816bf8f01cfea414140de5dae2223b00361a396177a9cb410ff61f20015ad\"]}\n";
 
 /// Writes the fault's line on standard error, and answers the exit status.
 fn fail(rt: &HostRuntime, fault: TextFault) -> u8 {
@@ -61,7 +56,7 @@ fn replay<R: Threads + Wait + Sync>(
             replay_in(rt, threads, &mut Std::new(file), workers, dump)
         },
         None => {
-            let Ok(bytes) = Vec::from_slice(rt.alloc(), DEFAULT_CONFIG) else {
+            let Ok(bytes) = Vec::from_slice(rt.alloc(), DEFAULT_CONFIG.as_bytes()) else {
                 return fail(rt, TextFault::Memory);
             };
             replay_in(rt, threads, &mut Mem::with_bytes(bytes), workers, dump)
@@ -110,7 +105,7 @@ fn live<R: Threads + Wait + Sync>(
             run_live_in(rt, threads, &mut Std::new(file), workers)
         },
         None => {
-            let Ok(bytes) = Vec::from_slice(rt.alloc(), DEFAULT_CONFIG) else {
+            let Ok(bytes) = Vec::from_slice(rt.alloc(), DEFAULT_CONFIG.as_bytes()) else {
                 return fail(rt, TextFault::Memory);
             };
             run_live_in(rt, threads, &mut Mem::with_bytes(bytes), workers)
