@@ -37,10 +37,10 @@ pub record IsClearing (config : Configuration) (old mid : Held) (v : ℕ) (list 
   pub low : v < slot_count config
   pub there : IsThere (vm_at old v)
   pub emptied : IsEmptied v old mid
-  pub had : IfSome (vm_at old v) (λ slot. list ≡ slot.slot.ends)
+  pub had : IfSome (vm_at old v) (λ slot. list ≡ slot.slot.frames)
 
 module _ (config : Configuration) (old mid : Held) (v : ℕ) (list : Ends) (is : IsClearing config old mid v list) where
-  ends_are : list ≡ is.there.vm.slot.ends
+  ends_are : list ≡ is.there.vm.slot.frames
   ends_are = rw is.there.is at is.had
 
   -- the list is spelled as before
@@ -51,7 +51,7 @@ module _ (config : Configuration) (old mid : Held) (v : ℕ) (list : Ends) (is :
   free-kept = ap (λ free. list_in (links_of mid) free) is.emptied.free ∙ ap (λ links. list_in links old.free) is.emptied.links
 
   pub list-cleared : IsList (links_of mid) list
-  list-cleared = rw (is.emptied.links, ends_are) (is.linked.lists.spelled (Vm v) is.there.vm.slot.ends (ends-here old v is.there.vm is.there.is))
+  list-cleared = rw (is.emptied.links, ends_are) (is.linked.lists.spelled (Vm v) is.there.vm.slot.frames (ends-here old v is.there.vm is.there.is))
 
   pub owned-cleared : (f : ℕ) → 0 < times_in (listed (links_of mid) list) f → owner_at mid f ≡ Free
   owned-cleared f some = is.emptied.owners config is.linked f (rw listed-kept at some)
@@ -71,7 +71,7 @@ module _ (config : Configuration) (old mid : Held) (v : ℕ) (list : Ends) (is :
       by_count zero count = refl
       by_count (suc n) count =
           let free : owner_at old f ≡ Free = free-owned f (rw free-kept at some) in
-          let inside : 0 < times_in (listed (links_of old) is.there.vm.slot.ends) f = rw (← frames-here old v is.there.vm is.there.is, ← listed-kept, count) (omega arith) in
+          let inside : 0 < times_in (listed (links_of old) is.there.vm.slot.frames) f = rw (← frames-here old v is.there.vm is.there.is, ← listed-kept, count) (omega arith) in
           let mine : owner_at old f ≡ Vm v = slot-owned old v is.there.vm is.linked.lists is.there.is f inside in
           let both = sym free ∙ mine in cc
 

@@ -59,13 +59,13 @@ module _ (config : Configuration) (old : Held) (v g f : ℕ) (vm : VmSlot) (tabl
   vm-unmapped : vm_at unmapped v ≡ Some unmapped_vm
   vm-unmapped = vm-set old v vm unmapped_vm is.at
 
-  frames-unmapped : listed_frames unmapped v ≡ listed (links_of old) vm.slot.ends
+  frames-unmapped : listed_frames unmapped v ≡ listed (links_of old) vm.slot.frames
   frames-unmapped = frames-here unmapped v unmapped_vm vm-unmapped
 
   -- its frame is in the slot's list
   pub inside-unmapped : 0 < times_in (listed_frames unmapped v) f
   inside-unmapped =
-      let there : (slot_at (state_of config old) v).frames ≡ listed (links_of old) vm.slot.ends = ap (λ (slot : Slot). slot.frames) (slot-is config old v vm is.low is.at) in
+      let there : (slot_at (state_of config old) v).frames ≡ listed (links_of old) vm.slot.frames = ap (λ (slot : Slot). slot.frames) (slot-is config old v vm is.low is.at) in
       rw (frames-unmapped, ← there) (times_in-held (slot_at (state_of config old) v).frames f ((is.orderly.each_slot v is.low).listed g f is.mapped))
 
   pub state-dropped : (mid new : Held) → IsSlotMove v unmapped mid → listed_frames mid v ≡ without (listed_frames unmapped v) f → state_of config new ≡ freed (state_of config mid) f
@@ -86,7 +86,7 @@ module _ (config : Configuration) (old : Held) (v g f : ℕ) (vm : VmSlot) (tabl
       m = state_of config old
 
       fs : List ℕ
-      fs = listed (links_of old) vm.slot.ends
+      fs = listed (links_of old) vm.slot.frames
 
       after : Slot
       after = unlinked_slot unmapped_vm.slot (without fs f)

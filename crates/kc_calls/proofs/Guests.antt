@@ -11,7 +11,7 @@ use Rattle.kc_model.proofs.Refusals.Served.{when-none}
 use Rattle.kc_model.proofs.Lawful.GuestCalls.{guest_frame-served}
 use Rattle.kc_page.specs.declared.page.Page.{Page}
 use Rattle.kc_vms.specs.Vm.{VmSlot}
-use Rattle.kc_vms.specs.Vm as slots
+use Rattle.kc_model.specs.Slot as slots
 use Rattle.kc_parts.specs.Parts.{Held, page_at, vm_at, with_vm}
 use Rattle.kc_parts.specs.States.{state_of, IsLinked}
 use Rattle.kc_parts.proofs.SlotChanges.{state-vm}
@@ -25,7 +25,7 @@ pub few-granted : (m : State) (v c g : ℕ) → refusal m (Grant v c g) ≡ None
 few-granted m v c g served = leb-false 100 _ (when-none _ _ (guest_frame-served m v c g _ served).1)
 
 -- the state where a virtual processor of a slot that is here waits for another guest frame, or for none
-pub state-faulted : (config : Configuration) (h : Held) (v c : ℕ) (fault : Option ℕ) (vm new : VmSlot) → v < slot_count config → vm_at h v ≡ Some vm → new ≡ record vm { slot = slots.with_fault vm.slot c fault }
+pub state-faulted : (config : Configuration) (h : Held) (v c : ℕ) (fault : Option ℕ) (vm new : VmSlot) → v < slot_count config → vm_at h v ≡ Some vm → new ≡ record vm { slot = slots.awaiting vm.slot c fault }
     → state_of config (with_vm h v new) ≡ with_fault (state_of config h) v c fault
 state-faulted config h v c fault vm new low at is =
     let m : State = state_of config h in

@@ -18,7 +18,8 @@ use Rattle.kc_page.specs.Page.{frame_of}
 use Rattle.kc_stage2.specs.Stage2.{Table, with_mapping, fits}
 use Rattle.kc_stage2.specs.Faults.{map_fault, Answers}
 use Rattle.kc_stage2.specs.declared.table.MapFault.{MapFault}
-use Rattle.kc_vms.specs.Vm.{VmSlot, slot_table, with_table, with_page}
+use Rattle.kc_vms.specs.Vm.{VmSlot, slot_table, with_table}
+use Rattle.kc_model.specs.Slot.{with_image_page}
 use Rattle.kc_vms.specs.Refusals.{next_page_refusal}
 use Rattle.kc_vms.proofs.Rows.{refusal-remap}
 use Rattle.kc_links.specs.Ending.{listed}
@@ -101,13 +102,13 @@ module _ (config : Configuration) (old : Held) (v g f : ℕ) (vm : VmSlot) (tabl
       m = state_of config old
 
       fs : List ℕ
-      fs = listed (links_of old) vm.slot.ends
+      fs = listed (links_of old) vm.slot.frames
 
       after : Slot
       after = unlinked_slot mapped_vm.slot (fs ++ f ∷ [])
 
       frames-owned : listed_frames owned v ≡ fs
-      frames-owned = frames-here owned v mapped_vm vm-owned ∙ ap (λ links. listed links vm.slot.ends) (links-kept mapped f page new_page is.at is.same)
+      frames-owned = frames-here owned v mapped_vm vm-owned ∙ ap (λ links. listed links vm.slot.frames) (links-kept mapped f page new_page is.at is.same)
 
   pub room-handed : (new : Held) → IsSlotMove v owned new → KeepsPlaces old new
   room-handed new move = room-through old owned new (room-through old mapped owned (room-vm old v vm mapped_vm is.at_vm) (room-page mapped f page new_page is.at is.same (λ away. let near = host-near mapped f is.host in let no = sym near ∙ away in cc))) (room-slot_move v owned new move)
@@ -126,7 +127,7 @@ remap-page m v i f served =
 
 -- after the hand the slot is as before, but for the frame
 module _ (config : Configuration) (old new : Held) (v g f : ℕ) (vm : VmSlot) (state : state_of config new ≡ hand (state_of config old) v g f) (low : v < length (state_of config old).slots) (low' : v < slot_count config) (at : vm_at new v ≡ Some vm) where
-  slot-after : unlinked_slot vm.slot (listed (links_of new) vm.slot.ends) ≡ slot_at (hand (state_of config old) v g f) v
+  slot-after : unlinked_slot vm.slot (listed (links_of new) vm.slot.frames) ≡ slot_at (hand (state_of config old) v g f) v
   slot-after = sym (slot-is config new v vm low' at) ∙ ap (λ (s : State). slot_at s v) state
 
   slot-handed : slot_at (hand (state_of config old) v g f) v ≡ record (slot_at (state_of config old) v) {
@@ -139,13 +140,13 @@ module _ (config : Configuration) (old new : Held) (v g f : ℕ) (vm : VmSlot) (
   pub page-after : (i : ℕ) → next_page_refusal (linked_slot (slot_at (state_of config old) v)) i ≡ None → next_page_refusal vm.slot i ≡ None
   page-after i served = ap (λ (slot : Slot). next_page_refusal (linked_slot slot) i) (slot-after ∙ slot-handed) ∙ served
 
-  pub state-paged : (i : ℕ) (paged : VmSlot) → paged ≡ record vm { slot = with_page vm.slot i } → g ≡ next_gfn (state_of config old) v i → state_of config (with_vm new v paged) ≡ (effect (state_of config old) (Remap v i f)).1
+  pub state-paged : (i : ℕ) (paged : VmSlot) → paged ≡ record vm { slot = with_image_page vm.slot i } → g ≡ next_gfn (state_of config old) v i → state_of config (with_vm new v paged) ≡ (effect (state_of config old) (Remap v i f)).1
   state-paged i paged is gfn =
       let m : State = state_of config old in
       let paged_images : List Image → List Image = λ images. set images i (record (get_or images i (record { base = 0; len = 0; pages = 0 })) { pages = (get_or images i (record { base = 0; len = 0; pages = 0 })).pages + 1 }) in
       ap (λ (vm : VmSlot). state_of config (with_vm new v vm)) is
-      ∙ state-vm config new v vm (record vm { slot = with_page vm.slot i }) at
-      ∙ ap (λ (s : State). with_slot s v (unlinked_slot (with_page vm.slot i) (listed (links_of new) vm.slot.ends))) state
+      ∙ state-vm config new v vm (record vm { slot = with_image_page vm.slot i }) at
+      ∙ ap (λ (s : State). with_slot s v (unlinked_slot (with_image_page vm.slot i) (listed (links_of new) vm.slot.frames))) state
       ∙ ap (λ (slot : Slot). with_slot (hand m v g f) v (record slot { images = paged_images slot.images })) slot-after
       ∙ ap (λ (slot : Slot). with_slot (hand m v g f) v (record (slot_at (hand m v g f) v) { images = paged_images slot.images })) slot-handed
       ∙ ap (λ g. with_slot (hand m v g f) v (record (slot_at (hand m v g f) v) { images = paged_images (slot_at m v).images })) gfn

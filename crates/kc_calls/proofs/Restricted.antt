@@ -89,7 +89,7 @@ module _ (m : State) (here : Resources) (old new : Held) (call : Call) (reply : 
       ap frame_in (sym at) ∙ sym (frame-seen m.config new f (frame-low f e)) ∙ ap (λ s. frame_at s f) both.1
       ∙ frame-merged here after (record { config = after.config; frames = []; free = []; slots = [] }) f (λ low. e)
 
-  slot-new : (v : ℕ) (vm : VmSlot) → here (resource.Vm v) ≡ true → vm_at new v ≡ Some vm → unlinked_slot vm.slot (listed (links_of new) vm.slot.ends) ≡ slot_at after v
+  slot-new : (v : ℕ) (vm : VmSlot) → here (resource.Vm v) ≡ true → vm_at new v ≡ Some vm → unlinked_slot vm.slot (listed (links_of new) vm.slot.frames) ≡ slot_at after v
   slot-new v vm e at =
       ap (slot_in (links_of new)) (sym at) ∙ sym (slot-seen m.config new v (vm-low v e)) ∙ ap (λ s. slot_at s v) both.1
       ∙ slot-merged here after (record { config = after.config; frames = []; free = []; slots = [] }) v (λ low. e)
@@ -112,7 +112,7 @@ module _ (m : State) (here : Resources) (old new : Held) (call : Call) (reply : 
     where
       by_vm : (there : Option VmSlot) → vm_at new v ≡ there → (ends : Ends) × (ends_at new (Vm v) ≡ Some ends) × (listed (links_of new) ends ≡ (slot_at after v).frames)
       by_vm None at = let some : is_some (vm_at new v) ≡ true = here-new (resource.Vm v) ∙ e in let no = rw at at some in cc
-      by_vm (Some vm) at = (vm.slot.ends, ap (option_map (λ (vm : VmSlot). vm.slot.ends)) at, ap (λ (s : Slot). s.frames) (slot-new v vm e at))
+      by_vm (Some vm) at = (vm.slot.frames, ap (option_map (λ (vm : VmSlot). vm.slot.frames)) at, ap (λ (s : Slot). s.frames) (slot-new v vm e at))
 
   -- with the ends of a list all its frames are here still
   pub closed-after : IsClosed after here
@@ -216,9 +216,9 @@ module _ (m : State) (here : Resources) (old new : Held) (call : Call) (reply : 
           by_test true e None at = let some : is_some (vm_at new v) ≡ true = here-new (resource.Vm v) ∙ e in let no = rw at at some in cc
           by_test true e (Some vm) at =
               let slot = slot-new v vm e at in
-              let chain = answer.linked.lists.spelled (Vm v) vm.slot.ends (ap (option_map (λ (vm : VmSlot). vm.slot.ends)) at) in
-              let ends = chain-ends (links_of new) vm.slot.ends (listed (links_of new) vm.slot.ends) chain in
-              ap (λ x. Some (slot_and_ends x)) (ap (λ ends. record vm.slot { ends = ends }) ends ∙ ap linked_slot slot)
+              let chain = answer.linked.lists.spelled (Vm v) vm.slot.frames (ap (option_map (λ (vm : VmSlot). vm.slot.frames)) at) in
+              let ends = chain-ends (links_of new) vm.slot.frames (listed (links_of new) vm.slot.frames) chain in
+              ap (λ x. Some (slot_and_ends x)) (ap (λ ends. record vm.slot { frames = ends }) ends ∙ ap linked_slot slot)
           by_test false e None at = refl
           by_test false e (Some vm) at = let none : is_some (vm_at new v) ≡ false = here-new (resource.Vm v) ∙ e in let no = rw at at none in cc
       parts resource.Free = by_test (here resource.Free) refl new.free refl

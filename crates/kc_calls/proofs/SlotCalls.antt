@@ -13,7 +13,8 @@ use Rattle.kc_types.specs.declared.reply.Reply.TheVariants as reply
 use Rattle.kc_types.specs.declared.slot.Phase.TheVariants.{Booting}
 use Rattle.kc_model.specs.Linked.{LinkedSlot}
 use Rattle.kc_vms.specs.Refusals.{register_refusal, add_vcpu_refusal, add_image_refusal}
-use Rattle.kc_vms.specs.Vm.{VmSlot, with_phase, with_vcpu, with_image}
+use Rattle.kc_vms.specs.Vm.{VmSlot}
+use Rattle.kc_model.specs.Slot.{in_phase, with_vcpu, with_image}
 use Rattle.kc_parts.specs.Parts.{Held, vm_at, with_vm}
 use Rattle.kc_parts.specs.States.{state_of, unlinked_slot, IsLinked}
 use Rattle.kc_calls.specs.Applying.{IsAnswer}
@@ -61,11 +62,11 @@ refusal-set_boot m v base len slot frames low fits is = rw (vm-fits m v low, gfn
 
 -- the slot registers
 pub answer-register_vm : (config : Configuration) (h : Held) (v : ℕ) (vm new : VmSlot) → IsLinked config h → v < slot_count config → vm_at h v ≡ Some vm → register_refusal vm.slot ≡ None
-    → new ≡ record vm { slot = with_phase vm.slot Booting } → IsAnswer config h (with_vm h v new) (RegisterVm v) reply.Done
+    → new ≡ record vm { slot = in_phase vm.slot Booting } → IsAnswer config h (with_vm h v new) (RegisterVm v) reply.Done
 answer-register_vm config h v vm new linked low at served is =
     let m = state_of config h in
     let there = slot-is config h v vm low at in
-    rw is (answer-slot config h v vm (record vm { slot = with_phase vm.slot Booting }) (RegisterVm v) reply.Done linked at refl refl
+    rw is (answer-slot config h v vm (record vm { slot = in_phase vm.slot Booting }) (RegisterVm v) reply.Done linked at refl refl
     (refusal-register_vm m v vm.slot _ low there ∙ served)
     (ap (λ (slot : Slot). (reply.Done, with_slot m v (record slot { phase = Booting }))) there))
 

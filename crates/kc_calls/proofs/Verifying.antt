@@ -8,7 +8,7 @@ use Rattle.kc_model.specs.State.{Slot, with_slot}
 use Rattle.kc_model.specs.Refusals.{refusal}
 use Rattle.kc_model.specs.Effects.{with_phase}
 use Rattle.kc_model.proofs.Lawful.Verifies.{verify-served}
-use Rattle.kc_vms.specs.Vm as slots
+use Rattle.kc_model.specs.Slot as slots
 use Rattle.kc_vms.specs.Vm.{VmSlot}
 use Rattle.kc_parts.specs.Parts.{Held, vm_at, with_vm}
 use Rattle.kc_parts.specs.States.{state_of, IsLinked}
@@ -22,12 +22,12 @@ booting-here config h v vm served at =
     sym (ap (λ (slot : Slot). slot.phase) (slot-is config h v vm seen.0 at)) ∙ seen.1
 
 -- a slot that goes to another phase
-pub state-phase : (config : Configuration) (h : Held) (v : ℕ) (vm new : VmSlot) (phase : Phase) → v < slot_count config → vm_at h v ≡ Some vm → new ≡ record vm { slot = slots.with_phase vm.slot phase }
+pub state-phase : (config : Configuration) (h : Held) (v : ℕ) (vm new : VmSlot) (phase : Phase) → v < slot_count config → vm_at h v ≡ Some vm → new ≡ record vm { slot = slots.in_phase vm.slot phase }
     → state_of config (with_vm h v new) ≡ with_phase (state_of config h) v phase
 state-phase config h v vm new phase low at is =
     ap (λ n. state_of config (with_vm h v n)) is
-    ∙ state-vm config h v vm (record vm { slot = slots.with_phase vm.slot phase }) at
+    ∙ state-vm config h v vm (record vm { slot = slots.in_phase vm.slot phase }) at
     ∙ ap (λ (slot : Slot). with_slot (state_of config h) v (record slot { phase = phase })) (sym (slot-is config h v vm low at))
 
-pub linked-phase : (config : Configuration) (h : Held) (v : ℕ) (vm new : VmSlot) (phase : Phase) → IsLinked config h → vm_at h v ≡ Some vm → new ≡ record vm { slot = slots.with_phase vm.slot phase } → IsLinked config (with_vm h v new)
-linked-phase config h v vm new phase linked at is = linked-vm config h v vm new linked at (ap (λ (n : VmSlot). n.slot.ends) is) (ap (λ (n : VmSlot). n.room) is)
+pub linked-phase : (config : Configuration) (h : Held) (v : ℕ) (vm new : VmSlot) (phase : Phase) → IsLinked config h → vm_at h v ≡ Some vm → new ≡ record vm { slot = slots.in_phase vm.slot phase } → IsLinked config (with_vm h v new)
+linked-phase config h v vm new phase linked at is = linked-vm config h v vm new linked at (ap (λ (n : VmSlot). n.slot.frames) is) (ap (λ (n : VmSlot). n.room) is)

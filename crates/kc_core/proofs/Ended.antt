@@ -35,9 +35,9 @@ module _ (config : Configuration) (h : Held) (is : IsCore config h) where
   pub free-none : h.free ≡ None → ◌≡◌ {A = Ends} (record { head = None; tail = None; count = 0 }) (ends_of (list_in (links_of h) h.free))
   free-none e = rw e refl
 
-  pub slot-ended : (v : ℕ) → v < slot_count config → (there : Option (Bor VmSlot)) → option_copied there ≡ vm_at h v → IfSome there (λ slot. slot.now.slot.ends ≡ ends_of (slot_at (state_of config h) v).frames)
+  pub slot-ended : (v : ℕ) → v < slot_count config → (there : Option (Bor VmSlot)) → option_copied there ≡ vm_at h v → IfSome there (λ slot. slot.now.slot.frames ≡ ends_of (slot_at (state_of config h) v).frames)
   slot-ended v low None e = tt
   slot-ended v low (Some slot) e =
-      let ends : Ends = slot.now.slot.ends in
+      let ends : Ends = slot.now.slot.frames in
       let frames : (slot_at (state_of config h) v).frames ≡ listed (links_of h) ends = vm-listed config h v slot.now low (sym e) in
-      chain-ends (links_of h) ends (listed (links_of h) ends) (is.linked.lists.spelled (Vm v) ends (ap (option_map (λ (vm : VmSlot). vm.slot.ends)) (sym e))) ∙ ap ends_of (sym frames)
+      chain-ends (links_of h) ends (listed (links_of h) ends) (is.linked.lists.spelled (Vm v) ends (ap (option_map (λ (vm : VmSlot). vm.slot.frames)) (sym e))) ∙ ap ends_of (sym frames)

@@ -71,10 +71,10 @@ module _ (config : Configuration) (h : Held) (is : IsCore config h) where
       by_vm : (there : Option VmSlot) → vm_at h v ≡ there → link_in (slot_at (state_of config h) v).frames f ≡ link_of page
       by_vm None e = let some = is.whole.vms v slot_low in let none : is_some (vm_at h v) ≡ false = ap is_some e in cc
       by_vm (Some vm) e =
-          let frames : (slot_at (state_of config h) v).frames ≡ listed (links_of h) vm.slot.ends = ap (λ (slot : Slot). slot.frames) (slot-seen config h v slot_low ∙ ap (slot_in (links_of h)) e) in
+          let frames : (slot_at (state_of config h) v).frames ≡ listed (links_of h) vm.slot.frames = ap (λ (slot : Slot). slot.frames) (slot-seen config h v slot_low ∙ ap (slot_in (links_of h)) e) in
           let mine' : same_owner (frame_at (state_of config h) f).owner (Vm v) ≡ true = ap (λ o. same_owner o (Vm v)) owned ∙ eq-eqb v v refl in
-          let inside : 0 < times_in (listed (links_of h) vm.slot.ends) f = rw frames at (one-of (same_owner (frame_at (state_of config h) f).owner (Vm v)) (times_in (slot_at (state_of config h) v).frames f) mine' (is.lawful.listed v slot_low f)) in
-          ap (λ fs. link_in fs f) frames ∙ link-listed f page vm.slot.ends low at (is.linked.lists.spelled (Vm v) vm.slot.ends (ap (option_map (λ (vm : VmSlot). vm.slot.ends)) e)) inside
+          let inside : 0 < times_in (listed (links_of h) vm.slot.frames) f = rw frames at (one-of (same_owner (frame_at (state_of config h) f).owner (Vm v)) (times_in (slot_at (state_of config h) v).frames f) mine' (is.lawful.listed v slot_low f)) in
+          ap (λ fs. link_in fs f) frames ∙ link-listed f page vm.slot.frames low at (is.linked.lists.spelled (Vm v) vm.slot.frames (ap (option_map (λ (vm : VmSlot). vm.slot.frames)) e)) inside
 
   -- the record of a page is that of its frame
   pub record-shown : (f : ℕ) (meta : PageRecord) → f < config.frames → ShowsRecord h f meta → IsRecordOf (state_of config h) f meta
@@ -104,7 +104,7 @@ pages-frames h (page ∷ pages) a each =
     rw (first, pages-frames h pages (a + 1) (λ k low. each (suc k) (omega (arith, low)) ∙ ap (page_at h) (let e : a + suc k ≡ a + 1 + k = omega arith in e))) refl
 
 -- the frames of a VM
-pub vm-listed : (config : Configuration) (h : Held) (v : ℕ) (vm : VmSlot) → v < slot_count config → vm_at h v ≡ Some vm → (slot_at (state_of config h) v).frames ≡ listed (links_of h) vm.slot.ends
+pub vm-listed : (config : Configuration) (h : Held) (v : ℕ) (vm : VmSlot) → v < slot_count config → vm_at h v ≡ Some vm → (slot_at (state_of config h) v).frames ≡ listed (links_of h) vm.slot.frames
 vm-listed config h v vm low at = ap (λ (slot : Slot). slot.frames) (slot-seen config h v low ∙ ap (slot_in (links_of h)) at)
 
 pub vm-absent : (config : Configuration) (h : Held) (v : ℕ) → vm_at h v ≡ None → v < slot_count config → (slot_at (state_of config h) v).frames ≡ []

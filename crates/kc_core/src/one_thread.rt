@@ -251,7 +251,7 @@ impl KCore {
         ensures exists { IsSome result ↔ (vm < slot_count self.now.config) }
         ensures value { IfSome result (λ slot. slot_at self.now vm ≡ unlinked_slot slot.now.slot (slot_at self.now vm).frames) }
         ensures lawful { IsLawful self.now }
-        ensures linked { IfSome result (λ slot. slot.now.slot.ends ≡ ends_of (slot_at self.now vm).frames) }
+        ensures linked { IfSome result (λ slot. slot.now.slot.frames ≡ ends_of (slot_at self.now vm).frames) }
     {
         self.parts.vm(self.config.vm(vm)?)
     }

@@ -117,7 +117,7 @@ module _ (m : State) (is : IsLawful m) where
     };
   }
 
-  pub slot-low : (v : ℕ) → v < length (dump_of m).slots → dumps.slot_at (dump_of m) v ≡ slot_dump (slot_at m v)
+  pub slot-low : (v : ℕ) → v < length (dump_of m).slots → dumps.slot_dump_at (dump_of m) v ≡ slot_dump (slot_at m v)
   slot-low v low = get_or-map slot_dump m.slots v empty_slot empty_dump (rw (length-map m.slots slot_dump) at low)
 
   in-no-list : (f : ℕ) (owner : Owner) → (frame_at m f).owner ≡ owner → list_of m owner ≡ [] → link_at m f ≡ unlinked
@@ -137,7 +137,7 @@ module _ (m : State) (is : IsLawful m) where
         zeroed = λ free. ap sha256 (frame.zeroed free);
       })
 
-  slot-past : (v : ℕ) → length (dump_of m).slots ≤ v → dumps.slot_at (dump_of m) v ≡ empty_dump
+  slot-past : (v : ℕ) → length (dump_of m).slots ≤ v → dumps.slot_dump_at (dump_of m) v ≡ empty_dump
   slot-past v past = get_or_past (dump_of m).slots v empty_dump past
 
   pub slots : length (dump_of m).slots ≡ slot_count m.config
@@ -160,17 +160,17 @@ module _ (m : State) (is : IsLawful m) where
     | inr past ↦ ap (λ (l : FrameLine). l.gfn) (line-past f past) ∙ sym (ap (λ (x : Frame). x.gfn) (get_or_past m.frames f (untouched Core) (rw is.frames past)))
   ]
 
-  mapped-drawn : (v g f : ℕ) → (maps (dumps.slot_at (dump_of m) v) g f ≡ true) ↔ ((line_owner lines f ≡ Vm v) × ((line_at lines f).gfn ≡ Some g))
+  mapped-drawn : (v g f : ℕ) → (maps (dumps.slot_dump_at (dump_of m) v) g f ≡ true) ↔ ((line_owner lines f ≡ Vm v) × ((line_at lines f).gfn ≡ Some g))
   mapped-drawn v g f = elim (cases_lt v (slot_count m.config)) [
     | inl low ↦
-        let there : maps (dumps.slot_at (dump_of m) v) g f ≡ maps (slot_dump (slot_at m v)) g f = ap (λ s. maps s g f) (slot-low v (rw slots low)) in
+        let there : maps (dumps.slot_dump_at (dump_of m) v) g f ≡ maps (slot_dump (slot_at m v)) g f = ap (λ s. maps s g f) (slot-low v (rw slots low)) in
         let entry = entry-get (slot_at m v).mapped g f in
         let says = is.mapped v g f low in (
           λ t. (let both = says.0 (entry.0 (sym there ∙ t)) in (owner-same f ∙ both.0, gfn-same f ∙ both.1)),
           λ both. there ∙ entry.1 (says.1 (sym (owner-same f) ∙ both.0, sym (gfn-same f) ∙ both.1)),
         )
     | inr past ↦
-        let none : maps (dumps.slot_at (dump_of m) v) g f ≡ false = ap (λ s. maps s g f) (slot-past v (rw slots past)) in (
+        let none : maps (dumps.slot_dump_at (dump_of m) v) g f ≡ false = ap (λ s. maps s g f) (slot-past v (rw slots past)) in (
           λ t. (let no : false ≡ true = sym none ∙ t in cc),
           λ both. (let mine : (frame_at m f).owner ≡ Vm v = sym (owner-same f) ∙ both.0 in
               let exists = below f (λ core. let no : Vm v ≡ Core = sym mine ∙ core in cc) in

@@ -14,6 +14,7 @@ use Rattle.kc_types.specs.declared.owner.Owner.TheVariants.{Core, Host, Free, Vm
 use Rattle.kc_types.specs.declared.slot.Phase.{Phase}
 use Rattle.kc_types.specs.declared.slot.Phase.TheVariants.{Booting, Active, Dead}
 use Rattle.kc_model.specs.State.{State, Frame, Image, frame_at, slot_at, vcpu_at, image_at, mapped_at, with_frame, with_slot, with_vcpu, overwritten, untouched, empty_slot, zero_page}
+use Rattle.kc_model.specs.Slot.{in_phase, awaiting, with_image}
 use Rattle.kc_model.specs.Refusals.{backing, pending, next_gfn, pages_of}
 
 -- a reply and the state after it
@@ -28,7 +29,7 @@ abbrev pub written : State → ℕ → ℕ → List ℕ → State
 written m f off bytes = with_frame m f (record (frame_at m f) { bytes = overwritten (frame_at m f).bytes off bytes })
 
 abbrev pub with_fault : State → ℕ → ℕ → Option ℕ → State
-with_fault m v c fault = with_slot m v (with_vcpu (slot_at m v) c (record (vcpu_at m v c) { fault = fault }))
+with_fault m v c fault = with_slot m v (awaiting (slot_at m v) c fault)
 
 abbrev pub host_takes : State → List ℕ → Outcome
 host_takes m [] = (reply.Done, m)
@@ -86,7 +87,7 @@ all_trimmed m v [] = m
 all_trimmed m v (image ∷ images) = all_trimmed (trimmed m v image) v images
 
 abbrev pub with_phase : State → ℕ → Phase → State
-with_phase m v phase = with_slot m v (record (slot_at m v) { phase = phase })
+with_phase m v phase = with_slot m v (in_phase (slot_at m v) phase)
 
 abbrev pub verified : State → ℕ → Option ℕ → Outcome
 verified m v None = (reply.Done, with_phase (all_trimmed m v (slot_at m v).images) v Active)
@@ -153,7 +154,7 @@ effect m (HostRead f off len) = (read (frame_at m f) off len, m)
 effect m (HostWrite f off bytes) = (reply.Done, written m f off bytes)
 effect m (RegisterVm v) = (reply.Done, with_phase m v Booting)
 effect m (RegisterVcpu v c) = (reply.Done, with_slot m v (with_vcpu (slot_at m v) c (record { registered = true; fault = None })))
-effect m (SetBoot v base len) = (reply.Image (length (slot_at m v).images), with_slot m v (record (slot_at m v) { images = (slot_at m v).images ++ record { base = base; len = len; pages = 0 } ∷ [] }))
+effect m (SetBoot v base len) = (reply.Image (length (slot_at m v).images), with_slot m v (with_image (slot_at m v) base len))
 effect m (Remap v i f) =
     let handed = hand m v (next_gfn m v i) f in
     (reply.Done, with_slot handed v (record (slot_at handed v) { images = slice_set (slot_at m v).images i (record (image_at m v i) { pages = (image_at m v i).pages + 1 }) }))

@@ -1,3 +1,4 @@
+pub mod Slot
 pub mod State
 pub mod Boot
 pub mod Refusals

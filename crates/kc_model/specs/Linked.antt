@@ -1,10 +1,7 @@
 -- The parts of a state whose lists are links in the frames: a frame with its neighbours, a list by its ends.
 use Rattle.std.specs.Prelude.{ℕ, List, [], ◌∷◌, length, Option, Some, None}
-use Rattle.std.specs.Ordering.{nat_cmp}
-use Rattle.std.specs.FinMap as map
 use Rattle.kc_types.specs.declared.call.Call.{Call}
-use Rattle.kc_types.specs.declared.slot.Phase.{Phase}
-use Rattle.kc_model.specs.State.{State, Frame, Slot, Image, Vcpu, frame_at, slot_at}
+use Rattle.kc_model.specs.State.{State, Frame, SlotOf, Slot, frame_at, slot_at}
 use Rattle.kc_model.specs.Resources.{Resource}
 pub use Rattle.kc_types.specs.declared.link.Ends.{Ends}
 use Rattle.kc_model.specs.Links.{Link, first_of, link_at}
@@ -21,16 +18,11 @@ abbrev pub ends_of : List ℕ → Ends
 ends_of xs = record { head = first_of xs; tail = last_of None xs; count = length xs }
 
 -- a slot with the ends of its list in the list's place
-pub record LinkedSlot : Type 0 where
-  pub phase : Phase
-  pub vcpus : List Vcpu
-  pub images : List Image
-  pub ends : Ends
-  pub mapped : map.FinMap nat_cmp ℕ
-  pub leaves : List ℕ
+abbrev pub LinkedSlot : Type 0
+LinkedSlot = SlotOf Ends
 
 abbrev pub linked_slot : Slot → LinkedSlot
-linked_slot there = record { phase = there.phase; vcpus = there.vcpus; images = there.images; ends = ends_of there.frames; mapped = there.mapped; leaves = there.leaves }
+linked_slot there = record { phase = there.phase; vcpus = there.vcpus; images = there.images; frames = ends_of there.frames; mapped = there.mapped; leaves = there.leaves }
 
 pub data LinkedPart : Type 0 where
   frame_and_link : Frame → Link → LinkedPart

@@ -10,6 +10,7 @@ use Rattle.kc_types.specs.declared.owner.Owner.TheVariants.{Host}
 use Rattle.kc_types.specs.declared.slot.Phase.{Phase}
 use Rattle.kc_types.specs.declared.slot.Phase.TheVariants.{Empty, Booting, Active}
 use Rattle.kc_model.specs.State.{State, Image, frame_at, slot_at, vcpu_at, image_at, mapped_at}
+use Rattle.kc_model.specs.Slot.{next_gfn_of}
 use Rattle.kc_types.specs.Configuration.{slot_count}
 use Rattle.kc_types.specs.Limits.{page_size, vcpu_limit, gfn_limit, leaf_entries, image_limit, image_size_limit, share_limit, range_limit}
 
@@ -102,7 +103,7 @@ is_short image = nat_lt image.pages (pages_of image.len)
 
 -- the guest frame of the next page of an image
 abbrev pub next_gfn : State → ℕ → ℕ → ℕ
-next_gfn m v i = (image_at m v i).base + (image_at m v i).pages
+next_gfn m v i = next_gfn_of (slot_at m v) i
 
 -- the guest frame that a virtual processor waits for
 abbrev pub pending : State → ℕ → ℕ → ℕ

@@ -1,15 +1,12 @@
 -- The state of the core as a value: what the calls read and change, without links, pools and leaf numbers.
-use Rattle.std.specs.Prelude.{ℕ, ◌+◌, Bool, false, List, [], length, replicate, take, drop, ◌++◌, slice_index_or, slice_set, Option, None}
-use Rattle.std.specs.Ordering.{nat_cmp}
+use Rattle.std.specs.Prelude.{ℕ, ◌+◌, Bool, false, List, length, replicate, take, drop, ◌++◌, slice_index_or, slice_set, Option, None}
 use Rattle.std.specs.FinMap as map
-use Rattle.kc_types.specs.Limits.{page_size, vcpu_limit}
+use Rattle.kc_types.specs.Limits.{page_size}
 use Rattle.kc_types.specs.Configuration.{Configuration}
 use Rattle.kc_types.specs.declared.owner.Owner.{Owner}
 use Rattle.kc_types.specs.declared.owner.Owner.TheVariants.{Core}
-pub use Rattle.kc_types.specs.declared.slot.Vcpu.{Vcpu}
-pub use Rattle.kc_types.specs.declared.slot.Image.{Image}
-use Rattle.kc_types.specs.declared.slot.Phase.{Phase}
-use Rattle.kc_types.specs.declared.slot.Phase.TheVariants.{Empty}
+pub use Rattle.kc_model.specs.Slot.{SlotOf, Slot, Vcpu, Image, absent_vcpu, empty_slot, vcpu_of, image_of, with_vcpu}
+unfoldable pub use Rattle.kc_model.specs.Slot.{no_vcpus}
 
 -- a frame of memory: who owns it, how many grants it has, where its VM sees it, whether the host reaches it, its bytes
 pub record Frame : Type 0 where
@@ -18,15 +15,6 @@ pub record Frame : Type 0 where
   pub gfn : Option ℕ
   pub present : Bool
   pub bytes : List ℕ
-
--- a VM slot. `frames` are its frames in order of arrival, `mapped` leads from guest frames to frames, `leaves` are its root slots in order taken
-pub record Slot : Type 0 where
-  pub phase : Phase
-  pub vcpus : List Vcpu
-  pub images : List Image
-  pub frames : List ℕ
-  pub mapped : map.FinMap nat_cmp ℕ
-  pub leaves : List ℕ
 
 pub record State : Type 0 where
   pub config : Configuration
@@ -42,16 +30,6 @@ zero_page = replicate page_size 0
 abbrev pub untouched : Owner → Frame
 untouched owner = record { owner = owner; share = 0; gfn = None; present = false; bytes = zero_page }
 
-abbrev pub absent_vcpu : Vcpu
-absent_vcpu = record { registered = false; fault = None }
-
-unfoldable pub no_vcpus : List Vcpu
-no_vcpus = replicate vcpu_limit absent_vcpu
-
--- a slot as at boot
-abbrev pub empty_slot : Slot
-empty_slot = record { phase = Empty; vcpus = no_vcpus; images = []; frames = []; mapped = map.empty; leaves = [] }
-
 -- what stands under a number, and the untouched value where there is none
 abbrev pub frame_at : State → ℕ → Frame
 frame_at m f = slice_index_or m.frames f (untouched Core)
@@ -60,10 +38,10 @@ abbrev pub slot_at : State → ℕ → Slot
 slot_at m v = slice_index_or m.slots v empty_slot
 
 abbrev pub vcpu_at : State → ℕ → ℕ → Vcpu
-vcpu_at m v c = slice_index_or (slot_at m v).vcpus c absent_vcpu
+vcpu_at m v c = vcpu_of (slot_at m v) c
 
 abbrev pub image_at : State → ℕ → ℕ → Image
-image_at m v i = slice_index_or (slot_at m v).images i (record { base = 0; len = 0; pages = 0 })
+image_at m v i = image_of (slot_at m v) i
 
 abbrev pub mapped_at : State → ℕ → ℕ → Option ℕ
 mapped_at m v g = map.get (slot_at m v).mapped g
@@ -74,9 +52,6 @@ with_frame m f frame = record m { frames = slice_set m.frames f frame }
 
 abbrev pub with_slot : State → ℕ → Slot → State
 with_slot m v slot = record m { slots = slice_set m.slots v slot }
-
-abbrev pub with_vcpu : Slot → ℕ → Vcpu → Slot
-with_vcpu slot c vcpu = record slot { vcpus = slice_set slot.vcpus c vcpu }
 
 -- the bytes with these written over them from an offset on
 abbrev pub overwritten : List ℕ → ℕ → List ℕ → List ℕ

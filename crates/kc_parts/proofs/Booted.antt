@@ -143,7 +143,7 @@ module _ (config : Configuration) (is : IsConfiguration config) where
           ≡ linking (by_zero k None (Some (first_free config + k - 1))) (cond (nat_eq (suc k) (config.frames - first_free config)) None (Some (first_free config + k + 1)))
       link k lt = λ i. linking (prev k i) (next k lt i)
 
-  chain-empty : Chain (links_of booted) (empty_vm config.leaves).slot.ends []
+  chain-empty : Chain (links_of booted) (empty_vm config.leaves).slot.frames []
   chain-empty = record { head = refl; tail = refl; count = refl; linked = tt }
 
   owner-boot : (f : ℕ) → f < config.frames → owner_at booted f ≡ boot_owner config f
@@ -164,11 +164,11 @@ module _ (config : Configuration) (is : IsConfiguration config) where
   list-boot Free ends at = inl (refl, sym (same_Some (boot_ends config) ends at))
   list-boot (Vm v) ends at = inr (by_vm (vm_at booted v) refl at)
     where
-      by_vm : (there : Option VmSlot) → vm_at booted v ≡ there → option_map (λ (vm : VmSlot). vm.slot.ends) there ≡ Some ends → (listed (links_of booted) ends ≡ []) × IsList (links_of booted) ends
+      by_vm : (there : Option VmSlot) → vm_at booted v ≡ there → option_map (λ (vm : VmSlot). vm.slot.frames) there ≡ Some ends → (listed (links_of booted) ends ≡ []) × IsList (links_of booted) ends
       by_vm None e is = cc
       by_vm (Some vm) e is =
-          let same : ends ≡ (empty_vm config.leaves).slot.ends = sym (same_Some vm.slot.ends ends is) ∙ ap (λ (vm : VmSlot). vm.slot.ends) (vm-boot v vm e) in
-          rw same (chain-listed (links_of booted) (empty_vm config.leaves).slot.ends [] chain-empty, chain-is_list (links_of booted) (empty_vm config.leaves).slot.ends [] chain-empty)
+          let same : ends ≡ (empty_vm config.leaves).slot.frames = sym (same_Some vm.slot.frames ends is) ∙ ap (λ (vm : VmSlot). vm.slot.frames) (vm-boot v vm e) in
+          rw same (chain-listed (links_of booted) (empty_vm config.leaves).slot.frames [] chain-empty, chain-is_list (links_of booted) (empty_vm config.leaves).slot.frames [] chain-empty)
 
   free-boot : listed (links_of booted) (boot_ends config) ≡ range_with_len (first_free config) (config.frames - first_free config)
   unfolding count
@@ -252,7 +252,7 @@ module _ (config : Configuration) (is : IsConfiguration config) where
         where
           slot-empty-at : (v : ℕ) → slot_in (links_of booted) (vm_at booted v) ≡ empty_slot
           slot-empty-at v = elim (vm-one v) [
-            | inl there ↦ ap (slot_in (links_of booted)) there ∙ ap (λ frames. record { phase = empty_slot.phase; vcpus = empty_slot.vcpus; images = empty_slot.images; frames = frames; mapped = empty_slot.mapped; leaves = empty_slot.leaves }) (chain-listed (links_of booted) (empty_vm config.leaves).slot.ends [] chain-empty)
+            | inl there ↦ ap (slot_in (links_of booted)) there ∙ ap (λ frames. record { phase = empty_slot.phase; vcpus = empty_slot.vcpus; images = empty_slot.images; frames = frames; mapped = empty_slot.mapped; leaves = empty_slot.leaves }) (chain-listed (links_of booted) (empty_vm config.leaves).slot.frames [] chain-empty)
             | inr none ↦ ap (slot_in (links_of booted)) none
           ]
 

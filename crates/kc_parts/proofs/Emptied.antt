@@ -206,7 +206,7 @@ held-here h f held = by_page (nat_lt f frame_limit) (page_at h f) held
 
 module _ (old : Held) (v : ℕ) (vm : VmSlot) (at : vm_at old v ≡ Some vm) where
   abbrev pub fs : List ℕ
-  fs = listed (links_of old) vm.slot.ends
+  fs = listed (links_of old) vm.slot.frames
 
   -- the slot is empty
   abbrev pub reset : Held
@@ -223,11 +223,11 @@ module _ (old : Held) (v : ℕ) (vm : VmSlot) (at : vm_at old v ≡ Some vm) whe
   ends-others Core other = refl
   ends-others Host other = refl
   ends-others Free other = refl
-  ends-others (Vm w) other = ap (option_map (λ (vm : VmSlot). vm.slot.ends)) (vm-other old v w (empty_vm vm.room) (λ same. other (ap Vm same)))
+  ends-others (Vm w) other = ap (option_map (λ (vm : VmSlot). vm.slot.frames)) (vm-other old v w (empty_vm vm.room) (λ same. other (ap Vm same)))
 
   -- the list of the slot has no frames, and those of the others stay
   ends-mine : (p : Owner) (e : Ends) → p ≡ Vm v → ends_at reset p ≡ Some e → e ≡ no_ends
-  ends-mine p e same is = ap (λ o. ends-in o) (sym is ∙ ap (ends_at reset) same ∙ ap (option_map (λ (vm : VmSlot). vm.slot.ends)) at-reset)
+  ends-mine p e same is = ap (λ o. ends-in o) (sym is ∙ ap (ends_at reset) same ∙ ap (option_map (λ (vm : VmSlot). vm.slot.frames)) at-reset)
     where
       ends-in : Option Ends → Ends
       ends-in (Some x) = x
@@ -262,7 +262,7 @@ module _ (old : Held) (v : ℕ) (vm : VmSlot) (at : vm_at old v ≡ Some vm) whe
 
   -- the slot's frames are here, and in no list of another
   here-listed : AreLists (links_of old) (ends_at old) (owner_at old) → AreHere reset fs
-  here-listed are g some = held-here old g (inside-held (links_of old) vm.slot.ends g (are.spelled (Vm v) vm.slot.ends (ends-here old v vm at)) some)
+  here-listed are g some = held-here old g (inside-held (links_of old) vm.slot.frames g (are.spelled (Vm v) vm.slot.frames (ends-here old v vm at)) some)
 
   absent-listed : AreLists (links_of old) (ends_at old) (owner_at old) → AreAbsent reset fs
   absent-listed are g some p e is = elim (same_or_other p (Vm v)) [

@@ -36,7 +36,7 @@ module _ (old mid : Held) (e e' : Ends) (frames : List ℕ) (rest : IsSameRest o
   ends-others Core other = refl
   ends-others Host other = refl
   ends-others Free other = absurd (other refl)
-  ends-others (Vm v) other = ap (option_map (λ (vm : VmSlot). vm.slot.ends)) (vms-stay old mid Free frames rest are keeps owned v)
+  ends-others (Vm v) other = ap (option_map (λ (vm : VmSlot). vm.slot.frames)) (vms-stay old mid Free frames rest are keeps owned v)
 
   owners-same : (f : ℕ) → owner_at moved f ≡ owner_at old f
   owners-same f = ap (λ (frame : Frame). frame.owner) (frames-stay old mid Free frames rest are keeps owned f)

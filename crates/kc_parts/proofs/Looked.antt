@@ -68,5 +68,5 @@ fits-seen m v g vm frames is room = rw is (ap (λ full. when full TablesFull) (r
     turned false n k = past n k
 
 -- the slot of a number that is here
-pub slot-is : (config : Configuration) (h : Held) (v : ℕ) (vm : VmSlot) → v < slot_count config → vm_at h v ≡ Some vm → slot_at (state_of config h) v ≡ unlinked_slot vm.slot (listed (links_of h) vm.slot.ends)
+pub slot-is : (config : Configuration) (h : Held) (v : ℕ) (vm : VmSlot) → v < slot_count config → vm_at h v ≡ Some vm → slot_at (state_of config h) v ≡ unlinked_slot vm.slot (listed (links_of h) vm.slot.frames)
 slot-is config h v vm low at = slot-seen config h v low ∙ ap (slot_in (links_of h)) at

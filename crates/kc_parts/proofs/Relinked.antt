@@ -61,7 +61,7 @@ module _ (old new : Held) (mine : Owner) (frames : List ℕ) (rest : IsSameRest 
     where
       by_slot : (there : Option VmSlot) → vm_at old v ≡ there → slot_in (links_of new) there ≡ slot_in (links_of old) there
       by_slot None is = refl
-      by_slot (Some vm) is = ap (unlinked_slot vm.slot) (stays (Vm v) vm.slot.ends other (ap (option_map (λ (vm : VmSlot). vm.slot.ends)) is))
+      by_slot (Some vm) is = ap (unlinked_slot vm.slot) (stays (Vm v) vm.slot.frames other (ap (option_map (λ (vm : VmSlot). vm.slot.frames)) is))
 
   -- the owner's frames are in no list of another
   pub absent-others : (p : Owner) (e : Ends) → p ≢ mine → ends_at old p ≡ Some e → (f : ℕ) → owner_at old f ≡ mine → times_in (listed (links_of new) e) f ≡ 0

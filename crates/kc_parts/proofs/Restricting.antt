@@ -195,8 +195,8 @@ module _ (m : State) (here : Resources) (h : Held) (is : IsLawful m) (closed : I
       by_test : (b : Bool) → here (resource.Vm v) ≡ b → (here (resource.Vm v) ≡ true) × (ends ≡ ends_of (slot_at m v).frames)
       by_test true t =
           let vm = vm-shown v t in
-          (t, same_Some ends vm.it.slot.ends (sym e ∙ ap (option_map (λ (vm : VmSlot). vm.slot.ends)) vm.is) ∙ ap (λ part. (slot_shown part).ends) vm.same)
-      by_test false t = let no : None ≡ Some ends = sym (ap (option_map (λ (vm : VmSlot). vm.slot.ends)) (vm-none v t)) ∙ e in cc
+          (t, same_Some ends vm.it.slot.frames (sym e ∙ ap (option_map (λ (vm : VmSlot). vm.slot.frames)) vm.is) ∙ ap (λ part. (slot_shown part).ends) vm.same)
+      by_test false t = let no : None ≡ Some ends = sym (ap (option_map (λ (vm : VmSlot). vm.slot.frames)) (vm-none v t)) ∙ e in cc
 
   pub listed-is : (p : Owner) (ends : Ends) → ends_at h p ≡ Some ends → listed (links_of h) ends ≡ list_of m p
   listed-is p ends e = let are = ends-are p ends e in ap (listed (links_of h)) are.1 ∙ chain-listed (links_of h) (ends_of (list_of m p)) (list_of m p) (list-chain p are.0)
@@ -242,7 +242,7 @@ module _ (m : State) (here : Resources) (h : Held) (is : IsLawful m) (closed : I
           let vm = vm-shown v e in
           let same : vm.it.slot ≡ linked_slot (slot_at m v) = ap slot_shown vm.same in
           ap (slot_in (links_of h)) vm.is
-          ∙ ap (unlinked_slot vm.it.slot) (listed-is (Vm v) vm.it.slot.ends (ap (option_map (λ (vm : VmSlot). vm.slot.ends)) vm.is))
+          ∙ ap (unlinked_slot vm.it.slot) (listed-is (Vm v) vm.it.slot.frames (ap (option_map (λ (vm : VmSlot). vm.slot.frames)) vm.is))
           ∙ ap (λ slot. unlinked_slot slot (slot_at m v).frames) same
       by_test false e = ap (slot_in (links_of h)) (vm-none v e)
 

@@ -42,23 +42,23 @@ here-vm h v old new is (resource.Vm w) = elim (cases_eq w v) [
 here-vm h v old new is resource.Free = refl
 
 -- a slot that is here is the slot of its number
-pub state-vm : (config : Configuration) (h : Held) (v : ℕ) (old new : VmSlot) → vm_at h v ≡ Some old → state_of config (with_vm h v new) ≡ with_slot (state_of config h) v (unlinked_slot new.slot (listed (links_of h) new.slot.ends))
+pub state-vm : (config : Configuration) (h : Held) (v : ℕ) (old new : VmSlot) → vm_at h v ≡ Some old → state_of config (with_vm h v new) ≡ with_slot (state_of config h) v (unlinked_slot new.slot (listed (links_of h) new.slot.frames))
 state-vm config h v old new is = λ i. record {
   config = config;
   frames = (state_of config h).frames;
   free = (state_of config h).free;
-  slots = table-set (λ w. slot_in (links_of h) (vm_at h w)) (λ w. slot_in (links_of h) (vm_at (with_vm h v new) w)) (slot_count config) v (unlinked_slot new.slot (listed (links_of h) new.slot.ends))
+  slots = table-set (λ w. slot_in (links_of h) (vm_at h w)) (λ w. slot_in (links_of h) (vm_at (with_vm h v new) w)) (slot_count config) v (unlinked_slot new.slot (listed (links_of h) new.slot.frames))
       (ap (slot_in (links_of h)) (vm-set h v old new is)) (λ w other. ap (slot_in (links_of h)) (vm-other h v w new other)) i;
 }
 
-pub ends-vm : (h : Held) (v : ℕ) (old new : VmSlot) → vm_at h v ≡ Some old → new.slot.ends ≡ old.slot.ends → (owner : Owner) → ends_at (with_vm h v new) owner ≡ ends_at h owner
+pub ends-vm : (h : Held) (v : ℕ) (old new : VmSlot) → vm_at h v ≡ Some old → new.slot.frames ≡ old.slot.frames → (owner : Owner) → ends_at (with_vm h v new) owner ≡ ends_at h owner
 ends-vm h v old new is same Core = refl
 ends-vm h v old new is same Host = refl
 ends-vm h v old new is same Free = refl
-ends-vm h v old new is same (Vm w) = vm-kept (λ vm. vm.slot.ends) h v old new is same w
+ends-vm h v old new is same (Vm w) = vm-kept (λ vm. vm.slot.frames) h v old new is same w
 
 -- a slot changes and keeps the ends of its list
-pub linked-vm : (config : Configuration) (h : Held) (v : ℕ) (old new : VmSlot) → IsLinked config h → vm_at h v ≡ Some old → new.slot.ends ≡ old.slot.ends → new.room ≡ old.room → IsLinked config (with_vm h v new)
+pub linked-vm : (config : Configuration) (h : Held) (v : ℕ) (old new : VmSlot) → IsLinked config h → vm_at h v ≡ Some old → new.slot.frames ≡ old.slot.frames → new.room ≡ old.room → IsLinked config (with_vm h v new)
 linked-vm config h v old new linked is same room = record {
   frames = linked.frames;
   vms = λ w vm there. elim (cases_eq w v) [

@@ -52,7 +52,7 @@ module _ (old mid : Held) (v : ℕ) (vm : VmSlot) (e' : Ends) (frames : List ℕ
   ends-others Core other = refl
   ends-others Host other = refl
   ends-others Free other = rest.free
-  ends-others (Vm w) other = ap (option_map (λ (vm : VmSlot). vm.slot.ends)) (vms-others w (λ same. other (ap Vm same)))
+  ends-others (Vm w) other = ap (option_map (λ (vm : VmSlot). vm.slot.frames)) (vms-others w (λ same. other (ap Vm same)))
 
   owners-same : (f : ℕ) → owner_at moved f ≡ owner_at old f
   owners-same f = ap (λ (frame : Frame). frame.owner) (frames-stay old mid (Vm v) frames rest are keeps owned f)
@@ -85,7 +85,7 @@ module _ (old mid : Held) (v : ℕ) (vm : VmSlot) (e' : Ends) (frames : List ℕ
       frames = λ f here. linked.frames f (sym (here-all (resource.Frame f)) ∙ here);
       vms = λ w there is. room-same w there is config.leaves linked.vms;
       lists = lists-same (links_of mid) (links_of mid) (ends_at moved) (ends_at moved) (owner_at old) (owner_at moved) refl (λ p. refl) owners-same
-          (lists-moved (links_of old) (links_of mid) (ends_at old) (ends_at moved) (owner_at old) (Vm v) frames are keeps owned e' (ap (option_map (λ (vm : VmSlot). vm.slot.ends)) at-moved) ends-others (λ is. cc) list within);
+          (lists-moved (links_of old) (links_of mid) (ends_at old) (ends_at moved) (owner_at old) (Vm v) frames are keeps owned e' (ap (option_map (λ (vm : VmSlot). vm.slot.frames)) at-moved) ends-others (λ is. cc) list within);
     };
   }
     where
@@ -106,7 +106,7 @@ module _ (old mid : Held) (v : ℕ) (vm : VmSlot) (e' : Ends) (frames : List ℕ
     where
       absent-from : (p : Owner) (ends : Ends) → ends_at moved p ≡ Some ends → times_in (listed (links_of mid) ends) f ≡ 0
       absent-from p ends is = elim (same_or_other p (Vm v)) [
-        | inl same ↦ let own : e' ≡ ends = ap (λ o. ends-in o) (sym (ap (option_map (λ (vm : VmSlot). vm.slot.ends)) at-moved) ∙ ap (ends_at moved) (sym same) ∙ is) in rw (← own) gone
+        | inl same ↦ let own : e' ≡ ends = ap (λ o. ends-in o) (sym (ap (option_map (λ (vm : VmSlot). vm.slot.frames)) at-moved) ∙ ap (ends_at moved) (sym same) ∙ is) in rw (← own) gone
         | inr other ↦ absent-others old mid (Vm v) frames rest are keeps owned p ends other (sym (ends-others p other) ∙ is) f (owned f mine)
       ]
         where
@@ -115,14 +115,14 @@ module _ (old mid : Held) (v : ℕ) (vm : VmSlot) (e' : Ends) (frames : List ℕ
           ends-in None = e'
 
 -- the list of a slot that is here
-pub frames-here : (h : Held) (v : ℕ) (vm : VmSlot) → vm_at h v ≡ Some vm → listed_frames h v ≡ listed (links_of h) vm.slot.ends
+pub frames-here : (h : Held) (v : ℕ) (vm : VmSlot) → vm_at h v ≡ Some vm → listed_frames h v ≡ listed (links_of h) vm.slot.frames
 frames-here h v vm at = ap (λ there. (slot_in (links_of h) there).frames) at
 
-pub ends-here : (h : Held) (v : ℕ) (vm : VmSlot) → vm_at h v ≡ Some vm → ends_at h (Vm v) ≡ Some vm.slot.ends
-ends-here h v vm at = ap (option_map (λ (vm : VmSlot). vm.slot.ends)) at
+pub ends-here : (h : Held) (v : ℕ) (vm : VmSlot) → vm_at h v ≡ Some vm → ends_at h (Vm v) ≡ Some vm.slot.frames
+ends-here h v vm at = ap (option_map (λ (vm : VmSlot). vm.slot.frames)) at
 
-pub slot-owned : (h : Held) (v : ℕ) (vm : VmSlot) → AreLists (links_of h) (ends_at h) (owner_at h) → vm_at h v ≡ Some vm → (f : ℕ) → 0 < times_in (listed (links_of h) vm.slot.ends) f → owner_at h f ≡ Vm v
-slot-owned h v vm are at f some = are.owned (Vm v) vm.slot.ends f (ends-here h v vm at) some
+pub slot-owned : (h : Held) (v : ℕ) (vm : VmSlot) → AreLists (links_of h) (ends_at h) (owner_at h) → vm_at h v ≡ Some vm → (f : ℕ) → 0 < times_in (listed (links_of h) vm.slot.frames) f → owner_at h f ≡ Vm v
+slot-owned h v vm are at f some = are.owned (Vm v) vm.slot.frames f (ends-here h v vm at) some
 
 -- the slot is written with other ends
 pub ends-set : (old mid new : Held) (v : ℕ) (vm : VmSlot) (ends : Ends) → mid.vms ≡ old.vms → vm_at old v ≡ Some vm → IfSome (vm_at mid v) (λ slot. new ≡ with_vm mid v (with_ends slot ends)) → new ≡ with_vm mid v (with_ends vm ends)

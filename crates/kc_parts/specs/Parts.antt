@@ -102,7 +102,7 @@ with_vm h v vm = record h { vms = with_held_slot h.vms v vm }
 
 -- the slot with other ends of its list
 abbrev pub with_ends : VmSlot → Ends → VmSlot
-with_ends vm ends = record vm { slot = record vm.slot { ends = ends } }
+with_ends vm ends = record vm { slot = record vm.slot { frames = ends } }
 
 abbrev pub link_of : Page → Link
 link_of page = record { prev = page.meta.prev; next = page.meta.next }
@@ -116,4 +116,4 @@ abbrev pub ends_at : Held → Owner → Option Ends
 ends_at h Core = None
 ends_at h Host = None
 ends_at h Free = h.free
-ends_at h (Vm v) = option_map (λ (vm : VmSlot). vm.slot.ends) (vm_at h v)
+ends_at h (Vm v) = option_map (λ (vm : VmSlot). vm.slot.frames) (vm_at h v)

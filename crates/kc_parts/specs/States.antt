@@ -31,7 +31,7 @@ abbrev pub unlinked_slot : LinkedSlot → List ℕ → Slot
 unlinked_slot slot frames = record { phase = slot.phase; vcpus = slot.vcpus; images = slot.images; frames = frames; mapped = slot.mapped; leaves = slot.leaves }
 
 abbrev pub slot_in : Links → Option VmSlot → Slot
-slot_in links (Some vm) = unlinked_slot vm.slot (listed links vm.slot.ends)
+slot_in links (Some vm) = unlinked_slot vm.slot (listed links vm.slot.frames)
 slot_in links None = empty_slot
 
 abbrev pub state_of : Configuration → Held → State

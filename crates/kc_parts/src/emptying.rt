@@ -47,7 +47,7 @@ impl Parts {
     /// answer has the ends of the one in which they are still linked.
     pub fn empty_slot(&mut self, vm: VmId) -> Ends
         requires { IsSome (vm_at self.old vm) }
-        ensures list { IfSome (vm_at self.old vm) (λ slot. result ≡ slot.slot.ends) }
+        ensures list { IfSome (vm_at self.old vm) (λ slot. result ≡ slot.slot.frames) }
         ensures rest { IsEmptied vm self.old self.new }
     {
         let slot = self.vm_mut(vm).unwrap();

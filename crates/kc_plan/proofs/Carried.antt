@@ -154,7 +154,7 @@ module _ (config : Configuration) (held : Owner → ℕ → Bool) (r : ℕ → �
   gains_free (GrantRange v c g k) f = refl
   gains_free (RevokeRange v c g k) f = refl
 
-  pub frame_is : (call : Call) (f : ℕ) → planner.touched (slot_count config) r (names_of config call) (Frame f) ≡ touched config held call (resource.Frame f)
+  pub frame_is : (call : Call) (f : ℕ) → planner.touches (slot_count config) r (names_of config call) (Frame f) ≡ touched config held call (resource.Frame f)
   frame_is call f = rw (named_is config.frames call f, reach_is (slot_of call) f, same_free f)
       (grouped (names_frame call f && nat_lt f config.frames) (of_slot config held (slot_of call) f) (uses_free call && held owner.Free f))
     where
@@ -189,12 +189,12 @@ module _ (config : Configuration) (held : Owner → ℕ → Bool) (r : ℕ → �
   at_low None p h = cc
   at_low (Some x) p h = exists_low (Some x) p (sym (at_below (slot_count config) x p) ∙ h)
 
-  pub forth : (call : Call) (x : Resource) → touched config held call x ≡ true → planner.touched (slot_count config) r (names_of config call) (numbered (slot_count config) x) ≡ true
+  pub forth : (call : Call) (x : Resource) → touched config held call x ≡ true → planner.touches (slot_count config) r (names_of config call) (numbered (slot_count config) x) ≡ true
   forth call (resource.Frame f) h = frame_is call f ∙ h
   forth call (resource.Vm v) h = slot_is (slot_of call) (uses_free call) v (exists_low (slot_of call) v h) ∙ h
   forth call resource.Free h = free_is (slot_of call) (uses_free call) ∙ h
 
-  pub back : (call : Call) (t : Numbered) → planner.touched (slot_count config) r (names_of config call) t ≡ true → touched config held call (resource_of (slot_count config) t) ≡ true
+  pub back : (call : Call) (t : Numbered) → planner.touches (slot_count config) r (names_of config call) t ≡ true → touched config held call (resource_of (slot_count config) t) ≡ true
   back call (Frame f) h = sym (frame_is call f) ∙ h
   back call (Principal p) h = by (eqb (slot_count config) p) refl
     where

@@ -82,7 +82,7 @@ module _ (config : Configuration) (h : Held) (is : IsCore config h) where
       by_vm : (there : Option VmSlot) → vm_at h v ≡ there → link_of page ≡ link_in (slot_at (state_of config h) v).frames f
       by_vm None e = let some = is.whole.vms v v_low in let no = rw e at some in cc
       by_vm (Some vm) e =
-          list-here (Vm v) vm.slot.ends f page (ap (option_map (λ (vm : VmSlot). vm.slot.ends)) e) (sym (ap (λ (s : Slot). s.frames) (slot-seen config h v v_low ∙ ap (slot_in (links_of h)) e))) low at
+          list-here (Vm v) vm.slot.frames f page (ap (option_map (λ (vm : VmSlot). vm.slot.frames)) e) (sym (ap (λ (s : Slot). s.frames) (slot-seen config h v v_low ∙ ap (slot_in (links_of h)) e))) low at
           ((lists-all (state_of config h) is.lawful).slots v f v_low own)
 
   -- it has a place for each slot
@@ -112,10 +112,10 @@ module _ (config : Configuration) (h : Held) (is : IsCore config h) where
           by_low : ((v < slot_count config) ⊎ (slot_count config ≤ v)) → (there : Option VmSlot) → vm_at h v ≡ there → option_map seen_part (option_map slot_part there) ≡ cond (nat_lt v (slot_count config)) (Some (linked_part_of (state_of config h) (resource.Vm v))) None
           by_low (inl low) None e = let some = is.whole.vms v low in let no = rw e at some in cc
           by_low (inl low) (Some vm) e =
-              let slot : slot_at (state_of config h) v ≡ unlinked_slot vm.slot (listed (links_of h) vm.slot.ends) = slot-seen config h v low ∙ ap (slot_in (links_of h)) e in
-              let chain = is.linked.lists.spelled (Vm v) vm.slot.ends (ap (option_map (λ (vm : VmSlot). vm.slot.ends)) e) in
-              let ends = chain-ends (links_of h) vm.slot.ends (listed (links_of h) vm.slot.ends) chain in
-              rw (lt-ltb v (slot_count config) low) (ap (λ x. Some (slot_and_ends x)) (ap (λ ends. record vm.slot { ends = ends }) ends ∙ ap linked_slot (sym slot)))
+              let slot : slot_at (state_of config h) v ≡ unlinked_slot vm.slot (listed (links_of h) vm.slot.frames) = slot-seen config h v low ∙ ap (slot_in (links_of h)) e in
+              let chain = is.linked.lists.spelled (Vm v) vm.slot.frames (ap (option_map (λ (vm : VmSlot). vm.slot.frames)) e) in
+              let ends = chain-ends (links_of h) vm.slot.frames (listed (links_of h) vm.slot.frames) chain in
+              rw (lt-ltb v (slot_count config) low) (ap (λ x. Some (slot_and_ends x)) (ap (λ ends. record vm.slot { frames = ends }) ends ∙ ap linked_slot (sym slot)))
           by_low (inr past) None e = rw (not-low v (slot_count config) past) refl
           by_low (inr past) (Some vm) e = let low = is.whole.past v (ap is_some e) in absurd (omega (arith, low, past))
       parts resource.Free = by_free h.free refl

@@ -15,7 +15,8 @@ use Rattle.kc_model.specs.Linked.{LinkedSlot}
 use Rattle.kc_model.proofs.Refusals.Served.{when-none, none-of}
 use Rattle.kc_model.proofs.States.Slots.{lawful-empty_slot, at-no_vcpus, waits-not, each-place, apart-push, apart-set}
 use Rattle.kc_model.proofs.Refusals.Answered.{is_short-is}
-use Rattle.kc_vms.specs.Vm.{IsSlot, image_of}
+use Rattle.kc_vms.specs.Vm.{IsSlot}
+use Rattle.kc_model.specs.Slot.{image_of}
 use Rattle.kc_vms.specs.Refusals.{no_vm, not_booting, next_page_refusal}
 
 pub slot-empty : IsSlot Empty no_vcpus []

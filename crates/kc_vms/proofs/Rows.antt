@@ -6,7 +6,7 @@ use Rattle.kc_types.specs.declared.refusal.Refusal.{Refusal}
 use Rattle.kc_model.specs.State.{State, slot_at}
 use Rattle.kc_model.specs.Refusals.{refusal, when, or_else, first_of_these, bad_vm, bad_frame, not_host, tables_full, next_gfn, is_short}
 use Rattle.kc_model.specs.Linked.{LinkedSlot, linked_slot}
-use Rattle.kc_vms.specs.Vm as slots
+use Rattle.kc_model.specs.Slot as slots
 use Rattle.kc_vms.specs.Refusals.{no_vm, not_booting, next_page_refusal}
 
 -- the conditions of the next page, and what comes after them

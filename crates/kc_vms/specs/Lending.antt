@@ -9,7 +9,7 @@ use Rattle.kc_vms.specs.contracts.vm.Vm.{the_row}
 
 -- the slot ends with the ends that are left behind the reference
 abbrev pub LendsList : MutBor VmSlot → MutBor Ends → Fml
-LendsList vm list = Lends the_row ends_row vm list (λ ends. record vm.now { slot = record vm.now.slot { ends = ends } })
+LendsList vm list = Lends the_row ends_row vm list (λ ends. record vm.now { slot = record vm.now.slot { frames = ends } })
 
 -- the slot ends with the table that is left behind the reference
 abbrev pub LendsTable : MutBor VmSlot → MutBor Table → Fml

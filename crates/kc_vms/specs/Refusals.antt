@@ -6,7 +6,7 @@ use Rattle.kc_types.specs.declared.refusal.Refusal.{Refusal}
 use Rattle.kc_types.specs.declared.refusal.Refusal.TheVariants.{SlotUsed, NoVm, WrongPhase, VcpuUsed, ImagesFull, Overlap, NoImage, ImageFull}
 use Rattle.kc_model.specs.Refusals.{when, first_of_these, is_empty, is_booting, overlaps, is_short}
 use Rattle.kc_model.specs.Linked.{LinkedSlot}
-use Rattle.kc_vms.specs.Vm.{vcpu_of, image_of}
+use Rattle.kc_model.specs.Slot.{vcpu_of, image_of}
 
 -- the result is an error exactly where there is a refusal, and that refusal
 abbrev pub Answers : {X : Type 0} → Result X Refusal → Option Refusal → Type 0

@@ -32,33 +32,6 @@ IsVm vm = IsSlot vm.slot.phase vm.slot.vcpus vm.slot.images
 abbrev pub empty_vm : ℕ → VmSlot
 empty_vm room = record { slot = linked_slot empty_slot; room = room }
 
-abbrev pub vcpu_of : LinkedSlot → ℕ → Vcpu
-vcpu_of slot c = slice_index_or slot.vcpus c absent_vcpu
-
-abbrev pub image_of : LinkedSlot → ℕ → Image
-image_of slot i = slice_index_or slot.images i (record { base = 0; len = 0; pages = 0 })
-
--- the guest frame of the next page of an image
-abbrev pub next_gfn_of : LinkedSlot → ℕ → ℕ
-next_gfn_of slot i = (image_of slot i).base + (image_of slot i).pages
-
-abbrev pub with_phase : LinkedSlot → Phase → LinkedSlot
-with_phase slot phase = record slot { phase = phase }
-
-abbrev pub with_vcpu : LinkedSlot → ℕ → Vcpu → LinkedSlot
-with_vcpu slot c vcpu = record slot { vcpus = slice_set slot.vcpus c vcpu }
-
-abbrev pub with_fault : LinkedSlot → ℕ → Option ℕ → LinkedSlot
-with_fault slot c fault = with_vcpu slot c (record (vcpu_of slot c) { fault = fault })
-
--- the slot with an image more, which has no pages yet
-abbrev pub with_image : LinkedSlot → ℕ → ℕ → LinkedSlot
-with_image slot base len = record slot { images = slot.images ++ record { base = base; len = len; pages = 0 } ∷ [] }
-
--- the slot with a page more of an image
-abbrev pub with_page : LinkedSlot → ℕ → LinkedSlot
-with_page slot i = record slot { images = slice_set slot.images i (record (image_of slot i) { pages = (image_of slot i).pages + 1 }) }
-
 -- the table of the slot
 abbrev pub slot_table : VmSlot → Table
 slot_table vm = record { mapped = vm.slot.mapped; leaves = vm.slot.leaves; room = vm.room }

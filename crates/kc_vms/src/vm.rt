@@ -5,7 +5,8 @@ ghost use Rattle.std.specs.Borrow.{sem};
 ghost use Rattle.kc_types.specs.Limits.{gfn_limit, image_size_limit, leaf_limit};
 ghost use Rattle.kc_model.specs.State.{no_vcpus};
 ghost use Rattle.kc_model.specs.Refusals.{pages_of, first_of_these, overlaps};
-ghost use Rattle.kc_vms.specs.Vm.{IsVm, empty_vm, vcpu_of, next_gfn_of, with_phase, with_vcpu, with_fault, with_image, with_page, slot_table};
+ghost use Rattle.kc_vms.specs.Vm.{IsVm, empty_vm, slot_table};
+ghost use Rattle.kc_model.specs.Slot.{vcpu_of, next_gfn_of, in_phase, with_vcpu, awaiting, with_image, with_image_page};
 ghost use Rattle.kc_vms.specs.Refusals.{Answers, no_vm, not_booting, register_refusal, add_vcpu_refusal, add_image_refusal, next_page_refusal};
 
 use arrayvec::ArrayVec;
@@ -36,7 +37,7 @@ impl Model for Vm {
 
     ghost coded = { Prim.hlevel (codes, map.code {R = nat_cmp} coded_ℕ coded_ℕ) };
 
-    ghost view = { λ v. record { slot = record { phase = v.phase; vcpus = v.vcpus.items; images = v.images.items; ends = v.list; mapped = v.table.mapped; leaves = v.table.leaves }; room = v.table.room } };
+    ghost view = { λ v. record { slot = record { phase = v.phase; vcpus = v.vcpus.items; images = v.images.items; frames = v.list; mapped = v.table.mapped; leaves = v.table.leaves }; room = v.table.room } };
 
     ghost invariant = { λ v. IsSlot v.phase v.vcpus.items v.images.items };
 }
@@ -85,7 +86,7 @@ impl Vm {
 
     /// The ends of the list of its frames.
     pub fn list(&self) -> &Ends
-        ensures { result.now ≡ self.now.slot.ends }
+        ensures { result.now ≡ self.now.slot.frames }
     {
         &self.list
     }
@@ -93,7 +94,7 @@ impl Vm {
     /// The ends of the list of its frames, for writing.
     pub fn list_mut(&mut self) -> &mut Ends
         ensures* writes_back { sem 𝓛 (LendsList self.entry result) }
-        ensures value { result.now ≡ self.old.slot.ends }
+        ensures value { result.now ≡ self.old.slot.frames }
     {
         &mut self.list
     }
@@ -116,7 +117,7 @@ impl Vm {
     /// An empty slot becomes booting. `SlotUsed` where it isn't empty, and then nothing has changed.
     pub fn register(&mut self) -> Result<(), Refusal>
         ensures answer { Answers result (register_refusal self.old.slot) }
-        ensures ok { OnOk result (self.new ≡ record self.old { slot = with_phase self.old.slot Phase.Booting }) }
+        ensures ok { OnOk result (self.new ≡ record self.old { slot = in_phase self.old.slot Phase.Booting }) }
         ensures err { OnErr result (self.new ≡ self.old) }
     {
         if self.phase != Phase::Empty {
@@ -205,7 +206,7 @@ impl Vm {
     /// An image that has a next page has one page more.
     pub fn add_page(&mut self, image: u32)
         requires { next_page_refusal self.old.slot image ≡ None }
-        ensures { self.new ≡ record self.old { slot = with_page self.old.slot image } }
+        ensures { self.new ≡ record self.old { slot = with_image_page self.old.slot image } }
     {
         self.images[image as usize].pages += 1;
     }
@@ -214,14 +215,14 @@ impl Vm {
     pub fn set_fault(&mut self, vcpu: VcpuId, gfn: Gfn)
         requires active { self.old.slot.phase ≡ Phase.Active }
         requires registered { (vcpu_of self.old.slot vcpu).registered ≡ true }
-        ensures { self.new ≡ record self.old { slot = with_fault self.old.slot vcpu (Some gfn) } }
+        ensures { self.new ≡ record self.old { slot = awaiting self.old.slot vcpu (Some gfn) } }
     {
         self.vcpus[vcpu.index()].fault = Some(gfn.number());
     }
 
     /// A virtual processor waits for nothing.
     pub fn spend_fault(&mut self, vcpu: VcpuId)
-        ensures { self.new ≡ record self.old { slot = with_fault self.old.slot vcpu None } }
+        ensures { self.new ≡ record self.old { slot = awaiting self.old.slot vcpu None } }
     {
         self.vcpus[vcpu.index()].fault = None;
     }
@@ -229,7 +230,7 @@ impl Vm {
     /// A booting slot becomes active.
     pub fn activate(&mut self)
         requires { self.old.slot.phase ≡ Phase.Booting }
-        ensures { self.new ≡ record self.old { slot = with_phase self.old.slot Phase.Active } }
+        ensures { self.new ≡ record self.old { slot = in_phase self.old.slot Phase.Active } }
     {
         self.phase = Phase::Active;
     }
@@ -237,7 +238,7 @@ impl Vm {
     /// A booting slot becomes dead.
     pub fn kill(&mut self)
         requires { self.old.slot.phase ≡ Phase.Booting }
-        ensures { self.new ≡ record self.old { slot = with_phase self.old.slot Phase.Dead } }
+        ensures { self.new ≡ record self.old { slot = in_phase self.old.slot Phase.Dead } }
     {
         self.phase = Phase::Dead;
     }
@@ -255,7 +256,7 @@ impl Vm {
 }
 
 /// The virtual processors of a VM, none of them registered.
-#[tactic(auto, unfolding(kc_model::specs::State::no_vcpus))]
+#[tactic(auto, unfolding(kc_model::specs::Slot::no_vcpus))]
 fn absent_vcpus() -> ArrayVec<Vcpu, VCPU_LIMIT>
     ensures { result.items ≡ no_vcpus }
 {

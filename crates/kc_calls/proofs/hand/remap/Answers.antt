@@ -77,7 +77,7 @@ returns-in-Ok c =
     let at = c.slot_mut.ensures.value in
     rw (← c.in-Ok.ensures.found.vm, ← c.in-Ok.ensures.found.frame) (answer-served c.args.config.now c.args.parts.now _ (Remap c.in-Ok.page.vm c.args.image c.in-Ok.page.frame) reply.Done (served k) refl
     (state-paged _ c.args.parts.now c.hand.new.parts _ _ _ _ c.hand.ensures.state (low k) (seen k).vm at c.args.image c.add_page.new.self c.add_page.ensures (is_gfn k))
-    (linked-vm _ _ _ _ c.add_page.new.self c.hand.ensures.linked at (ap (λ (vm : VmSlot). vm.slot.ends) c.add_page.ensures) (ap (λ (vm : VmSlot). vm.room) c.add_page.ensures))
+    (linked-vm _ _ _ _ c.add_page.new.self c.hand.ensures.linked at (ap (λ (vm : VmSlot). vm.slot.frames) c.add_page.ensures) (ap (λ (vm : VmSlot). vm.room) c.add_page.ensures))
     (room-through _ _ _ c.hand.ensures.room (room-vm c.hand.new.parts _ _ c.add_page.new.self at)))
 
 pub returns-in-Err : goal.returns-in-Err
