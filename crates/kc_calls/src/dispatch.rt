@@ -5,13 +5,11 @@ ghost use Rattle.kc_model.specs.Next.{next};
 ghost use Rattle.kc_parts.specs.States.{state_of, IsLinked};
 ghost use Rattle.kc_calls.specs.Applying.{IsAble, IsAnswer, KeepsPlaces};
 
-use crate::clear::clear;
-use crate::drop::drop_page;
+use crate::freeing::{clear, drop_page};
 use crate::guest::{guest_read, guest_write};
 use crate::hand::{map, remap};
 use crate::host::{give, host_fault, host_read, host_write, take};
-use crate::ranges::{grant_range, revoke_range};
-use crate::shares::{grant, revoke};
+use crate::shares::{grant, grant_range, revoke, revoke_range};
 use crate::slots::{register_vcpu, register_vm, set_boot};
 use crate::verify::verify;
 use kc_parts::Parts;

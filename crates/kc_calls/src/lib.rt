@@ -1,14 +1,12 @@
 //! One call on the parts that it needs.
 #![tactic(auto)]
 
-mod clear;
 mod dispatch;
-mod drop;
+mod freeing;
 mod guest;
 mod hand;
 mod host;
 pub mod laws;
-mod ranges;
 mod shares;
 mod slots;
 mod verify;

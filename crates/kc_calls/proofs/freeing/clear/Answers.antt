@@ -11,8 +11,8 @@ use Rattle.kc_calls.proofs.Needed.{slot-needed}
 use Rattle.kc_calls.proofs.Frames.{room-emptied, room-move, room-through}
 use Rattle.kc_calls.proofs.Answered.{answer-refused, answer-served}
 use Rattle.kc_calls.proofs.Clears.{IsClearing, clear-served, the-slot, list-cleared, owned-cleared, apart-cleared, state-cleared}
-use Rattle.kc_calls.proofs.clear.clear.Goals as goal
-use Rattle.kc_calls.proofs.clear.clear.Goals.{In-Ok, After-empty_slot-list}
+use Rattle.kc_calls.proofs.freeing.clear.Goals as goal
+use Rattle.kc_calls.proofs.freeing.clear.Goals.{In-Ok, After-empty_slot-list}
 
 able : (c : In-Ok) → IsAble c.args.config.now c.args.parts.now (Clear c.in-Ok.slot)
 able c = rw c.in-Ok.ensures.slot c.requires

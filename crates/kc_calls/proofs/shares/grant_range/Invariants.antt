@@ -4,7 +4,7 @@ use Rattle.kc_model.specs.Refusals.{share_at}
 use Rattle.kc_model.specs.Effects.{with_each, granted}
 use Rattle.kc_parts.specs.States.{state_of, IsLinked}
 use Rattle.kc_calls.specs.Applying.{KeepsPlaces}
-use Rattle.kc_calls.proofs.ranges.grant_range.Given as goal
+use Rattle.kc_calls.proofs.shares.grant_range.Given as goal
 
 -- what is left to do leads where the whole does
 abbrev pub invariant-loop-at : goal.invariant-loop-at

@@ -1,6 +1,6 @@
-//! The call by which a slot gives up one of its frames.
+//! The calls by which frames of a slot are free again: it gives up one, or is cleared and gives up all.
 ghost use Rattle.std.specs.Prelude.{◌≡◌, ◌<◌, false, IsSome, IfOk};
-ghost use Rattle.kc_types.specs.declared.call.Call.TheVariants.{Drop};
+ghost use Rattle.kc_types.specs.declared.call.Call.TheVariants.{Drop, Clear};
 ghost use Rattle.kc_model.specs.Refusals.{refusal};
 ghost use Rattle.kc_model.specs.Effects.{freed};
 ghost use Rattle.kc_vms.specs.Refusals.{Answers};
@@ -11,7 +11,7 @@ ghost use Rattle.kc_calls.specs.Guests.{IsMapping};
 
 use crate::shares::{Mapping, mapped_frame};
 use kc_parts::Parts;
-use kc_types::{Config, FrameNo, Owner, Refusal, Reply};
+use kc_types::{Config, FrameNo, Owner, Phase, Refusal, Reply, VmId};
 
 /// The frame at a guest frame that may be given up.
 fn unshared_frame(
@@ -64,6 +64,36 @@ pub fn drop_page(parts: &mut Parts, config: &Config, vm: u32, vcpu: u32, gfn: u3
             slot.table_mut().unmap(found.gfn);
             parts.unlink_vm(found.vm, found.frame);
             free_frame(parts, config, found.frame);
+            Reply::Done
+        },
+        Err(refusal) => Reply::Refused(refusal),
+    }
+}
+
+/// The slot of this number, which has a VM.
+fn used_slot(parts: &Parts, config: &Config, vm: u32) -> Result<VmId, Refusal>
+    ensures answer { Answers result (refusal (state_of config.now parts.now) (Clear vm)) }
+    ensures slot { IfOk result (λ slot. slot ≡ vm) }
+{
+    let Some(slot) = config.vm(vm) else {
+        return Err(Refusal::BadVm);
+    };
+    match parts.phase_of(config, vm) {
+        Phase::Empty => Err(Refusal::NoVm),
+        Phase::Booting | Phase::Active | Phase::Dead => Ok(slot),
+    }
+}
+
+/// A slot is empty again, and its frames, with zero bytes, go to the end of the free list in the order in which
+/// they came.
+pub fn clear(parts: &mut Parts, config: &Config, vm: u32) -> Reply
+    requires { IsAble config.now parts.old (Clear vm) }
+    ensures { IsAnswer config.now parts.old parts.new (Clear vm) result }
+{
+    match used_slot(parts, config, vm) {
+        Ok(slot) => {
+            let list = parts.empty_slot(slot);
+            parts.append_list(list);
             Reply::Done
         },
         Err(refusal) => Reply::Refused(refusal),

@@ -12,8 +12,8 @@ use Rattle.kc_calls.proofs.Frames.{room-through}
 use Rattle.kc_calls.proofs.Needed.{slot-needed, mapped-needed}
 use Rattle.kc_calls.proofs.Answered.{answer-refused, answer-served}
 use Rattle.kc_calls.proofs.Drops.{IsUnmapping, linked-unmapped, inside-unmapped, state-dropped, room-unlinked, near-unlinked}
-use Rattle.kc_calls.proofs.drop.drop_page.Goals as goal
-use Rattle.kc_calls.proofs.drop.drop_page.Goals.{In-Ok, After-unmap}
+use Rattle.kc_calls.proofs.freeing.drop_page.Goals as goal
+use Rattle.kc_calls.proofs.freeing.drop_page.Goals.{In-Ok, After-unmap}
 
 able : (c : In-Ok) → IsAble c.args.config.now c.args.parts.now (Drop c.in-Ok.found.vm c.args.vcpu c.in-Ok.found.gfn)
 able c = rw (c.in-Ok.ensures.mapped.vm, c.in-Ok.ensures.mapped.gfn) c.requires

@@ -5,7 +5,7 @@ use Rattle.kc_parts.proofs.Seen.{linked-moved}
 use Rattle.kc_calls.proofs.Frames.{room-page, room-move, room-through}
 use Rattle.kc_calls.proofs.Hosts.{loose-page}
 use Rattle.kc_calls.proofs.Drops.{state-freed}
-use Rattle.kc_calls.proofs.drop.free_frame.Goals as goal
+use Rattle.kc_calls.proofs.freeing.free_frame.Goals as goal
 
 pub append_free-requires-clause-lists : goal.append_free-requires-clause-lists
 append_free-requires-clause-lists c = (linked-moved c.args.config.now _ _ _ _ c.requires.linked c.page_mut-page.ensures.value refl c.requires.loose.absent (λ host. c.requires.loose.alone)).lists

@@ -3,7 +3,7 @@ use Rattle.std.specs.List.{range_with_len}
 use Rattle.kc_model.specs.Effects.{with_each, revoked}
 use Rattle.kc_parts.specs.States.{state_of, IsLinked}
 use Rattle.kc_calls.specs.Applying.{KeepsPlaces}
-use Rattle.kc_calls.proofs.ranges.revoke_range.Given as goal
+use Rattle.kc_calls.proofs.shares.revoke_range.Given as goal
 
 -- what is left to do leads where the whole does
 abbrev pub invariant-loop-at : goal.invariant-loop-at
