@@ -22,7 +22,7 @@ use Rattle.kc_page.specs.declared.page.Page.{Page}
 use Rattle.kc_page.specs.declared.page.PageRecord.{PageRecord}
 use Rattle.kc_page.specs.Page.{frame_of, IsRecordOf}
 use Rattle.kc_vms.specs.Vm.{VmSlot}
-use Rattle.kc_links.specs.Chain.{Links, NamesNeighbours as IsLinkedFrom, first_or}
+use Rattle.kc_links.specs.Chain.{Links, NamesNeighbours, first_or}
 use Rattle.kc_links.specs.Ending.{listed, IsList}
 use Rattle.kc_links.proofs.Neighbours.{link_in-linked}
 use Rattle.kc_parts.specs.Parts.{Held, page_at, vm_at, link_of, links_of}

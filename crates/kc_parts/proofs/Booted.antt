@@ -20,7 +20,7 @@ use Rattle.kc_model.specs.Boot.{boot, boot_owner, boot_frame, no_vms}
 use Rattle.kc_model.proofs.Lawful.AtBoot.{times_in-range}
 use Rattle.kc_page.specs.declared.page.Page.{Page}
 use Rattle.kc_vms.specs.Vm.{VmSlot, empty_vm}
-use Rattle.kc_links.specs.Chain.{Links, IsLinked as IsLinkedFrom, first_or, last_or, unlinked}
+use Rattle.kc_links.specs.Chain.{Links, NamesNeighbours, first_or, last_or, unlinked}
 use Rattle.kc_links.specs.Ending.{Chain, listed, IsList}
 use Rattle.kc_links.proofs.Chains.{chain-listed, chain-is_list}
 use Rattle.kc_parts.specs.Parts.{Held, HeldSlots, IsHeld, page_at, vm_at, links_of, ends_at}
@@ -39,7 +39,7 @@ linking prev next = Some (record { prev = prev; next = next })
 -- frames that are linked by rising number
 linked-range : (links : Links) (a n : ℕ) (before after : Option ℕ)
     → ((k : ℕ) → k < n → links (a + k) ≡ linking (by_zero k before (Some (a + k - 1))) (cond (nat_eq (suc k) n) after (Some (a + k + 1))))
-    → IsLinkedFrom links before (range_with_len a n) after
+    → NamesNeighbours links before (range_with_len a n) after
 linked-range links a zero before after each = tt
 linked-range links a (suc n) before after each = (
   ap links (let e : a ≡ a + 0 = omega arith in e) ∙ each 0 (omega arith) ∙ ap (λ next. linking (before) (next)) (first n refl),

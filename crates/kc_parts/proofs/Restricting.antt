@@ -195,7 +195,7 @@ module _ (m : State) (here : Resources) (h : Held) (is : IsLawful m) (closed : I
       by_test : (b : Bool) → here (resource.Vm v) ≡ b → (here (resource.Vm v) ≡ true) × (ends ≡ ends_of (slot_at m v).frames)
       by_test true t =
           let vm = vm-shown v t in
-          (t, same_Some ends vm.it.slot.frames (sym e ∙ ap (option_map (λ (vm : VmSlot). vm.slot.frames)) vm.is) ∙ ap (λ part. (slot_shown part).ends) vm.same)
+          (t, same_Some ends vm.it.slot.frames (sym e ∙ ap (option_map (λ (vm : VmSlot). vm.slot.frames)) vm.is) ∙ ap (λ part. (slot_shown part).frames) vm.same)
       by_test false t = let no : None ≡ Some ends = sym (ap (option_map (λ (vm : VmSlot). vm.slot.frames)) (vm-none v t)) ∙ e in cc
 
   pub listed-is : (p : Owner) (ends : Ends) → ends_at h p ≡ Some ends → listed (links_of h) ends ≡ list_of m p
