@@ -15,7 +15,6 @@ use Rattle.kc_types.specs.declared.reply.Reply.{Reply}
 use Rattle.kc_types.specs.declared.resource.Resource.TheVariants as resource
 use Rattle.kc_model.specs.State.{State, Frame, Slot, frame_at, slot_at}
 use Rattle.kc_model.specs.Lawful.{IsLawful, times_in}
-use Rattle.kc_model.specs.Ranged.{IsRanged}
 use Rattle.kc_model.specs.Next.{next}
 use Rattle.kc_model.specs.Resources.{Resource, Resources, IsWithin, is_in, need}
 use Rattle.kc_model.specs.Local.{IsOrderly, cut}
@@ -55,13 +54,13 @@ able-cut m here h call is closed cut_is within = record {
       ∙ within r (sym (need-merged here m (record { config = m.config; frames = []; free = []; slots = [] }) call within r) ∙ sym (ap (λ s. need s call r) (state-cut m here h is closed cut_is)) ∙ needed);
 }
 
-module _ (m : State) (here : Resources) (old new : Held) (call : Call) (reply : Reply) (is : IsLawful m) (ranged : IsRanged call) (closed : IsClosed m here) (cut_is : IsRestricted m here old)
+module _ (m : State) (here : Resources) (old new : Held) (call : Call) (reply : Reply) (is : IsLawful m) (closed : IsClosed m here) (cut_is : IsRestricted m here old)
     (within : IsWithin (need m call) here) (answer : IsAnswer m.config old new call reply) where
   abbrev pub after : State
   after = (next m call).1
 
   lawful-after : IsLawful after
-  lawful-after = lawful-next m call ranged is
+  lawful-after = lawful-next m call is
 
   orderly-m : IsOrderly m
   orderly-m = orderly-is m is

@@ -5,7 +5,6 @@ use Rattle.kc_types.specs.declared.reply.Reply.{Reply}
 use Rattle.kc_types.specs.Configuration.{Configuration}
 use Rattle.kc_model.specs.State.{State}
 use Rattle.kc_model.specs.Lawful.{IsLawful}
-use Rattle.kc_model.specs.Ranged.{IsRanged}
 use Rattle.kc_model.specs.Next.{next}
 use Rattle.kc_model.specs.Resources.{Resource, Resources, merged, need, IsWithin}
 use Rattle.kc_model.specs.Local.{IsOrderly, cut}
@@ -37,10 +36,10 @@ pub record IsAnswer (config : Configuration) (old new : Held) (call : Call) (ans
 -- made on them, answers what the state answers, and leaves the next state's parts at the same resources
 pub record IsLocalityOfParts : Type 0 where
   pub able : (m : State) (here : Resources) (h : Held) (call : Call) → IsLawful m → IsClosed m here → IsRestricted m here h → IsWithin (need m call) here → IsAble m.config h call
-  pub step : (m : State) (here : Resources) (old new : Held) (call : Call) (reply : Reply) → IsLawful m → IsRanged call → IsClosed m here → IsRestricted m here old → IsWithin (need m call) here
+  pub step : (m : State) (here : Resources) (old new : Held) (call : Call) (reply : Reply) → IsLawful m → IsClosed m here → IsRestricted m here old → IsWithin (need m call) here
       → IsAnswer m.config old new call reply → (reply ≡ (next m call).0) × IsRestricted (next m call).1 here new
   -- with the ends of a list all its frames stay
-  pub closed : (m : State) (here : Resources) (old new : Held) (call : Call) (reply : Reply) → IsLawful m → IsRanged call → IsClosed m here → IsRestricted m here old → IsWithin (need m call) here
+  pub closed : (m : State) (here : Resources) (old new : Held) (call : Call) (reply : Reply) → IsLawful m → IsClosed m here → IsRestricted m here old → IsWithin (need m call) here
       → IsAnswer m.config old new call reply → IsClosed (next m call).1 here
 
 -- what a call does with parts, it does with every lawful state that they are cut from, whatever stands where they are not

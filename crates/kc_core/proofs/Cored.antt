@@ -10,7 +10,6 @@ use Rattle.kc_types.specs.declared.resource.Resource.TheVariants as resource
 use Rattle.kc_model.specs.State.{State, frame_at}
 use Rattle.kc_model.specs.Lawful.{IsLawful, same_owner}
 use Rattle.kc_model.specs.Next.{next}
-use Rattle.kc_model.specs.Ranged.{IsRanged}
 use Rattle.kc_model.specs.Resources.{need, names_frame, slot_of, uses_free, of_slot, exists_slot, listed_in, is_in}
 use Rattle.kc_model.proofs.Lawful.Keeps.{lawful-next}
 use Rattle.kc_model.proofs.Local.Orderly.{listed-owned}
@@ -81,7 +80,7 @@ core-kept config old new is lawful linked room = record {
 }
 
 -- a call that is answered, or that meets want of memory, leaves the state lawful
-pub lawful-left : {X E : Type 0} (answer : Result X E) (config : Configuration) (old new : Held) (call : Call) → IsRanged call → IsLawful (state_of config old)
+pub lawful-left : {X E : Type 0} (answer : Result X E) (config : Configuration) (old new : Held) (call : Call) → IsLawful (state_of config old)
     → OnOk answer (state_of config new ≡ (next (state_of config old) call).1) → OnErr answer (new ≡ old) → IsLawful (state_of config new)
-lawful-left (Ok reply) config old new call ranged is state same = rw state (lawful-next _ call ranged is)
-lawful-left (Err refused) config old new call ranged is state same = rw same is
+lawful-left (Ok reply) config old new call is state same = rw state (lawful-next _ call is)
+lawful-left (Err refused) config old new call is state same = rw same is

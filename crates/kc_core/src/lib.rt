@@ -2,8 +2,7 @@
 #![tactic(auto)]
 
 mod look_ups;
+mod on_parts;
 mod one_thread;
-mod ranged;
 
 pub use one_thread::{KCore, RunStop};
-pub use ranged::read_all_numbers;

@@ -19,8 +19,8 @@ ghost use Rattle.kc_parts.specs.States.{state_of, unlinked_slot};
 ghost use Rattle.kc_core.specs.KCore.{IsCore};
 
 use crate::look_ups::{frames_of, page_record};
-use crate::ranged::{read_all_numbers, read_numbers};
-use kc_calls::{answer, apply};
+use crate::on_parts::{answer_each, make, run};
+use kc_calls::answer;
 use kc_page::{Page, PageBytes, PageRecord, scrub_all};
 use kc_parts::Parts;
 use kc_types::{
@@ -109,7 +109,6 @@ impl KCore {
         ensures state { self.new ≡ (next self.old call.now).1 }
         ensures lawful { IsLawful self.new }
     {
-        read_numbers(call);
         answer(&mut self.parts, &self.config, call, room)
     }
 
@@ -122,8 +121,7 @@ impl KCore {
         ensures lawful { IsLawful self.new }
         ensures memory { IsErr result → is_data (next self.old call.now).0 ≡ true }
     {
-        read_numbers(call);
-        apply(self.alloc, &mut self.parts, &self.config, call)
+        make(self.alloc, &mut self.parts, &self.config, call)
     }
 
     /// Answers a trace, call by call, and gives the replies in order.
@@ -135,24 +133,7 @@ impl KCore {
         // Such a stop comes for want of memory alone, which no clause can rule out: tests run to the end.
         ensures stop { IfErr result (λ stop. StopsAfter self.old calls.now stop.done stop.replies.items self.new) }
     {
-        let _parts = &self.parts;
-        read_all_numbers(calls);
-        let mut replies = match Vec::with_capacity(alloc, calls.len()) {
-            Ok(replies) => replies,
-            Err(_) => {
-                return Err(RunStop {
-                    done: 0,
-                    replies: Vec::new(alloc),
-                });
-            },
-        };
-        for (done, call) in calls.iter().enumerate() {
-            match self.call(call) {
-                Ok(reply) => replies.push(reply).unwrap(),
-                Err(_) => return Err(RunStop { done, replies }),
-            }
-        }
-        Ok(replies)
+        run(alloc, &mut self.parts, &self.config, calls)
     }
 
     /// Answers a trace and gives the replies in order. Each call is let go once it is answered, so that the replies
@@ -163,21 +144,7 @@ impl KCore {
         ensures replies { IfOk result (λ replies. replies.items ≡ replies_from self.old calls.items) }
         ensures state { OnOk result (self.new ≡ state_after self.old calls.items) }
     {
-        let _parts = &self.parts;
-        read_all_numbers(&calls);
-        self.answer_each(alloc, calls)
-    }
-
-    #[tactic(auto, using(crate::proofs::Answered::replies_more, crate::proofs::Answered::state_more))]
-    fn answer_each(&mut self, alloc: Global, calls: Vec<Call>) -> Result<Vec<Reply>, Memory>
-        ensures replies { IfOk result (λ replies. replies.items ≡ replies_from self.old calls.items) }
-        ensures state { OnOk result (self.new ≡ state_after self.old calls.items) }
-    {
-        let mut replies = Vec::with_capacity(alloc, calls.len())?;
-        for call in calls {
-            replies.push(self.call(&call)?)?;
-        }
-        Ok(replies)
+        answer_each(alloc, &mut self.parts, &self.config, calls)
     }
 
     /// What the core was started with.

@@ -8,7 +8,6 @@ use Rattle.kc_types.specs.declared.owner.Owner.TheVariants.{Vm}
 use Rattle.kc_model.specs.State.{State, Frame, frame_at, slot_at}
 use Rattle.kc_model.specs.Refusals.{is_active, any_from}
 use Rattle.kc_model.specs.Next.{replies_from, state_after}
-use Rattle.kc_model.specs.Ranged.{IsRanged}
 use Rattle.kc_model.specs.Lawful.{IsLawful, same_owner}
 
 -- a slot and a set of its guest frames
@@ -77,10 +76,10 @@ pub record SeesTheSame (s : Secret) (m n : State) (calls others : List Call) : T
 
 -- whatever the slot and its secret guest frames: a trace that grants none of them shows nothing of their bytes
 abbrev pub HostIsBlind : State → List Call → Type 0
-HostIsBlind m calls = (s : Secret) (n : State) (others : List Call) → IsLawful n → AllByRecursion IsRanged others → AreAlike s m n → AlikeTraces s calls others
+HostIsBlind m calls = (s : Secret) (n : State) (others : List Call) → IsLawful n → AreAlike s m n → AlikeTraces s calls others
     → AllByRecursion (λ call. grants_secret s call ≡ false) calls → SeesTheSame s m n calls others
 
 -- the same of a run that answered: of its replies and the state that it left
 abbrev pub ShowsNothing : State → List Call → List Reply → State → Type 0
-ShowsNothing old calls replies new = (s : Secret) (n : State) (others : List Call) → IsLawful n → AllByRecursion IsRanged others → AreAlike s old n → AlikeTraces s calls others
+ShowsNothing old calls replies new = (s : Secret) (n : State) (others : List Call) → IsLawful n → AreAlike s old n → AlikeTraces s calls others
     → AllByRecursion (λ call. grants_secret s call ≡ false) calls → SameReplies s calls replies (replies_from n others) × AreAlike s new (state_after n others)

@@ -9,6 +9,7 @@ pub mod Lawful
 pub mod Links
 pub mod Safety
 pub mod Ranged
+pub mod Bytes
 pub mod Blind
 pub mod Resources
 pub mod Local

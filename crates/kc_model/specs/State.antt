@@ -7,6 +7,7 @@ use Rattle.kc_types.specs.declared.owner.Owner.{Owner}
 use Rattle.kc_types.specs.declared.owner.Owner.TheVariants.{Core}
 pub use Rattle.kc_model.specs.Slot.{SlotOf, Slot, Vcpu, Image, absent_vcpu, empty_slot, vcpu_of, image_of, with_vcpu}
 unfoldable pub use Rattle.kc_model.specs.Slot.{no_vcpus}
+use Rattle.kc_model.specs.Bytes.{as_bytes}
 
 -- a frame of memory: who owns it, how many grants it has, where its VM sees it, whether the host reaches it, its bytes
 pub record Frame : Type 0 where
@@ -55,4 +56,4 @@ with_slot m v slot = record m { slots = slice_set m.slots v slot }
 
 -- the bytes with these written over them from an offset on
 abbrev pub overwritten : List ℕ → ℕ → List ℕ → List ℕ
-overwritten bytes off written = take off bytes ++ written ++ drop (off + length written) bytes
+overwritten bytes off written = take off bytes ++ as_bytes written ++ drop (off + length written) bytes

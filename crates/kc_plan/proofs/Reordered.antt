@@ -1,10 +1,9 @@
 -- The calls of a trace in another order give the same replies and the same end.
-use Rattle.std.proofs.Common.{ℕ, zero, suc, ◌≡◌, ◌<◌, Bool, true, false, List, [], ◌∷◌, All, length, refl, sym, ap, subst, ◌∙◌, arith}
+use Rattle.std.proofs.Common.{ℕ, zero, suc, ◌≡◌, ◌<◌, Bool, true, false, List, [], ◌∷◌, length, refl, sym, ap, subst, ◌∙◌, arith}
 use Rattle.kc_types.specs.declared.call.Call.{Call}
 use Rattle.kc_types.specs.declared.owner.Owner.TheVariants.{Core}
 use Rattle.kc_model.specs.State.{State, empty_slot, untouched}
 use Rattle.kc_model.specs.Lawful.{IsLawful}
-use Rattle.kc_model.specs.Ranged.{IsRanged}
 use Rattle.kc_model.specs.Next.{next, state_after}
 use Rattle.kc_model.specs.Resources.{Resource, IsWithin, need, pick, merged, part_of}
 use Rattle.kc_model.specs.Local.{IsSameSize, AgreesOn}
@@ -19,7 +18,7 @@ use Rattle.waves.specs.Reorder.{with_number, IsDue, IsTaken, IsReordering, left_
 use Rattle.waves.proofs.Reorders.{all_done, rest, due_finds, due_leaves, due_keeps, by_waves}
 use Rattle.kc_plan.specs.Commuting.{IsStep}
 use Rattle.kc_plan.specs.Reordering.{after_order, AnswersAlike, IsOrderFree, IsWaveOrderFree, IsReadiness}
-use Rattle.kc_plan.proofs.Commute.{each-ranged, has_needs, is_stepping}
+use Rattle.kc_plan.proofs.Commute.{has_needs, is_stepping}
 
 pick-all : {X : Type 0} (d : X) (xs ys : List X) → pick (λ i. true) d xs ys ≡ xs
 pick-all d [] ys = refl
@@ -40,17 +39,17 @@ size-at m calls (suc k) = sized-then m (state_at m calls k) (state_at m calls (s
 size-between : (m a b : State) → IsSameSize m a → IsSameSize m b → IsSameSize a b
 size-between m a b ma mb = record { config = mb.config ∙ sym ma.config; frames = mb.frames ∙ sym ma.frames; slots = mb.slots ∙ sym ma.slots }
 
-module _ (m : State) (calls : List Call) (is : IsLawful m) (ranged : All IsRanged calls) where
+module _ (m : State) (calls : List Call) (is : IsLawful m) where
   -- the store has of each resource what the calls done so far leave
   Holds : (ℕ → Bool) → State → Type 0
   Holds done store = IsSameSize m store × ((r : Resource) → part_of store r ≡ left_by (footprint m calls) (part_at m calls) done (length calls) r)
 
   still : (j : ℕ) (r : Resource) → j < length calls → footprint m calls j r ≡ false → part_at m calls (suc j) r ≡ part_at m calls j r
-  still j r lt outside = footprint-keeps m calls is (orderly-at m calls is (each-ranged calls ranged)) j lt r outside
+  still j r lt outside = footprint-keeps m calls is (orderly-at m calls is) j lt r outside
 
   due-step : (done : ℕ → Bool) (k : ℕ) (store : State) → IsDue (footprint m calls) (length calls) done k → Holds done store → IsStep m calls k store
   unfolding Holds
-  due-step done k store due holds = is_stepping m calls is ranged k due.within store (record {
+  due-step done k store due holds = is_stepping m calls is k due.within store (record {
     size = size-between m (state_at m calls k) store (size-at m calls k) holds.0;
     parts = λ r here. holds.1 r ∙ due_finds (footprint m calls) (part_at m calls) (length calls) done k r still due here;
   })
@@ -95,7 +94,7 @@ module _ (m : State) (calls : List Call) (is : IsLawful m) (ranged : All IsRange
         size = size-between m (state_at m calls k) store (size-at m calls k) holds.0;
         parts = λ r here. holds.1 r ∙ due_finds (footprint m calls) (part_at m calls) (length calls) done k r still due here;
       } in
-      let within : IsWithin (need (state_at m calls k) (call_at calls k)) (footprint m calls k) = has_needs m calls is ranged k due.within in
+      let within : IsWithin (need (state_at m calls k) (call_at calls k)) (footprint m calls k) = has_needs m calls is k due.within in
       within r (sym (need-merged (footprint m calls k) (state_at m calls k) store (call_at calls k) within r) ∙ ap (λ s. need s (call_at calls k) r) (merged-agrees (footprint m calls k) (state_at m calls k) store agrees) ∙ needed)
 
   pub ready : (order : List ℕ) (done : ℕ → Bool) (k : ℕ) → IsTaken (footprint m calls) (length calls) (λ j. false) order done → IsDue (footprint m calls) (length calls) done k → IsWithin (need (after_order calls m order) (call_at calls k)) (footprint m calls k)
@@ -115,10 +114,10 @@ module _ (m : State) (calls : List Call) (is : IsLawful m) (ranged : All IsRange
   )
 
 pub is_order_free : IsOrderFree
-is_order_free m calls order is ranged fits = reordered m calls is ranged order fits
+is_order_free m calls order is fits = reordered m calls is order fits
 
 pub is_wave_order_free : IsWaveOrderFree
-is_wave_order_free m calls wave order is ranged plan each = reordered m calls is ranged order (by_waves (footprint m calls) wave (length calls) (λ k. false) order plan each)
+is_wave_order_free m calls wave order is plan each = reordered m calls is order (by_waves (footprint m calls) wave (length calls) (λ k. false) order plan each)
 
 pub is_ready : IsReadiness
-is_ready m calls order done k is ranged taken due = ready m calls is ranged order done k taken due
+is_ready m calls order done k is taken due = ready m calls is order done k taken due

@@ -19,7 +19,7 @@ use Rattle.kc_model.proofs.Local.Agreeing.{merged-agrees, keeps-others}
 use Rattle.kc_model.proofs.Local.Parts.{need-merged}
 use Rattle.kc_model.proofs.Local.LinksKept.{links-kept}
 use Rattle.kc_model.proofs.Local.Needs.{by_slot, by_free}
-use Rattle.kc_model.proofs.Lawful.LawfulTraces.{IsRangedTrace, lawful-at, orderly-at, lists-all}
+use Rattle.kc_model.proofs.Lawful.LawfulTraces.{lawful-at, orderly-at, lists-all}
 use Rattle.kc_vms.specs.Vm.{VmSlot}
 use Rattle.kc_parts.specs.Parts.{Held, vm_at}
 use Rattle.kc_parts.specs.Cuts.{HeldPart, held_at, IsSplit, IsJoin, either}
@@ -48,9 +48,9 @@ from-need : (a b : Bool) → (a ≡ true → b ≡ true) → b ≡ false → a �
 from-need true b le none = let yes = le refl in let no = rw none at yes in cc
 from-need false b le none = refl
 
-module _ (m : State) (calls : List Call) (feet : ℕ → Resources) (is : IsLawful m) (ranged : IsRangedTrace calls) (are : AreFeet m calls feet) where
+module _ (m : State) (calls : List Call) (feet : ℕ → Resources) (is : IsLawful m) (are : AreFeet m calls feet) where
   lawful : (k : ℕ) → k ≤ length calls → IsLawful (state_at m calls k)
-  lawful k le = lawful-at m calls is ranged k le
+  lawful k le = lawful-at m calls is k le
 
   pub config-at : (k : ℕ) → (state_at m calls k).config ≡ m.config
   config-at k = (size-at m calls k).config
@@ -75,7 +75,7 @@ module _ (m : State) (calls : List Call) (feet : ℕ → Resources) (is : IsLawf
     parts = λ r e.
         let before : i < length calls = omega (arith, le, low) in
         let apart : feet i r ≡ false = not-in i k r before low (λ same. omega (arith, same, le)) e in
-        keeps-others (state_at m calls i) (call_at calls i) (orderly-at m calls is ranged i before) r
+        keeps-others (state_at m calls i) (call_at calls i) (orderly-at m calls is i before) r
         (from-need (need (state_at m calls i) (call_at calls i) r) (feet i r) (λ needed. are.needs i before r (sym (needs-same (state_at m calls i) i before (mutual-agrees i i (omega arith) before) r) ∙ needed)) apart)
         ∙ (mutual-agrees i k (omega (arith, le)) low).parts r e;
   }
@@ -86,7 +86,7 @@ module _ (m : State) (calls : List Call) (feet : ℕ → Resources) (is : IsLawf
   -- a call leaves what is not in its foot, links too
   keeps : (k : ℕ) (r : Resource) → k < length calls → feet k r ≡ false → linked_part_of (state_at m calls (suc k)) r ≡ linked_part_of (state_at m calls k) r
   keeps k r low none =
-      links-kept (state_at m calls k) (call_at calls k) (orderly-at m calls is ranged k low) (lists-all (state_at m calls k) (lawful k (omega (arith, low)))) r
+      links-kept (state_at m calls k) (call_at calls k) (orderly-at m calls is k low) (lists-all (state_at m calls k) (lawful k (omega (arith, low)))) r
       (from-need (need (state_at m calls k) (call_at calls k) r) (feet k r) (needs-at k low r) none)
 
   -- from call i on to call i + d none touches r

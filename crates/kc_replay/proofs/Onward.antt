@@ -1,7 +1,6 @@
 -- One wave after another.
-use Rattle.std.proofs.Common.{ℕ, zero, suc, ◌≡◌, ◌≢◌, ◌<◌, ◌≤◌, ◌⊎◌, inl, inr, Bool, true, false, ◌||◌, ◌==◌, eq-eqb, List, [], ◌∷◌, ◌++◌, length, All, get_or, take, drop, set, ◌+◌, refl, sym, ap, subst, ◌∙◌, arith}
+use Rattle.std.proofs.Common.{ℕ, zero, suc, ◌≡◌, ◌≢◌, ◌<◌, ◌≤◌, ◌⊎◌, inl, inr, Bool, true, false, ◌||◌, ◌==◌, eq-eqb, List, [], ◌∷◌, ◌++◌, length, get_or, take, drop, set, ◌+◌, refl, sym, ap, subst, ◌∙◌, arith}
 use Rattle.std.proofs.lemmas.Bool.{cases_eq, cases_lt, ne_eqb, false_from_ne_true}
-use Rattle.std.specs.List.{AllByRecursion}
 use Rattle.std.proofs.Math.Seq.{take-append_seam}
 use Rattle.std.proofs.lemmas.List.{get_or-set_same, get_or-set_other}
 use Rattle.kc_types.specs.declared.call.Call.{Call}
@@ -9,7 +8,6 @@ use Rattle.kc_types.specs.declared.reply.Reply.{Reply}
 use Rattle.kc_types.specs.declared.reply.Reply.TheVariants.{Done}
 use Rattle.kc_model.specs.State.{State}
 use Rattle.kc_model.specs.Lawful.{IsLawful}
-use Rattle.kc_model.specs.Ranged.{IsRanged}
 use Rattle.kc_model.specs.Resources.{Resource, Resources}
 use Rattle.kc_model.specs.Next.{next, replies_from, state_after}
 use Rattle.kc_model.specs.Footprints.{call_at, state_at, reply_at, footprint}
@@ -20,7 +18,6 @@ use Rattle.waves.specs.Reorder.{with_number, IsDue, IsTaken}
 use Rattle.waves.proofs.Reorders.{due_by_wave}
 use Rattle.kc_plan.specs.Commuting.{IsWaves}
 use Rattle.kc_plan.specs.Reordering.{after_order, AnswersAlike}
-use Rattle.kc_plan.proofs.Commute.{each-ranged}
 use Rattle.kc_plan.proofs.Reordered.{alike, is_order_free}
 use Rattle.kc_replay.specs.Wave.{IsWave, AreReplied, wave_calls}
 use Rattle.kc_plan.specs.Plan.{AreCallNumbers, AreCallsOf}
@@ -116,11 +113,11 @@ after-wave : (calls : List Call) (store : State) (ks : List ℕ) → state_at st
 after-wave calls store [] = refl
 after-wave calls store (k ∷ ks) = state_at-rest store (call_at calls k) (wave_calls calls ks) (length ks) ∙ after-wave calls (next store (call_at calls k)).1 ks
 
-lawful-taken : {Res : Type 0} (touches : ℕ → Res → Bool) (calls : List Call) → All IsRanged calls → (order : List ℕ) (done final : ℕ → Bool) (store : State) → IsTaken touches (length calls) done order final → IsLawful store
+lawful-taken : {Res : Type 0} (touches : ℕ → Res → Bool) (calls : List Call) (order : List ℕ) (done final : ℕ → Bool) (store : State) → IsTaken touches (length calls) done order final → IsLawful store
     → IsLawful (after_order calls store order)
-lawful-taken touches calls ranged [] done final store same is = is
-lawful-taken touches calls ranged (k ∷ ks) done final store due is =
-    lawful-taken touches calls ranged ks (with_number k done) final (next store (call_at calls k)).1 due.1 (lawful-next store (call_at calls k) (each-ranged calls ranged k due.0.within) is)
+lawful-taken touches calls [] done final store same is = is
+lawful-taken touches calls (k ∷ ks) done final store due is =
+    lawful-taken touches calls ks (with_number k done) final (next store (call_at calls k)).1 due.1 (lawful-next store (call_at calls k) is)
 
 -- the replies of a wave's calls are those of the trace
 alike-get : (m : State) (calls : List Call) (store : State) (ks : List ℕ) → AnswersAlike m calls store ks → (i : ℕ) → i < length ks → reply_at store (wave_calls calls ks) i ≡ reply_at m calls (get_or ks i 0)
@@ -138,7 +135,7 @@ same-replies m (c ∷ cs) (r ∷ rs) size each =
     ∙ ap (λ (xs : List Reply). (next m c).0 ∷ xs)
     (same-replies (next m c).1 cs rs (omega (arith, size)) (λ k low. each (suc k) (omega (arith, low)) ∙ ap (λ (s : State). (next s (call_at cs k)).0) (state_at-rest m c cs k)))
 
-module _ (m : State) (calls : List Call) (is : IsLawful m) (ranged : All IsRanged calls) (wave : ℕ → ℕ) (plan : IsWaves m calls wave) where
+module _ (m : State) (calls : List Call) (is : IsLawful m) (wave : ℕ → ℕ) (plan : IsWaves m calls wave) where
   -- no call is done
   pub up-to-none : (replies : List Reply) → length replies ≡ length calls → IsUpTo m calls wave 0 m replies
   up-to-none replies size = record {
@@ -156,7 +153,7 @@ module _ (m : State) (calls : List Call) (is : IsLawful m) (ranged : All IsRange
   pub up-to-all : (w : ℕ) (store : State) (replies : List Reply) → ((k : ℕ) → k < length calls → wave k ≤ w) → IsUpTo m calls wave w store replies → (replies ≡ replies_from m calls) × (store ≡ state_after m calls)
   up-to-all w store replies last up = (
     same-replies m calls replies up.size (λ k low. up.replied k low (last k low)),
-    up.state ∙ (is_order_free m calls up.order is ranged (record { final = up.done; taken = up.taken; all = λ j low. up.below j low (last j low) })).1,
+    up.state ∙ (is_order_free m calls up.order is (record { final = up.done; taken = up.taken; all = λ j low. up.below j low (last j low) })).1,
   )
 
   module _ (feet : ℕ → Resources) (rows : (k : ℕ) (r : Resource) → k < length calls → feet k r ≡ footprint m calls k r) (w : ℕ) (store : State) (replies : List Reply) (up : IsUpTo m calls wave w store replies)
@@ -186,10 +183,9 @@ module _ (m : State) (calls : List Call) (is : IsLawful m) (ranged : All IsRange
     -- the next wave can be made side by side
     pub wave-next : IsWave store calls feet members
     wave-next = subst (λ (s : State). IsWave s calls feet members) (sym up.state) (record {
-      lawful = lawful-taken (footprint m calls) calls ranged up.order (λ j. false) up.done m up.taken is;
-      ranged = ranged;
+      lawful = lawful-taken (footprint m calls) calls up.order (λ j. false) up.done m up.taken is;
       within = are.calls.within;
-      feet_are = feet-of-wave m calls is ranged wave up.order up.done feet members (suc w) plan up.taken due-at are.same are.calls.once rows;
+      feet_are = feet-of-wave m calls is wave up.order up.done feet members (suc w) plan up.taken due-at are.same are.calls.once rows;
       once = are.calls.once;
     })
 
@@ -224,7 +220,7 @@ module _ (m : State) (calls : List Call) (is : IsLawful m) (ranged : All IsRange
         given-at k at =
             subst (λ (x : ℕ). get_or given x Done ≡ reply_at m calls x) at.2
             (replied.given at.0 at.1 ∙ ap (λ (s : State). reply_at s (wave_calls calls members) at.0) up.state
-            ∙ alike-get m calls (after_order calls m up.order) members (alike m calls is ranged up.order members up.done (done_after members up.done) up.taken taken-next) at.0 at.1)
+            ∙ alike-get m calls (after_order calls m up.order) members (alike m calls is up.order members up.done (done_after members up.done) up.taken taken-next) at.0 at.1)
 
         by_wave : (k : ℕ) → k < length calls → wave k ≤ suc w → ((wave k < suc w) ⊎ (suc w ≤ wave k)) → get_or given k Done ≡ reply_at m calls k
         by_wave k low le (inl less) =
@@ -250,11 +246,6 @@ state-one m calls k = let e : k + 1 ≡ suc k = omega arith in rw e refl
 -- the numbers of a wave's calls
 pub numbers_of : (m : State) (calls : List Call) (feet : ℕ → Resources) (members : List ℕ) → IsWave m calls feet members → AreCallNumbers (length calls) members
 numbers_of m calls feet members wave = record { within = wave.within; once = wave.once }
-
-pub each-of : {X : Type 0} (P : X → Type 0) (xs : List X) → AllByRecursion P xs → All P xs
-each-of P [] all k d low = absurd (omega (arith, low))
-each-of P (x ∷ xs) all zero d low = all.0
-each-of P (x ∷ xs) all (suc k) d low = each-of P xs all.1 k d (omega (arith, low))
 
 -- a list that was written over whole
 pub written-whole : {X : Type 0} (xs ys : List X) (n : ℕ) → n ≡ length xs → take n (xs ++ drop (length xs) ys) ≡ xs

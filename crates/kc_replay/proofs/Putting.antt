@@ -39,7 +39,7 @@ use Rattle.kc_replay.specs.declared.task.Finished.{Finished}
 use Rattle.kc_model.proofs.Local.Orderly.{owned-is}
 use Rattle.kc_parts.proofs.Restricting.{linked-cut, state-cut, here-is}
 use Rattle.kc_replay.proofs.Apart.{config-at, all-out, back}
-use Rattle.kc_replay.proofs.Taking.{out-earlier, out-all, wave-ranged, low-in, wave-length, range-more, able-at, finished-at}
+use Rattle.kc_replay.proofs.Taking.{out-earlier, out-all, low-in, wave-length, range-more, able-at, finished-at}
 use Rattle.kc_replay.proofs.Zips.{zip_last, zip_get, zip_through}
 use Rattle.kc_replay.specs.Working.{IsTaskOf, Finishes, AnswersAll}
 use Rattle.kc_replay.specs.declared.task.Task.{Task}
@@ -110,7 +110,7 @@ module _ (m : State) (calls : List Call) (feet : ℕ → Resources) (members : L
   -- all of the wave's calls are out
   pub switched : (h : Held) → IsRest m (feet_at feet members) (down_from (length members)) h → IsRest (state_at m (wave_calls calls members) (length (wave_calls calls members))) (feet_at feet members) (down_from (length members)) h
   switched h left =
-      all-out m (wave_calls calls members) (feet_at feet members) wave.lawful (wave-ranged m calls feet members wave) wave.feet_are (down_from (length members)) h
+      all-out m (wave_calls calls members) (feet_at feet members) wave.lawful wave.feet_are (down_from (length members)) h
       (λ k r low e. out-all m (wave_calls calls members) (feet_at feet members) wave.feet_are (length members) k r (let l = low in let n = wave-length calls members in omega (arith, l, n)) e) left
 
   module _ (i : ℕ) (h : Held) (done : Finished) (low : i < length members) (left : IsRest (state_at m (wave_calls calls members) (length (wave_calls calls members))) (feet_at feet members) (down_from (i + 1)) h) (at : IsFinishedAt m calls feet members i done) where
@@ -141,14 +141,14 @@ module _ (m : State) (calls : List Call) (feet : ℕ → Resources) (members : L
     pub back-wave : (joined : Held) → IsJoin h done.left.parts joined → IsRest (state_at m (wave_calls calls members) (length (wave_calls calls members))) (feet_at feet members) (down_from i) joined
     back-wave joined join =
         let e : i + 1 ≡ suc i = omega arith in
-        back m (wave_calls calls members) (feet_at feet members) wave.lawful (wave-ranged m calls feet members wave) wave.feet_are (down_from i) i h done.left.parts joined (low-in m calls feet members wave i low)
+        back m (wave_calls calls members) (feet_at feet members) wave.lawful wave.feet_are (down_from i) i h done.left.parts joined (low-in m calls feet members wave i low)
         (λ r t. out-earlier m (wave_calls calls members) (feet_at feet members) wave.feet_are i i r (omega arith) (low-in m calls feet members wave i low) t) (rw e at left) at.parts join
 
   lawful-last : IsLawful (state_at m (wave_calls calls members) (length (wave_calls calls members)))
-  lawful-last = lawful-at m (wave_calls calls members) wave.lawful (wave-ranged m calls feet members wave) (length (wave_calls calls members)) (omega arith)
+  lawful-last = lawful-at m (wave_calls calls members) wave.lawful (length (wave_calls calls members)) (omega arith)
 
   config-last : (state_at m (wave_calls calls members) (length (wave_calls calls members))).config ≡ m.config
-  config-last = config-at m (wave_calls calls members) (feet_at feet members) wave.lawful (wave-ranged m calls feet members wave) wave.feet_are (length (wave_calls calls members))
+  config-last = config-at m (wave_calls calls members) (feet_at feet members) wave.lawful wave.feet_are (length (wave_calls calls members))
 
   module _ (h : Held) (left : IsRest (state_at m (wave_calls calls members) (length (wave_calls calls members))) (feet_at feet members) [] h) where
     restricted : IsRestricted (state_at m (wave_calls calls members) (length (wave_calls calls members))) (exists_in (state_at m (wave_calls calls members) (length (wave_calls calls members))).config) h

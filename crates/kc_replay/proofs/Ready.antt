@@ -1,5 +1,5 @@
 -- The calls of the next wave, with their footprints, can be made side by side.
-use Rattle.std.proofs.Common.{ℕ, ◌≡◌, ◌≢◌, ◌<◌, inl, inr, Bool, true, false, ◌&&◌, ◌||◌, nat_lt, nat_eq, eqb-true, Option, Some, None, List, [], ◌∷◌, All, length, get_or, refl, sym, ap, subst, ◌∙◌, arith}
+use Rattle.std.proofs.Common.{ℕ, ◌≡◌, ◌≢◌, ◌<◌, inl, inr, Bool, true, false, ◌&&◌, ◌||◌, nat_lt, nat_eq, eqb-true, Option, Some, None, List, [], ◌∷◌, length, get_or, refl, sym, ap, subst, ◌∙◌, arith}
 use Rattle.std.proofs.lemmas.Bool.{cases_lt, ltb-true, lt-ltb, and_parts}
 use Rattle.std.proofs.Math.Nat.{eq-or-lt_of_le}
 use Rattle.kc_types.specs.Configuration.{slot_count}
@@ -8,7 +8,6 @@ use Rattle.kc_types.specs.declared.owner.Owner.TheVariants.{Free, Vm}
 use Rattle.kc_types.specs.declared.resource.Resource.TheVariants as resource
 use Rattle.kc_model.specs.State.{State}
 use Rattle.kc_model.specs.Lawful.{IsLawful}
-use Rattle.kc_model.specs.Ranged.{IsRanged}
 use Rattle.kc_model.specs.Next.{next}
 use Rattle.kc_model.specs.Resources.{Resource, Resources, IsWithin, need, names_frame, slot_of, uses_free, of_slot, exists_slot}
 use Rattle.kc_model.specs.Footprints.{call_at, reach, footprint}
@@ -33,7 +32,7 @@ three-low false true c n f h x y z = y refl
 three-low false false true n f h x y z = z refl
 three-low false false false n f h x y z = cc
 
-module _ (m : State) (calls : List Call) (is : IsLawful m) (ranged : All IsRanged calls) where
+module _ (m : State) (calls : List Call) (is : IsLawful m) where
   -- a footprint has only what there is
   pub footprint-exists : (k : ℕ) → IsWithin (footprint m calls k) (exists_in m.config)
   footprint-exists k (resource.Frame f) h =
@@ -66,7 +65,7 @@ module _ (m : State) (calls : List Call) (is : IsLawful m) (ranged : All IsRange
   feet-of-wave wave order done feet members w plan taken due same other rows = record {
     needs = λ i low r needed.
         let l = below i low in
-        row i l r ∙ is_ready m calls order done (get_or members i 0) is ranged taken (due i l) r (ap (λ call. need (after_order calls m order) call r) (sym (wave-call calls members i l)) ∙ needed);
+        row i l r ∙ is_ready m calls order done (get_or members i 0) is taken (due i l) r (ap (λ call. need (after_order calls m order) call r) (sym (wave-call calls members i l)) ∙ needed);
     exist = λ i low r e.
         let l = below i low in
         ap (λ config. exists_in config r) (config-order calls m order) ∙ footprint-exists (get_or members i 0) r (sym (row i l r) ∙ e);

@@ -36,7 +36,7 @@ use Rattle.kc_parts.proofs.Seen.{frame-seen, slot-seen}
 use Rattle.kc_core.specs.KCore.{IsCore}
 use Rattle.kc_parts.specs.Restricted.{seen_link, seen_part, seen_at, exists_in, IsRestricted}
 use Rattle.kc_model.specs.Footprints.{call_at, state_at}
-use Rattle.kc_model.proofs.Lawful.LawfulTraces.{IsRangedTrace, lawful-at}
+use Rattle.kc_model.proofs.Lawful.LawfulTraces.{lawful-at}
 use Rattle.kc_types.specs.declared.call.Call.TheVariants.{Take}
 use Rattle.kc_parts.specs.Cuts.{IsSplit, AreHere, is_wanted}
 use Rattle.kc_calls.specs.Applying.{IsAble, IsAnswer}
@@ -173,11 +173,6 @@ wave-length calls [] = refl
 wave-length calls (k ∷ members) = ap suc (wave-length calls members)
 
 module _ (m : State) (calls : List Call) (feet : ℕ → Resources) (members : List ℕ) (wave : IsWave m calls feet members) where
-  pub wave-ranged : IsRangedTrace (wave_calls calls members)
-  wave-ranged k low =
-      let below : k < length members = rw (wave-length calls members) at low in
-      rw (wave-call calls members k below) (wave.ranged (get_or members k 0) Take (wave.within k below))
-
   pub low-in : (i : ℕ) → i < length members → i < length (wave_calls calls members)
   low-in i low = rw (wave-length calls members) low
 
@@ -188,9 +183,9 @@ module _ (m : State) (calls : List Call) (feet : ℕ → Resources) (members : L
       → IsRestricted (state_at m (wave_calls calls members) i) (feet_at feet members i) got × IsRest m (feet_at feet members) (down_from (i + 1)) rest
   taken-wave i h rest got low left split =
       let e : i + 1 ≡ suc i = omega arith in (
-        taken m (wave_calls calls members) (feet_at feet members) wave.lawful wave-ranged wave.feet_are (down_from i) i h rest got (low-in i low)
+        taken m (wave_calls calls members) (feet_at feet members) wave.lawful wave.feet_are (down_from i) i h rest got (low-in i low)
             (λ r t. out-earlier m (wave_calls calls members) (feet_at feet members) wave.feet_are i i r (omega arith) (low-in i low) t) left split,
-        rw e (rest-left m (wave_calls calls members) (feet_at feet members) wave.lawful wave-ranged wave.feet_are (down_from i) i h rest got left split),
+        rw e (rest-left m (wave_calls calls members) (feet_at feet members) wave.lawful wave.feet_are (down_from i) i h rest got left split),
       )
 
   -- so a task of it can be done
@@ -199,11 +194,11 @@ module _ (m : State) (calls : List Call) (feet : ℕ → Resources) (members : L
     within = rw at.number (wave.within i low);
     able =
         subst (λ call. IsAble m.config task.parts call) (sym (ap (call_at calls) at.number ∙ sym (wave-call calls members i low)))
-        (subst (λ config. IsAble config task.parts (call_at (wave_calls calls members) i)) (config-at m (wave_calls calls members) (feet_at feet members) wave.lawful wave-ranged wave.feet_are i)
+        (subst (λ config. IsAble config task.parts (call_at (wave_calls calls members) i)) (config-at m (wave_calls calls members) (feet_at feet members) wave.lawful wave.feet_are i)
         (able-cut (state_at m (wave_calls calls members) i) (feet_at feet members i) task.parts (call_at (wave_calls calls members) i)
-        (lawful-at m (wave_calls calls members) wave.lawful wave-ranged i (let l = low-in i low in omega (arith, l)))
-        (closed-at m (wave_calls calls members) (feet_at feet members) wave.lawful wave-ranged wave.feet_are i (low-in i low))
-        at.parts (needs-at m (wave_calls calls members) (feet_at feet members) wave.lawful wave-ranged wave.feet_are i (low-in i low))));
+        (lawful-at m (wave_calls calls members) wave.lawful i (let l = low-in i low in omega (arith, l)))
+        (closed-at m (wave_calls calls members) (feet_at feet members) wave.lawful wave.feet_are i (low-in i low))
+        at.parts (needs-at m (wave_calls calls members) (feet_at feet members) wave.lawful wave.feet_are i (low-in i low))));
   }
 
   -- and what it leaves is what the call leaves
@@ -211,17 +206,17 @@ module _ (m : State) (calls : List Call) (feet : ℕ → Resources) (members : L
   finished-at i task done low at answers =
       let s : State = state_at m (wave_calls calls members) i in
       let call : Call = call_at (wave_calls calls members) i in
-      let lawful : IsLawful s = lawful-at m (wave_calls calls members) wave.lawful wave-ranged i (let l = low-in i low in omega (arith, l)) in
-      let closed = closed-at m (wave_calls calls members) (feet_at feet members) wave.lawful wave-ranged wave.feet_are i (low-in i low) in
-      let needs = needs-at m (wave_calls calls members) (feet_at feet members) wave.lawful wave-ranged wave.feet_are i (low-in i low) in
+      let lawful : IsLawful s = lawful-at m (wave_calls calls members) wave.lawful i (let l = low-in i low in omega (arith, l)) in
+      let closed = closed-at m (wave_calls calls members) (feet_at feet members) wave.lawful wave.feet_are i (low-in i low) in
+      let needs = needs-at m (wave_calls calls members) (feet_at feet members) wave.lawful wave.feet_are i (low-in i low) in
       let is : call_at calls task.number ≡ call = ap (call_at calls) at.number ∙ sym (wave-call calls members i low) in
       let answer : IsAnswer s.config task.parts done.left.parts call done.reply =
-      subst (λ config. IsAnswer config task.parts done.left.parts call done.reply) (sym (config-at m (wave_calls calls members) (feet_at feet members) wave.lawful wave-ranged wave.feet_are i))
+      subst (λ config. IsAnswer config task.parts done.left.parts call done.reply) (sym (config-at m (wave_calls calls members) (feet_at feet members) wave.lawful wave.feet_are i))
       (subst (λ call. IsAnswer m.config task.parts done.left.parts call done.reply) is answers.answer) in
       record {
         number = answers.number ∙ at.number;
-        reply = reply-is s (feet_at feet members i) task.parts done.left.parts call done.reply lawful (wave-ranged i (low-in i low)) closed at.parts needs answer;
-        parts = restricted-after s (feet_at feet members i) task.parts done.left.parts call done.reply lawful (wave-ranged i (low-in i low)) closed at.parts needs answer;
+        reply = reply-is s (feet_at feet members i) task.parts done.left.parts call done.reply lawful closed at.parts needs answer;
+        parts = restricted-after s (feet_at feet members i) task.parts done.left.parts call done.reply lawful closed at.parts needs answer;
       }
 
 -- what stands in a list doesn't rest on what is said where there is nothing

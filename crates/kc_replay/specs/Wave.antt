@@ -1,5 +1,5 @@
 -- The calls of one wave over a store: each on its own parts.
-use Rattle.std.specs.Prelude.{ℕ, zero, suc, ◌≡◌, ◌≢◌, ◌<◌, true, cond, List, [], ◌∷◌, length, map, All, slice_index_or, Some, None}
+use Rattle.std.specs.Prelude.{ℕ, zero, suc, ◌≡◌, ◌≢◌, ◌<◌, true, cond, List, [], ◌∷◌, length, map, slice_index_or, Some, None}
 use Rattle.std.specs.List.{list_any, range_with_len}
 use Rattle.kc_types.specs.Configuration.{Configuration, slot_count}
 use Rattle.kc_types.specs.declared.call.Call.{Call}
@@ -10,7 +10,6 @@ use Rattle.kc_model.specs.Linked.{linked_part_of}
 use Rattle.kc_types.specs.declared.reply.Reply.{Reply}
 use Rattle.kc_types.specs.declared.reply.Reply.TheVariants.{Done}
 use Rattle.kc_model.specs.Lawful.{IsLawful}
-use Rattle.kc_model.specs.Ranged.{IsRanged}
 use Rattle.kc_model.specs.Footprints.{call_at, state_at, reply_at}
 use Rattle.kc_plan.specs.Rows.{Rows, row_touches, row_at}
 use Rattle.kc_vms.specs.Vm.{VmSlot}
@@ -65,7 +64,6 @@ feet_at feet members i = feet (slice_index_or members i 0)
 -- what is known of a wave that starts in a state
 pub record IsWave (m : State) (calls : List Call) (feet : ℕ → Resources) (members : List ℕ) : Type 0 where
   pub lawful : IsLawful m
-  pub ranged : All IsRanged calls
   pub within : (i : ℕ) → i < length members → slice_index_or members i 0 < length calls
   pub feet_are : AreFeet m (wave_calls calls members) (feet_at feet members)
   -- no call stands twice

@@ -15,7 +15,7 @@ use crate::Gate;
 use crate::deal::deal;
 use crate::fault::ReplayFault;
 use crate::wave::run_wave;
-use kc_core::{KCore, read_all_numbers};
+use kc_core::KCore;
 use kc_plan::{Footprints, Plan, footprints};
 use kc_types::{Call, Memory, Phase, Reply};
 use std::alloc::Global;
@@ -186,7 +186,6 @@ fn replay_waves<R: Threads + Wait + Sync, G: Gate + Sync>(
     ensures replies { IfOk result (λ outcome. outcome.replies.items ≡ replies_from core calls.now) }
     ensures state { IfOk result (λ outcome. outcome.core ≡ state_after core calls.now) }
 {
-    read_all_numbers(calls);
     let mut store = core;
     for done in 0..plan.waves() {
         let members = plan.calls_in(done + 1);
@@ -294,7 +293,6 @@ fn answer_in_order<R: Threads + Sync, G: Gate>(
     ensures state { IfOk result (λ outcome. outcome.core ≡ state_after core calls.now) }
     ensures alone { result ≢ Err ReplayFault.Start }
 {
-    read_all_numbers(calls);
     let mut core = core;
     match answer_each(alloc, &mut core, calls, gate) {
         Ok(replies) => Ok(Outcome { replies, core }),

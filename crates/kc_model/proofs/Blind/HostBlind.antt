@@ -8,7 +8,6 @@ use Rattle.kc_types.specs.declared.refusal.Refusal.{Refusal}
 use Rattle.kc_model.specs.State.{State, Frame, Slot, frame_at, mapped_at}
 use Rattle.kc_model.specs.Refusals.{refusal, is_active}
 use Rattle.kc_model.specs.Next.{next, unless_refused, replies_from, state_after}
-use Rattle.kc_model.specs.Ranged.{IsRanged}
 use Rattle.kc_model.specs.Lawful.{IsLawful, same_owner}
 use Rattle.kc_model.specs.Blind.{Secret, has_gfn, is_secret, is_running, hidden, hidden_call, reads_secret, grants_secret, IsPrivate, AreAlike, AlikeTraces, SeesTheSame, HostIsBlind, ShowsNothing}
 use Rattle.kc_model.proofs.Lawful.Keeps.{lawful-next}
@@ -80,27 +79,27 @@ same-answer s m n call other m_is n_is alike calls grants reads =
     ∙ ap (λ (x : Call). (next (hidden s n) x).0) calls
     ∙ sym (blind-answer s n other n_is (private-alike s m n alike.same alike.private) grants_other reads_other)
 
-blind-from : (s : Secret) (m n : State) (calls others : List Call) → AllByRecursion IsRanged calls → AllByRecursion IsRanged others → IsLawful m → IsLawful n → AreAlike s m n → AlikeTraces s calls others
+blind-from : (s : Secret) (m n : State) (calls others : List Call) → IsLawful m → IsLawful n → AreAlike s m n → AlikeTraces s calls others
     → AllByRecursion (λ call. grants_secret s call ≡ false) calls → SeesTheSame s m n calls others
-blind-from s m n [] [] ranged others_ranged m_is n_is alike traces grants = record { replies = tt; states = alike }
-blind-from s m n [] (other ∷ others) ranged others_ranged m_is n_is alike traces grants = absurd cc
-blind-from s m n (call ∷ calls) [] ranged others_ranged m_is n_is alike traces grants = absurd cc
-blind-from s m n (call ∷ calls) (other ∷ others) ranged others_ranged m_is n_is alike traces grants =
+blind-from s m n [] [] m_is n_is alike traces grants = record { replies = tt; states = alike }
+blind-from s m n [] (other ∷ others) m_is n_is alike traces grants = absurd cc
+blind-from s m n (call ∷ calls) [] m_is n_is alike traces grants = absurd cc
+blind-from s m n (call ∷ calls) (other ∷ others) m_is n_is alike traces grants =
     let first : hidden_call s call ≡ hidden_call s other = cc in
     let rest : AlikeTraces s calls others = cc in
-    let later = blind-from s (next m call).1 (next n other).1 calls others ranged.1 others_ranged.1 (lawful-next m call ranged.0 m_is) (lawful-next n other others_ranged.0 n_is) (alike-next s m n call other m_is n_is alike first grants.0) rest grants.1 in
+    let later = blind-from s (next m call).1 (next n other).1 calls others (lawful-next m call m_is) (lawful-next n other n_is) (alike-next s m n call other m_is n_is alike first grants.0) rest grants.1 in
     record {
       replies = (same-answer s m n call other m_is n_is alike first grants.0, later.replies);
       states = later.states;
     }
 
 -- the host is blind for every trace from a lawful state
-pub host_is_blind : (m : State) (calls : List Call) → AllByRecursion IsRanged calls → IsLawful m → HostIsBlind m calls
-host_is_blind m calls ranged is s n others n_is others_ranged alike traces grants = blind-from s m n calls others ranged others_ranged is n_is alike traces grants
+pub host_is_blind : (m : State) (calls : List Call) → IsLawful m → HostIsBlind m calls
+host_is_blind m calls is s n others n_is alike traces grants = blind-from s m n calls others is n_is alike traces grants
 
-pub shows_nothing : (m new : State) (calls : List Call) (replies : List Reply) → AllByRecursion IsRanged calls → IsLawful m → replies ≡ replies_from m calls → new ≡ state_after m calls → ShowsNothing m calls replies new
-shows_nothing m new calls replies ranged is answered left s n others n_is others_ranged alike traces grants =
-    let seen = host_is_blind m calls ranged is s n others n_is others_ranged alike traces grants in
+pub shows_nothing : (m new : State) (calls : List Call) (replies : List Reply) → IsLawful m → replies ≡ replies_from m calls → new ≡ state_after m calls → ShowsNothing m calls replies new
+shows_nothing m new calls replies is answered left s n others n_is alike traces grants =
+    let seen = host_is_blind m calls is s n others n_is alike traces grants in
     (rw answered seen.replies, rw left seen.states)
 
 -- two cores at boot are alike

@@ -2,7 +2,6 @@
 use Rattle.std.proofs.Common.{ℕ, ◌≡◌, ◌<◌, ◌≤◌, ◌+◌, ◌-◌, inl, inr, Bool, true, false, IsTrue, cond, Option, None, Some, List, length, nat_eq, refl, sym, ap, subst, ◌∙◌, arith}
 use Rattle.std.proofs.lemmas.Grind.{common_steps}
 use Rattle.std.proofs.lemmas.Bool.{leb-false}
-use Rattle.kc_types.specs.Bytes.{IsData}
 use Rattle.kc_types.specs.declared.refusal.Refusal.{Refusal}
 use Rattle.kc_types.specs.declared.call.Call.TheVariants.{GuestRead, GuestWrite, Grant, Revoke}
 use Rattle.kc_types.specs.declared.owner.Owner.TheVariants.{Vm}
@@ -74,17 +73,17 @@ lawful-read m v c g off len (Some f) is call = lawful-with_fault m v c None is c
 pub lawful-guest_read : (m : State) (v c g off len : ℕ) → IsLawful m → refusal m (GuestRead v c g off len) ≡ None → IsLawful (effect m (GuestRead v c g off len)).1
 lawful-guest_read m v c g off len is served = lawful-read m v c g off len (mapped_at m v g) is (guest_access-served m v c g off len served).0
 
-lawful-writes : (m : State) (v c g off : ℕ) (bytes : List ℕ) (at : Option ℕ) → mapped_at m v g ≡ at → IsData bytes → off + length bytes ≤ 4096 → IsLawful m → IsGuestCall m v c g → IsLawful (guest_written m v c g off bytes at).1
-lawful-writes m v c g off bytes None e ranged within is call = lawful-with_fault m v c (Some g) is call.vm call.vcpu call.active call.registered (λ h e. let same : g ≡ h = cc in let within = call.gfn in omega arith)
-lawful-writes m v c g off bytes (Some f) e ranged within is call =
+lawful-writes : (m : State) (v c g off : ℕ) (bytes : List ℕ) (at : Option ℕ) → mapped_at m v g ≡ at → off + length bytes ≤ 4096 → IsLawful m → IsGuestCall m v c g → IsLawful (guest_written m v c g off bytes at).1
+lawful-writes m v c g off bytes None e within is call = lawful-with_fault m v c (Some g) is call.vm call.vcpu call.active call.registered (λ h e. let same : g ≡ h = cc in let within = call.gfn in omega arith)
+lawful-writes m v c g off bytes (Some f) e within is call =
     let owner = owner-mapped m v g f is call.vm e in
     let lt = exists-mapped m v g f is call.vm e in
-    lawful-with_fault (written m f off bytes) v c None (lawful-written m f off bytes is lt (λ free. cc) ranged within) call.vm call.vcpu call.active call.registered (λ h e. absurd cc)
+    lawful-with_fault (written m f off bytes) v c None (lawful-written m f off bytes is lt (λ free. cc) within) call.vm call.vcpu call.active call.registered (λ h e. absurd cc)
 
-pub lawful-guest_write : (m : State) (v c g off : ℕ) (bytes : List ℕ) → IsData bytes → IsLawful m → refusal m (GuestWrite v c g off bytes) ≡ None → IsLawful (effect m (GuestWrite v c g off bytes)).1
-lawful-guest_write m v c g off bytes ranged is served =
+pub lawful-guest_write : (m : State) (v c g off : ℕ) (bytes : List ℕ) → IsLawful m → refusal m (GuestWrite v c g off bytes) ≡ None → IsLawful (effect m (GuestWrite v c g off bytes)).1
+lawful-guest_write m v c g off bytes is served =
     let seen = guest_access-served m v c g off (length bytes) served in
-    lawful-writes m v c g off bytes (mapped_at m v g) refl ranged seen.1 is seen.0
+    lawful-writes m v c g off bytes (mapped_at m v g) refl seen.1 is seen.0
 
 -- a frame of an active slot with another share count
 pub lawful-shared : (m : State) (v f share : ℕ) (present : Bool) → IsLawful m → v < slot_count m.config → (slot_at m v).phase ≡ Active → (frame_at m f).owner ≡ Vm v → share ≤ 100 → (IsTrue present → 0 < share) → IsLawful (with_frame m f (record (frame_at m f) { share = share; present = present }))

@@ -1,6 +1,5 @@
 -- The host's calls on its frames keep the state lawful.
 use Rattle.std.proofs.Common.{ℕ, ◌≡◌, ◌<◌, ◌≤◌, ◌+◌, inl, inr, true, false, None, List, length, refl, ap}
-use Rattle.kc_types.specs.Bytes.{IsData}
 use Rattle.kc_types.specs.Configuration.{Configuration}
 use Rattle.kc_types.specs.declared.call.Call.TheVariants.{HostFault, HostWrite}
 use Rattle.kc_types.specs.declared.owner.Owner.TheVariants.{Free}
@@ -37,21 +36,21 @@ lawful-host_fault m f is served =
 pub lawful-with_bytes : (m : State) (f : ℕ) (bytes : List ℕ) → IsLawful m → f < length m.frames → ((frame_at m f).owner ≡ Free → ⊥) → ((IsLawfulFrame m.config f (frame_at m f)) → IsLawfulFrame m.config f (record (frame_at m f) { bytes = bytes })) → IsLawful (with_frame m f (record (frame_at m f) { bytes = bytes }))
 lawful-with_bytes m f bytes is lt used here = lawful-with_frame m f (record (frame_at m f) { bytes = bytes }) is lt refl refl (here (is.each_frame f lt)) (λ v within. is.shared v f within)
 
-pub lawful-written : (m : State) (f off : ℕ) (bytes : List ℕ) → IsLawful m → f < length m.frames → ((frame_at m f).owner ≡ Free → ⊥) → IsData bytes → off + length bytes ≤ 4096 → IsLawful (with_frame m f (record (frame_at m f) { bytes = overwritten (frame_at m f).bytes off bytes }))
-lawful-written m f off bytes is lt used ranged within = lawful-with_bytes m f (overwritten (frame_at m f).bytes off bytes) is lt used (λ (frame : IsLawfulFrame m.config f (frame_at m f)). record {
+pub lawful-written : (m : State) (f off : ℕ) (bytes : List ℕ) → IsLawful m → f < length m.frames → ((frame_at m f).owner ≡ Free → ⊥) → off + length bytes ≤ 4096 → IsLawful (with_frame m f (record (frame_at m f) { bytes = overwritten (frame_at m f).bytes off bytes }))
+lawful-written m f off bytes is lt used within = lawful-with_bytes m f (overwritten (frame_at m f).bytes off bytes) is lt used (λ (frame : IsLawfulFrame m.config f (frame_at m f)). record {
   core = frame.core;
   mapped = frame.mapped;
   shared = frame.shared;
   sharer = frame.sharer;
   reached = frame.reached;
   zeroed = λ free. absurd (used free);
-  page = page-overwritten (frame_at m f).bytes off bytes frame.page ranged within;
+  page = page-overwritten (frame_at m f).bytes off bytes frame.page within;
   slot = frame.slot;
   gfn = frame.gfn;
 })
 
-pub lawful-host_write : (m : State) (f off : ℕ) (bytes : List ℕ) → IsData bytes → IsLawful m → refusal m (HostWrite f off bytes) ≡ None → IsLawful (effect m (HostWrite f off bytes)).1
-lawful-host_write m f off bytes ranged is served =
+pub lawful-host_write : (m : State) (f off : ℕ) (bytes : List ℕ) → IsLawful m → refusal m (HostWrite f off bytes) ≡ None → IsLawful (effect m (HostWrite f off bytes)).1
+lawful-host_write m f off bytes is served =
     let seen = host_access-served m f off (length bytes) served in
     let lt : f < length m.frames = rw is.frames seen.frame in
-    lawful-written m f off bytes is lt (not_free (frame_at m f) (is.each_frame f lt) seen.present) ranged seen.within
+    lawful-written m f off bytes is lt (not_free (frame_at m f) (is.each_frame f lt) seen.present) seen.within

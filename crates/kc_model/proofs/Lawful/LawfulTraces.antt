@@ -10,9 +10,8 @@ use Rattle.kc_types.specs.declared.owner.Owner.TheVariants.{Free, Vm}
 use Rattle.kc_model.specs.State.{State, Image, frame_at, slot_at}
 use Rattle.kc_model.specs.Refusals.{pages_of}
 use Rattle.kc_model.specs.Lawful.{IsLawful, IsLawfulImage, holds, same_owner, times_in}
-use Rattle.kc_model.specs.Ranged.{IsRanged}
 use Rattle.kc_model.specs.Local.{IsOrderly, HasMappedPages}
-use Rattle.kc_model.specs.Footprints.{call_at, state_at}
+use Rattle.kc_model.specs.Footprints.{state_at}
 use Rattle.kc_model.proofs.States.Members.{held-times_in, same_number}
 use Rattle.kc_model.proofs.Local.Orderly.{orderly-lawful}
 use Rattle.kc_model.proofs.Local.LinksKept.{ListsAll}
@@ -51,12 +50,8 @@ lists-all m is = record {
       held-times_in (slot_at m v).frames f (omega (arith, once));
 }
 
--- each number of each call is one that its type holds
-abbrev pub IsRangedTrace : List Call → Type 0
-IsRangedTrace calls = (k : ℕ) → k < length calls → IsRanged (call_at calls k)
+pub lawful-at : (m : State) (calls : List Call) → IsLawful m → (k : ℕ) → k ≤ length calls → IsLawful (state_at m calls k)
+lawful-at m calls is k le = good-at IsLawful lawful-next m calls is k le
 
-pub lawful-at : (m : State) (calls : List Call) → IsLawful m → IsRangedTrace calls → (k : ℕ) → k ≤ length calls → IsLawful (state_at m calls k)
-lawful-at m calls is ranged k le = good-at IsLawful IsRanged lawful-next m calls is ranged k le
-
-pub orderly-at : (m : State) (calls : List Call) → IsLawful m → IsRangedTrace calls → (k : ℕ) → k < length calls → IsOrderly (state_at m calls k)
-orderly-at m calls is ranged k lt = orderly-is (state_at m calls k) (lawful-at m calls is ranged k (omega (arith, lt)))
+pub orderly-at : (m : State) (calls : List Call) → IsLawful m → (k : ℕ) → k < length calls → IsOrderly (state_at m calls k)
+orderly-at m calls is k lt = orderly-is (state_at m calls k) (lawful-at m calls is k (omega (arith, lt)))

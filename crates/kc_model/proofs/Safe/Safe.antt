@@ -1,7 +1,7 @@
 -- Every trace from a lawful state is safe.
 use Rattle.std.proofs.Common.{ℕ, zero, suc, ◌≡◌, ◌<◌, inl, inr, false, length, List, [], ◌∷◌, nat_eq, refl, sym, ap, subst, ◌∙◌, Option, None, Some, arith, All}
 use Rattle.std.proofs.lemmas.Bool.{eqb-false}
-use Rattle.std.specs.List.{AllByRecursion, range_with_len}
+use Rattle.std.specs.List.{range_with_len}
 use Rattle.kc_types.specs.declared.call.Call.{Call}
 use Rattle.kc_types.specs.declared.call.Call.TheVariants.{Take, Give, HostFault, HostRead, HostWrite, RegisterVm, RegisterVcpu, SetBoot, Remap, Verify, Map, GuestRead, GuestWrite, Grant, Revoke, GrantRange, RevokeRange, Drop, Clear}
 use Rattle.kc_types.specs.declared.reply.Reply.{Reply}
@@ -12,7 +12,6 @@ use Rattle.kc_model.specs.State.{State, Frame, Image, frame_at, slot_at, mapped_
 use Rattle.kc_model.specs.Refusals.{refusal, backing, conditions}
 use Rattle.kc_model.specs.Effects.{effect, host_takes, guest_read, guest_written, trimmed, all_trimmed, verified, first_failing, is_approved, frames_under, granted, revoked}
 use Rattle.kc_model.specs.Next.{next, unless_refused}
-use Rattle.kc_model.specs.Ranged.{IsRanged}
 use Rattle.kc_model.specs.Lawful.{IsLawful}
 use Rattle.kc_model.specs.Safety.{EachStep, KeepsOneOwner, ServesOpenFrames, KeepsPrivateBytes, IsOpen, IsSafe}
 use Rattle.kc_model.proofs.States.Frames.{part-set}
@@ -29,12 +28,12 @@ use Rattle.kc_model.proofs.Safe.Measured.{measured-of}
 use Rattle.kc_types.specs.Configuration.{slot_count}
 
 -- what each call of a lawful state keeps, each call of a trace keeps
-pub every_step : (Step : State → Call → Reply → State → Type 0) → ((m : State) (call : Call) → IsRanged call → IsLawful m → Step m call (next m call).0 (next m call).1) → (m : State) (calls : List Call) → AllByRecursion IsRanged calls → IsLawful m → EachStep Step m calls
-every_step Step step m [] ranged is = tt
-every_step Step step m (call ∷ calls) ranged is = (step m call ranged.0 is, every_step Step step (next m call).1 calls ranged.1 (lawful-next m call ranged.0 is))
+pub every_step : (Step : State → Call → Reply → State → Type 0) → ((m : State) (call : Call) → IsLawful m → Step m call (next m call).0 (next m call).1) → (m : State) (calls : List Call) → IsLawful m → EachStep Step m calls
+every_step Step step m [] is = tt
+every_step Step step m (call ∷ calls) is = (step m call is, every_step Step step (next m call).1 calls (lawful-next m call is))
 
-one_owner : (m : State) (call : Call) → IsRanged call → IsLawful m → KeepsOneOwner m call (next m call).0 (next m call).1
-one_owner m call ranged is = let after = lawful-next m call ranged is in (after.free, after.listed)
+one_owner : (m : State) (call : Call) → IsLawful m → KeepsOneOwner m call (next m call).0 (next m call).1
+one_owner m call is = let after = lawful-next m call is in (after.free, after.listed)
 
 open_frame : (m : State) (f off len : ℕ) → IsLawful m → refusal m (HostRead f off len) ≡ None → IsOpen (frame_at m f)
 open_frame m f off len is served =
@@ -56,9 +55,9 @@ serves-unless : (refused : Option Refusal) (m : State) (call : Call) → IsLawfu
 serves-unless None m call is served = serves-effect m call is served
 serves-unless (Some r) m call is served = serves-refused m call r m
 
-serves : (m : State) (call : Call) → IsRanged call → IsLawful m → ServesOpenFrames m call (next m call).0 (next m call).1
+serves : (m : State) (call : Call) → IsLawful m → ServesOpenFrames m call (next m call).0 (next m call).1
 unfolding next
-serves m call ranged is = serves-unless (refusal m call) m call is refl
+serves m call is = serves-unless (refusal m call) m call is refl
 
 -- what a call leaves of the bytes of a frame
 
@@ -132,15 +131,15 @@ keeps-unless : (refused : Option Refusal) (m : State) (call : Call) → IsLawful
 keeps-unless None m call is served = keeps-effect m call is served
 keeps-unless (Some r) m call is served = λ v f owned private others. refl
 
-keeps : (m : State) (call : Call) → IsRanged call → IsLawful m → KeepsPrivateBytes m call (next m call).0 (next m call).1
+keeps : (m : State) (call : Call) → IsLawful m → KeepsPrivateBytes m call (next m call).0 (next m call).1
 unfolding next
-keeps m call ranged is = keeps-unless (refusal m call) m call is refl
+keeps m call is = keeps-unless (refusal m call) m call is refl
 
 -- every trace from a lawful state is safe
-pub safe : (m : State) (calls : List Call) → AllByRecursion IsRanged calls → IsLawful m → IsSafe m calls
-safe m calls ranged is = record {
-  one_owner = every_step KeepsOneOwner one_owner m calls ranged is;
-  host_access = every_step ServesOpenFrames serves m calls ranged is;
+pub safe : (m : State) (calls : List Call) → IsLawful m → IsSafe m calls
+safe m calls is = record {
+  one_owner = every_step KeepsOneOwner one_owner m calls is;
+  host_access = every_step ServesOpenFrames serves m calls is;
   measured = λ v. measured-of v m calls;
-  integrity = every_step KeepsPrivateBytes keeps m calls ranged is;
+  integrity = every_step KeepsPrivateBytes keeps m calls is;
 }

@@ -1,5 +1,5 @@
 -- The state before each call, its reply and the state at the end, beside the fold over the trace.
-use Rattle.std.proofs.Common.{ℕ, zero, suc, ◌≡◌, ◌<◌, ◌≤◌, List, [], ◌∷◌, length, refl, ap, ◌∙◌, arith}
+use Rattle.std.proofs.Common.{ℕ, zero, suc, ◌≡◌, ◌≤◌, List, [], ◌∷◌, length, refl, ap, ◌∙◌, arith}
 use Rattle.kc_types.specs.declared.call.Call.{Call}
 use Rattle.kc_model.specs.State.{State}
 use Rattle.kc_model.specs.Next.{next, state_after}
@@ -16,7 +16,6 @@ state_at-end m [] = refl
 state_at-end m (call ∷ calls) = state_at-rest m call calls (length calls) ∙ state_at-end (next m call).1 calls
 
 -- what each call keeps holds before each call of a trace, and at its end
-pub good-at : (IsGood : State → Type 0) (IsFit : Call → Type 0) → ((s : State) (call : Call) → IsFit call → IsGood s → IsGood (next s call).1)
-    → (m : State) (calls : List Call) → IsGood m → ((k : ℕ) → k < length calls → IsFit (call_at calls k)) → (k : ℕ) → k ≤ length calls → IsGood (state_at m calls k)
-good-at IsGood IsFit keeps m calls good fit zero le = good
-good-at IsGood IsFit keeps m calls good fit (suc k) le = keeps (state_at m calls k) (call_at calls k) (fit k (omega arith)) (good-at IsGood IsFit keeps m calls good fit k (omega arith))
+pub good-at : (IsGood : State → Type 0) → ((s : State) (call : Call) → IsGood s → IsGood (next s call).1) → (m : State) (calls : List Call) → IsGood m → (k : ℕ) → k ≤ length calls → IsGood (state_at m calls k)
+good-at IsGood keeps m calls good zero le = good
+good-at IsGood keeps m calls good (suc k) le = keeps (state_at m calls k) (call_at calls k) (good-at IsGood keeps m calls good k (omega arith))

@@ -13,9 +13,9 @@ returns c = record {
   };
   parts = record {
     able = able-cut;
-    step = λ m here old new call reply lawful ranged closed restricted within answer. (
-      reply-is m here old new call reply lawful ranged closed restricted within answer,
-      restricted-after m here old new call reply lawful ranged closed restricted within answer,
+    step = λ m here old new call reply lawful closed restricted within answer. (
+      reply-is m here old new call reply lawful closed restricted within answer,
+      restricted-after m here old new call reply lawful closed restricted within answer,
     );
     closed = closed-after;
   };

@@ -3,4 +3,4 @@ use Rattle.kc_replay.proofs.segment.answer_in_order.Goals as goal
 
 pub returns-in-Ok-clause-blind : goal.returns-in-Ok-clause-blind
 returns-in-Ok-clause-blind g c =
-    shows_nothing c.args.core c.answer_each.new.core c.args.calls.now c.in-Ok.replies.items c.read_all_numbers.ensures c.requires.lawful c.in-Ok.ensures.replies c.in-Ok.ensures.state
+    shows_nothing c.args.core c.answer_each.new.core c.args.calls.now c.in-Ok.replies.items c.requires.lawful c.in-Ok.ensures.replies c.in-Ok.ensures.state

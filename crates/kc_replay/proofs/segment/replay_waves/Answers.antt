@@ -2,7 +2,6 @@ use Rattle.std.proofs.Common.{ℕ, suc, ◌≡◌, ◌≤◌, ◌+◌, List, len
 use Rattle.std.specs.List.Sorted.{IsPermutation}
 use Rattle.kc_types.specs.declared.call.Call.{Call}
 use Rattle.kc_model.specs.State.{State}
-use Rattle.kc_model.specs.Ranged.{IsRanged}
 use Rattle.kc_model.proofs.Blind.HostBlind.{shows_nothing}
 use Rattle.kc_plan.specs.Commuting.{IsWaves}
 use Rattle.kc_plan.specs.Plan.{wave_of, highest, AreCallsOf}
@@ -10,7 +9,7 @@ use Rattle.kc_plan.specs.Footprints.{AreFootprints}
 use Rattle.kc_plan.specs.Rows.{Rows}
 use Rattle.kc_plan.proofs.Listing.{at_most}
 use Rattle.kc_replay.specs.Wave.{foot_of}
-use Rattle.kc_replay.proofs.Onward.{up-to-none, up-to-all, up-to-next, wave-next, each-of, written-whole}
+use Rattle.kc_replay.proofs.Onward.{up-to-none, up-to-all, up-to-next, wave-next, written-whole}
 use Rattle.kc_replay.proofs.Dealing.{dealt-members}
 use Rattle.kc_replay.proofs.segment.replay_waves.Goals as goal
 
@@ -28,46 +27,40 @@ in-order m calls feet plan done members order are is of same =
 
 pub loop-done-init : goal.loop-done-init
 loop-done-init g c =
-    let ranged = each-of IsRanged c.args.calls.now c.read_all_numbers.ensures in
-    up-to-none c.args.core c.args.calls.now c.requires.lawful ranged (wave_of c.args.plan.now) (longest c.args.core c.args.calls.now c.args.feet.now c.args.plan.now c.requires.feet c.requires.plan) c.args.replies.items c.requires.room
+    up-to-none c.args.core c.args.calls.now c.requires.lawful (wave_of c.args.plan.now) (longest c.args.core c.args.calls.now c.args.feet.now c.args.plan.now c.requires.feet c.requires.plan) c.args.replies.items c.requires.room
 
 pub take_wave-requires-clause-wave : goal.take_wave-requires-clause-wave
 take_wave-requires-clause-wave g c κs within order same =
-    let ranged = each-of IsRanged c.args.calls.now c.read_all_numbers.ensures in
     let are = in-order c.args.core c.args.calls.now c.args.feet.now c.args.plan.now c.loop-done.done c.calls_in-members.result.now order c.requires.feet c.requires.plan c.calls_in-members.ensures.members same in
-    wave-next c.args.core c.args.calls.now c.requires.lawful ranged (wave_of c.args.plan.now) (longest c.args.core c.args.calls.now c.args.feet.now c.args.plan.now c.requires.feet c.requires.plan) (foot_of c.args.feet.now) (λ k r low. c.requires.feet.touches k r low)
+    wave-next c.args.core c.args.calls.now c.requires.lawful (wave_of c.args.plan.now) (longest c.args.core c.args.calls.now c.args.feet.now c.args.plan.now c.requires.feet c.requires.plan) (foot_of c.args.feet.now) (λ k r low. c.requires.feet.touches k r low)
     c.loop-done.done c.loop-done.store c.loop-done.replies.items c.loop-done.invariant order are
 
 pub loop-done-preserved : goal.loop-done-preserved
 loop-done-preserved g c =
-    let ranged = each-of IsRanged c.args.calls.now c.read_all_numbers.ensures in
     let taken = rw c.deref_mut.ensures.value at c.in_ok-store.ensures in
     let are = in-order c.args.core c.args.calls.now c.args.feet.now c.args.plan.now c.loop-done.done c.calls_in-members.result.now taken.order c.requires.feet c.requires.plan c.calls_in-members.ensures.members taken.same in
     let one : c.loop-done.done + 1 ≡ suc c.loop-done.done = omega arith in
     let size : c.loop-done.replies.len ≡ length c.take_wave.new.replies = search rules in
     rw (one, written-whole c.take_wave.new.replies c.loop-done.replies.items c.loop-done.replies.len size)
-    (up-to-next c.args.core c.args.calls.now c.requires.lawful ranged (wave_of c.args.plan.now) (longest c.args.core c.args.calls.now c.args.feet.now c.args.plan.now c.requires.feet c.requires.plan) (foot_of c.args.feet.now) (λ k r low. c.requires.feet.touches k r low)
+    (up-to-next c.args.core c.args.calls.now c.requires.lawful (wave_of c.args.plan.now) (longest c.args.core c.args.calls.now c.args.feet.now c.args.plan.now c.requires.feet c.requires.plan) (foot_of c.args.feet.now) (λ k r low. c.requires.feet.touches k r low)
     c.loop-done.done c.loop-done.store c.loop-done.replies.items c.loop-done.invariant taken.order are c.in_ok-store.store c.take_wave.new.replies taken.replied taken.state)
 
 pub returns-clause-replies : goal.returns-clause-replies
 returns-clause-replies g c =
-    let ranged = each-of IsRanged c.args.calls.now c.read_all_numbers.ensures in
     let all : highest c.args.plan.now ≤ c.loop-done.done = search rules in
-    (up-to-all c.args.core c.args.calls.now c.requires.lawful ranged (wave_of c.args.plan.now) (longest c.args.core c.args.calls.now c.args.feet.now c.args.plan.now c.requires.feet c.requires.plan) c.loop-done.done c.loop-done.store c.loop-done.replies.items
+    (up-to-all c.args.core c.args.calls.now c.requires.lawful (wave_of c.args.plan.now) (longest c.args.core c.args.calls.now c.args.feet.now c.args.plan.now c.requires.feet c.requires.plan) c.loop-done.done c.loop-done.store c.loop-done.replies.items
     (λ k low. let last = at_most c.args.plan.now k in omega (arith, last, all)) c.loop-done.invariant).0
 
 pub returns-clause-state : goal.returns-clause-state
 returns-clause-state g c =
-    let ranged = each-of IsRanged c.args.calls.now c.read_all_numbers.ensures in
     let all : highest c.args.plan.now ≤ c.loop-done.done = search rules in
-    (up-to-all c.args.core c.args.calls.now c.requires.lawful ranged (wave_of c.args.plan.now) (longest c.args.core c.args.calls.now c.args.feet.now c.args.plan.now c.requires.feet c.requires.plan) c.loop-done.done c.loop-done.store c.loop-done.replies.items
+    (up-to-all c.args.core c.args.calls.now c.requires.lawful (wave_of c.args.plan.now) (longest c.args.core c.args.calls.now c.args.feet.now c.args.plan.now c.requires.feet c.requires.plan) c.loop-done.done c.loop-done.store c.loop-done.replies.items
     (λ k low. let last = at_most c.args.plan.now k in omega (arith, last, all)) c.loop-done.invariant).1
 
 pub returns-clause-blind : goal.returns-clause-blind
 returns-clause-blind g c =
-    let ranged = each-of IsRanged c.args.calls.now c.read_all_numbers.ensures in
     let all : highest c.args.plan.now ≤ c.loop-done.done = search rules in
     let end =
-    up-to-all c.args.core c.args.calls.now c.requires.lawful ranged (wave_of c.args.plan.now) (longest c.args.core c.args.calls.now c.args.feet.now c.args.plan.now c.requires.feet c.requires.plan) c.loop-done.done c.loop-done.store c.loop-done.replies.items
+    up-to-all c.args.core c.args.calls.now c.requires.lawful (wave_of c.args.plan.now) (longest c.args.core c.args.calls.now c.args.feet.now c.args.plan.now c.requires.feet c.requires.plan) c.loop-done.done c.loop-done.store c.loop-done.replies.items
     (λ k low. let last = at_most c.args.plan.now k in omega (arith, last, all)) c.loop-done.invariant in
-    shows_nothing c.args.core c.loop-done.store c.args.calls.now c.loop-done.replies.items c.read_all_numbers.ensures c.requires.lawful end.0 end.1
+    shows_nothing c.args.core c.loop-done.store c.args.calls.now c.loop-done.replies.items c.requires.lawful end.0 end.1

@@ -4,9 +4,10 @@ use Rattle.kc_core.proofs.Answered.{where_ok}
 use Rattle.kc_core.proofs.one_thread.KCore.answer_all.Goals as goal
 
 pub returns-clause-safe : goal.returns-clause-safe
-returns-clause-safe c = rw (← c.self.view_is) (safe _ c.args.calls.items (rw c.deref.ensures.value at c.read_all_numbers.ensures) c.self.invariant.lawful)
+returns-clause-safe c = rw (← c.self.view_is) (safe _ c.args.calls.items c.self.invariant.lawful)
 
 pub returns-clause-blind : goal.returns-clause-blind
-returns-clause-blind c = where_ok c.answer_each.result
-    (λ replies answered left. shows_nothing _ _ c.args.calls.items _ (rw c.deref.ensures.value at c.read_all_numbers.ensures) (rw (← c.self.view_is) c.self.invariant.lawful) answered left)
-    c.answer_each.ensures.replies c.answer_each.ensures.state
+returns-clause-blind c = rw (← c.self.view_is)
+    (where_ok c.answer_each.result
+    (λ replies answered left. shows_nothing _ _ c.args.calls.items _ c.self.invariant.lawful answered left)
+    c.answer_each.ensures.replies c.answer_each.ensures.state)
