@@ -1,5 +1,5 @@
 //! The core beside the history of its calls.
-ghost use Rattle.std.specs.Prelude.{◌≡◌, ◌≤◌, ◌↔◌, length, IsErr, IfOk, IfErr, OnErr};
+ghost use Rattle.std.specs.Prelude.{◌≡◌, ◌<◌, ◌≤◌, ◌↔◌, ◌++◌, ◌∷◌, [], length, vec_capacity, IsErr, IfOk, IfErr, OnOk, OnErr};
 ghost use Rattle.kc_types.specs.Limits.{call_limit};
 
 use crate::fault::LiveFault;
@@ -33,7 +33,7 @@ impl Model for Book {
 }
 
 impl Book {
-    ghost use Rattle.kc_history.specs.Book.{IsLegal, longer, receipt_of, new_log};
+    ghost use Rattle.kc_history.specs.Book.{IsLegal, longer, receipt_of, reply_to, new_log};
 
     /// The core in the boot state of its configuration, no calls, and room for as many as there can be; `Memory`
     /// where a growth was refused.
@@ -65,6 +65,21 @@ impl Book {
         let (entry, receipt) = ready.make(&mut self.core, number);
         self.entries.push_reserved(entry);
         Ok(receipt)
+    }
+
+    /// Makes one call as `step` does, and puts its receipt in the place that is reserved for it: the call is made and
+    /// has its receipt, or neither.
+    pub fn record(&mut self, ready: Ready, receipts: &mut Vec<Receipt>) -> Result<(), LiveFault>
+        requires { length receipts.old.items < vec_capacity receipts.old }
+        ensures receipt { OnOk result (receipts.new.items ≡ receipts.old.items ++ receipt_of self.old ready ∷ []) }
+        ensures entry { OnOk result (self.new ≡ longer self.old ready (reply_to self.old ready)) }
+        ensures full { IsErr result ↔ (length self.old.entries ≡ call_limit) }
+        ensures fault { IfErr result (λ fault. fault ≡ LiveFault.HistoryFull) }
+        ensures err { OnErr result ((receipts.new ≡ receipts.old) × (self.new ≡ self.old)) }
+    {
+        let receipt = self.step(ready)?;
+        receipts.push_reserved(receipt);
+        Ok(())
     }
 
     /// Ends the history.

@@ -37,8 +37,7 @@ impl LiveCore {
         ensures yours { (result ≡ Err LiveFault.NotYours) ↔ (actor_made call ≢ seat.old.actor) }
         ensures err { OnErr result (seat.new ≡ seat.old) }
     {
-        let ready = seat.ready(self.alloc, call)?;
-        seat.record(&mut self.book.lock(rt), ready)
+        seat.make(rt, self.alloc, &self.book, call)
     }
 
     /// Ends the history and hands it out. It waits for nobody.

@@ -47,13 +47,6 @@ impl Ready {
         })
     }
 
-    /// The call.
-    pub fn call(&self) -> &Call
-        ensures { result.now ≡ self.now }
-    {
-        &self.call
-    }
-
     /// Makes the call of a core, which takes no memory: what the history keeps of it, and the receipt.
     pub fn make(self, core: &mut KCore, number: u32) -> (Entry, Receipt)
         ensures entry { result.0 ≡ entry self (next core.old self).0 }

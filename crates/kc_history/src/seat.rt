@@ -1,6 +1,5 @@
 //! The seats from which actors call.
-ghost use Rattle.std.specs.Prelude.{◌≡◌, ◌≢◌, ◌↔◌, ◌<◌, ◌-◌, length, slice_get, Err, IfOk, OnOk, OnErr};
-ghost use Rattle.kc_types.specs.Limits.{call_limit};
+ghost use Rattle.std.specs.Prelude.{◌≡◌, ◌≢◌, ◌↔◌, ◌<◌, ◌-◌, length, slice_get, Err, OnOk, OnErr};
 ghost use Rattle.kc_types.specs.Actors.{actor as actor_made};
 
 use crate::book::Book;
@@ -11,7 +10,7 @@ use crate::receipt::Receipt;
 use kc_types::{Actor, Call, actor_of};
 use std::alloc::Global;
 use std::marker::Model;
-use std::sync::Wait;
+use std::sync::{Mutex, Wait};
 
 /// The place of one actor, with the receipts of the calls that it made from here, in order.
 #[derive(Debug, Drop)]
@@ -29,8 +28,7 @@ impl Model for Seat {
 }
 
 impl Seat {
-    ghost use Rattle.kc_history.specs.Seat.{new_seat, gaining};
-    ghost use Rattle.kc_history.specs.Book.{longer, receipt_of, reply_to};
+    ghost use Rattle.kc_history.specs.Seat.{new_seat};
 
     /// A seat with no receipts.
     pub fn new(alloc: Global, actor: Actor) -> Seat
@@ -64,39 +62,6 @@ impl Seat {
         let Seat { actor: _, receipts } = self;
         receipts
     }
-
-    /// Makes a call of this seat's actor ready, with room for its receipt: then `record` takes no memory for it.
-    /// `NotYours` where the call is another's, else `Memory` where a growth was refused.
-    pub fn ready(&mut self, alloc: Global, call: Call) -> Result<Ready, LiveFault>
-        ensures ready { IfOk result (λ ready. ready ≡ call) }
-        ensures yours { (result ≡ Err LiveFault.NotYours) ↔ (actor_made call ≢ self.old.actor) }
-        ensures faults { result ≢ Err LiveFault.HistoryFull }
-        ensures same { self.new ≡ self.old }
-    {
-        if actor_of(&call) != self.actor {
-            return Err(LiveFault::NotYours);
-        }
-        self.receipts.reserve(1)?;
-        Ok(Ready::new(alloc, call)?)
-    }
-
-    /// Makes one call of a book, and keeps its receipt. The faults come in this order: `NotYours`, `Memory` for the
-    /// receipt, `HistoryFull`.
-    pub fn record(&mut self, book: &mut Book, ready: Ready) -> Result<(), LiveFault>
-        ensures seat { OnOk result (self.new ≡ gaining self.old (receipt_of book.old ready)) }
-        ensures book { OnOk result (book.new ≡ longer book.old ready (reply_to book.old ready)) }
-        ensures yours { (result ≡ Err LiveFault.NotYours) ↔ (actor_made ready ≢ self.old.actor) }
-        ensures full { result ≡ Err LiveFault.HistoryFull → length book.old.entries ≡ call_limit }
-        ensures err { OnErr result ((self.new ≡ self.old) × (book.new ≡ book.old)) }
-    {
-        if actor_of(ready.call()) != self.actor {
-            return Err(LiveFault::NotYours);
-        }
-        self.receipts.reserve(1)?;
-        let receipt = book.step(ready)?;
-        self.receipts.push_reserved(receipt);
-        Ok(())
-    }
 }
 
 impl Seat {
@@ -116,6 +81,28 @@ impl Seat {
     {
         self.gain(rt, core, call)?;
         Ok(self.newest())
+    }
+
+    /// Makes one call of the book under its lock, and keeps its receipt; it may wait for the lock, before which all is made
+    /// that the call takes of memory, the place of its receipt too. The faults are those of `LiveCore::call`.
+    pub(crate) fn make<R: Wait>(
+        &mut self,
+        rt: &R,
+        alloc: Global,
+        book: &Mutex<Book>,
+        call: Call,
+    ) -> Result<(), LiveFault>
+        ensures gains { OnOk result (GainsReceipt self.old self.new call) }
+        ensures yours { (result ≡ Err LiveFault.NotYours) ↔ (actor_made call ≢ self.old.actor) }
+        ensures err { OnErr result (self.new ≡ self.old) }
+    {
+        if actor_of(&call) != self.actor {
+            return Err(LiveFault::NotYours);
+        }
+        self.receipts.reserve(1)?;
+        let ready = Ready::new(alloc, call)?;
+        let mut book = book.lock(rt);
+        book.record(ready, &mut self.receipts)
     }
 
     fn gain<R: Wait>(&mut self, rt: &R, core: &LiveCore, call: Call) -> Result<(), LiveFault>
