@@ -13,7 +13,7 @@ use Rattle.kc_types.specs.declared.reply.Reply.TheVariants as reply
 use Rattle.kc_types.specs.declared.owner.Owner.TheVariants.{Core, Host, Free, Vm}
 use Rattle.kc_types.specs.declared.slot.Phase.{Phase}
 use Rattle.kc_types.specs.declared.slot.Phase.TheVariants.{Booting, Active, Dead}
-use Rattle.kc_model.specs.State.{State, Frame, Image, frame_at, slot_at, vcpu_at, image_at, mapped_at, with_frame, with_slot, with_vcpu, overwritten, untouched, empty_slot, zero_page}
+use Rattle.kc_model.specs.State.{State, Frame, Image, frame_at, slot_at, image_at, mapped_at, with_frame, with_slot, with_vcpu, overwritten, untouched, empty_slot, zero_page}
 use Rattle.kc_model.specs.Slot.{in_phase, awaiting, with_image}
 use Rattle.kc_model.specs.Refusals.{backing, pending, next_gfn, pages_of}
 

@@ -1,5 +1,5 @@
 -- A VM slot as a value, and how it changes. Its frames are a list in the state of the core, and the ends of that list where links spell it.
-use Rattle.std.specs.Prelude.{ℕ, ◌+◌, Bool, false, List, [], ◌∷◌, ◌++◌, replicate, slice_index_or, slice_set, Option, None}
+use Rattle.std.specs.Prelude.{ℕ, ◌+◌, false, List, [], ◌∷◌, ◌++◌, replicate, slice_index_or, slice_set, Option, None}
 use Rattle.std.specs.Ordering.{nat_cmp}
 use Rattle.std.specs.FinMap as map
 use Rattle.kc_types.specs.Limits.{vcpu_limit}
