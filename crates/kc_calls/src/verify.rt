@@ -248,7 +248,8 @@ fn booted_slot(parts: &Parts, config: &Config, vm: u32) -> Result<VmId, Refusal>
 }
 
 /// Measures the images of a slot, which is booting and has all their pages: it becomes active if all are approved,
-/// and dead if one is not.
+/// and dead if one is not. It stands apart from its judge, since what it needs of the slot is all of it: that no
+/// condition holds, and no one value that the judge could hand over.
 fn measure_slot(parts: &mut Parts, config: &Config, vm: VmId) -> Reply
     requires served { refusal (state_of config.now parts.old) (Verify vm) ≡ None }
     requires able { IsAble config.now parts.old (Verify vm) }

@@ -102,7 +102,7 @@ impl KCore {
     }
 
     /// Answers a call: with the first refusal that applies, and then nothing has changed, or with its effect. The
-    /// bytes of the reply lie in room made before by `Call::spare`, and nothing takes memory.
+    /// bytes of the reply lie in a buffer made before by `Call::reply_buffer`, and nothing takes memory.
     pub fn answer(&mut self, call: &Call, room: ReplyBuffer) -> Reply
         requires { most_reply_bytes call.now ≤ room }
         ensures reply { result ≡ (next self.old call.now).0 }

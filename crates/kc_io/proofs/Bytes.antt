@@ -1,4 +1,4 @@
--- Steps over bytes that an end tells.
+-- Steps over bytes that a source or a sink tells.
 use Rattle.std.proofs.Common.{◌≡◌, ◌≤◌, ◌+◌, ◌-◌, ℕ, List, ◌++◌, length, take, drop, Option, sym, ap, ◌∙◌, arith}
 use Rattle.std.proofs.lemmas.List.{take_at, take-append-drop, length-take, length-drop, drop-drop}
 use Rattle.std.proofs.Math.Seq.{take-add}

@@ -66,7 +66,7 @@ fn room_holds_a_reply(rt: HostRuntime) -> Result<(), Fail> {
         offset: 0,
         len: PAGE_SIZE,
     };
-    let spare = call.reply_buffer(rt.alloc())?;
-    assert_eq!(rt; Reply::Fault(7).copy_into(spare), Reply::Fault(7));
+    let buffer = call.reply_buffer(rt.alloc())?;
+    assert_eq!(rt; Reply::Fault(7).copy_into(buffer), Reply::Fault(7));
     Ok(())
 }

@@ -1,4 +1,4 @@
-//! Room for a reply, made before its call.
+//! The buffer of a reply, made before its call.
 ghost use Rattle.std.specs.Prelude.{◌≡◌, ◌<◌, ◌≤◌, length, IfOk, IsOk};
 ghost use Rattle.kc_types.specs.Limits.{page_size};
 ghost use Rattle.kc_types.specs.ReplyBytes.{bytes_in, readable, most_reply_bytes};
@@ -7,7 +7,7 @@ use crate::{Call, Data, Memory, PAGE_SIZE, Reply};
 use std::alloc::Global;
 use std::marker::Model;
 
-/// Room for the bytes of one reply, seen as how many bytes it has room for.
+/// The buffer of one reply, seen as how many bytes it has room for.
 #[derive(Debug, Drop)]
 pub struct ReplyBuffer {
     room: Vec<u8>,
@@ -24,17 +24,17 @@ impl Model for ReplyBuffer {
 }
 
 impl ReplyBuffer {
-    /// Room for no bytes, which takes no memory.
+    /// A buffer for no bytes, which takes no memory.
     pub fn none(alloc: Global) -> ReplyBuffer {
         ReplyBuffer {
             room: Vec::new(alloc),
         }
     }
 
-    /// The room, grown to this many bytes where it has less; `Memory` where that growth was refused.
+    /// The buffer, grown to this many bytes where it has room for fewer; `Memory` where that growth was refused.
     pub fn at_least(self, len: usize) -> Result<ReplyBuffer, Memory>
         // No clause can rule out want of memory: tests make reads.
-        ensures enough { IfOk result (λ spare. len ≤ spare) }
+        ensures enough { IfOk result (λ buffer. len ≤ buffer) }
         ensures none { len ≤ self → IsOk result }
     {
         let ReplyBuffer { mut room } = self;
@@ -42,7 +42,7 @@ impl ReplyBuffer {
         Ok(ReplyBuffer { room })
     }
 
-    /// These 1 to 4,096 bytes in the room, which takes no memory.
+    /// These 1 to 4,096 bytes in the buffer, which takes no memory.
     pub fn filled(self, bytes: &[u8]) -> Data
         requires some { 0 < length bytes.now }
         requires page { length bytes.now ≤ page_size }
@@ -63,10 +63,10 @@ fn readable(len: u32) -> usize
 }
 
 impl Call {
-    /// Room for the bytes of the call's reply, made before the call is; `Memory` where a growth was refused, which
+    /// A buffer for the bytes of the call's reply, made before the call is; `Memory` where a growth was refused, which
     /// comes for reads alone.
     pub fn reply_buffer(&self, alloc: Global) -> Result<ReplyBuffer, Memory>
-        ensures room { IfOk result (λ spare. most_reply_bytes self.now ≤ spare) }
+        ensures room { IfOk result (λ buffer. most_reply_bytes self.now ≤ buffer) }
         ensures none { most_reply_bytes self.now ≡ 0 → IsOk result }
     {
         match self {
@@ -79,16 +79,16 @@ impl Call {
 }
 
 impl Reply {
-    /// A copy of the reply in room made before, which takes no memory.
-    pub fn copy_into(&self, spare: ReplyBuffer) -> Reply
-        requires { bytes_in self.now ≤ spare }
+    /// A copy of the reply in a buffer made before, which takes no memory.
+    pub fn copy_into(&self, buffer: ReplyBuffer) -> Reply
+        requires { bytes_in self.now ≤ buffer }
         ensures { result ≡ self.now }
     {
         match self {
             Reply::Done => Reply::Done,
             Reply::Frame(frame) => Reply::Frame(*frame),
             Reply::Image(image) => Reply::Image(*image),
-            Reply::Data(data) => Reply::Data(spare.filled(data.as_slice())),
+            Reply::Data(data) => Reply::Data(buffer.filled(data.as_slice())),
             Reply::Fault(gfn) => Reply::Fault(*gfn),
             Reply::Rejected(image) => Reply::Rejected(*image),
             Reply::Refused(refusal) => Reply::Refused(*refusal),
