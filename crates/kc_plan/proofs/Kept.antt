@@ -6,7 +6,7 @@ use Rattle.std.proofs.lemmas.List.{get_or_append_left}
 use Rattle.kc_plan.specs.declared.names.Names.{Names}
 use Rattle.kc_plan.specs.declared.rows.Row.{Row}
 use Rattle.kc_plan.specs.declared.rows.Span.{Span}
-use Rattle.kc_plan.specs.Reach.{is_in, is_at, reach_of, reaches, names_at}
+use Rattle.kc_plan.specs.Reach.{is_in, is_at, reach_of, reach, names_at}
 use Rattle.kc_plan.specs.Planner.{Reached, members_of, IsGrown}
 use Rattle.kc_plan.specs.Rows.{has_frame, is_of, IsSpan, IsRowOf, AreRowsOf, span_of, row_of, no_row}
 
@@ -88,22 +88,22 @@ last_row (x ∷ rows) row d = last_row rows row d
 
 -- one call more
 pub rows_more : (free : ℕ) (start : ℕ → ℕ → Bool) (cs : List Names) (a b : Reached) (rows more : List Row) (n : Names) → n ≡ names_at cs (length rows) → IfSome n.slot (λ v. v < free)
-    → ((p f : ℕ) → p < free + 1 → is_in (members_of a p) f ≡ reaches free start cs (length rows) p f)
+    → ((p f : ℕ) → p < free + 1 → is_in (members_of a p) f ≡ reach free start cs (length rows) p f)
     → length a.sets ≡ free + 1 → length b.sets ≡ free + 1 → IsGrown a b → more ≡ rows ++ row_of a.sets free n ∷ []
     → AreRowsOf free start cs a.sets rows → AreRowsOf free start cs b.sets more
 rows_more free start cs a b rows more n is low same size_a size_b grown pushed so_far = rw pushed each
   where
-    each : (k : ℕ) → k < length (rows ++ row_of a.sets free n ∷ []) → IsRowOf free (reaches free start cs k) (names_at cs k) b.sets (get_or (rows ++ row_of a.sets free n ∷ []) k no_row)
+    each : (k : ℕ) → k < length (rows ++ row_of a.sets free n ∷ []) → IsRowOf free (reach free start cs k) (names_at cs k) b.sets (get_or (rows ++ row_of a.sets free n ∷ []) k no_row)
     each k under =
         let len : length (rows ++ row_of a.sets free n ∷ []) ≡ length rows + 1 = length-append rows (row_of a.sets free n ∷ []) in
         elim (cases_lt k (length rows)) [
           | inl old ↦
               (let e = get_or_append_left rows (row_of a.sets free n ∷ []) no_row k old in
-              rw e (row_kept a b grown (size_b ∙ sym size_a) free (reaches free start cs k) (names_at cs k) (get_or rows k no_row) (so_far k old)))
+              rw e (row_kept a b grown (size_b ∙ sym size_a) free (reach free start cs k) (names_at cs k) (get_or rows k no_row) (so_far k old)))
           | inr past ↦
               (let e : length rows ≡ k = omega arith in
-              subst (λ (x : ℕ). IsRowOf free (reaches free start cs x) (names_at cs x) b.sets (get_or (rows ++ row_of a.sets free n ∷ []) x no_row)) e
+              subst (λ (x : ℕ). IsRowOf free (reach free start cs x) (names_at cs x) b.sets (get_or (rows ++ row_of a.sets free n ∷ []) x no_row)) e
               (rw (last_row rows (row_of a.sets free n) no_row, sym is)
-              (row_kept a b grown (size_b ∙ sym size_a) free (reaches free start cs (length rows)) n (row_of a.sets free n)
-              (row_new free (reaches free start cs (length rows)) a.sets same size_a n low))))
+              (row_kept a b grown (size_b ∙ sym size_a) free (reach free start cs (length rows)) n (row_of a.sets free n)
+              (row_new free (reach free start cs (length rows)) a.sets same size_a n low))))
         ]

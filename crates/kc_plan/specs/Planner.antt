@@ -2,7 +2,7 @@
 use Rattle.std.specs.Prelude.{◌≡◌, ℕ, ◌+◌, ◌<◌, ◌≤◌, Bool, true, false, ◌&&◌, ◌||◌, eqb, List, [], length, get_or, set, take, replicate, Option, Some, None, IfSome, ◌⊎◌}
 use Rattle.std.specs.List.{list_any, IsDistinct}
 use Rattle.kc_plan.specs.declared.names.Names.{Names}
-use Rattle.kc_plan.specs.Reach.{is_in, is_at, names_principal, gains_by, names_at, reaches, touches}
+use Rattle.kc_plan.specs.Reach.{is_in, is_at, names_principal, gains_by, names_at, reach, touches}
 use Rattle.waves.specs.Planned.{ComesJustAfter}
 use Rattle.kc_plan.specs.LastWaves.{IsFound, IsNoted, AreTracked}
 use Rattle.kc_plan.specs.Members.{with_member}
@@ -159,9 +159,9 @@ pub record IsStart (size free : ℕ) (pairs : List (ℕ × ℕ)) (h : Reached) :
 pub record IsGoing (frames free : ℕ) (start : ℕ → ℕ → Bool) (cs : List Names) (waves : List ℕ) (h : Reached) (s : Stamps) : Type 0 where
   pub planned : (wave : ℕ → ℕ) → ((j : ℕ) → j < length waves → wave j ≡ get_or waves j 0) → (k : ℕ) → k < length waves → ComesJustAfter (touches free start cs) wave k
   pub tracked : (wave : ℕ → ℕ) → ((j : ℕ) → j < length waves → wave j ≡ get_or waves j 0)
-      → AreTracked (λ k f. is_at (names_at cs k).frame f) (λ k p. names_principal free (names_at cs k) p) (reaches free start cs) (touches free start cs) wave
+      → AreTracked (λ k f. is_at (names_at cs k).frame f) (λ k p. names_principal free (names_at cs k) p) (reach free start cs) (touches free start cs) wave
       (free + 1) (length waves) (λ f. get_or s.frame_waves f 0) (λ p. get_or s.principal_waves p 0) (λ p. get_or s.reach_waves p 0)
-  pub sets : (p f : ℕ) → p < free + 1 → is_in (members_of h p) f ≡ reaches free start cs (length waves) p f
+  pub sets : (p f : ℕ) → p < free + 1 → is_in (members_of h p) f ≡ reach free start cs (length waves) p f
   pub exact : IsExact (free + 1) free h
   pub frame_low : (f : ℕ) → get_or s.frame_waves f 0 ≤ length waves
   pub principal_low : (p : ℕ) → get_or s.principal_waves p 0 ≤ length waves
@@ -176,4 +176,4 @@ ArePlanned free pairs cs waves = (k : ℕ) → k < length cs → ComesJustAfter 
 
 -- the sets have what each principal may have after all calls
 abbrev pub AreReached : ℕ → List (ℕ × ℕ) → List Names → List (List ℕ) → Type 0
-AreReached free pairs cs sets = (p f : ℕ) → p < free + 1 → is_in (get_or sets p []) f ≡ reaches free (has_pair pairs) cs (length cs) p f
+AreReached free pairs cs sets = (p f : ℕ) → p < free + 1 → is_in (get_or sets p []) f ≡ reach free (has_pair pairs) cs (length cs) p f

@@ -24,24 +24,24 @@ names_principal free n p = is_at n.slot p || (n.free && eqb free p)
 
 -- what the principal in question may have; of none nothing
 abbrev pub reach_of : (ℕ → ℕ → Bool) → Option ℕ → ℕ → Bool
-reach_of reaches None f = false
-reach_of reaches (Some p) f = reaches p f
+reach_of reach None f = false
+reach_of reach (Some p) f = reach p f
 
 -- what the principal p gets by a call
 abbrev pub gains_by : ℕ → (ℕ → ℕ → Bool) → Names → Gain → ℕ → ℕ → Bool
-gains_by free reaches n Nothing p f = false
-gains_by free reaches n SlotTakesFrame p f = is_at n.slot p && is_at n.frame f
-gains_by free reaches n FreeTakesFrame p f = (n.free && eqb free p) && is_at n.frame f
-gains_by free reaches n FreeTakesReach p f = (n.free && eqb free p) && reach_of reaches n.slot f
+gains_by free reach n Nothing p f = false
+gains_by free reach n SlotTakesFrame p f = is_at n.slot p && is_at n.frame f
+gains_by free reach n FreeTakesFrame p f = (n.free && eqb free p) && is_at n.frame f
+gains_by free reach n FreeTakesReach p f = (n.free && eqb free p) && reach_of reach n.slot f
 
 -- what the principal p may have before call k: start p f says that it owns the frame f at the start
-abbrev pub reaches : ℕ → (ℕ → ℕ → Bool) → List Names → ℕ → ℕ → ℕ → Bool
-reaches free start cs zero p f = start p f
-reaches free start cs (suc k) p f = reaches free start cs k p f || gains_by free (reaches free start cs k) (names_at cs k) (names_at cs k).gain p f
+abbrev pub reach : ℕ → (ℕ → ℕ → Bool) → List Names → ℕ → ℕ → ℕ → Bool
+reach free start cs zero p f = start p f
+reach free start cs (suc k) p f = reach free start cs k p f || gains_by free (reach free start cs k) (names_at cs k) (names_at cs k).gain p f
 
-abbrev pub touches : ℕ → (ℕ → ℕ → Bool) → Names → Numbered → Bool
-touches free reaches n (Frame f) = is_at n.frame f || (reach_of reaches n.slot f || (n.free && reaches free f))
-touches free reaches n (Principal p) = names_principal free n p
+abbrev pub touched : ℕ → (ℕ → ℕ → Bool) → Names → Numbered → Bool
+touched free reach n (Frame f) = is_at n.frame f || (reach_of reach n.slot f || (n.free && reach free f))
+touched free reach n (Principal p) = names_principal free n p
 
 abbrev pub touches : ℕ → (ℕ → ℕ → Bool) → List Names → ℕ → Numbered → Bool
-touches free start cs k r = touches free (reaches free start cs k) (names_at cs k) r
+touches free start cs k r = touched free (reach free start cs k) (names_at cs k) r

@@ -6,7 +6,7 @@ use Rattle.kc_types.specs.declared.resource.Resource.TheVariants as resource
 use Rattle.std.specs.List.{IsDistinct}
 use Rattle.kc_parts.specs.Cuts.{is_wanted, same}
 use Rattle.kc_plan.specs.declared.names.Names.{Names}
-use Rattle.kc_plan.specs.Reach.{is_in, is_at, reach_of, reaches, names_at}
+use Rattle.kc_plan.specs.Reach.{is_in, is_at, reach_of, reach, names_at}
 use Rattle.kc_plan.specs.declared.rows.Row.{Row}
 use Rattle.kc_plan.specs.declared.rows.Span.{Span}
 
@@ -125,4 +125,4 @@ pub record IsRowOf (free : ℕ) (before : ℕ → ℕ → Bool) (n : Names) (set
   pub free_span : IfSome row.free (IsSpan sets)
 
 abbrev pub AreRowsOf : ℕ → (ℕ → ℕ → Bool) → List Names → List (List ℕ) → List Row → Type 0
-AreRowsOf free start cs sets rows = (k : ℕ) → k < length rows → IsRowOf free (reaches free start cs k) (names_at cs k) sets (get_or rows k no_row)
+AreRowsOf free start cs sets rows = (k : ℕ) → k < length rows → IsRowOf free (reach free start cs k) (names_at cs k) sets (get_or rows k no_row)
