@@ -4,8 +4,8 @@
 ghost use Rattle.std.specs.Prelude.{◌≡◌, false};
 
 use kc_cli::{
-    ArgFault, DEFAULT_CONFIG, Job, Mem, Source, Std, TextFault, audit_text, dump_text, job_of, live_text,
-    replay_text, tell,
+    ArgFault, DEFAULT_CONFIG, Job, Mem, Source, Std, TextFault, audit_text, dump_text, job_of,
+    live_text, replay_text, tell,
 };
 use kc_replay::OpenGate;
 use std::env;
