@@ -17,7 +17,7 @@ use Rattle.kc_parts.specs.Parts.{Held, vm_at, with_vm, links_of}
 use Rattle.kc_parts.specs.States.{state_of, unlinked_slot, IsLinked}
 use Rattle.kc_parts.proofs.SlotChanges.{vm-same, state-vm, linked-vm}
 use Rattle.kc_calls.specs.Applying.{IsAnswer, KeepsPlaces}
-use Rattle.kc_calls.proofs.Frames.{room-same, room-vm}
+use Rattle.kc_calls.proofs.Frames.{places-same, places-vm}
 
 -- a call by its refusal
 next-by : (m : State) (call : Call) (why : Option Refusal) → refusal m call ≡ why → next m call ≡ unless_refused why m call
@@ -27,42 +27,42 @@ next-by m call why is = ap (λ why. unless_refused why m call) is
 -- a call that is refused, and leaves what is seen as it was
 pub answer-kept : (config : Configuration) (old new : Held) (call : Call) (why : Refusal) → refusal (state_of config old) call ≡ Some why → state_of config new ≡ state_of config old → IsLinked config new → KeepsPlaces old new
     → IsAnswer config old new call (reply.Refused why)
-answer-kept config old new call why is same linked room =
+answer-kept config old new call why is same linked places =
     let by = next-by (state_of config old) call (Some why) is in
     record {
       reply = sym (ap (λ (o : Outcome). o.0) by);
       state = same ∙ sym (ap (λ (o : Outcome). o.1) by);
       linked = linked;
-      room = room;
+      places = places;
     }
 
 pub answer-refused : (config : Configuration) (h : Held) (call : Call) (why : Refusal) → IsLinked config h → refusal (state_of config h) call ≡ Some why → IsAnswer config h h call (reply.Refused why)
-answer-refused config h call why linked is = answer-kept config h h call why is refl linked (room-same h)
+answer-refused config h call why linked is = answer-kept config h h call why is refl linked (places-same h)
 
 -- a call that is served
 pub answer-served : (config : Configuration) (old new : Held) (call : Call) (reply : Reply) → refusal (state_of config old) call ≡ None → reply ≡ (effect (state_of config old) call).0 → state_of config new ≡ (effect (state_of config old) call).1
     → IsLinked config new → KeepsPlaces old new → IsAnswer config old new call reply
-answer-served config old new call reply served replied left linked room =
+answer-served config old new call reply served replied left linked places =
     let by = next-by (state_of config old) call None served in
     record {
       reply = replied ∙ sym (ap (λ (o : Outcome). o.0) by);
       state = left ∙ sym (ap (λ (o : Outcome). o.1) by);
       linked = linked;
-      room = room;
+      places = places;
     }
 
 -- what a call promises where it may also want memory, and then leaves everything as it was
 pub answer-parts : (config : Configuration) (old new : Held) (call : Call) (result : Result Reply Memory) → IsLinked config old → IfOk result (IsAnswer config old new call) → OnErr result (new ≡ old)
     → IfOk result (λ reply. reply ≡ (next (state_of config old) call).0) × OnOk result (state_of config new ≡ (next (state_of config old) call).1) × IsLinked config new × KeepsPlaces old new
-answer-parts config old new call (Ok reply) linked answer same = (answer.reply, answer.state, answer.linked, answer.room)
-answer-parts config old new call (Err memory) linked answer same = (tt, tt, rw same linked, rw same (room-same old))
+answer-parts config old new call (Ok reply) linked answer same = (answer.reply, answer.state, answer.linked, answer.places)
+answer-parts config old new call (Err memory) linked answer same = (tt, tt, rw same linked, rw same (places-same old))
 
 -- a call that changes a slot alone, and not the ends of its list
-pub answer-slot : (config : Configuration) (h : Held) (v : ℕ) (vm new : VmSlot) (call : Call) (reply : Reply) → IsLinked config h → vm_at h v ≡ Some vm → new.slot.frames ≡ vm.slot.frames → new.room ≡ vm.room
+pub answer-slot : (config : Configuration) (h : Held) (v : ℕ) (vm new : VmSlot) (call : Call) (reply : Reply) → IsLinked config h → vm_at h v ≡ Some vm → new.slot.frames ≡ vm.slot.frames → new.places ≡ vm.capacity
     → refusal (state_of config h) call ≡ None → effect (state_of config h) call ≡ (reply, with_slot (state_of config h) v (unlinked_slot new.slot (listed (links_of h) new.slot.frames)))
     → IsAnswer config h (with_vm h v new) call reply
-answer-slot config h v vm new call reply linked at ends room served does =
-    answer-served config h (with_vm h v new) call reply served (sym (ap (λ (o : Outcome). o.0) does)) (state-vm config h v vm new at ∙ sym (ap (λ (o : Outcome). o.1) does)) (linked-vm config h v vm new linked at ends room) (room-vm h v vm new at)
+answer-slot config h v vm new call reply linked at ends places served does =
+    answer-served config h (with_vm h v new) call reply served (sym (ap (λ (o : Outcome). o.0) does)) (state-vm config h v vm new at ∙ sym (ap (λ (o : Outcome). o.1) does)) (linked-vm config h v vm new linked at ends places) (places-vm h v vm new at)
 
 -- a call that the slot refuses
 pub answer-slot_refused : (config : Configuration) (h : Held) (v : ℕ) (vm new : VmSlot) (call : Call) (why : Refusal) → IsLinked config h → vm_at h v ≡ Some vm → new ≡ vm

@@ -22,7 +22,7 @@ use Rattle.kc_parts.proofs.Pages.{links-kept}
 use Rattle.kc_parts.proofs.SlotChanges.{vm-set, state-vm, linked-vm}
 use Rattle.kc_parts.proofs.SlotLists.{frames-here, slot-owned}
 use Rattle.kc_calls.specs.Applying.{KeepsPlaces}
-use Rattle.kc_calls.proofs.Frames.{changed, room-vm, room-slot_move, room-through, owned-near}
+use Rattle.kc_calls.proofs.Frames.{changed, places-vm, places-slot_move, places-through, owned-near}
 use Rattle.kc_parts.proofs.Looked.{slot-is}
 
 -- a page becomes free, and its frame the last of the free ones
@@ -54,7 +54,7 @@ module _ (config : Configuration) (old : Held) (v g f : ℕ) (vm : VmSlot) (tabl
   unmapped = with_vm old v unmapped_vm
 
   pub linked-unmapped : IsLinked config unmapped
-  linked-unmapped = linked-vm config old v vm unmapped_vm is.linked is.at refl (ap (λ (t : Table). t.room) is.is_left)
+  linked-unmapped = linked-vm config old v vm unmapped_vm is.linked is.at refl (ap (λ (t : Table). t.capacity) is.is_left)
 
   vm-unmapped : vm_at unmapped v ≡ Some unmapped_vm
   vm-unmapped = vm-set old v vm unmapped_vm is.at
@@ -91,8 +91,8 @@ module _ (config : Configuration) (old : Held) (v g f : ℕ) (vm : VmSlot) (tabl
       after : Slot
       after = unlinked_slot unmapped_vm.slot (without fs f)
 
-  pub room-unlinked : (mid : Held) → IsSlotMove v unmapped mid → KeepsPlaces old mid
-  room-unlinked mid move = room-through old unmapped mid (room-vm old v vm unmapped_vm is.at) (room-slot_move v unmapped mid move)
+  pub places-unlinked : (mid : Held) → IsSlotMove v unmapped mid → KeepsPlaces old mid
+  places-unlinked mid move = places-through old unmapped mid (places-vm old v vm unmapped_vm is.at) (places-slot_move v unmapped mid move)
 
   -- the list that it was in is here
   pub near-unlinked : (mid : Held) → IsSlotMove v unmapped mid → is_away mid f ≡ false

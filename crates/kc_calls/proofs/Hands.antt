@@ -31,15 +31,15 @@ use Rattle.kc_parts.proofs.Seen.{state-page, linked-moved}
 use Rattle.kc_parts.proofs.SlotChanges.{vm-set, state-vm, linked-vm}
 use Rattle.kc_parts.proofs.SlotLists.{frames-here}
 use Rattle.kc_calls.specs.Applying.{KeepsPlaces}
-use Rattle.kc_calls.proofs.Frames.{frame-is, room-page, room-vm, room-slot_move, room-through, host-near}
+use Rattle.kc_calls.proofs.Frames.{frame-is, places-page, places-vm, places-slot_move, places-through, host-near}
 use Rattle.kc_calls.proofs.Hosts.{loose-host, loose-page}
 use Rattle.kc_parts.proofs.Looked.{fits-seen, slot-is}
 
 -- the table takes the guest frame
-pub map-fits : (m : State) (v g : ℕ) (vm : VmSlot) (frames : List ℕ) → slot_at m v ≡ unlinked_slot vm.slot frames → vm.room ≡ m.config.leaves → mapped_at m v g ≡ None → tables_full m v g ≡ None → map_fault (slot_table vm) g ≡ None
-map-fits m v g vm frames is room unmapped room_left =
+pub map-fits : (m : State) (v g : ℕ) (vm : VmSlot) (frames : List ℕ) → slot_at m v ≡ unlinked_slot vm.slot frames → vm.capacity ≡ m.config.leaves → mapped_at m v g ≡ None → tables_full m v g ≡ None → map_fault (slot_table vm) g ≡ None
+map-fits m v g vm frames is capacity unmapped leaf_left =
     let free : map.get vm.slot.mapped g ≡ None = ap (λ (slot : Slot). map.get slot.mapped g) (sym is) ∙ unmapped in
-    let left : fits (slot_table vm) g ≡ true = not-false (fits (slot_table vm) g) (when-none _ TablesFull (sym (fits-seen m v g vm frames is room) ∙ room_left)) in
+    let left : fits (slot_table vm) g ≡ true = not-false (fits (slot_table vm) g) (when-none _ TablesFull (sym (fits-seen m v g vm frames is capacity) ∙ leaf_left)) in
     rw (free, left) refl
 
 pub map-ok : (answer : Result Unit MapFault) (fault : Option MapFault) → fault ≡ None → Answers answer fault → IsOk answer
@@ -70,7 +70,7 @@ module _ (config : Configuration) (old : Held) (v g f : ℕ) (vm : VmSlot) (tabl
   owned = held.with_page mapped f new_page
 
   linked-mapped : IsLinked config mapped
-  linked-mapped = linked-vm config old v vm mapped_vm is.linked is.at_vm refl (ap (λ (t : Table). t.room) is.maps)
+  linked-mapped = linked-vm config old v vm mapped_vm is.linked is.at_vm refl (ap (λ (t : Table). t.capacity) is.maps)
 
   loose-mapped : IsLoose mapped f
   loose-mapped = loose-host config mapped f linked-mapped is.host
@@ -110,8 +110,8 @@ module _ (config : Configuration) (old : Held) (v g f : ℕ) (vm : VmSlot) (tabl
       frames-owned : listed_frames owned v ≡ fs
       frames-owned = frames-here owned v mapped_vm vm-owned ∙ ap (λ links. listed links vm.slot.frames) (links-kept mapped f page new_page is.at is.same)
 
-  pub room-handed : (new : Held) → IsSlotMove v owned new → KeepsPlaces old new
-  room-handed new move = room-through old owned new (room-through old mapped owned (room-vm old v vm mapped_vm is.at_vm) (room-page mapped f page new_page is.at is.same (λ away. let near = host-near mapped f is.host in let no = sym near ∙ away in cc))) (room-slot_move v owned new move)
+  pub places-handed : (new : Held) → IsSlotMove v owned new → KeepsPlaces old new
+  places-handed new move = places-through old owned new (places-through old mapped owned (places-vm old v vm mapped_vm is.at_vm) (places-page mapped f page new_page is.at is.same (λ away. let near = host-near mapped f is.host in let no = sym near ∙ away in cc))) (places-slot_move v owned new move)
 
 -- the frame of a served `remap` may become the slot's
 pub remap-fits : (m : State) (v i f : ℕ) → refusal m (Remap v i f) ≡ None → tables_full m v (next_gfn m v i) ≡ None

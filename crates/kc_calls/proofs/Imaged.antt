@@ -71,9 +71,9 @@ images-kept config old new v vm images low slots at is = images-seen config old 
 
 -- an image is here as long as the places and the slots stay
 pub image-still : (old new : Held) (v : ℕ) (image : Image) → KeepsPlaces old new → new.vms ≡ old.vms → IsImageHere old (mapped_in (vm_at old v)) image → IsImageHere new (mapped_in (vm_at new v)) image
-image-still old new v image room slots here = subst (λ (vms : HeldSlots). IsImageHere new (mapped_in (held_slot vms v)) image) (sym slots) (record {
+image-still old new v image places slots here = subst (λ (vms : HeldSlots). IsImageHere new (mapped_in (held_slot vms v)) image) (sym slots) (record {
   mapped_pages = here.mapped_pages;
-  pages = λ g from below. room.here (resource.Frame (backing (mapped_in (vm_at old v) g))) ∙ here.pages g from below;
+  pages = λ g from below. places.here (resource.Frame (backing (mapped_in (vm_at old v) g))) ∙ here.pages g from below;
 })
 
 -- one image more is trimmed

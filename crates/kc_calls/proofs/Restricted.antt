@@ -75,7 +75,7 @@ module _ (m : State) (here : Resources) (old new : Held) (call : Call) (reply : 
   reply-is = both.0
 
   here-new : (r : Resource) → here_of new r ≡ here r
-  here-new r = answer.room.here r ∙ here-is m here old is closed cut_is r
+  here-new r = answer.places.here r ∙ here-is m here old is closed cut_is r
 
   frame-low : (f : ℕ) → here (resource.Frame f) ≡ true → f < m.config.frames
   frame-low f e = ltb-true f m.config.frames (closed.exist (resource.Frame f) e)
@@ -138,7 +138,7 @@ module _ (m : State) (here : Resources) (old new : Held) (call : Call) (reply : 
       let there = page-shown m here old is closed cut_is f e in
       let own : owner_at old f ≡ p = owner-is m here old is closed cut_is f e ∙ owner-old in
       let away : is_away old f ≡ true = ap (lacks_list old) own ∙ lacks in
-      let kept : links_of new f ≡ links_of old f = (answer.room.away f away).1 in
+      let kept : links_of new f ≡ links_of old f = (answer.places.away f away).1 in
       let mine : there.it.meta.owner ≡ p = ap (λ part. (frame_shown part).owner) there.same ∙ owner-old in
       same_Some (link_of page) (link_of there.it) (sym (link-new f page e at) ∙ kept ∙ link-is m here old is closed cut_is f e)
       ∙ sym (listed-p (link_of there.it)) ∙ sym (ap (λ o. seen_link o (link_of there.it)) mine) ∙ ap link_shown there.same
@@ -195,7 +195,7 @@ module _ (m : State) (here : Resources) (old new : Held) (call : Call) (reply : 
   pub restricted-after : IsRestricted after here new
   restricted-after = record {
     parts = parts;
-    rooms = λ v vm at. answer.linked.vms v vm at ∙ ap (λ config. config.leaves) (sym config-after);
+    capacities = λ v vm at. answer.linked.vms v vm at ∙ ap (λ config. config.leaves) (sym config-after);
   }
     where
       parts : (r : Resource) → seen_at new r ≡ cond (here r) (Some (linked_part_of after r)) None

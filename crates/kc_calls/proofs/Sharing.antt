@@ -32,10 +32,10 @@ mapped-still m now v g slots mapped = ap (λ (slots : List Slot). map.get (get_o
 -- and its page, which is here, where the places stay too
 pub page-still : (config : Configuration) (old now : Held) (call : Call) (v g f : ℕ) → IsAble config old call → slot_of call ≡ Some v → v < slot_count config → mapped_at (state_of config old) v g ≡ Some (backing (mapped_at (state_of config old) v g))
     → mapped_at (state_of config now) v g ≡ Some (backing (mapped_at (state_of config old) v g)) → KeepsPlaces old now → mapped_at (state_of config now) v g ≡ Some f → is_some (page_at now f) ≡ true
-page-still config old now call v g f able names low mapped still room found =
+page-still config old now call v g f able names low mapped still places found =
     let b : ℕ = backing (mapped_at (state_of config old) v g) in
     let same : b ≡ f = cc in
-    subst (λ x. is_some (page_at now x) ≡ true) same (room.here (resource.Frame b) ∙ mapped-needed config old call able v g b names low mapped)
+    subst (λ x. is_some (page_at now x) ≡ true) same (places.here (resource.Frame b) ∙ mapped-needed config old call able v g b names low mapped)
 
 -- one guest frame of the range is done
 pub one-done : (change : Frame → Frame) (m new goal : State) (v g n left : ℕ) → n ≡ suc left → new ≡ with_each m v (g ∷ []) change → with_each m v (range_with_len g n) change ≡ goal → with_each new v (range_with_len (g + 1) left) change ≡ goal

@@ -30,4 +30,4 @@ state-phase config h v vm new phase low at is =
     ∙ ap (λ (slot : Slot). with_slot (state_of config h) v (record slot { phase = phase })) (sym (slot-is config h v vm low at))
 
 pub linked-phase : (config : Configuration) (h : Held) (v : ℕ) (vm new : VmSlot) (phase : Phase) → IsLinked config h → vm_at h v ≡ Some vm → new ≡ record vm { slot = slots.in_phase vm.slot phase } → IsLinked config (with_vm h v new)
-linked-phase config h v vm new phase linked at is = linked-vm config h v vm new linked at (ap (λ (n : VmSlot). n.slot.frames) is) (ap (λ (n : VmSlot). n.room) is)
+linked-phase config h v vm new phase linked at is = linked-vm config h v vm new linked at (ap (λ (n : VmSlot). n.slot.frames) is) (ap (λ (n : VmSlot). n.capacity) is)

@@ -15,7 +15,7 @@ use Rattle.kc_parts.specs.Restricted.{IsRestricted, IsClosed}
 -- the same places, and the same parts in them; frames of a list whose ends are elsewhere keep their owner and their links
 pub record KeepsPlaces (old new : Held) : Type 0 where
   pub numbers : new.numbers ≡ old.numbers
-  pub filled : new.here ≡ old.here
+  pub filled : new.filled ≡ old.filled
   pub here : (r : Resource) → here_of new r ≡ here_of old r
   pub away : (f : ℕ) → is_away old f ≡ true → (owner_at new f ≡ owner_at old f) × (links_of new f ≡ links_of old f)
 
@@ -30,7 +30,7 @@ pub record IsAnswer (config : Configuration) (old new : Held) (call : Call) (ans
   pub reply : answer ≡ (next (state_of config old) call).0
   pub state : state_of config new ≡ (next (state_of config old) call).1
   pub linked : IsLinked config new
-  pub room : KeepsPlaces old new
+  pub places : KeepsPlaces old new
 
 -- parts that are a lawful state's at some resources, links and ends with them: where the call needs no others, it can be
 -- made on them, answers what the state answers, and leaves the next state's parts at the same resources

@@ -21,20 +21,20 @@ fn answer_in(
     parts: &mut Parts,
     config: &Config,
     call: &Call,
-    room: ReplyBuffer,
+    buffer: ReplyBuffer,
 ) -> Result<Reply, Memory>
     requires { IsAble config.now parts.old call.now }
     ensures answer { IfOk result (IsAnswer config.now parts.old parts.new call.now) }
     ensures err { OnErr result (parts.new ≡ parts.old) }
     ensures memory { IsErr result → is_data (next (state_of config.now parts.old) call.now).0 ≡ true }
-    ensures fits { most_reply_bytes call.now ≤ room → IsOk result }
+    ensures fits { most_reply_bytes call.now ≤ buffer → IsOk result }
 {
     match call {
         Call::Take => Ok(take(parts, config)),
         Call::Give { frame } => Ok(give(parts, config, *frame)),
         Call::HostFault { frame } => Ok(host_fault(parts, config, *frame)),
         Call::HostRead { frame, offset, len } => {
-            host_read(parts, config, *frame, *offset, *len, room)
+            host_read(parts, config, *frame, *offset, *len, buffer)
         },
         Call::HostWrite {
             frame,
@@ -53,7 +53,7 @@ fn answer_in(
             gfn,
             offset,
             len,
-        } => guest_read(parts, config, *vm, *vcpu, *gfn, *offset, *len, room),
+        } => guest_read(parts, config, *vm, *vcpu, *gfn, *offset, *len, buffer),
         Call::GuestWrite {
             vm,
             vcpu,
@@ -93,7 +93,7 @@ pub fn apply(
     ensures reply { IfOk result (λ reply. reply ≡ (next (state_of config.now parts.old) call.now).0) }
     ensures state { OnOk result (state_of config.now parts.new ≡ (next (state_of config.now parts.old) call.now).1) }
     ensures linked { IsLinked config.now parts.new }
-    ensures room { KeepsPlaces parts.old parts.new }
+    ensures places { KeepsPlaces parts.old parts.new }
     ensures err { OnErr result (parts.new ≡ parts.old) }
     ensures memory { IsErr result → is_data (next (state_of config.now parts.old) call.now).0 ≡ true }
 {
@@ -101,13 +101,13 @@ pub fn apply(
 }
 
 /// The same, with room for the bytes of the reply that was made before: nothing takes memory.
-pub fn answer(parts: &mut Parts, config: &Config, call: &Call, room: ReplyBuffer) -> Reply
+pub fn answer(parts: &mut Parts, config: &Config, call: &Call, buffer: ReplyBuffer) -> Reply
     requires able { IsAble config.now parts.old call.now }
-    requires fits { most_reply_bytes call.now ≤ room }
+    requires fits { most_reply_bytes call.now ≤ buffer }
     ensures reply { result ≡ (next (state_of config.now parts.old) call.now).0 }
     ensures state { state_of config.now parts.new ≡ (next (state_of config.now parts.old) call.now).1 }
     ensures linked { IsLinked config.now parts.new }
-    ensures room { KeepsPlaces parts.old parts.new }
+    ensures places { KeepsPlaces parts.old parts.new }
 {
-    answer_in(parts, config, call, room).unwrap()
+    answer_in(parts, config, call, buffer).unwrap()
 }

@@ -43,7 +43,7 @@ fn free_frame(parts: &mut Parts, config: &Config, frame: FrameNo)
     requires free { IsSome parts.old.free }
     ensures state { state_of config.now parts.new ≡ freed (state_of config.now parts.old) frame }
     ensures linked { IsLinked config.now parts.new }
-    ensures room { KeepsPlaces parts.old parts.new }
+    ensures places { KeepsPlaces parts.old parts.new }
 {
     let page = parts.page_mut(frame);
     page.meta.owner = Owner::Free;

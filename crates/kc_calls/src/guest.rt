@@ -87,7 +87,7 @@ fn set_fault(parts: &mut Parts, config: &Config, at: GuestFrame)
     requires registered { (vcpu_at (state_of config.now parts.old) at.vm at.vcpu).registered ≡ true }
     ensures state { state_of config.now parts.new ≡ with_fault (state_of config.now parts.old) at.vm at.vcpu (Some at.gfn) }
     ensures linked { IsLinked config.now parts.new }
-    ensures room { KeepsPlaces parts.old parts.new }
+    ensures places { KeepsPlaces parts.old parts.new }
 {
     parts.slot_mut(at.vm).set_fault(at.vcpu, at.gfn);
 }
@@ -99,7 +99,7 @@ pub fn spend_fault(parts: &mut Parts, config: &Config, vm: VmId, vcpu: VcpuId)
     requires linked { IsLinked config.now parts.old }
     ensures state { state_of config.now parts.new ≡ with_fault (state_of config.now parts.old) vm vcpu None }
     ensures linked { IsLinked config.now parts.new }
-    ensures room { KeepsPlaces parts.old parts.new }
+    ensures places { KeepsPlaces parts.old parts.new }
 {
     parts.slot_mut(vm).spend_fault(vcpu);
 }
@@ -114,20 +114,20 @@ pub fn guest_read(
     gfn: u32,
     offset: u32,
     len: u32,
-    room: ReplyBuffer,
+    buffer: ReplyBuffer,
 ) -> Result<Reply, Memory>
     requires { IsAble config.now parts.old (GuestRead vm vcpu gfn offset len) }
     ensures answer { IfOk result (IsAnswer config.now parts.old parts.new (GuestRead vm vcpu gfn offset len)) }
     ensures err { OnErr result (parts.new ≡ parts.old) }
     ensures memory { IsErr result → is_data (next (state_of config.now parts.old) (GuestRead vm vcpu gfn offset len)).0 ≡ true }
-    ensures fits { readable len ≤ room → IsOk result }
+    ensures fits { readable len ≤ buffer → IsOk result }
 {
     match guest_frame(parts, config, vm, vcpu, gfn, offset, len) {
         Ok(at) => match parts.mapping_of(config, vm, at.gfn) {
             Some(frame) => {
-                let room = room.at_least(len as usize)?;
+                let buffer = buffer.at_least(len as usize)?;
                 let page = parts.page(frame);
-                let bytes = page.bytes.read(offset as usize, len as usize, room);
+                let bytes = page.bytes.read(offset as usize, len as usize, buffer);
                 spend_fault(parts, config, at.vm, at.vcpu);
                 Ok(Reply::Data(bytes))
             },

@@ -41,7 +41,7 @@ fn hand(parts: &mut Parts, config: &Config, vm: VmId, gfn: Gfn, frame: FrameNo)
     requires fits { tables_full (state_of config.now parts.old) vm gfn ≡ None }
     ensures state { state_of config.now parts.new ≡ hand (state_of config.now parts.old) vm gfn frame }
     ensures linked { IsLinked config.now parts.new }
-    ensures room { KeepsPlaces parts.old parts.new }
+    ensures places { KeepsPlaces parts.old parts.new }
 {
     let slot = parts.slot_mut(vm);
     slot.table_mut().map(gfn, frame).unwrap();

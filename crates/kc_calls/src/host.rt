@@ -120,18 +120,18 @@ pub fn host_read(
     frame: u32,
     offset: u32,
     len: u32,
-    room: ReplyBuffer,
+    buffer: ReplyBuffer,
 ) -> Result<Reply, Memory>
     requires { IsAble config.now parts.now (HostRead frame offset len) }
     ensures answer { IfOk result (IsAnswer config.now parts.now parts.now (HostRead frame offset len)) }
     ensures memory { IsErr result → is_data (next (state_of config.now parts.now) (HostRead frame offset len)).0 ≡ true }
-    ensures fits { readable len ≤ room → IsOk result }
+    ensures fits { readable len ≤ buffer → IsOk result }
 {
     match present_frame(parts, config, frame, offset, len) {
         Ok(frame) => {
-            let room = room.at_least(len as usize)?;
+            let buffer = buffer.at_least(len as usize)?;
             let page = parts.page(frame);
-            Ok(Reply::Data(page.bytes.read(offset as usize, len as usize, room)))
+            Ok(Reply::Data(page.bytes.read(offset as usize, len as usize, buffer)))
         },
         Err(refusal) => Ok(Reply::Refused(refusal)),
     }
@@ -144,7 +144,7 @@ pub fn write_frame(parts: &mut Parts, config: &Config, frame: FrameNo, offset: u
     requires linked { IsLinked config.now parts.old }
     ensures state { state_of config.now parts.new ≡ written (state_of config.now parts.old) frame offset bytes.now }
     ensures linked { IsLinked config.now parts.new }
-    ensures room { KeepsPlaces parts.old parts.new }
+    ensures places { KeepsPlaces parts.old parts.new }
 {
     let page = parts.page_mut(frame);
     page.bytes.write(offset as usize, bytes.as_slice());

@@ -108,7 +108,7 @@ pub fn grant_frame(parts: &mut Parts, config: &Config, frame: FrameNo)
     requires linked { IsLinked config.now parts.old }
     ensures state { state_of config.now parts.new ≡ with_frame (state_of config.now parts.old) frame (granted (frame_at (state_of config.now parts.old) frame)) }
     ensures linked { IsLinked config.now parts.new }
-    ensures room { KeepsPlaces parts.old parts.new }
+    ensures places { KeepsPlaces parts.old parts.new }
 {
     let page = parts.page_mut(frame);
     page.meta.share += 1;
@@ -132,7 +132,7 @@ pub fn revoke_frame(parts: &mut Parts, config: &Config, frame: FrameNo)
     requires linked { IsLinked config.now parts.old }
     ensures state { state_of config.now parts.new ≡ with_frame (state_of config.now parts.old) frame (revoked (frame_at (state_of config.now parts.old) frame)) }
     ensures linked { IsLinked config.now parts.new }
-    ensures room { KeepsPlaces parts.old parts.new }
+    ensures places { KeepsPlaces parts.old parts.new }
 {
     let page = parts.page_mut(frame);
     page.meta = revoked(page.meta);

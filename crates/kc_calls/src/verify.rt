@@ -174,7 +174,7 @@ fn trim_image(parts: &mut Parts, config: &Config, vm: VmId, image: &Image)
     requires here { IsImageHere parts.old (mapped_in (vm_at parts.old vm)) image.now }
     ensures state { state_of config.now parts.new ≡ trimmed (state_of config.now parts.old) vm image.now }
     ensures linked { IsLinked config.now parts.new }
-    ensures room { KeepsPlaces parts.old parts.new }
+    ensures places { KeepsPlaces parts.old parts.new }
     ensures slots { parts.new.vms ≡ parts.old.vms }
 {
     let slot = parts.slot(vm);
@@ -192,7 +192,7 @@ fn trim_images(parts: &mut Parts, config: &Config, vm: VmId)
     requires here { All (IsImageHere parts.old (mapped_in (vm_at parts.old vm))) (slot_at (state_of config.now parts.old) vm).images }
     ensures state { state_of config.now parts.new ≡ all_trimmed (state_of config.now parts.old) vm (slot_at (state_of config.now parts.old) vm).images }
     ensures linked { IsLinked config.now parts.new }
-    ensures room { KeepsPlaces parts.old parts.new }
+    ensures places { KeepsPlaces parts.old parts.new }
     ensures slots { parts.new.vms ≡ parts.old.vms }
 {
     let count = parts.slot(vm).images().len();
@@ -256,7 +256,7 @@ fn measure_slot(parts: &mut Parts, config: &Config, vm: VmId) -> Reply
     ensures reply { result ≡ (effect (state_of config.now parts.old) (Verify vm)).0 }
     ensures state { state_of config.now parts.new ≡ (effect (state_of config.now parts.old) (Verify vm)).1 }
     ensures linked { IsLinked config.now parts.new }
-    ensures room { KeepsPlaces parts.old parts.new }
+    ensures places { KeepsPlaces parts.old parts.new }
 {
     if let Some(image) = first_unapproved(parts, config, vm) {
         parts.slot_mut(vm).kill();

@@ -67,15 +67,15 @@ module _ (config : Configuration) (h : Held) (is : IsCore config h) where
 
 -- a core keeps itself where all that was here stays, and the state is lawful
 pub core-kept : (config : Configuration) (old new : Held) → IsCore config old → IsLawful (state_of config new) → IsLinked config new → KeepsPlaces old new → IsCore config new
-core-kept config old new is lawful linked room = record {
+core-kept config old new is lawful linked places = record {
   lawful = lawful;
   linked = linked;
   whole = record {
-    numbers = room.numbers ∙ is.whole.numbers;
-    frames = λ f low. room.here (resource.Frame f) ∙ is.whole.frames f low;
-    vms = λ v low. room.here (resource.Vm v) ∙ is.whole.vms v low;
-    past = λ v some. is.whole.past v (sym (room.here (resource.Vm v)) ∙ some);
-    free = room.here resource.Free ∙ is.whole.free;
+    numbers = places.numbers ∙ is.whole.numbers;
+    frames = λ f low. places.here (resource.Frame f) ∙ is.whole.frames f low;
+    vms = λ v low. places.here (resource.Vm v) ∙ is.whole.vms v low;
+    past = λ v some. is.whole.past v (sym (places.here (resource.Vm v)) ∙ some);
+    free = places.here resource.Free ∙ is.whole.free;
   };
 }
 

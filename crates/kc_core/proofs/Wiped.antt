@@ -41,7 +41,7 @@ module _ (config : Configuration) (h : Held) where
   clean = record h { pages = map scrubbed_page h.pages }
 
   pub page-clean : (f : ℕ) → page_at clean f ≡ option_map scrubbed_page (page_at h f)
-  page-clean f = ap (λ n. slice_get (map scrubbed_page h.pages) (cond (is_filled h.numbers h.here f) (place_of h.numbers f) n)) (length-map h.pages scrubbed_page) ∙ slice_get-map scrubbed_page h.pages (place_in h f)
+  page-clean f = ap (λ n. slice_get (map scrubbed_page h.pages) (cond (is_filled h.numbers h.filled f) (place_of h.numbers f) n)) (length-map h.pages scrubbed_page) ∙ slice_get-map scrubbed_page h.pages (place_in h f)
 
   link-clean : (there : Option Page) → option_map link_of (option_map scrubbed_page there) ≡ option_map link_of there
   link-clean None = refl

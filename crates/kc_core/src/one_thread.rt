@@ -103,13 +103,13 @@ impl KCore {
 
     /// Answers a call: with the first refusal that applies, and then nothing has changed, or with its effect. The
     /// bytes of the reply lie in a buffer made before by `Call::reply_buffer`, and nothing takes memory.
-    pub fn answer(&mut self, call: &Call, room: ReplyBuffer) -> Reply
-        requires { most_reply_bytes call.now ≤ room }
+    pub fn answer(&mut self, call: &Call, buffer: ReplyBuffer) -> Reply
+        requires { most_reply_bytes call.now ≤ buffer }
         ensures reply { result ≡ (next self.old call.now).0 }
         ensures state { self.new ≡ (next self.old call.now).1 }
         ensures lawful { IsLawful self.new }
     {
-        answer(&mut self.parts, &self.config, call, room)
+        answer(&mut self.parts, &self.config, call, buffer)
     }
 
     /// Answers a call. `Memory` where a growth was refused, which comes only where the reply would be bytes, and then

@@ -117,7 +117,7 @@ module _ (m : State) (is : IsLawful m) where
   dump-in-range = record {
     some_frames = let l = long m is in let c = is.config.some_frames in omega (arith, l, c);
     few_frames = let l = long m is in let c = is.config.few_frames in omega (arith, l, c);
-    core = let l = long m is in let c = is.config.room in omega (arith, l, c);
+    core = let l = long m is in let c = is.config.within in omega (arith, l, c);
     some_leaves = is.config.some_leaves;
     few_leaves = is.config.few_leaves;
     slots = slots m is;

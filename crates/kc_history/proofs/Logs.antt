@@ -9,17 +9,17 @@ use Rattle.kc_model.specs.State.{State}
 use Rattle.kc_model.specs.Boot.{boot}
 use Rattle.kc_model.specs.Next.{next}
 use Rattle.kc_model.proofs.States.Runs.{replies_from-append, state_after-append}
-use Rattle.kc_model.proofs.Refusals.Rooms.{room-next}
+use Rattle.kc_model.proofs.Refusals.ReplyBytes.{bytes-next}
 use Rattle.kc_history.specs.declared.receipt.Entry.{Entry}
 use Rattle.kc_history.specs.Book.{IsKept, calls_of, entry}
 
--- room made for the call is room for its reply
-pub room_made : (m : State) (call : Call) (reply : Reply) (spare : ℕ) → reply ≡ (next m call).0 → most_reply_bytes call ≤ spare → bytes_in reply ≤ spare
-room_made m call reply spare is_reply made = let room = room-next m call in rw is_reply (omega arith)
+-- a buffer made for the call has room for its reply
+pub buffer_fits : (m : State) (call : Call) (reply : Reply) (spare : ℕ) → reply ≡ (next m call).0 → most_reply_bytes call ≤ spare → bytes_in reply ≤ spare
+buffer_fits m call reply spare is_reply made = let few = bytes-next m call in rw is_reply (omega arith)
 
 pub kept_more : (config : Configuration) (es : List Entry) (m n : State) (call : Call) (reply : Reply)
     → IsKept config es m → length es < 65536 → reply ≡ (next m call).0 → n ≡ (next m call).1 → IsKept config (es ++ entry call reply ∷ []) n
-kept_more config es m n call reply kept room is_reply is_after = record {
+kept_more config es m n call reply kept fits is_reply is_after = record {
   legal =
       map-append (λ (e : Entry). e.reply) es (entry call reply ∷ [])
       ∙ rw (map-append (λ (e : Entry). e.call) es (entry call reply ∷ []), replies_from-append (boot config) (calls_of es) (call ∷ []), kept.legal, is_reply, kept.ends) refl;

@@ -4,7 +4,7 @@ use Rattle.kc_types.specs.declared.call.Call.{Call}
 use Rattle.kc_types.specs.ReplyBytes.{most_reply_bytes}
 
 -- beside the call stand a copy of it, and room for the bytes of its reply and for a copy of them
-pub record IsReady (call copy : Call) (room copy_room : ℕ) : Type 0 where
+pub record IsReady (call copy : Call) (buffer copy_buffer : ℕ) : Type 0 where
   pub copied : copy ≡ call
-  pub fits : most_reply_bytes call ≤ room
-  pub copy_fits : most_reply_bytes call ≤ copy_room
+  pub fits : most_reply_bytes call ≤ buffer
+  pub copy_fits : most_reply_bytes call ≤ copy_buffer

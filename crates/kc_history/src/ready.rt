@@ -15,8 +15,8 @@ use std::marker::Model;
 pub struct Ready {
     call: Call,
     copy: Call,
-    room: ReplyBuffer,
-    copy_room: ReplyBuffer,
+    buffer: ReplyBuffer,
+    copy_buffer: ReplyBuffer,
 }
 
 impl Model for Ready {
@@ -27,7 +27,7 @@ impl Model for Ready {
 
     ghost view = { λ r. r.call };
 
-    ghost invariant = { λ r. IsReady r.call r.copy r.room r.copy_room };
+    ghost invariant = { λ r. IsReady r.call r.copy r.buffer r.copy_buffer };
 }
 
 impl Ready {
@@ -37,13 +37,13 @@ impl Ready {
         ensures { IfOk result (λ ready. ready ≡ call) }
     {
         let copy = call.copy()?;
-        let room = call.reply_buffer(alloc)?;
-        let copy_room = call.reply_buffer(alloc)?;
+        let buffer = call.reply_buffer(alloc)?;
+        let copy_buffer = call.reply_buffer(alloc)?;
         Ok(Ready {
             call,
             copy,
-            room,
-            copy_room,
+            buffer,
+            copy_buffer,
         })
     }
 
@@ -56,11 +56,11 @@ impl Ready {
         let Ready {
             call,
             copy,
-            room,
-            copy_room,
+            buffer,
+            copy_buffer,
         } = self;
-        let reply = core.answer(&call, room);
-        let told = reply.copy_into(copy_room);
+        let reply = core.answer(&call, buffer);
+        let told = reply.copy_into(copy_buffer);
         let receipt = Receipt {
             number,
             call,

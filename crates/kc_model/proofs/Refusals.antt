@@ -1,3 +1,3 @@
 pub mod Served
 pub mod Answered
-pub mod Rooms
+pub mod ReplyBytes

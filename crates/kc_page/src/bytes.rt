@@ -42,14 +42,14 @@ impl PageBytes {
         self.bytes.as_slice()
     }
 
-    /// A copy of `len` bytes from `offset` on, in room made before, which takes no memory.
-    pub fn read(&self, offset: usize, len: usize, room: ReplyBuffer) -> Data
+    /// A copy of `len` bytes from `offset` on, in a buffer made before, which takes no memory.
+    pub fn read(&self, offset: usize, len: usize, buffer: ReplyBuffer) -> Data
         requires some { 0 < len }
         requires within { offset + len ≤ page_size }
-        requires room { len ≤ room }
+        requires fits { len ≤ buffer }
         ensures { result ≡ slice_range self.now offset (offset + len) }
     {
-        room.filled(&self.bytes[offset..offset + len])
+        buffer.filled(&self.bytes[offset..offset + len])
     }
 
     /// Writes these bytes from `offset` on.

@@ -55,14 +55,14 @@ pub held-page : (ns : List ℕ) (hs : List Bool) (ps : List Page) (f : ℕ) (p :
 held-page ns hs ps f p held = record {
   rising = held.rising;
   frames = held.frames;
-  here = held.here;
+  flags = held.flags;
   pages = length-set ps (cond (is_filled ns hs f) (place_of ns f) (length ps)) p ∙ held.pages;
   blanks = blanks-page hs ps (cond (is_filled ns hs f) (place_of ns f) (length ps)) p (flag (is_filled ns hs f) refl) held.blanks;
 }
   where
     flag : (b : Bool) → is_filled ns hs f ≡ b → get_or hs (cond b (place_of ns f) (length ps)) true ≡ true
     flag true e = filled-flag ns hs f e
-    flag false e = get_or_past hs (length ps) true (omega (arith, held.here, held.pages))
+    flag false e = get_or_past hs (length ps) true (omega (arith, held.flags, held.pages))
 
 -- a page and its flag change together
 blanks-set : (hs : List Bool) (ps : List Page) (i : ℕ) (b : Bool) (p : Page) → (b ≡ false → p ≡ blank_page) → AreBlanks hs ps → AreBlanks (set hs i b) (set ps i p)
@@ -78,7 +78,7 @@ pub held-set : (ns : List ℕ) (hs : List Bool) (ps : List Page) (i : ℕ) (b : 
 held-set ns hs ps i b p ok held = record {
   rising = held.rising;
   frames = held.frames;
-  here = length-set hs i b ∙ held.here;
+  flags = length-set hs i b ∙ held.flags;
   pages = length-set ps i p ∙ held.pages;
   blanks = blanks-set hs ps i b p ok held.blanks;
 }
@@ -90,30 +90,30 @@ blank-there ns hs ps f d held low none = by_flag (get_or hs (place_of ns f) true
     by_flag : (b : Bool) → get_or hs (place_of ns f) true ≡ b → get_or ps (place_of ns f) d ≡ blank_page
     by_flag false e = get_or_default ps (place_of ns f) d blank_page (omega (arith, low, held.pages)) ∙ held.blanks (place_of ns f) e
     by_flag true e =
-        let filled : is_filled ns hs f ≡ true = filled-at ns hs f true true (omega (arith, low, held.here)) held.here e in
+        let filled : is_filled ns hs f ≡ true = filled-at ns hs f true true (omega (arith, low, held.flags)) held.flags e in
         let some : page_among ns hs ps f ≡ Some (get_or ps (place_of ns f) d) = rw filled (slice_get-get_or ps (place_of ns f) d (omega (arith, low, held.pages))) in
         let no : Some (get_or ps (place_of ns f) d) ≡ None = sym some ∙ none in
         cc
 
 -- where no page is taken out there is no blank
-full-blanks : (h : Held) (ps : List Page) → IsHeld h.numbers h.here h.pages → IsFull h → AreBlanks h.here ps
-full-blanks h ps held full i e = elim (cases_lt i (length h.here)) [
+full-blanks : (h : Held) (ps : List Page) → IsHeld h.numbers h.filled h.pages → IsFull h → AreBlanks h.filled ps
+full-blanks h ps held full i e = elim (cases_lt i (length h.filled)) [
   | inl low ↦
       let n = get_or h.numbers i 0 in
-      let within : i < length h.numbers = omega (arith, low, held.here) in
+      let within : i < length h.numbers = omega (arith, low, held.flags) in
       let place = place-found h.numbers i n held.rising within refl in
-      let flag : get_or h.here i true ≡ true = ap (λ k. get_or h.here k true) (sym place) ∙ filled-flag h.numbers h.here n (filled-here h.numbers h.here h.pages n (full i within)) in
+      let flag : get_or h.filled i true ≡ true = ap (λ k. get_or h.filled k true) (sym place) ∙ filled-flag h.numbers h.filled n (filled-here h.numbers h.filled h.pages n (full i within)) in
       let no : true ≡ false = sym flag ∙ e in
       cc
-  | inr past ↦ let no : true ≡ false = sym (get_or_past h.here i true past) ∙ e in cc
+  | inr past ↦ let no : true ≡ false = sym (get_or_past h.filled i true past) ∙ e in cc
 ]
 
 -- and all pages may become any pages
-pub held-refilled : (h : Held) (n : ℕ) (ps : List Page) → IsHeld h.numbers h.here h.pages → IsFull h → n ≡ length h.pages → IsHeld h.numbers h.here (take n (ps ++ drop (length ps) h.pages))
+pub held-refilled : (h : Held) (n : ℕ) (ps : List Page) → IsHeld h.numbers h.filled h.pages → IsFull h → n ≡ length h.pages → IsHeld h.numbers h.filled (take n (ps ++ drop (length ps) h.pages))
 held-refilled h n ps held full is = record {
   rising = held.rising;
   frames = held.frames;
-  here = held.here;
+  flags = held.flags;
   pages = simp (length-take, length-append, length-drop) (omega (arith, is, held.pages));
   blanks = full-blanks h (take n (ps ++ drop (length ps) h.pages)) held full;
 }
@@ -128,7 +128,7 @@ pub held-scrubbed : (numbers : List ℕ) (filled : List Bool) (pages : List Page
 held-scrubbed numbers filled pages is = record {
   rising = is.rising;
   frames = is.frames;
-  here = is.here;
+  flags = is.flags;
   pages = length-map pages scrubbed_page ∙ is.pages;
   blanks = λ i e. blank-scrubbed pages i (is.blanks i e);
 }

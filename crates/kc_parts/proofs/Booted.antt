@@ -79,7 +79,7 @@ module _ (config : Configuration) (is : IsConfiguration config) where
   abbrev pub booted : Held
   booted = record {
     numbers = range_with_len 0 config.frames;
-    here = replicate config.frames true;
+    filled = replicate config.frames true;
     pages = map (boot_page config) (range_with_len 0 config.frames);
     vms = boot_slots config;
     free = Some (boot_ends config);
@@ -109,7 +109,7 @@ module _ (config : Configuration) (is : IsConfiguration config) where
 
   chain : Chain (links_of booted) (boot_ends config) (range_with_len (first_free config) count)
   unfolding count
-  chain = let room = is.room in record {
+  chain = let within = is.within in record {
     head = ends (nat_lt (first_free config) config.frames) refl (Some (first_free config)) ∙ sym (first-range (first_free config) count);
     tail = ends (nat_lt (first_free config) config.frames) refl (Some (config.frames - 1)) ∙ tail-of (config.frames - first_free config) refl ∙ sym (last-range (first_free config) count None);
     count = sym (length-range_with_len (first_free config) count);
@@ -257,11 +257,11 @@ module _ (config : Configuration) (is : IsConfiguration config) where
           ]
 
   -- what is made part by part
-  pub made : (numbers : List ℕ) (here : List Bool) (pages : List Page) (vms : HeldSlots) (free : Option Ends)
+  pub made : (numbers : List ℕ) (filled : List Bool) (pages : List Page) (vms : HeldSlots) (free : Option Ends)
       → numbers ≡ range_with_len 0 config.frames → here ≡ replicate config.frames true → pages ≡ map (boot_page config) (range_with_len 0 config.frames)
       → vms ≡ boot_slots config → free ≡ Some (boot_ends config)
-      → record { numbers = numbers; here = here; pages = pages; vms = vms; free = free } ≡ booted
-  made numbers here pages vms free n h p v f i = record { numbers = n i; here = h i; pages = p i; vms = v i; free = f i }
+      → record { numbers = numbers; filled = filled; pages = pages; vms = vms; free = free } ≡ booted
+  made numbers filled pages vms free n h p v f i = record { numbers = n i; filled = h i; pages = p i; vms = v i; free = f i }
 
   pub is_held-boot : IsHeld (range_with_len 0 config.frames) (replicate config.frames true) (map (boot_page config) (range_with_len 0 config.frames))
   is_held-boot = record {
@@ -270,7 +270,7 @@ module _ (config : Configuration) (is : IsConfiguration config) where
       | inl low ↦ let a = get_or-range_with_len 0 config.frames i 0 low in omega (arith, low, few, a)
       | inr past ↦ let count = length-range_with_len 0 config.frames in let a : get_or (range_with_len 0 config.frames) i 0 ≡ 0 = get_or_past (range_with_len 0 config.frames) i 0 (omega (arith, past, count)) in omega (arith, a)
     ];
-    here = length-replicate config.frames true ∙ sym (length-range_with_len 0 config.frames);
+    flags = length-replicate config.frames true ∙ sym (length-range_with_len 0 config.frames);
     pages = length-map-range_with_len (boot_page config) 0 config.frames ∙ sym (length-range_with_len 0 config.frames);
     blanks = blanks-filled config.frames (map (boot_page config) (range_with_len 0 config.frames));
   }

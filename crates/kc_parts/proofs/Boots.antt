@@ -34,16 +34,16 @@ unfilled-range a zero f le = refl
 unfilled-range a (suc n) f le = rw (ne_eqb a f (λ same. omega (arith, le, same))) (unfilled-range (a + 1) n f (omega (arith, le)))
 
 -- the page of a frame where all have places and all are here
-pub page-whole : (h : Held) (n f : ℕ) → h.numbers ≡ range_with_len 0 n → h.here ≡ replicate n true → f < n → page_at h f ≡ slice_get h.pages f
+pub page-whole : (h : Held) (n f : ℕ) → h.numbers ≡ range_with_len 0 n → h.filled ≡ replicate n true → f < n → page_at h f ≡ slice_get h.pages f
 page-whole h n f numbers here lt =
     let e : 0 + f ≡ f = omega arith in
-    let filled : is_filled h.numbers h.here f ≡ true = ap (λ ns. is_filled ns h.here f) numbers ∙ ap (λ hs. is_filled (range_with_len 0 n) hs f) here ∙ ap (is_filled (range_with_len 0 n) (replicate n true)) (sym e) ∙ filled-range 0 n f lt in
+    let filled : is_filled h.numbers h.filled f ≡ true = ap (λ ns. is_filled ns h.filled f) numbers ∙ ap (λ hs. is_filled (range_with_len 0 n) hs f) here ∙ ap (is_filled (range_with_len 0 n) (replicate n true)) (sym e) ∙ filled-range 0 n f lt in
     let place : place_of h.numbers f ≡ f = ap (λ ns. place_of ns f) numbers ∙ ap (place_of (range_with_len 0 n)) (sym e) ∙ place-range 0 n f lt in
     ap (slice_get h.pages) (ap (λ b. cond b (place_of h.numbers f) (length h.pages)) filled ∙ place)
 
-pub page-past : (h : Held) (n f : ℕ) → h.numbers ≡ range_with_len 0 n → h.here ≡ replicate n true → n ≤ f → page_at h f ≡ None
+pub page-past : (h : Held) (n f : ℕ) → h.numbers ≡ range_with_len 0 n → h.filled ≡ replicate n true → n ≤ f → page_at h f ≡ None
 page-past h n f numbers here le =
-    let empty : is_filled h.numbers h.here f ≡ false = ap (λ ns. is_filled ns h.here f) numbers ∙ ap (λ hs. is_filled (range_with_len 0 n) hs f) here ∙ unfilled-range 0 n f (omega (arith, le)) in
+    let empty : is_filled h.numbers h.filled f ≡ false = ap (λ ns. is_filled ns h.filled f) numbers ∙ ap (λ hs. is_filled (range_with_len 0 n) hs f) here ∙ unfilled-range 0 n f (omega (arith, le)) in
     ap (slice_get h.pages) (ap (λ b. cond b (place_of h.numbers f) (length h.pages)) empty) ∙ slice_get_past h.pages (length h.pages) (omega arith)
 
 pub rising-range : (n : ℕ) → IsRising (range_with_len 0 n)

@@ -31,7 +31,7 @@ use Rattle.kc_parts.proofs.Moving.{same_or_other}
 -- pages change, and all else stays but what a page says beside its links
 pub record IsScrubbing (old new : Held) : Type 0 where
   pub numbers : new.numbers ≡ old.numbers
-  pub filled : new.here ≡ old.here
+  pub filled : new.filled ≡ old.filled
   pub vms : new.vms ≡ old.vms
   pub free : new.free ≡ old.free
   pub links : links_of new ≡ links_of old
@@ -210,20 +210,20 @@ module _ (old : Held) (v : ℕ) (vm : VmSlot) (at : vm_at old v ≡ Some vm) whe
 
   -- the slot is empty
   abbrev pub reset : Held
-  reset = with_vm old v (empty_vm vm.room)
+  reset = with_vm old v (empty_vm vm.capacity)
 
   -- and its frames are scrubbed
   abbrev pub emptied : Held
   emptied = all_scrubbed reset fs
 
-  at-reset : vm_at reset v ≡ Some (empty_vm vm.room)
-  at-reset = vm-set old v vm (empty_vm vm.room) at
+  at-reset : vm_at reset v ≡ Some (empty_vm vm.capacity)
+  at-reset = vm-set old v vm (empty_vm vm.capacity) at
 
   ends-others : (p : Owner) → p ≢ Vm v → ends_at reset p ≡ ends_at old p
   ends-others Core other = refl
   ends-others Host other = refl
   ends-others Free other = refl
-  ends-others (Vm w) other = ap (option_map (λ (vm : VmSlot). vm.slot.frames)) (vm-other old v w (empty_vm vm.room) (λ same. other (ap Vm same)))
+  ends-others (Vm w) other = ap (option_map (λ (vm : VmSlot). vm.slot.frames)) (vm-other old v w (empty_vm vm.capacity) (λ same. other (ap Vm same)))
 
   -- the list of the slot has no frames, and those of the others stay
   ends-mine : (p : Owner) (e : Ends) → p ≡ Vm v → ends_at reset p ≡ Some e → e ≡ no_ends
@@ -250,15 +250,15 @@ module _ (old : Held) (v : ℕ) (vm : VmSlot) (at : vm_at old v ≡ Some vm) whe
   linked-reset config linked = record {
     frames = linked.frames;
     vms = λ w there is. elim (cases_eq w v) [
-      | inl same ↦ sym (ap room-in (sym at-reset ∙ ap (vm_at reset) (sym same) ∙ is)) ∙ linked.vms v vm at
-      | inr other ↦ linked.vms w there (sym (vm-other old v w (empty_vm vm.room) other) ∙ is)
+      | inl same ↦ sym (ap capacity-in (sym at-reset ∙ ap (vm_at reset) (sym same) ∙ is)) ∙ linked.vms v vm at
+      | inr other ↦ linked.vms w there (sym (vm-other old v w (empty_vm vm.capacity) other) ∙ is)
     ];
     lists = lists-reset linked.lists;
   }
     where
-      room-in : Option VmSlot → ℕ
-      room-in (Some vm) = vm.room
-      room-in None = 0
+      capacity-in : Option VmSlot → ℕ
+      capacity-in (Some vm) = vm.capacity
+      capacity-in None = 0
 
   -- the slot's frames are here, and in no list of another
   here-listed : AreLists (links_of old) (ends_at old) (owner_at old) → AreHere reset fs
@@ -275,7 +275,7 @@ module _ (old : Held) (v : ℕ) (vm : VmSlot) (at : vm_at old v ≡ Some vm) whe
       by_count p e other is (suc n) count = absurd (other (sym (are.owned p e g is (rw count (omega arith))) ∙ slot-owned old v vm are at g some))
 
   state-reset : (config : Configuration) → state_of config reset ≡ with_slot (state_of config old) v empty_slot
-  state-reset config = state-vm config old v vm (empty_vm vm.room) at ∙ ap (λ fs. with_slot (state_of config old) v (unlinked_slot (empty_vm vm.room).slot fs)) (listed-none (links_of old))
+  state-reset config = state-vm config old v vm (empty_vm vm.capacity) at ∙ ap (λ fs. with_slot (state_of config old) v (unlinked_slot (empty_vm vm.capacity).slot fs)) (listed-none (links_of old))
 
   pub slot-emptied : IsEmptied v old emptied
   slot-emptied =
@@ -303,5 +303,5 @@ module _ (old : Held) (v : ℕ) (vm : VmSlot) (at : vm_at old v ≡ Some vm) whe
 
       here-all : (r : Resource) → here_of emptied r ≡ here_of old r
       here-all (resource.Frame f) = (scrubbing reset fs).pages f
-      here-all (resource.Vm w) = ap (λ vms. is_some (held_slot vms w)) (scrubbing reset fs).vms ∙ here-vm old v vm (empty_vm vm.room) at (resource.Vm w)
+      here-all (resource.Vm w) = ap (λ vms. is_some (held_slot vms w)) (scrubbing reset fs).vms ∙ here-vm old v vm (empty_vm vm.capacity) at (resource.Vm w)
       here-all resource.Free = ap is_some (scrubbing reset fs).free

@@ -44,7 +44,7 @@ module _ (old mid : Held) (e e' : Ends) (frames : List ℕ) (rest : IsSameRest o
   pub free-moved : IsList (links_of mid) e' → ((f : ℕ) → 0 < times_in (listed (links_of mid) e') f → 0 < times_in frames f) → IsFreeMove old moved
   free-moved list within = record {
     numbers = rest.numbers;
-    filled = rest.here;
+    filled = rest.filled;
     here = here-all;
     owners = owners-same;
     away = away-stays old mid Free frames rest are keeps owned (ap is_none free_is);

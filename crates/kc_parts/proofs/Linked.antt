@@ -20,7 +20,7 @@ links-set h f old new link low is set_is = fun_ext (λ g. elim (cases_eq g f) [
 ])
 
 pub rest-set : (h : Held) (f : ℕ) (old new : Page) → page_at h f ≡ Some old → frame_of new ≡ frame_of old → IsSameRest h (with_page h f new)
-rest-set h f old new is same = record { numbers = refl; here = refl; vms = refl; free = refl; frames = kept-at frame_of h f old new is same }
+rest-set h f old new is same = record { numbers = refl; filled = refl; vms = refl; free = refl; frames = kept-at frame_of h f old new is same }
 
 -- a frame with a link is here
 not-absent : (there : Option Page) (low : Bool) → there ≡ None → IsSome (cond low (option_map link_of there) None) → ⊥

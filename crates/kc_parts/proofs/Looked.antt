@@ -54,8 +54,8 @@ pub mapped-none : (slot : Slot) (g : ℕ) → slot ≡ empty_slot → None ≡ m
 mapped-none slot g is = sym (ap (λ (there : Slot). map.get there.mapped g) is ∙ map.get-empty nat_cmp g)
 
 -- a slot's table takes a guest frame where the state says so
-pub fits-seen : (m : State) (v g : ℕ) (vm : VmSlot) (frames : List ℕ) → slot_at m v ≡ unlinked_slot vm.slot frames → vm.room ≡ m.config.leaves → tables_full m v g ≡ when (not (fits (slot_table vm) g)) TablesFull
-fits-seen m v g vm frames is room = rw is (ap (λ full. when full TablesFull) (rw (← room) (turned (list_any (λ root. root == g / 512) vm.slot.leaves) vm.room (length vm.slot.leaves))))
+pub fits-seen : (m : State) (v g : ℕ) (vm : VmSlot) (frames : List ℕ) → slot_at m v ≡ unlinked_slot vm.slot frames → vm.capacity ≡ m.config.leaves → tables_full m v g ≡ when (not (fits (slot_table vm) g)) TablesFull
+fits-seen m v g vm frames is capacity = rw is (ap (λ full. when full TablesFull) (rw (← capacity) (turned (list_any (λ root. root == g / 512) vm.slot.leaves) vm.capacity (length vm.slot.leaves))))
   where
     past : (n k : ℕ) → nat_le n k ≡ not (nat_lt k n)
     past n k = elim (cases_lt k n) [

@@ -33,16 +33,16 @@ filled-number (n ∷ ns) (h ∷ hs) f filled = by_first (nat_eq n f) refl filled
 
 -- where a frame has its page, no other frame has
 place-apart : (h : Held) (f g : ℕ) → place_in h f < length h.pages → g ≢ f → place_in h g ≢ place_in h f
-place-apart h f g within other = by_filled (is_filled h.numbers h.here f) (is_filled h.numbers h.here g) refl refl within
+place-apart h f g within other = by_filled (is_filled h.numbers h.filled f) (is_filled h.numbers h.filled g) refl refl within
   where
-    by_filled : (a b : Bool) → is_filled h.numbers h.here f ≡ a → is_filled h.numbers h.here g ≡ b → cond a (place_of h.numbers f) (length h.pages) < length h.pages
+    by_filled : (a b : Bool) → is_filled h.numbers h.filled f ≡ a → is_filled h.numbers h.filled g ≡ b → cond a (place_of h.numbers f) (length h.pages) < length h.pages
         → cond b (place_of h.numbers g) (length h.pages) ≢ cond a (place_of h.numbers f) (length h.pages)
     by_filled false b at by low = absurd (omega (arith, low))
     by_filled true false at by low = λ same. omega (arith, low, same)
-    by_filled true true at by low = λ same. other (sym (filled-number h.numbers h.here g by) ∙ ap (λ i. get_or h.numbers i 0) same ∙ filled-number h.numbers h.here f at)
+    by_filled true true at by low = λ same. other (sym (filled-number h.numbers h.filled g by) ∙ ap (λ i. get_or h.numbers i 0) same ∙ filled-number h.numbers h.filled f at)
 
 place-kept : (h : Held) (f g : ℕ) (page : Page) → place_in (with_page h f page) g ≡ place_in h g
-place-kept h f g page = ap (λ n. cond (is_filled h.numbers h.here g) (place_of h.numbers g) n) (length-set {A = Page} h.pages (place_in h f) page)
+place-kept h f g page = ap (λ n. cond (is_filled h.numbers h.filled g) (place_of h.numbers g) n) (length-set {A = Page} h.pages (place_in h f) page)
 
 pub page-set : (h : Held) (f : ℕ) (old new : Page) → page_at h f ≡ Some old → page_at (with_page h f new) f ≡ Some new
 page-set h f old new is = ap (slice_get (set h.pages (place_in h f) new)) (place-kept h f f new) ∙ slice_get-set_same h.pages (place_in h f) new (slice_get_within h.pages (place_in h f) old is)

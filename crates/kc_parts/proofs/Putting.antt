@@ -91,15 +91,15 @@ cells-all hs all_hs ps all_ps b p e f same = rw (e, f) (cells-append hs ps b p s
 pub record IsLast (all_ns ns : List ℕ) (all_hs hs : List Bool) (all_ps ps : List Page) (n : ℕ) (b : Bool) (p : Page) : Type 0 where
   pub held : IsHeld all_ns all_hs all_ps
   pub numbers : all_ns ≡ ns ++ n ∷ []
-  pub here : all_hs ≡ hs ++ b ∷ []
+  pub filled : all_hs ≡ hs ++ b ∷ []
   pub pages : all_ps ≡ ps ++ p ∷ []
 
 rest-lengths : {all_ns ns : List ℕ} {all_hs hs : List Bool} {all_ps ps : List Page} {n : ℕ} {b : Bool} {p : Page} → IsLast all_ns ns all_hs hs all_ps ps n b p → (length hs ≡ length ns) × (length ps ≡ length ns) × (length hs ≡ length ps)
 rest-lengths {ns = ns} {hs = hs} {ps = ps} {n = n} {b = b} {p = p} last =
     let a = ap length last.numbers ∙ length-append ns (n ∷ []) in
-    let d = ap length last.here ∙ length-append hs (b ∷ []) in
+    let d = ap length last.filled ∙ length-append hs (b ∷ []) in
     let e = ap length last.pages ∙ length-append ps (p ∷ []) in
-    let h = last.held.here in
+    let h = last.held.flags in
     let k = last.held.pages in
     (omega (arith, a, d, h), omega (arith, a, e, k), omega (arith, a, d, e, h, k))
 
@@ -109,19 +109,19 @@ front-held {ns = ns} {hs = hs} {ps = ps} {n = n} {b = b} {p = p} last =
     record {
       rising = front-rising ns n (rw (← last.numbers) last.held.rising);
       frames = front-frames ns n (rw (← last.numbers) last.held.frames);
-      here = lengths.0;
+      flags = lengths.0;
       pages = lengths.1;
-      blanks = blanks-front hs ps b p lengths.2 (rw (← last.here, ← last.pages) last.held.blanks);
+      blanks = blanks-front hs ps b p lengths.2 (rw (← last.filled, ← last.pages) last.held.blanks);
     }
 
 pub last-blank : {all_ns ns : List ℕ} {all_hs hs : List Bool} {all_ps ps : List Page} {n : ℕ} {b : Bool} {p : Page} → IsLast all_ns ns all_hs hs all_ps ps n b p → b ≡ false → p ≡ blank_page
-last-blank {hs = hs} {ps = ps} {b = b} {p = p} last = let lengths = rest-lengths last in blank-last hs ps b p lengths.2 (rw (← last.here, ← last.pages) last.held.blanks)
+last-blank {hs = hs} {ps = ps} {b = b} {p = p} last = let lengths = rest-lengths last in blank-last hs ps b p lengths.2 (rw (← last.filled, ← last.pages) last.held.blanks)
 
 pub last-empty : {all_ns ns : List ℕ} {all_hs hs : List Bool} {all_ps ps : List Page} {n : ℕ} {b : Bool} {p : Page} → IsLast all_ns ns all_hs hs all_ps ps n b p → (h : Held)
     → ((f : ℕ) (page : Page) → cell_in all_ns (cells all_hs all_ps) f ≡ Some page → IsEmptyPlace h f) → b ≡ true → IsEmptyPlace h n
 last-empty {ns = ns} {all_hs = all_hs} {hs = hs} {all_ps = all_ps} {ps = ps} {n = n} {b = b} {p = p} last h fits e =
     let lengths = rest-lengths last in
-    let all = cells-all hs all_hs ps all_ps b p last.here last.pages lengths.2 in
+    let all = cells-all hs all_hs ps all_ps b p last.filled last.pages lengths.2 in
     empty-at_last ns (cells hs ps) n (cond b (Some p) None) h (length-cells hs ps lengths.2 ∙ lengths.0) (rw (← last.numbers) last.held.rising)
     (λ f page is. fits f page (rw (last.numbers, all) is)) p (rw e refl)
 
@@ -130,7 +130,7 @@ pub put-last : {all_ns ns : List ℕ} {all_hs hs : List Bool} {all_ps ps : List 
     → Steps all_ns (cells all_hs all_ps) ns (cells hs ps) before after
 put-last {ns = ns} {all_hs = all_hs} {hs = hs} {all_ps = all_ps} {ps = ps} {n = n} {b = b} {p = p} last before after fits laid =
     let lengths = rest-lengths last in
-    let all = cells-all hs all_hs ps all_ps b p last.here last.pages lengths.2 in
+    let all = cells-all hs all_hs ps all_ps b p last.filled last.pages lengths.2 in
     rw (last.numbers, all)
     (put-step ns (cells hs ps) n (cond b (Some p) None) before after (length-cells hs ps lengths.2 ∙ lengths.0) (rw (← last.numbers) last.held.rising)
     (λ f page is. fits f page (rw (last.numbers, all) is)) laid)

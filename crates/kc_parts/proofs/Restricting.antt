@@ -216,7 +216,7 @@ module _ (m : State) (here : Resources) (h : Held) (is : IsLawful m) (closed : I
   pub linked-cut : IsLinked m.config h
   linked-cut = record {
     frames = λ f some. frame-low f (sym (here-is (resource.Frame f)) ∙ some);
-    vms = cut_is.rooms;
+    vms = cut_is.capacities;
     lists = record {
       spelled = λ p ends e. let are = ends-are p ends e in subst (λ x. IsList (links_of h) x) (sym are.1) (chain-is_list (links_of h) (ends_of (list_of m p)) (list_of m p) (list-chain p are.0));
       owned = λ p ends f e some.

@@ -58,17 +58,17 @@ ends-vm h v old new is same Free = refl
 ends-vm h v old new is same (Vm w) = vm-kept (λ vm. vm.slot.frames) h v old new is same w
 
 -- a slot changes and keeps the ends of its list
-pub linked-vm : (config : Configuration) (h : Held) (v : ℕ) (old new : VmSlot) → IsLinked config h → vm_at h v ≡ Some old → new.slot.frames ≡ old.slot.frames → new.room ≡ old.room → IsLinked config (with_vm h v new)
-linked-vm config h v old new linked is same room = record {
+pub linked-vm : (config : Configuration) (h : Held) (v : ℕ) (old new : VmSlot) → IsLinked config h → vm_at h v ≡ Some old → new.slot.frames ≡ old.slot.frames → new.capacity ≡ old.capacity → IsLinked config (with_vm h v new)
+linked-vm config h v old new linked is same capacity = record {
   frames = linked.frames;
   vms = λ w vm there. elim (cases_eq w v) [
     | inl e ↦ let one : Some new ≡ Some vm = sym (vm-set h v old new is) ∙ ap (vm_at (with_vm h v new)) (sym e) ∙ there in
-        sym (ap (λ there. room-in there) one) ∙ room ∙ linked.vms v old is
+        sym (ap (λ there. capacity-in there) one) ∙ capacity ∙ linked.vms v old is
     | inr other ↦ linked.vms w vm (sym (vm-other h v w new other) ∙ there)
   ];
   lists = lists-same (links_of h) (links_of h) (ends_at h) (ends_at (with_vm h v new)) (owner_at h) (owner_at h) refl (ends-vm h v old new is same) (λ g. refl) linked.lists;
 }
   where
-    room-in : Option VmSlot → ℕ
-    room-in (Some vm) = vm.room
-    room-in None = 0
+    capacity-in : Option VmSlot → ℕ
+    capacity-in (Some vm) = vm.capacity
+    capacity-in None = 0

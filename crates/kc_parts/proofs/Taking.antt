@@ -44,7 +44,7 @@ cells-filled (p ∷ ps) = ap (λ cs. Some p ∷ cs) (cells-filled ps)
 pub pages-taken : (ns : List ℕ) (hs : List Bool) (ps : List Page) (start : Held) → IsHeld ns hs ps → hs ≡ replicate (length ps) true → map Some ps ≡ map (page_at start) ns
     → (f : ℕ) → page_among ns hs ps f ≡ cond (is_among ns f) (page_at start f) None
 pages-taken ns hs ps start held filled are f =
-    page_at-cells ns hs ps f held.here held.pages
+    page_at-cells ns hs ps f held.flags held.pages
     ∙ ap (λ cs. cell_in ns cs f) (ap (λ bs. cells bs ps) filled ∙ cells-filled ps ∙ are)
     ∙ cell-by_numbers ns (page_at start) f
 
@@ -62,11 +62,11 @@ pub split-whole : (wanted : List Resource) (ns : List ℕ) (start rest taken : H
     → ((v : ℕ) → vm_at taken v ≡ cond (is_wanted wanted (resource.Vm v)) (vm_at start v) None) → ((v : ℕ) → vm_at rest v ≡ cond (is_wanted wanted (resource.Vm v)) None (vm_at start v))
     → taken.free ≡ cond (is_wanted wanted resource.Free) start.free None → rest.free ≡ cond (is_wanted wanted resource.Free) None start.free
     → rest.numbers ≡ start.numbers → rest.vms.numbers ≡ start.vms.numbers → IsSplit start (is_wanted wanted) rest taken
-split-whole wanted ns start rest taken among pages others slots left ends kept places room = record {
+split-whole wanted ns start rest taken among pages others slots left ends kept places for_slots = record {
   taken_is = taken_at;
   rest_is = rest_at;
   places = places;
-  slots = room;
+  slots = for_slots;
 }
   where
     taken_at : (r : Resource) → held_at taken r ≡ cond (is_wanted wanted r) (held_at start r) None
@@ -89,7 +89,7 @@ pub held-taken : (wanted : List Resource) (ns : List ℕ) (hs : List Bool) (ps :
 held-taken wanted ns hs ps start n are filled count pages = record {
   rising = are.rising;
   frames = are.frames;
-  here = ap length filled ∙ length-replicate n true ∙ count;
+  flags = ap length filled ∙ length-replicate n true ∙ count;
   pages = sym (length-map ps Some) ∙ ap length pages ∙ length-map ns (page_at start);
   blanks = rw filled (blanks-filled n ps);
 }
@@ -98,11 +98,11 @@ held-taken wanted ns hs ps start n are filled count pages = record {
 pub split-end : (wanted : List Resource) (ns : List ℕ) (hs : List Bool) (ps : List Page) (empty vms : HeldSlots) (ends : Option Ends) (start mid freed rest : Held) (asked : Bool) (n : ℕ)
     → AreFramesOf wanted ns → hs ≡ replicate n true → n ≡ length ns → map Some ps ≡ map (page_at freed) ns → IsLifted ns freed rest
     → AreSlotsFor (is_wanted wanted) empty.numbers → ((v : ℕ) → held_slot empty v ≡ None) → AreMoved empty.numbers start.vms empty mid.vms vms → WithSlots start mid → ends ≡ cond asked mid.free None → freed ≡ record mid { free = cond asked None mid.free } → asked ≡ is_wanted wanted resource.Free
-    → IsSplit start (is_wanted wanted) rest (record { numbers = ns; here = hs; pages = ps; vms = vms; free = ends })
+    → IsSplit start (is_wanted wanted) rest (record { numbers = ns; filled = hs; pages = ps; vms = vms; free = ends })
 split-end wanted ns hs ps empty vms ends start mid freed rest asked n are filled count pages lifted slots nothing moved slots_only took kept is =
     let held = held-taken wanted ns hs ps freed n are filled count pages in
     let unmoved = same-pages start mid freed (cond asked None mid.free) slots_only kept in
-    split-whole wanted ns start rest (record { numbers = ns; here = hs; pages = ps; vms = vms; free = ends }) are.members
+    split-whole wanted ns start rest (record { numbers = ns; filled = hs; pages = ps; vms = vms; free = ends }) are.members
     (λ f. pages-taken ns hs ps freed held (filled ∙ ap (λ k. replicate k true) (count ∙ sym held.pages)) pages f ∙ ap (λ o. cond (is_among ns f) o None) (unmoved f))
     (λ f. lifted.pages f ∙ ap (cond (is_among ns f) None) (unmoved f))
     (λ v. moved.joined_is v ∙ rw (nothing v, slots.members v) refl)

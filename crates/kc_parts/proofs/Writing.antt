@@ -41,8 +41,8 @@ place-here ns hs ps f here = filled-place ns hs f (filled-here ns hs ps f here)
 
 pub write-place : (ns : List ℕ) (hs : List Bool) (ps : List Page) (vms : HeldSlots) (free : Option Ends) (f at : ℕ) (b : Bool) (p : Page)
     → IsHeld ns hs ps → at ≡ place_of ns f → place_of ns f < length ns
-    → IsWrite f (cond b (Some p) None) (record { numbers = ns; here = hs; pages = ps; vms = vms; free = free })
-    (record { numbers = ns; here = set hs at b; pages = set ps at p; vms = vms; free = free })
+    → IsWrite f (cond b (Some p) None) (record { numbers = ns; filled = hs; pages = ps; vms = vms; free = free })
+    (record { numbers = ns; filled = set hs at b; pages = set ps at p; vms = vms; free = free })
 write-place ns hs ps vms free f at b p held is low = record {
   numbers = refl;
   vms = refl;
@@ -52,12 +52,12 @@ write-place ns hs ps vms free f at b p held is low = record {
   where
     after : (g : ℕ) → page_among ns (set hs (place_of ns f) b) (set ps (place_of ns f) p) g ≡ cond (nat_eq g f) (cond b (Some p) None) (page_among ns hs ps g)
     after g =
-        page_at-cells ns (set hs (place_of ns f) b) (set ps (place_of ns f) p) g (length-set hs (place_of ns f) b ∙ held.here) (length-set ps (place_of ns f) p ∙ held.pages)
+        page_at-cells ns (set hs (place_of ns f) b) (set ps (place_of ns f) p) g (length-set hs (place_of ns f) b ∙ held.flags) (length-set ps (place_of ns f) p ∙ held.pages)
         ∙ ap (λ cs. cell_in ns cs g) (cells-set hs ps (place_of ns f) b p)
-        ∙ cell-set ns (cells hs ps) (place_of ns f) g (cond b (Some p) None) held.rising (length-cells hs ps (held.here ∙ sym held.pages) ∙ held.here) low
+        ∙ cell-set ns (cells hs ps) (place_of ns f) g (cond b (Some p) None) held.rising (length-cells hs ps (held.flags ∙ sym held.pages) ∙ held.flags) low
         ∙ ap (λ n. cond (nat_eq g n) (cond b (Some p) None) (cell_in ns (cells hs ps) g)) (place-number ns f low)
-        ∙ ap (cond (nat_eq g f) (cond b (Some p) None)) (sym (page_at-cells ns hs ps g held.here held.pages))
+        ∙ ap (cond (nat_eq g f) (cond b (Some p) None)) (sym (page_at-cells ns hs ps g held.flags held.pages))
 
 -- the page at a place is that of the frame there
 pub full-page : (h : Held) (i : ℕ) → IsRising h.numbers → i < length h.numbers → IsSome (page_at h (get_or h.numbers i 0)) → slice_get h.pages i ≡ page_at h (get_or h.numbers i 0)
-full-page h i up low here = rw (filled-here h.numbers h.here h.pages (get_or h.numbers i 0) here, place-found h.numbers i (get_or h.numbers i 0) up low refl) refl
+full-page h i up low here = rw (filled-here h.numbers h.filled h.pages (get_or h.numbers i 0) here, place-found h.numbers i (get_or h.numbers i 0) up low refl) refl

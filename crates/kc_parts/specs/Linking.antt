@@ -11,18 +11,18 @@ use Rattle.kc_parts.specs.Parts.{Held, page_at, links_of}
 -- two parts are the same but for the links of their frames
 pub record IsSameRest (old new : Held) : Type 0 where
   pub numbers : new.numbers ≡ old.numbers
-  pub here : new.here ≡ old.here
+  pub filled : new.filled ≡ old.filled
   pub vms : new.vms ≡ old.vms
   pub free : new.free ≡ old.free
   pub frames : (f : ℕ) → option_map frame_of (page_at new f) ≡ option_map frame_of (page_at old f)
 
 pub rest_kept : (h : Held) → IsSameRest h h
-rest_kept h = record { numbers = refl; here = refl; vms = refl; free = refl; frames = λ f. refl }
+rest_kept h = record { numbers = refl; filled = refl; vms = refl; free = refl; frames = λ f. refl }
 
 pub rest_through : (old mid new : Held) → IsSameRest old mid → IsSameRest mid new → IsSameRest old new
 rest_through old mid new first second = record {
   numbers = second.numbers ∙ first.numbers;
-  here = second.here ∙ first.here;
+  filled = second.filled ∙ first.filled;
   vms = second.vms ∙ first.vms;
   free = second.free ∙ first.free;
   frames = λ f. second.frames f ∙ first.frames f;

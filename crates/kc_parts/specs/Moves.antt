@@ -41,7 +41,7 @@ pub record IsLifted (frames : List ℕ) (before after : Held) : Type 0 where
 
 -- the page of a frame among numbers, flags and pages
 abbrev pub page_among : List ℕ → List Bool → List Page → ℕ → Option Page
-page_among numbers here pages f = slice_get pages (cond (is_filled numbers here f) (place_of numbers f) (length pages))
+page_among numbers filled pages f = slice_get pages (cond (is_filled numbers filled f) (place_of numbers f) (length pages))
 
 -- there is a place for the frame, and nothing in it
 abbrev pub IsEmptyPlace : Held → ℕ → Type 0

@@ -17,10 +17,10 @@ pub record HeldSlots : Type 0 where
   pub numbers : List ℕ
   pub slots : List (Option VmSlot)
 
--- `numbers` are the frames that there are places for, rising; `here` says which places are filled; `pages` has a page at each place, a blank at an empty one
+-- `numbers` are the frames that there are places for, rising; `filled` says which places are; `pages` has a page at each place, a blank at an empty one
 pub record Held : Type 0 where
   pub numbers : List ℕ
-  pub here : List Bool
+  pub filled : List Bool
   pub pages : List Page
   pub vms : HeldSlots
   pub free : Option Ends
@@ -43,7 +43,7 @@ AreBlanks filled held = (i : ℕ) → get_or filled i true ≡ false → get_or 
 pub record IsHeld (numbers : List ℕ) (filled : List Bool) (held : List Page) : Type 0 where
   pub rising : IsRising numbers
   pub frames : (i : ℕ) → get_or numbers i 0 < frame_limit
-  pub here : length filled ≡ length numbers
+  pub flags : length filled ≡ length numbers
   pub pages : length held ≡ length numbers
   pub blanks : AreBlanks filled held
 
@@ -73,13 +73,13 @@ cell_in (number ∷ numbers) (cell ∷ cells) n = cond (n == number) cell (cell_
 
 -- whether the frame's place is filled
 abbrev pub is_filled : List ℕ → List Bool → ℕ → Bool
-is_filled [] here f = false
+is_filled [] filled f = false
 is_filled (number ∷ numbers) [] f = false
-is_filled (number ∷ numbers) (filled ∷ here) f = cond (number == f) filled (is_filled numbers here f)
+is_filled (number ∷ numbers) (flag ∷ filled) f = cond (number == f) flag (is_filled numbers filled f)
 
 -- the place where the frame's page is, and the number of pages where it is not here
 abbrev pub place_in : Held → ℕ → ℕ
-place_in h f = cond (is_filled h.numbers h.here f) (place_of h.numbers f) (length h.pages)
+place_in h f = cond (is_filled h.numbers h.filled f) (place_of h.numbers f) (length h.pages)
 
 abbrev pub page_at : Held → ℕ → Option Page
 page_at h f = slice_get h.pages (place_in h f)

@@ -40,7 +40,7 @@ exists_in config resource.Free = true
 -- the parts are those of the state at the resources, and nothing else
 pub record IsRestricted (m : State) (here : Resources) (h : Held) : Type 0 where
   pub parts : (r : Resource) → seen_at h r ≡ cond (here r) (Some (linked_part_of m r)) None
-  pub rooms : (v : ℕ) (vm : VmSlot) → vm_at h v ≡ Some vm → vm.room ≡ m.config.leaves
+  pub capacities : (v : ℕ) (vm : VmSlot) → vm_at h v ≡ Some vm → vm.capacity ≡ m.config.leaves
 
 -- the ends of the owner's list are among the resources
 abbrev pub has_ends : Resources → Owner → Bool

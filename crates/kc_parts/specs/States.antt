@@ -73,7 +73,7 @@ pub record AreLists (links : Links) (ends_at : Owner → Option Ends) (owner_at 
 -- the parts fit the configuration, and their links and ends are those of lists
 pub record IsLinked (config : Configuration) (h : Held) : Type 0 where
   pub frames : (f : ℕ) → is_some (page_at h f) ≡ true → f < config.frames
-  pub vms : (v : ℕ) (vm : VmSlot) → vm_at h v ≡ Some vm → vm.room ≡ config.leaves
+  pub vms : (v : ℕ) (vm : VmSlot) → vm_at h v ≡ Some vm → vm.capacity ≡ config.leaves
   pub lists : AreLists (links_of h) (ends_at h) (owner_at h)
 
 -- the free list, where its ends are here
@@ -88,7 +88,7 @@ pub record IsLoose (h : Held) (f : ℕ) : Type 0 where
 -- the free list changes, and nothing else that is seen
 pub record IsFreeMove (old new : Held) : Type 0 where
   pub numbers : new.numbers ≡ old.numbers
-  pub filled : new.here ≡ old.here
+  pub filled : new.filled ≡ old.filled
   pub here : (r : Resource) → here_of new r ≡ here_of old r
   pub owners : (f : ℕ) → owner_at new f ≡ owner_at old f
   pub away : (f : ℕ) → is_away old f ≡ true → links_of new f ≡ links_of old f
@@ -102,7 +102,7 @@ listed_frames h v = (slot_in (links_of h) (vm_at h v)).frames
 -- the list of a slot changes, and nothing else that is seen
 pub record IsSlotMove (v : ℕ) (old new : Held) : Type 0 where
   pub numbers : new.numbers ≡ old.numbers
-  pub filled : new.here ≡ old.here
+  pub filled : new.filled ≡ old.filled
   pub here : (r : Resource) → here_of new r ≡ here_of old r
   pub owners : (f : ℕ) → owner_at new f ≡ owner_at old f
   pub away : (f : ℕ) → is_away old f ≡ true → links_of new f ≡ links_of old f

@@ -91,7 +91,7 @@ pub fn all_numbers(alloc: Global, count: u32) -> Result<Vec<u32>, Memory>
 
 /// As many places, all of them filled.
 pub fn all_filled(alloc: Global, count: u32) -> Result<Vec<bool>, Memory>
-    ensures { IfOk result (λ here. here.items ≡ replicate count true) }
+    ensures { IfOk result (λ filled. filled.items ≡ replicate count true) }
 {
     Ok(vec![in alloc; true; count as usize]?)
 }

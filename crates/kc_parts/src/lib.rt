@@ -9,9 +9,9 @@ mod lists;
 mod look_ups;
 mod parts;
 mod place;
-mod room;
+mod place_counts;
 mod slots;
 mod wanted;
 
 pub use parts::Parts;
-pub use room::Room;
+pub use place_counts::PlaceCounts;

@@ -24,7 +24,7 @@ use std::mem::{replace, swap};
 #[derive(Drop)]
 pub struct Parts {
     numbers: Vec<u32>,
-    here: Vec<bool>,
+    filled: Vec<bool>,
     pages: Vec<Page>,
     blanks: Vec<Blank>,
     vms: VmSlots,
@@ -41,9 +41,9 @@ impl Model for Parts {
 
     ghost coded = { Prim.hlevel (codes, map.code {R = nat_cmp} coded_ℕ coded_ℕ) };
 
-    ghost view = { λ p. record { numbers = p.numbers.items; here = p.here.items; pages = p.pages.items; vms = p.vms; free = p.free } };
+    ghost view = { λ p. record { numbers = p.numbers.items; filled = p.filled.items; pages = p.pages.items; vms = p.vms; free = p.free } };
 
-    ghost invariant = { λ p. IsHeld p.numbers.items p.here.items p.pages.items };
+    ghost invariant = { λ p. IsHeld p.numbers.items p.filled.items p.pages.items };
 }
 
 impl Parts {
@@ -69,7 +69,7 @@ impl Parts {
     {
         Ok(Parts {
             numbers: all_numbers(alloc, config.frames())?,
-            here: all_filled(alloc, config.frames())?,
+            filled: all_filled(alloc, config.frames())?,
             pages: boot_pages(alloc, config)?,
             blanks: Vec::new(alloc),
             vms: VmSlots::boot(alloc, config)?,
@@ -82,7 +82,7 @@ impl Parts {
         ensures { result ≡ place_in self.now frame }
     {
         let at = place_of(self.numbers.as_slice(), frame.number());
-        if at < self.here.len() && self.here[at] {
+        if at < self.filled.len() && self.filled[at] {
             at
         } else {
             self.pages.len()
@@ -171,10 +171,10 @@ impl Parts {
     }
 
     /// How many frames and slots it can hold without memory.
-    pub fn room(&self) -> Room
+    pub fn place_counts(&self) -> PlaceCounts
         ensures { result ≡ record { frames = length self.now.numbers; slots = length self.now.vms.numbers } }
     {
-        Room {
+        PlaceCounts {
             frames: self.numbers.len(),
             slots: self.vms.count(),
         }
@@ -247,11 +247,11 @@ impl Parts {
         ensures ok { IfOk result (λ taken. IsSplit self.old (is_wanted wanted.now) self.new taken) }
         ensures full { IfOk result IsFull }
         ensures fits { IfOk result (FitsInto self.new) }
-        ensures room { IfOk result (λ taken. AreSlotsFor (is_wanted wanted.now) taken.vms.numbers) }
+        ensures slots { IfOk result (λ taken. AreSlotsFor (is_wanted wanted.now) taken.vms.numbers) }
         ensures err { OnErr result (self.new ≡ self.old) }
     {
         let numbers = wanted_frames(alloc, wanted)?;
-        let here = vec![in alloc; true; numbers.len()]?;
+        let filled = vec![in alloc; true; numbers.len()]?;
         let slots = wanted_slots(alloc, wanted)?;
         let mut vms = VmSlots::places(alloc, slots)?;
         let mut pages = self.blank_pages(alloc, numbers.len())?;
@@ -260,7 +260,7 @@ impl Parts {
         self.lift_pages(numbers.as_slice(), &mut pages);
         Ok(Parts {
             numbers,
-            here,
+            filled,
             pages,
             blanks: Vec::new(alloc),
             vms,
@@ -277,7 +277,7 @@ impl Parts {
     {
         let Parts {
             numbers,
-            here,
+            filled,
             pages,
             blanks,
             vms,
@@ -288,7 +288,7 @@ impl Parts {
         if free.is_some() {
             self.free = free;
         }
-        self.lay_pages(numbers, here, pages);
+        self.lay_pages(numbers, filled, pages);
     }
 
     /// A blank, from the stock if it has one. Where it has none, the stock first takes the room for a blank of each
@@ -365,20 +365,20 @@ impl Parts {
     {
         let at = place_of(self.numbers.as_slice(), number);
         swap(&mut self.pages[at], page);
-        self.here[at] = false;
+        self.filled[at] = false;
     }
 
     /// Lays pages into their places, which are empty, and keeps the blanks.
-    fn lay_pages(&mut self, mut numbers: Vec<u32>, mut here: Vec<bool>, mut pages: Vec<Page>)
-        requires held { IsHeld numbers.items here.items pages.items }
-        requires fits { (f : ℕ) (page : Page) → page_among numbers.items here.items pages.items f ≡ Some page → IsEmptyPlace self.old f }
-        ensures { IsLaid (page_among numbers.items here.items pages.items) self.old self.new }
+    fn lay_pages(&mut self, mut numbers: Vec<u32>, mut filled: Vec<bool>, mut pages: Vec<Page>)
+        requires held { IsHeld numbers.items filled.items pages.items }
+        requires fits { (f : ℕ) (page : Page) → page_among numbers.items filled.items pages.items f ≡ Some page → IsEmptyPlace self.old f }
+        ensures { IsLaid (page_among numbers.items filled.items pages.items) self.old self.new }
     {
         while let Some(number) = numbers.pop() {
-            let (Some(filled), Some(page)) = (here.pop(), pages.pop()) else {
+            let (Some(flag), Some(page)) = (filled.pop(), pages.pop()) else {
                 unreachable!()
             };
-            self.lay_back(number, filled, page);
+            self.lay_back(number, flag, page);
         }
     }
 
@@ -402,7 +402,7 @@ impl Parts {
     {
         let at = place_of(self.numbers.as_slice(), number);
         let blank = Blank::from_page(replace(&mut self.pages[at], page));
-        self.here[at] = true;
+        self.filled[at] = true;
         self.keep_blank(blank);
     }
 }

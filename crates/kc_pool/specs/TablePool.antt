@@ -6,7 +6,7 @@ use Rattle.kc_types.specs.Limits.{leaf_entries, leaf_limit}
 pub record Pool : Type 0 where
   pub entries : List (Option ℕ)
   pub taken : ℕ
-  pub room : ℕ
+  pub capacity : ℕ
 
 -- no entries; a pool of 64 leaves has 32,768
 unfoldable pub no_entries : ℕ → List (Option ℕ)
@@ -17,7 +17,7 @@ abbrev pub emptied : Option ℕ → Option ℕ
 emptied entry = None
 
 abbrev pub new_pool : ℕ → Pool
-new_pool leaves = record { entries = no_entries leaves; taken = 0; room = leaves }
+new_pool leaves = record { entries = no_entries leaves; taken = 0; capacity = leaves }
 
 abbrev pub entry_at : Pool → ℕ → ℕ → Option ℕ
 entry_at p leaf at = slice_index_or p.entries (leaf * leaf_entries + at) None
@@ -29,8 +29,8 @@ abbrev pub with_taken_leaf : Pool → Pool
 with_taken_leaf p = record p { taken = p.taken + 1 }
 
 pub record IsPool (p : Pool) : Type 0 where
-  pub long : length p.entries ≡ p.room * leaf_entries
-  pub within : p.taken ≤ p.room
-  pub few : p.room ≤ leaf_limit
+  pub long : length p.entries ≡ p.capacity * leaf_entries
+  pub within : p.taken ≤ p.capacity
+  pub few : p.capacity ≤ leaf_limit
   -- a leaf that isn't taken has no entries
   pub rest : (k : ℕ) → p.taken * leaf_entries ≤ k → slice_index_or p.entries k None ≡ None

@@ -13,7 +13,7 @@ use std::marker::Model;
 pub struct TablePool {
     entries: Vec<Option<FrameNo>>,
     taken: u8,
-    room: u8,
+    capacity: u8,
 }
 
 impl Model for TablePool {
@@ -22,9 +22,9 @@ impl Model for TablePool {
 
     ghost Value = { Pool };
 
-    ghost view = { λ p. record { entries = p.entries.items; taken = p.taken; room = p.room } };
+    ghost view = { λ p. record { entries = p.entries.items; taken = p.taken; capacity = p.capacity } };
 
-    ghost invariant = { λ p. IsPool (record { entries = p.entries.items; taken = p.taken; room = p.room }) };
+    ghost invariant = { λ p. IsPool (record { entries = p.entries.items; taken = p.taken; capacity = p.capacity }) };
 }
 
 impl TablePool {
@@ -38,24 +38,24 @@ impl TablePool {
         Ok(TablePool {
             entries: vec![in alloc; None; leaves as usize * LEAF_ENTRIES]?,
             taken: 0,
-            room: leaves,
+            capacity: leaves,
         })
     }
 
     /// How many leaves there are, taken or not.
-    pub fn room(&self) -> u8
-        ensures value { result ≡ self.now.room }
+    pub fn capacity(&self) -> u8
+        ensures value { result ≡ self.now.capacity }
         ensures kept { IsPool self.now }
     {
-        self.room
+        self.capacity
     }
 
     /// The next leaf, which has no entries.
     pub fn take_leaf(&mut self) -> Option<LeafNo>
-        ensures leaf { MatchOption result ((self.old.taken ≡ self.old.room) × (self.new ≡ self.old)) (λ leaf. (leaf ≡ self.old.taken) × (self.old.taken < self.old.room) × (self.new ≡ with_taken_leaf self.old)) }
+        ensures leaf { MatchOption result ((self.old.taken ≡ self.old.capacity) × (self.new ≡ self.old)) (λ leaf. (leaf ≡ self.old.taken) × (self.old.taken < self.old.capacity) × (self.new ≡ with_taken_leaf self.old)) }
         ensures kept { IsPool self.new }
     {
-        if self.taken == self.room {
+        if self.taken == self.capacity {
             return None;
         }
         let leaf = LeafNo::of(self.taken);
@@ -84,7 +84,7 @@ impl TablePool {
 
     /// All leaves come back.
     pub fn reset(&mut self)
-        ensures value { self.new ≡ new_pool self.old.room }
+        ensures value { self.new ≡ new_pool self.old.capacity }
         ensures kept { IsPool self.new }
     {
         make_empty(&mut self.entries);

@@ -153,7 +153,7 @@ module _ (m : State) (calls : List Call) (feet : ℕ → Resources) (is : IsLawf
     parts = λ r.
         step-taken (feet k r) (out feet ks r) (exists_in m.config r) (seen_at h r) (seen_at got r) (linked_part_of m r) (linked_part_of (state_at m calls k) r) (free r) (are.exist k low r) (left.parts r)
         (ap (option_map seen_part) (split.taken_is r) ∙ shown-split (feet k r) (held_at h r)) (finds k r low);
-    rooms = λ v vm at. left.rooms v vm (of-slot (feet k (resource.Vm v)) (vm_at h v) (vm_at got v) vm (split.taken_is (resource.Vm v)) at) ∙ ap (λ config. config.leaves) (sym (config-at k));
+    capacities = λ v vm at. left.capacities v vm (of-slot (feet k (resource.Vm v)) (vm_at h v) (vm_at got v) vm (split.taken_is (resource.Vm v)) at) ∙ ap (λ config. config.leaves) (sym (config-at k));
   }
     where
       of-slot : (b : Bool) (was there : Option VmSlot) (vm : VmSlot) → option_map slot_part there ≡ cond b (option_map slot_part was) None → there ≡ Some vm → was ≡ Some vm
@@ -167,7 +167,7 @@ module _ (m : State) (calls : List Call) (feet : ℕ → Resources) (is : IsLawf
   pub rest-left : (ks : List ℕ) (k : ℕ) (h rest got : Held) → IsRest m feet ks h → IsSplit h (feet k) rest got → IsRest m feet (k ∷ ks) rest
   rest-left ks k h rest got left split = record {
     parts = λ r. step-rest (feet k r) (out feet ks r) (seen_at h r) (seen_at rest r) (cond (exists_in m.config r) (Some (linked_part_of m r)) None) (left.parts r) (ap (option_map seen_part) (split.rest_is r) ∙ shown-rest (feet k r) (held_at h r));
-    rooms = λ v vm at. left.rooms v vm (of-slot (feet k (resource.Vm v)) (vm_at h v) (vm_at rest v) vm (split.rest_is (resource.Vm v)) at);
+    capacities = λ v vm at. left.capacities v vm (of-slot (feet k (resource.Vm v)) (vm_at h v) (vm_at rest v) vm (split.rest_is (resource.Vm v)) at);
   }
     where
       of-slot : (b : Bool) (was there : Option VmSlot) (vm : VmSlot) → option_map slot_part there ≡ cond b None (option_map slot_part was) → there ≡ Some vm → was ≡ Some vm
@@ -182,7 +182,7 @@ module _ (m : State) (calls : List Call) (feet : ℕ → Resources) (is : IsLawf
   pub all-out : (ks : List ℕ) (h : Held) → ((k : ℕ) (r : Resource) → k < length calls → feet k r ≡ true → out feet ks r ≡ true) → IsRest m feet ks h → IsRest (state_at m calls (length calls)) feet ks h
   all-out ks h all left = record {
     parts = λ r. left.parts r ∙ by_out r (out feet ks r) refl;
-    rooms = λ v vm at. left.rooms v vm at ∙ ap (λ config. config.leaves) (sym (config-at (length calls)));
+    capacities = λ v vm at. left.capacities v vm at ∙ ap (λ config. config.leaves) (sym (config-at (length calls)));
   }
     where
       end : State
@@ -213,10 +213,10 @@ module _ (m : State) (calls : List Call) (feet : ℕ → Resources) (is : IsLawf
     parts = λ r.
         step-back (feet k r) (out feet ks r) (exists_in (state_at m calls (length calls)).config r) (seen_at h r) (seen_at done r) (seen_at joined r) (linked_part_of (state_at m calls (length calls)) r) (linked_part_of (state_at m calls (suc k)) r)
         (free r) (λ e. ap (λ config. exists_in config r) (config-at (length calls)) ∙ are.exist k low r e) (left.parts r) (is_done.parts r) (leaves k r low) (ap (option_map seen_part) (join r) ∙ shown-join (held_at h r) (held_at done r));
-    rooms = λ v vm at. of-slot (vm_at h v) (vm_at done v) (vm_at joined v) vm (join (resource.Vm v)) at (left.rooms v vm) (λ e. is_done.rooms v vm e ∙ ap (λ config. config.leaves) (config-at (suc k) ∙ sym (config-at (length calls))));
+    capacities = λ v vm at. of-slot (vm_at h v) (vm_at done v) (vm_at joined v) vm (join (resource.Vm v)) at (left.capacities v vm) (λ e. is_done.capacities v vm e ∙ ap (λ config. config.leaves) (config-at (suc k) ∙ sym (config-at (length calls))));
   }
     where
-      of-slot : (a b there : Option VmSlot) (vm : VmSlot) → option_map slot_part there ≡ either (option_map slot_part a) (option_map slot_part b) → there ≡ Some vm → (a ≡ Some vm → vm.room ≡ (state_at m calls (length calls)).config.leaves) → (b ≡ Some vm → vm.room ≡ (state_at m calls (length calls)).config.leaves) → vm.room ≡ (state_at m calls (length calls)).config.leaves
+      of-slot : (a b there : Option VmSlot) (vm : VmSlot) → option_map slot_part there ≡ either (option_map slot_part a) (option_map slot_part b) → there ≡ Some vm → (a ≡ Some vm → vm.capacity ≡ (state_at m calls (length calls)).config.leaves) → (b ≡ Some vm → vm.capacity ≡ (state_at m calls (length calls)).config.leaves) → vm.capacity ≡ (state_at m calls (length calls)).config.leaves
       of-slot (Some a) b None vm join at first second = cc
       of-slot (Some a) b (Some t) vm join at first second = first cc
       of-slot None None None vm join at first second = cc

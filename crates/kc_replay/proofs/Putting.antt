@@ -152,7 +152,7 @@ module _ (m : State) (calls : List Call) (feet : ℕ → Resources) (members : L
 
   module _ (h : Held) (left : IsRest (state_at m (wave_calls calls members) (length (wave_calls calls members))) (feet_at feet members) [] h) where
     restricted : IsRestricted (state_at m (wave_calls calls members) (length (wave_calls calls members))) (exists_in (state_at m (wave_calls calls members) (length (wave_calls calls members))).config) h
-    restricted = record { parts = left.parts; rooms = left.rooms }
+    restricted = record { parts = left.parts; capacities = left.capacities }
 
     low-listed : (p : Owner) (f : ℕ) → is_in (list_of (state_at m (wave_calls calls members) (length (wave_calls calls members))) p) f ≡ true → f < (state_at m (wave_calls calls members) (length (wave_calls calls members))).config.frames
     low-listed p f inside = listed-low (state_at m (wave_calls calls members) (length (wave_calls calls members))) lawful-last p f inside

@@ -35,7 +35,7 @@ out feet ks r = list_any (λ k. feet k r) ks
 -- the store lacks what the calls may touch, and has all else of the state
 pub record IsRest (m : State) (feet : ℕ → Resources) (ks : List ℕ) (h : Held) : Type 0 where
   pub parts : (r : Resource) → seen_at h r ≡ cond (out feet ks r) None (cond (exists_in m.config r) (Some (linked_part_of m r)) None)
-  pub rooms : (v : ℕ) (vm : VmSlot) → vm_at h v ≡ Some vm → vm.room ≡ m.config.leaves
+  pub capacities : (v : ℕ) (vm : VmSlot) → vm_at h v ≡ Some vm → vm.capacity ≡ m.config.leaves
 
 -- the store has a place for all of the configuration
 pub record HasPlaces (config : Configuration) (h : Held) : Type 0 where

@@ -38,7 +38,7 @@ fn answer_wave<G: Gate>(
     gate: &G,
 ) -> Result<(), Memory>
     requires members { AreCallNumbers (length calls.now) members.now }
-    requires room { length replies.old ≡ length calls.now }
+    requires long { length replies.old ≡ length calls.now }
     ensures replies { OnOk result (AreReplied core.old calls.now members.now replies.old replies.new) }
     ensures state { OnOk result (core.new ≡ state_at core.old (wave_calls calls.now members.now) (length members.now)) }
 {
@@ -66,7 +66,7 @@ fn share_wave<R: Threads + Wait + Sync, G: Gate + Sync>(
 ) -> Result<KCore, ReplayFault>
     requires wave { IsWave core calls.now (foot_of feet.now) members.now }
     requires rows { length feet.now.rows ≡ length calls.now }
-    requires room { length replies.old ≡ length calls.now }
+    requires long { length replies.old ≡ length calls.now }
     ensures replies { OnOk result (AreReplied core calls.now members.now replies.old replies.new) }
     ensures state { IfOk result (λ left. left ≡ state_at core (wave_calls calls.now members.now) (length members.now)) }
 {
@@ -125,7 +125,7 @@ fn take_wave<R: Threads + Wait + Sync, G: Gate + Sync>(
     requires wave { (order : List ℕ) → IsPermutation members.now order → IsWave core calls.now (foot_of feet.now) order }
     requires rows { length feet.now.rows ≡ length calls.now }
     requires members { AreCallNumbers (length calls.now) members.now }
-    requires room { length replies.old ≡ length calls.now }
+    requires long { length replies.old ≡ length calls.now }
     ensures { IfOk result (IsWaveTaken core calls.now members.now replies.old replies.new) }
 {
     let hands = workers.min(members.len());
@@ -181,7 +181,7 @@ fn replay_waves<R: Threads + Wait + Sync, G: Gate + Sync>(
     requires lawful { IsLawful core }
     requires feet { AreFootprints core calls.now feet.now }
     requires plan { plan.now ≡ feet.now.waves }
-    requires room { length replies.items ≡ length calls.now }
+    requires long { length replies.items ≡ length calls.now }
     ensures blind { IfOk result (λ outcome. ShowsNothing core calls.now outcome.replies.items outcome.core) }
     ensures replies { IfOk result (λ outcome. outcome.replies.items ≡ replies_from core calls.now) }
     ensures state { IfOk result (λ outcome. outcome.core ≡ state_after core calls.now) }
@@ -219,7 +219,7 @@ fn prepare(alloc: Global, core: &KCore, calls: &[Call]) -> Result<Prepared, Memo
     requires { length calls.now ≤ call_limit }
     ensures feet { IfOk result (λ prepared. AreFootprints core.now calls.now prepared.feet) }
     ensures plan { IfOk result (λ prepared. prepared.plan ≡ prepared.feet.waves) }
-    ensures room { IfOk result (λ prepared. length prepared.replies.items ≡ length calls.now) }
+    ensures long { IfOk result (λ prepared. length prepared.replies.items ≡ length calls.now) }
 {
     let feet = footprints(alloc, core, calls)?;
     let plan = Plan::make(alloc, &feet)?;

@@ -51,7 +51,7 @@ fn put_all(store: &mut Parts, mut done: Vec<Finished>, replies: &mut [Reply])
     requires done { AllZip (IsFinishedAt wave.start wave.calls wave.feet wave.members) (range_with_len 0 (length wave.members)) done.items }
     requires store { IsRest (state_at wave.start (wave_calls wave.calls wave.members) (length wave.members)) (feet_at wave.feet wave.members) (down_from (length wave.members)) store.old }
     requires places { HasPlaces wave.start.config store.old }
-    requires room { length replies.old ≡ length wave.calls }
+    requires long { length replies.old ≡ length wave.calls }
     ensures core { IsCore wave.start.config store.new }
     ensures replies { AreReplied wave.start wave.calls wave.members replies.old replies.new }
     ensures state { state_of wave.start.config store.new ≡ state_at wave.start (wave_calls wave.calls wave.members) (length wave.members) }
@@ -85,7 +85,7 @@ fn share_out<R: Threads + Wait + Sync, G: Gate + Sync>(
     requires wave { IsWave wave.start wave.calls wave.feet wave.members }
     requires rows { length feet.now.rows ≡ length wave.calls }
     requires core { IsCore config.now store.old }
-    requires room { length replies.old ≡ length wave.calls }
+    requires long { length replies.old ≡ length wave.calls }
     ensures replies { OnOk result (AreReplied wave.start wave.calls wave.members replies.old replies.new) }
     ensures core { OnOk result (IsCore config.now store.new) }
     ensures state { OnOk result (state_of config.now store.new ≡ state_at wave.start (wave_calls wave.calls wave.members) (length wave.members)) }
@@ -115,7 +115,7 @@ pub(crate) fn run_wave<R: Threads + Wait + Sync, G: Gate + Sync>(
     requires wave { IsWave (state_of config.now store.old) calls.now (foot_of feet.now) members.now }
     requires rows { length feet.now.rows ≡ length calls.now }
     requires core { IsCore config.now store.old }
-    requires room { length replies.old ≡ length calls.now }
+    requires long { length replies.old ≡ length calls.now }
     ensures replies { OnOk result (AreReplied (state_of config.now store.old) calls.now members.now replies.old replies.new) }
     ensures core { OnOk result (IsCore config.now store.new) }
     ensures state { OnOk result (state_of config.now store.new ≡ state_at (state_of config.now store.old) (wave_calls calls.now members.now) (length members.now)) }

@@ -9,14 +9,14 @@ use Rattle.kc_types.specs.Limits.{leaf_entries}
 pub record Table : Type 0 where
   pub mapped : map.FinMap nat_cmp ℕ
   pub leaves : List ℕ
-  pub room : ℕ
+  pub capacity : ℕ
 
 abbrev pub table_code : Coded Table
 table_code = code_by (map.FinMap nat_cmp ℕ × (List ℕ × ℕ)) (coded× (map.code coded_ℕ coded_ℕ) (coded× (coded_list coded_ℕ) coded_ℕ))
-    (λ t. (t.mapped, (t.leaves, t.room))) (λ p. record { mapped = p.0; leaves = p.1.0; room = p.1.1 }) (λ _. refl)
+    (λ t. (t.mapped, (t.leaves, t.capacity))) (λ p. record { mapped = p.0; leaves = p.1.0; capacity = p.1.1 }) (λ _. refl)
 
 abbrev pub new_table : ℕ → Table
-new_table room = record { mapped = map.empty; leaves = []; room = room }
+new_table capacity = record { mapped = map.empty; leaves = []; capacity = capacity }
 
 -- the root slot has a leaf
 abbrev pub has_slot : List ℕ → ℕ → Bool
@@ -27,7 +27,7 @@ abbrev pub has_leaf : List ℕ → ℕ → Bool
 has_leaf leaves g = has_slot leaves (g / leaf_entries)
 
 abbrev pub fits : Table → ℕ → Bool
-fits t g = has_leaf t.leaves g || nat_lt (length t.leaves) t.room
+fits t g = has_leaf t.leaves g || nat_lt (length t.leaves) t.capacity
 
 -- the leaves with the root slot among them
 abbrev pub with_root_slot : List ℕ → ℕ → List ℕ

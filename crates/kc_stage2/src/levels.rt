@@ -61,7 +61,7 @@ impl Levels {
     pub fn clear(&mut self)
         requires { IsLevels self.old }
         ensures kept { IsLevels self.new }
-        ensures value { table_of self.new ≡ new_table (table_of self.old).room }
+        ensures value { table_of self.new ≡ new_table (table_of self.old).capacity }
     {
         make_empty(&mut self.root);
         self.leaves.clear();

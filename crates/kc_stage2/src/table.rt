@@ -82,7 +82,7 @@ impl Stage2 {
     {
         let slot = gfn.number() as usize / LEAF_ENTRIES;
         self.levels.leaf_at(slot).is_some()
-            || self.levels.leaves.len() < self.levels.pool.room() as usize
+            || self.levels.leaves.len() < self.levels.pool.capacity() as usize
     }
 
     /// Maps a guest frame that isn't mapped yet. `Mapped` where it is, else `TablesFull` where its root slot has
@@ -119,7 +119,7 @@ impl Stage2 {
 
     /// All leaves go back to the pool.
     pub fn clear(&mut self)
-        ensures { self.new ≡ new_table self.old.room }
+        ensures { self.new ≡ new_table self.old.capacity }
     {
         self.levels.clear();
     }

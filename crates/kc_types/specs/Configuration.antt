@@ -32,7 +32,7 @@ slot_count c = slots_of c.version
 pub record IsConfiguration (c : Configuration) : Type 0 where
   pub some_frames : 0 < c.frames
   pub few_frames : c.frames ≤ most_frames c.version
-  pub room : c.core + c.host ≤ c.frames
+  pub within : c.core + c.host ≤ c.frames
   pub some_leaves : 0 < c.leaves
   pub few_leaves : c.leaves ≤ leaf_limit
   pub few_digests : length c.approved ≤ digest_limit

@@ -10,7 +10,7 @@ use std::marker::Model;
 /// The buffer of one reply, seen as how many bytes it has room for.
 #[derive(Debug, Drop)]
 pub struct ReplyBuffer {
-    room: Vec<u8>,
+    reserved: Vec<u8>,
 }
 
 impl Model for ReplyBuffer {
@@ -18,16 +18,16 @@ impl Model for ReplyBuffer {
 
     ghost Value = { ℕ };
 
-    ghost view = { λ s. vec_capacity s.room };
+    ghost view = { λ s. vec_capacity s.reserved };
 
-    ghost invariant = { λ s. s.room.items ≡ [] };
+    ghost invariant = { λ s. s.reserved.items ≡ [] };
 }
 
 impl ReplyBuffer {
     /// A buffer for no bytes, which takes no memory.
     pub fn none(alloc: Global) -> ReplyBuffer {
         ReplyBuffer {
-            room: Vec::new(alloc),
+            reserved: Vec::new(alloc),
         }
     }
 
@@ -37,21 +37,21 @@ impl ReplyBuffer {
         ensures enough { IfOk result (λ buffer. len ≤ buffer) }
         ensures none { len ≤ self → IsOk result }
     {
-        let ReplyBuffer { mut room } = self;
-        room.reserve_exact(len)?;
-        Ok(ReplyBuffer { room })
+        let ReplyBuffer { mut reserved } = self;
+        reserved.reserve_exact(len)?;
+        Ok(ReplyBuffer { reserved })
     }
 
     /// These 1 to 4,096 bytes in the buffer, which takes no memory.
     pub fn filled(self, bytes: &[u8]) -> Data
         requires some { 0 < length bytes.now }
         requires page { length bytes.now ≤ page_size }
-        requires room { length bytes.now ≤ self }
+        requires fits { length bytes.now ≤ self }
         ensures { result ≡ bytes.now }
     {
-        let ReplyBuffer { mut room } = self;
-        room.extend_from_slice(bytes).unwrap();
-        Data::try_new(room).unwrap()
+        let ReplyBuffer { mut reserved } = self;
+        reserved.extend_from_slice(bytes).unwrap();
+        Data::try_new(reserved).unwrap()
     }
 }
 
@@ -66,7 +66,7 @@ impl Call {
     /// A buffer for the bytes of the call's reply, made before the call is; `Memory` where a growth was refused, which
     /// comes for reads alone.
     pub fn reply_buffer(&self, alloc: Global) -> Result<ReplyBuffer, Memory>
-        ensures room { IfOk result (λ buffer. most_reply_bytes self.now ≤ buffer) }
+        ensures enough { IfOk result (λ buffer. most_reply_bytes self.now ≤ buffer) }
         ensures none { most_reply_bytes self.now ≡ 0 → IsOk result }
     {
         match self {

@@ -13,13 +13,13 @@ struct Interrupted {
 
 impl Interrupted {
     /// Takes or gives one of so many bytes, at the second call.
-    fn answer(&mut self, room: usize) -> io::Result<usize>
-        ensures { IfOk result (λ n. n ≤ room) }
+    fn answer(&mut self, most: usize) -> io::Result<usize>
+        ensures { IfOk result (λ n. n ≤ most) }
     {
         self.calls = self.calls.saturating_add(1);
         match self.calls {
             1 | 3 => Err(io::Error::from(ErrorKind::Interrupted)),
-            2 => Ok(room.min(1)),
+            2 => Ok(most.min(1)),
             _ => Err(io::Error::from(ErrorKind::Other)),
         }
     }

@@ -2,7 +2,7 @@
 ghost use Rattle.std.specs.Prelude.{IfOk};
 ghost use Rattle.kc_parts.specs.Cuts.{FitsInto, IsFull};
 
-use kc_parts::{Parts, Room};
+use kc_parts::{Parts, PlaceCounts};
 use kc_types::{Config, FrameNo, Phase, Resource, VmId};
 use kc_vms::Vm;
 use std::test::Fail;
@@ -54,8 +54,8 @@ fn a_page_a_slot_and_the_free_list_go_out_and_come_back(rt: HostRuntime) -> Resu
         assert!(rt; !parts.has(Resource::Vm(slot)));
         assert!(rt; parts.free().is_none());
         assert_eq!(rt;
-            taken.room(),
-            Room {
+            taken.place_counts(),
+            PlaceCounts {
                 frames: 1,
                 slots: 1
             }
@@ -79,7 +79,7 @@ fn each_wanted_slot_goes_out_in_one_place(rt: HostRuntime) -> Result<(), Fail> {
         .ok()
         .ok_or("no config")?;
     let mut parts = Parts::boot(alloc, &config)?;
-    assert_eq!(rt; parts.room().slots, 64);
+    assert_eq!(rt; parts.place_counts().slots, 64);
     let first = VmId::try_new(0).ok_or("no slot")?;
     let last = VmId::try_new(63).ok_or("no slot")?;
     let slot = parts.vm_mut(last).ok_or("no slot")?;
@@ -88,11 +88,11 @@ fn each_wanted_slot_goes_out_in_one_place(rt: HostRuntime) -> Result<(), Fail> {
     let both = [Resource::Vm(last), Resource::Vm(first), Resource::Vm(last)];
     for (wanted, slots) in [(alone.as_slice(), 1), (both.as_slice(), 2)] {
         let taken = out(&rt, &mut parts, wanted)?;
-        assert_eq!(rt; taken.room(), Room { frames: 0, slots });
+        assert_eq!(rt; taken.place_counts(), PlaceCounts { frames: 0, slots });
         assert_eq!(rt; taken.vm(last).map(Vm::phase), Some(Phase::Booting));
         assert!(rt; !parts.has(Resource::Vm(last)));
         parts.put_back(taken);
-        assert_eq!(rt; parts.room().slots, 64);
+        assert_eq!(rt; parts.place_counts().slots, 64);
         assert_eq!(rt; parts.vm(first).map(Vm::phase), Some(Phase::Empty));
         assert_eq!(rt; parts.vm(last).map(Vm::phase), Some(Phase::Booting));
     }
@@ -102,7 +102,7 @@ fn each_wanted_slot_goes_out_in_one_place(rt: HostRuntime) -> Result<(), Fail> {
 #[test]
 fn pages_are_lent_as_one_slice(rt: HostRuntime) -> Result<(), Fail> {
     let mut parts = booted(&rt)?;
-    assert_eq!(rt; parts.room().frames, 4);
+    assert_eq!(rt; parts.place_counts().frames, 4);
     for page in parts.pages_mut().iter_mut() {
         page.bytes.write(0, b"x");
     }

@@ -11,7 +11,7 @@ use Rattle.kc_stage2.specs.Stage2.{Table}
 -- a slot with the ends of its list, and how many leaves its table can have
 pub record VmSlot : Type 0 where
   pub slot : LinkedSlot
-  pub room : ℕ
+  pub capacity : ℕ
 
 -- what a slot keeps by itself, whatever its list and its table are
 pub record IsSlot (phase : Phase) (vcpus : List Vcpu) (images : List Image) : Type 0 where
@@ -30,11 +30,11 @@ IsVm vm = IsSlot vm.slot.phase vm.slot.vcpus vm.slot.images
 
 -- a slot as at boot
 abbrev pub empty_vm : ℕ → VmSlot
-empty_vm room = record { slot = linked_slot empty_slot; room = room }
+empty_vm capacity = record { slot = linked_slot empty_slot; capacity = capacity }
 
 -- the table of the slot
 abbrev pub slot_table : VmSlot → Table
-slot_table vm = record { mapped = vm.slot.mapped; leaves = vm.slot.leaves; room = vm.room }
+slot_table vm = record { mapped = vm.slot.mapped; leaves = vm.slot.leaves; capacity = vm.capacity }
 
 abbrev pub with_table : VmSlot → Table → VmSlot
-with_table vm table = record { slot = record vm.slot { mapped = table.mapped; leaves = table.leaves }; room = table.room }
+with_table vm table = record { slot = record vm.slot { mapped = table.mapped; leaves = table.leaves }; capacity = table.capacity }

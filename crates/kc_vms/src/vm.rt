@@ -37,7 +37,7 @@ impl Model for Vm {
 
     ghost coded = { Prim.hlevel (codes, map.code {R = nat_cmp} coded_ℕ coded_ℕ) };
 
-    ghost view = { λ v. record { slot = record { phase = v.phase; vcpus = v.vcpus.items; images = v.images.items; frames = v.list; mapped = v.table.mapped; leaves = v.table.leaves }; room = v.table.room } };
+    ghost view = { λ v. record { slot = record { phase = v.phase; vcpus = v.vcpus.items; images = v.images.items; frames = v.list; mapped = v.table.mapped; leaves = v.table.leaves }; capacity = v.table.capacity } };
 
     ghost invariant = { λ v. IsSlot v.phase v.vcpus.items v.images.items };
 }
@@ -245,7 +245,7 @@ impl Vm {
 
     /// The slot is empty again, as it was made: no virtual processors, no images, no frames, all leaves back.
     pub fn reset(&mut self)
-        ensures { self.new ≡ empty_vm self.old.room }
+        ensures { self.new ≡ empty_vm self.old.capacity }
     {
         self.phase = Phase::Empty;
         self.vcpus = absent_vcpus();

@@ -8,7 +8,7 @@ use Rattle.kc_parts.specs.Parts.{vm_at}
 use Rattle.kc_parts.specs.States.{state_of}
 use Rattle.kc_calls.specs.Applying.{IsAble}
 use Rattle.kc_calls.proofs.Needed.{slot-needed}
-use Rattle.kc_calls.proofs.Frames.{room-emptied, room-move, room-through}
+use Rattle.kc_calls.proofs.Frames.{places-emptied, places-move, places-through}
 use Rattle.kc_calls.proofs.Answered.{answer-refused, answer-served}
 use Rattle.kc_calls.proofs.Clears.{IsClearing, clear-served, the-slot, list-cleared, owned-cleared, apart-cleared, state-cleared}
 use Rattle.kc_calls.proofs.freeing.clear.Goals as goal
@@ -57,7 +57,7 @@ returns-in-Ok c =
     rw (← c.in-Ok.ensures.slot) (answer-served c.args.config.now c.args.parts.now c.append_list.new.self (Clear c.in-Ok.slot) reply.Done (served k.In-Ok) refl
     (state-cleared _ _ _ _ _ (clearing k.After-empty_slot-list) c.append_list.new.self move c.append_list.ensures.frames)
     (move.linked _ (empty.linked _ c.requires.linked))
-    (room-through _ _ _ (room-emptied _ _ _ _ c.requires.linked empty) (room-move _ _ move)))
+    (places-through _ _ _ (places-emptied _ _ _ _ c.requires.linked empty) (places-move _ _ move)))
 
 pub returns-in-Err : goal.returns-in-Err
 returns-in-Err c = answer-refused _ _ _ c.in-Err.refusal c.requires.linked c.in-Err.ensures.answer

@@ -8,10 +8,10 @@ use Rattle.kc_model.proofs.Lawful.GuestCalls.{IsMappedCall, guest_frame-served}
 use Rattle.kc_parts.specs.States.{state_of}
 use Rattle.kc_parts.proofs.SlotChanges.{vm-set}
 use Rattle.kc_calls.specs.Applying.{IsAble}
-use Rattle.kc_calls.proofs.Frames.{room-through}
+use Rattle.kc_calls.proofs.Frames.{places-through}
 use Rattle.kc_calls.proofs.Needed.{slot-needed, mapped-needed}
 use Rattle.kc_calls.proofs.Answered.{answer-refused, answer-served}
-use Rattle.kc_calls.proofs.Drops.{IsUnmapping, linked-unmapped, inside-unmapped, state-dropped, room-unlinked, near-unlinked}
+use Rattle.kc_calls.proofs.Drops.{IsUnmapping, linked-unmapped, inside-unmapped, state-dropped, places-unlinked, near-unlinked}
 use Rattle.kc_calls.proofs.freeing.drop_page.Goals as goal
 use Rattle.kc_calls.proofs.freeing.drop_page.Goals.{In-Ok, After-unmap}
 
@@ -74,7 +74,7 @@ returns-in-Ok c =
     let done = c.free_frame.ensures in
     rw (← c.in-Ok.ensures.mapped.vm, ← c.in-Ok.ensures.mapped.gfn) (answer-served c.args.config.now c.args.parts.now c.free_frame.new.parts (Drop c.in-Ok.found.vm c.args.vcpu c.in-Ok.found.gfn) reply.Done (served k.In-Ok) refl
     (state-dropped _ _ _ _ _ _ _ is c.unlink_vm.new.self c.free_frame.new.parts left.rest left.frames done.state) done.linked
-    (room-through _ _ _ (room-unlinked _ _ _ _ _ _ _ is c.unlink_vm.new.self left.rest) done.room))
+    (places-through _ _ _ (places-unlinked _ _ _ _ _ _ _ is c.unlink_vm.new.self left.rest) done.places))
 
 pub returns-in-Err : goal.returns-in-Err
 returns-in-Err c = answer-refused _ _ _ c.in-Err.refusal c.requires.linked c.in-Err.ensures.answer

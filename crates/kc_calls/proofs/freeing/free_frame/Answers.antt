@@ -2,7 +2,7 @@ use Rattle.std.proofs.Common.{is_some, refl, sym, ap, ◌∙◌}
 use Rattle.kc_parts.specs.States.{frame_in}
 use Rattle.kc_parts.proofs.Pages.{page-set}
 use Rattle.kc_parts.proofs.Seen.{linked-moved}
-use Rattle.kc_calls.proofs.Frames.{room-page, room-move, room-through}
+use Rattle.kc_calls.proofs.Frames.{places-page, places-move, places-through}
 use Rattle.kc_calls.proofs.Hosts.{loose-page}
 use Rattle.kc_calls.proofs.Drops.{state-freed}
 use Rattle.kc_calls.proofs.freeing.free_frame.Goals as goal
@@ -24,5 +24,5 @@ returns-clause-state c =
 pub returns-clause-linked : goal.returns-clause-linked
 returns-clause-linked c = c.append_free.ensures.rest.linked _ (linked-moved _ _ _ _ _ c.requires.linked c.page_mut-page.ensures.value refl c.requires.loose.absent (λ host. c.requires.loose.alone))
 
-pub returns-clause-room : goal.returns-clause-room
-returns-clause-room c = room-through _ _ _ (room-page _ _ _ _ c.page_mut-page.ensures.value refl (λ away. let no = sym c.requires.near ∙ away in cc)) (room-move _ _ c.append_free.ensures.rest)
+pub returns-clause-places : goal.returns-clause-places
+returns-clause-places c = places-through _ _ _ (places-page _ _ _ _ c.page_mut-page.ensures.value refl (λ away. let no = sym c.requires.near ∙ away in cc)) (places-move _ _ c.append_free.ensures.rest)

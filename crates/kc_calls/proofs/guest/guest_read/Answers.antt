@@ -56,18 +56,18 @@ set_fault-requires-clause-registered c = rw (c.in-Ok.ensures.named.vm, c.in-Ok.e
 pub spend_fault-requires-clause-here : goal.spend_fault-requires-clause-here
 spend_fault-requires-clause-here c = here (goal.at.spend_fault-requires-clause-here c).In-Ok
 
-pub returns-in_err-room-in-Some-clause-memory : goal.returns-in_err-room-in-Some-clause-memory
-returns-in_err-room-in-Some-clause-memory c = λ refused. guest-data _ _ _ _ _ _ c.in-Ok.ensures.answer (ap is_some (mapped (goal.at.returns-in_err-room-in-Some-clause-memory c).In-Some))
+pub returns-in_err-capacity-in-Some-clause-memory : goal.returns-in_err-capacity-in-Some-clause-memory
+returns-in_err-capacity-in-Some-clause-memory c = λ refused. guest-data _ _ _ _ _ _ c.in-Ok.ensures.answer (ap is_some (mapped (goal.at.returns-in_err-capacity-in-Some-clause-memory c).In-Some))
 
-pub returns-in_ok-room-in-Some-clause-answer : goal.returns-in_ok-room-in-Some-clause-answer
-returns-in_ok-room-in-Some-clause-answer c =
-    let k = goal.at.returns-in_ok-room-in-Some-clause-answer c in
+pub returns-in_ok-capacity-in-Some-clause-answer : goal.returns-in_ok-capacity-in-Some-clause-answer
+returns-in_ok-capacity-in-Some-clause-answer c =
+    let k = goal.at.returns-in_ok-capacity-in-Some-clause-answer c in
     let m = state_of c.args.config.now c.args.parts.now in
     let is = mapped k.In-Some in
     answer-served c.args.config.now c.args.parts.now _ (GuestRead c.args.vm c.args.vcpu c.args.gfn c.args.offset c.args.len) (reply.Data c.read-bytes.result) c.in-Ok.ensures.answer
     (ap reply.Data c.read-bytes.ensures ∙ read-mapped c.args.config.now c.args.parts.now _ c.args.vcpu _ _ _ _ _ c.requires.linked is c.page-page.ensures)
     (c.spend_fault.ensures.state ∙ fault-at m _ _ _ _ None c.in-Ok.ensures.named ∙ ap (λ there. (guest_read m c.args.vm c.args.vcpu c.args.gfn c.args.offset c.args.len there).1) (sym is))
-    c.spend_fault.ensures.linked c.spend_fault.ensures.room
+    c.spend_fault.ensures.linked c.spend_fault.ensures.places
 
 pub returns-in-None-clause-answer : goal.returns-in-None-clause-answer
 returns-in-None-clause-answer c =
@@ -77,7 +77,7 @@ returns-in-None-clause-answer c =
     answer-served c.args.config.now c.args.parts.now _ (GuestRead c.args.vm c.args.vcpu c.args.gfn c.args.offset c.args.len) (reply.Fault c.args.gfn) c.in-Ok.ensures.answer
     (ap (λ there. (guest_read m c.args.vm c.args.vcpu c.args.gfn c.args.offset c.args.len there).0) (sym is))
     (c.set_fault.ensures.state ∙ waits-at m _ _ _ _ c.in-Ok.ensures.named ∙ ap (λ there. (guest_read m c.args.vm c.args.vcpu c.args.gfn c.args.offset c.args.len there).1) (sym is))
-    c.set_fault.ensures.linked c.set_fault.ensures.room
+    c.set_fault.ensures.linked c.set_fault.ensures.places
 
 pub returns-in-Err-clause-answer : goal.returns-in-Err-clause-answer
 returns-in-Err-clause-answer c = answer-refused _ _ _ c.in-Err.refusal c.requires.linked c.in-Err.ensures.answer

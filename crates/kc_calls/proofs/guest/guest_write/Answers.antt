@@ -10,7 +10,7 @@ use Rattle.kc_model.proofs.Lawful.GuestCalls.{IsGuestCall, guest_access-served}
 use Rattle.kc_parts.specs.Parts.{vm_at}
 use Rattle.kc_parts.specs.States.{state_of}
 use Rattle.kc_calls.proofs.Needed.{slot-needed, mapped-needed}
-use Rattle.kc_calls.proofs.Frames.{room-through}
+use Rattle.kc_calls.proofs.Frames.{places-through}
 use Rattle.kc_calls.proofs.Answered.{answer-refused, answer-served}
 use Rattle.kc_calls.proofs.Guests.{fault-at, waits-at}
 use Rattle.kc_calls.proofs.guest.guest_write.Goals as goal
@@ -62,7 +62,7 @@ pub set_fault-requires-clause-registered : goal.set_fault-requires-clause-regist
 set_fault-requires-clause-registered c = rw (c.in-Ok.ensures.named.vm, c.in-Ok.ensures.named.vcpu) (seen (goal.at.set_fault-requires-clause-registered c).In-Ok).0.registered
 
 pub spend_fault-requires-clause-here : goal.spend_fault-requires-clause-here
-spend_fault-requires-clause-here c = c.write_frame.ensures.room.here (resource.Vm c.in-Ok.at.vm) ∙ here (goal.at.spend_fault-requires-clause-here c).In-Ok
+spend_fault-requires-clause-here c = c.write_frame.ensures.places.here (resource.Vm c.in-Ok.at.vm) ∙ here (goal.at.spend_fault-requires-clause-here c).In-Ok
 
 pub returns-in-Some : goal.returns-in-Some
 returns-in-Some c =
@@ -73,7 +73,7 @@ returns-in-Some c =
     (ap (λ there. (guest_written m c.args.vm c.args.vcpu c.args.gfn c.args.offset c.args.bytes.now there).0) (sym is))
     (c.spend_fault.ensures.state ∙ fault-at _ _ _ _ _ None c.in-Ok.ensures.named ∙ ap (λ (s : State). with_fault s c.args.vm c.args.vcpu None) c.write_frame.ensures.state
     ∙ ap (λ there. (guest_written m c.args.vm c.args.vcpu c.args.gfn c.args.offset c.args.bytes.now there).1) (sym is))
-    c.spend_fault.ensures.linked (room-through _ _ _ c.write_frame.ensures.room c.spend_fault.ensures.room)
+    c.spend_fault.ensures.linked (places-through _ _ _ c.write_frame.ensures.places c.spend_fault.ensures.places)
 
 pub returns-in-None : goal.returns-in-None
 returns-in-None c =
@@ -83,7 +83,7 @@ returns-in-None c =
     answer-served c.args.config.now c.args.parts.now _ (GuestWrite c.args.vm c.args.vcpu c.args.gfn c.args.offset c.args.bytes.now) (reply.Fault c.args.gfn) (served k.In-Ok)
     (ap (λ there. (guest_written m c.args.vm c.args.vcpu c.args.gfn c.args.offset c.args.bytes.now there).0) (sym is))
     (c.set_fault.ensures.state ∙ waits-at m _ _ _ _ c.in-Ok.ensures.named ∙ ap (λ there. (guest_written m c.args.vm c.args.vcpu c.args.gfn c.args.offset c.args.bytes.now there).1) (sym is))
-    c.set_fault.ensures.linked c.set_fault.ensures.room
+    c.set_fault.ensures.linked c.set_fault.ensures.places
 
 pub returns-in-Err : goal.returns-in-Err
 returns-in-Err c = answer-refused _ _ _ c.in-Err.refusal c.requires.linked (rw (← c.as_slice.ensures.value) c.in-Err.ensures.answer)

@@ -1,6 +1,6 @@
 use Rattle.std.proofs.Common.{refl}
 use Rattle.kc_parts.proofs.SlotChanges.{linked-vm}
-use Rattle.kc_calls.proofs.Frames.{room-vm}
+use Rattle.kc_calls.proofs.Frames.{places-vm}
 use Rattle.kc_calls.proofs.Guests.{state-faulted}
 use Rattle.kc_calls.proofs.guest.spend_fault.Goals as goal
 
@@ -10,5 +10,5 @@ returns-clause-state c = state-faulted c.args.config.now c.args.parts.now _ _ _ 
 pub returns-clause-linked : goal.returns-clause-linked
 returns-clause-linked c = linked-vm _ _ _ _ _ c.requires.linked c.slot_mut.ensures.value (rw c.spend_fault.ensures refl) (rw c.spend_fault.ensures refl)
 
-pub returns-clause-room : goal.returns-clause-room
-returns-clause-room c = room-vm c.args.parts.now _ _ _ c.slot_mut.ensures.value
+pub returns-clause-places : goal.returns-clause-places
+returns-clause-places c = places-vm c.args.parts.now _ _ _ c.slot_mut.ensures.value

@@ -3,7 +3,7 @@ use Rattle.kc_types.specs.declared.owner.Owner.TheVariants.{Vm}
 use Rattle.kc_parts.specs.States.{state_of}
 use Rattle.kc_parts.proofs.SlotChanges.{vm-set}
 use Rattle.kc_parts.proofs.Looked.{slot-is}
-use Rattle.kc_calls.proofs.Hands.{IsHanding, map-fits, map-ok, loose-owned, owner-owned, linked-owned, state-handed, room-handed}
+use Rattle.kc_calls.proofs.Hands.{IsHanding, map-fits, map-ok, loose-owned, owner-owned, linked-owned, state-handed, places-handed}
 use Rattle.kc_calls.proofs.hand.hand.Goals as goal
 use Rattle.kc_calls.proofs.hand.hand.Goals.{After-page_mut-page}
 
@@ -46,5 +46,5 @@ returns-clause-state c =
 pub returns-clause-linked : goal.returns-clause-linked
 returns-clause-linked c = c.append_vm.ensures.rest.linked _ (linked-owned _ _ _ _ _ _ _ _ _ (handing (goal.at.returns-clause-linked c).After-page_mut-page))
 
-pub returns-clause-room : goal.returns-clause-room
-returns-clause-room c = room-handed _ _ _ _ _ _ _ _ _ (handing (goal.at.returns-clause-room c).After-page_mut-page) c.append_vm.new.self c.append_vm.ensures.rest
+pub returns-clause-places : goal.returns-clause-places
+returns-clause-places c = places-handed _ _ _ _ _ _ _ _ _ (handing (goal.at.returns-clause-places c).After-page_mut-page) c.append_vm.new.self c.append_vm.ensures.rest

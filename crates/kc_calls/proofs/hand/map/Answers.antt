@@ -10,7 +10,7 @@ use Rattle.kc_parts.specs.Parts.{vm_at}
 use Rattle.kc_parts.specs.States.{state_of}
 use Rattle.kc_calls.specs.Applying.{IsAble}
 use Rattle.kc_calls.proofs.Needed.{slot-needed, frame-needed}
-use Rattle.kc_calls.proofs.Frames.{host-owner, room-through}
+use Rattle.kc_calls.proofs.Frames.{host-owner, places-through}
 use Rattle.kc_calls.proofs.Answered.{answer-refused, answer-served}
 use Rattle.kc_calls.proofs.Hands.{map-fitting}
 use Rattle.kc_calls.proofs.hand.map.Goals as goal
@@ -62,7 +62,7 @@ pub spend_fault-requires-clause-exists : goal.spend_fault-requires-clause-exists
 spend_fault-requires-clause-exists c = (seen (goal.at.spend_fault-requires-clause-exists c).In-Ok).vm
 
 pub spend_fault-requires-clause-here : goal.spend_fault-requires-clause-here
-spend_fault-requires-clause-here c = c.hand.ensures.room.here (resource.Vm c.in-Ok.page.vm) ∙ here (goal.at.spend_fault-requires-clause-here c).In-Ok
+spend_fault-requires-clause-here c = c.hand.ensures.places.here (resource.Vm c.in-Ok.page.vm) ∙ here (goal.at.spend_fault-requires-clause-here c).In-Ok
 
 pub returns-in-Ok : goal.returns-in-Ok
 returns-in-Ok c =
@@ -71,7 +71,7 @@ returns-in-Ok c =
     let page = c.in-Ok.page in
     rw (← c.in-Ok.ensures.found.vm, ← c.in-Ok.ensures.found.vcpu, ← c.in-Ok.ensures.found.frame) (answer-served c.args.config.now c.args.parts.now _ (Map page.vm page.vcpu page.frame) reply.Done (served k) refl
     (c.spend_fault.ensures.state ∙ ap (λ (s : State). with_fault s page.vm page.vcpu None) (c.hand.ensures.state ∙ ap (λ g. hand m page.vm g page.frame) (sym (is_gfn k))))
-    c.spend_fault.ensures.linked (room-through _ _ _ c.hand.ensures.room c.spend_fault.ensures.room))
+    c.spend_fault.ensures.linked (places-through _ _ _ c.hand.ensures.places c.spend_fault.ensures.places))
 
 pub returns-in-Err : goal.returns-in-Err
 returns-in-Err c = answer-refused _ _ _ c.in-Err.refusal c.requires.linked c.in-Err.ensures.answer

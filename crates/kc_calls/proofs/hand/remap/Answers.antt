@@ -10,7 +10,7 @@ use Rattle.kc_parts.specs.Parts.{vm_at}
 use Rattle.kc_parts.specs.States.{state_of}
 use Rattle.kc_parts.proofs.SlotChanges.{linked-vm}
 use Rattle.kc_calls.specs.Applying.{IsAble}
-use Rattle.kc_calls.proofs.Frames.{host-owner, room-vm, room-through}
+use Rattle.kc_calls.proofs.Frames.{host-owner, places-vm, places-through}
 use Rattle.kc_calls.proofs.Needed.{slot-needed, frame-needed}
 use Rattle.kc_calls.proofs.Answered.{answer-refused, answer-served}
 use Rattle.kc_calls.proofs.Hands.{remap-fits, remap-page, page-after, state-paged}
@@ -64,7 +64,7 @@ hand-requires-clause-fits c =
     ap (tables_full (state_of c.args.config.now c.args.parts.now) c.in-Ok.page.vm) (is_gfn k) ∙ remap-fits (state_of c.args.config.now c.args.parts.now) _ _ _ (served k)
 
 pub slot_mut-requires : goal.slot_mut-requires
-slot_mut-requires c = c.hand.ensures.room.here (resource.Vm c.in-Ok.page.vm) ∙ here (goal.at.slot_mut-requires c).In-Ok
+slot_mut-requires c = c.hand.ensures.places.here (resource.Vm c.in-Ok.page.vm) ∙ here (goal.at.slot_mut-requires c).In-Ok
 
 pub add_page-requires : goal.add_page-requires
 add_page-requires c =
@@ -77,8 +77,8 @@ returns-in-Ok c =
     let at = c.slot_mut.ensures.value in
     rw (← c.in-Ok.ensures.found.vm, ← c.in-Ok.ensures.found.frame) (answer-served c.args.config.now c.args.parts.now _ (Remap c.in-Ok.page.vm c.args.image c.in-Ok.page.frame) reply.Done (served k) refl
     (state-paged _ c.args.parts.now c.hand.new.parts _ _ _ _ c.hand.ensures.state (low k) (seen k).vm at c.args.image c.add_page.new.self c.add_page.ensures (is_gfn k))
-    (linked-vm _ _ _ _ c.add_page.new.self c.hand.ensures.linked at (ap (λ (vm : VmSlot). vm.slot.frames) c.add_page.ensures) (ap (λ (vm : VmSlot). vm.room) c.add_page.ensures))
-    (room-through _ _ _ c.hand.ensures.room (room-vm c.hand.new.parts _ _ c.add_page.new.self at)))
+    (linked-vm _ _ _ _ c.add_page.new.self c.hand.ensures.linked at (ap (λ (vm : VmSlot). vm.slot.frames) c.add_page.ensures) (ap (λ (vm : VmSlot). vm.capacity) c.add_page.ensures))
+    (places-through _ _ _ c.hand.ensures.places (places-vm c.hand.new.parts _ _ c.add_page.new.self at)))
 
 pub returns-in-Err : goal.returns-in-Err
 returns-in-Err c = answer-refused _ _ _ c.in-Err.refusal c.requires.linked c.in-Err.ensures.answer

@@ -9,7 +9,7 @@ use Rattle.kc_parts.proofs.Pages.{page-set}
 use Rattle.kc_parts.proofs.Seen.{linked-moved}
 use Rattle.kc_calls.specs.Applying.{IsAble}
 use Rattle.kc_calls.proofs.Needed.{frame-needed}
-use Rattle.kc_calls.proofs.Frames.{room-page, room-move, room-through, host-near, host-owner}
+use Rattle.kc_calls.proofs.Frames.{places-page, places-move, places-through, host-near, host-owner}
 use Rattle.kc_calls.proofs.Answered.{answer-refused, answer-served}
 use Rattle.kc_calls.proofs.Hosts.{give-served, loose-host, loose-page, state-given}
 use Rattle.kc_calls.proofs.host.give.Goals as goal
@@ -60,7 +60,7 @@ returns-in-Ok c =
     rw (← c.in-Ok.ensures.frame) (answer-served c.args.config.now old c.append_free.new.self (Give c.in-Ok.frame) reply.Done (served k) refl
     (state-given _ old c.append_free.new.self _ _ _ (seen k).0 at refl (rw c.scrub.ensures refl) move c.append_free.ensures.frames)
     (move.linked _ (linked-moved _ _ _ _ _ c.requires.linked at refl is.absent (λ host. is.alone)))
-    (room-through _ _ _ (room-page _ _ _ _ at refl (λ away. let no = sym near ∙ away in cc)) (room-move _ _ move)))
+    (places-through _ _ _ (places-page _ _ _ _ at refl (λ away. let no = sym near ∙ away in cc)) (places-move _ _ move)))
 
 pub returns-in-Err : goal.returns-in-Err
 returns-in-Err c = answer-refused _ _ _ c.in-Err.refusal c.requires.linked c.in-Err.ensures.answer

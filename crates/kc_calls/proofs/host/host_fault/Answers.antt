@@ -7,7 +7,7 @@ use Rattle.kc_parts.specs.States.{state_of}
 use Rattle.kc_parts.proofs.Seen.{linked-kept}
 use Rattle.kc_calls.specs.Applying.{IsAble}
 use Rattle.kc_calls.proofs.Needed.{frame-needed}
-use Rattle.kc_calls.proofs.Frames.{changed, room-page}
+use Rattle.kc_calls.proofs.Frames.{changed, places-page}
 use Rattle.kc_calls.proofs.Answered.{answer-refused, answer-served}
 use Rattle.kc_calls.proofs.host.host_fault.Goals as goal
 use Rattle.kc_calls.proofs.host.host_fault.Goals.{In-Ok}
@@ -33,7 +33,7 @@ returns-in-Ok c =
     rw (← c.in-Ok.ensures.frame) (answer-served c.args.config.now c.args.parts.now _ (HostFault c.in-Ok.frame) reply.Done (served k) refl
     (changed c.args.config.now c.args.parts.now _ _ _ (λ frame. record frame { present = true }) (low k) at refl refl)
     (linked-kept _ _ _ _ _ c.requires.linked at refl refl)
-    (room-page _ _ _ _ at refl (λ away. refl)))
+    (places-page _ _ _ _ at refl (λ away. refl)))
 
 pub returns-in-Err : goal.returns-in-Err
 returns-in-Err c = answer-refused _ _ _ c.in-Err.refusal c.requires.linked c.in-Err.ensures.answer

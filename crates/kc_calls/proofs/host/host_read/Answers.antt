@@ -7,7 +7,7 @@ use Rattle.kc_model.proofs.Refusals.Served.{IsHostAccess, host_access-served}
 use Rattle.kc_parts.specs.States.{state_of}
 use Rattle.kc_calls.specs.Applying.{IsAble}
 use Rattle.kc_calls.proofs.Needed.{frame-needed}
-use Rattle.kc_calls.proofs.Frames.{frame-is, room-same}
+use Rattle.kc_calls.proofs.Frames.{frame-is, places-same}
 use Rattle.kc_calls.proofs.Answered.{answer-refused, answer-served}
 use Rattle.kc_calls.proofs.Reading.{host-data}
 use Rattle.kc_calls.proofs.host.host_read.Goals as goal
@@ -27,16 +27,16 @@ page-page-requires c =
     let k = (goal.at.page-page-requires c).In-Ok in
     frame-needed _ _ _ (able k) c.in-Ok.frame (eq-eqb c.in-Ok.frame c.in-Ok.frame refl) (seen k).frame
 
-pub returns-in_err-room-in-Ok-clause-memory : goal.returns-in_err-room-in-Ok-clause-memory
-returns-in_err-room-in-Ok-clause-memory c = λ refused. host-data _ _ _ _ c.in-Ok.ensures.answer
+pub returns-in_err-capacity-in-Ok-clause-memory : goal.returns-in_err-capacity-in-Ok-clause-memory
+returns-in_err-capacity-in-Ok-clause-memory c = λ refused. host-data _ _ _ _ c.in-Ok.ensures.answer
 
-pub returns-in_ok-room-in-Ok-clause-answer : goal.returns-in_ok-room-in-Ok-clause-answer
-returns-in_ok-room-in-Ok-clause-answer c =
-    let k = (goal.at.returns-in_ok-room-in-Ok-clause-answer c).In-Ok in
+pub returns-in_ok-capacity-in-Ok-clause-answer : goal.returns-in_ok-capacity-in-Ok-clause-answer
+returns-in_ok-capacity-in-Ok-clause-answer c =
+    let k = (goal.at.returns-in_ok-capacity-in-Ok-clause-answer c).In-Ok in
     let there = frame-is c.args.config.now c.args.parts.now _ _ (seen k).frame c.page-page.ensures in
     rw (← c.in-Ok.ensures.frame) (answer-served c.args.config.now c.args.parts.now c.args.parts.now (HostRead c.in-Ok.frame c.args.offset c.args.len) (reply.Data c.read.result) (served k)
     (ap reply.Data (c.read.ensures ∙ ap (λ (frame : Frame). slice_range frame.bytes c.args.offset (c.args.offset + c.args.len)) (sym there)))
-    refl c.requires.linked (room-same c.args.parts.now))
+    refl c.requires.linked (places-same c.args.parts.now))
 
 pub returns-in-Err-clause-answer : goal.returns-in-Err-clause-answer
 returns-in-Err-clause-answer c = answer-refused _ _ _ c.in-Err.refusal c.requires.linked c.in-Err.ensures.answer

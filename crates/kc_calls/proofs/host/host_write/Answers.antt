@@ -30,7 +30,7 @@ write_frame-requires-clause-within c = (seen (goal.at.write_frame-requires-claus
 pub returns-in-Ok : goal.returns-in-Ok
 returns-in-Ok c =
     let done = c.write_frame.ensures in
-    rw (← c.in-Ok.ensures.frame) (answer-served c.args.config.now c.args.parts.now _ (HostWrite c.in-Ok.frame c.args.offset c.args.bytes.now) reply.Done (served (goal.at.returns-in-Ok c).In-Ok) refl done.state done.linked done.room)
+    rw (← c.in-Ok.ensures.frame) (answer-served c.args.config.now c.args.parts.now _ (HostWrite c.in-Ok.frame c.args.offset c.args.bytes.now) reply.Done (served (goal.at.returns-in-Ok c).In-Ok) refl done.state done.linked done.places)
 
 pub returns-in-Err : goal.returns-in-Err
 returns-in-Err c = answer-refused _ _ _ c.in-Err.refusal c.requires.linked (rw (← c.as_slice.ensures.value) c.in-Err.ensures.answer)

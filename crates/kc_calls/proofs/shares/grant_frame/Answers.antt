@@ -2,7 +2,7 @@ use Rattle.std.proofs.Common.{is_some, refl, ap, arith}
 use Rattle.kc_model.specs.State.{Frame}
 use Rattle.kc_model.specs.Effects.{granted}
 use Rattle.kc_parts.proofs.Seen.{linked-kept}
-use Rattle.kc_calls.proofs.Frames.{changed, frame-is, room-page}
+use Rattle.kc_calls.proofs.Frames.{changed, frame-is, places-page}
 use Rattle.kc_calls.proofs.shares.grant_frame.Goals as goal
 
 pub overflow_add-page : goal.overflow_add-page
@@ -20,5 +20,5 @@ returns-clause-state c =
 pub returns-clause-linked : goal.returns-clause-linked
 returns-clause-linked c = linked-kept _ _ _ _ _ c.requires.linked c.page_mut-page.ensures.value refl refl
 
-pub returns-clause-room : goal.returns-clause-room
-returns-clause-room c = room-page _ _ _ _ c.page_mut-page.ensures.value refl (λ away. refl)
+pub returns-clause-places : goal.returns-clause-places
+returns-clause-places c = places-page _ _ _ _ c.page_mut-page.ensures.value refl (λ away. refl)

@@ -14,5 +14,5 @@ invariant-loop-at l = record {
   slots : (state_of l.config l.parts).slots ≡ (state_of l.config l.initial.parts).slots;
   few : (h : ℕ) → share_at (state_of l.config l.parts) l.vm h ≤ share_at (state_of l.config l.initial.parts) l.vm h + (l.at - l.gfn);
   linked : IsLinked l.config l.parts;
-  room : KeepsPlaces l.initial.parts l.parts;
+  places : KeepsPlaces l.initial.parts l.parts;
 }

@@ -17,7 +17,7 @@ pub returns-in-Ok : goal.returns-in-Ok
 returns-in-Ok c =
     let done = c.revoke_frame.ensures in
     answer-served c.args.config.now c.args.parts.now _ (Revoke c.args.vm c.args.vcpu c.args.gfn) reply.Done c.in-Ok.ensures.answer refl
-    (done.state ∙ each-one revoked (state_of c.args.config.now c.args.parts.now) c.args.vm c.args.gfn _ c.in-Ok.ensures.mapped) done.linked done.room
+    (done.state ∙ each-one revoked (state_of c.args.config.now c.args.parts.now) c.args.vm c.args.gfn _ c.in-Ok.ensures.mapped) done.linked done.places
 
 pub returns-in-Err : goal.returns-in-Err
 returns-in-Err c = answer-refused _ _ _ c.in-Err.refusal c.requires.linked c.in-Err.ensures.answer

@@ -1,7 +1,7 @@
 use Rattle.std.proofs.Common.{is_some, refl, ap}
 use Rattle.kc_model.specs.Effects.{revoked}
 use Rattle.kc_parts.proofs.Seen.{linked-kept}
-use Rattle.kc_calls.proofs.Frames.{changed, room-page}
+use Rattle.kc_calls.proofs.Frames.{changed, places-page}
 use Rattle.kc_calls.proofs.shares.revoke_frame.Goals as goal
 
 pub returns-clause-state : goal.returns-clause-state
@@ -12,5 +12,5 @@ returns-clause-state c =
 pub returns-clause-linked : goal.returns-clause-linked
 returns-clause-linked c = linked-kept _ _ _ _ _ c.requires.linked c.page_mut-page.ensures.value (rw c.revoked-page.ensures refl) (rw c.revoked-page.ensures refl)
 
-pub returns-clause-room : goal.returns-clause-room
-returns-clause-room c = room-page _ _ _ _ c.page_mut-page.ensures.value (rw c.revoked-page.ensures refl) (λ away. rw c.revoked-page.ensures refl)
+pub returns-clause-places : goal.returns-clause-places
+returns-clause-places c = places-page _ _ _ _ c.page_mut-page.ensures.value (rw c.revoked-page.ensures refl) (λ away. rw c.revoked-page.ensures refl)

@@ -6,7 +6,7 @@ use Rattle.kc_model.specs.Refusals.{backing}
 use Rattle.kc_model.specs.Effects.{revoked}
 use Rattle.kc_model.proofs.Lawful.RangeCalls.{IsRangeCall, guest_range-served}
 use Rattle.kc_parts.specs.States.{state_of}
-use Rattle.kc_calls.proofs.Frames.{room-through}
+use Rattle.kc_calls.proofs.Frames.{places-through}
 use Rattle.kc_calls.proofs.Answered.{answer-refused, answer-served}
 use Rattle.kc_calls.proofs.Sharing.{mapped-still, page-still, each-one, one-done, all-done}
 use Rattle.kc_calls.proofs.shares.revoke_range.Goals as goal
@@ -25,7 +25,7 @@ frame_under-frame-requires-clause-mapped c = ap is_some (mapped (goal.at.frame_u
 pub revoke_frame-requires-clause-here : goal.revoke_frame-requires-clause-here
 revoke_frame-requires-clause-here c =
     let k = (goal.at.revoke_frame-requires-clause-here c).In-loop-at in
-    page-still _ c.args.parts.now c.loop-at.parts _ _ c.loop-at.at _ c.requires refl (call k).call.vm ((call k).mapped c.loop-at.at c.loop-at.invariant.from c.loop-at-test.true) (mapped k) c.loop-at.invariant.room c.frame_under-frame.ensures
+    page-still _ c.args.parts.now c.loop-at.parts _ _ c.loop-at.at _ c.requires refl (call k).call.vm ((call k).mapped c.loop-at.at c.loop-at.invariant.from c.loop-at-test.true) (mapped k) c.loop-at.invariant.places c.frame_under-frame.ensures
 
 pub loop-at-preserved : goal.loop-at-preserved
 loop-at-preserved c =
@@ -39,7 +39,7 @@ loop-at-preserved c =
       left = one-done revoked mid (state_of c.args.config.now c.revoke_frame.new.parts) _ c.args.vm c.loop-at.at (c.args.gfn + c.args.count - c.loop-at.at) (c.args.gfn + c.args.count - (c.loop-at.at + 1)) (omega (arith, low)) done so_far.left;
       slots = ap (λ (m : State). m.slots) c.revoke_frame.ensures.state ∙ so_far.slots;
       linked = c.revoke_frame.ensures.linked;
-      room = room-through _ _ _ so_far.room c.revoke_frame.ensures.room;
+      places = places-through _ _ _ so_far.places c.revoke_frame.ensures.places;
     }
 
 pub returns-after-loop-at : goal.returns-after-loop-at
@@ -48,7 +48,7 @@ returns-after-loop-at c =
     let past = c.loop-at-test.false in
     let none : c.args.gfn + c.args.count - c.loop-at.at ≡ 0 = omega (arith, past) in
     answer-served c.args.config.now c.args.parts.now _ (RevokeRange c.args.vm c.args.vcpu c.args.gfn c.args.count) reply.Done c.in-Ok.ensures refl
-    (all-done revoked (state_of c.args.config.now c.loop-at.parts) _ c.args.vm c.loop-at.at _ none so_far.left) so_far.linked so_far.room
+    (all-done revoked (state_of c.args.config.now c.loop-at.parts) _ c.args.vm c.loop-at.at _ none so_far.left) so_far.linked so_far.places
 
 pub returns-in-Err : goal.returns-in-Err
 returns-in-Err c = answer-refused _ _ _ c.in-Err.refusal c.requires.linked c.in-Err.ensures

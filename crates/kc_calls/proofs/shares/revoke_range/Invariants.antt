@@ -12,5 +12,5 @@ invariant-loop-at l = record {
   left : with_each (state_of l.config l.parts) l.vm (range_with_len l.at (l.gfn + l.count - l.at)) revoked ≡ with_each (state_of l.config l.initial.parts) l.vm (range_with_len l.gfn l.count) revoked;
   slots : (state_of l.config l.parts).slots ≡ (state_of l.config l.initial.parts).slots;
   linked : IsLinked l.config l.parts;
-  room : KeepsPlaces l.initial.parts l.parts;
+  places : KeepsPlaces l.initial.parts l.parts;
 }

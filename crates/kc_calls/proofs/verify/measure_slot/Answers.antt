@@ -8,7 +8,7 @@ use Rattle.kc_model.proofs.Lawful.Verifies.{verify-served}
 use Rattle.kc_parts.specs.Parts.{held_slot, vm_at}
 use Rattle.kc_parts.specs.States.{state_of}
 use Rattle.kc_calls.specs.Verifying.{mapped_in, IsImageHere}
-use Rattle.kc_calls.proofs.Frames.{room-vm, room-through}
+use Rattle.kc_calls.proofs.Frames.{places-vm, places-through}
 use Rattle.kc_calls.proofs.Imaged.{slot-verified, images-needed}
 use Rattle.kc_calls.proofs.Verifying.{booting-here, state-phase, linked-phase}
 use Rattle.kc_calls.proofs.verify.measure_slot.Goals as goal
@@ -46,8 +46,8 @@ returns-in-Some-clause-state c =
 pub returns-in-Some-clause-linked : goal.returns-in-Some-clause-linked
 returns-in-Some-clause-linked c = linked-phase _ _ _ _ _ Dead c.requires.able.linked c.slot_mut.ensures.value c.kill.ensures
 
-pub returns-in-Some-clause-room : goal.returns-in-Some-clause-room
-returns-in-Some-clause-room c = room-vm c.args.parts.now _ _ _ c.slot_mut.ensures.value
+pub returns-in-Some-clause-places : goal.returns-in-Some-clause-places
+returns-in-Some-clause-places c = places-vm c.args.parts.now _ _ _ c.slot_mut.ensures.value
 
 pub trim_images-requires-clause-slot : goal.trim_images-requires-clause-slot
 trim_images-requires-clause-slot c = here (goal.at.trim_images-requires-clause-slot c).Start
@@ -56,7 +56,7 @@ pub trim_images-requires-clause-here : goal.trim_images-requires-clause-here
 trim_images-requires-clause-here c = images (goal.at.trim_images-requires-clause-here c).Start
 
 pub slot_mut-requires-2 : goal.slot_mut-requires-2
-slot_mut-requires-2 c = c.trim_images.ensures.room.here (resource.Vm c.args.vm) ∙ here (goal.at.slot_mut-requires-2 c).Start
+slot_mut-requires-2 c = c.trim_images.ensures.places.here (resource.Vm c.args.vm) ∙ here (goal.at.slot_mut-requires-2 c).Start
 
 pub activate-requires : goal.activate-requires
 activate-requires c =
@@ -73,5 +73,5 @@ returns-clause-state c =
 pub returns-clause-linked : goal.returns-clause-linked
 returns-clause-linked c = linked-phase _ _ _ _ _ Active c.trim_images.ensures.linked c.slot_mut-2.ensures.value c.activate.ensures
 
-pub returns-clause-room : goal.returns-clause-room
-returns-clause-room c = room-through _ _ _ c.trim_images.ensures.room (room-vm c.trim_images.new.parts _ _ _ c.slot_mut-2.ensures.value)
+pub returns-clause-places : goal.returns-clause-places
+returns-clause-places c = places-through _ _ _ c.trim_images.ensures.places (places-vm c.trim_images.new.parts _ _ _ c.slot_mut-2.ensures.value)

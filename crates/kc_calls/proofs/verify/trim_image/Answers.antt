@@ -3,7 +3,7 @@ use Rattle.std.specs.FinMap as map
 use Rattle.kc_stage2.specs.Stage2.{Table}
 use Rattle.kc_model.specs.Refusals.{backing, pages_of}
 use Rattle.kc_parts.proofs.Seen.{linked-kept}
-use Rattle.kc_calls.proofs.Frames.{room-page}
+use Rattle.kc_calls.proofs.Frames.{places-page}
 use Rattle.kc_calls.proofs.Imaged.{state-trimmed}
 use Rattle.kc_calls.proofs.verify.trim_image.Goals as goal
 
@@ -19,5 +19,5 @@ returns-clause-state c =
 pub returns-clause-linked : goal.returns-clause-linked
 returns-clause-linked c = linked-kept _ _ _ _ _ c.requires.linked c.page_mut-page.ensures.value refl refl
 
-pub returns-clause-room : goal.returns-clause-room
-returns-clause-room c = room-page _ _ _ _ c.page_mut-page.ensures.value refl (λ away. refl)
+pub returns-clause-places : goal.returns-clause-places
+returns-clause-places c = places-page _ _ _ _ c.page_mut-page.ensures.value refl (λ away. refl)

@@ -3,7 +3,7 @@ use Rattle.std.proofs.lemmas.List.{take_all}
 use Rattle.kc_model.specs.State.{Image, slot_at}
 use Rattle.kc_model.specs.Effects.{trimmed, all_trimmed}
 use Rattle.kc_parts.specs.States.{state_of}
-use Rattle.kc_calls.proofs.Frames.{room-through}
+use Rattle.kc_calls.proofs.Frames.{places-through}
 use Rattle.kc_calls.proofs.Imaged.{images-seen, images-kept, image-still, all_trimmed-more}
 use Rattle.kc_calls.proofs.verify.trim_images.Goals as goal
 use Rattle.kc_calls.proofs.verify.trim_images.Goals.{After-images-count, In-loop-i, After-images}
@@ -22,7 +22,7 @@ seen c = images-kept _ c.args.parts.now c.loop-i.parts _ _ _ c.requires.low c.lo
 pub trim_image-requires-clause-here : goal.trim_image-requires-clause-here
 trim_image-requires-clause-here c =
     let k = goal.at.trim_image-requires-clause-here c in
-    rw (← seen k.After-images) (image-still c.args.parts.now c.loop-i.parts _ _ c.loop-i.invariant.room c.loop-i.invariant.slots (c.requires.here c.loop-i.i _ (low k.In-loop-i)))
+    rw (← seen k.After-images) (image-still c.args.parts.now c.loop-i.parts _ _ c.loop-i.invariant.places c.loop-i.invariant.slots (c.requires.here c.loop-i.i _ (low k.In-loop-i)))
 
 pub loop-i-preserved : goal.loop-i-preserved
 loop-i-preserved c =
@@ -38,7 +38,7 @@ loop-i-preserved c =
           ∙ ap (λ is. trimmed (all_trimmed m v (take i images)) v (get_or is i none)) (sym (seen k.After-images))
           ∙ sym (all_trimmed-more m v images i none (low k.In-loop-i));
       linked = c.trim_image.ensures.linked;
-      room = room-through _ c.loop-i.parts _ c.loop-i.invariant.room c.trim_image.ensures.room;
+      places = places-through _ c.loop-i.parts _ c.loop-i.invariant.places c.trim_image.ensures.places;
       slots = c.trim_image.ensures.slots ∙ c.loop-i.invariant.slots;
     }
 

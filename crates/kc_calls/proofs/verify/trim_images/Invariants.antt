@@ -10,6 +10,6 @@ abbrev pub invariant-loop-i : goal.invariant-loop-i
 invariant-loop-i l = record {
   state : state_of l.config l.parts ≡ all_trimmed (state_of l.config l.initial.parts) l.vm (take l.i (slot_at (state_of l.config l.initial.parts) l.vm).images);
   linked : IsLinked l.config l.parts;
-  room : KeepsPlaces l.initial.parts l.parts;
+  places : KeepsPlaces l.initial.parts l.parts;
   slots : l.parts.vms ≡ l.initial.parts.vms;
 }

@@ -7,4 +7,4 @@ apply-requires c = able c.args.config.now c.args.parts.now c.requires c.args.cal
 pub returns-clause-core : goal.returns-clause-core
 returns-clause-core c = core-kept c.args.config.now c.args.parts.now c.apply.new.parts c.requires
     (lawful-left c.apply.result _ _ _ c.args.call.now c.requires.lawful c.apply.ensures.state c.apply.ensures.err)
-    c.apply.ensures.linked c.apply.ensures.room
+    c.apply.ensures.linked c.apply.ensures.places

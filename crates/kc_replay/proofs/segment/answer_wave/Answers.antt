@@ -14,7 +14,7 @@ pub loop-place-preserved : goal.loop-place-preserved
 loop-place-preserved g c =
     let at = c.loop-place.place in
     let low : at < length c.args.members.now = c.loop-place-test.true in
-    let size = c.loop-place.invariant.size ∙ c.requires.room in
+    let size = c.loop-place.invariant.size ∙ c.requires.long in
     let call : c.index-calls-number.result ≡ call_at (wave_calls c.args.calls.now c.args.members.now) at =
     c.index-calls-number.is ∙ any-default c.args.calls.now (get_or c.args.members.now at 0) c.index-calls-number.result Take (c.requires.members.within at low) ∙ sym (wave-call c.args.calls.now c.args.members.now at low) in
     record {

@@ -27,7 +27,7 @@ in-order m calls feet plan done members order are is of same =
 
 pub loop-done-init : goal.loop-done-init
 loop-done-init g c =
-    up-to-none c.args.core c.args.calls.now c.requires.lawful (wave_of c.args.plan.now) (longest c.args.core c.args.calls.now c.args.feet.now c.args.plan.now c.requires.feet c.requires.plan) c.args.replies.items c.requires.room
+    up-to-none c.args.core c.args.calls.now c.requires.lawful (wave_of c.args.plan.now) (longest c.args.core c.args.calls.now c.args.feet.now c.args.plan.now c.requires.feet c.requires.plan) c.args.replies.items c.requires.long
 
 pub take_wave-requires-clause-wave : goal.take_wave-requires-clause-wave
 take_wave-requires-clause-wave g c κs within order same =

@@ -14,23 +14,23 @@ loop-number-init c =
       places = refl;
       vms = refl;
       free = refl;
-      fits = λ f page e. c.requires.fits f page (page_at-cells c.args.numbers.items c.args.here.items c.args.pages.items f held.here held.pages ∙ e);
+      fits = λ f page e. c.requires.fits f page (page_at-cells c.args.numbers.items c.args.filled.items c.args.pages.items f held.flags held.pages ∙ e);
       joined = λ f. refl;
     }
 
 pub lay_back-requires : goal.lay_back-requires
 lay_back-requires c =
     let l = c.loop-number in
-    let last : IsLast l.numbers.items c.pop.new.self.items l.here.items c.pop-in-Some.new.self.items l.pages.items c.pop-in-Some-2.new.self.items c.in-Some.number c.in-Some-Some.filled c.in-Some-Some.page =
-    record { held = l.invariant.held; numbers = c.in-Some.ensures.items; here = c.in-Some-Some.ensures.items; pages = c.in-Some-Some.ensures'.items } in
+    let last : IsLast l.numbers.items c.pop.new.self.items l.filled.items c.pop-in-Some.new.self.items l.pages.items c.pop-in-Some-2.new.self.items c.in-Some.number c.in-Some-Some.flag c.in-Some-Some.page =
+    record { held = l.invariant.held; numbers = c.in-Some.ensures.items; filled = c.in-Some-Some.ensures.items; pages = c.in-Some-Some.ensures'.items } in
     record { empty = last-empty last l.self l.invariant.fits; blank = last-blank last }
 
 pub loop-number-preserved : goal.loop-number-preserved
 loop-number-preserved c =
     let l = c.loop-number in
     let was = l.invariant in
-    let last : IsLast l.numbers.items c.pop.new.self.items l.here.items c.pop-in-Some.new.self.items l.pages.items c.pop-in-Some-2.new.self.items c.in-Some.number c.in-Some-Some.filled c.in-Some-Some.page =
-    record { held = was.held; numbers = c.in-Some.ensures.items; here = c.in-Some-Some.ensures.items; pages = c.in-Some-Some.ensures'.items } in
+    let last : IsLast l.numbers.items c.pop.new.self.items l.filled.items c.pop-in-Some.new.self.items l.pages.items c.pop-in-Some-2.new.self.items c.in-Some.number c.in-Some-Some.flag c.in-Some-Some.page =
+    record { held = was.held; numbers = c.in-Some.ensures.items; filled = c.in-Some-Some.ensures.items; pages = c.in-Some-Some.ensures'.items } in
     let step = put-last last l.self c.lay_back.new.self was.fits c.lay_back.ensures in
     record {
       held = front-held last;
@@ -52,7 +52,7 @@ returns c =
       free = was.free;
       pages = λ f.
           sym (either-none (page_at l.self f))
-          ∙ ap (either (page_at l.self f)) (sym (cells-end l.numbers.items (cells l.here.items l.pages.items) f (omega (arith, c.in_default.ensures.cases.0, l.numbers.ok.0))))
+          ∙ ap (either (page_at l.self f)) (sym (cells-end l.numbers.items (cells l.filled.items l.pages.items) f (omega (arith, c.in_default.ensures.cases.0, l.numbers.ok.0))))
           ∙ was.joined f
-          ∙ ap (either (page_at c.args.self.now f)) (sym (page_at-cells c.args.numbers.items c.args.here.items c.args.pages.items f held.here held.pages));
+          ∙ ap (either (page_at c.args.self.now f)) (sym (page_at-cells c.args.numbers.items c.args.filled.items c.args.pages.items f held.flags held.pages));
     }

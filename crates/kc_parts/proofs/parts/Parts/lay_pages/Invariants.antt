@@ -10,13 +10,13 @@ use Rattle.kc_parts.proofs.parts.Parts.lay_pages.Given as goal
 
 abbrev pub invariant-loop-number : goal.invariant-loop-number
 invariant-loop-number l = record {
-  held : IsHeld l.numbers.items l.here.items l.pages.items;
+  held : IsHeld l.numbers.items l.filled.items l.pages.items;
   places : l.self.numbers ≡ l.initial.self.numbers;
   vms : l.self.vms ≡ l.initial.self.vms;
   free : l.self.free ≡ l.initial.self.free;
-  fits : (f : ℕ) (page : Page) → cell_in l.numbers.items (cells l.here.items l.pages.items) f ≡ Some page → IsEmptyPlace l.self f;
-  joined : (f : ℕ) → either (page_at l.self f) (cell_in l.numbers.items (cells l.here.items l.pages.items) f)
-      ≡ either (page_at l.initial.self f) (cell_in l.initial.numbers.items (cells l.initial.here.items l.initial.pages.items) f);
+  fits : (f : ℕ) (page : Page) → cell_in l.numbers.items (cells l.filled.items l.pages.items) f ≡ Some page → IsEmptyPlace l.self f;
+  joined : (f : ℕ) → either (page_at l.self f) (cell_in l.numbers.items (cells l.filled.items l.pages.items) f)
+      ≡ either (page_at l.initial.self f) (cell_in l.initial.numbers.items (cells l.initial.filled.items l.initial.pages.items) f);
 }
 
 abbrev pub decreases-loop-number : goal.decreases-loop-number

@@ -18,17 +18,17 @@ lift_pages-requires-clause-here c = λ i low.
 pub invariant_of-result : goal.invariant_of-result
 invariant_of-result c =
     let numbers = c.in_ok-numbers.numbers in
-    held-taken c.args.wanted.now numbers.items c.in_ok-here.here.items c.lift_pages.new.pages.items c.lift_free-free.new.self c.len.result
-    c.in_ok-numbers.ensures (c.in_ok-here.ensures.items_if_clones_equal (λ y h. h)) (c.len.ensures ∙ numbers.ok.0) (rw c.as_slice.ensures.value at c.lift_pages.ensures.taken)
+    held-taken c.args.wanted.now numbers.items c.in_ok-filled.filled.items c.lift_pages.new.pages.items c.lift_free-free.new.self c.len.result
+    c.in_ok-numbers.ensures (c.in_ok-filled.ensures.items_if_clones_equal (λ y h. h)) (c.len.ensures ∙ numbers.ok.0) (rw c.as_slice.ensures.value at c.lift_pages.ensures.taken)
 
 pub returns-clause-ok : goal.returns-clause-ok
 returns-clause-ok c =
     let numbers = c.in_ok-numbers.numbers in
     let value = c.as_slice.ensures.value in
     rw (← c.in_ok-pages.ensures.kept)
-    (split-end c.args.wanted.now numbers.items c.in_ok-here.here.items c.lift_pages.new.pages.items c.in_ok-vms.vms c.lift_slots.new.vms c.lift_free-free.result
+    (split-end c.args.wanted.now numbers.items c.in_ok-filled.filled.items c.lift_pages.new.pages.items c.in_ok-vms.vms c.lift_slots.new.vms c.lift_free-free.result
     c.blank_pages.new.self c.lift_slots.new.self c.lift_free-free.new.self c.lift_pages.new.self c.wants_free.result c.len.result
-    c.in_ok-numbers.ensures (c.in_ok-here.ensures.items_if_clones_equal (λ y h. h)) (c.len.ensures ∙ numbers.ok.0) (rw value at c.lift_pages.ensures.taken) (rw value at c.lift_pages.ensures.rest)
+    c.in_ok-numbers.ensures (c.in_ok-filled.ensures.items_if_clones_equal (λ y h. h)) (c.len.ensures ∙ numbers.ok.0) (rw value at c.lift_pages.ensures.taken) (rw value at c.lift_pages.ensures.rest)
     (rw c.in_ok-vms.ensures c.in_ok-slots.ensures) (λ v. rw c.in_ok-vms.ensures (cell-none _ _ v)) c.lift_slots.ensures.moved c.lift_slots.ensures.rest c.lift_free-free.ensures.ends c.lift_free-free.ensures.rest c.wants_free.ensures)
 
 pub returns-clause-full : goal.returns-clause-full

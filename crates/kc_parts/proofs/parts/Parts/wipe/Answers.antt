@@ -13,13 +13,13 @@ written-back pages new n count is = ap (λ (ps : List Page). take n (ps ++ drop 
 pub invariant_of-self : goal.invariant_of-self
 invariant_of-self c =
     let p = c.self.inside in
-    subst (λ (ps : List Page). IsHeld p.numbers.items p.here.items ps)
+    subst (λ (ps : List Page). IsHeld p.numbers.items p.filled.items ps)
     (sym (written-back p.pages.items c.scrub_each.new.pages p.pages.len p.pages.ok.0 (c.scrub_each.ensures ∙ ap (map scrubbed_page) c.as_mut_slice.ensures.value)))
-    (held-scrubbed p.numbers.items p.here.items p.pages.items c.self.invariant)
+    (held-scrubbed p.numbers.items p.filled.items p.pages.items c.self.invariant)
 
 pub returns : goal.returns
 returns c =
     let p = c.self.inside in
     rw (← c.self.view_is)
-    (ap (λ (ps : List Page). record { numbers = p.numbers.items; here = p.here.items; pages = ps; vms = p.vms; free = p.free })
+    (ap (λ (ps : List Page). record { numbers = p.numbers.items; filled = p.filled.items; pages = ps; vms = p.vms; free = p.free })
     (written-back p.pages.items c.scrub_each.new.pages p.pages.len p.pages.ok.0 (c.scrub_each.ensures ∙ ap (map scrubbed_page) c.as_mut_slice.ensures.value)))

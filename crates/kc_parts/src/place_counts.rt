@@ -1,8 +1,8 @@
-//! How much parts can hold.
+//! How many places a store has.
 
 /// How many pages and slots a store has places for.
 #[derive(Clone, Copy, Debug, PartialEq, Eq)]
-pub struct Room {
+pub struct PlaceCounts {
     /// Places for frames, filled or empty.
     pub frames: usize,
     /// Places for VM slots, filled or empty.
