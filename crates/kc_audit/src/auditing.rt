@@ -1,8 +1,7 @@
 //! The audit of a dump.
-ghost use Rattle.std.specs.Prelude.{◌≡◌, ◌+◌, ◌≤◌, ◌↔◌, [], length, map, IfOk};
-ghost use Rattle.std.specs.List.{range_with_len};
+ghost use Rattle.std.specs.Prelude.{◌≡◌, ◌+◌, ◌≤◌, ◌↔◌, [], length, IfOk};
 ghost use Rattle.kc_types.specs.Limits.{frame_limit, slot_limit};
-ghost use Rattle.kc_audit.specs.Findings.{AreFindings, AreGoodLists, AreListsFrom, verdicts_of, verdict_of};
+ghost use Rattle.kc_audit.specs.Findings.{AreFindings, AreGoodLists, verdicts_of};
 ghost use Rattle.kc_dump.specs.Sound.{IsSound};
 
 use crate::Finding;

@@ -1,7 +1,6 @@
 //! The findings, one kind after another.
-ghost use Rattle.std.specs.Prelude.{◌≡◌, ℕ, ◌++◌, ◌+◌, ◌≤◌, ◌<◌, length, All, IfOk, OnOk};
+ghost use Rattle.std.specs.Prelude.{◌≡◌, ◌++◌, ◌+◌, ◌≤◌, ◌<◌, length, IfOk, OnOk};
 ghost use Rattle.kc_types.specs.Limits.{frame_limit, slot_limit};
-ghost use Rattle.kc_dump.specs.Dump.{Dumped};
 ghost use Rattle.kc_audit.specs.Findings.{frames_named, lists_named, entries_named, all_entries_named, leaves_named, empty_named, list_name, findings_by, verdicts_of};
 
 use crate::Finding;

@@ -1,7 +1,6 @@
 //! What is wrong with a slot by itself.
-ghost use Rattle.std.specs.Prelude.{◌≡◌, ℕ, ◌<◌, ◌||◌, false, true, length, IsTrue, slice_index_or};
+ghost use Rattle.std.specs.Prelude.{◌≡◌, ◌||◌, false, true};
 ghost use Rattle.kc_model.specs.Resources.{is_in};
-ghost use Rattle.kc_model.specs.Lawful.{has_leaf};
 ghost use Rattle.kc_audit.specs.Findings.{wrong_leaves, wrong_empty, has_double, all_rooted};
 
 use kc_dump::SlotDump;

@@ -1,5 +1,5 @@
 //! Which lists are spelled by their ends and links.
-ghost use Rattle.std.specs.Prelude.{◌≡◌, ℕ, ◌<◌, ◌≤◌, ◌+◌, ◌↔◌, false, length, IsTrue, slice_index_or};
+ghost use Rattle.std.specs.Prelude.{◌≡◌, ◌<◌, ◌≤◌, ◌+◌, ◌↔◌, length, IsTrue};
 ghost use Rattle.kc_types.specs.Limits.{slot_limit};
 ghost use Rattle.kc_dump.specs.Lists.{HasList};
 ghost use Rattle.kc_audit.specs.Counts.{AreOwnerCounts};

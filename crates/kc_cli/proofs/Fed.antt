@@ -1,7 +1,6 @@
 -- Calls that are fed after others.
-use Rattle.std.proofs.Common.{◌≡◌, ◌++◌, ◌∷◌, ◌+◌, ◌≤◌, ◌∙◌, ℕ, zero, suc, take, drop, List, [], length, Option, Some, None, refl, ap, sym, arith, length-append}
+use Rattle.std.proofs.Common.{◌≡◌, ◌++◌, ◌∷◌, ◌+◌, ◌∙◌, ℕ, zero, suc, take, drop, List, [], length, Option, Some, None, refl, ap, sym, arith, length-append}
 use Rattle.std.specs.Prelude.{IsSome, IfSome}
-use Rattle.kc_types.specs.Limits.{call_limit}
 use Rattle.kc_types.specs.declared.call.Call.{Call}
 use Rattle.kc_types.specs.declared.reply.Reply.{Reply}
 use Rattle.kc_types.specs.Configuration.{Configuration}

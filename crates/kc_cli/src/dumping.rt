@@ -1,5 +1,5 @@
 //! The engine that dumps the core that a trace leaves, over any sources and any sink.
-ghost use Rattle.std.specs.Prelude.{◌≡◌, ◌≢◌, ◌⊎◌, ◌∷◌, [], ℕ, take, false, IfErr, IfOk, OnOk, OnErr, Err};
+ghost use Rattle.std.specs.Prelude.{◌≡◌, ◌⊎◌, ◌∷◌, [], ℕ, take, false, IfErr, IfOk, OnOk, Err};
 ghost use Rattle.std.specs.Io.KnownBytes.{Appends};
 ghost use Rattle.kc_dump.specs.Dumping.{dump_of};
 ghost use Rattle.kc_dump_text.specs.DumpText.{dump_text as text_of_dump};

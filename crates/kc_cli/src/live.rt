@@ -1,5 +1,5 @@
 //! The engine that runs a trace live, over any sources and any sink.
-ghost use Rattle.std.specs.Prelude.{◌≡◌, ◌≢◌, ◌<◌, ◌≤◌, ◌⊎◌, ◌↔◌, ◌∷◌, [], ℕ, length, map, take, false, IfOk, IfErr, OnOk, OnErr, Err, IsErrOf};
+ghost use Rattle.std.specs.Prelude.{◌≡◌, ◌<◌, ◌≤◌, ◌⊎◌, ◌↔◌, ◌∷◌, [], ℕ, length, take, false, IfOk, IfErr, OnOk, Err, IsErrOf};
 ghost use Rattle.std.specs.Io.KnownBytes.{Appends};
 ghost use Rattle.kc_types.specs.Limits.{call_limit};
 ghost use Rattle.kc_model.specs.Boot.{boot};

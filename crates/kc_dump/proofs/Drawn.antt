@@ -19,7 +19,7 @@ use Rattle.kc_model.proofs.States.Members.{IsOnce, once-rest, same_number}
 use Rattle.kc_links.specs.Chain.{Links, NamesNeighbours, first_or, unlinked}
 use Rattle.kc_links.proofs.Times.{times-same, times-other, once-first}
 use Rattle.kc_dump.specs.declared.line.FrameLine.{FrameLine}
-use Rattle.kc_dump.specs.Dump.{Dumped, SlotDump, absent_line, line_at, line_owner, line_link, line_links, no_ends, empty_dump, maps}
+use Rattle.kc_dump.specs.Dump.{SlotDump, absent_line, line_at, line_owner, line_links, no_ends, empty_dump, maps}
 use Rattle.kc_dump.specs.Dump as dumps
 use Rattle.kc_dump.specs.Sound.{IsSoundFrame, IsSoundSlot, IsSound}
 use Rattle.kc_dump.specs.Lists.{HasList}

@@ -1,11 +1,8 @@
 //! The dump of a core.
-ghost use Rattle.std.specs.Prelude.{◌≡◌, ◌<◌, IfOk, map};
-ghost use Rattle.std.specs.List.{range_with_len};
-ghost use Rattle.sha2.specs.Sha256.{sha256};
+ghost use Rattle.std.specs.Prelude.{◌≡◌, ◌<◌, IfOk};
 ghost use Rattle.kc_types.specs.Configuration.{slot_count};
-ghost use Rattle.kc_model.specs.State.{frame_at, slot_at};
-ghost use Rattle.kc_model.specs.Links.{link_at};
-ghost use Rattle.kc_dump.specs.Dumping.{digests_of, frame_line, frame_lines, slot_dump, slot_dumps, dump_of};
+ghost use Rattle.kc_model.specs.State.{slot_at};
+ghost use Rattle.kc_dump.specs.Dumping.{digests_of, frame_lines, slot_dump, slot_dumps, dump_of};
 ghost use Rattle.kc_dump.specs.Sound.{IsSound};
 
 use crate::{Dump, FrameLine, SlotDump};

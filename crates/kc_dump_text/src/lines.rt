@@ -1,7 +1,6 @@
 //! The lines of a dump, for which there is room.
-ghost use Rattle.std.specs.Prelude.{◌≡◌, ◌≤◌, ◌+◌, ◌++◌, ◌∷◌, [], codes, length, vec_len, vec_capacity};
+ghost use Rattle.std.specs.Prelude.{◌≡◌, ◌≤◌, ◌+◌, ◌++◌, ◌∷◌, [], length, vec_len, vec_capacity};
 ghost use Rattle.std.specs.Fmt.{decimal};
-ghost use Rattle.hex.specs.Hex.{encode_lower};
 ghost use Rattle.kc_dump_text.specs.DumpText.{spaced, or_dash, bit, phase_word, owner_word, ends_words, line, frame_rest, spell};
 ghost use Rattle.kc_dump_text.specs.declared.dump_line.DumpLine.TheVariants.{FreeOf, VmOf, FrameOf};
 

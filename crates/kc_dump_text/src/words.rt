@@ -1,7 +1,7 @@
 //! Words of a dump's line.
 ghost use Rattle.std.specs.Prelude.{◌≡◌};
 ghost use Rattle.kc_types.specs.Limits.{frame_limit, slot_limit, gfn_limit};
-ghost use Rattle.kc_dump_text.specs.Words.{under, below_of, or_dash_of, bit_of, phase_of, owner_of, digest_in, ends_of_words};
+ghost use Rattle.kc_dump_text.specs.Words.{under, or_dash_of, bit_of, phase_of, owner_of, digest_in, ends_of_words};
 
 use kc_lines::{decode_into, read_number};
 use kc_types::{Ends, FrameNo, Gfn, Owner, Phase, VmId};

@@ -49,7 +49,7 @@ impl Book {
         })
     }
 
-    /// Makes one call, which the history then has with its reply. Nothing here takes memory. The one fault is
+    /// Makes one call, which the history then has with its reply. No want of memory can come here. The one fault is
     /// `HistoryFull`, which comes exactly where the history has 65,536 calls.
     pub fn step(&mut self, ready: Ready) -> Result<Receipt, LiveFault>
         ensures receipt { IfOk result (λ r. r ≡ receipt_of self.old ready) }
@@ -119,7 +119,7 @@ impl Model for History {
 }
 
 impl History {
-    ghost use Rattle.kc_history.specs.Book.{IsLegal, calls_of, end_state};
+    ghost use Rattle.kc_history.specs.Book.{IsLegal, end_state};
 
     /// The configuration of the core.
     pub fn config(&self) -> &Config

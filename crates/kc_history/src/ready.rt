@@ -9,10 +9,11 @@ use kc_types::{Call, Memory, ReplyBuffer};
 use std::alloc::Global;
 use std::marker::Model;
 
-/// A call with all that making it takes of memory: a copy of it, since history and receipt each hold the call, and
-/// room for its reply twice.
+/// A call with all that making it takes of memory. History and receipt each hold the call and its reply, and share the
+/// bytes of both; a second buffer is there for the case that the reply's cannot be shared.
 #[derive(Debug, Drop)]
 pub struct Ready {
+    alloc: Global,
     call: Call,
     copy: Call,
     buffer: ReplyBuffer,
@@ -36,10 +37,11 @@ impl Ready {
         // No clause can rule out want of memory: tests make calls ready.
         ensures { IfOk result (λ ready. ready ≡ call) }
     {
-        let copy = call.copy()?;
+        let (call, copy) = call.share(alloc)?;
         let buffer = call.reply_buffer(alloc)?;
         let copy_buffer = call.reply_buffer(alloc)?;
         Ok(Ready {
+            alloc,
             call,
             copy,
             buffer,
@@ -47,20 +49,21 @@ impl Ready {
         })
     }
 
-    /// Makes the call of a core, which takes no memory: what the history keeps of it, and the receipt.
+    /// Makes the call of a core, for which no want of memory can come: what the history keeps of it, and the receipt.
     pub fn make(self, core: &mut KCore, number: u32) -> (Entry, Receipt)
         ensures entry { result.0 ≡ entry self (next core.old self).0 }
         ensures receipt { result.1 ≡ record { number = number; call = self; reply = (next core.old self).0 } }
         ensures state { core.new ≡ (next core.old self).1 }
     {
         let Ready {
+            alloc,
             call,
             copy,
             buffer,
             copy_buffer,
         } = self;
         let reply = core.answer(&call, buffer);
-        let told = reply.copy_into(copy_buffer);
+        let (reply, told) = reply.share(alloc, copy_buffer);
         let receipt = Receipt {
             number,
             call,

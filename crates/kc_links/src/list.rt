@@ -1,5 +1,5 @@
 //! Frames put into lists and taken out of them.
-ghost use Rattle.std.specs.Prelude.{◌≡◌, ℕ, ◌+◌, ◌<◌, List, [], ◌∷◌, ◌++◌, Option, Some, None, IsSome, IfSome, MatchOption};
+ghost use Rattle.std.specs.Prelude.{◌≡◌, ◌+◌, ◌<◌, [], ◌∷◌, ◌++◌, Option, Some, None, IfSome, MatchOption};
 ghost use Rattle.kc_links.specs.Chain.{pointing_forward, pointing_back, unlinked, Holds};
 ghost use Rattle.kc_links.specs.Ending.{listed, IsList, KeepsOthers, AreApart, starting, stopping};
 ghost use Rattle.kc_model.specs.Lawful.{times_in};

@@ -1,5 +1,5 @@
 //! The parts that a core starts with.
-ghost use Rattle.std.specs.Prelude.{◌≡◌, ◌<◌, ◌+◌, ◌≤◌, map, replicate, Some, true, IfOk, vec_len};
+ghost use Rattle.std.specs.Prelude.{◌≡◌, ◌<◌, ◌+◌, map, replicate, Some, true, IfOk};
 ghost use Rattle.std.specs.List.{range_with_len};
 ghost use Rattle.kc_types.specs.Configuration.{slot_count};
 ghost use Rattle.kc_model.specs.Boot.{boot_owner};

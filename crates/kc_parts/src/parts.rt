@@ -1,12 +1,12 @@
 //! Pages, slots and the ends of the free list, taken out and put back.
-ghost use Rattle.std.specs.Prelude.{◌≡◌, ◌↔◌, ℕ, ◌<◌, IsTrue, is_some, length, get_or, slice_get, IsSome, IfSome, IfOk, OnOk, OnErr, Option, Some, None, map, cond, true, false, replicate};
+ghost use Rattle.std.specs.Prelude.{◌≡◌, ◌↔◌, ℕ, ◌<◌, IsTrue, is_some, length, get_or, slice_get, IsSome, IfOk, OnOk, OnErr, Option, Some, None, map, cond, true, false, replicate};
 ghost use Rattle.std.specs.List.{range_with_len};
 ghost use Rattle.std.specs.Option.{option_copied, option_copied_mut};
 ghost use Rattle.std.specs.Borrow.{sem};
 ghost use Rattle.kc_page.specs.Page.{scrubbed_page};
 ghost use Rattle.kc_parts.specs.Parts.{IsRising};
 
-use crate::Room;
+use crate::PlaceCounts;
 use crate::blank::Blank;
 use crate::boot::{all_filled, all_numbers, boot_ends, boot_pages};
 use crate::place::place_of;

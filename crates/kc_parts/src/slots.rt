@@ -3,7 +3,7 @@ ghost use Rattle.std.specs.Prelude.{◌≡◌, ℕ, [], ◌∷◌, length, repli
 ghost use Rattle.std.specs.Option.{option_copied, option_copied_mut};
 ghost use Rattle.std.specs.Borrow.{sem};
 ghost use Rattle.kc_vms.specs.Vm.{VmSlot};
-ghost use Rattle.kc_parts.specs.Parts.{IsRising, HasPlace, is_among, place_of, held_slot};
+ghost use Rattle.kc_parts.specs.Parts.{IsRising, HasPlace, place_of, held_slot};
 ghost use Rattle.kc_parts.specs.Booting.{boot_slots};
 ghost use Rattle.kc_parts.specs.Lending.{LendsSlot};
 ghost use Rattle.kc_parts.specs.Cuts.{either};

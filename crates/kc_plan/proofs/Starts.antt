@@ -1,10 +1,9 @@
 use Rattle.std.proofs.Common.{◌≡◌, ℕ, zero, suc, ◌+◌, ◌<◌, Bool, true, false, ◌&&◌, ◌||◌, List, [], length, get_or, set, take, replicate, refl, sym, ◌∙◌, ap, subst, arith, inl}
-use Rattle.std.specs.Prelude.{◌⊎◌, eqb}
+use Rattle.std.specs.Prelude.{eqb}
 use Rattle.std.proofs.lemmas.List.{get_or-set_same, get_or-set_other}
 use Rattle.std.proofs.lemmas.List.Folds.{list_any_more}
 use Rattle.std.proofs.Math.ListN.{length-set, length-replicate}
 use Rattle.std.proofs.lemmas.Map.Keys.{IsDistinct-from_apart}
-use Rattle.kc_plan.specs.Reach.{is_in}
 use Rattle.kc_plan.proofs.Shapes.{same_number, equal}
 use Rattle.kc_plan.specs.Members.{with_member}
 use Rattle.kc_plan.specs.Planner.{Reached, is_near, HasOneOwnerEach, AreUnrelated, AreOwned, IsStart}

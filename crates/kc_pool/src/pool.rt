@@ -1,5 +1,5 @@
 //! The pool that a VM's leaf tables come from.
-ghost use Rattle.std.specs.Prelude.{◌≡◌, ℕ, ◌+◌, ◌*◌, ◌<◌, ◌≤◌, Option, Some, None, length, map, IfOk, MatchOption, vec_len};
+ghost use Rattle.std.specs.Prelude.{◌≡◌, ◌+◌, ◌*◌, ◌<◌, ◌≤◌, Option, Some, None, map, IfOk, MatchOption};
 ghost use Rattle.kc_types.specs.Limits.{leaf_entries, leaf_limit};
 ghost use Rattle.kc_pool.specs.TablePool.{Pool, IsPool, new_pool, entry_at, with_cell, with_taken_leaf, emptied};
 
@@ -17,7 +17,7 @@ pub struct TablePool {
 }
 
 impl Model for TablePool {
-    ghost use Rattle.std.specs.Prelude.{◌≡◌, ◌*◌, ◌≤◌, vec_len};
+    ghost use Rattle.std.specs.Prelude.{◌≡◌, ◌*◌, ◌≤◌};
     ghost use Rattle.kc_pool.specs.TablePool.{Pool, IsPool};
 
     ghost Value = { Pool };

@@ -37,7 +37,6 @@ use Rattle.kc_core.specs.KCore.{IsCore}
 use Rattle.kc_parts.specs.Restricted.{seen_link, seen_part, seen_at, exists_in, IsRestricted}
 use Rattle.kc_model.specs.Footprints.{call_at, state_at}
 use Rattle.kc_model.proofs.Lawful.LawfulTraces.{lawful-at}
-use Rattle.kc_types.specs.declared.call.Call.TheVariants.{Take}
 use Rattle.kc_parts.specs.Cuts.{IsSplit, AreHere, is_wanted}
 use Rattle.kc_calls.specs.Applying.{IsAble, IsAnswer}
 use Rattle.kc_replay.specs.declared.task.Task.{Task}

@@ -60,13 +60,28 @@ fn copies_of_configurations_are_equal(rt: HostRuntime) -> Result<(), Fail> {
 }
 
 #[test]
-fn room_holds_a_reply(rt: HostRuntime) -> Result<(), Fail> {
+fn shared_calls_are_equal(rt: HostRuntime) -> Result<(), Fail> {
+    let call = Call::HostWrite {
+        frame: 1,
+        offset: 2,
+        data: abc(rt.alloc())?,
+    };
+    let (call, other) = call.share(rt.alloc())?;
+    assert!(rt; call == other);
+    assert!(rt; is_copied_call(&other)?);
+    Ok(())
+}
+
+#[test]
+fn shared_replies_are_equal(rt: HostRuntime) -> Result<(), Fail> {
     let call = Call::HostRead {
         frame: 1,
         offset: 0,
         len: PAGE_SIZE,
     };
     let buffer = call.reply_buffer(rt.alloc())?;
-    assert_eq!(rt; Reply::Fault(7).copy_into(buffer), Reply::Fault(7));
+    let (reply, other) = Reply::Fault(7).share(rt.alloc(), buffer);
+    assert_eq!(rt; reply, Reply::Fault(7));
+    assert_eq!(rt; other, Reply::Fault(7));
     Ok(())
 }

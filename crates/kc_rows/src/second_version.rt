@@ -1,5 +1,5 @@
 //! The second version: more frames, and texts of both versions. What its calls do: `stories/ranges.rt`.
-use crate::support::{SMALL, gives};
+use crate::support::gives;
 use kc_cli::TextFault;
 use kc_trace::{ConfigTextFault, TraceFault, read_trace, write_trace};
 use kc_types::{Call, Config, ConfigFault};

@@ -1,9 +1,8 @@
 //! The root and the leaves as they stand in memory.
-ghost use Rattle.std.specs.Prelude.{◌≡◌, ℕ, ◌+◌, ◌/◌, ◌<◌, ◌≤◌, Some, List, [], length, map, replicate, IfOk, MatchOption, slice_index_or, None};
+ghost use Rattle.std.specs.Prelude.{◌≡◌, ◌<◌, ◌≤◌, Some, map, replicate, IfOk, slice_index_or, None};
 ghost use Rattle.kc_types.specs.Limits.{leaf_entries, leaf_limit};
 ghost use Rattle.kc_pool.specs.TablePool.{emptied};
-ghost use Rattle.kc_stage2.specs.Stage2.{Table, new_table};
-ghost use Rattle.kc_stage2.specs.Levels.{look_up};
+ghost use Rattle.kc_stage2.specs.Stage2.{new_table};
 ghost use Rattle.kc_stage2.specs.TwoLevels.{IsLevels, table_of, Led};
 
 use kc_pool::{LeafNo, TablePool};

@@ -1,6 +1,5 @@
 //! The two levels, seen as a finite map.
-ghost use Rattle.std.specs.Prelude.{◌≡◌, ℕ, ◌/◌, ◌≤◌, IfOk, OnOk, OnErr};
-ghost use Rattle.std.specs.Ordering.{nat_cmp};
+ghost use Rattle.std.specs.Prelude.{◌≡◌, ◌/◌, ◌≤◌, IfOk, OnOk, OnErr};
 ghost use Rattle.std.specs.FinMap as finite;
 ghost use Rattle.kc_types.specs.Limits.{leaf_limit};
 ghost use Rattle.kc_stage2.specs.Stage2.{Table, new_table, with_mapping, fits};

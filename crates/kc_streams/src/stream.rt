@@ -13,7 +13,6 @@ use kc_trace::{TraceFault, TraceReader};
 use kc_types::Call;
 use std::alloc::Global;
 use std::marker::Model;
-use std::mem::replace;
 use thiserror::Error;
 
 /// Why the calls of a source are not all read.

@@ -1,10 +1,9 @@
 -- Reading byte after byte, as a loop does.
-use Rattle.std.proofs.Common.{◌≡◌, ℕ, zero, suc, ◌+◌, ◌<◌, ◌≤◌, Bool, true, false, cond, List, [], ◌∷◌, ◌++◌, length, get_or, take, drop, Option, Some, None, Result, Ok, Err, refl, sym, ap, ◌∙◌, append_assoc, arith, length-append, length-drop, inl, inr, ◌-◌}
-use Rattle.std.specs.Prelude.{◌==◌, not, nat_lt, position}
-use Rattle.std.specs.List.{list_all, prefix_len, position_or_len}
-use Rattle.std.proofs.lemmas.Bool.{and_parts, and_from, not-true, eqb-true, cases_Bool, cases_lt, lt-ltb, le-ltb, ltb-true, ltb-false, lt-leb, le-leb}
-use Rattle.std.proofs.lemmas.List.{append-nil, take_all, drop_all}
-use Rattle.std.proofs.lemmas.List.Sums.{passes_at_first, split_at_first}
+use Rattle.std.proofs.Common.{◌≡◌, ℕ, ◌+◌, ◌<◌, ◌≤◌, Bool, true, false, cond, List, [], ◌∷◌, ◌++◌, length, get_or, take, drop, Option, Some, None, Result, Ok, Err, refl, sym, ap, ◌∙◌, append_assoc, arith, length-append, inl, inr, ◌-◌}
+use Rattle.std.specs.Prelude.{◌==◌, not}
+use Rattle.std.specs.List.{list_all}
+use Rattle.std.proofs.lemmas.Bool.{and_parts, not-true, cases_lt, lt-ltb, le-ltb, lt-leb, le-leb}
+use Rattle.std.proofs.lemmas.List.{append-nil, drop_all}
 use Rattle.kc_types.specs.Limits.{call_limit}
 use Rattle.kc_types.specs.declared.version.Version.{Version}
 use Rattle.kc_types.specs.declared.call.Call.{Call}

@@ -1,6 +1,5 @@
 //! One line as a call.
-ghost use Rattle.std.specs.Prelude.{◌≡◌, ◌==◌, [], ◌∷◌, IfOk, MatchOption};
-ghost use Rattle.std.specs.List.{slice_split};
+ghost use Rattle.std.specs.Prelude.{◌≡◌, ◌==◌, IfOk};
 ghost use Rattle.kc_trace.specs.Reading.{one_word, with_one_number, with_two_numbers, with_three_numbers, with_four_numbers, two_words, three_words, host_access, four_words, five_words, read_guest_access, six_words, call_of_words, call_of};
 
 use kc_lines::{read_data, read_number, split_word};

@@ -1,9 +1,16 @@
 -- Bytes that a call may read or write.
 use Rattle.std.specs.Prelude.{ℕ, ◌≤◌, ◌<◌, List, length, All}
 use Rattle.kc_types.specs.Limits.{page_size}
+use Rattle.kc_types.specs.declared.data.Owned.{Owned}
+use Rattle.kc_types.specs.declared.data.Owned.TheVariants.{Alone, Shared}
 
 -- between one byte and a whole page of bytes
 pub record IsData (bytes : List ℕ) : Type 0 where
   pub nonempty : 0 < length bytes
   pub within : length bytes ≤ page_size
   pub each_byte : All (λ b. b < 256) bytes
+
+-- the bytes, whether one value owns them or several
+abbrev pub owned_bytes : Owned → List ℕ
+owned_bytes (Alone bytes) = bytes.items
+owned_bytes (Shared bytes) = bytes.value.items

@@ -3,6 +3,7 @@ ghost use Rattle.std.specs.Prelude.{◌≡◌, IfOk};
 ghost use Rattle.kc_types.specs.Actors.{actor};
 
 use crate::{Data, Memory};
+use std::alloc::Global;
 
 /// A call with its raw numbers, which are judged when it is answered: frames, slots (`vm`), virtual processors
 /// (`vcpu`), guest frames (`gfn`, `base`), images, and offsets and lengths in bytes. Two are equal where they
@@ -250,5 +251,66 @@ impl Call {
             },
             Call::Clear { vm } => Call::Clear { vm: *vm },
         })
+    }
+
+    /// The same call twice, which share their bytes; `Memory` where a growth was refused.
+    pub fn share(self, alloc: Global) -> Result<(Call, Call), Memory>
+        // No clause can rule out want of memory: tests make calls live.
+        ensures { IfOk result (λ both. (both.0 ≡ self) × (both.1 ≡ self)) }
+    {
+        match self {
+            Call::HostWrite {
+                frame,
+                offset,
+                data,
+            } => {
+                let Ok((data, other)) = data.share(alloc) else {
+                    return Err(Memory);
+                };
+                Ok((
+                    Call::HostWrite {
+                        frame,
+                        offset,
+                        data,
+                    },
+                    Call::HostWrite {
+                        frame,
+                        offset,
+                        data: other,
+                    },
+                ))
+            },
+            Call::GuestWrite {
+                vm,
+                vcpu,
+                gfn,
+                offset,
+                data,
+            } => {
+                let Ok((data, other)) = data.share(alloc) else {
+                    return Err(Memory);
+                };
+                Ok((
+                    Call::GuestWrite {
+                        vm,
+                        vcpu,
+                        gfn,
+                        offset,
+                        data,
+                    },
+                    Call::GuestWrite {
+                        vm,
+                        vcpu,
+                        gfn,
+                        offset,
+                        data: other,
+                    },
+                ))
+            },
+            call => {
+                let other = call.copy()?;
+                Ok((call, other))
+            },
+        }
     }
 }

@@ -1,23 +1,35 @@
 //! The bytes of one read or write.
-ghost use Rattle.std.specs.Prelude.{◌≡◌, ℕ, ◌<◌, ◌≤◌, List, length, ◌↔◌, IsSome, IfSome, IfOk};
+ghost use Rattle.std.specs.Prelude.{◌≡◌, ℕ, ◌<◌, ◌≤◌, List, length, ◌↔◌, IsSome, IfSome, IfOk, MatchResult};
 ghost use Rattle.kc_types.specs.Limits.{page_size};
 ghost use Rattle.kc_types.specs.Bytes.{IsData};
 
 use crate::{Memory, PAGE_SIZE};
+use std::alloc::Global;
 use std::marker::Model;
+use std::sync::Arc;
+
+/// Bytes that one value owns, or several.
+#[derive(Debug, Drop)]
+enum Owned {
+    Alone(Vec<u8>),
+    Shared(Arc<Vec<u8>>),
+}
 
 /// One byte to a whole page of 4,096 bytes, seen as the list of them. Two are equal where their bytes are.
 #[derive(Debug, Drop)]
 pub struct Data {
-    bytes: Vec<u8>,
+    bytes: Owned,
 }
 
 impl Model for Data {
+    ghost use Rattle.std.specs.Prelude.{ℕ, List};
+    ghost use Rattle.kc_types.specs.Bytes.{IsData, owned_bytes};
+
     ghost Value = { List ℕ };
 
-    ghost view = { λ d. d.bytes.items };
+    ghost view = { λ d. owned_bytes d.bytes };
 
-    ghost invariant = { λ d. IsData d.bytes.items };
+    ghost invariant = { λ d. IsData (owned_bytes d.bytes) };
 }
 
 impl Data {
@@ -29,7 +41,9 @@ impl Data {
         if bytes.is_empty() || bytes.len() > PAGE_SIZE as usize {
             None
         } else {
-            Some(Data { bytes })
+            Some(Data {
+                bytes: Owned::Alone(bytes),
+            })
         }
     }
 
@@ -38,7 +52,10 @@ impl Data {
         ensures value { result.now ≡ self.now }
         ensures within { IsData self.now }
     {
-        self.bytes.as_slice()
+        match &self.bytes {
+            Owned::Alone(bytes) => bytes.as_slice(),
+            Owned::Shared(bytes) => bytes.as_slice(),
+        }
     }
 
     /// A copy, or `Memory` where a growth was refused.
@@ -46,9 +63,42 @@ impl Data {
         // No clause can rule out want of memory: a test makes a copy.
         ensures { IfOk result (λ made. made ≡ self.now) }
     {
-        Ok(Data {
-            bytes: self.bytes.clone()?,
-        })
+        let bytes = match &self.bytes {
+            Owned::Alone(bytes) => Owned::Alone(bytes.clone()?),
+            Owned::Shared(bytes) => Owned::Shared(Arc::try_clone(bytes)?),
+        };
+        Ok(Data { bytes })
+    }
+
+    /// The same bytes for two owners, which share them. The data are handed back where the growth that sharing takes
+    /// was refused.
+    pub fn share(self, alloc: Global) -> Result<(Data, Data), Data>
+        // No clause can rule out want of memory: tests share data.
+        ensures { MatchResult result (λ both. (both.0 ≡ self) × (both.1 ≡ self)) (λ back. back ≡ self) }
+    {
+        let Data { bytes } = self;
+        let shared = match bytes {
+            Owned::Shared(bytes) => bytes,
+            Owned::Alone(bytes) => match Arc::new(alloc, bytes) {
+                Ok(shared) => shared,
+                Err(refused) => return Err(Data {
+                    bytes: Owned::Alone(refused.value),
+                }),
+            },
+        };
+        match Arc::try_clone(&shared) {
+            Ok(other) => Ok((
+                Data {
+                    bytes: Owned::Shared(shared),
+                },
+                Data {
+                    bytes: Owned::Shared(other),
+                },
+            )),
+            Err(_) => Err(Data {
+                bytes: Owned::Shared(shared),
+            }),
+        }
     }
 }
 
@@ -63,6 +113,6 @@ impl PartialEq for Data {
     ghost laws = { Prim.search (comparing, rules) };
 
     fn eq(&self, other: &Data) -> bool {
-        self.bytes == other.bytes
+        self.as_slice() == other.as_slice()
     }
 }

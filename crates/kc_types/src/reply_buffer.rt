@@ -79,19 +79,27 @@ impl Call {
 }
 
 impl Reply {
-    /// A copy of the reply in a buffer made before, which takes no memory.
-    pub fn copy_into(&self, buffer: ReplyBuffer) -> Reply
-        requires { bytes_in self.now ≤ buffer }
-        ensures { result ≡ self.now }
+    /// The same reply twice, which share their bytes. Where a growth for that was refused they are copied into a buffer
+    /// made before, so that it comes to no want of memory.
+    pub fn share(self, alloc: Global, buffer: ReplyBuffer) -> (Reply, Reply)
+        requires { bytes_in self ≤ buffer }
+        ensures reply { result.0 ≡ self }
+        ensures other { result.1 ≡ self }
     {
         match self {
-            Reply::Done => Reply::Done,
-            Reply::Frame(frame) => Reply::Frame(*frame),
-            Reply::Image(image) => Reply::Image(*image),
-            Reply::Data(data) => Reply::Data(buffer.filled(data.as_slice())),
-            Reply::Fault(gfn) => Reply::Fault(*gfn),
-            Reply::Rejected(image) => Reply::Rejected(*image),
-            Reply::Refused(refusal) => Reply::Refused(*refusal),
+            Reply::Data(data) => match data.share(alloc) {
+                Ok((data, other)) => (Reply::Data(data), Reply::Data(other)),
+                Err(data) => {
+                    let copy = buffer.filled(data.as_slice());
+                    (Reply::Data(data), Reply::Data(copy))
+                },
+            },
+            Reply::Done => (Reply::Done, Reply::Done),
+            Reply::Frame(frame) => (Reply::Frame(frame), Reply::Frame(frame)),
+            Reply::Image(image) => (Reply::Image(image), Reply::Image(image)),
+            Reply::Fault(gfn) => (Reply::Fault(gfn), Reply::Fault(gfn)),
+            Reply::Rejected(image) => (Reply::Rejected(image), Reply::Rejected(image)),
+            Reply::Refused(refusal) => (Reply::Refused(refusal), Reply::Refused(refusal)),
         }
     }
 }

@@ -1,5 +1,5 @@
 -- A VM slot as a value, what it keeps by itself, and how it changes.
-use Rattle.std.specs.Prelude.{ℕ, ◌≡◌, ◌≤◌, ◌+◌, List, [], ◌∷◌, ◌++◌, length, All, Option, slice_index_or, slice_set}
+use Rattle.std.specs.Prelude.{ℕ, ◌≡◌, ◌≤◌, List, [], length, All, slice_index_or}
 use Rattle.kc_types.specs.Limits.{vcpu_limit, image_limit}
 use Rattle.kc_types.specs.declared.slot.Phase.{Phase}
 use Rattle.kc_types.specs.declared.slot.Phase.TheVariants.{Empty}

@@ -10,7 +10,7 @@ use Rattle.kc_calls.proofs.Frames.{places-through}
 use Rattle.kc_calls.proofs.Answered.{answer-refused, answer-served}
 use Rattle.kc_calls.proofs.Sharing.{mapped-still, page-still, each-one, one-done, all-done, share-more, few-ranged}
 use Rattle.kc_calls.proofs.shares.grant_range.Goals as goal
-use Rattle.kc_calls.proofs.shares.grant_range.Goals.{In-Ok, In-loop-at, After-frame_under-frame}
+use Rattle.kc_calls.proofs.shares.grant_range.Goals.{In-loop-at}
 
 call : (c : In-loop-at) → IsRangeCall (state_of c.args.config.now c.args.parts.now) c.args.vm c.args.vcpu c.args.gfn c.args.count
 call c = (guest_range-served (state_of c.args.config.now c.args.parts.now) c.args.vm c.args.vcpu c.args.gfn c.args.count _ c.in-Ok.ensures).0

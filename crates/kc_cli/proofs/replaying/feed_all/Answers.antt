@@ -1,4 +1,4 @@
-use Rattle.std.proofs.Common.{◌≡◌, ◌++◌, ◌∙◌, ap, sym, append_assoc, arith, rules, length, length-append}
+use Rattle.std.proofs.Common.{◌≡◌, ◌++◌, ◌∙◌, ap, sym, append_assoc, arith, length, length-append}
 use Rattle.kc_cli.proofs.Fed.{fed_more, still_whole, front_and_rest}
 use Rattle.kc_cli.proofs.replaying.feed_all.Goals as goal
 

@@ -1,4 +1,4 @@
-use Rattle.std.proofs.Common.{arith, rules}
+use Rattle.std.proofs.Common.{rules}
 use Rattle.kc_plan.proofs.Added.{same_flags, more_false}
 use Rattle.kc_plan.proofs.reach_sets.make_room.Goals as goal
 

@@ -1,6 +1,4 @@
 use Rattle.std.proofs.Common.{rules, ◌≡◌, Some, ap}
-use Rattle.kc_model.specs.State.{State}
-use Rattle.kc_model.specs.Next.{state_after}
 use Rattle.kc_replay.proofs.replayer.Replayer.feed.Goals as goal
 
 pub returns-in-Ok-clause-fed : goal.returns-in-Ok-clause-fed
