@@ -1,10 +1,11 @@
 -- The line and the exit status of each fault.
 use Rattle.std.specs.Prelude.{ℕ, List, [], ◌++◌, codes, decimal, Option, Some, None}
-use Rattle.kc_types.specs.declared.config.ConfigFault.TheVariants.{Frames, CoreHost, Leaves, TooManyDigests}
+use Rattle.kc_trace.specs.Faults.{config_fault_words, trace_fault_words}
 use Rattle.kc_trace.specs.declared.config_text.ConfigTextFault.{ConfigTextFault}
 use Rattle.kc_trace.specs.declared.config_text.ConfigTextFault.TheVariants as configs
 use Rattle.kc_trace.specs.declared.fault.TraceFault.{TraceFault}
 use Rattle.kc_trace.specs.declared.fault.TraceFault.TheVariants as traces
+use Rattle.kc_dump_text.specs.Faults.{dump_fault_words, dump_fault_end}
 use Rattle.kc_dump_text.specs.declared.fault.DumpFault.{DumpFault}
 use Rattle.kc_dump_text.specs.declared.fault.DumpFault.TheVariants as dumps
 use Rattle.kc_live.specs.declared.fault.LiveCause.{LiveCause}
@@ -62,58 +63,36 @@ status_of (texts.BadActor program) = 2
 status_of texts.Read = 3
 status_of texts.Write = 3
 
-abbrev pub config_words_of : ConfigTextFault → List ℕ
-config_words_of configs.NotJson = codes "kcore: configuration is not JSON"
-config_words_of configs.BadShape = codes "kcore: configuration has a wrong shape"
-config_words_of (configs.Config Frames) = codes "kcore: configuration refused: frames"
-config_words_of (configs.Config CoreHost) = codes "kcore: configuration refused: core and host"
-config_words_of (configs.Config Leaves) = codes "kcore: configuration refused: leaves"
-config_words_of (configs.Config TooManyDigests) = codes "kcore: configuration refused: approved"
-config_words_of configs.Memory = codes "kcore: out of memory"
-
-abbrev pub trace_words_of : TraceFault → List ℕ
-trace_words_of traces.NoHeader = codes "kcore: no trace header"
-trace_words_of (traces.BadLine number) = codes "kcore: bad trace line "
-trace_words_of traces.NoNewline = codes "kcore: last trace line has no newline"
-trace_words_of traces.TooManyCalls = codes "kcore: too many calls"
-trace_words_of traces.Memory = codes "kcore: out of memory"
-
-abbrev pub dump_words_of : DumpFault → List ℕ
-dump_words_of dumps.NoHeader = codes "kcore: no dump header"
-dump_words_of (dumps.BadLine number) = codes "kcore: bad dump line "
-dump_words_of (dumps.Frame frame) = codes "kcore: dump frame "
-dump_words_of dumps.Memory = codes "kcore: out of memory"
-
--- a line up to its number, or to its end where it has none
+-- what is wrong, up to a number, if it has one
 abbrev pub fault_words : TextFault → List ℕ
-fault_words (texts.Config fault) = config_words_of fault
-fault_words (texts.Trace fault) = trace_words_of fault
-fault_words (texts.Dump fault) = dump_words_of fault
-fault_words texts.Workers = codes "kcore: bad number of workers"
-fault_words texts.Memory = codes "kcore: out of memory"
-fault_words texts.Start = codes "kcore: a worker could not be started"
-fault_words texts.Unsettled = codes "kcore: history not settled"
-fault_words (texts.BadActor program) = codes "kcore: bad actor of program "
-fault_words texts.Read = codes "kcore: read failed"
-fault_words texts.Write = codes "kcore: write failed"
+fault_words (texts.Config fault) = config_fault_words fault
+fault_words (texts.Trace fault) = trace_fault_words fault
+fault_words (texts.Dump fault) = dump_fault_words fault
+fault_words texts.Workers = codes "bad number of workers"
+fault_words texts.Memory = codes "out of memory"
+fault_words texts.Start = codes "a worker could not be started"
+fault_words texts.Unsettled = codes "history not settled"
+fault_words (texts.BadActor program) = codes "bad actor of program "
+fault_words texts.Read = codes "read failed"
+fault_words texts.Write = codes "write failed"
 
--- the number in a line
-abbrev pub line_number_of : TextFault → Option ℕ
-line_number_of (texts.Trace (traces.BadLine number)) = Some number
-line_number_of (texts.Dump (dumps.BadLine number)) = Some number
-line_number_of (texts.Dump (dumps.Frame frame)) = Some frame
-line_number_of (texts.BadActor program) = Some program
-line_number_of fault = None
+-- the number of a line, a frame or a program
+abbrev pub fault_number : TextFault → Option ℕ
+fault_number (texts.Trace (traces.BadLine number)) = Some number
+fault_number (texts.Dump (dumps.BadLine number)) = Some number
+fault_number (texts.Dump (dumps.Frame frame)) = Some frame
+fault_number (texts.BadActor program) = Some program
+fault_number fault = None
 
 abbrev pub numeral_of : Option ℕ → List ℕ
 numeral_of None = []
 numeral_of (Some number) = decimal number
 
--- a line behind its number
-abbrev pub tail_of : TextFault → List ℕ
-tail_of (texts.Dump (dumps.Frame frame)) = codes " missing or doubled\n"
-tail_of fault = codes "\n"
+-- what is said behind the number
+abbrev pub fault_end : TextFault → List ℕ
+fault_end (texts.Dump fault) = dump_fault_end fault
+fault_end fault = []
 
 -- the whole line, with the line feed
 abbrev pub fault_line : TextFault → List ℕ
-fault_line fault = fault_words fault ++ numeral_of (line_number_of fault) ++ tail_of fault
+fault_line fault = codes "kcore: " ++ fault_words fault ++ numeral_of (fault_number fault) ++ fault_end fault ++ codes "\n"

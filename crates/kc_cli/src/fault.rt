@@ -1,46 +1,36 @@
 //! What goes wrong between the sources and the sink.
 ghost use Rattle.std.specs.Prelude.{◌≡◌, ◌≤◌, length};
-ghost use Rattle.kc_cli.specs.Faults.{read_fault, text_fault, config_fault, dump_fault, status_of, fault_words, config_words_of, trace_words_of, dump_words_of, line_number_of, tail_of};
+ghost use Rattle.kc_cli.specs.Faults.{read_fault, text_fault, config_fault, dump_fault, status_of, fault_words, fault_number, fault_end};
 
 use kc_dump_text::DumpFault;
 use kc_io::ReadFault;
 use kc_streams::StreamFault;
 use kc_trace::{ConfigTextFault, TraceFault};
-use kc_types::ConfigFault;
-use thiserror::Error;
+use std::error::Error;
+use std::fmt;
 
 /// Why an engine over texts ended without its answer.
-#[derive(Clone, Copy, Debug, PartialEq, Eq, Error)]
+#[derive(Clone, Copy, Debug, PartialEq, Eq)]
 pub enum TextFault {
     /// The configuration's text is refused.
-    #[error("{0}")]
     Config(ConfigTextFault),
     /// The trace is refused.
-    #[error("{0}")]
     Trace(TraceFault),
     /// The dump's text is refused.
-    #[error("{0}")]
     Dump(DumpFault),
     /// The number of workers is 0 or above 64.
-    #[error("bad number of workers")]
     Workers,
     /// A growth of memory was refused.
-    #[error("out of memory")]
     Memory,
     /// A thread could not be started.
-    #[error("a worker could not be started")]
     Start,
     /// The receipts of a live run are not those of its history.
-    #[error("history not settled")]
     Unsettled,
     /// The actor of this program, counted from 0, is none of the core's.
-    #[error("bad actor of program {0}")]
     BadActor(usize),
     /// A source failed, or had too many bytes.
-    #[error("read failed")]
     Read,
     /// A sink failed.
-    #[error("write failed")]
     Write,
 }
 
@@ -111,28 +101,28 @@ impl TextFault {
         }
     }
 
-    /// The words of its line, up to a number or the end.
+    /// What is wrong, up to a number, if it has one.
     pub(crate) const fn words(&self) -> &'static str
         ensures text { result.now ≡ fault_words self.now }
-        ensures short { length result.now ≤ 48 }
+        ensures short { length result.now ≤ 40 }
     {
         match self {
-            TextFault::Config(fault) => config_words(fault),
-            TextFault::Trace(fault) => trace_words(fault),
-            TextFault::Dump(fault) => dump_words(fault),
-            TextFault::Workers => "kcore: bad number of workers",
-            TextFault::Memory => "kcore: out of memory",
-            TextFault::Start => "kcore: a worker could not be started",
-            TextFault::Unsettled => "kcore: history not settled",
-            TextFault::BadActor(_) => "kcore: bad actor of program ",
-            TextFault::Read => "kcore: read failed",
-            TextFault::Write => "kcore: write failed",
+            TextFault::Config(fault) => fault.words(),
+            TextFault::Trace(fault) => fault.words(),
+            TextFault::Dump(fault) => fault.words(),
+            TextFault::Workers => "bad number of workers",
+            TextFault::Memory => "out of memory",
+            TextFault::Start => "a worker could not be started",
+            TextFault::Unsettled => "history not settled",
+            TextFault::BadActor(_) => "bad actor of program ",
+            TextFault::Read => "read failed",
+            TextFault::Write => "write failed",
         }
     }
 
-    /// The number in its line, if it has one.
-    pub(crate) const fn line_number(&self) -> Option<usize>
-        ensures { result ≡ line_number_of self.now }
+    /// The number, if it has one.
+    pub(crate) const fn number(&self) -> Option<usize>
+        ensures { result ≡ fault_number self.now }
     {
         match self {
             TextFault::Trace(TraceFault::BadLine(number)) => Some(*number as usize),
@@ -143,56 +133,26 @@ impl TextFault {
         }
     }
 
-    /// Its line behind the number, with the line feed.
-    pub(crate) const fn tail(&self) -> &'static str
-        ensures text { result.now ≡ tail_of self.now }
-        ensures short { length result.now ≤ 24 }
+    /// What is said behind the number.
+    pub(crate) const fn end(&self) -> &'static str
+        ensures text { result.now ≡ fault_end self.now }
+        ensures short { length result.now ≤ 20 }
     {
         match self {
-            TextFault::Dump(DumpFault::Frame(_)) => " missing or doubled\n",
-            _ => "\n",
+            TextFault::Dump(fault) => fault.end(),
+            _ => "",
         }
     }
 }
 
-const fn config_words(fault: &ConfigTextFault) -> &'static str
-    ensures text { result.now ≡ config_words_of fault.now }
-    ensures short { length result.now ≤ 48 }
-{
-    match fault {
-        ConfigTextFault::NotJson => "kcore: configuration is not JSON",
-        ConfigTextFault::BadShape => "kcore: configuration has a wrong shape",
-        ConfigTextFault::Config(ConfigFault::Frames) => "kcore: configuration refused: frames",
-        ConfigTextFault::Config(ConfigFault::CoreHost) =>
-            "kcore: configuration refused: core and host",
-        ConfigTextFault::Config(ConfigFault::Leaves) => "kcore: configuration refused: leaves",
-        ConfigTextFault::Config(ConfigFault::TooManyDigests) =>
-            "kcore: configuration refused: approved",
-        ConfigTextFault::Memory => "kcore: out of memory",
+impl fmt::Display for TextFault {
+    fn fmt<W: fmt::Write>(&self, f: &mut fmt::Formatter<W>) -> fmt::Result {
+        f.write_str(self.words())?;
+        if let Some(number) = self.number() {
+            write!(f, "{number}")?;
+        }
+        f.write_str(self.end())
     }
 }
 
-const fn trace_words(fault: &TraceFault) -> &'static str
-    ensures text { result.now ≡ trace_words_of fault.now }
-    ensures short { length result.now ≤ 48 }
-{
-    match fault {
-        TraceFault::NoHeader => "kcore: no trace header",
-        TraceFault::BadLine(_) => "kcore: bad trace line ",
-        TraceFault::NoNewline => "kcore: last trace line has no newline",
-        TraceFault::TooManyCalls => "kcore: too many calls",
-        TraceFault::Memory => "kcore: out of memory",
-    }
-}
-
-const fn dump_words(fault: &DumpFault) -> &'static str
-    ensures text { result.now ≡ dump_words_of fault.now }
-    ensures short { length result.now ≤ 48 }
-{
-    match fault {
-        DumpFault::NoHeader => "kcore: no dump header",
-        DumpFault::BadLine(_) => "kcore: bad dump line ",
-        DumpFault::Frame(_) => "kcore: dump frame ",
-        DumpFault::Memory => "kcore: out of memory",
-    }
-}
+impl Error for TextFault {}

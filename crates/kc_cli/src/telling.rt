@@ -13,11 +13,13 @@ fn line(fault: &TextFault) -> ArrayString<96>
     ensures { result.bytes ≡ fault_line fault.now }
 {
     let mut line = ArrayString::new();
+    line.push_str("kcore: ");
     line.push_str(fault.words());
-    if let Some(number) = fault.line_number() {
+    if let Some(number) = fault.number() {
         line.push_str(Buffer::new().format(number));
     }
-    line.push_str(fault.tail());
+    line.push_str(fault.end());
+    line.push_str("\n");
     line
 }
 

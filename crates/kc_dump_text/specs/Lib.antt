@@ -5,3 +5,4 @@ pub mod Words
 pub mod Lines
 pub mod Begun
 pub mod Building
+pub mod Faults

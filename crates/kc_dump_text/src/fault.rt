@@ -1,26 +1,62 @@
 //! Why a text is no dump.
-ghost use Rattle.std.specs.Prelude.{◌≡◌};
+ghost use Rattle.std.specs.Prelude.{◌≡◌, ◌≤◌, length};
+ghost use Rattle.kc_dump_text.specs.Faults.{dump_fault_words, dump_fault_end};
 ghost use Rattle.kc_dump_text.specs.declared.fault.DumpFault.TheVariants.{Memory};
 
 use kc_types::Memory as Want;
-use thiserror::Error;
+use std::error::Error;
+use std::fmt;
 
 /// Why a text is no dump. Lines are taken from the front, and the first fault is answered.
-#[derive(Clone, Copy, Debug, PartialEq, Eq, Error)]
+#[derive(Clone, Copy, Debug, PartialEq, Eq)]
 pub enum DumpFault {
     /// The text does not begin with the header and its newline.
-    #[error("no dump header")]
     NoHeader,
     /// No line of this number may stand there, counted from 1 with the header as the first.
-    #[error("bad dump line {0}")]
     BadLine(u32),
     /// The line of this frame is due, and another frame's stands there, or none.
-    #[error("dump frame {0} missing or doubled")]
     Frame(u32),
     /// A growth of memory was refused.
-    #[error("out of memory")]
     Memory,
 }
+
+impl DumpFault {
+    /// What is wrong; of a line or a frame, what is said before its number.
+    pub const fn words(&self) -> &'static str
+        ensures text { result.now ≡ dump_fault_words self.now }
+        ensures short { length result.now ≤ 40 }
+    {
+        match self {
+            DumpFault::NoHeader => "no dump header",
+            DumpFault::BadLine(_) => "bad dump line ",
+            DumpFault::Frame(_) => "dump frame ",
+            DumpFault::Memory => "out of memory",
+        }
+    }
+
+    /// What is said behind the number.
+    pub const fn end(&self) -> &'static str
+        ensures text { result.now ≡ dump_fault_end self.now }
+        ensures short { length result.now ≤ 20 }
+    {
+        match self {
+            DumpFault::Frame(_) => " missing or doubled",
+            _ => "",
+        }
+    }
+}
+
+impl fmt::Display for DumpFault {
+    fn fmt<W: fmt::Write>(&self, f: &mut fmt::Formatter<W>) -> fmt::Result {
+        f.write_str(self.words())?;
+        if let DumpFault::BadLine(number) | DumpFault::Frame(number) = self {
+            write!(f, "{number}")?;
+        }
+        f.write_str(self.end())
+    }
+}
+
+impl Error for DumpFault {}
 
 impl From<Want> for DumpFault {
     ghost from_gives = { λ _ fault. fault ≡ Memory };

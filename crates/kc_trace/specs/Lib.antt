@@ -4,3 +4,4 @@ pub mod Machine
 pub mod Trace
 pub mod ReplyText
 pub mod ConfigText
+pub mod Faults

@@ -1,7 +1,8 @@
 //! Reading the text of a configuration.
-ghost use Rattle.std.specs.Prelude.{◌≡◌, IfOk, option_map};
+ghost use Rattle.std.specs.Prelude.{◌≡◌, ◌≤◌, length, IfOk, option_map};
 ghost use Rattle.serde_json.specs.View.{view, items_view};
 ghost use Rattle.serde_json.specs.Find.{as_object};
+ghost use Rattle.kc_trace.specs.Faults.{config_fault_words};
 ghost use Rattle.kc_trace.specs.ConfigText.{value_in, number_in, digest_in, digests_in, member_count, fields_in, version_in, shape_in, configured, config_in, Gives};
 
 use hex::FromHex;
@@ -9,26 +10,51 @@ use kc_types::{Config, ConfigFault, Version};
 use serde_json::Value;
 use serde_json::error::Category;
 use std::alloc::{AllocError, Global};
+use std::error::Error;
+use std::fmt;
 use std::marker::Model;
-use thiserror::Error;
 
 /// Why a text is no configuration.
-#[derive(Clone, Copy, Debug, PartialEq, Eq, Error)]
+#[derive(Clone, Copy, Debug, PartialEq, Eq)]
 pub enum ConfigTextFault {
     /// The bytes are not UTF-8 or not JSON, or arrays and objects nest deeper than 127.
-    #[error("configuration is not JSON")]
     NotJson,
     /// A JSON value that is no object of the five keys, or of these and `version`, or with another kind of value
     /// under one of them.
-    #[error("configuration has a wrong shape")]
     BadShape,
     /// There is no configuration of these numbers and digests.
-    #[error("configuration refused: {0}")]
     Config(ConfigFault),
     /// A growth of memory was refused.
-    #[error("out of memory")]
     Memory,
 }
+
+impl ConfigTextFault {
+    /// What is wrong.
+    pub const fn words(&self) -> &'static str
+        ensures text { result.now ≡ config_fault_words self.now }
+        ensures short { length result.now ≤ 40 }
+    {
+        match self {
+            ConfigTextFault::NotJson => "configuration is not JSON",
+            ConfigTextFault::BadShape => "configuration has a wrong shape",
+            ConfigTextFault::Config(ConfigFault::Frames) => "configuration refused: frames",
+            ConfigTextFault::Config(ConfigFault::CoreHost) =>
+                "configuration refused: core and host",
+            ConfigTextFault::Config(ConfigFault::Leaves) => "configuration refused: leaves",
+            ConfigTextFault::Config(ConfigFault::TooManyDigests) =>
+                "configuration refused: approved",
+            ConfigTextFault::Memory => "out of memory",
+        }
+    }
+}
+
+impl fmt::Display for ConfigTextFault {
+    fn fmt<W: fmt::Write>(&self, f: &mut fmt::Formatter<W>) -> fmt::Result {
+        f.write_str(self.words())
+    }
+}
+
+impl Error for ConfigTextFault {}
 
 /// What an object of these keys holds, before it is judged.
 #[derive(Drop)]

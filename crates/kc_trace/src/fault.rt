@@ -1,29 +1,54 @@
 //! Why a trace text is refused.
-ghost use Rattle.std.specs.Prelude.{◌≡◌};
+ghost use Rattle.std.specs.Prelude.{◌≡◌, ◌≤◌, length};
+ghost use Rattle.kc_trace.specs.Faults.{trace_fault_words};
 ghost use Rattle.kc_trace.specs.declared.fault.TraceFault.TheVariants.{Memory};
 
 use std::alloc::{AllocError, AllocFailed};
-use thiserror::Error;
+use std::error::Error;
+use std::fmt;
 
 /// Why a text is no trace. Lines are taken from the front, and the first fault is answered.
-#[derive(Clone, Copy, Debug, PartialEq, Eq, Error)]
+#[derive(Clone, Copy, Debug, PartialEq, Eq)]
 pub enum TraceFault {
     /// The text does not begin with the header and its newline.
-    #[error("no trace header")]
     NoHeader,
     /// The line of this number, counted from 1 with the header as the first, is no call.
-    #[error("bad trace line {0}")]
     BadLine(u32),
     /// Bytes are left behind the last newline.
-    #[error("last trace line has no newline")]
     NoNewline,
     /// Bytes are left behind 65,536 calls.
-    #[error("too many calls")]
     TooManyCalls,
     /// A growth of memory was refused.
-    #[error("out of memory")]
     Memory,
 }
+
+impl TraceFault {
+    /// What is wrong; of a bad line, what is said before its number.
+    pub const fn words(&self) -> &'static str
+        ensures text { result.now ≡ trace_fault_words self.now }
+        ensures short { length result.now ≤ 40 }
+    {
+        match self {
+            TraceFault::NoHeader => "no trace header",
+            TraceFault::BadLine(_) => "bad trace line ",
+            TraceFault::NoNewline => "last trace line has no newline",
+            TraceFault::TooManyCalls => "too many calls",
+            TraceFault::Memory => "out of memory",
+        }
+    }
+}
+
+impl fmt::Display for TraceFault {
+    fn fmt<W: fmt::Write>(&self, f: &mut fmt::Formatter<W>) -> fmt::Result {
+        f.write_str(self.words())?;
+        match self {
+            TraceFault::BadLine(number) => write!(f, "{number}"),
+            _ => Ok(()),
+        }
+    }
+}
+
+impl Error for TraceFault {}
 
 impl From<AllocError> for TraceFault {
     ghost from_gives = { λ _ fault. fault ≡ Memory };
