@@ -29,7 +29,7 @@ pub split_fits : (before : Held) (test : Resource → Bool) (rest taken : Held) 
 split_fits before test rest taken split = record {
   pages = λ f page e.
       let both = some-split page_part (test (resource.Frame f)) (page_at before f) (page_at rest f) (page_at taken f) (λ x y same. cc) (split.taken_is (resource.Frame f)) (split.rest_is (resource.Frame f)) page e in
-      (rw split.places (place-here before.numbers before.here before.pages f (rw both.0 refl)), both.1);
+      (rw split.places (place-here before.numbers before.filled before.pages f (rw both.0 refl)), both.1);
   slots = λ v vm e.
       let both = some-split slot_part (test (resource.Vm v)) (vm_at before v) (vm_at rest v) (vm_at taken v) (λ x y same. cc) (split.taken_is (resource.Vm v)) (split.rest_is (resource.Vm v)) vm e in
       (rw split.slots (place-held before.vms.numbers before.vms.slots v vm both.0), both.1);

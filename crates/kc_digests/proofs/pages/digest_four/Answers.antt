@@ -1,22 +1,23 @@
 use denote.Bor.{Bor}
-use Rattle.std.proofs.Common.{◌≡◌, ◌<◌, ◌∙◌, List, ℕ, [], length, take, get_or, ap, sym, rules, arith}
-use Rattle.std.proofs.lemmas.List.{ext_get_or, get_or-map, length-map, take_all}
+use Rattle.std.proofs.Common.{◌≡◌, List, ℕ, [], ◌∷◌, get_or, length, map, refl, rules, arith}
 use Rattle.sha2.specs.Sha256.{sha256}
 use Rattle.kc_digests.proofs.pages.digest_four.Goals as goal
 
-pub returns : goal.returns
-returns c =
-    let pages = c.args.pages in
-    let none : Bor (List ℕ) = record { ref_ptr = (0, 0); now = [] } in
-    let four : length c.finish.result ≡ 4 = search rules in
-    let given : length pages ≡ 4 = search rules in
-    let out = length-map pages (λ page. sha256 page.now) in
-    ext_get_or [] _ _ (omega (arith, four, given, out)) (λ j lt.
-    let low : j < 4 = omega (arith, four, lt) in
-    let at : j < length pages = omega (arith, given, low) in
-    let page = get_or pages j none in
-    let whole = c.requires j none at in
-    c.finish.ensures j low [] (c.new.ensures j low)
-    ∙ ap (λ (bytes : List ℕ). sha256 (take 4096 bytes)) (get_or-map (λ page. page.now) pages j none [] at)
-    ∙ ap sha256 (take_all 4096 page.now (omega (arith, whole)))
-    ∙ sym (get_or-map (λ page. sha256 page.now) pages j none [] at))
+abbrev no_page : Bor (List ℕ)
+no_page = record { ref_ptr = (0, 0); now = [] }
+
+-- four pages of the same bytes have one digest
+same-four : (pages : List (Bor (List ℕ))) (bytes digest : List ℕ) → length pages ≡ 4 → digest ≡ sha256 bytes
+    → (get_or pages 0 no_page).now ≡ bytes → (get_or pages 1 no_page).now ≡ bytes → (get_or pages 2 no_page).now ≡ bytes → (get_or pages 3 no_page).now ≡ bytes
+    → digest ∷ digest ∷ digest ∷ digest ∷ [] ≡ map (λ page. sha256 page.now) pages
+same-four [] bytes digest four is a b c d = absurd (omega (arith, four))
+same-four (p ∷ []) bytes digest four is a b c d = absurd (omega (arith, four))
+same-four (p ∷ q ∷ []) bytes digest four is a b c d = absurd (omega (arith, four))
+same-four (p ∷ q ∷ r ∷ []) bytes digest four is a b c d = absurd (omega (arith, four))
+same-four (p ∷ q ∷ r ∷ s ∷ []) bytes digest four is a b c d = rw (a, b, c, d, is) refl
+same-four (p ∷ q ∷ r ∷ s ∷ t ∷ rest) bytes digest four is a b c d = absurd (omega (arith, four))
+
+pub returns-then-is_blank-4 : goal.returns-then-is_blank-4
+returns-then-is_blank-4 c =
+    let four : length c.args.pages ≡ 4 = search rules in
+    same-four c.args.pages _ c.args.blank four c.requires.blank (c.if-is_blank.ensures.0 refl) (c.if-is_blank-2.ensures.0 refl) (c.if-is_blank-3.ensures.0 refl) (c.if-is_blank-4.ensures.0 refl)
