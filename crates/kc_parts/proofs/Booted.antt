@@ -258,7 +258,7 @@ module _ (config : Configuration) (is : IsConfiguration config) where
 
   -- what is made part by part
   pub made : (numbers : List ℕ) (filled : List Bool) (pages : List Page) (vms : HeldSlots) (free : Option Ends)
-      → numbers ≡ range_with_len 0 config.frames → here ≡ replicate config.frames true → pages ≡ map (boot_page config) (range_with_len 0 config.frames)
+      → numbers ≡ range_with_len 0 config.frames → filled ≡ replicate config.frames true → pages ≡ map (boot_page config) (range_with_len 0 config.frames)
       → vms ≡ boot_slots config → free ≡ Some (boot_ends config)
       → record { numbers = numbers; filled = filled; pages = pages; vms = vms; free = free } ≡ booted
   made numbers filled pages vms free n h p v f i = record { numbers = n i; filled = h i; pages = p i; vms = v i; free = f i }
