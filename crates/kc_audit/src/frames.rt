@@ -8,16 +8,6 @@ ghost use Rattle.kc_audit.specs.Findings.{verdict_of};
 
 use crate::verdict::{FrameVerdict, judge};
 use kc_dump::Dump;
-use kc_types::PAGE_SIZE;
-use sha2::{Digest, Sha256};
-
-/// The digest of a page of zero bytes.
-#[tactic(auto, unfolding(kc_model::specs::State::zero_page))]
-pub fn zero_digest() -> [u8; 32]
-    ensures { result ≡ sha256 zero_page }
-{
-    Sha256::digest(&[0; PAGE_SIZE as usize])
-}
 
 /// The verdicts on the frames from a place on.
 pub fn judge_frames(

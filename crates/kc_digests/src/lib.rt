@@ -9,4 +9,4 @@ mod state;
 mod words;
 
 pub use measure::MeasureFour;
-pub use pages::frame_digests;
+pub use pages::{frame_digests, zero_digest};

@@ -1,7 +1,8 @@
 //! The digests of many pages.
-ghost use Rattle.std.specs.Prelude.{◌≡◌, ◌↔◌, ◌+◌, ◌≤◌, All, IfOk, IsTrue, length, map, replicate, slice_range};
+ghost use Rattle.std.specs.Prelude.{◌≡◌, ◌↔◌, ◌+◌, ◌≤◌, All, IfOk, IsTrue, length, map, slice_range};
 ghost use Rattle.sha2.specs.Sha256.{sha256};
 ghost use Rattle.kc_types.specs.Limits.{page_size};
+ghost use Rattle.kc_model.specs.State.{zero_page};
 ghost use Rattle.kc_digests.specs.Digests.{digest_of};
 
 use crate::measure::MeasureFour;
@@ -16,13 +17,22 @@ use std::thread::Threads;
 /// work for a thread.
 const PAGES_A_CHUNK: usize = 64;
 
-/// Zeros for a whole page.
-const BLANK: [u8; PAGE_SIZE as usize] = [0; PAGE_SIZE as usize];
+/// A page of zero bytes.
+const ZERO_PAGE: [u8; PAGE_SIZE as usize] = [0; PAGE_SIZE as usize];
 
-fn is_blank(page: &[u8]) -> bool
-    ensures { IsTrue result ↔ (page.now ≡ replicate page_size 0) }
+#[tactic(auto, unfolding(kc_model::specs::State::zero_page))]
+fn is_zero(page: &[u8]) -> bool
+    ensures { IsTrue result ↔ (page.now ≡ zero_page) }
 {
-    page == &BLANK[..]
+    page == &ZERO_PAGE[..]
+}
+
+/// The digest of a page of zero bytes.
+#[tactic(auto, unfolding(kc_model::specs::State::zero_page))]
+pub fn zero_digest() -> [u8; 32]
+    ensures { result ≡ sha256 zero_page }
+{
+    Sha256::digest(&ZERO_PAGE)
 }
 
 /// The digests of four pages of 4,096 bytes, in order.
@@ -33,15 +43,16 @@ fn hash_four(pages: [&[u8]; 4]) -> [[u8; 32]; 4]
     MeasureFour::new().finish(pages, PAGE_SIZE as usize)
 }
 
-/// The same where the digest of a blank page is known, so that blank ones, as all free pages are, cost no hashing.
-fn digest_four(pages: [&[u8]; 4], blank: [u8; 32]) -> [[u8; 32]; 4]
+/// The same where the digest of a page of zero bytes is known, so that four of these, as free pages are, cost no
+/// hashing.
+fn digest_four(pages: [&[u8]; 4], zero: [u8; 32]) -> [[u8; 32]; 4]
     requires pages { All (λ page. length page.now ≡ page_size) pages }
-    requires blank { blank ≡ sha256 (replicate page_size 0) }
+    requires zero { zero ≡ sha256 zero_page }
     ensures { result ≡ map (λ page. sha256 page.now) pages.entry }
 {
     let [first, second, third, fourth] = pages;
-    if is_blank(first) && is_blank(second) && is_blank(third) && is_blank(fourth) {
-        [blank; 4]
+    if is_zero(first) && is_zero(second) && is_zero(third) && is_zero(fourth) {
+        [zero; 4]
     } else {
         hash_four(pages)
     }
@@ -52,7 +63,7 @@ fn write_digests(pages: &[Page], out: &mut [[u8; 32]])
     requires { length out.old ≡ length pages.now }
     ensures { out.new ≡ map digest_of pages.now }
 {
-    let blank = Sha256::digest(&BLANK);
+    let zero = zero_digest();
     let fours = pages.len() / 4;
     'fours: for i in 0..fours {
         let at = 4 * i;
@@ -62,7 +73,7 @@ fn write_digests(pages: &[Page], out: &mut [[u8; 32]])
             pages[at + 2].bytes.as_slice(),
             pages[at + 3].bytes.as_slice(),
         ];
-        out[at..at + 4].copy_from_slice(&digest_four(four, blank));
+        out[at..at + 4].copy_from_slice(&digest_four(four, zero));
     }
     'rest: for i in 4 * fours..pages.len() {
         out[i] = Sha256::digest(pages[i].bytes.as_slice());

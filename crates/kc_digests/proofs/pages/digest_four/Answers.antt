@@ -17,7 +17,7 @@ same-four (p ∷ q ∷ r ∷ []) bytes digest four is a b c d = absurd (omega (a
 same-four (p ∷ q ∷ r ∷ s ∷ []) bytes digest four is a b c d = rw (a, b, c, d, is) refl
 same-four (p ∷ q ∷ r ∷ s ∷ t ∷ rest) bytes digest four is a b c d = absurd (omega (arith, four))
 
-pub returns-then-is_blank-4 : goal.returns-then-is_blank-4
-returns-then-is_blank-4 c =
+pub returns-then-is_zero-4 : goal.returns-then-is_zero-4
+returns-then-is_zero-4 c =
     let four : length c.args.pages ≡ 4 = search rules in
-    same-four c.args.pages _ c.args.blank four c.requires.blank (c.if-is_blank.ensures.0 refl) (c.if-is_blank-2.ensures.0 refl) (c.if-is_blank-3.ensures.0 refl) (c.if-is_blank-4.ensures.0 refl)
+    same-four c.args.pages _ c.args.zero four c.requires.zero (c.if-is_zero.ensures.0 refl) (c.if-is_zero-2.ensures.0 refl) (c.if-is_zero-3.ensures.0 refl) (c.if-is_zero-4.ensures.0 refl)
