@@ -58,11 +58,11 @@ answer-parts config old new call (Ok reply) linked answer same = (answer.reply, 
 answer-parts config old new call (Err memory) linked answer same = (tt, tt, rw same linked, rw same (places-same old))
 
 -- a call that changes a slot alone, and not the ends of its list
-pub answer-slot : (config : Configuration) (h : Held) (v : ℕ) (vm new : VmSlot) (call : Call) (reply : Reply) → IsLinked config h → vm_at h v ≡ Some vm → new.slot.frames ≡ vm.slot.frames → new.places ≡ vm.capacity
+pub answer-slot : (config : Configuration) (h : Held) (v : ℕ) (vm new : VmSlot) (call : Call) (reply : Reply) → IsLinked config h → vm_at h v ≡ Some vm → new.slot.frames ≡ vm.slot.frames → new.capacity ≡ vm.capacity
     → refusal (state_of config h) call ≡ None → effect (state_of config h) call ≡ (reply, with_slot (state_of config h) v (unlinked_slot new.slot (listed (links_of h) new.slot.frames)))
     → IsAnswer config h (with_vm h v new) call reply
-answer-slot config h v vm new call reply linked at ends places served does =
-    answer-served config h (with_vm h v new) call reply served (sym (ap (λ (o : Outcome). o.0) does)) (state-vm config h v vm new at ∙ sym (ap (λ (o : Outcome). o.1) does)) (linked-vm config h v vm new linked at ends places) (places-vm h v vm new at)
+answer-slot config h v vm new call reply linked at ends capacity served does =
+    answer-served config h (with_vm h v new) call reply served (sym (ap (λ (o : Outcome). o.0) does)) (state-vm config h v vm new at ∙ sym (ap (λ (o : Outcome). o.1) does)) (linked-vm config h v vm new linked at ends capacity) (places-vm h v vm new at)
 
 -- a call that the slot refuses
 pub answer-slot_refused : (config : Configuration) (h : Held) (v : ℕ) (vm new : VmSlot) (call : Call) (why : Refusal) → IsLinked config h → vm_at h v ≡ Some vm → new ≡ vm

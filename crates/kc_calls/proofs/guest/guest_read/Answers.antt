@@ -56,12 +56,12 @@ set_fault-requires-clause-registered c = rw (c.in-Ok.ensures.named.vm, c.in-Ok.e
 pub spend_fault-requires-clause-here : goal.spend_fault-requires-clause-here
 spend_fault-requires-clause-here c = here (goal.at.spend_fault-requires-clause-here c).In-Ok
 
-pub returns-in_err-capacity-in-Some-clause-memory : goal.returns-in_err-capacity-in-Some-clause-memory
-returns-in_err-capacity-in-Some-clause-memory c = λ refused. guest-data _ _ _ _ _ _ c.in-Ok.ensures.answer (ap is_some (mapped (goal.at.returns-in_err-capacity-in-Some-clause-memory c).In-Some))
+pub returns-in_err-buffer-in-Some-clause-memory : goal.returns-in_err-buffer-in-Some-clause-memory
+returns-in_err-buffer-in-Some-clause-memory c = λ refused. guest-data _ _ _ _ _ _ c.in-Ok.ensures.answer (ap is_some (mapped (goal.at.returns-in_err-buffer-in-Some-clause-memory c).In-Some))
 
-pub returns-in_ok-capacity-in-Some-clause-answer : goal.returns-in_ok-capacity-in-Some-clause-answer
-returns-in_ok-capacity-in-Some-clause-answer c =
-    let k = goal.at.returns-in_ok-capacity-in-Some-clause-answer c in
+pub returns-in_ok-buffer-in-Some-clause-answer : goal.returns-in_ok-buffer-in-Some-clause-answer
+returns-in_ok-buffer-in-Some-clause-answer c =
+    let k = goal.at.returns-in_ok-buffer-in-Some-clause-answer c in
     let m = state_of c.args.config.now c.args.parts.now in
     let is = mapped k.In-Some in
     answer-served c.args.config.now c.args.parts.now _ (GuestRead c.args.vm c.args.vcpu c.args.gfn c.args.offset c.args.len) (reply.Data c.read-bytes.result) c.in-Ok.ensures.answer

@@ -27,12 +27,12 @@ page-page-requires c =
     let k = (goal.at.page-page-requires c).In-Ok in
     frame-needed _ _ _ (able k) c.in-Ok.frame (eq-eqb c.in-Ok.frame c.in-Ok.frame refl) (seen k).frame
 
-pub returns-in_err-capacity-in-Ok-clause-memory : goal.returns-in_err-capacity-in-Ok-clause-memory
-returns-in_err-capacity-in-Ok-clause-memory c = λ refused. host-data _ _ _ _ c.in-Ok.ensures.answer
+pub returns-in_err-buffer-in-Ok-clause-memory : goal.returns-in_err-buffer-in-Ok-clause-memory
+returns-in_err-buffer-in-Ok-clause-memory c = λ refused. host-data _ _ _ _ c.in-Ok.ensures.answer
 
-pub returns-in_ok-capacity-in-Ok-clause-answer : goal.returns-in_ok-capacity-in-Ok-clause-answer
-returns-in_ok-capacity-in-Ok-clause-answer c =
-    let k = (goal.at.returns-in_ok-capacity-in-Ok-clause-answer c).In-Ok in
+pub returns-in_ok-buffer-in-Ok-clause-answer : goal.returns-in_ok-buffer-in-Ok-clause-answer
+returns-in_ok-buffer-in-Ok-clause-answer c =
+    let k = (goal.at.returns-in_ok-buffer-in-Ok-clause-answer c).In-Ok in
     let there = frame-is c.args.config.now c.args.parts.now _ _ (seen k).frame c.page-page.ensures in
     rw (← c.in-Ok.ensures.frame) (answer-served c.args.config.now c.args.parts.now c.args.parts.now (HostRead c.in-Ok.frame c.args.offset c.args.len) (reply.Data c.read.result) (served k)
     (ap reply.Data (c.read.ensures ∙ ap (λ (frame : Frame). slice_range frame.bytes c.args.offset (c.args.offset + c.args.len)) (sym there)))
