@@ -1,5 +1,5 @@
 //! One wave over a store.
-ghost use Rattle.std.specs.Prelude.{◌≡◌, length, OnOk, OnErr, IfOk};
+ghost use Rattle.std.specs.Prelude.{◌≡◌, ◌<◌, length, slice_set, OnOk, OnErr, IfOk};
 ghost use Rattle.std.specs.List.{AllZip, range_with_len};
 ghost use Rattle.kc_model.specs.Footprints.{state_at};
 ghost use Rattle.kc_core.specs.KCore.{IsCore};
@@ -44,6 +44,14 @@ fn take_tasks(
     Ok(tasks)
 }
 
+/// Writes a reply into its place.
+fn write_reply(replies: &mut [Reply], number: usize, reply: Reply)
+    requires { number < length replies.old }
+    ensures { replies.new ≡ slice_set replies.old number reply }
+{
+    replies[number] = reply;
+}
+
 /// Puts back what the calls of a wave left, and writes their replies into their places.
 fn put_all(store: &mut Parts, mut done: Vec<Finished>, replies: &mut [Reply])
     ghost wave: { Wave }
@@ -60,7 +68,7 @@ fn put_all(store: &mut Parts, mut done: Vec<Finished>, replies: &mut [Reply])
         let Finished { reply, left } = finished;
         let (number, parts) = left.into_parts();
         store.put_back(parts);
-        replies[number] = reply;
+        write_reply(replies, number, reply);
     }
 }
 

@@ -1,4 +1,4 @@
-use Rattle.std.proofs.Common.{List, ℕ, ◌≡◌, ◌<◌, length, get_or, refl, sym, subst, ◌∙◌, arith, rules}
+use Rattle.std.proofs.Common.{List, ℕ, ◌≡◌, ◌<◌, length, get_or, refl, ap, sym, subst, ◌∙◌, arith, rules}
 use Rattle.std.specs.List.{range_with_len}
 use Rattle.std.proofs.lemmas.List.FromFn.{length-range_with_len}
 use Rattle.std.proofs.lemmas.List.{length-set}
@@ -42,22 +42,13 @@ put_back-requires g c =
     (fits-wave g.wave.start g.wave.calls g.wave.feet g.wave.members c.requires.0 (length c.pop.new.self.items) c.loop-finished.store c.in-Some.finished (omega (arith, len, few))
     (rw len at c.loop-finished.invariant.store) both.1 c.loop-finished.invariant.places)
 
-pub bounds-replies-number : goal.bounds-replies-number
-bounds-replies-number g c =
+pub write_reply-requires : goal.write_reply-requires
+write_reply-requires g c =
     let R = IsFinishedAt g.wave.start g.wave.calls g.wave.feet g.wave.members in
     let both = popped R c.loop-finished.done.items c.pop.new.self.items c.in-Some.finished c.in-Some.ensures.items c.loop-finished.invariant.done in
     let len = len-popped R c.loop-finished.done.items c.pop.new.self.items c.in-Some.finished c.in-Some.ensures.items c.loop-finished.invariant.done in
     let few = c.loop-finished.invariant.few in
     number-low g.wave.calls g.wave.members c.into_parts-number.result.0 (length c.pop.new.self.items) (length c.loop-finished.replies) (c.into_parts-number.ensures.number ∙ both.1.number) (c.requires.0.within (length c.pop.new.self.items) (omega (arith, len, few))) (c.loop-finished.invariant.size ∙ c.requires.1.1.1.1)
-
-pub offset_bounds-replies-number : goal.offset_bounds-replies-number
-offset_bounds-replies-number g c =
-    let R = IsFinishedAt g.wave.start g.wave.calls g.wave.feet g.wave.members in
-    let both = popped R c.loop-finished.done.items c.pop.new.self.items c.in-Some.finished c.in-Some.ensures.items c.loop-finished.invariant.done in
-    let len = len-popped R c.loop-finished.done.items c.pop.new.self.items c.in-Some.finished c.in-Some.ensures.items c.loop-finished.invariant.done in
-    let few = c.loop-finished.invariant.few in
-    let within : c.into_parts-number.result.0 < length c.loop-finished.replies = number-low g.wave.calls g.wave.members c.into_parts-number.result.0 (length c.pop.new.self.items) (length c.loop-finished.replies) (c.into_parts-number.ensures.number ∙ both.1.number) (c.requires.0.within (length c.pop.new.self.items) (omega (arith, len, few))) (c.loop-finished.invariant.size ∙ c.requires.1.1.1.1) in
-    search rules
 
 pub loop-finished-preserved : goal.loop-finished-preserved
 loop-finished-preserved g c =
@@ -73,28 +64,9 @@ loop-finished-preserved g c =
       done = both.0;
       store = back-wave g.wave.start g.wave.calls g.wave.feet g.wave.members c.requires.0 (length c.pop.new.self.items) c.loop-finished.store c.in-Some.finished low (rw len at c.loop-finished.invariant.store) both.1 c.put_back.new.self joined;
       places = record { numbers = c.put_back.ensures.places ∙ c.loop-finished.invariant.places.numbers; slots = rw c.put_back.ensures.slots c.loop-finished.invariant.places.slots };
-      back = back-more g.wave.start g.wave.calls g.wave.feet g.wave.members c.requires.0 c.loop-finished.replies (length c.pop.new.self.items) c.into_parts-number.result.0 c.in-Some.finished.reply low (c.into_parts-number.ensures.number ∙ both.1.number) within both.1.reply (rw len at c.loop-finished.invariant.back);
-      kept = λ k none. kept-more g.wave.start g.wave.calls g.wave.feet g.wave.members c.requires.0 c.loop-finished.replies (length c.pop.new.self.items) c.into_parts-number.result.0 c.in-Some.finished.reply low (c.into_parts-number.ensures.number ∙ both.1.number) within k none ∙ c.loop-finished.invariant.kept k none;
-      size = length-set c.loop-finished.replies c.into_parts-number.result.0 c.in-Some.finished.reply ∙ c.loop-finished.invariant.size;
-    }
-
-pub loop-finished-preserved-in-Some : goal.loop-finished-preserved-in-Some
-loop-finished-preserved-in-Some g c =
-    let R = IsFinishedAt g.wave.start g.wave.calls g.wave.feet g.wave.members in
-    let both = popped R c.loop-finished.done.items c.pop.new.self.items c.in-Some.finished c.in-Some.ensures.items c.loop-finished.invariant.done in
-    let len = len-popped R c.loop-finished.done.items c.pop.new.self.items c.in-Some.finished c.in-Some.ensures.items c.loop-finished.invariant.done in
-    let few = c.loop-finished.invariant.few in
-    let joined : IsJoin c.loop-finished.store c.in-Some.finished.left.parts c.put_back.new.self = subst (λ (parts : Held). IsJoin c.loop-finished.store parts c.put_back.new.self) c.into_parts-number.ensures.parts c.put_back.ensures.joined in
-    let low : length c.pop.new.self.items < length g.wave.members = omega (arith, len, few) in
-    let within = number-low g.wave.calls g.wave.members c.into_parts-number.result.0 (length c.pop.new.self.items) (length c.loop-finished.replies) (c.into_parts-number.ensures.number ∙ both.1.number) (c.requires.0.within (length c.pop.new.self.items) low) (c.loop-finished.invariant.size ∙ c.requires.1.1.1.1) in
-    record {
-      few = omega (arith, len, few);
-      done = both.0;
-      store = back-wave g.wave.start g.wave.calls g.wave.feet g.wave.members c.requires.0 (length c.pop.new.self.items) c.loop-finished.store c.in-Some.finished low (rw len at c.loop-finished.invariant.store) both.1 c.put_back.new.self joined;
-      places = record { numbers = c.put_back.ensures.places ∙ c.loop-finished.invariant.places.numbers; slots = rw c.put_back.ensures.slots c.loop-finished.invariant.places.slots };
-      back = back-more g.wave.start g.wave.calls g.wave.feet g.wave.members c.requires.0 c.loop-finished.replies (length c.pop.new.self.items) c.into_parts-number.result.0 c.in-Some.finished.reply low (c.into_parts-number.ensures.number ∙ both.1.number) within both.1.reply (rw len at c.loop-finished.invariant.back);
-      kept = λ k none. kept-more g.wave.start g.wave.calls g.wave.feet g.wave.members c.requires.0 c.loop-finished.replies (length c.pop.new.self.items) c.into_parts-number.result.0 c.in-Some.finished.reply low (c.into_parts-number.ensures.number ∙ both.1.number) within k none ∙ c.loop-finished.invariant.kept k none;
-      size = length-set c.loop-finished.replies c.into_parts-number.result.0 c.in-Some.finished.reply ∙ c.loop-finished.invariant.size;
+      back = rw c.write_reply.ensures (back-more g.wave.start g.wave.calls g.wave.feet g.wave.members c.requires.0 c.loop-finished.replies (length c.pop.new.self.items) c.into_parts-number.result.0 c.in-Some.finished.reply low (c.into_parts-number.ensures.number ∙ both.1.number) within both.1.reply (rw len at c.loop-finished.invariant.back));
+      kept = λ k none. rw c.write_reply.ensures (kept-more g.wave.start g.wave.calls g.wave.feet g.wave.members c.requires.0 c.loop-finished.replies (length c.pop.new.self.items) c.into_parts-number.result.0 c.in-Some.finished.reply low (c.into_parts-number.ensures.number ∙ both.1.number) within k none ∙ c.loop-finished.invariant.kept k none);
+      size = ap length c.write_reply.ensures ∙ length-set c.loop-finished.replies c.into_parts-number.result.0 c.in-Some.finished.reply ∙ c.loop-finished.invariant.size;
     }
 
 -- nothing is out any more
