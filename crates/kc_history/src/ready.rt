@@ -9,7 +9,7 @@ use kc_types::{Call, Memory, ReplyBuffer};
 use std::alloc::Global;
 use std::marker::Model;
 
-/// A call with all that making it takes of memory. History and receipt each hold the call and its reply, and share the
+/// A call with all the memory that making it cannot do without. History and receipt each hold the call and its reply, and share the
 /// bytes of both; a second buffer is there for the case that the reply's cannot be shared.
 #[derive(Debug, Drop)]
 pub struct Ready {

@@ -58,7 +58,7 @@ impl Data {
         }
     }
 
-    /// A copy, or `Memory` where a growth was refused.
+    /// An equal value, which shares the bytes where they are shared already; `Memory` where a growth was refused.
     pub fn copy(&self) -> Result<Data, Memory>
         // No clause can rule out want of memory: a test makes a copy.
         ensures { IfOk result (λ made. made ≡ self.now) }
