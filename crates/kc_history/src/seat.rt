@@ -84,7 +84,7 @@ impl Seat {
     }
 
     /// Makes one call of the book under its lock, and keeps its receipt; it may wait for the lock, before which all is made
-    /// that the call takes of memory, the place of its receipt too. The faults are those of `LiveCore::call`.
+    /// that the call cannot do without of memory, the place of its receipt too. The faults are those of `LiveCore::call`.
     pub(crate) fn make<R: Wait>(
         &mut self,
         rt: &R,
