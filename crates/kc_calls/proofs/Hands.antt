@@ -16,7 +16,8 @@ use Rattle.kc_model.specs.Effects.{effect, hand, with_leaf}
 use Rattle.kc_page.specs.declared.page.Page.{Page}
 use Rattle.kc_page.specs.Page.{frame_of}
 use Rattle.kc_stage2.specs.Stage2.{Table, with_mapping, fits}
-use Rattle.kc_stage2.specs.Faults.{map_fault, Answers}
+use Rattle.kc_types.specs.Refusals.{Answers}
+use Rattle.kc_stage2.specs.Faults.{map_fault}
 use Rattle.kc_stage2.specs.declared.table.MapFault.{MapFault}
 use Rattle.kc_vms.specs.Vm.{VmSlot, slot_table, with_table}
 use Rattle.kc_model.specs.Slot.{with_image_page}

@@ -1,9 +1,9 @@
 //! The calls by which frames of a slot are free again: it gives up one, or is cleared and gives up all.
 ghost use Rattle.std.specs.Prelude.{◌≡◌, ◌<◌, false, IsSome, IfOk};
 ghost use Rattle.kc_types.specs.declared.call.Call.TheVariants.{Drop, Clear};
+ghost use Rattle.kc_types.specs.Refusals.{Answers};
 ghost use Rattle.kc_model.specs.Refusals.{refusal};
 ghost use Rattle.kc_model.specs.Effects.{freed};
-ghost use Rattle.kc_vms.specs.Refusals.{Answers};
 ghost use Rattle.kc_parts.specs.Parts.{page_at};
 ghost use Rattle.kc_parts.specs.States.{state_of, IsLinked, IsLoose, is_away};
 ghost use Rattle.kc_calls.specs.Applying.{IsAble, IsAnswer, KeepsPlaces};

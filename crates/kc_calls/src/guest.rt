@@ -3,11 +3,11 @@ ghost use Rattle.std.specs.Prelude.{◌≡◌, ◌≤◌, ◌<◌, Some, None, [
 ghost use Rattle.kc_types.specs.Configuration.{slot_count};
 ghost use Rattle.kc_types.specs.ReplyBytes.{is_data, readable};
 ghost use Rattle.kc_types.specs.declared.call.Call.TheVariants.{GuestRead, GuestWrite};
+ghost use Rattle.kc_types.specs.Refusals.{Answers};
 ghost use Rattle.kc_model.specs.State.{slot_at, vcpu_at};
 ghost use Rattle.kc_model.specs.Refusals.{refusal, first_of_these, no_vm, not_active, no_vcpu};
 ghost use Rattle.kc_model.specs.Effects.{with_fault};
 ghost use Rattle.kc_model.specs.Next.{next};
-ghost use Rattle.kc_vms.specs.Refusals.{Answers};
 ghost use Rattle.kc_parts.specs.Parts.{vm_at};
 ghost use Rattle.kc_parts.specs.States.{state_of, IsLinked};
 ghost use Rattle.kc_calls.specs.Applying.{IsAble, IsAnswer, KeepsPlaces};

@@ -3,10 +3,10 @@ ghost use Rattle.std.specs.Prelude.{◌≡◌, ◌<◌, None, [], ◌∷◌, IsS
 ghost use Rattle.kc_types.specs.Configuration.{slot_count};
 ghost use Rattle.kc_types.specs.declared.owner.Owner.TheVariants.{Host};
 ghost use Rattle.kc_types.specs.declared.call.Call.TheVariants.{Remap, Map};
+ghost use Rattle.kc_types.specs.Refusals.{Answers};
 ghost use Rattle.kc_model.specs.State.{mapped_at};
 ghost use Rattle.kc_model.specs.Refusals.{refusal, first_of_these, not_host, tables_full};
 ghost use Rattle.kc_model.specs.Effects.{hand};
-ghost use Rattle.kc_vms.specs.Refusals.{Answers};
 ghost use Rattle.kc_parts.specs.Parts.{page_at, vm_at};
 ghost use Rattle.kc_parts.specs.States.{state_of, owner_at, IsLinked};
 ghost use Rattle.kc_calls.specs.Applying.{IsAble, IsAnswer, KeepsPlaces};

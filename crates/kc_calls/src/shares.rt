@@ -5,12 +5,12 @@ ghost use Rattle.kc_model.specs.State.{frame_at, mapped_at, with_frame};
 ghost use Rattle.kc_model.specs.Ranged.{IsWord};
 ghost use Rattle.kc_model.specs.Refusals.{refusal, any_from, share_at};
 ghost use Rattle.kc_model.specs.Effects.{granted, revoked};
-ghost use Rattle.kc_vms.specs.Refusals.{Answers};
 ghost use Rattle.kc_parts.specs.Parts.{page_at};
 ghost use Rattle.kc_parts.specs.States.{state_of, IsLinked};
 ghost use Rattle.kc_calls.specs.Applying.{IsAble, IsAnswer, KeepsPlaces};
 ghost use Rattle.kc_calls.specs.Guests.{AnswersMapped, AnswersRange};
 ghost use Rattle.kc_types.specs.Limits.{gfn_limit, share_limit};
+ghost use Rattle.kc_types.specs.Refusals.{Answers};
 
 use crate::guest::vcpu_refusal;
 use kc_page::PageRecord;

@@ -19,7 +19,7 @@ use Rattle.kc_types.specs.declared.version.Version.{Version}
 use Rattle.kc_dump_text.specs.DumpText.{spell}
 use Rattle.kc_dump_text.specs.Grammar.{after, due, frames_at, LacksFrame, HasNoLine}
 use Rattle.kc_dump_text.specs.Begun.{with_line}
-use Rattle.kc_dump_text.specs.Building.{Built, Reached, IsTextOf, IsStuck, end_fault, due_fault, line_fault}
+use Rattle.kc_dump_text.specs.Building.{Built, ReadUpTo, IsTextOf, IsStuck, end_fault, due_fault, line_fault}
 use Rattle.kc_dump_text.specs.Lines.{line_read}
 use Rattle.kc_dump_text.specs.Refused.{IsEnd, Stuck, DumpStopsFor}
 use Rattle.kc_dump_text.proofs.Limits.{few-frames}
@@ -65,7 +65,7 @@ pub first-line : (rest bytes more : List ℕ) (l : DumpLine) → rest ≡ bytes 
 first-line rest bytes more l cut read = cut ∙ ap (λ (s : List ℕ). s ++ 10 ∷ more) (line-from bytes l read) ∙ sym (spelled-cut l more)
 
 -- lines behind which no further one stands, for this reason
-pub stuck : (version : Version) (text : List ℕ) (fault : DumpFault) (lines : List DumpLine) (stage : Stage) (d : Dumped) (rest : List ℕ) → Reached version text lines stage d rest → HasNoLine version stage rest
+pub stuck : (version : Version) (text : List ℕ) (fault : DumpFault) (lines : List DumpLine) (stage : Stage) (d : Dumped) (rest : List ℕ) → ReadUpTo version text lines stage d rest → HasNoLine version stage rest
     → Stuck version (length lines) stage rest fault → DumpStopsFor version text fault
 stuck version text fault lines stage d rest r none why = record {
   lines = lines;
@@ -113,8 +113,8 @@ module _ (version : Version) where
 
   -- ---- one line more
 
-  pub reached-more : (text : List ℕ) (stage : Stage) (lines : List DumpLine) (d : Dumped) (rest bytes more : List ℕ) (l : DumpLine) (next : Stage) → Reached version text lines stage d rest → rest ≡ bytes ++ 10 ∷ more
-      → line_read bytes ≡ Some l → after version stage l ≡ Some next → Reached version text (lines ++ l ∷ []) next (with_line d l) more
+  pub reached-more : (text : List ℕ) (stage : Stage) (lines : List DumpLine) (d : Dumped) (rest bytes more : List ℕ) (l : DumpLine) (next : Stage) → ReadUpTo version text lines stage d rest → rest ≡ bytes ++ 10 ∷ more
+      → line_read bytes ≡ Some l → after version stage l ≡ Some next → ReadUpTo version text (lines ++ l ∷ []) next (with_line d l) more
   reached-more text stage lines d rest bytes more l next r cut read ok =
       let first : rest ≡ spell l ++ more = cut ∙ ap (λ (s : List ℕ). s ++ 10 ∷ more) (line-from bytes l read) ∙ sym (spelled-cut l more) in
       record {
@@ -126,7 +126,7 @@ module _ (version : Version) where
   -- ---- the end of the text
 
   abbrev EndsAt : List ℕ → List DumpLine → Stage → Dumped → Type 0
-  EndsAt text lines stage d = Reached version text lines stage d []
+  EndsAt text lines stage d = ReadUpTo version text lines stage d []
 
   end-stuck : (text : List ℕ) (lines : List DumpLine) (stage : Stage) (d : Dumped) (n : ℕ) → EndsAt text lines stage d → length lines ≤ 1073741824 → length lines ≡ n → ((f : ℕ) → due stage ≡ Some f → ⊥) → (IsEnd stage → ⊥)
       → IsStuck version text (BadLine (n + 2))
@@ -157,13 +157,13 @@ module _ (version : Version) where
   whole-end text lines (AtFrame k f) d n r e =
       elim (cases_Bool (nat_lt f k)) [
         | inl h ↦ let some : Some (Frame f) ≡ None = rw h at e in absurd cc
-        | inr h ↦ let le : f ≤ k = r.built.within in let past = ltb-false f k h in let same : f ≡ k = omega (arith, le, past) in (lines, k, subst (λ i. Reached version text lines (AtFrame k i) d []) same r)
+        | inr h ↦ let le : f ≤ k = r.built.within in let past = ltb-false f k h in let same : f ≡ k = omega (arith, le, past) in (lines, k, subst (λ i. ReadUpTo version text lines (AtFrame k i) d []) same r)
       ]
 
   -- ---- a line that may not stand there
 
   pub record Unfit (text : List ℕ) (lines : List DumpLine) (stage : Stage) (d : Dumped) (rest : List ℕ) (l : DumpLine) : Type 0 where
-    pub reached : Reached version text lines stage d rest
+    pub reached : ReadUpTo version text lines stage d rest
     pub none : HasNoLine version stage rest
     pub only : (g : ℕ) (frame : FrameLine) (more : List ℕ) → rest ≡ spell (FrameOf g frame) ++ more → (nat_lt g (frames_at stage) && is_frame version (frames_at stage) frame) ≡ true → FrameOf g frame ≡ l
     pub some : 0 < length rest
@@ -180,7 +180,7 @@ module _ (version : Version) where
         λ e h. (let z : length rest ≡ 0 = ap length e in let s = u.some in omega (arith, z, s)),
       )
 
-  pub unfit : (text : List ℕ) (lines : List DumpLine) (stage : Stage) (d : Dumped) (rest bytes more : List ℕ) (l : DumpLine) → Reached version text lines stage d rest → length lines ≤ 1073741824 → IsOneLine bytes → rest ≡ bytes ++ 10 ∷ more
+  pub unfit : (text : List ℕ) (lines : List DumpLine) (stage : Stage) (d : Dumped) (rest bytes more : List ℕ) (l : DumpLine) → ReadUpTo version text lines stage d rest → length lines ≤ 1073741824 → IsOneLine bytes → rest ≡ bytes ++ 10 ∷ more
       → line_read bytes ≡ Some l → after version stage l ≡ None → 0 < length rest → Unfit text lines stage d rest l
   unfit text lines stage d rest bytes more l r few one cut read stop some = record {
     reached = r;

@@ -59,13 +59,13 @@ pub record Built (version : Version) (stage : Stage) (lines : List DumpLine) (d 
   pub few : (v : ℕ) → length (slot_dump_at d v).leaves ≤ length lines
 
 -- the text behind the header begins with lines that lead to this stage and this dump begun
-pub record Reached (version : Version) (text : List ℕ) (lines : List DumpLine) (stage : Stage) (d : Dumped) (rest : List ℕ) : Type 0 where
+pub record ReadUpTo (version : Version) (text : List ℕ) (lines : List DumpLine) (stage : Stage) (d : Dumped) (rest : List ℕ) : Type 0 where
   pub built : Built version stage lines d
   pub whole : text ≡ flat_map spell lines ++ rest
 
 -- the text behind the header is the lines of this dump
 abbrev pub IsTextOf : Version → List ℕ → Dumped → Type 0
-IsTextOf version text d = (lines : List DumpLine) × (frames : ℕ) × Reached version text lines (AtFrame frames frames) d []
+IsTextOf version text d = (lines : List DumpLine) × (frames : ℕ) × ReadUpTo version text lines (AtFrame frames frames) d []
 
 -- the text behind the header is the lines of no dump, or memory ran out
 abbrev pub IsStuck : Version → List ℕ → DumpFault → Type 0

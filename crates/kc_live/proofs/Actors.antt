@@ -13,7 +13,7 @@ use Rattle.kc_history.specs.declared.receipt.Entry.{Entry}
 use Rattle.kc_history.specs.declared.receipt.Receipt.{Receipt}
 use Rattle.kc_history.specs.Book.{entry}
 use Rattle.kc_history.specs.Settling.{times, numbers_of, all_numbers, RisesFrom, RowMatches, RowsMatch, IsSettled}
-use Rattle.kc_live.specs.Program.{receipt_calls, NoneIs, Apart}
+use Rattle.kc_live.specs.Program.{receipt_calls, NoneIs, ActorsApart}
 use Rattle.kc_history.specs.Book.{calls_of}
 use Rattle.kc_model.specs.Histories.{same_actor, calls_by}
 
@@ -149,7 +149,7 @@ cross_more a before [] apart cross = tt
 cross_more a before (b ∷ owners) apart cross = ((λ same. apart.0 (sym same), cross.0), cross_more a before owners apart.1 cross.1)
 
 all_by : (h : List Entry) (before : List Actor) (done : List (List Receipt)) (owners : List Actor) (rows : List (List Receipt)) → OwnedRows before done → SaysRows (slice_get h) done → Cross before owners
-    → OwnedRows owners rows → SaysRows (slice_get h) rows → Apart owners → ((n : ℕ) → n < length h → times n (all_numbers done) + times n (all_numbers rows) ≡ 1) → AllBy h owners rows
+    → OwnedRows owners rows → SaysRows (slice_get h) rows → ActorsApart owners → ((n : ℕ) → n < length h → times n (all_numbers done) + times n (all_numbers rows) ≡ 1) → AllBy h owners rows
 all_by h before done [] rows o1 s1 cross own says apart once = tt
 all_by h before done (a ∷ owners) [] o1 s1 cross own says apart once = tt
 all_by h before done (a ∷ owners) (row ∷ rows) o1 s1 cross own says apart once = (
@@ -177,6 +177,6 @@ no_cross [] = tt
 no_cross (a ∷ owners) = (tt, no_cross owners)
 
 -- in a settled history, whose rows are of different actors, the calls of each actor are those of its row
-pub settled_by_actors : (h : List Entry) (owners : List Actor) (rows : List (List Receipt)) → IsSettled h rows → OwnedRows owners rows → Apart owners → AllBy h owners rows
+pub settled_by_actors : (h : List Entry) (owners : List Actor) (rows : List (List Receipt)) → IsSettled h rows → OwnedRows owners rows → ActorsApart owners → AllBy h owners rows
 settled_by_actors h owners rows settled own apart =
     all_by h [] [] owners rows tt tt (no_cross owners) own (says_rows h rows settled.match) apart (λ n lt. (let o = settled.once n lt in omega arith))

@@ -13,7 +13,7 @@ use Rattle.kc_types.specs.declared.call.Actor.{Actor}
 use Rattle.kc_model.specs.Histories.{same_actor, calls_by}
 use Rattle.kc_history.specs.declared.receipt.Entry.{Entry}
 use Rattle.kc_history.specs.Book.{calls_of}
-use Rattle.kc_live.specs.Program.{ProgramView, NoneIs, Apart, actors_of, HasCalls}
+use Rattle.kc_live.specs.Program.{ProgramView, NoneIs, ActorsApart, actors_of, HasCalls}
 use Rattle.kc_live.specs.Plans.{count_of, stranger_in, stranger_from}
 use Rattle.kc_live.specs.declared.fault.LiveCause.{LiveCause}
 use Rattle.kc_live.specs.declared.fault.LiveCause.TheVariants.{NotYours, HistoryFull, Memory, Start, Unsettled, BadActor}
@@ -57,7 +57,7 @@ none-with a call (p ∷ ps) none other =
 differs : (a b : Actor) → same_actor a b ≡ false → b ≢ a
 differs a b apart same = false≢true (sym apart ∙ (ap (same_actor a) same ∙ same_actor-refl a))
 
-apart-with : (call : Call) (ps : List ProgramView) → Apart (actors_of ps) → Apart (actors_of (with_call call ps))
+apart-with : (call : Call) (ps : List ProgramView) → ActorsApart (actors_of ps) → ActorsApart (actors_of (with_call call ps))
 apart-with call [] apart = (tt, tt)
 apart-with call (p ∷ ps) apart =
     elim (cases_Bool (same_actor p.actor (actor call))) [

@@ -3,14 +3,14 @@ use Rattle.std.proofs.Common.{◌≡◌, ◌≢◌, ℕ, ◌+◌, ◌<◌, List,
 use Rattle.std.proofs.lemmas.List.{take_more, map-append}
 use Rattle.kc_types.specs.Configuration.{Configuration}
 use Rattle.kc_types.specs.declared.call.Actor.{Actor}
-use Rattle.kc_live.specs.Program.{ProgramView, NoneIs, Apart, actors_of}
+use Rattle.kc_live.specs.Program.{ProgramView, NoneIs, ActorsApart, actors_of}
 use Rattle.kc_live.specs.Plans.{IsActor, AreActors, HaveActors, MayJoin}
 
 none_push : (a b : Actor) (owners : List Actor) → NoneIs a owners → b ≢ a → NoneIs a (owners ++ b ∷ [])
 none_push a b [] none apart = (apart, tt)
 none_push a b (o ∷ owners) none apart = (none.0, none_push a b owners none.1 apart)
 
-apart_push : (a : Actor) (owners : List Actor) → Apart owners → NoneIs a owners → Apart (owners ++ a ∷ [])
+apart_push : (a : Actor) (owners : List Actor) → ActorsApart owners → NoneIs a owners → ActorsApart (owners ++ a ∷ [])
 apart_push a [] apart none = (tt, tt)
 apart_push a (o ∷ owners) apart none = (none_push o a owners apart.0 (λ e. none.0 (sym e)), apart_push a owners apart.1 none.1)
 

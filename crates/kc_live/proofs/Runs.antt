@@ -10,7 +10,7 @@ use Rattle.kc_history.specs.declared.receipt.Entry.{Entry}
 use Rattle.kc_history.specs.declared.receipt.Receipt.{Receipt}
 use Rattle.kc_live.specs.Program.{ProgramView}
 use Rattle.kc_history.specs.Settling.{IsSettled}
-use Rattle.kc_live.specs.Program.{receipt_calls, Apart, actors_of, HasCalls, HasBeginnings, HasNoOthers}
+use Rattle.kc_live.specs.Program.{receipt_calls, ActorsApart, actors_of, HasCalls, HasBeginnings, HasNoOthers}
 use Rattle.kc_live.specs.Threads.{AreBeginnings}
 use Rattle.kc_model.specs.Histories.{same_actor}
 use Rattle.kc_live.specs.Plans.{stranger_in, stranger_from}
@@ -81,7 +81,7 @@ calls_in_rows items (row ∷ rows) = ap (λ rest. receipt_calls (items row) ∷ 
 
 -- the receipts of a settled history, a row for each program, each row of a beginning of the program's own calls
 module _ {X : Type 0} (items : X → List Receipt) (h : List Entry) (ps : List ProgramView) (rows : List X) (settled : IsSettled h (map items rows))
-    (begun : AreBeginnings (map (λ row. receipt_calls (items row)) rows) (map (λ p. p.calls) ps)) (own : stranger_from 0 ps ≡ None) (apart : Apart (actors_of ps)) where
+    (begun : AreBeginnings (map (λ row. receipt_calls (items row)) rows) (map (λ p. p.calls) ps)) (own : stranger_from 0 ps ≡ None) (apart : ActorsApart (actors_of ps)) where
   owned : OwnedRows (actors_of ps) (map items rows)
   owned = own_rows 0 ps (map items rows) (rw (calls_in_rows items rows) begun) own
 

@@ -8,7 +8,7 @@ use Rattle.kc_types.specs.declared.call.Actor.{Actor}
 use Rattle.kc_model.specs.Histories.{same_actor, calls_by}
 use Rattle.kc_live.specs.declared.fault.LiveCause.{LiveCause}
 use Rattle.kc_live.specs.declared.fault.LiveCause.TheVariants.{NotYours, HistoryFull, Memory, Start, Unsettled, BadActor}
-use Rattle.kc_live.specs.Program.{ProgramView, NoneIs, Apart, actors_of}
+use Rattle.kc_live.specs.Program.{ProgramView, NoneIs, ActorsApart, actors_of}
 use Rattle.kc_history.specs.Book.{Log}
 use Rattle.kc_live.specs.Plans.{IsFirstBad, MayRunTogether, count_of}
 use Rattle.kc_live.specs.Stops.{IsLeftHistory}
@@ -40,7 +40,7 @@ appearing seen (call ∷ calls) = appearing (noted seen (actor call)) calls
 
 -- one program for each actor, in the order in which the actors first appear, which has the actor's calls in order
 pub record IsCut (calls : List Call) (ps : List ProgramView) : Type 0 where
-  pub apart : Apart (actors_of ps)
+  pub apart : ActorsApart (actors_of ps)
   pub order : actors_of ps ≡ appearing [] calls
   pub own : OwnCalls ps
   pub count : count_of ps ≡ length calls

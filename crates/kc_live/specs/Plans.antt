@@ -7,7 +7,7 @@ use Rattle.kc_types.specs.Limits.{call_limit, vcpu_limit}
 use Rattle.kc_types.specs.declared.call.Actor.{Actor}
 use Rattle.kc_types.specs.declared.call.Actor.TheVariants.{Host, Vcpu}
 use Rattle.kc_model.specs.Histories.{same_actor}
-use Rattle.kc_live.specs.Program.{ProgramView, NoneIs, Apart, actors_of}
+use Rattle.kc_live.specs.Program.{ProgramView, NoneIs, ActorsApart, actors_of}
 
 -- the slot exists, and the number is one of a virtual processor
 abbrev pub IsActor : Configuration → Actor → Type 0
@@ -20,7 +20,7 @@ AreActors config (a ∷ rest) = IsActor config a × AreActors config rest
 
 -- each program has an actor of its own, which the core has
 abbrev pub HaveActors : Configuration → List ProgramView → Type 0
-HaveActors config ps = Apart (actors_of ps) × AreActors config (actors_of ps)
+HaveActors config ps = ActorsApart (actors_of ps) × AreActors config (actors_of ps)
 
 -- no program of the list has the actor of this one, and the core has it
 abbrev pub MayJoin : Configuration → List ProgramView → ProgramView → Type 0
@@ -48,7 +48,7 @@ count_of ps = sum_by (λ p. length p.calls) ps
 
 -- the programs may run: each has an actor of its own, which the core has, and calls of this actor alone, and a history has room for all
 pub record MayRunTogether (config : Configuration) (ps : List ProgramView) : Type 0 where
-  pub apart : Apart (actors_of ps)
+  pub apart : ActorsApart (actors_of ps)
   pub known : AreActors config (actors_of ps)
   pub own : stranger_from 0 ps ≡ None
   pub few : count_of ps ≤ call_limit

@@ -25,9 +25,9 @@ NoneIs a [] = Unit {0}
 NoneIs a (b ∷ bs) = (b ≢ a) × NoneIs a bs
 
 -- no two are the same
-abbrev pub Apart : List Actor → Type 0
-Apart [] = Unit {0}
-Apart (a ∷ rest) = NoneIs a rest × Apart rest
+abbrev pub ActorsApart : List Actor → Type 0
+ActorsApart [] = Unit {0}
+ActorsApart (a ∷ rest) = NoneIs a rest × ActorsApart rest
 
 -- the history has just the calls of each program by its actor, in order
 abbrev pub HasCalls : List Entry → List ProgramView → Type 0

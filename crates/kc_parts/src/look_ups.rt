@@ -1,12 +1,13 @@
 //! Look-ups by number, which answer for all numbers: what is not here counts as untouched.
 ghost use Rattle.std.specs.Prelude.{◌≡◌, not, IfOk, Some};
 ghost use Rattle.std.specs.Option.{option_copied};
+ghost use Rattle.kc_types.specs.Refusals.{Answers};
 ghost use Rattle.kc_model.specs.State.{frame_at, slot_at, vcpu_at, mapped_at};
 ghost use Rattle.kc_types.specs.declared.refusal.Refusal.TheVariants.{TablesFull};
 ghost use Rattle.kc_model.specs.Refusals.{when, tables_full, next_gfn};
 ghost use Rattle.kc_model.specs.Linked.{linked_slot};
 ghost use Rattle.kc_vms.specs.Vm.{VmSlot};
-ghost use Rattle.kc_vms.specs.Refusals.{Answers, next_page_refusal};
+ghost use Rattle.kc_vms.specs.Refusals.{next_page_refusal};
 ghost use Rattle.kc_parts.specs.Parts.{vm_at, links_of};
 ghost use Rattle.kc_parts.specs.States.{state_of, slot_in, IsLinked};
 ghost use Rattle.kc_parts.specs.LookUps.{IsMetaOf};

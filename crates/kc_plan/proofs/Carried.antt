@@ -16,8 +16,7 @@ use Rattle.kc_model.specs.Footprints.{call_at, gains, footprint}
 use Rattle.kc_model.specs.Footprints as model
 use Rattle.kc_plan.specs.declared.names.Names.{Names}
 use Rattle.kc_plan.specs.Naming.{named_frame, gain_of, below, names_of}
-use Rattle.kc_plan.specs.Reach.{Numbered, Frame, Principal, is_at, names_at, names_principal, reach_of, gains_by, reach, touches}
-use Rattle.kc_plan.specs.Reach as planner
+use Rattle.kc_plan.specs.Reach.{Numbered, Frame, Principal, is_at, names_at, names_principal, reach_of, gains_by, may_have, touched_by, touches}
 use Rattle.kc_plan.specs.Owned.{numbered, resource_of, IsOwned}
 use Rattle.kc_plan.specs.Planner.{has_pair}
 use Rattle.kc_plan.proofs.Shapes.{and_left, and_right, and_false, same_number, equal}
@@ -154,7 +153,7 @@ module _ (config : Configuration) (held : Owner → ℕ → Bool) (r : ℕ → �
   gains_free (GrantRange v c g k) f = refl
   gains_free (RevokeRange v c g k) f = refl
 
-  pub frame_is : (call : Call) (f : ℕ) → planner.touched (slot_count config) r (names_of config call) (Frame f) ≡ touched config held call (resource.Frame f)
+  pub frame_is : (call : Call) (f : ℕ) → touched_by (slot_count config) r (names_of config call) (Frame f) ≡ touched config held call (resource.Frame f)
   frame_is call f = rw (named_is config.frames call f, reach_is (slot_of call) f, same_free f)
       (grouped (names_frame call f && nat_lt f config.frames) (of_slot config held (slot_of call) f) (uses_free call && held owner.Free f))
     where
@@ -189,12 +188,12 @@ module _ (config : Configuration) (held : Owner → ℕ → Bool) (r : ℕ → �
   at_low None p h = cc
   at_low (Some x) p h = exists_low (Some x) p (sym (at_below (slot_count config) x p) ∙ h)
 
-  pub forth : (call : Call) (x : Resource) → touched config held call x ≡ true → planner.touched (slot_count config) r (names_of config call) (numbered (slot_count config) x) ≡ true
+  pub forth : (call : Call) (x : Resource) → touched config held call x ≡ true → touched_by (slot_count config) r (names_of config call) (numbered (slot_count config) x) ≡ true
   forth call (resource.Frame f) h = frame_is call f ∙ h
   forth call (resource.Vm v) h = slot_is (slot_of call) (uses_free call) v (exists_low (slot_of call) v h) ∙ h
   forth call resource.Free h = free_is (slot_of call) (uses_free call) ∙ h
 
-  pub back : (call : Call) (t : Numbered) → planner.touched (slot_count config) r (names_of config call) t ≡ true → touched config held call (resource_of (slot_count config) t) ≡ true
+  pub back : (call : Call) (t : Numbered) → touched_by (slot_count config) r (names_of config call) t ≡ true → touched config held call (resource_of (slot_count config) t) ≡ true
   back call (Frame f) h = sym (frame_is call f) ∙ h
   back call (Principal p) h = by (eqb (slot_count config) p) refl
     where
@@ -225,8 +224,8 @@ module _ (m : State) (calls : List Call) (pairs : List (ℕ × ℕ)) (owned : Is
   names = map (names_of m.config) calls
 
   pub record IsSame (k : ℕ) : Type 0 where
-    pub by_slot : (v f : ℕ) → v < slot_count m.config → reach (slot_count m.config) (has_pair pairs) (map (names_of m.config) calls) k v f ≡ model.reach m calls k (owner.Vm v) f
-    pub by_free : (f : ℕ) → reach (slot_count m.config) (has_pair pairs) (map (names_of m.config) calls) k (slot_count m.config) f ≡ model.reach m calls k owner.Free f
+    pub by_slot : (v f : ℕ) → v < slot_count m.config → may_have (slot_count m.config) (has_pair pairs) (map (names_of m.config) calls) k v f ≡ model.reach m calls k (owner.Vm v) f
+    pub by_free : (f : ℕ) → may_have (slot_count m.config) (has_pair pairs) (map (names_of m.config) calls) k (slot_count m.config) f ≡ model.reach m calls k owner.Free f
 
   pub same_reach : (k : ℕ) → k ≤ length calls → IsSame k
   same_reach zero low = record { by_slot = owned.by_slot; by_free = owned.by_free }
@@ -237,24 +236,24 @@ module _ (m : State) (calls : List Call) (pairs : List (ℕ × ℕ)) (owned : Is
         by_slot = λ v f there.
             rw (is, so_far.by_slot v f there)
             (ap (λ (x : Bool). model.reach m calls k (owner.Vm v) f || x)
-            (gains_slot m.config (model.reach m calls k) (reach (slot_count m.config) (has_pair pairs) (map (names_of m.config) calls) k) so_far.by_slot so_far.by_free (call_at calls k) v f there));
+            (gains_slot m.config (model.reach m calls k) (may_have (slot_count m.config) (has_pair pairs) (map (names_of m.config) calls) k) so_far.by_slot so_far.by_free (call_at calls k) v f there));
         by_free = λ f.
             rw (is, so_far.by_free f)
             (ap (λ (x : Bool). model.reach m calls k owner.Free f || x)
-            (gains_free m.config (model.reach m calls k) (reach (slot_count m.config) (has_pair pairs) (map (names_of m.config) calls) k) so_far.by_slot so_far.by_free (call_at calls k) f));
+            (gains_free m.config (model.reach m calls k) (may_have (slot_count m.config) (has_pair pairs) (map (names_of m.config) calls) k) so_far.by_slot so_far.by_free (call_at calls k) f));
       }
 
   pub touches_forth : (k : ℕ) (x : Resource) → k < length calls → footprint m calls k x ≡ true → touches (slot_count m.config) (has_pair pairs) (map (names_of m.config) calls) k (numbered (slot_count m.config) x) ≡ true
   touches_forth k x low h =
       let so_far = same_reach k (omega arith) in
       rw (names_are m.config calls k low)
-      (forth m.config (model.reach m calls k) (reach (slot_count m.config) (has_pair pairs) (map (names_of m.config) calls) k) so_far.by_slot so_far.by_free (call_at calls k) x h)
+      (forth m.config (model.reach m calls k) (may_have (slot_count m.config) (has_pair pairs) (map (names_of m.config) calls) k) so_far.by_slot so_far.by_free (call_at calls k) x h)
 
   pub touches_back : (k : ℕ) (t : Numbered) → k < length calls → touches (slot_count m.config) (has_pair pairs) (map (names_of m.config) calls) k t ≡ true → footprint m calls k (resource_of (slot_count m.config) t) ≡ true
   touches_back k t low h =
       let so_far = same_reach k (omega arith) in
       let is = names_are m.config calls k low in
-      back m.config (model.reach m calls k) (reach (slot_count m.config) (has_pair pairs) (map (names_of m.config) calls) k) so_far.by_slot so_far.by_free (call_at calls k) t (rw is at h)
+      back m.config (model.reach m calls k) (may_have (slot_count m.config) (has_pair pairs) (map (names_of m.config) calls) k) so_far.by_slot so_far.by_free (call_at calls k) t (rw is at h)
 
   -- a plan over the planner's numbers is one over resources
   pub carried : (wave : ℕ → ℕ) (k : ℕ) → k < length calls → ComesJustAfter (touches (slot_count m.config) (has_pair pairs) (map (names_of m.config) calls)) wave k → ComesJustAfter (footprint m calls) wave k

@@ -19,7 +19,7 @@ use Rattle.kc_plan.specs.declared.names.Names.{Names}
 use Rattle.kc_plan.specs.declared.rows.Row.{Row}
 use Rattle.kc_plan.specs.declared.rows.Span.{Span}
 use Rattle.kc_plan.specs.Naming.{below, named_frame, names_of}
-use Rattle.kc_plan.specs.Reach.{is_in, is_at, reach}
+use Rattle.kc_plan.specs.Reach.{has_member, is_at, may_have}
 use Rattle.kc_plan.specs.Owned.{IsOwned}
 use Rattle.kc_plan.specs.Planner.{has_pair}
 use Rattle.kc_plan.specs.Rows.{row_touches, no_row, IsRow, IsRowOf, AreRowsOf, AreRows}
@@ -34,9 +34,9 @@ at_exists config (Some x) v = at_below (slot_count config) x v
 
 module _ (m : State) (calls : List Call) (pairs : List (ℕ × ℕ)) (owned : IsOwned m pairs) (sets : List (List ℕ)) (rows : List Row)
     (are : AreRowsOf (slot_count m.config) (has_pair pairs) (map (names_of m.config) calls) sets rows) (count : length rows ≡ length calls) where
-  row_is : (k : ℕ) → k < length calls → IsRowOf (slot_count m.config) (reach (slot_count m.config) (has_pair pairs) (map (names_of m.config) calls) k) (names_of m.config (call_at calls k)) sets (get_or rows k no_row)
+  row_is : (k : ℕ) → k < length calls → IsRowOf (slot_count m.config) (may_have (slot_count m.config) (has_pair pairs) (map (names_of m.config) calls) k) (names_of m.config (call_at calls k)) sets (get_or rows k no_row)
   row_is k low =
-      subst (λ (n : Names). IsRowOf (slot_count m.config) (reach (slot_count m.config) (has_pair pairs) (map (names_of m.config) calls) k) n sets (get_or rows k no_row))
+      subst (λ (n : Names). IsRowOf (slot_count m.config) (may_have (slot_count m.config) (has_pair pairs) (map (names_of m.config) calls) k) n sets (get_or rows k no_row))
       (names_are m.config calls k low) (are k (rw count low))
 
   -- a row is the call's footprint
@@ -45,7 +45,7 @@ module _ (m : State) (calls : List Call) (pairs : List (ℕ × ℕ)) (owned : Is
       let is = row_is k low in
       let so_far = same_reach m calls pairs owned k (omega arith) in
       rw (is.frame, is.slot f, is.free_has f)
-      (frame_is m.config (model.reach m calls k) (reach (slot_count m.config) (has_pair pairs) (map (names_of m.config) calls) k) so_far.by_slot so_far.by_free (call_at calls k) f)
+      (frame_is m.config (model.reach m calls k) (may_have (slot_count m.config) (has_pair pairs) (map (names_of m.config) calls) k) so_far.by_slot so_far.by_free (call_at calls k) f)
   row_touches_is k (resource.Vm v) low = (row_is k low).slot_is v ∙ at_exists m.config (slot_of (call_at calls k)) v
   row_touches_is k resource.Free low = (row_is k low).free_is
 
@@ -59,7 +59,7 @@ module _ (m : State) (calls : List Call) (pairs : List (ℕ × ℕ)) (owned : Is
 
   -- and has only numbers of what can be, each once
   pub rows_are : IsLawful m → m.config.frames ≤ frame_limit → slot_count m.config ≤ slot_limit → length sets ≡ slot_count m.config + 1
-      → ((p f : ℕ) → p < slot_count m.config + 1 → is_in (get_or sets p []) f ≡ reach (slot_count m.config) (has_pair pairs) (map (names_of m.config) calls) (length (map (names_of m.config) calls)) p f)
+      → ((p f : ℕ) → p < slot_count m.config + 1 → has_member (get_or sets p []) f ≡ may_have (slot_count m.config) (has_pair pairs) (map (names_of m.config) calls) (length (map (names_of m.config) calls)) p f)
       → ((p : ℕ) → IsDistinct eqb (get_or sets p [])) → AreRows sets rows
   rows_are lawful frames slots size same once = record { low = low; once = once; each = each }
     where
@@ -69,22 +69,22 @@ module _ (m : State) (calls : List Call) (pairs : List (ℕ × ℕ)) (owned : Is
             | inl there ↦
                 (let f : ℕ = get_or (get_or sets p []) i 0 in
                 let below_all : p < slot_count m.config + 1 = rw size at there in
-                let in_set : is_in (get_or sets p []) (get_or (get_or sets p []) i 0) ≡ true = list_any_at (eqb (get_or (get_or sets p []) i 0)) (get_or sets p []) i 0 under (equal (get_or (get_or sets p []) i 0)) in
-                let reached : reach (slot_count m.config) (has_pair pairs) (map (names_of m.config) calls) (length calls) p (get_or (get_or sets p []) i 0) ≡ true =
+                let in_set : has_member (get_or sets p []) (get_or (get_or sets p []) i 0) ≡ true = list_any_at (eqb (get_or (get_or sets p []) i 0)) (get_or sets p []) i 0 under (equal (get_or (get_or sets p []) i 0)) in
+                let reached : may_have (slot_count m.config) (has_pair pairs) (map (names_of m.config) calls) (length calls) p (get_or (get_or sets p []) i 0) ≡ true =
                 rw (length_names m.config calls) at (sym (same p (get_or (get_or sets p []) i 0) below_all) ∙ in_set) in
                 let l : get_or (get_or sets p []) i 0 < m.config.frames = reach_below p (get_or (get_or sets p []) i 0) below_all reached in omega arith)
             | inr past ↦ (let e : get_or sets p [] ≡ [] = get_or_past sets p [] past in let none : i < length {A = ℕ} [] = rw e at under in absurd (omega arith))
           ]
         where
-          reach_below : (p f : ℕ) → p < slot_count m.config + 1 → reach (slot_count m.config) (has_pair pairs) (map (names_of m.config) calls) (length calls) p f ≡ true → f < m.config.frames
+          reach_below : (p f : ℕ) → p < slot_count m.config + 1 → may_have (slot_count m.config) (has_pair pairs) (map (names_of m.config) calls) (length calls) p f ≡ true → f < m.config.frames
           reach_below p f there reached =
               let so_far = same_reach m calls pairs owned (length calls) (omega arith) in
               elim (cases_lt p (slot_count m.config)) [
                 | inl slot ↦ reach-low m calls lawful (length calls) (owner.Vm p) f refl (sym (so_far.by_slot p f slot) ∙ reached)
                 | inr free ↦
                     (let is : p ≡ slot_count m.config = omega arith in
-                    let here : reach (slot_count m.config) (has_pair pairs) (map (names_of m.config) calls) (length calls) (slot_count m.config) f ≡ true =
-                    subst (λ (x : ℕ). reach (slot_count m.config) (has_pair pairs) (map (names_of m.config) calls) (length calls) x f ≡ true) is reached in
+                    let here : may_have (slot_count m.config) (has_pair pairs) (map (names_of m.config) calls) (length calls) (slot_count m.config) f ≡ true =
+                    subst (λ (x : ℕ). may_have (slot_count m.config) (has_pair pairs) (map (names_of m.config) calls) (length calls) x f ≡ true) is reached in
                     reach-low m calls lawful (length calls) owner.Free f refl (sym (so_far.by_free f) ∙ here))
               ]
 

@@ -11,7 +11,7 @@ use Rattle.kc_plan.specs.Rows.{IsListed, IsPut, IsWithout, HasFrame, HasOther, H
 use Rattle.std.specs.Prelude.{eqb, nat_lt, Option, Some, None, position}
 use Rattle.std.specs.List.{position_or_len}
 use Rattle.std.proofs.lemmas.Bool.Decides.{nat_tests}
-use Rattle.kc_plan.specs.Reach.{is_in, is_at}
+use Rattle.kc_plan.specs.Reach.{has_member, is_at}
 use Rattle.std.specs.List.{IsDistinct}
 use Rattle.std.specs.Cmp.{IsEquivalence}
 use Rattle.std.proofs.lemmas.Map.Keys.{IsDistinct-push, IsDistinct-from_apart, apart_from_distinct}
@@ -20,26 +20,26 @@ lt_suc : (a b : ℕ) → nat_lt (1 + a) (suc b) ≡ nat_lt a b
 lt_suc a b = grind (arith, nat_tests)
 
 -- whether the first n hold f, by the place of f
-pub first_by_place : (xs : List ℕ) (f n : ℕ) → n ≤ length xs → is_in (take n xs) f ≡ nat_lt (position_or_len (eqb f) xs) n
+pub first_by_place : (xs : List ℕ) (f n : ℕ) → n ≤ length xs → has_member (take n xs) f ≡ nat_lt (position_or_len (eqb f) xs) n
 first_by_place [] f n low = let e : n ≡ 0 = omega arith in rw e refl
 first_by_place (x ∷ xs) f zero low = let e : nat_lt (position_or_len (eqb f) (x ∷ xs)) 0 ≡ false = grind (arith, nat_tests) in sym e
 first_by_place (x ∷ xs) f (suc n) low = by x xs f n (eqb f x) refl (first_by_place xs f n (omega arith))
   where
-    by : (x : ℕ) (xs : List ℕ) (f n : ℕ) (b : Bool) → eqb f x ≡ b → is_in (take n xs) f ≡ nat_lt (position_or_len (eqb f) xs) n → is_in (take (suc n) (x ∷ xs)) f ≡ nat_lt (position_or_len (eqb f) (x ∷ xs)) (suc n)
+    by : (x : ℕ) (xs : List ℕ) (f n : ℕ) (b : Bool) → eqb f x ≡ b → has_member (take n xs) f ≡ nat_lt (position_or_len (eqb f) xs) n → has_member (take (suc n) (x ∷ xs)) f ≡ nat_lt (position_or_len (eqb f) (x ∷ xs)) (suc n)
     by x xs f n true e ih = rw e (let z : nat_lt 0 (suc n) ≡ true = grind (arith, nat_tests) in sym z)
     by x xs f n false e ih = rw e (ih ∙ sym (lt_suc (position_or_len (eqb f) xs) n))
 
-pub some_place : (xs : List ℕ) (f n i : ℕ) → Some i ≡ position (eqb f) xs → n ≤ length xs → nat_lt i n ≡ is_in (take n xs) f
+pub some_place : (xs : List ℕ) (f n i : ℕ) → Some i ≡ position (eqb f) xs → n ≤ length xs → nat_lt i n ≡ has_member (take n xs) f
 some_place xs f n i e low = case (nat_lt (position_or_len (eqb f) xs) (length xs)) refl
   where
-    case : (b : Bool) → nat_lt (position_or_len (eqb f) xs) (length xs) ≡ b → nat_lt i n ≡ is_in (take n xs) f
+    case : (b : Bool) → nat_lt (position_or_len (eqb f) xs) (length xs) ≡ b → nat_lt i n ≡ has_member (take n xs) f
     case true t = let is : Some i ≡ Some (position_or_len (eqb f) xs) = rw t at e in let j : i ≡ position_or_len (eqb f) xs = cc in rw j (sym (first_by_place xs f n low))
     case false t = let is : Some i ≡ None = rw t at e in cc
 
-pub no_place : (xs : List ℕ) (f n : ℕ) → None ≡ position (eqb f) xs → n ≤ length xs → false ≡ is_in (take n xs) f
+pub no_place : (xs : List ℕ) (f n : ℕ) → None ≡ position (eqb f) xs → n ≤ length xs → false ≡ has_member (take n xs) f
 no_place xs f n e low = case (nat_lt (position_or_len (eqb f) xs) (length xs)) refl
   where
-    case : (b : Bool) → nat_lt (position_or_len (eqb f) xs) (length xs) ≡ b → false ≡ is_in (take n xs) f
+    case : (b : Bool) → nat_lt (position_or_len (eqb f) xs) (length xs) ≡ b → false ≡ has_member (take n xs) f
     case true t = let is : None ≡ Some (position_or_len (eqb f) xs) = rw t at e in cc
     case false t = let past : nat_lt (position_or_len (eqb f) xs) n ≡ false = grind (arith, nat_tests) in sym (first_by_place xs f n low ∙ past)
 
@@ -147,20 +147,20 @@ some_at (y ∷ xs) zero x e = cc
 some_at (y ∷ xs) (suc i) x e = some_at xs i x e
 
 -- a member of the first n has a place, and the other way round
-place_in : (xs : List ℕ) (n f : ℕ) → is_in (take n xs) f ≡ true → n ≤ length xs → (i : ℕ) × (i < n) × (get_or xs i 0 ≡ f)
+place_in : (xs : List ℕ) (n f : ℕ) → has_member (take n xs) f ≡ true → n ≤ length xs → (i : ℕ) × (i < n) × (get_or xs i 0 ≡ f)
 place_in xs zero f h low = cc
 place_in [] (suc n) f h low = absurd (omega arith)
 place_in (x ∷ xs) (suc n) f h low =
-    elim (or_cases (eqb f x) (is_in (take n xs) f) h) [
+    elim (or_cases (eqb f x) (has_member (take n xs) f) h) [
       | inl here ↦ (0, omega arith, sym (same_number f x here))
       | inr later ↦ (let it = place_in xs n f later (omega arith) in (suc it.0, (let l = it.1 in omega arith), it.2))
     ]
 
-in_place : (xs : List ℕ) (n i : ℕ) → i < n → n ≤ length xs → is_in (take n xs) (get_or xs i 0) ≡ true
+in_place : (xs : List ℕ) (n i : ℕ) → i < n → n ≤ length xs → has_member (take n xs) (get_or xs i 0) ≡ true
 in_place xs zero i low all = absurd (omega arith)
 in_place [] (suc n) i low all = absurd (omega arith)
-in_place (x ∷ xs) (suc n) zero low all = or_left (eqb x x) (is_in (take n xs) x) (equal x)
-in_place (x ∷ xs) (suc n) (suc i) low all = or_right (eqb (get_or xs i 0) x) (is_in (take n xs) (get_or xs i 0)) (in_place xs n i (omega arith) (omega arith))
+in_place (x ∷ xs) (suc n) zero low all = or_left (eqb x x) (has_member (take n xs) x) (equal x)
+in_place (x ∷ xs) (suc n) (suc i) low all = or_right (eqb (get_or xs i 0) x) (has_member (take n xs) (get_or xs i 0)) (in_place xs n i (omega arith) (omega arith))
 
 -- all is listed
 pub listed_all : (sets : List (List ℕ)) (s : Span) (frame : Option ℕ) (other : Option Span) (before after : List Resource) → IsSpan sets s

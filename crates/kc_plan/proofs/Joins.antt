@@ -6,7 +6,7 @@ use Rattle.std.proofs.lemmas.List.Folds.{list_any_at}
 use Rattle.std.specs.List.{IsDistinct}
 use Rattle.std.proofs.Math.ListN.{length-set}
 use Rattle.kc_plan.specs.Members.{with_member}
-use Rattle.kc_plan.specs.Reach.{is_in}
+use Rattle.kc_plan.specs.Reach.{has_member}
 use Rattle.kc_plan.proofs.Added.{length_added, added_front, set_has, set_once}
 use Rattle.kc_plan.proofs.Shapes.{or_left, or_right, or_cases, both, and_left, and_right, same_number, equal}
 use Rattle.kc_plan.specs.Planner.{Reached, members_of, is_near, IsExact, IsRelated, IsJoined, AreFreed, IsWider, IsFreeing, IsGrown}
@@ -21,18 +21,18 @@ module _ (size free p f : ℕ) (a b : Reached) (low : p < size) (free_low : free
   new_set : members_of b p ≡ with_member (members_of a p) f
   new_set = rw sets (get_or-set_same a.sets p (with_member (get_or a.sets p []) f) [] there)
 
-  pub members_joined : (q g : ℕ) → is_in (members_of b q) g ≡ (is_in (members_of a q) g || (eqb p q && eqb f g))
+  pub members_joined : (q g : ℕ) → has_member (members_of b q) g ≡ (has_member (members_of a q) g || (eqb p q && eqb f g))
   members_joined q g = set_has p f a.sets b.sets there sets q g
 
-  keeps : (q g : ℕ) → is_in (members_of a q) g ≡ true → is_in (members_of b q) g ≡ true
-  keeps q g has = members_joined q g ∙ or_left (is_in (members_of a q) g) (eqb p q && eqb f g) has
+  keeps : (q g : ℕ) → has_member (members_of a q) g ≡ true → has_member (members_of b q) g ≡ true
+  keeps q g has = members_joined q g ∙ or_left (has_member (members_of a q) g) (eqb p q && eqb f g) has
 
-  has_new : is_in (members_of b p) f ≡ true
-  has_new = members_joined p f ∙ or_right (is_in (members_of a p) f) (eqb p p && eqb f f) (both (eqb p p) (eqb f f) (equal p) (equal f))
+  has_new : has_member (members_of b p) f ≡ true
+  has_new = members_joined p f ∙ or_right (has_member (members_of a p) f) (eqb p p && eqb f f) (both (eqb p p) (eqb f f) (equal p) (equal f))
 
-  old_or_new : (q g : ℕ) → is_in (members_of b q) g ≡ true → (is_in (members_of a q) g ≡ true) ⊎ ((p ≡ q) × (f ≡ g))
+  old_or_new : (q g : ℕ) → has_member (members_of b q) g ≡ true → (has_member (members_of a q) g ≡ true) ⊎ ((p ≡ q) × (f ≡ g))
   old_or_new q g has =
-      elim (or_cases (is_in (members_of a q) g) (eqb p q && eqb f g) (sym (members_joined q g) ∙ has)) [
+      elim (or_cases (has_member (members_of a q) g) (eqb p q && eqb f g) (sym (members_joined q g) ∙ has)) [
         | inl old ↦ inl old
         | inr new ↦ inr (same_number p q (and_left (eqb p q) (eqb f g) new), same_number f g (and_right (eqb p q) (eqb f g) new))
       ]
@@ -60,10 +60,10 @@ module _ (size free p f : ℕ) (a b : Reached) (low : p < size) (free_low : free
     near_old : (q r : ℕ) → is_near a q r ≡ true → is_near b q r ≡ true
     near_old q r n = related.old q r (rw near_before n)
 
-    has_before : (q : ℕ) → is_in (members_of b q) f ≡ true → is_in (members_of m q) f ≡ true
+    has_before : (q : ℕ) → has_member (members_of b q) f ≡ true → has_member (members_of m q) f ≡ true
     has_before q has = rw between has
 
-    has_after : (q : ℕ) → is_in (members_of m q) f ≡ true → is_in (members_of b q) f ≡ true
+    has_after : (q : ℕ) → has_member (members_of m q) f ≡ true → has_member (members_of b q) f ≡ true
     has_after q has = rw between at has
 
     pub joined_exact : IsExact size free b
@@ -91,8 +91,8 @@ module _ (size free p f : ℕ) (a b : Reached) (low : p < size) (free_low : free
                 ])
             | inr new ↦
                 elim new [
-                  | inl forth ↦ (let e : p ≡ q = sym forth.0 in inr (f, subst (λ (x : ℕ). is_in (members_of b x) f ≡ true) e has_new, has_after r forth.1))
-                  | inr back ↦ (let e : p ≡ r = sym back.0 in inr (f, has_after q back.1, subst (λ (x : ℕ). is_in (members_of b x) f ≡ true) e has_new))
+                  | inl forth ↦ (let e : p ≡ q = sym forth.0 in inr (f, subst (λ (x : ℕ). has_member (members_of b x) f ≡ true) e has_new, has_after r forth.1))
+                  | inr back ↦ (let e : p ≡ r = sym back.0 in inr (f, has_after q back.1, subst (λ (x : ℕ). has_member (members_of b x) f ≡ true) e has_new))
                 ]
           ];
       itself = λ q below. near_old q q (exact.itself q below);
@@ -102,11 +102,11 @@ module _ (size free p f : ℕ) (a b : Reached) (low : p < size) (free_low : free
                 elim (old_or_new r g hr) [
                   | inl or_old ↦ near_old q r (exact.shared q r g bq br oq or_old)
                   | inr new ↦
-                      (let has_f : is_in (members_of b q) f ≡ true = subst (λ (x : ℕ). is_in (members_of b q) x ≡ true) (sym new.1) hq in
+                      (let has_f : has_member (members_of b q) f ≡ true = subst (λ (x : ℕ). has_member (members_of b q) x ≡ true) (sym new.1) hq in
                       subst (λ (x : ℕ). is_near b q x ≡ true) new.0 (related.back q (rw count bq) (has_before q has_f)))
                 ]
             | inr new ↦
-                (let has_f : is_in (members_of b r) f ≡ true = subst (λ (x : ℕ). is_in (members_of b r) x ≡ true) (sym new.1) hr in
+                (let has_f : has_member (members_of b r) f ≡ true = subst (λ (x : ℕ). has_member (members_of b r) x ≡ true) (sym new.1) hr in
                 subst (λ (x : ℕ). is_near b x r ≡ true) new.0 (related.there r (rw count br) (has_before r has_f)))
           ];
       once = each_once;
@@ -124,7 +124,7 @@ take_front [] ys (suc n) low = absurd (omega arith)
 take_front (x ∷ xs) ys (suc n) low = let rest = take_front xs ys n (omega arith) in ((let l = rest.0 in omega arith), ap (λ (zs : List ℕ). x ∷ zs) rest.1)
 
 front_kept : (xs : List ℕ) (f n : ℕ) → n ≤ length xs → (n ≤ length (with_member xs f)) × (take n (with_member xs f) ≡ take n xs)
-front_kept xs f n low = by (is_in xs f)
+front_kept xs f n low = by (has_member xs f)
   where
     by : (b : Bool) → (n ≤ length (cond b xs (xs ++ f ∷ []))) × (take n (cond b xs (xs ++ f ∷ [])) ≡ take n xs)
     by true = (low, refl)
@@ -158,7 +158,7 @@ slot_stays : (size free v f : ℕ) (b c : Reached) → v < free → free < size 
 slot_stays size free v f b c low free_low exact j = same_set size free free f b c free_low free_low exact j.sets v (λ (e : v ≡ free). absurd (omega arith))
 
 -- one more of what the slot may have
-pub freeing_more : (size free v n f : ℕ) (a b c : Reached) → v < free → free < size → IsFreeing size free v n a b → get_or (members_of a v) n 0 ≡ f → is_in (members_of a v) f ≡ true
+pub freeing_more : (size free v n f : ℕ) (a b c : Reached) → v < free → free < size → IsFreeing size free v n a b → get_or (members_of a v) n 0 ≡ f → has_member (members_of a v) f ≡ true
     → IsJoined size free free f b c → IsFreeing size free v (n + 1) a c
 freeing_more size free v n f a b c low free_low so_far is has j = record {
   exact = j.exact;
@@ -168,7 +168,7 @@ freeing_more size free v n f a b c low free_low so_far is has j = record {
   only = λ q g h.
       elim (old_or_new size free free f b c free_low free_low so_far.exact j.sets q g h) [
         | inl old ↦ so_far.only q g old
-        | inr new ↦ inr (new.0, subst (λ (x : ℕ). is_in (members_of a v) x ≡ true) new.1 has)
+        | inr new ↦ inr (new.0, subst (λ (x : ℕ). has_member (members_of a v) x ≡ true) new.1 has)
       ];
   there = λ i below.
       elim (cases_lt i n) [
@@ -181,25 +181,25 @@ freeing_more size free v n f a b c low free_low so_far is has j = record {
       (second.0, second.1 ∙ first.1);
 }
 
-in_place : (xs : List ℕ) (f : ℕ) → is_in xs f ≡ true → (i : ℕ) × (i < length xs) × (get_or xs i 0 ≡ f)
+in_place : (xs : List ℕ) (f : ℕ) → has_member xs f ≡ true → (i : ℕ) × (i < length xs) × (get_or xs i 0 ≡ f)
 in_place [] f h = cc
 in_place (x ∷ xs) f h = in_place_by x xs f (eqb f x) refl (in_place xs f) h
   where
-    in_place_by : (x : ℕ) (xs : List ℕ) (f : ℕ) (b : Bool) → eqb f x ≡ b → (is_in xs f ≡ true → (i : ℕ) × (i < length xs) × (get_or xs i 0 ≡ f))
-        → is_in (x ∷ xs) f ≡ true → (i : ℕ) × (i < length (x ∷ xs)) × (get_or (x ∷ xs) i 0 ≡ f)
+    in_place_by : (x : ℕ) (xs : List ℕ) (f : ℕ) (b : Bool) → eqb f x ≡ b → (has_member xs f ≡ true → (i : ℕ) × (i < length xs) × (get_or xs i 0 ≡ f))
+        → has_member (x ∷ xs) f ≡ true → (i : ℕ) × (i < length (x ∷ xs)) × (get_or (x ∷ xs) i 0 ≡ f)
     in_place_by x xs f true e rest h = (0, omega arith, sym (same_number f x e))
-    in_place_by x xs f false e rest h = let later : is_in xs f ≡ true = rw e at h in let p = rest later in (suc p.0, omega arith, p.2)
+    in_place_by x xs f false e rest h = let later : has_member xs f ≡ true = rw e at h in let p = rest later in (suc p.0, omega arith, p.2)
 
-at_place : (xs : List ℕ) (i : ℕ) → i < length xs → is_in xs (get_or xs i 0) ≡ true
+at_place : (xs : List ℕ) (i : ℕ) → i < length xs → has_member xs (get_or xs i 0) ≡ true
 at_place xs i low = list_any_at (eqb (get_or xs i 0)) xs i 0 low (equal (get_or xs i 0))
 
-at_place_of : (xs : List ℕ) (i x : ℕ) → i < length xs → get_or xs i 0 ≡ x → is_in xs x ≡ true
-at_place_of xs i x low e = subst (λ (y : ℕ). is_in xs y ≡ true) e (at_place xs i low)
+at_place_of : (xs : List ℕ) (i x : ℕ) → i < length xs → get_or xs i 0 ≡ x → has_member xs x ≡ true
+at_place_of xs i x low e = subst (λ (y : ℕ). has_member xs y ≡ true) e (at_place xs i low)
 
-pub some_at : (xs : List ℕ) (i x : ℕ) → slice_get xs i ≡ Some x → (get_or xs i 0 ≡ x) × (is_in xs x ≡ true)
+pub some_at : (xs : List ℕ) (i x : ℕ) → slice_get xs i ≡ Some x → (get_or xs i 0 ≡ x) × (has_member xs x ≡ true)
 some_at [] i x e = cc
 some_at (y ∷ xs) zero x e = let is : y ≡ x = cc in (is, at_place_of (y ∷ xs) 0 x (omega arith) is)
-some_at (y ∷ xs) (suc i) x e = let rest = some_at xs i x e in (rest.0, or_right (eqb x y) (is_in xs x) rest.1)
+some_at (y ∷ xs) (suc i) x e = let rest = some_at xs i x e in (rest.0, or_right (eqb x y) (has_member xs x) rest.1)
 
 -- and once all are there
 pub freed_all : (size free v n : ℕ) (a b c : Reached) → v < free → free < size → IsExact size free a → IsFreeing size free v n a b → length (members_of a v) ≤ n
@@ -218,22 +218,22 @@ freed_all size free v n a b c low free_low before so_far all sets near freed = r
     once = λ p. rw sets (so_far.exact.once p);
   };
   sets = λ p f below.
-      same_true (is_in (members_of c p) f) (is_in (members_of a p) f || (eqb free p && is_in (members_of a v) f))
+      same_true (has_member (members_of c p) f) (has_member (members_of a p) f || (eqb free p && has_member (members_of a v) f))
       (λ h.
-      let has : is_in (members_of b p) f ≡ true = rw sets at h in
+      let has : has_member (members_of b p) f ≡ true = rw sets at h in
       elim (so_far.only p f has) [
-        | inl old ↦ or_left (is_in (members_of a p) f) (eqb free p && is_in (members_of a v) f) old
-        | inr new ↦ or_right (is_in (members_of a p) f) (eqb free p && is_in (members_of a v) f) (both (eqb free p) (is_in (members_of a v) f) (rw new.0 (equal p)) new.1)
+        | inl old ↦ or_left (has_member (members_of a p) f) (eqb free p && has_member (members_of a v) f) old
+        | inr new ↦ or_right (has_member (members_of a p) f) (eqb free p && has_member (members_of a v) f) (both (eqb free p) (has_member (members_of a v) f) (rw new.0 (equal p)) new.1)
       ])
       (λ h.
       rw sets
-      (elim (or_cases (is_in (members_of a p) f) (eqb free p && is_in (members_of a v) f) h) [
+      (elim (or_cases (has_member (members_of a p) f) (eqb free p && has_member (members_of a v) f) h) [
         | inl old ↦ so_far.keeps p f old
         | inr new ↦
-            (let e : free ≡ p = same_number free p (and_left (eqb free p) (is_in (members_of a v) f) new) in
-            let it = in_place (members_of a v) f (and_right (eqb free p) (is_in (members_of a v) f) new) in
-            let got : is_in (members_of b free) (get_or (members_of a v) it.0 0) ≡ true = so_far.there it.0 (let l = it.1 in omega arith) in
-            subst (λ (x : ℕ). is_in (members_of b x) f ≡ true) e (subst (λ (x : ℕ). is_in (members_of b free) x ≡ true) it.2 got))
+            (let e : free ≡ p = same_number free p (and_left (eqb free p) (has_member (members_of a v) f) new) in
+            let it = in_place (members_of a v) f (and_right (eqb free p) (has_member (members_of a v) f) new) in
+            let got : has_member (members_of b free) (get_or (members_of a v) it.0 0) ≡ true = so_far.there it.0 (let l = it.1 in omega arith) in
+            subst (λ (x : ℕ). has_member (members_of b x) f ≡ true) e (subst (λ (x : ℕ). has_member (members_of b free) x ≡ true) it.2 got))
       ]));
   grown = λ p m under. rw sets (so_far.grown p m under);
 }
@@ -263,12 +263,12 @@ freed_all size free v n a b c low free_low before so_far all sets near freed = r
         let s = set_there p (not_v p e) in
         let l = so_far.exact.freed_low p below in rw sets (omega arith)
 
-    freed_in_by : (p i : ℕ) → p < size → (e : Bool) → eqb v p ≡ e → i < get_or c.freed p 0 → is_in (members_of c free) (get_or (members_of c p) i 0) ≡ true
+    freed_in_by : (p i : ℕ) → p < size → (e : Bool) → eqb v p ≡ e → i < get_or c.freed p 0 → has_member (members_of c free) (get_or (members_of c p) i 0) ≡ true
     freed_in_by p i below true e under =
         let is : v ≡ p = same_number v p e in
         let s = set_here p is in
-        let got : is_in (members_of b free) (get_or (members_of a v) i 0) ≡ true = so_far.there i (omega arith) in
-        let there : is_in (members_of c free) (get_or (members_of c v) i 0) ≡ true = rw slot_c (rw sets got) in
-        subst (λ (x : ℕ). is_in (members_of c free) (get_or (members_of c x) i 0) ≡ true) is there
+        let got : has_member (members_of b free) (get_or (members_of a v) i 0) ≡ true = so_far.there i (omega arith) in
+        let there : has_member (members_of c free) (get_or (members_of c v) i 0) ≡ true = rw slot_c (rw sets got) in
+        subst (λ (x : ℕ). has_member (members_of c free) (get_or (members_of c x) i 0) ≡ true) is there
     freed_in_by p i below false e under =
         let s = set_there p (not_v p e) in rw sets (so_far.exact.freed_in p i below (omega arith))

@@ -6,14 +6,14 @@ use Rattle.std.proofs.lemmas.List.{get_or_append_left}
 use Rattle.kc_plan.specs.declared.names.Names.{Names}
 use Rattle.kc_plan.specs.declared.rows.Row.{Row}
 use Rattle.kc_plan.specs.declared.rows.Span.{Span}
-use Rattle.kc_plan.specs.Reach.{is_in, is_at, reach_of, reach, names_at}
+use Rattle.kc_plan.specs.Reach.{has_member, is_at, reach_of, may_have, names_at}
 use Rattle.kc_plan.specs.Planner.{Reached, members_of, IsGrown}
 use Rattle.kc_plan.specs.Rows.{has_frame, is_of, IsSpan, IsRowOf, AreRowsOf, span_of, row_of, no_row}
 
 module _ (a b : Reached) (grown : IsGrown a b) (size : length b.sets ≡ length a.sets) where
   has_kept : (o : Option Span) (f : ℕ) → IfSome o (IsSpan a.sets) → has_frame b.sets o f ≡ has_frame a.sets o f
   has_kept None f span = refl
-  has_kept (Some s) f span = ap (λ (xs : List ℕ). is_in xs f) (grown s.principal s.length span.within).1
+  has_kept (Some s) f span = ap (λ (xs : List ℕ). has_member xs f) (grown s.principal s.length span.within).1
 
   span_kept : (o : Option Span) → IfSome o (IsSpan a.sets) → IfSome o (IsSpan b.sets)
   span_kept None span = tt
@@ -35,9 +35,9 @@ take_all : (xs : List ℕ) → take (length xs) xs ≡ xs
 take_all [] = refl
 take_all (x ∷ xs) = ap (λ (zs : List ℕ). x ∷ zs) (take_all xs)
 
-module _ (free : ℕ) (before : ℕ → ℕ → Bool) (sets : List (List ℕ)) (same : (p f : ℕ) → p < free + 1 → is_in (get_or sets p []) f ≡ before p f) (size : length sets ≡ free + 1) where
-  span_is : (p f : ℕ) → p < free + 1 → is_in (take (length (get_or sets p [])) (get_or sets p [])) f ≡ before p f
-  span_is p f low = ap (λ (xs : List ℕ). is_in xs f) (take_all (get_or sets p [])) ∙ same p f low
+module _ (free : ℕ) (before : ℕ → ℕ → Bool) (sets : List (List ℕ)) (same : (p f : ℕ) → p < free + 1 → has_member (get_or sets p []) f ≡ before p f) (size : length sets ≡ free + 1) where
+  span_is : (p f : ℕ) → p < free + 1 → has_member (take (length (get_or sets p [])) (get_or sets p [])) f ≡ before p f
+  span_is p f low = ap (λ (xs : List ℕ). has_member xs f) (take_all (get_or sets p [])) ∙ same p f low
 
   span_there : (p : ℕ) → p < free + 1 → IsSpan sets (span_of sets p)
   span_there p low = record { principal = rw size low; within = omega arith }
@@ -88,22 +88,22 @@ last_row (x ∷ rows) row d = last_row rows row d
 
 -- one call more
 pub rows_more : (free : ℕ) (start : ℕ → ℕ → Bool) (cs : List Names) (a b : Reached) (rows more : List Row) (n : Names) → n ≡ names_at cs (length rows) → IfSome n.slot (λ v. v < free)
-    → ((p f : ℕ) → p < free + 1 → is_in (members_of a p) f ≡ reach free start cs (length rows) p f)
+    → ((p f : ℕ) → p < free + 1 → has_member (members_of a p) f ≡ may_have free start cs (length rows) p f)
     → length a.sets ≡ free + 1 → length b.sets ≡ free + 1 → IsGrown a b → more ≡ rows ++ row_of a.sets free n ∷ []
     → AreRowsOf free start cs a.sets rows → AreRowsOf free start cs b.sets more
 rows_more free start cs a b rows more n is low same size_a size_b grown pushed so_far = rw pushed each
   where
-    each : (k : ℕ) → k < length (rows ++ row_of a.sets free n ∷ []) → IsRowOf free (reach free start cs k) (names_at cs k) b.sets (get_or (rows ++ row_of a.sets free n ∷ []) k no_row)
+    each : (k : ℕ) → k < length (rows ++ row_of a.sets free n ∷ []) → IsRowOf free (may_have free start cs k) (names_at cs k) b.sets (get_or (rows ++ row_of a.sets free n ∷ []) k no_row)
     each k under =
         let len : length (rows ++ row_of a.sets free n ∷ []) ≡ length rows + 1 = length-append rows (row_of a.sets free n ∷ []) in
         elim (cases_lt k (length rows)) [
           | inl old ↦
               (let e = get_or_append_left rows (row_of a.sets free n ∷ []) no_row k old in
-              rw e (row_kept a b grown (size_b ∙ sym size_a) free (reach free start cs k) (names_at cs k) (get_or rows k no_row) (so_far k old)))
+              rw e (row_kept a b grown (size_b ∙ sym size_a) free (may_have free start cs k) (names_at cs k) (get_or rows k no_row) (so_far k old)))
           | inr past ↦
               (let e : length rows ≡ k = omega arith in
-              subst (λ (x : ℕ). IsRowOf free (reach free start cs x) (names_at cs x) b.sets (get_or (rows ++ row_of a.sets free n ∷ []) x no_row)) e
+              subst (λ (x : ℕ). IsRowOf free (may_have free start cs x) (names_at cs x) b.sets (get_or (rows ++ row_of a.sets free n ∷ []) x no_row)) e
               (rw (last_row rows (row_of a.sets free n) no_row, sym is)
-              (row_kept a b grown (size_b ∙ sym size_a) free (reach free start cs (length rows)) n (row_of a.sets free n)
-              (row_new free (reach free start cs (length rows)) a.sets same size_a n low))))
+              (row_kept a b grown (size_b ∙ sym size_a) free (may_have free start cs (length rows)) n (row_of a.sets free n)
+              (row_new free (may_have free start cs (length rows)) a.sets same size_a n low))))
         ]

@@ -7,7 +7,7 @@ use Rattle.waves.specs.Planned.{ComesJustAfter}
 use Rattle.kc_plan.specs.declared.names.Gain.{Gain}
 use Rattle.kc_plan.specs.declared.names.Gain.TheVariants.{Nothing, SlotTakesFrame, FreeTakesFrame, FreeTakesReach}
 use Rattle.kc_plan.specs.declared.names.Names.{Names}
-use Rattle.kc_plan.specs.Reach.{is_in, is_at, names_principal, names_at, reach, touches, gains_by, reach_of}
+use Rattle.kc_plan.specs.Reach.{has_member, is_at, names_principal, names_at, may_have, touches, gains_by, reach_of}
 use Rattle.kc_plan.specs.LastWaves.{IsNear, IsFound, IsNoted}
 use Rattle.kc_plan.proofs.Shapes.{same_number, or_cases, and_right, the_shape}
 use Rattle.kc_plan.proofs.Steps.{just_after, one_more}
@@ -64,14 +64,14 @@ module _ (frames free : ℕ) (start : ℕ → ℕ → Bool) (cs : List Names) (r
         | inr at ↦ (let e : free ≡ p = same_number free p (and_right (names_at cs k).free (eqb free p) at) in omega arith)
       ]
 
-  module _ (k : ℕ) (h : Reached) (sets : (p f : ℕ) → p < free + 1 → is_in (members_of h p) f ≡ reach free start cs k p f) where
-    forth : (p f : ℕ) → p < free + 1 → is_in (members_of h p) f ≡ true → reach free start cs k p f ≡ true
+  module _ (k : ℕ) (h : Reached) (sets : (p f : ℕ) → p < free + 1 → has_member (members_of h p) f ≡ may_have free start cs k p f) where
+    forth : (p f : ℕ) → p < free + 1 → has_member (members_of h p) f ≡ true → may_have free start cs k p f ≡ true
     forth p f low has = sym (sets p f low) ∙ has
 
-    back : (p f : ℕ) → p < free + 1 → reach free start cs k p f ≡ true → is_in (members_of h p) f ≡ true
+    back : (p f : ℕ) → p < free + 1 → may_have free start cs k p f ≡ true → has_member (members_of h p) f ≡ true
     back p f low has = sets p f low ∙ has
 
-    near_at : IsExact (free + 1) free h → IsNear (λ j f. is_at (names_at cs j).frame f) (λ j p. names_principal free (names_at cs j) p) (reach free start cs) (touches free start cs) (free + 1) k (is_near h)
+    near_at : IsExact (free + 1) free h → IsNear (λ j f. is_at (names_at cs j).frame f) (λ j p. names_principal free (names_at cs j) p) (may_have free start cs) (touches free start cs) (free + 1) k (is_near h)
     near_at exact = record {
       shared_or_same = λ p q bp bq n.
           elim (exact.shared_or_same p q bp bq n) [
@@ -83,7 +83,7 @@ module _ (frames free : ℕ) (start : ℕ → ℕ → Bool) (cs : List Names) (r
     }
 
     found_at : (s : Stamps) (high : ℕ) → IsHigh (free + 1) free (names_at cs k) h s high
-        → IsFound (λ j f. is_at (names_at cs j).frame f) (λ j p. names_principal free (names_at cs j) p) (reach free start cs) (touches free start cs) (free + 1) k high
+        → IsFound (λ j f. is_at (names_at cs j).frame f) (λ j p. names_principal free (names_at cs j) p) (may_have free start cs) (touches free start cs) (free + 1) k high
         (λ f. get_or s.frame_waves f 0) (λ p. get_or s.principal_waves p 0) (λ p. get_or s.reach_waves p 0)
     found_at s high found = record {
       named = found.named;
@@ -105,7 +105,7 @@ module _ (frames free : ℕ) (start : ℕ → ℕ → Bool) (cs : List Names) (r
     }
 
     noted_at : (s t : Stamps) (w : ℕ) → IsWritten (free + 1) free (names_at cs k) w h s t
-        → IsNoted (λ j f. is_at (names_at cs j).frame f) (λ j p. names_principal free (names_at cs j) p) (reach free start cs) (touches free start cs) (free + 1) k w (is_near h)
+        → IsNoted (λ j f. is_at (names_at cs j).frame f) (λ j p. names_principal free (names_at cs j) p) (may_have free start cs) (touches free start cs) (free + 1) k w (is_near h)
         (λ f. get_or s.frame_waves f 0) (λ p. get_or s.principal_waves p 0) (λ p. get_or s.reach_waves p 0) (λ f. get_or t.frame_waves f 0) (λ p. get_or t.principal_waves p 0) (λ p. get_or t.reach_waves p 0)
     noted_at s t w noted = record {
       frame_is = noted.frame_is;
@@ -161,7 +161,7 @@ module _ (frames free : ℕ) (start : ℕ → ℕ → Bool) (cs : List Names) (r
         ];
     tracked = λ wave agrees.
         rw len
-        (one_more (λ j f. is_at (names_at cs j).frame f) (λ j p. names_principal free (names_at cs j) p) (reach free start cs) (touches free start cs) (the_shape free start cs)
+        (one_more (λ j f. is_at (names_at cs j).frame f) (λ j p. names_principal free (names_at cs j) p) (may_have free start cs) (touches free start cs) (the_shape free start cs)
         wave (free + 1) (length waves) (suc high) (is_near h) (λ f. get_or s.frame_waves f 0) (λ p. get_or s.principal_waves p 0) (λ p. get_or s.reach_waves p 0)
         (λ f. get_or t.frame_waves f 0) (λ p. get_or t.principal_waves p 0) (λ p. get_or t.reach_waves p 0) named_below
         (going.tracked wave (earlier wave agrees)) (near_at (length waves) h going.sets going.exact) noted (just_at wave agrees) (last_is wave agrees));
@@ -186,11 +186,11 @@ module _ (frames free : ℕ) (start : ℕ → ℕ → Bool) (cs : List Names) (r
       w_low : suc high ≤ suc (length waves)
       w_low = let l = high_low waves h s n (length waves) high is going found_n in omega arith
 
-      found : IsFound (λ j f. is_at (names_at cs j).frame f) (λ j p. names_principal free (names_at cs j) p) (reach free start cs) (touches free start cs) (free + 1) (length waves) high
+      found : IsFound (λ j f. is_at (names_at cs j).frame f) (λ j p. names_principal free (names_at cs j) p) (may_have free start cs) (touches free start cs) (free + 1) (length waves) high
           (λ f. get_or s.frame_waves f 0) (λ p. get_or s.principal_waves p 0) (λ p. get_or s.reach_waves p 0)
       found = found_at (length waves) h going.sets s high (subst (λ (x : Names). IsHigh (free + 1) free x h s high) is found_n)
 
-      noted : IsNoted (λ j f. is_at (names_at cs j).frame f) (λ j p. names_principal free (names_at cs j) p) (reach free start cs) (touches free start cs) (free + 1) (length waves) (suc high) (is_near h)
+      noted : IsNoted (λ j f. is_at (names_at cs j).frame f) (λ j p. names_principal free (names_at cs j) p) (may_have free start cs) (touches free start cs) (free + 1) (length waves) (suc high) (is_near h)
           (λ f. get_or s.frame_waves f 0) (λ p. get_or s.principal_waves p 0) (λ p. get_or s.reach_waves p 0) (λ f. get_or t.frame_waves f 0) (λ p. get_or t.principal_waves p 0) (λ p. get_or t.reach_waves p 0)
       noted = noted_at (length waves) h going.sets s t (suc high) (subst (λ (x : Names). IsWritten (free + 1) free x (suc high) h s t) is written_n)
 
@@ -202,20 +202,20 @@ module _ (frames free : ℕ) (start : ℕ → ℕ → Bool) (cs : List Names) (r
 
       just_at : (wave : ℕ → ℕ) → ((j : ℕ) → j < length (waves ++ suc high ∷ []) → wave j ≡ get_or (waves ++ suc high ∷ []) j 0) → ComesJustAfter (touches free start cs) wave (length waves)
       just_at wave agrees =
-          just_after (λ j f. is_at (names_at cs j).frame f) (λ j p. names_principal free (names_at cs j) p) (reach free start cs) (touches free start cs) (the_shape free start cs)
+          just_after (λ j f. is_at (names_at cs j).frame f) (λ j p. names_principal free (names_at cs j) p) (may_have free start cs) (touches free start cs) (the_shape free start cs)
           wave (free + 1) (length waves) high (λ f. get_or s.frame_waves f 0) (λ p. get_or s.principal_waves p 0) (λ p. get_or s.reach_waves p 0) named_below
           (going.tracked wave (earlier wave agrees)) found (last_is wave agrees)
 
       gained : AreGained (free + 1) free (names_at cs (length waves)) h g
       gained = subst (λ (x : Names). AreGained (free + 1) free x h g) is gained_n
 
-      same_reach : (o : Option ℕ) (f : ℕ) → IfSome o (λ v. v < free) → reach_of (λ q x. is_in (members_of h q) x) o f ≡ reach_of (reach free start cs (length waves)) o f
+      same_reach : (o : Option ℕ) (f : ℕ) → IfSome o (λ v. v < free) → reach_of (λ q x. has_member (members_of h q) x) o f ≡ reach_of (may_have free start cs (length waves)) o f
       same_reach None f low = refl
       same_reach (Some v) f low = going.sets v f (omega arith)
 
-      sets_by : (p f : ℕ) → p < free + 1 → is_in (members_of g p) f ≡ reach free start cs (suc (length waves)) p f
+      sets_by : (p f : ℕ) → p < free + 1 → has_member (members_of g p) f ≡ may_have free start cs (suc (length waves)) p f
       sets_by p f low =
           gained.sets p f low ∙ rw (going.sets p f low)
-          (ap (λ (x : Bool). reach free start cs (length waves) p f || x)
-          (gains_same free (λ q x. is_in (members_of h q) x) (reach free start cs (length waves)) (names_at cs (length waves)) (names_at cs (length waves)).gain p f
+          (ap (λ (x : Bool). may_have free start cs (length waves) p f || x)
+          (gains_same free (λ q x. has_member (members_of h q) x) (may_have free start cs (length waves)) (names_at cs (length waves)) (names_at cs (length waves)).gain p f
           (same_reach (names_at cs (length waves)).slot f (range (length waves)).slot)))

@@ -4,7 +4,7 @@ use Rattle.std.specs.Prelude.{eqb}
 use Rattle.std.proofs.lemmas.Bool.{cases_lt}
 use Rattle.std.proofs.lemmas.List.{get_or-set_same, get_or-set_other}
 use Rattle.std.proofs.Math.ListN.{length-set}
-use Rattle.kc_plan.specs.Reach.{is_in}
+use Rattle.kc_plan.specs.Reach.{has_member}
 use Rattle.kc_plan.specs.Planner.{Reached, members_of, is_near, IsRelated}
 use Rattle.kc_plan.proofs.Shapes.{or_left, or_right, or_cases, both, and_left, and_right, same_number, equal}
 
@@ -46,7 +46,7 @@ module _ (near : List (List Bool)) (p q : ℕ) (row : p < length near) (column :
       by false b e g = ap (λ (xs : List Bool). get_or xs y false) (other_row x e)
 
 pub related_more : (n p f : ℕ) (a b : Reached) (near : List (List Bool)) → p < length b.near → n < length b.near → n < length (get_or b.near p []) → p < length (get_or b.near n [])
-    → is_in (members_of a n) f ≡ true → near ≡ raised (raised b.near p n) n p → IsRelated n p f a b → IsRelated (n + 1) p f a (record { sets = b.sets; near = near; freed = b.freed })
+    → has_member (members_of a n) f ≡ true → near ≡ raised (raised b.near p n) n p → IsRelated n p f a b → IsRelated (n + 1) p f a (record { sets = b.sets; near = near; freed = b.freed })
 related_more n p f a b near p_low n_low n_in p_in has is so_far = rw is record {
   sets = so_far.sets;
   freed = so_far.freed;
@@ -71,12 +71,12 @@ related_more n p f a b near p_low n_low n_in p_in has is so_far = rw is record {
       elim (or_cases (eqb n q && eqb p r) ((eqb p q && eqb n r) || is_near b q r) (sym (flag q r) ∙ it)) [
         | inl back ↦
             (let is_n : n ≡ q = same_number n q (and_left (eqb n q) (eqb p r) back) in
-            inr (inr (sym (same_number p r (and_right (eqb n q) (eqb p r) back)), subst (λ (x : ℕ). is_in (members_of a x) f ≡ true) is_n has)))
+            inr (inr (sym (same_number p r (and_right (eqb n q) (eqb p r) back)), subst (λ (x : ℕ). has_member (members_of a x) f ≡ true) is_n has)))
         | inr rest ↦
             elim (or_cases (eqb p q && eqb n r) (is_near b q r) rest) [
               | inl forth ↦
                   (let is_n : n ≡ r = same_number n r (and_right (eqb p q) (eqb n r) forth) in
-                  inr (inl (sym (same_number p q (and_left (eqb p q) (eqb n r) forth)), subst (λ (x : ℕ). is_in (members_of a x) f ≡ true) is_n has)))
+                  inr (inl (sym (same_number p q (and_left (eqb p q) (eqb n r) forth)), subst (λ (x : ℕ). has_member (members_of a x) f ≡ true) is_n has)))
               | inr before ↦ so_far.only q r before
             ]
       ];

@@ -5,7 +5,7 @@ use Rattle.kc_plan.specs.Reach.{Frame}
 use Rattle.kc_plan.specs.declared.names.Gain.{Gain}
 use Rattle.kc_plan.specs.declared.names.Gain.TheVariants.{Nothing, SlotTakesFrame, FreeTakesFrame, FreeTakesReach}
 use Rattle.kc_plan.specs.declared.names.Names.{Names}
-use Rattle.kc_plan.specs.Reach.{is_at, names_at, names_principal, reach_of, gains_by, reach, touched, touches}
+use Rattle.kc_plan.specs.Reach.{is_at, names_at, names_principal, reach_of, gains_by, may_have, touched_by, touches}
 use Rattle.kc_plan.specs.LastWaves.{Shape}
 
 pub or_left : (a b : Bool) → a ≡ true → (a || b) ≡ true
@@ -80,7 +80,7 @@ reach_named free r slot named f h =
     by_slot (Some v) h = (v, or_left (eqb v v) (named && eqb free v) (equal v), h)
 
 gained : (free : ℕ) (r : ℕ → ℕ → Bool) (n : Names) (g : Gain) (p f : ℕ) → gains_by free r n g p f ≡ true
-    → (names_principal free n p ≡ true) × (touched free r n (Frame f) ≡ true)
+    → (names_principal free n p ≡ true) × (touched_by free r n (Frame f) ≡ true)
 gained free r n Nothing p f h = cc
 gained free r n SlotTakesFrame p f h =
     (or_left (is_at n.slot p) _ (and_left (is_at n.slot p) (is_at n.frame f) h), or_left (is_at n.frame f) _ (and_right (is_at n.slot p) (is_at n.frame f) h))
@@ -92,25 +92,25 @@ gained free r n FreeTakesReach p f h = (
 )
 
 pub the_shape : (free : ℕ) (start : ℕ → ℕ → Bool) (cs : List Names)
-    → Shape (λ k f. is_at (names_at cs k).frame f) (λ k p. names_principal free (names_at cs k) p) (reach free start cs) (touches free start cs)
+    → Shape (λ k f. is_at (names_at cs k).frame f) (λ k p. names_principal free (names_at cs k) p) (may_have free start cs) (touches free start cs)
 the_shape free start cs = record {
   by_name = λ k f h. or_left (is_at (names_at cs k).frame f) _ h;
   by_reach = λ k p f named has.
       let n : Names = names_at cs k in
-      or_right (is_at n.frame f) (reach_of (reach free start cs k) n.slot f || (n.free && reach free start cs k free f)) (named_reach free (reach free start cs k) n.slot n.free p f named has);
+      or_right (is_at n.frame f) (reach_of (may_have free start cs k) n.slot f || (n.free && may_have free start cs k free f)) (named_reach free (may_have free start cs k) n.slot n.free p f named has);
   by_self = λ k p named. named;
   self_named = λ k p named. named;
   named_or_reached = λ k f h.
       let n : Names = names_at cs k in
-      elim (or_cases (is_at n.frame f) (reach_of (reach free start cs k) n.slot f || (n.free && reach free start cs k free f)) h) [
+      elim (or_cases (is_at n.frame f) (reach_of (may_have free start cs k) n.slot f || (n.free && may_have free start cs k free f)) h) [
         | inl named ↦ inl named
-        | inr reached ↦ inr (reach_named free (reach free start cs k) n.slot n.free f reached)
+        | inr reached ↦ inr (reach_named free (may_have free start cs k) n.slot n.free f reached)
       ];
   grows = λ k p f h.
       let n : Names = names_at cs k in
-      elim (or_cases (reach free start cs k p f) (gains_by free (reach free start cs k) n n.gain p f) h) [
+      elim (or_cases (may_have free start cs k p f) (gains_by free (may_have free start cs k) n n.gain p f) h) [
         | inl old ↦ inl old
-        | inr new ↦ inr (gained free (reach free start cs k) n n.gain p f new)
+        | inr new ↦ inr (gained free (may_have free start cs k) n n.gain p f new)
       ];
-  keeps = λ k p f h. or_left (reach free start cs k p f) _ h;
+  keeps = λ k p f h. or_left (may_have free start cs k p f) _ h;
 }

@@ -2,7 +2,7 @@
 use Rattle.std.specs.Prelude.{◌≡◌, ℕ, ◌+◌, ◌<◌, ◌≤◌, Bool, true, false, ◌&&◌, ◌||◌, eqb, List, [], length, get_or, set, take, replicate, Option, Some, None, IfSome, ◌⊎◌}
 use Rattle.std.specs.List.{list_any, IsDistinct}
 use Rattle.kc_plan.specs.declared.names.Names.{Names}
-use Rattle.kc_plan.specs.Reach.{is_in, is_at, names_principal, gains_by, names_at, reach, touches}
+use Rattle.kc_plan.specs.Reach.{has_member, is_at, names_principal, gains_by, names_at, may_have, touches}
 use Rattle.waves.specs.Planned.{ComesJustAfter}
 use Rattle.kc_plan.specs.LastWaves.{IsFound, IsNoted, AreTracked}
 use Rattle.kc_plan.specs.Members.{with_member}
@@ -28,7 +28,7 @@ is_near h p q = get_or (get_or h.near p []) q false
 
 abbrev pub hit_frame : Option ℕ → List ℕ → Bool
 hit_frame None members = false
-hit_frame (Some f) members = is_in members f
+hit_frame (Some f) members = has_member members f
 
 abbrev pub hit_slot : Option ℕ → List Bool → Bool
 hit_slot None near = false
@@ -49,23 +49,23 @@ pub record IsExact (size free : ℕ) (h : Reached) : Type 0 where
   pub near_len : length h.near ≡ size
   pub rows_len : (p : ℕ) → p < size → length (get_or h.near p []) ≡ size
   pub freed_len : length h.freed ≡ size
-  pub freed_in : (p i : ℕ) → p < size → i < get_or h.freed p 0 → is_in (members_of h free) (get_or (members_of h p) i 0) ≡ true
+  pub freed_in : (p i : ℕ) → p < size → i < get_or h.freed p 0 → has_member (members_of h free) (get_or (members_of h p) i 0) ≡ true
   pub freed_low : (p : ℕ) → p < size → get_or h.freed p 0 ≤ length (members_of h p)
-  pub shared_or_same : (p q : ℕ) → p < size → q < size → is_near h p q ≡ true → (p ≡ q) ⊎ ((f : ℕ) × (is_in (members_of h p) f ≡ true) × (is_in (members_of h q) f ≡ true))
+  pub shared_or_same : (p q : ℕ) → p < size → q < size → is_near h p q ≡ true → (p ≡ q) ⊎ ((f : ℕ) × (has_member (members_of h p) f ≡ true) × (has_member (members_of h q) f ≡ true))
   pub itself : (p : ℕ) → p < size → is_near h p p ≡ true
-  pub shared : (p q f : ℕ) → p < size → q < size → is_in (members_of h p) f ≡ true → is_in (members_of h q) f ≡ true → is_near h p q ≡ true
+  pub shared : (p q f : ℕ) → p < size → q < size → has_member (members_of h p) f ≡ true → has_member (members_of h q) f ≡ true → is_near h p q ≡ true
   pub once : (p : ℕ) → IsDistinct eqb (members_of h p)
 
 -- the last wave of a call that touched the frame f, as far as frame_waves and the first n of principal_waves tell
 pub record IsLastOf (n f : ℕ) (h : Reached) (s : Stamps) (high : ℕ) : Type 0 where
   pub named : get_or s.frame_waves f 0 ≤ high
-  pub had : (p : ℕ) → p < n → is_in (members_of h p) f ≡ true → get_or s.principal_waves p 0 ≤ high
-  pub got : (get_or s.frame_waves f 0 ≡ high) ⊎ ((p : ℕ) × (p < n) × (is_in (members_of h p) f ≡ true) × (get_or s.principal_waves p 0 ≡ high))
+  pub had : (p : ℕ) → p < n → has_member (members_of h p) f ≡ true → get_or s.principal_waves p 0 ≤ high
+  pub got : (get_or s.frame_waves f 0 ≡ high) ⊎ ((p : ℕ) × (p < n) × (has_member (members_of h p) f ≡ true) × (get_or s.principal_waves p 0 ≡ high))
 
 -- high is the highest wave of a call that shares something with a call of these names
 abbrev pub IsHigh : ℕ → ℕ → Names → Reached → Stamps → ℕ → Type 0
 IsHigh size free n h s high =
-    IsFound (λ k f. is_at n.frame f) (λ k p. names_principal free n p) (λ k p f. is_in (members_of h p) f) (λ k r. false) size 0 high
+    IsFound (λ k f. is_at n.frame f) (λ k p. names_principal free n p) (λ k p f. has_member (members_of h p) f) (λ k r. false) size 0 high
     (λ f. get_or s.frame_waves f 0) (λ p. get_or s.principal_waves p 0) (λ p. get_or s.reach_waves p 0)
 
 -- the highest waves of the first n principals are raised to w where the call touches them or what they may have
@@ -77,7 +77,7 @@ pub record IsTop (n free w : ℕ) (names : Names) (h : Reached) (before after : 
 -- a call of these names, of wave w, is written down
 abbrev pub IsWritten : ℕ → ℕ → Names → ℕ → Reached → Stamps → Stamps → Type 0
 IsWritten size free n w h s t =
-    IsNoted (λ k f. is_at n.frame f) (λ k p. names_principal free n p) (λ k p f. is_in (members_of h p) f) (λ k r. false) size 0 w (is_near h)
+    IsNoted (λ k f. is_at n.frame f) (λ k p. names_principal free n p) (λ k p f. has_member (members_of h p) f) (λ k r. false) size 0 w (is_near h)
     (λ f. get_or s.frame_waves f 0) (λ p. get_or s.principal_waves p 0) (λ p. get_or s.reach_waves p 0) (λ f. get_or t.frame_waves f 0) (λ p. get_or t.principal_waves p 0) (λ p. get_or t.reach_waves p 0)
 
 -- the principal p is related to each that may have the frame f, both ways
@@ -87,9 +87,9 @@ pub record IsRelated (n p f : ℕ) (a b : Reached) : Type 0 where
   pub near_len : length b.near ≡ length a.near
   pub rows_len : (q : ℕ) → length (get_or b.near q []) ≡ length (get_or a.near q [])
   pub old : (q r : ℕ) → is_near a q r ≡ true → is_near b q r ≡ true
-  pub there : (q : ℕ) → q < n → is_in (members_of a q) f ≡ true → is_near b p q ≡ true
-  pub back : (q : ℕ) → q < n → is_in (members_of a q) f ≡ true → is_near b q p ≡ true
-  pub only : (q r : ℕ) → is_near b q r ≡ true → (is_near a q r ≡ true) ⊎ (((q ≡ p) × (is_in (members_of a r) f ≡ true)) ⊎ ((r ≡ p) × (is_in (members_of a q) f ≡ true)))
+  pub there : (q : ℕ) → q < n → has_member (members_of a q) f ≡ true → is_near b p q ≡ true
+  pub back : (q : ℕ) → q < n → has_member (members_of a q) f ≡ true → is_near b q p ≡ true
+  pub only : (q r : ℕ) → is_near b q r ≡ true → (is_near a q r ≡ true) ⊎ (((q ≡ p) × (has_member (members_of a r) f ≡ true)) ⊎ ((r ≡ p) × (has_member (members_of a q) f ≡ true)))
 
 -- what principals may have comes behind what they may have already
 abbrev pub IsGrown : Reached → Reached → Type 0
@@ -97,7 +97,7 @@ IsGrown a b = (p n : ℕ) → n ≤ length (members_of a p) → (n ≤ length (m
 
 pub record AreFreed (size free v : ℕ) (a b : Reached) : Type 0 where
   pub exact : IsExact size free b
-  pub sets : (p f : ℕ) → p < size → is_in (members_of b p) f ≡ (is_in (members_of a p) f || (eqb free p && is_in (members_of a v) f))
+  pub sets : (p f : ℕ) → p < size → has_member (members_of b p) f ≡ (has_member (members_of a p) f || (eqb free p && has_member (members_of a v) f))
   pub grown : IsGrown a b
 
 -- the first n of what the slot v may have, the free list may have
@@ -105,9 +105,9 @@ pub record IsFreeing (size free v n : ℕ) (a b : Reached) : Type 0 where
   pub exact : IsExact size free b
   pub freed : b.freed ≡ a.freed
   pub slot_same : members_of b v ≡ members_of a v
-  pub keeps : (p f : ℕ) → is_in (members_of a p) f ≡ true → is_in (members_of b p) f ≡ true
-  pub only : (p f : ℕ) → is_in (members_of b p) f ≡ true → (is_in (members_of a p) f ≡ true) ⊎ ((free ≡ p) × (is_in (members_of a v) f ≡ true))
-  pub there : (i : ℕ) → i < n → is_in (members_of b free) (get_or (members_of a v) i 0) ≡ true
+  pub keeps : (p f : ℕ) → has_member (members_of a p) f ≡ true → has_member (members_of b p) f ≡ true
+  pub only : (p f : ℕ) → has_member (members_of b p) f ≡ true → (has_member (members_of a p) f ≡ true) ⊎ ((free ≡ p) × (has_member (members_of a v) f ≡ true))
+  pub there : (i : ℕ) → i < n → has_member (members_of b free) (get_or (members_of a v) i 0) ≡ true
   pub grown : IsGrown a b
 
 pub record IsJoined (size free p f : ℕ) (a b : Reached) : Type 0 where
@@ -118,11 +118,11 @@ pub record IsJoined (size free p f : ℕ) (a b : Reached) : Type 0 where
 -- each principal p gets the frames f that pass the test, and no others
 pub record IsWider (size free : ℕ) (test : ℕ → ℕ → Bool) (a b : Reached) : Type 0 where
   pub exact : IsExact size free b
-  pub sets : (p f : ℕ) → p < size → is_in (members_of b p) f ≡ (is_in (members_of a p) f || test p f)
+  pub sets : (p f : ℕ) → p < size → has_member (members_of b p) f ≡ (has_member (members_of a p) f || test p f)
   pub grown : IsGrown a b
 
 abbrev pub AreGained : ℕ → ℕ → Names → Reached → Reached → Type 0
-AreGained size free n a b = IsWider size free (λ p f. gains_by free (λ q g. is_in (members_of a q) g) n n.gain p f) a b
+AreGained size free n a b = IsWider size free (λ p f. gains_by free (λ q g. has_member (members_of a q) g) n n.gain p f) a b
 
 abbrev pub set_at : Option ℕ → ℕ → List ℕ → List ℕ
 set_at None w xs = xs
@@ -148,20 +148,20 @@ pub record AreUnrelated (size : ℕ) (near : List (List Bool)) : Type 0 where
 -- what the pairs have so far
 pub record AreOwned (size : ℕ) (pairs : List (ℕ × ℕ)) (sets : List (List ℕ)) : Type 0 where
   pub count : length sets ≡ size
-  pub has : (p f : ℕ) → is_in (get_or sets p []) f ≡ has_pair pairs p f
+  pub has : (p f : ℕ) → has_member (get_or sets p []) f ≡ has_pair pairs p f
   pub once : (p : ℕ) → IsDistinct eqb (get_or sets p [])
 
 pub record IsStart (size free : ℕ) (pairs : List (ℕ × ℕ)) (h : Reached) : Type 0 where
   pub exact : IsExact size free h
-  pub sets : (p f : ℕ) → p < size → is_in (members_of h p) f ≡ has_pair pairs p f
+  pub sets : (p f : ℕ) → p < size → has_member (members_of h p) f ≡ has_pair pairs p f
 
 -- the waves of the first calls are planned, whatever those of the later ones are, and h and s are what the planner keeps then
 pub record IsGoing (frames free : ℕ) (start : ℕ → ℕ → Bool) (cs : List Names) (waves : List ℕ) (h : Reached) (s : Stamps) : Type 0 where
   pub planned : (wave : ℕ → ℕ) → ((j : ℕ) → j < length waves → wave j ≡ get_or waves j 0) → (k : ℕ) → k < length waves → ComesJustAfter (touches free start cs) wave k
   pub tracked : (wave : ℕ → ℕ) → ((j : ℕ) → j < length waves → wave j ≡ get_or waves j 0)
-      → AreTracked (λ k f. is_at (names_at cs k).frame f) (λ k p. names_principal free (names_at cs k) p) (reach free start cs) (touches free start cs) wave
+      → AreTracked (λ k f. is_at (names_at cs k).frame f) (λ k p. names_principal free (names_at cs k) p) (may_have free start cs) (touches free start cs) wave
       (free + 1) (length waves) (λ f. get_or s.frame_waves f 0) (λ p. get_or s.principal_waves p 0) (λ p. get_or s.reach_waves p 0)
-  pub sets : (p f : ℕ) → p < free + 1 → is_in (members_of h p) f ≡ reach free start cs (length waves) p f
+  pub sets : (p f : ℕ) → p < free + 1 → has_member (members_of h p) f ≡ may_have free start cs (length waves) p f
   pub exact : IsExact (free + 1) free h
   pub frame_low : (f : ℕ) → get_or s.frame_waves f 0 ≤ length waves
   pub principal_low : (p : ℕ) → get_or s.principal_waves p 0 ≤ length waves
@@ -176,4 +176,4 @@ ArePlanned free pairs cs waves = (k : ℕ) → k < length cs → ComesJustAfter 
 
 -- the sets have what each principal may have after all calls
 abbrev pub AreReached : ℕ → List (ℕ × ℕ) → List Names → List (List ℕ) → Type 0
-AreReached free pairs cs sets = (p f : ℕ) → p < free + 1 → is_in (get_or sets p []) f ≡ reach free (has_pair pairs) cs (length cs) p f
+AreReached free pairs cs sets = (p f : ℕ) → p < free + 1 → has_member (get_or sets p []) f ≡ may_have free (has_pair pairs) cs (length cs) p f

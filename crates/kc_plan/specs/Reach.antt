@@ -1,6 +1,6 @@
 -- What principals may have before a call, and what calls touch: from names and the start alone.
 use Rattle.std.specs.Prelude.{ℕ, zero, suc, Bool, false, ◌&&◌, ◌||◌, eqb, List, get_or, Option, Some, None}
-pub use Rattle.kc_plan.specs.Members.{is_in}
+pub use Rattle.kc_plan.specs.Members.{has_member}
 use Rattle.kc_plan.specs.declared.names.Gain.{Gain}
 use Rattle.kc_plan.specs.declared.names.Gain.TheVariants.{Nothing, SlotTakesFrame, FreeTakesFrame, FreeTakesReach}
 use Rattle.kc_plan.specs.declared.names.Names.{Names}
@@ -35,13 +35,14 @@ gains_by free reach n FreeTakesFrame p f = (n.free && eqb free p) && is_at n.fra
 gains_by free reach n FreeTakesReach p f = (n.free && eqb free p) && reach_of reach n.slot f
 
 -- what the principal p may have before call k: start p f says that it owns the frame f at the start
-abbrev pub reach : ℕ → (ℕ → ℕ → Bool) → List Names → ℕ → ℕ → ℕ → Bool
-reach free start cs zero p f = start p f
-reach free start cs (suc k) p f = reach free start cs k p f || gains_by free (reach free start cs k) (names_at cs k) (names_at cs k).gain p f
+abbrev pub may_have : ℕ → (ℕ → ℕ → Bool) → List Names → ℕ → ℕ → ℕ → Bool
+may_have free start cs zero p f = start p f
+may_have free start cs (suc k) p f = may_have free start cs k p f || gains_by free (may_have free start cs k) (names_at cs k) (names_at cs k).gain p f
 
-abbrev pub touched : ℕ → (ℕ → ℕ → Bool) → Names → Numbered → Bool
-touched free reach n (Frame f) = is_at n.frame f || (reach_of reach n.slot f || (n.free && reach free f))
-touched free reach n (Principal p) = names_principal free n p
+-- whether a call that names this touches the resource, where `reach` says what each principal may have
+abbrev pub touched_by : ℕ → (ℕ → ℕ → Bool) → Names → Numbered → Bool
+touched_by free reach n (Frame f) = is_at n.frame f || (reach_of reach n.slot f || (n.free && reach free f))
+touched_by free reach n (Principal p) = names_principal free n p
 
 abbrev pub touches : ℕ → (ℕ → ℕ → Bool) → List Names → ℕ → Numbered → Bool
-touches free start cs k r = touched free (reach free start cs k) (names_at cs k) r
+touches free start cs k r = touched_by free (may_have free start cs k) (names_at cs k) r

@@ -6,7 +6,7 @@ use Rattle.kc_types.specs.declared.resource.Resource.TheVariants as resource
 use Rattle.std.specs.List.{IsDistinct}
 use Rattle.kc_parts.specs.Cuts.{is_wanted, same}
 use Rattle.kc_plan.specs.declared.names.Names.{Names}
-use Rattle.kc_plan.specs.Reach.{is_in, is_at, reach_of, reach, names_at}
+use Rattle.kc_plan.specs.Reach.{has_member, is_at, reach_of, may_have, names_at}
 use Rattle.kc_plan.specs.declared.rows.Row.{Row}
 use Rattle.kc_plan.specs.declared.rows.Span.{Span}
 
@@ -25,7 +25,7 @@ row_at footprints k = get_or footprints.rows k no_row
 -- the frame is among the first of what the principal may have
 abbrev pub has_frame : List (List ℕ) → Option Span → ℕ → Bool
 has_frame sets None f = false
-has_frame sets (Some s) f = is_in (take s.length (get_or sets s.principal [])) f
+has_frame sets (Some s) f = has_member (take s.length (get_or sets s.principal [])) f
 
 abbrev pub is_of : Option Span → ℕ → Bool
 is_of None v = false
@@ -125,4 +125,4 @@ pub record IsRowOf (free : ℕ) (before : ℕ → ℕ → Bool) (n : Names) (set
   pub free_span : IfSome row.free (IsSpan sets)
 
 abbrev pub AreRowsOf : ℕ → (ℕ → ℕ → Bool) → List Names → List (List ℕ) → List Row → Type 0
-AreRowsOf free start cs sets rows = (k : ℕ) → k < length rows → IsRowOf free (reach free start cs k) (names_at cs k) sets (get_or rows k no_row)
+AreRowsOf free start cs sets rows = (k : ℕ) → k < length rows → IsRowOf free (may_have free start cs k) (names_at cs k) sets (get_or rows k no_row)

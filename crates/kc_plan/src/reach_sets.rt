@@ -1,6 +1,6 @@
 //! The sets of several principals, in which one look tells whether a number is a member.
 ghost use Rattle.std.specs.Prelude.{◌≡◌, ◌<◌, ◌^◌, length, get_or, set, replicate, [], IfOk, OnOk, OnErr};
-ghost use Rattle.kc_plan.specs.Members.{is_in, with_member, AreSame};
+ghost use Rattle.kc_plan.specs.Members.{has_member, with_member, AreSame};
 
 use crate::reach_set::ReachSet;
 use std::alloc::{AllocError, Global};
@@ -53,7 +53,7 @@ impl ReachSets {
     /// Whether a number is in a principal's set.
     pub(crate) fn contains(&self, principal: usize, number: u32) -> bool
         requires { principal < length self.now }
-        ensures { result ≡ is_in (get_or self.now principal []) number }
+        ensures { result ≡ has_member (get_or self.now principal []) number }
     {
         let place = number as usize * self.sets.len() + principal;
         place < self.flags.len() && self.flags[place]

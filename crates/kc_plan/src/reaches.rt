@@ -1,6 +1,6 @@
 //! What each slot and the free list may have, and which of them may have a frame in common.
 ghost use Rattle.std.specs.Prelude.{◌≡◌, ℕ, ◌<◌, ◌^◌, ◌||◌, ◌&&◌, Bool, false, true, length, get_or, set, replicate, List, IfOk, OnOk, [], IfSome, eqb};
-ghost use Rattle.kc_plan.specs.Reach.{is_in, is_at, reach_of};
+ghost use Rattle.kc_plan.specs.Reach.{has_member, is_at, reach_of};
 ghost use Rattle.kc_plan.specs.Rows.{span_of, row_of};
 ghost use Rattle.kc_plan.specs.Planner.{is_hit, members_of, IsExact, IsJoined, AreGained, IsStart, AreUnrelated, AreBelow, HasOneOwnerEach, IsRelated, AreFreed, IsWider};
 
@@ -69,7 +69,7 @@ impl Reaches {
     /// Whether a principal may have a frame.
     pub(crate) fn contains(&self, principal: usize, frame: u32) -> bool
         requires { principal < length self.now.sets }
-        ensures { result ≡ is_in (members_of self.now principal) frame }
+        ensures { result ≡ has_member (members_of self.now principal) frame }
     {
         self.sets.contains(principal, frame)
     }
@@ -245,7 +245,7 @@ impl Reaches {
         requires free { free < length self.old.sets }
         requires slot { IfSome slot (λ v. v < free) }
         requires exact { IsExact (length self.old.sets) free self.old }
-        ensures { let reach = λ (q g : ℕ). is_in (members_of self.old q) g in
+        ensures { let reach = λ (q g : ℕ). has_member (members_of self.old q) g in
             let gained = λ (p f : ℕ). (named && eqb free p) && reach_of reach slot f in
             OnOk result (IsWider (length self.old.sets) free gained self.old self.new) }
     {

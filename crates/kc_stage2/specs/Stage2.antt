@@ -23,11 +23,11 @@ abbrev pub has_slot : List ℕ → ℕ → Bool
 has_slot leaves slot = list_any (λ root. root == slot) leaves
 
 -- the guest frame's root slot has one
-abbrev pub has_leaf : List ℕ → ℕ → Bool
-has_leaf leaves g = has_slot leaves (g / leaf_entries)
+abbrev pub has_leaf_of : List ℕ → ℕ → Bool
+has_leaf_of leaves g = has_slot leaves (g / leaf_entries)
 
 abbrev pub fits : Table → ℕ → Bool
-fits t g = has_leaf t.leaves g || nat_lt (length t.leaves) t.capacity
+fits t g = has_leaf_of t.leaves g || nat_lt (length t.leaves) t.capacity
 
 -- the leaves with the root slot among them
 abbrev pub with_root_slot : List ℕ → ℕ → List ℕ

@@ -2,8 +2,9 @@
 ghost use Rattle.std.specs.Prelude.{◌≡◌, ◌/◌, ◌≤◌, IfOk, OnOk, OnErr};
 ghost use Rattle.std.specs.FinMap as finite;
 ghost use Rattle.kc_types.specs.Limits.{leaf_limit};
+ghost use Rattle.kc_types.specs.Refusals.{Answers};
 ghost use Rattle.kc_stage2.specs.Stage2.{Table, new_table, with_mapping, fits};
-ghost use Rattle.kc_stage2.specs.Faults.{Answers, map_fault};
+ghost use Rattle.kc_stage2.specs.Faults.{map_fault};
 
 use crate::entries::entries_of;
 use crate::levels::Levels;

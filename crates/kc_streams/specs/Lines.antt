@@ -2,5 +2,5 @@
 use Rattle.std.specs.Prelude.{ℕ}
 
 -- the length of the longest line of a reply or a call, with its newline: a call's
-abbrev pub longest_line : ℕ
-longest_line = 8244
+abbrev pub longest_with_newline : ℕ
+longest_with_newline = 8244

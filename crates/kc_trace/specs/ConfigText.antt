@@ -22,17 +22,17 @@ abbrev pub small : ℕ → Option ℕ
 small n = if nat_lt n (2 ^ 32) then Some n else None
 
 -- the whole number of 32 bits under a key
-abbrev pub number_in : List ℕ → Data → Option ℕ
-number_in key value = option_and_then small (option_and_then as_u64 (option_and_then as_number (get key value)))
+abbrev pub number_under : List ℕ → Data → Option ℕ
+number_under key value = option_and_then small (option_and_then as_u64 (option_and_then as_number (get key value)))
 
 -- the 32 bytes that a text of 64 digits spells
-abbrev pub digest_in : Data → Option (List ℕ)
-digest_in value = option_and_then (λ text. result_ok (decode_sized text 32)) (as_str value)
+abbrev pub digest_of_value : Data → Option (List ℕ)
+digest_of_value value = option_and_then (λ text. result_ok (decode_sized text 32)) (as_str value)
 
 -- the digests of an array, each of which has to be one
 abbrev pub digests_in : Items → Option (List (List ℕ))
 digests_in no_items = Some []
-digests_in (item value values) = option_and_then (λ digest. option_map (λ digests. digest ∷ digests) (digests_in values)) (digest_in value)
+digests_in (item value values) = option_and_then (λ digest. option_map (λ digests. digest ∷ digests) (digests_in values)) (digest_of_value value)
 
 abbrev pub approved_in : Data → Option (List (List ℕ))
 approved_in value = option_and_then digests_in (option_and_then as_array (get (codes "approved") value))
@@ -43,7 +43,7 @@ fields_in version value =
     option_and_then (λ frames. option_and_then (λ core. option_and_then (λ host. option_and_then (λ leaves.
     option_map (λ approved. record { version = version; frames = frames; core = core; host = host; leaves = leaves; approved = approved })
     (approved_in value))
-    (number_in (codes "leaves") value)) (number_in (codes "host") value)) (number_in (codes "core") value)) (number_in (codes "frames") value)
+    (number_under (codes "leaves") value)) (number_under (codes "host") value)) (number_under (codes "core") value)) (number_under (codes "frames") value)
 
 -- how many members an object has; their keys do not repeat
 abbrev pub member_count : Members → ℕ
@@ -57,7 +57,7 @@ version_numbered (Some n) = if n == 1 then Some One else if n == 2 then Some Two
 -- the version of an object of so many members: the first of five, and of six what stands under `version`
 abbrev pub version_in : Data → Option ℕ → Option Version
 version_in value None = None
-version_in value (Some count) = if count == 5 then Some One else if count == 6 then version_numbered (number_in (codes "version") value) else None
+version_in value (Some count) = if count == 5 then Some One else if count == 6 then version_numbered (number_under (codes "version") value) else None
 
 -- the configuration that a value is: an object of exactly the five keys, or of these and `version`
 abbrev pub shape_in : Data → Option Configuration
@@ -83,13 +83,13 @@ of_value (Some value) = of_shape (shape_in value)
 unfoldable pub config_in : List ℕ → Result Configuration ConfigTextFault
 config_in bytes = of_value (value_in bytes)
 
-abbrev pub Fails : ConfigTextFault → Result Configuration ConfigTextFault → Type 0
-Fails faults.Memory said = Unit {0}
-Fails faults.NotJson said = said ≡ Err faults.NotJson
-Fails faults.BadShape said = said ≡ Err faults.BadShape
-Fails (faults.Config fault) said = said ≡ Err (faults.Config fault)
+abbrev pub ConfigFails : ConfigTextFault → Result Configuration ConfigTextFault → Type 0
+ConfigFails faults.Memory said = Unit {0}
+ConfigFails faults.NotJson said = said ≡ Err faults.NotJson
+ConfigFails faults.BadShape said = said ≡ Err faults.BadShape
+ConfigFails (faults.Config fault) said = said ≡ Err (faults.Config fault)
 
 -- an answer is what the text says, unless memory ran out
-abbrev pub Gives : Result Configuration ConfigTextFault → Result Configuration ConfigTextFault → Type 0
-Gives (Ok config) said = said ≡ Ok config
-Gives (Err fault) said = Fails fault said
+abbrev pub ConfigGives : Result Configuration ConfigTextFault → Result Configuration ConfigTextFault → Type 0
+ConfigGives (Ok config) said = said ≡ Ok config
+ConfigGives (Err fault) said = ConfigFails fault said

@@ -3,7 +3,7 @@ ghost use Rattle.std.specs.Prelude.{◌≡◌, ◌≤◌, length, IfOk, option_m
 ghost use Rattle.serde_json.specs.View.{view, items_view};
 ghost use Rattle.serde_json.specs.Find.{as_object};
 ghost use Rattle.kc_trace.specs.Faults.{config_fault_words};
-ghost use Rattle.kc_trace.specs.ConfigText.{value_in, number_in, digest_in, digests_in, member_count, fields_in, version_in, shape_in, configured, config_in, Gives};
+ghost use Rattle.kc_trace.specs.ConfigText.{value_in, number_under, digest_of_value, digests_in, member_count, fields_in, version_in, shape_in, configured, config_in, ConfigGives};
 
 use hex::FromHex;
 use kc_types::{Config, ConfigFault, Version};
@@ -123,7 +123,7 @@ impl Fields {
     }
 
     fn into_config(self) -> Result<Config, ConfigTextFault>
-        ensures { Gives result (configured self) }
+        ensures { ConfigGives result (configured self) }
     {
         let made = match self.version {
             Version::One => {
@@ -153,13 +153,13 @@ impl Fields {
 }
 
 fn number_under(value: &Value, key: &str) -> Option<u32>
-    ensures { result ≡ number_in key.now (view value.now) }
+    ensures { result ≡ number_under key.now (view value.now) }
 {
     value.get(key)?.as_u64()?.try_into().ok()
 }
 
 fn digest_of(value: &Value) -> Option<[u8; 32]>
-    ensures { result ≡ digest_in (view value.now) }
+    ensures { result ≡ digest_of_value (view value.now) }
 {
     <[u8; 32] as FromHex>::from_hex(value.as_str()?).ok()
 }
@@ -222,7 +222,7 @@ fn value_of(alloc: Global, bytes: &[u8]) -> Result<Option<Value>, AllocError>
 #[tactic(auto, unfolding(crate::specs::ConfigText::config_in))]
 pub fn read_config(alloc: Global, bytes: &[u8]) -> Result<Config, ConfigTextFault>
     // The configuration or the fault of the text, unless memory runs out.
-    ensures exact { Gives result (config_in bytes.now) }
+    ensures exact { ConfigGives result (config_in bytes.now) }
 {
     let Ok(value) = value_of(alloc, bytes) else {
         return Err(ConfigTextFault::Memory);

@@ -1,5 +1,5 @@
--- The number and the name of each refusal.
-use Rattle.std.specs.Prelude.{ℕ, List, codes}
+-- The number and the name of each refusal, and when an answer is one.
+use Rattle.std.specs.Prelude.{ℕ, ◌≡◌, List, codes, Option, Some, None, Result, Ok, Err}
 use Rattle.kc_types.specs.declared.refusal.Refusal.{Refusal}
 use Rattle.kc_types.specs.declared.refusal.Refusal.TheVariants.{BadVm, BadVcpu, BadFrame, BadGfn, BadRange, SlotUsed, NoVm, WrongPhase, VcpuUsed, NoVcpu, ImagesFull, Overlap, NoImage, ImageFull, ImageShort, NoFault, Mapped, NotMapped, NotHost, Protected, NotPresent, TablesFull, ShareFull, NotShared, Shared, NoFree}
 
@@ -60,3 +60,8 @@ name_of ShareFull = codes "share-full"
 name_of NotShared = codes "not-shared"
 name_of Shared = codes "shared"
 name_of NoFree = codes "no-free"
+
+-- the result is an error exactly where there is a refusal, and that refusal
+abbrev pub Answers : {X Refused : Type 0} → Result X Refused → Option Refused → Type 0
+Answers (Ok x) refusal = refusal ≡ None
+Answers (Err e) refusal = refusal ≡ Some e

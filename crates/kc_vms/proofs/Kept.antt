@@ -17,7 +17,7 @@ use Rattle.kc_model.proofs.States.Slots.{lawful-empty_slot, at-no_vcpus, waits-n
 use Rattle.kc_model.proofs.Refusals.Answered.{is_short-is}
 use Rattle.kc_vms.specs.Vm.{IsSlot}
 use Rattle.kc_model.specs.Slot.{image_of}
-use Rattle.kc_vms.specs.Refusals.{no_vm, not_booting, next_page_refusal}
+use Rattle.kc_vms.specs.Refusals.{no_vm_in, not_booting_in, next_page_refusal}
 
 pub slot-empty : IsSlot Empty no_vcpus []
 slot-empty =
@@ -97,14 +97,14 @@ slot-with_page phase vcpus images now i absent is same lt short =
       empty_images = λ h. let none = is.empty_images h in rw none refl;
     })
 
-pub booting-used : (slot : LinkedSlot) → first_of_these (no_vm slot ∷ not_booting slot ∷ []) ≡ None → slot.phase ≡ Empty → ⊥
+pub booting-used : (slot : LinkedSlot) → first_of_these (no_vm_in slot ∷ not_booting_in slot ∷ []) ≡ None → slot.phase ≡ Empty → ⊥
 booting-used slot served empty =
-    let used = when-none _ _ (none-of (no_vm slot ∷ not_booting slot ∷ []) served 0) in
+    let used = when-none _ _ (none-of (no_vm_in slot ∷ not_booting_in slot ∷ []) served 0) in
     let no = rw empty at used in
     cc
 
 -- an image that has a next page
 pub next_page-served : (slot : LinkedSlot) (i : ℕ) → next_page_refusal slot i ≡ None → (i < length slot.images) × ((image_of slot i).pages < pages_of (image_of slot i).len)
 next_page-served slot i served =
-    let none = none-of (no_vm slot ∷ not_booting slot ∷ when (nat_le (length slot.images) i) NoImage ∷ when (not (is_short (image_of slot i))) ImageFull ∷ []) served in
+    let none = none-of (no_vm_in slot ∷ not_booting_in slot ∷ when (nat_le (length slot.images) i) NoImage ∷ when (not (is_short (image_of slot i))) ImageFull ∷ []) served in
     (leb-false _ _ (when-none _ _ (none 2)), is_short-is (image_of slot i) (when-none _ _ (none 3)))

@@ -3,11 +3,12 @@ ghost use Rattle.std.specs.Prelude.{◌≡◌, ◌+◌, ◌<◌, ◌≤◌, Some
 ghost use Rattle.std.specs.List.{list_any};
 ghost use Rattle.std.specs.Borrow.{sem};
 ghost use Rattle.kc_types.specs.Limits.{gfn_limit, image_size_limit, leaf_limit};
+ghost use Rattle.kc_types.specs.Refusals.{Answers};
 ghost use Rattle.kc_model.specs.State.{no_vcpus};
 ghost use Rattle.kc_model.specs.Refusals.{pages_of, first_of_these, overlaps};
 ghost use Rattle.kc_vms.specs.Vm.{IsVm, empty_vm, slot_table};
 ghost use Rattle.kc_model.specs.Slot.{vcpu_of, next_gfn_of, in_phase, with_vcpu, awaiting, with_image, with_image_page};
-ghost use Rattle.kc_vms.specs.Refusals.{Answers, no_vm, not_booting, register_refusal, add_vcpu_refusal, add_image_refusal, next_page_refusal};
+ghost use Rattle.kc_vms.specs.Refusals.{no_vm_in, not_booting_in, register_refusal, add_vcpu_refusal, add_image_refusal, next_page_refusal};
 
 use arrayvec::ArrayVec;
 use kc_image::{Image, pages_of};
@@ -129,7 +130,7 @@ impl Vm {
 
     /// `NoVm` where the slot is empty, else `WrongPhase` where it isn't booting.
     fn expect_booting(&self) -> Result<(), Refusal>
-        ensures { Answers result (first_of_these (no_vm self.now.slot ∷ not_booting self.now.slot ∷ [])) }
+        ensures { Answers result (first_of_these (no_vm_in self.now.slot ∷ not_booting_in self.now.slot ∷ [])) }
     {
         match self.phase {
             Phase::Empty => Err(Refusal::NoVm),

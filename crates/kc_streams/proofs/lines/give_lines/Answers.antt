@@ -3,7 +3,7 @@ use Rattle.std.specs.Prelude.{OnErr}
 use Rattle.std.specs.Vec.{vec_capacity}
 use Rattle.std.proofs.lemmas.List.{take_all}
 use Rattle.std.proofs.lemmas.Result.{on_ok_weaker, on_err_weaker}
-use Rattle.kc_streams.specs.Lines.{longest_line}
+use Rattle.kc_streams.specs.Lines.{longest_with_newline}
 use Rattle.kc_streams.proofs.Pieces.{IsGiven, text_of_first, given_whole, given_all, given_more, begun}
 use Rattle.kc_streams.proofs.lines.give_lines.Goals as goal
 use Rattle.kc_streams.proofs.lines.give_lines.Goals.{then-capacity-len-lt-LONGEST_LINE+in_ok-write_whole, else-capacity-len-lt-LONGEST_LINE}
@@ -40,7 +40,7 @@ loop-line-preserved g c =
       | then-capacity-len-lt-LONGEST_LINE+in_ok-write_whole w ↦ rw w.out-is w.in_ok-write_whole.ensures.mark
       | else-capacity-len-lt-LONGEST_LINE w ↦ rw w.out-is before.whole
     ] in
-    let room : longest_line ≤ vec_capacity left.piece =
+    let room : longest_with_newline ≤ vec_capacity left.piece =
     elim left.branch [
       | then-capacity-len-lt-LONGEST_LINE+in_ok-write_whole w ↦ rw (w.piece-is, w.clear.ensures.capacity) before.room
       | else-capacity-len-lt-LONGEST_LINE w ↦ rw w.piece-is before.room

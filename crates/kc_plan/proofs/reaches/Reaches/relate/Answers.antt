@@ -2,7 +2,7 @@ use Rattle.std.proofs.Common.{◌≡◌, ◌<◌, ℕ, Bool, List, true, false, 
 use Rattle.std.proofs.lemmas.Grind.{common_steps}
 use Rattle.std.proofs.lemmas.List.{get_or_read}
 use Rattle.std.proofs.Math.ListN.{length-set}
-use Rattle.kc_plan.specs.Members.{is_in}
+use Rattle.kc_plan.specs.Members.{has_member}
 use Rattle.kc_plan.specs.Planner.{Reached}
 use Rattle.kc_plan.proofs.Related.{raised, related_more}
 use Rattle.kc_plan.proofs.reaches.Reaches.relate.Goals as goal
@@ -25,7 +25,7 @@ loop-other-preserved c =
     let p_in : p < length (get_or c.loop-other.self-inside.near.items c.loop-other.other []) = let l = so_far.near_len in let r = so_far.rows_len c.loop-other.other in let s = c.requires.rows c.loop-other.other (omega arith) in omega arith in
     elim c.if-contains.branch [
       | then-contains w ↦
-          (let has : is_in (get_or c.args.self.now.sets c.loop-other.other []) c.args.frame ≡ true = rw (← same) (sym c.contains.ensures ∙ w.if-contains.true) in
+          (let has : has_member (get_or c.args.self.now.sets c.loop-other.other []) c.args.frame ≡ true = rw (← same) (sym c.contains.ensures ∙ w.if-contains.true) in
           let read = get_or_read c.loop-other.self-inside.near.items c.args.principal w.index_mut.result.now p_low w.index_mut.ensures.value [] in
           let first : w.raise.new.self ≡ set (get_or c.loop-other.self-inside.near.items c.args.principal []) c.loop-other.other true = w.raise.ensures ∙ ap (λ (xs : List Bool). set xs c.loop-other.other true) read in
           let again = get_or_read (set c.loop-other.self-inside.near.items c.args.principal w.raise.new.self) c.loop-other.other w.index_mut-then-contains.result.now
@@ -34,6 +34,6 @@ loop-other-preserved c =
           rw w.self-inside-is
           (related_more c.loop-other.other c.args.principal c.args.frame c.args.self.now b _ p_low n_low n_in p_in has (rw (second, first) refl) so_far))
       | else-contains w ↦
-          (let has_not : is_in (get_or c.args.self.now.sets c.loop-other.other []) c.args.frame ≡ false = rw (← same) (sym c.contains.ensures ∙ w.if-contains.false) in
+          (let has_not : has_member (get_or c.args.self.now.sets c.loop-other.other []) c.args.frame ≡ false = rw (← same) (sym c.contains.ensures ∙ w.if-contains.false) in
           rw w.self-inside-is (grind (arith, common_steps)))
     ]
