@@ -3,11 +3,15 @@ use Rattle.std.proofs.Common.{◌≡◌, ℕ, zero, suc, ◌<◌, ◌+◌, ◌-�
 use Rattle.std.proofs.lemmas.Bool.{cases_lt}
 use Rattle.std.specs.Int.{w32, rotate_right}
 use Rattle.std.specs.Simd.Lanes.{zip2}
-use Rattle.std.specs.Prelude.{slice_set}
+use Rattle.std.specs.Prelude.{slice_index_or, slice_set}
 use Rattle.std.proofs.Math.ListN as list
 use Rattle.std.proofs.lemmas.List.{map-set}
 use Rattle.kc_digests.specs.declared.state.State.{State}
-use Rattle.kc_digests.specs.Lanes.{lane, lane_at, state_lane}
+use Rattle.kc_digests.specs.Lanes.{lane, state_lane}
+
+-- lane j of vector k
+abbrev pub lane_at : List (List ℕ) → ℕ → ℕ → ℕ
+lane_at x k j = slice_index (slice_index_or x k []) j
 
 -- what holds of each of the four lanes
 pub below_four : (P : ℕ → Type 0) → P 0 → P 1 → P 2 → P 3 → (j : ℕ) → j < 4 → P j

@@ -14,12 +14,22 @@ use Rattle.kc_model.specs.State.{State}
 use Rattle.kc_model.specs.Resources.{Resource, slot_of, names_frame, uses_free, of_slot, exists_slot, touched}
 use Rattle.kc_model.specs.Footprints.{call_at, gains, footprint}
 use Rattle.kc_model.specs.Footprints as model
-use Rattle.kc_plan.specs.declared.names.Names.{Names}
 use Rattle.kc_plan.specs.Naming.{named_frame, gain_of, below, names_of}
 use Rattle.kc_plan.specs.Reach.{Numbered, Frame, Principal, is_at, names_at, names_principal, reach_of, gains_by, may_have, touched_by, touches}
-use Rattle.kc_plan.specs.Owned.{numbered, resource_of, IsOwned}
+use Rattle.kc_plan.specs.Owned.{IsOwned}
 use Rattle.kc_plan.specs.Planner.{has_pair}
 use Rattle.kc_plan.proofs.Shapes.{and_left, and_right, and_false, same_number, equal}
+
+-- a resource in the planner's numbers
+abbrev pub numbered : ℕ → Resource → Numbered
+numbered slots (resource.Frame f) = Frame f
+numbered slots (resource.Vm v) = Principal v
+numbered slots resource.Free = Principal slots
+
+-- and back
+abbrev pub resource_of : ℕ → Numbered → Resource
+resource_of slots (Frame f) = resource.Frame f
+resource_of slots (Principal p) = if eqb slots p then resource.Free else resource.Vm p
 
 pub differs : (v n : ℕ) → v < n → eqb n v ≡ false
 differs v n low = grind (arith, nat_tests)
@@ -217,12 +227,6 @@ names_are config (c ∷ cs) zero low = refl
 names_are config (c ∷ cs) (suc k) low = names_are config cs k (omega arith)
 
 module _ (m : State) (calls : List Call) (pairs : List (ℕ × ℕ)) (owned : IsOwned m pairs) where
-  slots : ℕ
-  slots = slot_count m.config
-
-  names : List Names
-  names = map (names_of m.config) calls
-
   pub record IsSame (k : ℕ) : Type 0 where
     pub by_slot : (v f : ℕ) → v < slot_count m.config → may_have (slot_count m.config) (has_pair pairs) (map (names_of m.config) calls) k v f ≡ model.reach m calls k (owner.Vm v) f
     pub by_free : (f : ℕ) → may_have (slot_count m.config) (has_pair pairs) (map (names_of m.config) calls) k (slot_count m.config) f ≡ model.reach m calls k owner.Free f

@@ -7,7 +7,7 @@ use Rattle.kc_types.specs.declared.resource.Resource.TheVariants as resource
 use Rattle.kc_plan.proofs.Shapes.{or_left, or_right, or_cases, or_false, equal, same_number}
 use Rattle.kc_plan.specs.declared.rows.Span.{Span}
 use Rattle.kc_parts.specs.Cuts.{is_wanted, same}
-use Rattle.kc_plan.specs.Rows.{IsListed, IsPut, IsWithout, HasFrame, HasOther, HasOnly, has_frame, is_named, is_named_or_slot, is_reached, is_slot, is_free, IsSpan}
+use Rattle.kc_plan.specs.Rows.{IsListed, IsPut, IsWithout, HasFrame, HasOther, HasOnly, has_frame, is_named, is_named_or_slot, is_slot, is_free, IsSpan}
 use Rattle.std.specs.Prelude.{eqb, nat_lt, Option, Some, None, position}
 use Rattle.std.specs.List.{position_or_len}
 use Rattle.std.proofs.lemmas.Bool.Decides.{nat_tests}
@@ -15,6 +15,12 @@ use Rattle.kc_plan.specs.Reach.{has_member, is_at}
 use Rattle.std.specs.List.{IsDistinct}
 use Rattle.std.specs.Cmp.{IsEquivalence}
 use Rattle.std.proofs.lemmas.Map.Keys.{IsDistinct-push, IsDistinct-from_apart, apart_from_distinct}
+
+-- a frame that is among the first of what the principal may have
+abbrev pub is_reached : List (List ℕ) → Option Span → Resource → Bool
+is_reached sets span (resource.Frame f) = has_frame sets span f
+is_reached sets span (resource.Vm v) = false
+is_reached sets span resource.Free = false
 
 lt_suc : (a b : ℕ) → nat_lt (1 + a) (suc b) ≡ nat_lt a b
 lt_suc a b = grind (arith, nat_tests)

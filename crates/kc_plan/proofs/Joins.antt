@@ -9,7 +9,17 @@ use Rattle.kc_plan.specs.Members.{with_member}
 use Rattle.kc_plan.specs.Reach.{has_member}
 use Rattle.kc_plan.proofs.Added.{length_added, added_front, set_has, set_once}
 use Rattle.kc_plan.proofs.Shapes.{or_left, or_right, or_cases, both, and_left, and_right, same_number, equal}
-use Rattle.kc_plan.specs.Planner.{Reached, members_of, is_near, IsExact, IsRelated, IsJoined, AreFreed, IsWider, IsFreeing, IsGrown}
+use Rattle.kc_plan.specs.Planner.{Reached, members_of, is_near, IsExact, IsRelated, IsJoined, AreFreed, IsWider, IsGrown}
+
+-- the first n of what the slot v may have, the free list may have
+pub record IsFreeing (size free v n : ℕ) (a b : Reached) : Type 0 where
+  pub exact : IsExact size free b
+  pub freed : b.freed ≡ a.freed
+  pub slot_same : members_of b v ≡ members_of a v
+  pub keeps : (p f : ℕ) → has_member (members_of a p) f ≡ true → has_member (members_of b p) f ≡ true
+  pub only : (p f : ℕ) → has_member (members_of b p) f ≡ true → (has_member (members_of a p) f ≡ true) ⊎ ((free ≡ p) × (has_member (members_of a v) f ≡ true))
+  pub there : (i : ℕ) → i < n → has_member (members_of b free) (get_or (members_of a v) i 0) ≡ true
+  pub grown : IsGrown a b
 
 module _ (size free p f : ℕ) (a b : Reached) (low : p < size) (free_low : free < size) (exact : IsExact size free a) (sets : b.sets ≡ set a.sets p (with_member (get_or a.sets p []) f)) where
   there : p < length a.sets

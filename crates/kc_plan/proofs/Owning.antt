@@ -13,14 +13,16 @@ use Rattle.kc_model.specs.Lawful.{IsLawful, same_owner}
 use Rattle.kc_model.proofs.States.Changes.{exists}
 use Rattle.kc_plan.specs.Reach.{is_at}
 use Rattle.kc_plan.specs.Planner.{HasOneOwnerEach, has_pair}
-use Rattle.kc_plan.specs.Owned.{IsOwned, IsOwnedBelow, principal_of}
+use Rattle.kc_plan.specs.Owned.{IsOwned, principal_of}
 use Rattle.kc_plan.proofs.Shapes.{same_number, equal, and_right, and_false}
 use Rattle.kc_plan.proofs.Carried.{at_below, low_too, not_past, differs}
 
--- one frame more
-lt_more : (f n : ℕ) → nat_lt f (n + 1) ≡ (nat_lt f n || eqb n f)
-lt_more f n = grind (arith, nat_tests)
+-- the pairs are those of the frames below n
+pub record IsOwnedBelow (m : State) (n : ℕ) (pairs : List (ℕ × ℕ)) : Type 0 where
+  pub has : (p f : ℕ) → has_pair pairs p f ≡ (nat_lt f n && is_at (principal_of (slot_count m.config) (frame_at m f).owner) p)
+  pub low : (i : ℕ) → i < length pairs → (get_or pairs i (0, 0)).0 < slot_count m.config + 1
 
+-- one frame more
 pub none_more : (m : State) (n : ℕ) (pairs : List (ℕ × ℕ)) → principal_of (slot_count m.config) (frame_at m n).owner ≡ None → IsOwnedBelow m n pairs → IsOwnedBelow m (n + 1) pairs
 none_more m n pairs none so_far = record { has = λ p f. so_far.has p f ∙ by p f (eqb n f) refl; low = so_far.low }
   where

@@ -8,11 +8,27 @@ use Rattle.kc_plan.specs.declared.names.Gain.{Gain}
 use Rattle.kc_plan.specs.declared.names.Gain.TheVariants.{Nothing, SlotTakesFrame, FreeTakesFrame, FreeTakesReach}
 use Rattle.kc_plan.specs.declared.names.Names.{Names}
 use Rattle.kc_plan.specs.Reach.{has_member, is_at, names_principal, names_at, may_have, touches, gains_by, reach_of}
-use Rattle.kc_plan.specs.LastWaves.{IsNear, IsFound, IsNoted}
+use Rattle.kc_plan.specs.LastWaves.{IsFound, IsNoted}
+use Rattle.kc_plan.proofs.Tracked.{IsNear, AreTracked}
 use Rattle.kc_plan.proofs.Shapes.{same_number, or_cases, and_right, the_shape}
 use Rattle.kc_plan.proofs.Steps.{just_after, one_more}
-use Rattle.kc_plan.specs.Planner.{Reached, Stamps, members_of, is_near, IsExact, IsStart, IsHigh, IsWritten, AreGained, IsGoing, IsInRange, has_pair}
+use Rattle.kc_plan.specs.Planner.{Reached, Stamps, members_of, is_near, IsExact, IsStart, IsHigh, IsWritten, AreGained, IsInRange, has_pair}
 use Rattle.kc_plan.proofs.Starts.{replicas}
+
+-- the waves of the first calls are planned, whatever those of the later ones are, and h and s are what the planner keeps then
+pub record IsGoing (frames free : ℕ) (start : ℕ → ℕ → Bool) (cs : List Names) (waves : List ℕ) (h : Reached) (s : Stamps) : Type 0 where
+  pub planned : (wave : ℕ → ℕ) → ((j : ℕ) → j < length waves → wave j ≡ get_or waves j 0) → (k : ℕ) → k < length waves → ComesJustAfter (touches free start cs) wave k
+  pub tracked : (wave : ℕ → ℕ) → ((j : ℕ) → j < length waves → wave j ≡ get_or waves j 0)
+      → AreTracked (λ k f. is_at (names_at cs k).frame f) (λ k p. names_principal free (names_at cs k) p) (may_have free start cs) (touches free start cs) wave
+      (free + 1) (length waves) (λ f. get_or s.frame_waves f 0) (λ p. get_or s.principal_waves p 0) (λ p. get_or s.reach_waves p 0)
+  pub sets : (p f : ℕ) → p < free + 1 → has_member (members_of h p) f ≡ may_have free start cs (length waves) p f
+  pub exact : IsExact (free + 1) free h
+  pub frame_low : (f : ℕ) → get_or s.frame_waves f 0 ≤ length waves
+  pub principal_low : (p : ℕ) → get_or s.principal_waves p 0 ≤ length waves
+  pub reach_low : (p : ℕ) → p < free + 1 → get_or s.reach_waves p 0 ≤ length waves
+  pub frame_len : length s.frame_waves ≡ frames
+  pub principal_len : length s.principal_waves ≡ free + 1
+  pub reach_len : length s.reach_waves ≡ free + 1
 
 get_or_last : (xs : List ℕ) (y : ℕ) → get_or (xs ++ y ∷ []) (length xs) 0 ≡ y
 get_or_last xs y = let e = get_or-append-add xs (y ∷ []) 0 0 in let z : length xs + 0 ≡ length xs = omega arith in rw z at e
@@ -83,7 +99,7 @@ module _ (frames free : ℕ) (start : ℕ → ℕ → Bool) (cs : List Names) (r
     }
 
     found_at : (s : Stamps) (high : ℕ) → IsHigh (free + 1) free (names_at cs k) h s high
-        → IsFound (λ j f. is_at (names_at cs j).frame f) (λ j p. names_principal free (names_at cs j) p) (may_have free start cs) (touches free start cs) (free + 1) k high
+        → IsFound (λ j f. is_at (names_at cs j).frame f) (λ j p. names_principal free (names_at cs j) p) (may_have free start cs) (free + 1) k high
         (λ f. get_or s.frame_waves f 0) (λ p. get_or s.principal_waves p 0) (λ p. get_or s.reach_waves p 0)
     found_at s high found = record {
       named = found.named;
@@ -105,7 +121,7 @@ module _ (frames free : ℕ) (start : ℕ → ℕ → Bool) (cs : List Names) (r
     }
 
     noted_at : (s t : Stamps) (w : ℕ) → IsWritten (free + 1) free (names_at cs k) w h s t
-        → IsNoted (λ j f. is_at (names_at cs j).frame f) (λ j p. names_principal free (names_at cs j) p) (may_have free start cs) (touches free start cs) (free + 1) k w (is_near h)
+        → IsNoted (λ j f. is_at (names_at cs j).frame f) (λ j p. names_principal free (names_at cs j) p) (may_have free start cs) (free + 1) k w (is_near h)
         (λ f. get_or s.frame_waves f 0) (λ p. get_or s.principal_waves p 0) (λ p. get_or s.reach_waves p 0) (λ f. get_or t.frame_waves f 0) (λ p. get_or t.principal_waves p 0) (λ p. get_or t.reach_waves p 0)
     noted_at s t w noted = record {
       frame_is = noted.frame_is;
@@ -186,11 +202,11 @@ module _ (frames free : ℕ) (start : ℕ → ℕ → Bool) (cs : List Names) (r
       w_low : suc high ≤ suc (length waves)
       w_low = let l = high_low waves h s n (length waves) high is going found_n in omega arith
 
-      found : IsFound (λ j f. is_at (names_at cs j).frame f) (λ j p. names_principal free (names_at cs j) p) (may_have free start cs) (touches free start cs) (free + 1) (length waves) high
+      found : IsFound (λ j f. is_at (names_at cs j).frame f) (λ j p. names_principal free (names_at cs j) p) (may_have free start cs) (free + 1) (length waves) high
           (λ f. get_or s.frame_waves f 0) (λ p. get_or s.principal_waves p 0) (λ p. get_or s.reach_waves p 0)
       found = found_at (length waves) h going.sets s high (subst (λ (x : Names). IsHigh (free + 1) free x h s high) is found_n)
 
-      noted : IsNoted (λ j f. is_at (names_at cs j).frame f) (λ j p. names_principal free (names_at cs j) p) (may_have free start cs) (touches free start cs) (free + 1) (length waves) (suc high) (is_near h)
+      noted : IsNoted (λ j f. is_at (names_at cs j).frame f) (λ j p. names_principal free (names_at cs j) p) (may_have free start cs) (free + 1) (length waves) (suc high) (is_near h)
           (λ f. get_or s.frame_waves f 0) (λ p. get_or s.principal_waves p 0) (λ p. get_or s.reach_waves p 0) (λ f. get_or t.frame_waves f 0) (λ p. get_or t.principal_waves p 0) (λ p. get_or t.reach_waves p 0)
       noted = noted_at (length waves) h going.sets s t (suc high) (subst (λ (x : Names). IsWritten (free + 1) free x (suc high) h s t) is written_n)
 

@@ -6,7 +6,7 @@ use Rattle.kc_plan.specs.declared.names.Gain.{Gain}
 use Rattle.kc_plan.specs.declared.names.Gain.TheVariants.{Nothing, SlotTakesFrame, FreeTakesFrame, FreeTakesReach}
 use Rattle.kc_plan.specs.declared.names.Names.{Names}
 use Rattle.kc_plan.specs.Reach.{is_at, names_at, names_principal, reach_of, gains_by, may_have, touched_by, touches}
-use Rattle.kc_plan.specs.LastWaves.{Shape}
+use Rattle.kc_plan.proofs.Tracked.{Shape}
 
 pub or_left : (a b : Bool) → a ≡ true → (a || b) ≡ true
 or_left true b h = refl

@@ -5,9 +5,16 @@ use Rattle.std.proofs.lemmas.List.Folds.{list_any_more}
 use Rattle.std.proofs.Math.ListN.{length-set, length-replicate}
 use Rattle.std.proofs.lemmas.Map.Keys.{IsDistinct-from_apart}
 use Rattle.kc_plan.proofs.Shapes.{same_number, equal}
-use Rattle.kc_plan.specs.Members.{with_member}
-use Rattle.kc_plan.specs.Planner.{Reached, is_near, HasOneOwnerEach, AreUnrelated, AreOwned, IsStart}
+use Rattle.std.specs.List.{IsDistinct}
+use Rattle.kc_plan.specs.Members.{has_member, with_member}
+use Rattle.kc_plan.specs.Planner.{Reached, is_near, HasOneOwnerEach, AreUnrelated, IsStart, has_pair}
 use Rattle.kc_plan.proofs.Added.{set_has, set_once}
+
+-- what the pairs have so far
+pub record AreOwned (size : ℕ) (pairs : List (ℕ × ℕ)) (sets : List (List ℕ)) : Type 0 where
+  pub count : length sets ≡ size
+  pub has : (p f : ℕ) → has_member (get_or sets p []) f ≡ has_pair pairs p f
+  pub once : (p : ℕ) → IsDistinct eqb (get_or sets p [])
 
 pub replicas : {A : Type 0} → (n i : ℕ) (z : A) → get_or (replicate n z) i z ≡ z
 replicas zero i z = refl

@@ -2,9 +2,9 @@
 use Rattle.std.specs.Prelude.{◌≡◌, ℕ, ◌+◌, ◌<◌, ◌≤◌, Bool, true, false, ◌&&◌, ◌||◌, eqb, List, [], length, get_or, set, take, replicate, Option, Some, None, IfSome, ◌⊎◌}
 use Rattle.std.specs.List.{list_any, IsDistinct}
 use Rattle.kc_plan.specs.declared.names.Names.{Names}
-use Rattle.kc_plan.specs.Reach.{has_member, is_at, names_principal, gains_by, names_at, may_have, touches}
+use Rattle.kc_plan.specs.Reach.{has_member, is_at, names_principal, gains_by, may_have, touches}
 use Rattle.waves.specs.Planned.{ComesJustAfter}
-use Rattle.kc_plan.specs.LastWaves.{IsFound, IsNoted, AreTracked}
+use Rattle.kc_plan.specs.LastWaves.{IsFound, IsNoted}
 use Rattle.kc_plan.specs.Members.{with_member}
 use Rattle.kc_plan.specs.Plan.{wave_of}
 
@@ -65,7 +65,7 @@ pub record IsLastOf (n f : ℕ) (h : Reached) (s : Stamps) (high : ℕ) : Type 0
 -- high is the highest wave of a call that shares something with a call of these names
 abbrev pub IsHigh : ℕ → ℕ → Names → Reached → Stamps → ℕ → Type 0
 IsHigh size free n h s high =
-    IsFound (λ k f. is_at n.frame f) (λ k p. names_principal free n p) (λ k p f. has_member (members_of h p) f) (λ k r. false) size 0 high
+    IsFound (λ k f. is_at n.frame f) (λ k p. names_principal free n p) (λ k p f. has_member (members_of h p) f) size 0 high
     (λ f. get_or s.frame_waves f 0) (λ p. get_or s.principal_waves p 0) (λ p. get_or s.reach_waves p 0)
 
 -- the highest waves of the first n principals are raised to w where the call touches them or what they may have
@@ -77,7 +77,7 @@ pub record IsTop (n free w : ℕ) (names : Names) (h : Reached) (before after : 
 -- a call of these names, of wave w, is written down
 abbrev pub IsWritten : ℕ → ℕ → Names → ℕ → Reached → Stamps → Stamps → Type 0
 IsWritten size free n w h s t =
-    IsNoted (λ k f. is_at n.frame f) (λ k p. names_principal free n p) (λ k p f. has_member (members_of h p) f) (λ k r. false) size 0 w (is_near h)
+    IsNoted (λ k f. is_at n.frame f) (λ k p. names_principal free n p) (λ k p f. has_member (members_of h p) f) size 0 w (is_near h)
     (λ f. get_or s.frame_waves f 0) (λ p. get_or s.principal_waves p 0) (λ p. get_or s.reach_waves p 0) (λ f. get_or t.frame_waves f 0) (λ p. get_or t.principal_waves p 0) (λ p. get_or t.reach_waves p 0)
 
 -- the principal p is related to each that may have the frame f, both ways
@@ -98,16 +98,6 @@ IsGrown a b = (p n : ℕ) → n ≤ length (members_of a p) → (n ≤ length (m
 pub record AreFreed (size free v : ℕ) (a b : Reached) : Type 0 where
   pub exact : IsExact size free b
   pub sets : (p f : ℕ) → p < size → has_member (members_of b p) f ≡ (has_member (members_of a p) f || (eqb free p && has_member (members_of a v) f))
-  pub grown : IsGrown a b
-
--- the first n of what the slot v may have, the free list may have
-pub record IsFreeing (size free v n : ℕ) (a b : Reached) : Type 0 where
-  pub exact : IsExact size free b
-  pub freed : b.freed ≡ a.freed
-  pub slot_same : members_of b v ≡ members_of a v
-  pub keeps : (p f : ℕ) → has_member (members_of a p) f ≡ true → has_member (members_of b p) f ≡ true
-  pub only : (p f : ℕ) → has_member (members_of b p) f ≡ true → (has_member (members_of a p) f ≡ true) ⊎ ((free ≡ p) × (has_member (members_of a v) f ≡ true))
-  pub there : (i : ℕ) → i < n → has_member (members_of b free) (get_or (members_of a v) i 0) ≡ true
   pub grown : IsGrown a b
 
 pub record IsJoined (size free p f : ℕ) (a b : Reached) : Type 0 where
@@ -145,30 +135,9 @@ pub record AreUnrelated (size : ℕ) (near : List (List Bool)) : Type 0 where
   pub count : length near ≡ size
   pub row : (p : ℕ) → p < size → get_or near p [] ≡ set (replicate size false) p true
 
--- what the pairs have so far
-pub record AreOwned (size : ℕ) (pairs : List (ℕ × ℕ)) (sets : List (List ℕ)) : Type 0 where
-  pub count : length sets ≡ size
-  pub has : (p f : ℕ) → has_member (get_or sets p []) f ≡ has_pair pairs p f
-  pub once : (p : ℕ) → IsDistinct eqb (get_or sets p [])
-
 pub record IsStart (size free : ℕ) (pairs : List (ℕ × ℕ)) (h : Reached) : Type 0 where
   pub exact : IsExact size free h
   pub sets : (p f : ℕ) → p < size → has_member (members_of h p) f ≡ has_pair pairs p f
-
--- the waves of the first calls are planned, whatever those of the later ones are, and h and s are what the planner keeps then
-pub record IsGoing (frames free : ℕ) (start : ℕ → ℕ → Bool) (cs : List Names) (waves : List ℕ) (h : Reached) (s : Stamps) : Type 0 where
-  pub planned : (wave : ℕ → ℕ) → ((j : ℕ) → j < length waves → wave j ≡ get_or waves j 0) → (k : ℕ) → k < length waves → ComesJustAfter (touches free start cs) wave k
-  pub tracked : (wave : ℕ → ℕ) → ((j : ℕ) → j < length waves → wave j ≡ get_or waves j 0)
-      → AreTracked (λ k f. is_at (names_at cs k).frame f) (λ k p. names_principal free (names_at cs k) p) (may_have free start cs) (touches free start cs) wave
-      (free + 1) (length waves) (λ f. get_or s.frame_waves f 0) (λ p. get_or s.principal_waves p 0) (λ p. get_or s.reach_waves p 0)
-  pub sets : (p f : ℕ) → p < free + 1 → has_member (members_of h p) f ≡ may_have free start cs (length waves) p f
-  pub exact : IsExact (free + 1) free h
-  pub frame_low : (f : ℕ) → get_or s.frame_waves f 0 ≤ length waves
-  pub principal_low : (p : ℕ) → get_or s.principal_waves p 0 ≤ length waves
-  pub reach_low : (p : ℕ) → p < free + 1 → get_or s.reach_waves p 0 ≤ length waves
-  pub frame_len : length s.frame_waves ≡ frames
-  pub principal_len : length s.principal_waves ≡ free + 1
-  pub reach_len : length s.reach_waves ≡ free + 1
 
 -- the wave of each call comes just after the highest of an earlier one that shares something with it
 abbrev pub ArePlanned : ℕ → List (ℕ × ℕ) → List Names → List ℕ → Type 0

@@ -76,11 +76,6 @@ is_named frame (resource.Frame f) = is_at frame f
 is_named frame (resource.Vm v) = false
 is_named frame resource.Free = false
 
-abbrev pub is_reached : List (List ℕ) → Option Span → Resource → Bool
-is_reached sets span (resource.Frame f) = has_frame sets span f
-is_reached sets span (resource.Vm v) = false
-is_reached sets span resource.Free = false
-
 abbrev pub is_slot : List (List ℕ) → Option Span → Resource → Bool
 is_slot sets span (resource.Frame f) = has_frame sets span f
 is_slot sets span (resource.Vm v) = is_of span v

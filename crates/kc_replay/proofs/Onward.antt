@@ -21,8 +21,18 @@ use Rattle.kc_plan.specs.Reordering.{after_order, AnswersAlike}
 use Rattle.kc_plan.proofs.Reordered.{alike, is_order_free}
 use Rattle.kc_replay.specs.Wave.{IsWave, AreReplied, wave_calls}
 use Rattle.kc_plan.specs.Plan.{AreCallNumbers, AreCallsOf}
-use Rattle.kc_replay.specs.Replay.{IsUpTo}
 use Rattle.kc_replay.proofs.Ready.{feet-of-wave}
+
+-- the calls of the waves up to w are taken, in whatever order, and their replies stand in their places
+pub record IsUpTo (m : State) (calls : List Call) (wave : ℕ → ℕ) (w : ℕ) (store : State) (replies : List Reply) : Type 0 where
+  pub order : List ℕ
+  pub done : ℕ → Bool
+  pub taken : IsTaken (footprint m calls) (length calls) (λ j. false) order done
+  pub below : (j : ℕ) → j < length calls → wave j ≤ w → done j ≡ true
+  pub above : (j : ℕ) → j < length calls → done j ≡ true → wave j ≤ w
+  pub state : store ≡ after_order calls m order
+  pub replied : (k : ℕ) → k < length calls → wave k ≤ w → slice_index_or replies k Done ≡ reply_at m calls k
+  pub size : length replies ≡ length calls
 
 either-true : (b d : Bool) → d ≡ true → (b || d) ≡ true
 either-true true d e = refl

@@ -1,6 +1,6 @@
 -- What the calls of a wave left goes back into the store.
 use Rattle.std.proofs.Common.{ℕ, suc, ◌≡◌, ◌≢◌, ◌<◌, ◌≤◌, ◌+◌, ◌⊎◌, inl, inr, Bool, true, false, cond, nat_lt, List, [], ◌∷◌, ◌++◌, length, length-append, All, get_or, set, map, Option, Some, None, refl, sym, ap, ◌∙◌, subst, arith}
-use Rattle.std.specs.List.{AllZip, range_with_len, slice_get}
+use Rattle.std.specs.List.{AllZip, range_with_len}
 use Rattle.std.specs.Option.{option_map}
 use Rattle.std.proofs.lemmas.Bool.{ltb-true, lt-ltb, cases_eq}
 use Rattle.std.proofs.lemmas.Option.{same_Some}
@@ -78,10 +78,6 @@ slot-none (Some x) e = cc
 ends-none : (there : Option Ends) → option_map ends_part there ≡ None → there ≡ None
 ends-none None e = refl
 ends-none (Some x) e = cc
-
-get-past : {X : Type 0} (xs : List X) → slice_get xs (length xs) ≡ None
-get-past [] = refl
-get-past (x ∷ xs) = get-past xs
 
 -- a listed frame exists
 listed-low : (m : State) → IsLawful m → (p : Owner) (f : ℕ) → is_in (list_of m p) f ≡ true → f < m.config.frames

@@ -230,12 +230,6 @@ DigitCases bytes =
     ((v : Version) × (rest : List ℕ) × (bytes ≡ digit v ∷ 10 ∷ rest) × (outcome (in_header One (49 ∷ 10 ∷ [])) bytes ≡ outcome (in_header v []) rest))
     ⊎ ((outcome (in_header One (49 ∷ 10 ∷ [])) bytes ≡ Err NoHeader) × ((v : Version) (rest : List ℕ) → bytes ≡ digit v ∷ 10 ∷ rest → ⊥))
 
-digit_is : (w v : Version) → digit w ≡ digit v → w ≡ v
-digit_is One One e = refl
-digit_is Two Two e = refl
-digit_is One Two e = absurd (omega (arith, e))
-digit_is Two One e = absurd (omega (arith, e))
-
 behind_digit : (v : Version) (bytes : List ℕ) → outcome (in_header One (49 ∷ 10 ∷ [])) (digit v ∷ bytes) ≡ outcome (in_header v (10 ∷ [])) bytes → DigitCases (digit v ∷ bytes)
 behind_digit v bytes here = elim (through_part v (10 ∷ []) [] bytes refl) [
   | inl h ↦ inl (v, h.0, rw h.1 refl, here ∙ h.2)

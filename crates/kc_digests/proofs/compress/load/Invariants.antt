@@ -1,6 +1,7 @@
 use Rattle.std.proofs.Common.{◌≡◌, ℕ, ◌<◌, length, ◌*◌}
 use Rattle.sha2.specs.Sha256.{word_at}
-use Rattle.kc_digests.specs.Lanes.{lane_at, of_four}
+use Rattle.kc_digests.specs.Lanes.{of_four}
+use Rattle.kc_digests.proofs.LaneLemmas.{lane_at}
 use Rattle.kc_digests.proofs.compress.load.Given as goal
 
 abbrev pub invariant-load : goal.invariant-load

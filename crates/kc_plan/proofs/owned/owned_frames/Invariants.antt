@@ -1,4 +1,4 @@
-use Rattle.kc_plan.specs.Owned.{IsOwnedBelow}
+use Rattle.kc_plan.proofs.Owning.{IsOwnedBelow}
 use Rattle.kc_plan.proofs.owned.owned_frames.Given as goal
 
 abbrev pub invariant-loop-frame : goal.invariant-loop-frame

@@ -1,6 +1,7 @@
 use Rattle.std.proofs.Common.{◌≡◌, length}
-use Rattle.kc_plan.specs.Planner.{IsGoing, has_pair}
+use Rattle.kc_plan.specs.Planner.{has_pair}
 use Rattle.kc_plan.specs.Rows.{AreRowsOf}
+use Rattle.kc_plan.proofs.Plans.{IsGoing}
 use Rattle.kc_plan.proofs.planner.walk_calls.Given as goal
 
 abbrev pub invariant-loop-names : goal.invariant-loop-names

@@ -1,7 +1,6 @@
 use Rattle.std.proofs.Common.{◌≡◌, ◌<◌, length, ℕ, take, refl, arith, rules}
 use Rattle.std.proofs.lemmas.List.{take_all}
-use Rattle.kc_plan.specs.Planner.{AreOwned}
-use Rattle.kc_plan.proofs.Starts.{none_owned, owned_more, start_of}
+use Rattle.kc_plan.proofs.Starts.{AreOwned, none_owned, owned_more, start_of}
 use Rattle.kc_plan.proofs.reaches.start.Goals as goal
 
 pub loop-principal-init : goal.loop-principal-init

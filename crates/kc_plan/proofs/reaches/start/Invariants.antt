@@ -1,5 +1,5 @@
 use Rattle.std.proofs.Common.{take}
-use Rattle.kc_plan.specs.Planner.{AreOwned}
+use Rattle.kc_plan.proofs.Starts.{AreOwned}
 use Rattle.kc_plan.proofs.reaches.start.Given as goal
 
 abbrev pub invariant-loop-principal : goal.invariant-loop-principal

@@ -1,5 +1,5 @@
 use Rattle.kc_plan.specs.Plan.{wave_of}
-use Rattle.kc_replay.specs.Replay.{IsUpTo}
+use Rattle.kc_replay.proofs.Onward.{IsUpTo}
 use Rattle.kc_replay.proofs.segment.replay_waves.Given as goal
 
 abbrev pub invariant-loop-done : goal.invariant-loop-done

@@ -1,5 +1,5 @@
 use Rattle.std.proofs.Common.{length}
-use Rattle.kc_plan.specs.Planner.{IsFreeing}
+use Rattle.kc_plan.proofs.Joins.{IsFreeing}
 use Rattle.kc_plan.proofs.reaches.Reaches.join_all.Given as goal
 
 abbrev pub invariant-loop-place : goal.invariant-loop-place
