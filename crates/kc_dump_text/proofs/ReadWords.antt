@@ -35,9 +35,6 @@ name_is name text e = (bytes_eq-Decides name text).0 e
 
 -- ---- numbers
 
-abbrev pub IsNumber : ℕ → Type 0
-IsNumber n = n < 2 ^ 32
-
 pub number-from : (word : List ℕ) (n : ℕ) → number_in word ≡ Some n → word ≡ decimal n
 number-from word n e = (number_is_decimal word n e).0
 
