@@ -3,7 +3,6 @@ use Rattle.std.specs.Prelude.{ℕ, List, [], ◌++◌, codes, decimal, Option, S
 use Rattle.kc_trace.specs.Faults.{config_fault_words, trace_fault_words}
 use Rattle.kc_trace.specs.declared.config_text.ConfigTextFault.{ConfigTextFault}
 use Rattle.kc_trace.specs.declared.config_text.ConfigTextFault.TheVariants as configs
-use Rattle.kc_trace.specs.declared.fault.TraceFault.{TraceFault}
 use Rattle.kc_trace.specs.declared.fault.TraceFault.TheVariants as traces
 use Rattle.kc_dump_text.specs.Faults.{dump_fault_words, dump_fault_end}
 use Rattle.kc_dump_text.specs.declared.fault.DumpFault.{DumpFault}
