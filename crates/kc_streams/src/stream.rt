@@ -1,5 +1,5 @@
 //! A trace, read from a source in pieces.
-ghost use Rattle.std.specs.Prelude.{◌≡◌, ◌≢◌, ◌<◌, ◌≤◌, ℕ, [], List, length, Option, IfOk, OnOk, IfSome, Err, true, false};
+ghost use Rattle.std.specs.Prelude.{◌≡◌, ◌≢◌, ◌<◌, ◌≤◌, ◌++◌, ℕ, [], List, length, Option, IfOk, OnOk, IfSome, Err, true, false};
 ghost use Rattle.std.specs.Io.KnownBytes.{IsAtEnd};
 ghost use Rattle.kc_types.specs.Limits.{call_limit};
 ghost use Rattle.kc_types.specs.declared.call.Call.{Call};
@@ -11,7 +11,7 @@ ghost use Rattle.kc_streams.specs.Streamed.{HasRead, GoesOn};
 use kc_io::{Failed, MOST_BYTES, ReadFault, Source};
 use kc_trace::{TraceFault, TraceReader};
 use kc_types::Call;
-use std::alloc::Global;
+use std::alloc::{AllocError, Global};
 use std::marker::Model;
 use thiserror::Error;
 
@@ -45,6 +45,17 @@ impl From<ReadFault> for StreamFault {
 
 /// So many calls are worth going on with, before more are read.
 const CALLS_AT_ONCE: usize = 4_096;
+
+/// The calls with more behind them; where there were none, those that come as they lie.
+fn joined(mut calls: Vec<Call>, mut more: Vec<Call>) -> Result<Vec<Call>, AllocError>
+    ensures { IfOk result (λ all. all.items ≡ calls.items ++ more.items) }
+{
+    if calls.is_empty() {
+        return Ok(more);
+    }
+    calls.append(&mut more)?;
+    Ok(calls)
+}
 
 /// The next calls of a trace.
 #[derive(Drop)]
@@ -117,11 +128,10 @@ impl CallStream {
             let (piece, _) = buffer.split_at(n);
             // After a fault the reader answers it again, so the rest is only read to its end.
             match self.reader.feed(alloc, piece) {
-                Ok(mut more) => {
-                    if calls.append(&mut more).is_err() {
-                        return Err(ReadFault::Memory);
-                    }
-                }
+                Ok(more) => match joined(calls, more) {
+                    Ok(all) => calls = all,
+                    Err(_) => return Err(ReadFault::Memory),
+                },
                 Err(fault) => match fault {
                     TraceFault::Memory => return Err(ReadFault::Memory),
                     _ => {}

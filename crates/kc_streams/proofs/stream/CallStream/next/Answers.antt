@@ -1,4 +1,4 @@
-use Rattle.std.proofs.Common.{◌≡◌, ◌++◌, ◌+◌, length, take, arith, refl, rules}
+use Rattle.std.proofs.Common.{◌≡◌, ◌+◌, length, take, arith, refl, rules}
 use Rattle.std.proofs.lemmas.List.{length-take}
 use Rattle.kc_streams.specs.Streamed.{Streamed}
 use Rattle.kc_streams.proofs.Fed.{goes_on_ok, goes_on_err, too_many}
@@ -10,13 +10,12 @@ returns-then-n-self-clause-read g c e =
     too_many c.args.self.now _ (take c.in-Ok.n c.read.new.buffer) c.loop-alloc.calls.items c.in-Ok.n _ (g.T.Source.left c.args.source.now) (g.T.Source.left c.loop-alloc.source) (g.T.Source.left c.read.new.self)
     c.loop-alloc.invariant.on c.in-Ok.ensures.bytes.0 n (omega (arith, c.if-n-self.true, c.loop-alloc.invariant.few))
 
-pub loop-alloc-preserved-in-Ok-feed : goal.loop-alloc-preserved-in-Ok-feed
-loop-alloc-preserved-in-Ok-feed g c =
-    let grown : c.append.new.self.items ≡ c.loop-alloc.calls.items ++ c.in-Ok-feed.more.items = search rules in
+pub loop-alloc-preserved-in-Ok-joined : goal.loop-alloc-preserved-in-Ok-joined
+loop-alloc-preserved-in-Ok-joined g c =
     let after : Streamed = record { reader = c.feed.new.self; total = c.loop-alloc.self-inside.total + c.in-Ok.n } in
     record {
-      on = goes_on_ok c.args.self.now _ after (c.split_at.result.0.now) c.loop-alloc.calls.items c.in-Ok-feed.more.items c.append.new.self.items c.in-Ok.n (g.T.Source.left c.args.source.now) (g.T.Source.left c.loop-alloc.source) (g.T.Source.left c.read.new.self)
-          c.loop-alloc.invariant.on (rw c.split_at.ensures.front c.in-Ok.ensures.bytes.0) c.in-Ok-feed.ensures.answer c.in-Ok-feed.ensures.ok c.split_at.ensures.front_len refl grown;
+      on = goes_on_ok c.args.self.now _ after (c.split_at.result.0.now) c.loop-alloc.calls.items c.in-Ok-feed.more.items c.in-Ok-joined.all.items c.in-Ok.n (g.T.Source.left c.args.source.now) (g.T.Source.left c.loop-alloc.source) (g.T.Source.left c.read.new.self)
+          c.loop-alloc.invariant.on (rw c.split_at.ensures.front c.in-Ok.ensures.bytes.0) c.in-Ok-feed.ensures.answer c.in-Ok-feed.ensures.ok c.split_at.ensures.front_len refl c.in-Ok-joined.ensures;
       more = λ some. let past = c.if-n-eq0.false in omega (arith, c.loop-alloc.invariant.up, past);
       up = omega (arith, c.loop-alloc.invariant.up);
       few = search rules;
