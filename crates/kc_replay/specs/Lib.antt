@@ -1,4 +1,3 @@
 pub mod Wave
 pub mod Working
-pub mod Replay
 pub mod Replayer

@@ -18,6 +18,7 @@ use Rattle.kc_parts.specs.Parts.{Held, HasPlace, page_at, vm_at}
 use Rattle.kc_parts.specs.Restricted.{seen_at, exists_in, IsRestricted}
 use Rattle.kc_replay.specs.declared.task.Task.{Task}
 use Rattle.kc_replay.specs.declared.task.Finished.{Finished}
+use Rattle.std.specs.List.Sorted.{IsPermutation}
 
 -- each call of a wave has a foot that holds what it needs, and no two feet share a resource
 pub record AreFeet (m : State) (calls : List Call) (feet : ℕ → Resources) : Type 0 where
@@ -93,3 +94,10 @@ pub record AreReplied (m : State) (calls : List Call) (members : List ℕ) (old 
 -- no page that is here has bytes but zeros
 abbrev pub HasNoBytes : Held → Type 0
 HasNoBytes h = (f : ℕ) (page : Page) → page_at h f ≡ Some page → page.bytes ≡ zero_page
+
+-- the calls of a wave are taken, in some order, and their replies stand in their places
+pub record IsWaveTaken (m : State) (calls : List Call) (members : List ℕ) (old new : List Reply) (left : State) : Type 0 where
+  pub order : List ℕ
+  pub same : IsPermutation members order
+  pub replied : AreReplied m calls order old new
+  pub state : left ≡ state_at m (wave_calls calls order) (length order)

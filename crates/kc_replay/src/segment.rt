@@ -7,9 +7,8 @@ ghost use Rattle.kc_model.specs.Lawful.{IsLawful};
 ghost use Rattle.kc_model.specs.Next.{replies_from, state_after};
 ghost use Rattle.kc_model.specs.Footprints.{state_at};
 ghost use Rattle.kc_plan.specs.Footprints.{AreFootprints};
-ghost use Rattle.kc_replay.specs.Wave.{IsWave, AreReplied, wave_calls, foot_of};
+ghost use Rattle.kc_replay.specs.Wave.{IsWave, IsWaveTaken, AreReplied, wave_calls, foot_of};
 ghost use Rattle.kc_plan.specs.Plan.{AreCallNumbers};
-ghost use Rattle.kc_replay.specs.Replay.{IsWaveTaken};
 
 use crate::Gate;
 use crate::deal::deal;
