@@ -2,8 +2,6 @@
 #![tactic(auto)]
 
 #[cfg(test)]
-mod blind;
-#[cfg(test)]
 mod configurations;
 #[cfg(test)]
 mod copies;
@@ -26,15 +24,11 @@ mod pieces;
 #[cfg(test)]
 mod receipts;
 #[cfg(test)]
-mod refusals;
-#[cfg(test)]
 mod replays;
 #[cfg(test)]
 mod second_version;
 #[cfg(test)]
 mod segments;
-#[cfg(test)]
-mod stories;
 #[cfg(test)]
 mod support;
 #[cfg(test)]

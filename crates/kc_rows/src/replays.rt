@@ -86,7 +86,7 @@ fn left_by_one(alloc: Global, config: &str, calls: &[Call]) -> Option<KCore> {
 }
 
 /// Whether 1, 2, 3, 7 and 64 workers give this reply text for a trace, and leave the core that one thread leaves.
-pub fn by_workers<R: Threads + Wait + Sync>(
+fn by_workers<R: Threads + Wait + Sync>(
     rt: &R,
     alloc: Global,
     config: &str,
@@ -103,6 +103,21 @@ pub fn by_workers<R: Threads + Wait + Sync>(
         }
     }
     Some(true)
+}
+
+/// Two VMs boot, wait for memory, share it and end, so that waves have several calls.
+pub const TWO_VMS: &str =
+    "kcore-trace 1\nhfault 1\nhwrite 1 0 616263\nregvm 0\nregvcpu 0 0\nsetboot 0 0 3\nremap 0 0 1\nverify 0\nhfault 2\nhwrite 2 0 616263\nregvm 1\nregvcpu 1 0\nsetboot 1 0 3\nremap 1 0 2\nverify 1\ngread 0 0 7 0 1\nmap 0 0 3\ngwrite 0 0 7 0 2a\ngread 1 0 7 0 1\nmap 1 0 4\ngread 1 0 7 0 1\nhfault 3\ngrant 0 0 7\nhfault 3\nhread 3 0 1\nrevoke 0 0 7\nhread 3 0 1\ndrop 1 0 7\nclear 0\ngread 0 0 7 0 1\ntake\ntake\ntake\ntake\ntake\ntake\nhfault 3\nhread 3 0 1\ngread 1 0 0 0 3\nclear 1\ntake\ntake\n";
+
+/// What their calls are answered.
+pub const TWO_VMS_REPLIES: &str =
+    "done\ndone\ndone\ndone\nimage 0\ndone\ndone\ndone\ndone\ndone\ndone\nimage 0\ndone\ndone\nfault 7\ndone\ndone\nfault 7\ndone\ndata 00\nrefused protected\ndone\ndone\ndata 2a\ndone\nrefused not-present\ndone\ndone\nrefused no-vm\nframe 5\nframe 6\nframe 7\nframe 4\nframe 1\nframe 3\ndone\ndata 00\ndata 616263\ndone\nframe 2\nrefused no-free\n";
+
+#[test]
+fn two_vms_by_workers(rt: HostRuntime) {
+    let (trace, replies) = (TWO_VMS.as_bytes(), TWO_VMS_REPLIES.as_bytes());
+    let same = by_workers(&rt, rt.alloc(), SMALL, trace, replies);
+    assert!(rt; same == Some(true));
 }
 
 /// The replies to some calls of a small core by so many workers through a gate.

@@ -1,52 +1,16 @@
-//! Traces that come byte by byte, and in segments.
-ghost use Rattle.std.specs.Prelude.{Some, drop};
-
+//! Traces that come in segments.
 use crate::gates::Count;
-use crate::replays::{Unknown, are_same_cores};
+use crate::replays::{TWO_VMS, TWO_VMS_REPLIES, Unknown, are_same_cores};
 use crate::support::{SMALL, calls_of, gives};
-use kc_cli::{Failed, Mem, Source, TextFault, replay_text};
+use kc_cli::TextFault;
 use kc_core::KCore;
 use kc_replay::{Gate, Outcome, ReplayFault, Replayer};
 use kc_trace::{TraceFault, read_config, read_trace, write_replies};
 use kc_types::{Call, Config};
-use std::alloc::{AllocError, Global};
+use std::alloc::Global;
 use std::sync::{Mutex, Wait};
 use std::test::Fail;
 use std::thread::Threads;
-
-/// A source that gives one byte at a time.
-#[derive(Debug, Drop)]
-struct Slow {
-    inner: Mem,
-}
-
-impl Source for Slow {
-    ghost left = { λ s. Some (drop s.inner.position s.inner.bytes.items) };
-
-    ghost failed = { λ s. s.inner.failed };
-
-    fn read(&mut self, buffer: &mut [u8]) -> Result<usize, Failed> {
-        let most = buffer.len().min(1);
-        self.inner.read(&mut buffer[..most])
-    }
-}
-
-/// What the engine answers to a trace that comes byte by byte, and what it wrote.
-fn replayed_slowly(
-    rt: &(impl Threads + Wait + Sync),
-    alloc: Global,
-    config: &str,
-    trace: &[u8],
-    workers: u32,
-) -> Result<(Result<(), TextFault>, Vec<u8>), AllocError> {
-    let mut config = Mem::with_bytes(Vec::from_slice(alloc, config.as_bytes())?);
-    let mut trace = Slow {
-        inner: Mem::with_bytes(Vec::from_slice(alloc, trace)?),
-    };
-    let mut out = Mem::new(alloc);
-    let outcome = replay_text(rt, alloc, &mut config, &mut trace, &mut out, workers);
-    Ok((outcome, out.bytes))
-}
 
 /// The replay of some calls in segments of this length.
 fn replayed_in<G: Gate + Sync, R: Threads + Wait + Sync>(
@@ -71,9 +35,9 @@ fn replayed_in<G: Gate + Sync, R: Threads + Wait + Sync>(
     Some(Outcome { replies, core })
 }
 
-/// Whether a trace that comes byte by byte, or a call at a time, is given this reply text by 1 and 3 workers, and leaves the
-/// core that one thread leaves.
-pub fn in_parts<R: Threads + Wait + Sync>(
+/// Whether a trace that comes a call at a time is given this reply text by 1 and 3 workers, and leaves the core that one
+/// thread leaves.
+fn in_parts<R: Threads + Wait + Sync>(
     rt: &R,
     alloc: Global,
     config: &str,
@@ -84,18 +48,21 @@ pub fn in_parts<R: Threads + Wait + Sync>(
     let mut core = KCore::boot(alloc, read_config(alloc, config.as_bytes()).ok()?).ok()?;
     core.run(alloc, &calls).ok()?;
     for workers in [1, 3] {
-        let (outcome, written) = replayed_slowly(rt, alloc, config, trace, workers).ok()?;
         let machine = read_config(alloc, config.as_bytes()).ok()?;
-        let made = replayed_in(rt, alloc, machine, &calls, 1, workers as usize, &Unknown)?;
+        let made = replayed_in(rt, alloc, machine, &calls, 1, workers, &Unknown)?;
         let replies = write_replies(alloc, made.replies.as_slice()).ok()?;
-        if outcome != Ok(()) || written.as_slice() != text || replies.as_slice() != text {
-            return Some(false);
-        }
-        if !are_same_cores(&made.core, &core) {
+        if replies.as_slice() != text || !are_same_cores(&made.core, &core) {
             return Some(false);
         }
     }
     Some(true)
+}
+
+#[test]
+fn two_vms_in_parts(rt: HostRuntime) {
+    let (trace, replies) = (TWO_VMS.as_bytes(), TWO_VMS_REPLIES.as_bytes());
+    let same = in_parts(&rt, rt.alloc(), SMALL, trace, replies);
+    assert!(rt; same == Some(true));
 }
 
 /// Six calls; of the first four the third comes after the first.
