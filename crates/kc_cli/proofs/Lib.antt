@@ -1,5 +1,2 @@
-pub mod Faulted
-pub mod Begun
-pub mod Reported
-pub mod Told
+pub mod Replayed
 pub mod Fed

@@ -1,6 +1,5 @@
--- What an engine leaves of what its sources held.
-use Rattle.std.specs.Prelude.{◌≡◌, ◌≢◌, ℕ, List, take, Option, Some, None, IfSome, Ok}
-use Rattle.std.specs.Io.KnownBytes.{Appends}
+-- What the engines that replay a trace leave of what their sources held.
+use Rattle.std.specs.Prelude.{◌≡◌, ◌≢◌, ℕ, List, Option, Some, None, Ok}
 use Rattle.kc_types.specs.Configuration.{Configuration}
 use Rattle.kc_types.specs.declared.call.Call.{Call}
 use Rattle.kc_types.specs.declared.reply.Reply.{Reply}
@@ -9,49 +8,13 @@ use Rattle.kc_model.specs.Boot.{boot}
 use Rattle.kc_model.specs.Next.{replies_from, state_after}
 use Rattle.kc_dump.specs.Dumping.{dump_of}
 use Rattle.kc_dump_text.specs.DumpText.{dump_text}
-use Rattle.kc_dump_text.specs.declared.fault.DumpFault.TheVariants as dumps
 use Rattle.kc_trace.specs.ConfigText.{config_in}
 use Rattle.kc_trace.specs.Trace.{IsTrace}
 use Rattle.kc_trace.specs.ReplyText.{reply_text_of}
 use Rattle.kc_trace.specs.declared.config_text.ConfigTextFault.{ConfigTextFault}
-use Rattle.kc_trace.specs.declared.config_text.ConfigTextFault.TheVariants as configs
-use Rattle.kc_trace.specs.declared.fault.TraceFault.{TraceFault}
-use Rattle.kc_trace.specs.declared.fault.TraceFault.TheVariants as traces
-use Rattle.kc_cli.specs.declared.fault.TextFault.{TextFault}
-use Rattle.kc_cli.specs.declared.fault.TextFault.TheVariants as texts
-
--- the text is that of a configuration, where the source tells it
-abbrev pub IsConfigured : Option (List ℕ) → Type 0
-IsConfigured None = Unit {0}
-IsConfigured (Some text) = (config : Configuration) × (config_in text ≡ Ok config)
-
--- the configuration and the trace that the texts hold
-pub record AreRead (config_text trace_text : List ℕ) (config : Configuration) (calls : List Call) : Type 0 where
-  pub configured : config_in config_text ≡ Ok config
-  pub traced : IsTrace trace_text calls
-
--- they are what was read, each where its source tells the text
-pub record HaveRead (config_source trace_source : Option (List ℕ)) (config : Configuration) (calls : List Call) : Type 0 where
-  pub configured : IfSome config_source (λ text. config_in text ≡ Ok config)
-  pub traced : IfSome trace_source (λ text. IsTrace text calls)
-
--- want of memory is told as that, and never as a fault of a text
-abbrev pub IsTold : TextFault → Type 0
-IsTold fault = (fault ≢ texts.Config configs.Memory) × (fault ≢ texts.Trace traces.Memory) × (fault ≢ texts.Dump dumps.Memory)
-
--- reading ends in a fault of a source, of a text or of memory
-pub record IsReadingFault (fault : TextFault) : Type 0 where
-  pub workers : fault ≢ texts.Workers
-  pub start : fault ≢ texts.Start
-  pub unsettled : fault ≢ texts.Unsettled
-  pub actor : (program : ℕ) → fault ≢ texts.BadActor program
-  pub write : fault ≢ texts.Write
-  pub told : IsTold fault
-
--- reading a configuration ends in no fault of a trace
-pub record IsConfigFault (fault : TextFault) : Type 0 where
-  pub reading : IsReadingFault fault
-  pub trace : (said : TraceFault) → fault ≢ texts.Trace said
+use Rattle.kc_texts.specs.Reading.{AreRead, IsTold}
+use Rattle.kc_texts.specs.declared.fault.TextFault.{TextFault}
+use Rattle.kc_texts.specs.declared.fault.TextFault.TheVariants as texts
 
 -- replaying a trace as it is read ends in a fault of its source, of its text, of memory or of a worker
 pub record IsReplayFault (fault : TextFault) : Type 0 where
@@ -84,15 +47,3 @@ IsReplyText config_text trace_text text =
 abbrev pub IsStateText : List ℕ → List ℕ → List ℕ → Type 0
 IsStateText config_text trace_text text =
     (config : Configuration) × (calls : List Call) × AreRead config_text trace_text config calls × (text ≡ dump_text (dump_of (state_after (boot config) calls)))
-
--- the sink took such a text of what the sources held, where all of them tell
-abbrev pub Writes : (List ℕ → List ℕ → List ℕ → Type 0) → Option (List ℕ) → Option (List ℕ) → Option (List ℕ) → Option (List ℕ) → Type 0
-Writes IsText None trace old new = Unit {0}
-Writes IsText (Some config) None old new = Unit {0}
-Writes IsText (Some config) (Some trace) old new = (text : List ℕ) × IsText config trace text × Appends old new text
-
--- the same of a beginning of the text
-abbrev pub Begins : (List ℕ → List ℕ → List ℕ → Type 0) → Option (List ℕ) → Option (List ℕ) → Option (List ℕ) → Option (List ℕ) → Type 0
-Begins IsText None trace old new = Unit {0}
-Begins IsText (Some config) None old new = Unit {0}
-Begins IsText (Some config) (Some trace) old new = (text : List ℕ) × (n : ℕ) × IsText config trace text × Appends old new (take n text)

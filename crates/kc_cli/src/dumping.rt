@@ -3,16 +3,17 @@ ghost use Rattle.std.specs.Prelude.{◌≡◌, ◌⊎◌, ◌∷◌, [], ℕ, ta
 ghost use Rattle.std.specs.Io.KnownBytes.{Appends};
 ghost use Rattle.kc_dump.specs.Dumping.{dump_of};
 ghost use Rattle.kc_dump_text.specs.DumpText.{dump_text as text_of_dump};
-ghost use Rattle.kc_cli.specs.Engine.{IsStateText, Writes, Begins};
-ghost use Rattle.kc_cli.specs.Outcomes.{seen, TellsSources, TellsTexts, TellsReplay, TellsSink};
+ghost use Rattle.kc_texts.specs.Reading.{Writes, Begins};
+ghost use Rattle.kc_cli.specs.Engine.{IsStateText};
+ghost use Rattle.kc_texts.specs.Outcomes.{seen, TellsSources, TellsTexts, TellsReplay, TellsSink};
 
-use crate::TextFault;
 use crate::replaying::replay_texts;
 use kc_audit::dump;
 use kc_core::KCore;
 use kc_dump_text::write_dump;
 use kc_io::{Sink, Source, write_whole};
 use kc_replay::Outcome;
+use kc_texts::TextFault;
 use kc_types::Memory;
 use std::alloc::Global;
 use std::sync::Wait;

@@ -2,14 +2,15 @@
 ghost use Rattle.std.specs.Prelude.{◌≡◌, ◌⊎◌, ◌∷◌, [], ℕ, take, false, IfErr, OnOk, Err};
 ghost use Rattle.std.specs.Io.KnownBytes.{Appends};
 ghost use Rattle.kc_trace.specs.ReplyText.{reply_text_of};
-ghost use Rattle.kc_cli.specs.Engine.{IsReplyText, Writes, Begins};
-ghost use Rattle.kc_cli.specs.Outcomes.{seen, TellsSources, TellsTexts, TellsReplay, TellsSink};
+ghost use Rattle.kc_texts.specs.Reading.{Writes, Begins};
+ghost use Rattle.kc_cli.specs.Engine.{IsReplyText};
+ghost use Rattle.kc_texts.specs.Outcomes.{seen, TellsSources, TellsTexts, TellsReplay, TellsSink};
 
-use crate::TextFault;
 use crate::replaying::replay_texts;
 use kc_io::{Sink, Source};
 use kc_replay::Outcome;
 use kc_streams::{empty_piece, give_replies};
+use kc_texts::TextFault;
 use std::alloc::Global;
 use std::sync::Wait;
 use std::thread::Threads;

@@ -9,13 +9,12 @@ ghost use Rattle.kc_trace.specs.Trace.{IsTrace, IsRefused};
 ghost use Rattle.kc_io.specs.Ends.{ReadFailed};
 ghost use Rattle.kc_replay.specs.Replayer.{IsFed};
 ghost use Rattle.kc_cli.specs.Engine.{IsReplayed, AreReplayed, IsReplayFault};
-ghost use Rattle.kc_cli.specs.Outcomes.{seen, TellsSources, TellsTexts, TellsReplay};
+ghost use Rattle.kc_texts.specs.Outcomes.{seen, TellsSources, TellsTexts, TellsReplay};
 
-use crate::TextFault;
-use crate::reading::read_configuration;
 use kc_io::Source;
 use kc_replay::{OpenGate, Outcome, ReplayFault, Replayer};
 use kc_streams::CallStream;
+use kc_texts::{TextFault, read_configuration};
 use kc_types::{Call, Config, Reply};
 use std::alloc::Global;
 use std::sync::Wait;

@@ -1,6 +1,6 @@
-//! Sources and sinks in memory, and such as fail.
-ghost use Rattle.std.specs.Prelude.{◌≡◌, ◌||◌, ◌+◌, ◌≤◌, ◌<◌, [], drop, length, Some, false, true, IfOk, IsOk, IsErr, is_err};
-ghost use Rattle.std.specs.Io.KnownBytes.{ReadConsumes, WriteAppends};
+//! Sources and sinks in memory.
+ghost use Rattle.std.specs.Prelude.{◌≡◌, ◌≤◌, [], drop, length, Some, false, IfOk, IsOk, is_err};
+ghost use Rattle.std.specs.Io.KnownBytes.{ReadConsumes};
 
 use crate::{Failed, Sink, Source};
 use std::alloc::Global;
@@ -74,82 +74,5 @@ impl Sink for Mem {
             return Err(Failed);
         }
         Ok(bytes.len())
-    }
-}
-
-/// A source or a sink that fails as soon as `left` bytes have passed.
-#[derive(Debug, Drop)]
-pub struct FailAt<E: Drop> {
-    pub inner: E,
-    pub left: usize,
-    /// Whether it has failed by itself; where `inner` fails, it fails too.
-    pub failed: bool,
-}
-
-impl<E: Drop> FailAt<E> {
-    /// A source or a sink that passes `left` bytes from or to `inner`.
-    pub fn new(inner: E, left: usize) -> FailAt<E>
-        ensures inner { result.inner ≡ inner }
-        ensures left { result.left ≡ left }
-        ensures mark { result.failed ≡ false }
-    {
-        FailAt {
-            inner,
-            left,
-            failed: false,
-        }
-    }
-}
-
-impl<S: Source + Drop> Source for FailAt<S> {
-    ghost left = { λ f. S.left f.inner };
-
-    ghost failed = { λ f. f.failed || S.failed f.inner };
-
-    fn read(&mut self, buffer: &mut [u8]) -> Result<usize, Failed>
-        requires { (self.old.failed || S.failed self.old.inner) ≡ false }
-        ensures bytes { ReadConsumes (S.left self.old.inner) (S.left self.new.inner) result buffer.new }
-        ensures bound { IfOk result (λ n. n ≤ length buffer.new) }
-        ensures mark { (self.new.failed || S.failed self.new.inner) ≡ is_err result }
-        // It fails in time, and by itself no earlier.
-        ensures fails { self.old.left ≡ 0 → IsErr result }
-        ensures early { self.new.failed ≡ true → self.old.left ≡ 0 }
-        ensures counted { IfOk result (λ n. self.new.left + n ≡ self.old.left) }
-    {
-        if self.left == 0 {
-            self.failed = true;
-            return Err(Failed);
-        }
-        let most = buffer.len().min(self.left);
-        let n = self.inner.read(&mut buffer[..most])?;
-        self.left -= n;
-        Ok(n)
-    }
-}
-
-impl<S: Sink + Drop> Sink for FailAt<S> {
-    ghost taken = { λ f. S.taken f.inner };
-
-    ghost failed = { λ f. f.failed || S.failed f.inner };
-
-    fn write(&mut self, bytes: &[u8]) -> Result<usize, Failed>
-        requires { (self.old.failed || S.failed self.old.inner) ≡ false }
-        ensures bytes { WriteAppends (S.taken self.old.inner) (S.taken self.new.inner) result bytes.now }
-        ensures bound { IfOk result (λ n. n ≤ length bytes.now) }
-        ensures some { IfOk result (λ n. 0 < length bytes.now → 0 < n) }
-        ensures mark { (self.new.failed || S.failed self.new.inner) ≡ is_err result }
-        // It fails in time, and by itself no earlier.
-        ensures fails { self.old.left ≡ 0 → IsErr result }
-        ensures early { self.new.failed ≡ true → self.old.left ≡ 0 }
-        ensures counted { IfOk result (λ n. self.new.left + n ≡ self.old.left) }
-    {
-        if self.left == 0 {
-            self.failed = true;
-            return Err(Failed);
-        }
-        let most = bytes.len().min(self.left);
-        let n = self.inner.write(&bytes[..most])?;
-        self.left -= n;
-        Ok(n)
     }
 }

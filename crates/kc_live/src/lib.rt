@@ -5,7 +5,6 @@ mod cut;
 mod early;
 mod fault;
 mod program;
-mod replaying;
 mod run;
 mod threads;
 
@@ -13,5 +12,4 @@ pub use cut::{programs_of, run_trace};
 pub use fault::{LiveCause, LiveStop};
 pub use kc_history::{Book, Entry, History, LiveCore, LiveFault, Ready, Receipt, Seat, settle};
 pub use program::Program;
-pub use replaying::replay_history;
 pub use run::run_live;

@@ -4,8 +4,8 @@ ghost use Rattle.kc_live.specs.Threads.{IsRun};
 ghost use Rattle.kc_live.specs.Plans.{stranger_in};
 ghost use Rattle.kc_live.specs.Cuts.{grown};
 
+use kc_core::Gate;
 use kc_history::{LiveCore, LiveFault, Receipt, Seat};
-use kc_replay::Gate;
 use kc_types::{Actor, Call, Memory};
 use std::alloc::Global;
 use std::marker::Model;

@@ -4,8 +4,8 @@ ghost use Rattle.kc_live.specs.Program.{receipt_calls};
 ghost use Rattle.kc_live.specs.Threads.{IsRun, AreBeginnings, graver};
 
 use crate::program::{MakesCalls, Program, Ran, ThreadStop, run_program};
+use kc_core::Gate;
 use kc_history::{LiveCore, LiveFault, Receipt};
-use kc_replay::Gate;
 use kc_types::Memory;
 use std::alloc::Global;
 use std::marker::Model;

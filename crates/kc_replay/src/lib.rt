@@ -3,7 +3,7 @@
 
 mod deal;
 mod fault;
-mod gate;
+mod history;
 mod lanes;
 pub mod laws;
 mod replayer;
@@ -13,6 +13,7 @@ mod wave;
 mod work;
 
 pub use fault::ReplayFault;
-pub use gate::{Gate, OpenGate};
+pub use history::replay_history;
+pub use kc_core::{Gate, OpenGate};
 pub use replayer::{Replayer, replay};
 pub use segment::Outcome;

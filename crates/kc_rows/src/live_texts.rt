@@ -1,7 +1,8 @@
 //! Live runs from text to text.
 use crate::gates::Hold;
 use crate::support::SMALL;
-use kc_cli::{Mem, TextFault, live_text};
+use kc_cli::{Mem, TextFault};
+use kc_live_text::live_text;
 use kc_replay::{Gate, OpenGate};
 use kc_trace::TraceFault;
 use std::alloc::{AllocError, Global};

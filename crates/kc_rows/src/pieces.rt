@@ -2,7 +2,8 @@
 ghost use Rattle.std.specs.Prelude.{Some};
 
 use crate::support::SMALL;
-use kc_cli::{FailAt, Failed, Mem, Sink, live_text, replay_text};
+use kc_cli::{FailAt, Failed, Mem, Sink, replay_text};
+use kc_live_text::live_text;
 use kc_replay::OpenGate;
 use std::alloc::Global;
 use std::sync::Wait;

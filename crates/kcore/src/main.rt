@@ -1,12 +1,13 @@
-//! The program: words, files and standard streams around the engines of `kc_cli`.
+//! The program: words, files and standard streams around the text engines.
 #![tactic(auto)]
 
 ghost use Rattle.std.specs.Prelude.{◌≡◌, false};
 
 use kc_cli::{
     ArgFault, DEFAULT_CONFIG, Job, Mem, Source, Std, TextFault, audit_text, dump_text, job_of,
-    live_text, replay_text, tell,
+    replay_text, tell,
 };
+use kc_live_text::live_text;
 use kc_replay::OpenGate;
 use std::env;
 use std::fs::File;

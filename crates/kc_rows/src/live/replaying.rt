@@ -2,8 +2,8 @@
 use crate::gates::Count;
 use crate::live::{programs, small_config, stories};
 use crate::replays::{Unknown, are_same_cores};
-use kc_live::{History, replay_history, run_live};
-use kc_replay::{OpenGate, ReplayFault};
+use kc_live::{History, run_live};
+use kc_replay::{OpenGate, ReplayFault, replay_history};
 use std::alloc::Global;
 use std::sync::{Mutex, Wait};
 use std::test::Fail;

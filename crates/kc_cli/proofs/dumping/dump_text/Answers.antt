@@ -1,5 +1,6 @@
 use Rattle.std.proofs.lemmas.Result.{err_from_is_err_and}
-use Rattle.kc_cli.proofs.Told.{texts_err, sink_more, begins_state}
+use Rattle.kc_texts.proofs.Told.{texts_err, sink_more}
+use Rattle.kc_cli.proofs.Replayed.{begins_state}
 use Rattle.kc_cli.proofs.dumping.dump_text.Goals as goal
 
 pub returns-in_err-outcome-clause-texts : goal.returns-in_err-outcome-clause-texts

@@ -1,5 +1,5 @@
 use Rattle.std.proofs.lemmas.Result.{err_from_is_err_and}
-use Rattle.kc_cli.proofs.Told.{texts_err}
+use Rattle.kc_texts.proofs.Told.{texts_err}
 use Rattle.kc_cli.proofs.engine.replay_text.Goals as goal
 
 pub returns-in_err-outcome-clause-texts : goal.returns-in_err-outcome-clause-texts

@@ -1,5 +1,5 @@
 use Rattle.std.proofs.Common.{◌≡◌, Err, ap}
-use Rattle.kc_cli.specs.declared.fault.TextFault.TheVariants as texts
+use Rattle.kc_texts.specs.declared.fault.TextFault.TheVariants as texts
 use Rattle.kc_cli.proofs.replaying.replay_source.Goals as goal
 
 pub returns-in-Err-clause-trace : goal.returns-in-Err-clause-trace

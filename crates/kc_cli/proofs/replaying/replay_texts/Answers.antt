@@ -1,6 +1,6 @@
 use Rattle.std.proofs.Common.{Err, ap, refl}
 use Rattle.std.proofs.lemmas.Result.{err_from_is_err_and}
-use Rattle.kc_cli.proofs.Told.{texts_config}
+use Rattle.kc_texts.proofs.Told.{texts_config}
 use Rattle.kc_cli.proofs.replaying.replay_texts.Goals as goal
 
 pub returns-in_err-config-clause-texts : goal.returns-in_err-config-clause-texts

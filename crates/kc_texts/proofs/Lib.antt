@@ -1,0 +1,3 @@
+pub mod Faulted
+pub mod Reported
+pub mod Told

@@ -1,0 +1,66 @@
+-- What the outcome of an engine tells of its sources and its sink.
+use Rattle.std.specs.Prelude.{◌≡◌, ◌≢◌, ◌<◌, ◌⊎◌, ◌↔◌, ℕ, Bool, true, List, [], ◌∷◌, Option, Result, Err, IfErr, IfSome, OnOk, OnErr, IsErrOf}
+use Rattle.std.specs.List.{AllByRecursion}
+use Rattle.std.specs.Io.KnownBytes.{IsAtEnd}
+use Rattle.kc_trace.specs.declared.config_text.ConfigTextFault.{ConfigTextFault}
+use Rattle.kc_trace.specs.declared.fault.TraceFault.{TraceFault}
+use Rattle.kc_trace.specs.ConfigText.{config_in}
+use Rattle.kc_trace.specs.Trace.{IsRefused}
+use Rattle.kc_io.specs.Ends.{ReadFailed}
+use Rattle.kc_texts.specs.Reading.{IsConfigured, IsTold}
+use Rattle.kc_texts.specs.declared.fault.TextFault.{TextFault}
+use Rattle.kc_texts.specs.declared.fault.TextFault.TheVariants as texts
+
+-- a source as an engine found and left it: whether a read of it failed, and the bytes that were left of it before and are left now, where it tells them
+pub record Seen : Type 0 where
+  pub failed : Bool
+  pub had : Option (List ℕ)
+  pub has : Option (List ℕ)
+
+abbrev pub seen : Bool → Option (List ℕ) → Option (List ℕ) → Seen
+seen failed had has = record { failed = failed; had = had; has = has }
+
+-- reading one of them failed
+abbrev pub HasFailedRead : List Seen → Type 0
+HasFailedRead [] = ⊥
+HasFailedRead (source ∷ sources) = ReadFailed source.failed source.had source.has ⊎ HasFailedRead sources
+
+-- a read of one of them failed
+abbrev pub HasFailed : List Seen → Type 0
+HasFailed [] = ⊥
+HasFailed (source ∷ sources) = (source.failed ≡ true) ⊎ HasFailed sources
+
+pub record TellsSources {A : Type 0} (sources : List Seen) (result : Result A TextFault) : Type 0 where
+  -- behind an answer nothing is left of them
+  pub ended : OnOk result (AllByRecursion (λ source. IsAtEnd source.has) sources)
+  -- a failed read is one of theirs, and is told as nothing else
+  pub read : result ≡ Err texts.Read → HasFailedRead sources
+  pub failed : HasFailed sources → result ≡ Err texts.Read
+
+-- `unread` says that nothing was read of the trace
+pub record TellsTexts {A : Type 0} (config trace : Seen) (unread : Type 0) (result : Result A TextFault) : Type 0 where
+  -- the fault of a text is that of all the bytes that its source held
+  pub config_fault : (fault : ConfigTextFault) → result ≡ Err (texts.Config fault) → IfSome config.had (λ text. config_in text ≡ Err fault) × IsAtEnd config.has × unread
+  pub trace_fault : (fault : TraceFault) → result ≡ Err (texts.Trace fault) → IfSome trace.had (λ text. IsRefused text fault) × IsAtEnd trace.has
+  -- the trace is read and judged only behind a configuration
+  pub behind : unread ⊎ IsConfigured config.had
+  pub configured : (fault : TraceFault) → result ≡ Err (texts.Trace fault) → IsConfigured config.had
+  -- want of memory is told as that, and never as a fault of a text
+  pub told : IfErr result IsTold
+
+-- what a replay by so many workers may be refused for, behind this configuration
+pub record TellsReplay {A : Type 0} (workers : ℕ) (config : Option (List ℕ)) (result : Result A TextFault) : Type 0 where
+  pub judged : IsErrOf result texts.Workers ↔ ((workers ≡ 0) ⊎ (64 < workers))
+  -- a worker is started only where there is more than one
+  pub started : result ≡ Err texts.Start → (1 < workers) × IsConfigured config
+  -- no fault of a live run comes
+  pub settled : result ≢ Err texts.Unsettled
+  pub actor : (program : ℕ) → result ≢ Err (texts.BadActor program)
+
+-- `begun` says that the sink took a beginning of what is written, and `untouched` that it is as it was
+pub record TellsSink {A : Type 0} (failed : Bool) (begun untouched : Type 0) (result : Result A TextFault) : Type 0 where
+  -- a failed write is the sink's, and is told as nothing else
+  pub write : result ≡ Err texts.Write → (failed ≡ true) × begun
+  pub failed_is : failed ≡ true → result ≡ Err texts.Write
+  -- every other fault leaves the sink as it was
+  pub kept : OnErr result (untouched ⊎ (result ≡ Err texts.Write))

@@ -1,0 +1,36 @@
+//! The line and the exit status of a fault.
+ghost use Rattle.std.specs.Prelude.{◌≡◌, ℕ, take, false};
+ghost use Rattle.std.specs.Io.KnownBytes.{Appends};
+ghost use Rattle.kc_texts.specs.Faults.{status_of, fault_line};
+
+use crate::TextFault;
+use arrayvec::ArrayString;
+use itoa::Buffer;
+use kc_io::{Sink, write_whole};
+
+/// The line of a fault, with its line feed.
+fn line(fault: &TextFault) -> ArrayString<96>
+    ensures { result.bytes ≡ fault_line fault.now }
+{
+    let mut line = ArrayString::new();
+    line.push_str("kcore: ");
+    line.push_str(fault.words());
+    if let Some(number) = fault.number() {
+        line.push_str(Buffer::new().format(number));
+    }
+    line.push_str(fault.end());
+    line.push_str("\n");
+    line
+}
+
+/// Writes the fault's line, and answers the exit status, also where the sink fails. It takes no memory.
+pub fn tell<K: Sink>(fault: &TextFault, sink: &mut K) -> u8
+    requires { K.failed sink.old ≡ false }
+    ensures status { result ≡ status_of fault.now }
+    ensures line { K.failed sink.new ≡ false → Appends (K.taken sink.old) (K.taken sink.new) (fault_line fault.now) }
+    // Of a sink that fails, a beginning of the line may have been taken.
+    ensures begun { (n : ℕ) × Appends (K.taken sink.old) (K.taken sink.new) (take n (fault_line fault.now)) }
+{
+    let _ = write_whole(sink, line(fault).as_bytes());
+    fault.status()
+}
