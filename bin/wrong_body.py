@@ -26,7 +26,8 @@ class Function:
 
 @dataclasses.dataclass(frozen=True)
 class Body:
-    """A wrong body: the whole text of a function, with the file that it stands in and its path below the crate."""
+    """A body that is tried, a wrong one or the right one: the whole text of its function, with the file that this stands
+    in and its path below the crate."""
 
     crate: pathlib.Path
     edit: str
@@ -34,9 +35,16 @@ class Body:
     function: Function
     lines: tuple
     where: tuple
+    is_right: bool = False
 
     def __str__(self):
-        return f"{self.crate.name}/{self.edit}"
+        kind, name = ("right", "::".join(self.where)) if self.is_right else ("wrong", self.edit)
+        return f"{kind} body {self.crate.name}/{name}"
+
+    def as_right(self):
+        """Returns the right body of the same function."""
+        lines = self.function.lines_of((self.crate / self.path).read_text())
+        return dataclasses.replace(self, lines=tuple(lines), is_right=True)
 
     def is_of_trait(self):
         return " for " in self.function.owner or "trait " in self.function.owner
