@@ -1,18 +1,12 @@
-//! Tests that cross crates: worked examples as tables, from the bytes of a trace to the bytes of its replies.
+//! Tests of what no file can tell through the program: gates, threads, how faults are shown, and calls of libraries.
 #![tactic(auto)]
 
-#[cfg(test)]
-mod configurations;
 #[cfg(test)]
 mod copies;
 #[cfg(test)]
 mod dumps;
 #[cfg(test)]
-mod ends;
-#[cfg(test)]
 mod gates;
-#[cfg(test)]
-mod images;
 #[cfg(test)]
 mod live;
 #[cfg(test)]
@@ -20,13 +14,9 @@ mod live_texts;
 #[cfg(test)]
 mod look_ups;
 #[cfg(test)]
-mod pieces;
-#[cfg(test)]
 mod receipts;
 #[cfg(test)]
 mod replays;
-#[cfg(test)]
-mod second_version;
 #[cfg(test)]
 mod segments;
 #[cfg(test)]
@@ -35,3 +25,5 @@ mod support;
 mod telling;
 #[cfg(test)]
 mod traces;
+#[cfg(test)]
+mod workers;

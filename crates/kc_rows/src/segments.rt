@@ -1,11 +1,10 @@
 //! Traces that come in segments.
 use crate::gates::Count;
 use crate::replays::{TWO_VMS, TWO_VMS_REPLIES, Unknown, are_same_cores};
-use crate::support::{SMALL, calls_of, gives};
-use kc_cli::TextFault;
+use crate::support::{SMALL, calls_of};
 use kc_core::KCore;
 use kc_replay::{Gate, Outcome, ReplayFault, Replayer};
-use kc_trace::{TraceFault, read_config, read_trace, write_replies};
+use kc_trace::{read_config, read_trace, write_replies};
 use kc_types::{Call, Config};
 use std::alloc::Global;
 use std::sync::{Mutex, Wait};
@@ -133,37 +132,4 @@ fn numbers_of_workers_in_segments(rt: HostRuntime) {
     assert_eq!(rt; fault_of(alloc, 1), None);
     assert_eq!(rt; fault_of(alloc, 64), None);
     assert_eq!(rt; fault_of(alloc, 65), Some(ReplayFault::BadWorkers));
-}
-
-/// The call of this number in a long trace, and its reply: a byte is written, and then read.
-fn long_line(number: usize) -> (&'static [u8], &'static [u8]) {
-    match number % 4 {
-        0 => (b"hwrite 1 0 0a\n", b"done\n"),
-        1 => (b"hread 1 0 1\n", b"data 0a\n"),
-        2 => (b"hwrite 1 0 b1\n", b"done\n"),
-        _ => (b"hread 1 0 1\n", b"data b1\n"),
-    }
-}
-
-/// A trace of so many calls and one more, which comes first, and the replies to it.
-fn long(alloc: Global, calls: usize) -> Result<(Vec<u8>, Vec<u8>), Fail> {
-    let mut trace = b"kcore-trace 1\nhfault 1\n".to_vec(alloc)?;
-    let mut replies = b"done\n".to_vec(alloc)?;
-    for number in 0..calls {
-        let (call, reply) = long_line(number);
-        trace.extend_from_slice(call)?;
-        replies.extend_from_slice(reply)?;
-    }
-    Ok((trace, replies))
-}
-
-/// A trace of more calls than one segment has is answered whole, and where a line further on is refused nothing is written.
-#[test]
-fn a_long_trace_is_answered_whole_or_not_at_all(rt: HostRuntime) -> Result<(), Fail> {
-    let (mut trace, replies) = long(rt.alloc(), 9_000)?;
-    assert!(rt; gives(&rt, rt.alloc(), SMALL, &trace, Ok(()), &replies));
-    trace.extend_from_slice(b"take 5\n")?;
-    let fault = Err(TextFault::Trace(TraceFault::BadLine(9_003)));
-    assert!(rt; gives(&rt, rt.alloc(), SMALL, &trace, fault, b""));
-    Ok(())
 }

@@ -1,5 +1,5 @@
 //! The line and the exit status of each fault.
-use kc_cli::{FailAt, Mem, TextFault, tell};
+use kc_cli::{Mem, TextFault, tell};
 use kc_dump_text::DumpFault;
 use kc_trace::{ConfigTextFault, TraceFault};
 use kc_types::ConfigFault;
@@ -118,12 +118,4 @@ fn tells_other_faults(rt: HostRuntime) {
     ] {
         tells(&rt, rt.alloc(), fault, line, status);
     }
-}
-
-#[test]
-fn answers_where_the_sink_fails(rt: HostRuntime) {
-    let mut sink = FailAt::new(Mem::new(rt.alloc()), 0);
-    assert_eq!(rt; tell(&TextFault::Workers, &mut sink), 2);
-    assert!(rt; sink.failed);
-    assert!(rt; sink.inner.bytes.is_empty());
 }

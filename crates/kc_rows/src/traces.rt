@@ -1,45 +1,21 @@
-//! Traces that are refused, and traces that are cut.
-use crate::support::{SMALL, gives, replayed};
-use kc_cli::TextFault;
-use kc_trace::TraceFault;
+//! Traces read and written whole.
+use kc_trace::{read_trace, write_trace};
 use std::test::Fail;
 
+/// The second header is written where one of its two calls is in the list, and only there.
 #[test]
-fn refused_traces_write_nothing(rt: HostRuntime) {
-    let cases = [
-        ("", TraceFault::NoHeader),
-        ("kcore-trace 1", TraceFault::NoHeader),
-        ("kcore-trace 1\nhfault 01\n", TraceFault::BadLine(2)),
+fn what_was_read_is_written(rt: HostRuntime) -> Result<(), Fail> {
+    let alloc = rt.alloc();
+    let rows: [(&[u8], &[u8]); 2] = [
+        (b"kcore-trace 2\ntake\n", b"kcore-trace 1\ntake\n"),
         (
-            "kcore-trace 1\nhfault 1\nhread 1 0\n",
-            TraceFault::BadLine(3),
+            b"kcore-trace 2\ntake\ngrantr 1 2 3 4\nrevoker 1 2 3 4\n",
+            b"kcore-trace 2\ntake\ngrantr 1 2 3 4\nrevoker 1 2 3 4\n",
         ),
-        ("kcore-trace 1\nhfault 1", TraceFault::NoNewline),
     ];
-    for (trace, fault) in cases {
-        let outcome = Err(TextFault::Trace(fault));
-        assert!(rt;
-            gives(&rt, rt.alloc(), SMALL, trace.as_bytes(), outcome, b""),
-            "at {trace:?}"
-        );
-    }
-}
-
-/// A trace cut anywhere: before its header's end, behind a line, or within one.
-#[test]
-fn a_cut_trace(rt: HostRuntime) -> Result<(), Fail> {
-    let trace = b"kcore-trace 1\nhfault 1\nhwrite 1 0 616263\ntake\n";
-    for end in 0..trace.len() {
-        let part = &trace[..end];
-        let wanted = if end < 14 {
-            Err(TextFault::Trace(TraceFault::NoHeader))
-        } else if part.ends_with(b"\n") {
-            Ok(())
-        } else {
-            Err(TextFault::Trace(TraceFault::NoNewline))
-        };
-        let (outcome, _) = replayed(&rt, rt.alloc(), SMALL, part)?;
-        assert_eq!(rt; outcome, wanted, "at {end}");
+    for (text, written) in rows {
+        let calls = read_trace(alloc, text)?;
+        assert!(rt; write_trace(alloc, &calls)?.as_slice() == written);
     }
     Ok(())
 }
