@@ -73,16 +73,31 @@ pub fn are_same_cores(one: &KCore, other: &KCore) -> bool {
 }
 
 /// Whether an outcome has this reply text and this core.
-fn is_outcome(alloc: Global, outcome: &Outcome, text: &[u8], core: &KCore) -> Option<bool> {
+pub fn is_outcome(alloc: Global, outcome: &Outcome, text: &[u8], core: &KCore) -> Option<bool> {
     let written = write_replies(alloc, outcome.replies.as_slice()).ok()?;
     Some(written.as_slice() == text && are_same_cores(&outcome.core, core))
 }
 
 /// The core that the calls leave which one thread makes in their order.
-fn left_by_one(alloc: Global, config: &str, calls: &[Call]) -> Option<KCore> {
+pub fn left_by_one(alloc: Global, config: &str, calls: &[Call]) -> Option<KCore> {
     let mut core = KCore::boot(alloc, read_config(alloc, config.as_bytes()).ok()?).ok()?;
     core.run(alloc, calls).ok()?;
     Some(core)
+}
+
+/// Whether so many workers give this reply text for some calls, and leave this core.
+fn at_once<R: Threads + Wait + Sync>(
+    rt: &R,
+    alloc: Global,
+    config: &str,
+    calls: &[Call],
+    workers: usize,
+    text: &[u8],
+    core: &KCore,
+) -> Option<bool> {
+    let machine = read_config(alloc, config.as_bytes()).ok()?;
+    let outcome = replayed(rt, alloc, machine, calls, workers, &Unknown)?;
+    is_outcome(alloc, &outcome, text, core)
 }
 
 /// Whether 1, 2, 3, 7 and 64 workers give this reply text for a trace, and leave the core that one thread leaves.
@@ -96,9 +111,7 @@ fn by_workers<R: Threads + Wait + Sync>(
     let calls = read_trace(alloc, trace).ok()?;
     let core = left_by_one(alloc, config, &calls)?;
     for workers in [1, 2, 3, 7, 64] {
-        let machine = read_config(alloc, config.as_bytes()).ok()?;
-        let outcome = replayed(rt, alloc, machine, &calls, workers, &Unknown)?;
-        if !is_outcome(alloc, &outcome, text, &core)? {
+        if !at_once(rt, alloc, config, &calls, workers, text, &core)? {
             return Some(false);
         }
     }

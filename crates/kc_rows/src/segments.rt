@@ -1,10 +1,10 @@
 //! Traces that come in segments.
 use crate::gates::Count;
-use crate::replays::{TWO_VMS, TWO_VMS_REPLIES, Unknown, are_same_cores};
+use crate::replays::{TWO_VMS, TWO_VMS_REPLIES, Unknown, is_outcome, left_by_one};
 use crate::support::{SMALL, calls_of};
 use kc_core::KCore;
 use kc_replay::{Gate, Outcome, ReplayFault, Replayer};
-use kc_trace::{read_config, read_trace, write_replies};
+use kc_trace::{read_config, read_trace};
 use kc_types::{Call, Config};
 use std::alloc::Global;
 use std::sync::{Mutex, Wait};
@@ -34,6 +34,21 @@ fn replayed_in<G: Gate + Sync, R: Threads + Wait + Sync>(
     Some(Outcome { replies, core })
 }
 
+/// Whether calls that come one at a time are given this reply text by so many workers, and leave this core.
+fn one_by_one<R: Threads + Wait + Sync>(
+    rt: &R,
+    alloc: Global,
+    config: &str,
+    calls: &[Call],
+    workers: usize,
+    text: &[u8],
+    core: &KCore,
+) -> Option<bool> {
+    let machine = read_config(alloc, config.as_bytes()).ok()?;
+    let made = replayed_in(rt, alloc, machine, calls, 1, workers, &Unknown)?;
+    is_outcome(alloc, &made, text, core)
+}
+
 /// Whether a trace that comes a call at a time is given this reply text by 1 and 3 workers, and leaves the core that one
 /// thread leaves.
 fn in_parts<R: Threads + Wait + Sync>(
@@ -44,13 +59,9 @@ fn in_parts<R: Threads + Wait + Sync>(
     text: &[u8],
 ) -> Option<bool> {
     let calls = read_trace(alloc, trace).ok()?;
-    let mut core = KCore::boot(alloc, read_config(alloc, config.as_bytes()).ok()?).ok()?;
-    core.run(alloc, &calls).ok()?;
+    let core = left_by_one(alloc, config, &calls)?;
     for workers in [1, 3] {
-        let machine = read_config(alloc, config.as_bytes()).ok()?;
-        let made = replayed_in(rt, alloc, machine, &calls, 1, workers, &Unknown)?;
-        let replies = write_replies(alloc, made.replies.as_slice()).ok()?;
-        if replies.as_slice() != text || !are_same_cores(&made.core, &core) {
+        if !one_by_one(rt, alloc, config, &calls, workers, text, &core)? {
             return Some(false);
         }
     }

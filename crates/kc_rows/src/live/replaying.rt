@@ -78,8 +78,6 @@ fn the_calls_of_a_history_are_made_again(rt: HostRuntime) -> Result<(), Fail> {
     let history = ran(&rt, rt.alloc()).ok_or("no answer")?;
     let counts = told(&rt, rt.alloc(), &history).ok_or("no outcome")?;
     assert_eq!(rt; counts.len(), history.entries().len());
-    for count in counts {
-        assert_eq!(rt; count, (1u32, 1u32));
-    }
+    assert!(rt; counts.iter().all(|count| *count == (1u32, 1u32)));
     Ok(())
 }
