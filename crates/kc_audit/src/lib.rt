@@ -17,5 +17,5 @@ mod verdict;
 pub use auditing::audit;
 pub use finding::Finding;
 pub use kc_digests::frame_digests;
-pub use kc_dump::{Dump, FrameLine, SlotDump, dump};
+pub use kc_dump::{Dump, FrameLine, SlotDump};
 pub use parallel::audit_parallel;

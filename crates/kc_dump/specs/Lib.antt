@@ -3,4 +3,3 @@ pub mod Ranges
 pub mod Lists
 pub mod Sums
 pub mod Sound
-pub mod Dumping

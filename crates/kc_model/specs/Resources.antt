@@ -1,5 +1,6 @@
 -- What a call may touch: the resources of a state, and the state made of some resources of one state and the others of another.
 use Rattle.std.specs.Prelude.{ℕ, suc, ◌≡◌, Bool, true, false, cond, ◌&&◌, ◌||◌, ◌==◌, nat_lt, List, [], ◌∷◌, drop, slice_index_or, Option, Some, None}
+use Rattle.std.specs.List.{list_any}
 use Rattle.kc_types.specs.declared.call.Call.{Call}
 use Rattle.kc_types.specs.declared.call.Call.TheVariants.{Take, Give, HostFault, HostRead, HostWrite, RegisterVm, RegisterVcpu, SetBoot, Remap, Verify, Map, GuestRead, GuestWrite, Grant, Revoke, GrantRange, RevokeRange, Drop, Clear}
 use Rattle.kc_types.specs.Configuration.{Configuration, slot_count}
@@ -8,6 +9,22 @@ use Rattle.kc_types.specs.declared.owner.Owner.TheVariants.{Core, Host, Free, Vm
 pub use Rattle.kc_types.specs.declared.resource.Resource.{Resource}
 use Rattle.kc_model.specs.State.{State, Frame, Slot, frame_at, slot_at, untouched, empty_slot}
 use Rattle.kc_types.specs.declared.resource.Resource.TheVariants as resource
+
+-- the two resources are one
+abbrev pub same_resource : Resource → Resource → Bool
+same_resource (resource.Frame f) (resource.Frame g) = f == g
+same_resource (resource.Frame f) (resource.Vm w) = false
+same_resource (resource.Frame f) resource.Free = false
+same_resource (resource.Vm v) (resource.Frame g) = false
+same_resource (resource.Vm v) (resource.Vm w) = v == w
+same_resource (resource.Vm v) resource.Free = false
+same_resource resource.Free (resource.Frame g) = false
+same_resource resource.Free (resource.Vm w) = false
+same_resource resource.Free resource.Free = true
+
+-- the resource is in the list
+abbrev pub is_wanted : List Resource → Resource → Bool
+is_wanted wanted r = list_any (same_resource r) wanted
 
 -- a set of resources
 abbrev pub Resources : Type 0

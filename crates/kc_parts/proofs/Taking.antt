@@ -10,7 +10,8 @@ use Rattle.kc_types.specs.declared.resource.Resource.{Resource}
 use Rattle.kc_types.specs.declared.resource.Resource.TheVariants as resource
 use Rattle.kc_page.specs.declared.page.Page.{Page}
 use Rattle.kc_parts.specs.Parts.{Held, HeldSlots, IsHeld, IsRising, is_among, page_at, cell_in, held_slot, vm_at}
-use Rattle.kc_parts.specs.Cuts.{HeldPart, held_at, is_wanted, AreHere, IsSplit, AreSlotsFor, IsFull}
+use Rattle.kc_model.specs.Resources.{is_wanted}
+use Rattle.kc_parts.specs.Cuts.{HeldPart, held_at, AreHere, IsSplit, AreSlotsFor, IsFull}
 use Rattle.kc_parts.specs.Cuts.HeldPart.{page_part, slot_part, ends_part}
 use Rattle.kc_parts.specs.Moves.{AreAmong, AreFramesOf, AreMoved, IsLifted, WithSlots, page_among}
 use Rattle.kc_parts.proofs.Filled.{cells, page_at-cells, cell-by_numbers}

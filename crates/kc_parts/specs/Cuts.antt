@@ -1,10 +1,9 @@
 -- Parts taken out of parts, and parts put back.
 use Rattle.std.specs.Prelude.{ℕ, ◌≡◌, ◌<◌, ◌==◌, Bool, true, false, cond, List, length, get_or, Option, Some, None, IsSome}
 use Rattle.std.specs.Option.{option_map}
-use Rattle.std.specs.List.{list_any}
 use Rattle.kc_types.specs.declared.link.Ends.{Ends}
-use Rattle.kc_types.specs.declared.resource.Resource.{Resource}
 use Rattle.kc_types.specs.declared.resource.Resource.TheVariants as resource
+use Rattle.kc_model.specs.Resources.{Resource, is_wanted}
 use Rattle.kc_page.specs.declared.page.Page.{Page}
 use Rattle.kc_vms.specs.Vm.{VmSlot}
 use Rattle.kc_parts.specs.Parts.{Held, IsRising, HasPlace, is_among, page_at, vm_at}
@@ -20,22 +19,6 @@ abbrev pub held_at : Held → Resource → Option HeldPart
 held_at h (resource.Frame f) = option_map page_part (page_at h f)
 held_at h (resource.Vm v) = option_map slot_part (vm_at h v)
 held_at h resource.Free = option_map ends_part h.free
-
--- the two resources are one
-abbrev pub same : Resource → Resource → Bool
-same (resource.Frame f) (resource.Frame g) = f == g
-same (resource.Frame f) (resource.Vm w) = false
-same (resource.Frame f) resource.Free = false
-same (resource.Vm v) (resource.Frame g) = false
-same (resource.Vm v) (resource.Vm w) = v == w
-same (resource.Vm v) resource.Free = false
-same resource.Free (resource.Frame g) = false
-same resource.Free (resource.Vm w) = false
-same resource.Free resource.Free = true
-
--- the resource is in the list
-abbrev pub is_wanted : List Resource → Resource → Bool
-is_wanted wanted r = list_any (same r) wanted
 
 -- all of the list is here
 abbrev pub AreHere : Held → List Resource → Type 0

@@ -6,7 +6,8 @@ use Rattle.kc_types.specs.declared.resource.Resource.TheVariants as resource
 use Rattle.kc_page.specs.declared.page.Page.{Page}
 use Rattle.kc_vms.specs.Vm.{VmSlot}
 use Rattle.kc_parts.specs.Parts.{Held, HeldSlots, IsRising, HasPlace, is_among, place_of, is_filled, page_at, held_slot}
-use Rattle.kc_parts.specs.Cuts.{is_wanted, either}
+use Rattle.kc_model.specs.Resources.{is_wanted}
+use Rattle.kc_parts.specs.Cuts.{either}
 
 -- the frames that are wanted, and no others
 abbrev pub AreAmong : List Resource → List ℕ → Type 0

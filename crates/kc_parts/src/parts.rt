@@ -53,7 +53,8 @@ impl Parts {
     ghost use Rattle.kc_parts.specs.States.{state_of, IsLinked};
     ghost use Rattle.kc_parts.specs.Booting.{IsWhole};
     ghost use Rattle.kc_parts.specs.Lending.{LendsPage, LendsPageHere, LendsVm, LendsVmHere, LendsFree, LendsPages};
-    ghost use Rattle.kc_parts.specs.Cuts.{AreHere, IsSplit, AreSlotsFor, FitsInto, IsJoin, IsFull, held_at, is_wanted};
+    ghost use Rattle.kc_model.specs.Resources.{is_wanted};
+    ghost use Rattle.kc_parts.specs.Cuts.{AreHere, IsSplit, AreSlotsFor, FitsInto, IsJoin, IsFull, held_at};
     ghost use Rattle.kc_parts.specs.Moves.{IsWrite, IsLifted, IsLaid, IsEmptyPlace, AreMoved, WithSlots, only_at, page_among};
 
     /// All parts of the boot state: every frame of the configuration, zeroed, every slot, empty, and the free

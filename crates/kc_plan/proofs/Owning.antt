@@ -1,7 +1,7 @@
 -- The owners at the start.
 use Rattle.std.proofs.Common.{◌≡◌, ℕ, ◌+◌, ◌<◌, Bool, true, false, ◌&&◌, ◌||◌, nat_lt, cond, List, [], ◌∷◌, ◌++◌, length, get_or, refl, sym, ◌∙◌, ap, subst, arith, inl, inr, length-append}
 use Rattle.std.specs.Prelude.{eqb, Option, Some, None}
-use Rattle.std.proofs.lemmas.Bool.{cases_lt}
+use Rattle.std.proofs.lemmas.Bool.{and_parts, cases_lt, ltb-true}
 use Rattle.std.proofs.lemmas.Bool.Decides.{nat_tests}
 use Rattle.std.proofs.lemmas.List.{get_or_append_left}
 use Rattle.std.proofs.lemmas.List.Folds.{list_any-append}
@@ -11,11 +11,11 @@ use Rattle.kc_types.specs.declared.owner.Owner.TheVariants as owner
 use Rattle.kc_model.specs.State.{State, frame_at}
 use Rattle.kc_model.specs.Lawful.{IsLawful, same_owner}
 use Rattle.kc_model.proofs.States.Changes.{exists}
-use Rattle.kc_plan.specs.Reach.{is_at}
-use Rattle.kc_plan.specs.Planner.{HasOneOwnerEach, has_pair}
-use Rattle.kc_plan.specs.Owned.{IsOwned, principal_of}
-use Rattle.kc_plan.proofs.Shapes.{same_number, equal, and_right, and_false}
-use Rattle.kc_plan.proofs.Carried.{at_below, low_too, not_past, differs}
+use Rattle.kc_footprints.specs.Reach.{is_at}
+use Rattle.kc_footprints.specs.Planner.{HasOneOwnerEach, HaveFramesBelow, has_pair}
+use Rattle.kc_footprints.specs.Owned.{IsOwned, principal_of}
+use Rattle.kc_footprints.proofs.Shapes.{same_number, equal, and_right, and_false}
+use Rattle.kc_footprints.proofs.Carried.{at_below, low_too, not_past, differs}
 
 -- the pairs are those of the frames below n
 pub record IsOwnedBelow (m : State) (n : ℕ) (pairs : List (ℕ × ℕ)) : Type 0 where
@@ -127,3 +127,7 @@ one_owner m n pairs so_far = record {
       (and_right (nat_lt f n) (is_at (principal_of (slot_count m.config) (frame_at m f).owner) p) (sym (so_far.has p f) ∙ h))
       (and_right (nat_lt f n) (is_at (principal_of (slot_count m.config) (frame_at m f).owner) q) (sym (so_far.has q f) ∙ g));
 }
+
+pub all_exist : (m : State) (n : ℕ) (pairs : List (ℕ × ℕ)) → n ≡ m.config.frames → IsOwnedBelow m n pairs → HaveFramesBelow m.config.frames pairs
+all_exist m n pairs all so_far p f h =
+    rw all at (ltb-true f n (and_parts (nat_lt f n) (is_at (principal_of (slot_count m.config) (frame_at m f).owner) p) (sym (so_far.has p f) ∙ h)).0)

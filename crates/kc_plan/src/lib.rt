@@ -1,17 +1,8 @@
-//! What each call of a trace may touch, and the waves in which the calls are taken.
+//! What each call of a trace may touch that starts from a core, and the waves in which the calls are taken.
 #![tactic(auto)]
 
-pub mod laws;
-mod names;
 mod owned;
-mod plan;
-mod planner;
-mod reach_set;
-mod reach_sets;
-mod reaches;
-mod rows;
 mod trace;
 
-pub use plan::Plan;
-pub use rows::Footprints;
+pub use kc_footprints::{Footprints, Plan, laws};
 pub use trace::footprints;

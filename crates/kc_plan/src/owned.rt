@@ -1,8 +1,8 @@
 //! Which slot owns a frame at the start of a trace, or that the free list does.
 ghost use Rattle.std.specs.Prelude.{◌≡◌, ◌+◌, ◌<◌, IfOk};
 ghost use Rattle.kc_types.specs.Configuration.{slot_count};
-ghost use Rattle.kc_plan.specs.Owned.{IsOwned, principal_of};
-ghost use Rattle.kc_plan.specs.Planner.{AreBelow, HasOneOwnerEach};
+ghost use Rattle.kc_footprints.specs.Owned.{IsOwned, principal_of};
+ghost use Rattle.kc_footprints.specs.Planner.{AreBelow, HaveFramesBelow, HasOneOwnerEach};
 
 use kc_core::KCore;
 use kc_types::{Memory, Owner};
@@ -23,7 +23,8 @@ fn principal_of(owner: Owner, slots: usize) -> Option<usize>
 pub(crate) fn owned_frames(alloc: Global, core: &KCore) -> Result<Vec<(usize, u32)>, Memory>
     ensures owned { IfOk result (λ pairs. IsOwned core.now pairs.items) }
     ensures one { IfOk result (λ pairs. HasOneOwnerEach pairs.items) }
-    ensures low { IfOk result (λ pairs. AreBelow (slot_count core.now.config + 1) pairs.items) }
+    ensures principals { IfOk result (λ pairs. AreBelow (slot_count core.now.config + 1) pairs.items) }
+    ensures frames { IfOk result (λ pairs. HaveFramesBelow core.now.config.frames pairs.items) }
 {
     let slots = core.config().slots() as usize;
     let mut pairs = Vec::new(alloc);

@@ -7,7 +7,7 @@ use Rattle.std.proofs.lemmas.List.Sorted.{Contains-permutation, IsPermutation-sy
 use Rattle.std.proofs.lemmas.Map.Keys.{IsDistinct-IsPermutation}
 use Rattle.std.proofs.lemmas.List.{get_or_default}
 use Rattle.std.proofs.lemmas.List.Elements.{Contains-get_or}
-use Rattle.kc_plan.specs.Plan.{AreCallsOf}
+use Rattle.kc_footprints.specs.Plan.{AreCallsOf}
 
 by_flip : (i j : ℕ) → ((i ≡ j) ⊎ (i ≢ j)) → nat_eq i j ≡ nat_eq j i
 by_flip i j (inl same) = rw same refl

@@ -17,11 +17,11 @@ use Rattle.kc_model.proofs.Lawful.Keeps.{lawful-next}
 use Rattle.waves.specs.Order.{IsPlan}
 use Rattle.waves.specs.Reorder.{with_number, IsDue, IsTaken}
 use Rattle.waves.proofs.Reorders.{due_by_wave}
-use Rattle.kc_plan.specs.Commuting.{IsWaves}
-use Rattle.kc_plan.specs.Reordering.{after_order, AnswersAlike}
-use Rattle.kc_plan.proofs.Reordered.{alike, is_order_free}
+use Rattle.kc_footprints.specs.Commuting.{IsWaves}
+use Rattle.kc_footprints.specs.Reordering.{after_order, AnswersAlike}
+use Rattle.kc_footprints.proofs.Reordered.{alike, is_order_free}
 use Rattle.kc_replay.specs.Wave.{IsWave, AreReplied, wave_calls}
-use Rattle.kc_plan.specs.Plan.{AreCallNumbers, AreCallsOf}
+use Rattle.kc_footprints.specs.Plan.{AreCallNumbers, AreCallsOf}
 use Rattle.kc_replay.proofs.Ready.{feet-of-wave}
 
 -- the calls of the waves up to w are taken, in whatever order, and their replies stand in their places

@@ -14,10 +14,10 @@ use Rattle.kc_model.specs.Footprints.{call_at, reach, footprint}
 use Rattle.kc_model.proofs.States.Sizes.{sized-next}
 use Rattle.waves.specs.Reorder.{IsDue, IsTaken}
 use Rattle.waves.proofs.Laws.{rises}
-use Rattle.kc_plan.specs.Commuting.{IsWaves}
-use Rattle.kc_plan.specs.Reordering.{after_order}
-use Rattle.kc_plan.proofs.Reordered.{is_ready}
-use Rattle.kc_plan.proofs.Existing.{reach-low}
+use Rattle.kc_footprints.specs.Commuting.{IsWaves}
+use Rattle.kc_footprints.specs.Reordering.{after_order}
+use Rattle.kc_footprints.proofs.Reordered.{is_ready}
+use Rattle.kc_footprints.proofs.Existing.{reach-low}
 use Rattle.kc_parts.specs.Restricted.{exists_in}
 use Rattle.kc_replay.specs.Wave.{AreFeet, wave_calls, feet_at}
 use Rattle.kc_replay.proofs.Taking.{wave-call, wave-length}

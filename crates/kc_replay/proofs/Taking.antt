@@ -17,7 +17,7 @@ use Rattle.kc_types.specs.declared.owner.Owner.TheVariants.{Core, Host, Free, Vm
 use Rattle.kc_types.specs.declared.resource.Resource.TheVariants as resource
 use Rattle.kc_model.specs.State.{State, Frame, Slot, frame_at, slot_at}
 use Rattle.kc_model.specs.Lawful.{IsLawful, times_in}
-use Rattle.kc_model.specs.Resources.{Resource, Resources, is_in}
+use Rattle.kc_model.specs.Resources.{Resource, Resources, is_in, is_wanted}
 use Rattle.kc_model.specs.Links.{link_in, link_at, list_of}
 use Rattle.kc_model.specs.Linked.{frame_and_link, slot_and_ends, free_ends, linked_part_of, linked_slot, ends_of}
 use Rattle.kc_model.proofs.States.Members.{times_in-held}
@@ -37,7 +37,7 @@ use Rattle.kc_core.specs.KCore.{IsCore}
 use Rattle.kc_parts.specs.Restricted.{seen_link, seen_part, seen_at, exists_in, IsRestricted}
 use Rattle.kc_model.specs.Footprints.{call_at, state_at}
 use Rattle.kc_model.proofs.Lawful.LawfulTraces.{lawful-at}
-use Rattle.kc_parts.specs.Cuts.{IsSplit, AreHere, is_wanted}
+use Rattle.kc_parts.specs.Cuts.{IsSplit, AreHere}
 use Rattle.kc_calls.specs.Applying.{IsAble, IsAnswer}
 use Rattle.kc_replay.specs.declared.task.Task.{Task}
 use Rattle.kc_replay.specs.declared.task.Finished.{Finished}

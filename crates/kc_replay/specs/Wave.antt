@@ -11,7 +11,7 @@ use Rattle.kc_types.specs.declared.reply.Reply.{Reply}
 use Rattle.kc_types.specs.declared.reply.Reply.TheVariants.{Done}
 use Rattle.kc_model.specs.Lawful.{IsLawful}
 use Rattle.kc_model.specs.Footprints.{call_at, state_at, reply_at}
-use Rattle.kc_plan.specs.Rows.{Rows, row_touches, row_at}
+use Rattle.kc_footprints.specs.Rows.{Rows, row_touches, row_at}
 use Rattle.kc_vms.specs.Vm.{VmSlot}
 use Rattle.kc_page.specs.declared.page.Page.{Page}
 use Rattle.kc_parts.specs.Parts.{Held, HasPlace, page_at, vm_at}

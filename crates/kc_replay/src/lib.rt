@@ -3,7 +3,6 @@
 
 mod deal;
 mod fault;
-mod history;
 mod lanes;
 pub mod laws;
 mod replayer;
@@ -13,7 +12,6 @@ mod wave;
 mod work;
 
 pub use fault::ReplayFault;
-pub use history::replay_history;
 pub use kc_core::{Gate, OpenGate};
 pub use replayer::{Replayer, replay};
 pub use segment::Outcome;

@@ -6,9 +6,9 @@ ghost use Rattle.kc_model.specs.Blind.{ShowsNothing};
 ghost use Rattle.kc_model.specs.Lawful.{IsLawful};
 ghost use Rattle.kc_model.specs.Next.{replies_from, state_after};
 ghost use Rattle.kc_model.specs.Footprints.{state_at};
-ghost use Rattle.kc_plan.specs.Footprints.{AreFootprints};
+ghost use Rattle.kc_footprints.specs.Footprints.{AreFootprints};
 ghost use Rattle.kc_replay.specs.Wave.{IsWave, IsWaveTaken, AreReplied, wave_calls, foot_of};
-ghost use Rattle.kc_plan.specs.Plan.{AreCallNumbers};
+ghost use Rattle.kc_footprints.specs.Plan.{AreCallNumbers};
 
 use crate::Gate;
 use crate::deal::deal;

@@ -3,11 +3,11 @@ use Rattle.std.specs.List.Sorted.{IsPermutation}
 use Rattle.kc_types.specs.declared.call.Call.{Call}
 use Rattle.kc_model.specs.State.{State}
 use Rattle.kc_model.proofs.Blind.HostBlind.{shows_nothing}
-use Rattle.kc_plan.specs.Commuting.{IsWaves}
-use Rattle.kc_plan.specs.Plan.{wave_of, highest, AreCallsOf}
-use Rattle.kc_plan.specs.Footprints.{AreFootprints}
-use Rattle.kc_plan.specs.Rows.{Rows}
-use Rattle.kc_plan.proofs.Listing.{at_most}
+use Rattle.kc_footprints.specs.Commuting.{IsWaves}
+use Rattle.kc_footprints.specs.Plan.{wave_of, highest, AreCallsOf}
+use Rattle.kc_footprints.specs.Footprints.{AreFootprints}
+use Rattle.kc_footprints.specs.Rows.{Rows}
+use Rattle.kc_footprints.proofs.Listing.{at_most}
 use Rattle.kc_replay.specs.Wave.{foot_of}
 use Rattle.kc_replay.proofs.Onward.{up-to-none, up-to-all, up-to-next, wave-next, written-whole}
 use Rattle.kc_replay.proofs.Dealing.{dealt-members}

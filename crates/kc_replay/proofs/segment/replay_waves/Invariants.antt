@@ -1,4 +1,4 @@
-use Rattle.kc_plan.specs.Plan.{wave_of}
+use Rattle.kc_footprints.specs.Plan.{wave_of}
 use Rattle.kc_replay.proofs.Onward.{IsUpTo}
 use Rattle.kc_replay.proofs.segment.replay_waves.Given as goal
 

@@ -1,7 +1,7 @@
 use Rattle.std.proofs.Common.{[], subst, refl, ap, ◌∙◌}
 use Rattle.kc_model.specs.State.{State}
-use Rattle.kc_model.specs.Resources.{Resources}
-use Rattle.kc_parts.specs.Cuts.{IsSplit, is_wanted}
+use Rattle.kc_model.specs.Resources.{Resources, is_wanted}
+use Rattle.kc_parts.specs.Cuts.{IsSplit}
 use Rattle.kc_replay.specs.Wave.{IsRest, IsTaskAt, foot_of, feet_at}
 use Rattle.kc_replay.proofs.Zips.{zip_push}
 use Rattle.kc_replay.proofs.Taking.{left-whole, slots-whole, here-wave, taken-wave, range-more}

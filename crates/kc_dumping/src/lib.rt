@@ -1,0 +1,6 @@
+//! How a core is dumped.
+#![tactic(auto)]
+
+mod making;
+
+pub use making::dump;

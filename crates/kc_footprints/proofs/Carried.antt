@@ -1,0 +1,271 @@
+-- What the planner's numbers say is what the definitions say.
+use Rattle.std.proofs.Common.{◌≡◌, ℕ, zero, suc, ◌<◌, ◌≤◌, Bool, true, false, ◌&&◌, ◌||◌, nat_lt, cond, List, [], ◌∷◌, length, map, refl, sym, ◌∙◌, ap, subst, arith, inl, inr}
+use Rattle.std.specs.Prelude.{eqb, Option, Some, None, if◌then◌else◌}
+use Rattle.std.proofs.lemmas.Bool.{ltb-true}
+use Rattle.std.proofs.lemmas.Bool.Decides.{nat_tests}
+use Rattle.waves.specs.Planned.{ComesJustAfter}
+use Rattle.kc_types.specs.Configuration.{Configuration, slot_count}
+use Rattle.kc_types.specs.declared.call.Call.{Call}
+use Rattle.kc_types.specs.declared.call.Call.TheVariants.{Take, Give, HostFault, HostRead, HostWrite, RegisterVm, RegisterVcpu, SetBoot, Remap, Verify, Map, GuestRead, GuestWrite, Grant, Revoke, GrantRange, RevokeRange, Drop, Clear}
+use Rattle.kc_types.specs.declared.owner.Owner.{Owner}
+use Rattle.kc_types.specs.declared.owner.Owner.TheVariants as owner
+use Rattle.kc_types.specs.declared.resource.Resource.TheVariants as resource
+use Rattle.kc_model.specs.State.{State}
+use Rattle.kc_model.specs.Resources.{Resource, slot_of, names_frame, uses_free, of_slot, exists_slot, touched}
+use Rattle.kc_model.specs.Footprints.{call_at, gains, footprint}
+use Rattle.kc_model.specs.Footprints as model
+use Rattle.kc_footprints.specs.Naming.{named_frame, gain_of, below, names_of}
+use Rattle.kc_footprints.specs.Reach.{Numbered, Frame, Principal, is_at, names_at, names_principal, reach_of, gains_by, may_have, touched_by, touches}
+use Rattle.kc_footprints.specs.Owned.{IsOwned}
+use Rattle.kc_footprints.specs.Planner.{has_pair}
+use Rattle.kc_footprints.proofs.Shapes.{and_left, and_right, and_false, same_number, equal}
+
+-- a resource in the planner's numbers
+abbrev pub numbered : ℕ → Resource → Numbered
+numbered slots (resource.Frame f) = Frame f
+numbered slots (resource.Vm v) = Principal v
+numbered slots resource.Free = Principal slots
+
+-- and back
+abbrev pub resource_of : ℕ → Numbered → Resource
+resource_of slots (Frame f) = resource.Frame f
+resource_of slots (Principal p) = if eqb slots p then resource.Free else resource.Vm p
+
+pub differs : (v n : ℕ) → v < n → eqb n v ≡ false
+differs v n low = grind (arith, nat_tests)
+
+pub at_below : (n x y : ℕ) → is_at (below n (Some x)) y ≡ (nat_lt x n && eqb x y)
+at_below n x y = by (nat_lt x n)
+  where
+    by : (b : Bool) → is_at (cond b (Some x) None) y ≡ (b && eqb x y)
+    by true = refl
+    by false = refl
+
+swapped : (n x y : ℕ) → (nat_lt x n && eqb x y) ≡ (eqb x y && nat_lt y n)
+swapped n x y = by (eqb x y) refl
+  where
+    by : (b : Bool) → eqb x y ≡ b → (nat_lt x n && b) ≡ (b && nat_lt y n)
+    by true e = let same : x ≡ y = same_number x y e in subst (λ (z : ℕ). (nat_lt x n && true) ≡ nat_lt z n) same (true_and (nat_lt x n))
+      where
+        true_and : (b : Bool) → (b && true) ≡ b
+        true_and true = refl
+        true_and false = refl
+    by false e = and_false (nat_lt x n)
+
+-- where the second is below, the first needs no asking
+pub low_too : (n x y : ℕ) → y < n → (nat_lt x n && eqb x y) ≡ eqb x y
+low_too n x y low = swapped n x y ∙ by (eqb x y)
+  where
+    is_low : nat_lt y n ≡ true
+    is_low = grind (arith, nat_tests)
+
+    by : (b : Bool) → (b && nat_lt y n) ≡ b
+    by true = is_low
+    by false = refl
+
+-- nothing below n is n
+pub not_past : (n : ℕ) (o : Option ℕ) → is_at (below n o) n ≡ false
+not_past n None = refl
+not_past n (Some x) = at_below n x n ∙ (swapped n x n ∙ by (eqb x n))
+  where
+    is_past : nat_lt n n ≡ false
+    is_past = grind (arith, nat_tests)
+
+    by : (b : Bool) → (b && nat_lt n n) ≡ false
+    by true = is_past
+    by false = refl
+
+named_is : (n : ℕ) (call : Call) (f : ℕ) → is_at (below n (named_frame call)) f ≡ (names_frame call f && nat_lt f n)
+named_is n (Give g) f = at_below n g f ∙ swapped n g f
+named_is n (HostFault g) f = at_below n g f ∙ swapped n g f
+named_is n (HostRead g off len) f = at_below n g f ∙ swapped n g f
+named_is n (HostWrite g off bytes) f = at_below n g f ∙ swapped n g f
+named_is n (Remap v i g) f = at_below n g f ∙ swapped n g f
+named_is n (Map v c g) f = at_below n g f ∙ swapped n g f
+named_is n Take f = refl
+named_is n (RegisterVm v) f = refl
+named_is n (RegisterVcpu v c) f = refl
+named_is n (SetBoot v base len) f = refl
+named_is n (Verify v) f = refl
+named_is n (GuestRead v c g off len) f = refl
+named_is n (GuestWrite v c g off bytes) f = refl
+named_is n (Grant v c g) f = refl
+named_is n (Revoke v c g) f = refl
+named_is n (GrantRange v c g k) f = refl
+named_is n (RevokeRange v c g k) f = refl
+named_is n (Drop v c g) f = refl
+named_is n (Clear v) f = refl
+
+module _ (config : Configuration) (held : Owner → ℕ → Bool) (r : ℕ → ℕ → Bool)
+    (same_slot : (v f : ℕ) → v < slot_count config → r v f ≡ held (owner.Vm v) f) (same_free : (f : ℕ) → r (slot_count config) f ≡ held owner.Free f) where
+  slot_reach : (v f : ℕ) → reach_of r (below (slot_count config) (Some v)) f ≡ (nat_lt v (slot_count config) && held (owner.Vm v) f)
+  slot_reach v f = by (nat_lt v (slot_count config)) refl
+    where
+      by : (b : Bool) → nat_lt v (slot_count config) ≡ b → reach_of r (cond b (Some v) None) f ≡ (b && held (owner.Vm v) f)
+      by true e = same_slot v f (ltb-true v (slot_count config) e)
+      by false e = refl
+
+  reach_is : (o : Option ℕ) (f : ℕ) → reach_of r (below (slot_count config) o) f ≡ of_slot config held o f
+  reach_is None f = refl
+  reach_is (Some v) f = slot_reach v f
+
+  both_named : (v g w f : ℕ) → w < slot_count config → (is_at (below (slot_count config) (Some v)) w && is_at (below config.frames (Some g)) f) ≡ (eqb v w && (nat_lt g config.frames && eqb g f))
+  both_named v g w f low = rw (at_below (slot_count config) v w, low_too (slot_count config) v w low, at_below config.frames g f) refl
+
+  not_free : (w : ℕ) (b : Bool) → w < slot_count config → ((true && eqb (slot_count config) w) && b) ≡ false
+  not_free w b low = rw (differs w (slot_count config) low) refl
+
+  pub gains_slot : (call : Call) (w f : ℕ) → w < slot_count config → gains_by (slot_count config) r (names_of config call) (gain_of call) w f ≡ gains config held call (owner.Vm w) f
+  gains_slot (Give g) w f low = not_free w (is_at (below config.frames (Some g)) f) low
+  gains_slot (Remap v i g) w f low = both_named v g w f low
+  gains_slot (Map v c g) w f low = both_named v g w f low
+  gains_slot (Drop v c g) w f low = not_free w (reach_of r (below (slot_count config) (Some v)) f) low
+  gains_slot (Clear v) w f low = not_free w (reach_of r (below (slot_count config) (Some v)) f) low
+  gains_slot Take w f low = refl
+  gains_slot (HostFault g) w f low = refl
+  gains_slot (HostRead g off len) w f low = refl
+  gains_slot (HostWrite g off bytes) w f low = refl
+  gains_slot (RegisterVm v) w f low = refl
+  gains_slot (RegisterVcpu v c) w f low = refl
+  gains_slot (SetBoot v base len) w f low = refl
+  gains_slot (Verify v) w f low = refl
+  gains_slot (GuestRead v c g off len) w f low = refl
+  gains_slot (GuestWrite v c g off bytes) w f low = refl
+  gains_slot (Grant v c g) w f low = refl
+  gains_slot (Revoke v c g) w f low = refl
+  gains_slot (GrantRange v c g k) w f low = refl
+  gains_slot (RevokeRange v c g k) w f low = refl
+
+  is_free : (b : Bool) → ((true && eqb (slot_count config) (slot_count config)) && b) ≡ b
+  is_free b = rw (equal (slot_count config)) refl
+
+  no_slot : (v : ℕ) (b : Bool) → (is_at (below (slot_count config) (Some v)) (slot_count config) && b) ≡ false
+  no_slot v b = rw (not_past (slot_count config) (Some v)) refl
+
+  pub gains_free : (call : Call) (f : ℕ) → gains_by (slot_count config) r (names_of config call) (gain_of call) (slot_count config) f ≡ gains config held call owner.Free f
+  gains_free (Give g) f = is_free (is_at (below config.frames (Some g)) f) ∙ at_below config.frames g f
+  gains_free (Remap v i g) f = no_slot v (is_at (below config.frames (Some g)) f)
+  gains_free (Map v c g) f = no_slot v (is_at (below config.frames (Some g)) f)
+  gains_free (Drop v c g) f = is_free (reach_of r (below (slot_count config) (Some v)) f) ∙ slot_reach v f
+  gains_free (Clear v) f = is_free (reach_of r (below (slot_count config) (Some v)) f) ∙ slot_reach v f
+  gains_free Take f = refl
+  gains_free (HostFault g) f = refl
+  gains_free (HostRead g off len) f = refl
+  gains_free (HostWrite g off bytes) f = refl
+  gains_free (RegisterVm v) f = refl
+  gains_free (RegisterVcpu v c) f = refl
+  gains_free (SetBoot v base len) f = refl
+  gains_free (Verify v) f = refl
+  gains_free (GuestRead v c g off len) f = refl
+  gains_free (GuestWrite v c g off bytes) f = refl
+  gains_free (Grant v c g) f = refl
+  gains_free (Revoke v c g) f = refl
+  gains_free (GrantRange v c g k) f = refl
+  gains_free (RevokeRange v c g k) f = refl
+
+  pub frame_is : (call : Call) (f : ℕ) → touched_by (slot_count config) r (names_of config call) (Frame f) ≡ touched config held call (resource.Frame f)
+  frame_is call f = rw (named_is config.frames call f, reach_is (slot_of call) f, same_free f)
+      (grouped (names_frame call f && nat_lt f config.frames) (of_slot config held (slot_of call) f) (uses_free call && held owner.Free f))
+    where
+      grouped : (a b c : Bool) → (a || (b || c)) ≡ ((a || b) || c)
+      grouped true b c = refl
+      grouped false b c = refl
+
+  slot_is : (o : Option ℕ) (b : Bool) (v : ℕ) → v < slot_count config → (is_at (below (slot_count config) o) v || (b && eqb (slot_count config) v)) ≡ exists_slot config o v
+  slot_is None b v low = rw (differs v (slot_count config) low) (and_false b)
+  slot_is (Some x) b v low = rw (at_below (slot_count config) x v, differs v (slot_count config) low) (with_false (nat_lt x (slot_count config) && eqb x v) b)
+    where
+      with_false : (a b : Bool) → (a || (b && false)) ≡ a
+      with_false true b = refl
+      with_false false true = refl
+      with_false false false = refl
+
+  free_is : (o : Option ℕ) (b : Bool) → (is_at (below (slot_count config) o) (slot_count config) || (b && eqb (slot_count config) (slot_count config))) ≡ b
+  free_is o b = rw (not_past (slot_count config) o, equal (slot_count config)) (and_true b)
+    where
+      and_true : (b : Bool) → (b && true) ≡ b
+      and_true true = refl
+      and_true false = refl
+
+  exists_low : (o : Option ℕ) (v : ℕ) → exists_slot config o v ≡ true → v < slot_count config
+  exists_low None v h = cc
+  exists_low (Some x) v h =
+      let low : x < slot_count config = ltb-true x (slot_count config) (and_left (nat_lt x (slot_count config)) (eqb x v) h) in
+      let same : x ≡ v = same_number x v (and_right (nat_lt x (slot_count config)) (eqb x v) h) in
+      subst (λ (y : ℕ). y < slot_count config) same low
+
+  at_low : (o : Option ℕ) (p : ℕ) → is_at (below (slot_count config) o) p ≡ true → p < slot_count config
+  at_low None p h = cc
+  at_low (Some x) p h = exists_low (Some x) p (sym (at_below (slot_count config) x p) ∙ h)
+
+  pub forth : (call : Call) (x : Resource) → touched config held call x ≡ true → touched_by (slot_count config) r (names_of config call) (numbered (slot_count config) x) ≡ true
+  forth call (resource.Frame f) h = frame_is call f ∙ h
+  forth call (resource.Vm v) h = slot_is (slot_of call) (uses_free call) v (exists_low (slot_of call) v h) ∙ h
+  forth call resource.Free h = free_is (slot_of call) (uses_free call) ∙ h
+
+  pub back : (call : Call) (t : Numbered) → touched_by (slot_count config) r (names_of config call) t ≡ true → touched config held call (resource_of (slot_count config) t) ≡ true
+  back call (Frame f) h = sym (frame_is call f) ∙ h
+  back call (Principal p) h = by (eqb (slot_count config) p) refl
+    where
+      by : (b : Bool) → eqb (slot_count config) p ≡ b → touched config held call (cond b resource.Free (resource.Vm p)) ≡ true
+      by true e =
+          let same : slot_count config ≡ p = same_number (slot_count config) p e in
+          let here : names_principal (slot_count config) (names_of config call) (slot_count config) ≡ true = subst (λ (x : ℕ). names_principal (slot_count config) (names_of config call) x ≡ true) (sym same) h in
+          sym (free_is (slot_of call) (uses_free call)) ∙ here
+      by false e =
+          let at : is_at (below (slot_count config) (slot_of call)) p ≡ true = no_free (is_at (below (slot_count config) (slot_of call)) p) (uses_free call) (rw e at h) in
+          sym (slot_is (slot_of call) (uses_free call) p (at_low (slot_of call) p at)) ∙ h
+        where
+          no_free : (a b : Bool) → (a || (b && false)) ≡ true → a ≡ true
+          no_free true b h = refl
+          no_free false true h = cc
+          no_free false false h = cc
+
+pub names_are : (config : Configuration) (calls : List Call) (k : ℕ) → k < length calls → names_at (map (names_of config) calls) k ≡ names_of config (call_at calls k)
+names_are config [] k low = absurd (omega arith)
+names_are config (c ∷ cs) zero low = refl
+names_are config (c ∷ cs) (suc k) low = names_are config cs k (omega arith)
+
+module _ (m : State) (calls : List Call) (pairs : List (ℕ × ℕ)) (owned : IsOwned m pairs) where
+  pub record IsSame (k : ℕ) : Type 0 where
+    pub by_slot : (v f : ℕ) → v < slot_count m.config → may_have (slot_count m.config) (has_pair pairs) (map (names_of m.config) calls) k v f ≡ model.reach m calls k (owner.Vm v) f
+    pub by_free : (f : ℕ) → may_have (slot_count m.config) (has_pair pairs) (map (names_of m.config) calls) k (slot_count m.config) f ≡ model.reach m calls k owner.Free f
+
+  pub same_reach : (k : ℕ) → k ≤ length calls → IsSame k
+  same_reach zero low = record { by_slot = owned.by_slot; by_free = owned.by_free }
+  same_reach (suc k) low =
+      let so_far = same_reach k (omega arith) in
+      let is = names_are m.config calls k (omega arith) in
+      record {
+        by_slot = λ v f there.
+            rw (is, so_far.by_slot v f there)
+            (ap (λ (x : Bool). model.reach m calls k (owner.Vm v) f || x)
+            (gains_slot m.config (model.reach m calls k) (may_have (slot_count m.config) (has_pair pairs) (map (names_of m.config) calls) k) so_far.by_slot so_far.by_free (call_at calls k) v f there));
+        by_free = λ f.
+            rw (is, so_far.by_free f)
+            (ap (λ (x : Bool). model.reach m calls k owner.Free f || x)
+            (gains_free m.config (model.reach m calls k) (may_have (slot_count m.config) (has_pair pairs) (map (names_of m.config) calls) k) so_far.by_slot so_far.by_free (call_at calls k) f));
+      }
+
+  pub touches_forth : (k : ℕ) (x : Resource) → k < length calls → footprint m calls k x ≡ true → touches (slot_count m.config) (has_pair pairs) (map (names_of m.config) calls) k (numbered (slot_count m.config) x) ≡ true
+  touches_forth k x low h =
+      let so_far = same_reach k (omega arith) in
+      rw (names_are m.config calls k low)
+      (forth m.config (model.reach m calls k) (may_have (slot_count m.config) (has_pair pairs) (map (names_of m.config) calls) k) so_far.by_slot so_far.by_free (call_at calls k) x h)
+
+  pub touches_back : (k : ℕ) (t : Numbered) → k < length calls → touches (slot_count m.config) (has_pair pairs) (map (names_of m.config) calls) k t ≡ true → footprint m calls k (resource_of (slot_count m.config) t) ≡ true
+  touches_back k t low h =
+      let so_far = same_reach k (omega arith) in
+      let is = names_are m.config calls k low in
+      back m.config (model.reach m calls k) (may_have (slot_count m.config) (has_pair pairs) (map (names_of m.config) calls) k) so_far.by_slot so_far.by_free (call_at calls k) t (rw is at h)
+
+  -- a plan over the planner's numbers is one over resources
+  pub carried : (wave : ℕ → ℕ) (k : ℕ) → k < length calls → ComesJustAfter (touches (slot_count m.config) (has_pair pairs) (map (names_of m.config) calls)) wave k → ComesJustAfter (footprint m calls) wave k
+  carried wave k low it = record {
+    above = λ j x before tj tk. it.above j (numbered (slot_count m.config) x) before (touches_forth j x (omega arith) tj) (touches_forth k x low tk);
+    just =
+        elim it.just [
+          | inl first ↦ inl first
+          | inr later ↦ inr (later.0, resource_of (slot_count m.config) later.1, later.2, touches_back later.0 later.1 (let l = later.2 in omega arith) later.3, touches_back k later.1 low later.4, later.5)
+        ];
+  }

@@ -1,0 +1,17 @@
+pub mod Added
+pub mod Carried
+pub mod Commute
+pub mod Exact
+pub mod Existing
+pub mod Firsts
+pub mod Joins
+pub mod Kept
+pub mod Listing
+pub mod Plans
+pub mod Related
+pub mod Reordered
+pub mod Shapes
+pub mod Starts
+pub mod Steps
+pub mod Tracked
+pub mod Waves

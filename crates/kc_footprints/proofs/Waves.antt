@@ -1,0 +1,47 @@
+-- The waves of the planner are those of the definitions.
+use Rattle.std.proofs.Common.{◌≡◌, ℕ, suc, ◌<◌, List, [], ◌∷◌, length, map, refl, ap, arith}
+use Rattle.std.specs.Prelude.{IfSome, Option, Some, None}
+use Rattle.std.proofs.lemmas.Bool.Decides.{nat_tests}
+use Rattle.std.specs.Prelude.{Bool, true, false, nat_lt, cond}
+use Rattle.waves.specs.Planned.{ComesJustAfter}
+use Rattle.waves.proofs.Plans.{is_plan}
+use Rattle.kc_types.specs.Configuration.{Configuration, slot_count}
+use Rattle.kc_types.specs.declared.call.Call.{Call}
+use Rattle.kc_model.specs.State.{State}
+use Rattle.kc_model.specs.Resources.{slot_of}
+use Rattle.kc_model.specs.Footprints.{call_at, footprint}
+use Rattle.kc_footprints.specs.Commuting.{IsWaves}
+use Rattle.kc_footprints.specs.Naming.{below, named_frame, names_of}
+use Rattle.kc_footprints.specs.Reach.{names_at, touches}
+use Rattle.kc_footprints.specs.Owned.{IsOwned}
+use Rattle.kc_footprints.specs.Planner.{IsInRange, has_pair}
+use Rattle.kc_footprints.proofs.Carried.{names_are, carried}
+
+pub below_low : (n : ℕ) (o : Option ℕ) → IfSome (below n o) (λ x. x < n)
+below_low n None = tt
+below_low n (Some x) = by (nat_lt x n) refl
+  where
+    by : (b : Bool) → nat_lt x n ≡ b → IfSome (cond b (Some x) None) (λ y. y < n)
+    by true e = grind (arith, nat_tests)
+    by false e = tt
+
+pub length_names : (config : Configuration) (calls : List Call) → length (map (names_of config) calls) ≡ length calls
+length_names config [] = refl
+length_names config (c ∷ cs) = ap suc (length_names config cs)
+
+-- the numbers that calls name are there
+pub names_range : (config : Configuration) (calls : List Call) (k : ℕ) → k < length (map (names_of config) calls) → IsInRange config.frames (slot_count config) (names_at (map (names_of config) calls) k)
+names_range config calls k low =
+    let below_calls : k < length calls = rw (length_names config calls) at low in
+    rw (names_are config calls k below_calls) record { frame = below_low config.frames (named_frame (call_at calls k)); slot = below_low (slot_count config) (slot_of (call_at calls k)) }
+
+pub waves_are : (m : State) (calls : List Call) (pairs : List (ℕ × ℕ)) (wave : ℕ → ℕ) → IsOwned m pairs
+    → ((k : ℕ) → k < length (map (names_of m.config) calls) → ComesJustAfter (touches (slot_count m.config) (has_pair pairs) (map (names_of m.config) calls)) wave k)
+    → IsWaves m calls wave
+waves_are m calls pairs wave owned each =
+    is_plan (footprint m calls) wave (λ k r. r) (length calls)
+    (λ k low. carried m calls pairs owned wave k low (each k (let e = length_names m.config calls in rw e low)))
+
+-- waves count from 1
+pub waves_some : (m : State) (calls : List Call) (wave : ℕ → ℕ) → IsWaves m calls wave → (k : ℕ) → k < length calls → 0 < wave k
+waves_some m calls wave waves k low = let it = (waves k low).reached in let is : wave k ≡ suc (length it.0) = it.2 in omega arith

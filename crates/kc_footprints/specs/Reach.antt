@@ -1,0 +1,48 @@
+-- What principals may have before a call, and what calls touch: from names and the start alone.
+use Rattle.std.specs.Prelude.{ℕ, zero, suc, Bool, false, ◌&&◌, ◌||◌, eqb, List, get_or, Option, Some, None}
+pub use Rattle.kc_footprints.specs.Members.{has_member}
+use Rattle.kc_footprints.specs.declared.names.Gain.{Gain}
+use Rattle.kc_footprints.specs.declared.names.Gain.TheVariants.{Nothing, SlotTakesFrame, FreeTakesFrame, FreeTakesReach}
+use Rattle.kc_footprints.specs.declared.names.Names.{Names}
+
+-- what a call may touch: a frame, or a principal, which is a slot or the free list, by its number
+pub data Numbered : Type 0 where
+  Frame : ℕ → Numbered
+  Principal : ℕ → Numbered
+
+abbrev pub is_at : Option ℕ → ℕ → Bool
+is_at None x = false
+is_at (Some y) x = eqb y x
+
+-- the names of call k
+abbrev pub names_at : List Names → ℕ → Names
+names_at cs k = get_or cs k (record { frame = None; slot = None; free = false; gain = Nothing })
+
+-- free is the number of the free list, as a principal
+abbrev pub names_principal : ℕ → Names → ℕ → Bool
+names_principal free n p = is_at n.slot p || (n.free && eqb free p)
+
+-- what the principal in question may have; of none nothing
+abbrev pub reach_of : (ℕ → ℕ → Bool) → Option ℕ → ℕ → Bool
+reach_of reach None f = false
+reach_of reach (Some p) f = reach p f
+
+-- what the principal p gets by a call
+abbrev pub gains_by : ℕ → (ℕ → ℕ → Bool) → Names → Gain → ℕ → ℕ → Bool
+gains_by free reach n Nothing p f = false
+gains_by free reach n SlotTakesFrame p f = is_at n.slot p && is_at n.frame f
+gains_by free reach n FreeTakesFrame p f = (n.free && eqb free p) && is_at n.frame f
+gains_by free reach n FreeTakesReach p f = (n.free && eqb free p) && reach_of reach n.slot f
+
+-- what the principal p may have before call k: start p f says that it owns the frame f at the start
+abbrev pub may_have : ℕ → (ℕ → ℕ → Bool) → List Names → ℕ → ℕ → ℕ → Bool
+may_have free start cs zero p f = start p f
+may_have free start cs (suc k) p f = may_have free start cs k p f || gains_by free (may_have free start cs k) (names_at cs k) (names_at cs k).gain p f
+
+-- whether a call that names this touches the resource, where `reach` says what each principal may have
+abbrev pub touched_by : ℕ → (ℕ → ℕ → Bool) → Names → Numbered → Bool
+touched_by free reach n (Frame f) = is_at n.frame f || (reach_of reach n.slot f || (n.free && reach free f))
+touched_by free reach n (Principal p) = names_principal free n p
+
+abbrev pub touches : ℕ → (ℕ → ℕ → Bool) → List Names → ℕ → Numbered → Bool
+touches free start cs k r = touched_by free (may_have free start cs k) (names_at cs k) r

@@ -1,0 +1,32 @@
+//! Laws over the definitions alone.
+
+ghost use Rattle.kc_footprints.specs.Commuting.{IsCommuting, IsCommutingLinked, HasNeeds, IsStepping};
+ghost use Rattle.kc_footprints.specs.Reordering.{IsReadiness, IsOrderFree, IsWaveOrderFree};
+
+/// What a call needs lies in its footprint.
+pub fn needs()
+    ensures { HasNeeds }
+{}
+
+/// A call does its step in a store that has the right parts in its footprint, and anything elsewhere.
+pub fn stepping()
+    ensures { IsStepping }
+{}
+
+/// The order of the calls within a wave changes nothing.
+pub fn commuting()
+    ensures parts { IsCommuting }
+    ensures linked { IsCommutingLinked }
+{}
+
+/// An order in which calls that share a resource keep theirs gives the same replies and the same end,
+/// and wave after wave is such an order.
+pub fn reordering()
+    ensures any { IsOrderFree }
+    ensures by_waves { IsWaveOrderFree }
+{}
+
+/// In the store before a wave each of its calls needs no more than its footprint.
+pub fn readiness()
+    ensures { IsReadiness }
+{}

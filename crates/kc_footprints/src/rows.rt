@@ -1,0 +1,228 @@
+//! What each call of a trace may touch, kept as lengths into what slots and the free list may have.
+ghost use Rattle.std.specs.Prelude.{◌≡◌, ◌<◌, length, [], IfOk, OnOk, IfSome};
+ghost use Rattle.kc_types.specs.Limits.{frame_limit, slot_limit};
+ghost use Rattle.kc_types.specs.declared.resource.Resource.TheVariants as resource;
+ghost use Rattle.std.specs.List.{IsDistinct};
+ghost use Rattle.kc_model.specs.Resources.{is_wanted, same_resource};
+ghost use Rattle.kc_footprints.specs.Reach.{is_at};
+ghost use Rattle.kc_footprints.specs.Rows.{has_frame, row_touches, row_at, IsRow, IsSpan, IsListed, IsPut, HasFrame, HasOther, IsWithout, is_named_or_slot, AreRows, is_named, is_slot, is_free};
+
+use crate::planner::Walk;
+use crate::reach_set::ReachSet;
+use kc_types::{FrameNo, Memory, Resource, VmId};
+use std::alloc::{AllocError, Global};
+use std::marker::Model;
+
+/// A principal, a slot or the free list, and how many of what it may have at the end it may have already.
+#[derive(Clone, Copy)]
+pub(crate) struct Span {
+    pub(crate) principal: u32,
+    pub(crate) length: usize,
+}
+
+/// What a call may touch.
+#[derive(Clone, Copy)]
+pub(crate) struct Row {
+    pub(crate) frame: Option<u32>,
+    pub(crate) slot: Option<Span>,
+    pub(crate) free: Option<Span>,
+}
+
+/// What each call of a trace may touch.
+#[derive(Drop)]
+pub struct Footprints {
+    sets: Vec<ReachSet>,
+    rows: Vec<Row>,
+    waves: Vec<u32>,
+}
+
+impl Model for Footprints {
+    ghost use Rattle.kc_footprints.specs.Rows.{Rows, AreRows};
+
+    ghost Value = { Rows };
+
+    ghost view = { λ f. record { sets = f.sets.items; rows = f.rows.items; waves = f.waves.items } };
+
+    ghost invariant = { λ f. AreRows f.sets.items f.rows.items };
+}
+
+fn is_frame(frame: Option<u32>, number: u32) -> bool
+    ensures { result ≡ is_at frame number }
+{
+    match frame {
+        Some(frame) => frame == number,
+        None => false,
+    }
+}
+
+fn frame_of(number: u32) -> Resource
+    requires { number < frame_limit }
+    ensures { result ≡ resource.Frame number }
+{
+    let Some(frame) = FrameNo::try_new(number) else {
+        unreachable!()
+    };
+    Resource::Frame(frame)
+}
+
+fn slot_of(number: u32) -> Resource
+    requires { number < slot_limit }
+    ensures { result ≡ resource.Vm number }
+{
+    let Some(vm) = VmId::try_new(number) else {
+        unreachable!()
+    };
+    Resource::Vm(vm)
+}
+
+impl Footprints {
+    /// What a walk over the calls has found.
+    pub(crate) fn of_walk(walk: Walk) -> Footprints
+        requires { AreRows walk.sets.items walk.rows.items }
+        ensures sets { result.sets ≡ walk.sets.items }
+        ensures rows { result.rows ≡ walk.rows.items }
+        ensures waves { result.waves ≡ walk.waves.items }
+    {
+        Footprints {
+            sets: walk.sets,
+            rows: walk.rows,
+            waves: walk.waves,
+        }
+    }
+
+    /// The wave of each call, from 1 on.
+    pub(crate) fn waves(&self) -> &[u32]
+        ensures { result.now ≡ self.now.waves }
+    {
+        self.waves.as_slice()
+    }
+
+    /// The number of calls.
+    pub fn len(&self) -> usize
+        ensures { result ≡ length self.now.rows }
+    {
+        self.rows.len()
+    }
+
+    /// The row of a call.
+    fn row(&self, number: usize) -> Row
+        requires { number < length self.now.rows }
+        ensures value { result ≡ row_at self.now number }
+        ensures row { IsRow self.now.sets result }
+    {
+        self.rows[number]
+    }
+
+    /// Whether a frame is among the first of what a principal may have.
+    fn has(&self, span: Option<Span>, frame: u32) -> bool
+        requires { IfSome span (λ s. IsSpan self.now.sets s) }
+        ensures { result ≡ has_frame self.now.sets span frame }
+    {
+        match span {
+            Some(span) => match self.sets[span.principal as usize].place_of(frame) {
+                Some(place) => place < span.length,
+                None => false,
+            },
+            None => false,
+        }
+    }
+
+    /// Lists the first of what a principal may have, but for the frame and for what the other principal has.
+    fn list(
+        &self,
+        footprint: &mut Vec<Resource>,
+        span: Span,
+        frame: Option<u32>,
+        other: Option<Span>,
+    ) -> Result<(), AllocError>
+        requires span { IsSpan self.now.sets span }
+        requires other { IfSome other (IsSpan self.now.sets) }
+        ensures { OnOk result (IsListed self.now.sets span.principal span.length frame other footprint.old.items footprint.new.items) }
+    {
+        let set = &self.sets[span.principal as usize];
+        for place in 0..span.length {
+            let Some(member) = set.at(place) else {
+                unreachable!()
+            };
+            let named = is_frame(frame, member);
+            let had = self.has(other, member);
+            if !named && !had {
+                footprint.push(frame_of(member))?;
+            }
+        }
+        Ok(())
+    }
+
+    /// Lists a slot and the first of what it may have, where the frame is listed already.
+    fn list_slot(
+        &self,
+        footprint: &mut Vec<Resource>,
+        slot: Option<Span>,
+        frame: Option<u32>,
+    ) -> Result<(), AllocError>
+        requires slot { IfSome slot (IsSpan self.now.sets) }
+        requires low { IfSome slot (λ s. s.principal < slot_limit) }
+        requires frame { HasFrame frame footprint.old.items }
+        requires only { IsWithout (is_named frame) footprint.old.items }
+        requires once { IsDistinct same_resource footprint.old.items }
+        ensures put { OnOk result (IsPut (is_slot self.now.sets slot) footprint.old.items footprint.new.items) }
+        ensures once { OnOk result (IsDistinct same_resource footprint.new.items) }
+    {
+        if let Some(span) = slot {
+            footprint.push(slot_of(span.principal))?;
+            self.list(footprint, span, frame, None)?;
+        }
+        Ok(())
+    }
+
+    /// Lists the free list and the first of what it may have, where the frame is listed already, and what the slot may have.
+    fn list_free(
+        &self,
+        footprint: &mut Vec<Resource>,
+        free: Option<Span>,
+        frame: Option<u32>,
+        slot: Option<Span>,
+    ) -> Result<(), AllocError>
+        requires free { IfSome free (IsSpan self.now.sets) }
+        requires slot { IfSome slot (IsSpan self.now.sets) }
+        requires frame { HasFrame frame footprint.old.items }
+        requires other { HasOther self.now.sets slot footprint.old.items }
+        requires only { IsWithout (is_named_or_slot self.now.sets frame slot) footprint.old.items }
+        requires once { IsDistinct same_resource footprint.old.items }
+        ensures put { OnOk result (IsPut (is_free self.now.sets free) footprint.old.items footprint.new.items) }
+        ensures once { OnOk result (IsDistinct same_resource footprint.new.items) }
+    {
+        if let Some(span) = free {
+            footprint.push(Resource::Free)?;
+            self.list(footprint, span, frame, slot)?;
+        }
+        Ok(())
+    }
+
+    fn list_frame(footprint: &mut Vec<Resource>, frame: Option<u32>) -> Result<(), AllocError>
+        requires frame { IfSome frame (λ f. f < frame_limit) }
+        requires empty { footprint.old.items ≡ [] }
+        ensures put { OnOk result (IsPut (is_named frame) footprint.old.items footprint.new.items) }
+        ensures once { OnOk result (IsDistinct same_resource footprint.new.items) }
+    {
+        if let Some(frame) = frame {
+            footprint.push(frame_of(frame))?;
+        }
+        Ok(())
+    }
+
+    /// What a call may touch, each member once, in no order to rely on. A call's number is its place in the trace, from 0.
+    /// `Memory` where a growth was refused.
+    pub fn of(&self, alloc: Global, number: usize) -> Result<Vec<Resource>, Memory>
+        requires { number < length self.now.rows }
+        ensures members { IfOk result (λ footprint. (r : _) → is_wanted footprint.items r ≡ row_touches self.now.sets (row_at self.now number) r) }
+        ensures once { IfOk result (λ footprint. IsDistinct same_resource footprint.items) }
+    {
+        let row = self.row(number);
+        let mut footprint = Vec::new(alloc);
+        Footprints::list_frame(&mut footprint, row.frame)?;
+        self.list_slot(&mut footprint, row.slot, row.frame)?;
+        self.list_free(&mut footprint, row.free, row.frame, row.slot)?;
+        Ok(footprint)
+    }
+}

@@ -1,5 +1,0 @@
-use Rattle.kc_plan.proofs.Reordered.{is_order_free, is_wave_order_free}
-use Rattle.kc_plan.proofs.laws.reordering.Goals as goal
-
-pub returns : goal.returns
-returns c = record { any = is_order_free; by_waves = is_wave_order_free }

@@ -1,5 +1,0 @@
-use Rattle.kc_plan.specs.Rows.{IsListed}
-use Rattle.kc_plan.proofs.rows.Footprints.list.Given as goal
-
-abbrev pub invariant-loop-place : goal.invariant-loop-place
-invariant-loop-place l = IsListed l.self.sets l.fn.span.principal l.place l.fn.frame l.fn.other l.fn.footprint.items l.footprint.items
