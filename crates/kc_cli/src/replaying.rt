@@ -13,7 +13,7 @@ ghost use Rattle.kc_texts.specs.Outcomes.{seen, TellsSources, TellsTexts, TellsR
 
 use kc_io::Source;
 use kc_replay::{OpenGate, Outcome, ReplayFault, Replayer};
-use kc_streams::CallStream;
+use kc_streams::{CallStream, PIECE};
 use kc_texts::{TextFault, read_configuration};
 use kc_types::{Call, Config, Reply};
 use std::alloc::Global;
@@ -89,10 +89,11 @@ fn feed_source<T: Source, R: Threads + Wait + Sync>(
     ensures started { result ≡ Err TextFault.Start → 1 < replayer.old.workers }
     ensures fault { IfErr result IsReplayFault }
 {
+    let mut buffer = [0u8; PIECE];
     let mut stream = CallStream::new();
     let mut replies = Vec::new(alloc);
     loop {
-        let part = stream.next(alloc, trace)?;
+        let part = stream.next(alloc, trace, &mut buffer)?;
         feed_all(rt, alloc, replayer, &part.calls, &mut replies)?;
         if part.is_last {
             break;

@@ -25,11 +25,11 @@ data_word_is word e =
 
 -- ---- a lower case digit is the one that is written of its value
 
-all_below : (ℕ → Bool) → ℕ → Bool
+unfoldable pub all_below : (ℕ → Bool) → ℕ → Bool
 all_below t zero = true
 all_below t (suc n) = t n && all_below t n
 
-at_below : (t : ℕ → Bool) (n k : ℕ) → all_below t n ≡ true → k < n → t k ≡ true
+pub at_below : (t : ℕ → Bool) (n k : ℕ) → all_below t n ≡ true → k < n → t k ≡ true
 unfolding all_below
 at_below t zero k e lt = absurd (omega arith)
 at_below t (suc n) k e lt =
@@ -154,7 +154,7 @@ value_is_small c =
       | inr h ↦ rw h (omega arith)
     ]
 
-encode_lower-append : (xs ys : List ℕ) → encode_lower (xs ++ ys) ≡ encode_lower xs ++ encode_lower ys
+pub encode_lower-append : (xs ys : List ℕ) → encode_lower (xs ++ ys) ≡ encode_lower xs ++ encode_lower ys
 unfolding encode_with
 encode_lower-append [] ys = refl
 encode_lower-append (x ∷ xs) ys = ap (λ (l : List ℕ). get_or lower_digits (x / 16) 0 ∷ get_or lower_digits (x % 16) 0 ∷ l) (encode_lower-append xs ys)

@@ -3,3 +3,5 @@ pub mod Numbers
 pub mod Digits
 pub mod Words
 pub mod Newlines
+pub mod Encoded
+pub mod Values

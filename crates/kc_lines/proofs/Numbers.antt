@@ -1,16 +1,13 @@
 -- A number has one spelling.
-use Rattle.std.proofs.Common.{◌≡◌, ◌≢◌, ◌⊎◌, ◌≤◌, ◌<◌, ◌^◌, ℕ, Bool, true, false, cond, List, length, get_or, Some, None, Result, Ok, Err, refl, sym, ap, ◌∙◌, arith, inl, inr, rules}
+use Rattle.std.proofs.Common.{◌≡◌, ◌≢◌, ◌⊎◌, ◌≤◌, ◌<◌, ◌^◌, ℕ, Bool, true, false, cond, List, length, get_or, Some, None, refl, sym, ap, ◌∙◌, arith, inl, inr, rules}
 use Rattle.std.specs.Prelude.{◌&&◌, ◌||◌, ◌==◌, not, nat_lt}
 use Rattle.std.specs.Char.{is_ascii_digit}
 use Rattle.std.specs.List.{list_all}
-use Rattle.std.specs.Str.{IsUtf8}
-use Rattle.std.specs.Str.Parse.{digits_value, ParsesUnsigned}
-use Rattle.std.specs.Result.{result_ok}
+use Rattle.std.specs.Str.Parse.{digits_value}
 use Rattle.std.specs.Fmt.{decimal}
-use Rattle.std.proofs.lemmas.Str.Parse.{IsNumeralModel, numerals_by_value, parse_digits}
-use Rattle.std.proofs.lemmas.Str.{IsUtf8-from_ascii}
-use Rattle.std.proofs.lemmas.Fmt.{decimal-digits_value, digits_decimal, digits_value-decimal, decimal_nonempty, first_decimal, decimal_digit, IsAscii-from_digits}
-use Rattle.std.proofs.lemmas.Bool.{ltb-true, lt-ltb, le-ltb, eqb-true, eqb-false, ne_eqb, cases_lt}
+use Rattle.std.proofs.lemmas.Str.Parse.{IsNumeralModel, numerals_by_value}
+use Rattle.std.proofs.lemmas.Fmt.{decimal-digits_value, digits_decimal, digits_value-decimal, decimal_nonempty, first_decimal, decimal_digit}
+use Rattle.std.proofs.lemmas.Bool.{ltb-true, lt-ltb, eqb-true, eqb-false, ne_eqb, cases_lt}
 use Rattle.kc_lines.specs.Words.{is_numeral, number_in}
 
 abbrev pub AreDigits : List ℕ → Type 0
@@ -49,7 +46,7 @@ is_numeral_from word h =
     tests_from (list_all is_ascii_digit word) (length word == 0) (length word == 1) (get_or word 0 0 == 48) h.digits (ne_eqb _ _ some)
     (λ e. let one : length word ≡ 1 = h.first (eqb-true _ _ e) in rw one refl)
 
-number_when : (word : List ℕ) → is_numeral word ≡ true → digits_value 10 word < 2 ^ 32 → number_in word ≡ Some (digits_value 10 word)
+pub number_when : (word : List ℕ) → is_numeral word ≡ true → digits_value 10 word < 2 ^ 32 → number_in word ≡ Some (digits_value 10 word)
 unfolding number_in
 number_when word e lt = rw (e, lt-ltb (digits_value 10 word) (2 ^ 32) lt) refl
 
@@ -81,21 +78,3 @@ number_is_decimal word n e =
     let numeral = numeral_is word parts.0 in
     let lt : digits_value 10 word < 2 ^ 32 = ltb-true _ _ parts.1 in
     (sym (decimal-digits_value own word numeral.digits numeral.some numeral.first (omega arith)) ∙ ap decimal parts.2, omega (arith, parts.2))
-
-not_below : (m n : ℕ) → (m < n → ⊥) → n ≤ m
-not_below m n h = elim (cases_lt m n) [ inl lt ↦ absurd (h lt) | inr le ↦ le ]
-
--- what parsing a numeral gives
-pub parsed_is : {E : Type 0} (word : List ℕ) (r : Result ℕ E) → is_numeral word ≡ true → ParsesUnsigned 32 10 word r → result_ok r ≡ number_in word
-unfolding number_in
-parsed_is {E} word (Ok n) e h =
-    let numeral = numeral_is word e in
-    let parsed = parse_digits own {E = E} 32 word (Ok n) h numeral.digits in
-    ap Some parsed.1 ∙ sym (number_when word e parsed.0.1)
-parsed_is {E} word (Err f) e h =
-    let numeral = numeral_is word e in
-    let parsed = parse_digits own {E = E} 32 word (Err f) h numeral.digits in
-    rw (e, le-ltb (digits_value 10 word) (2 ^ 32) (not_below _ _ (λ lt. parsed (numeral.some, lt)))) refl
-
-pub numeral_is_text : (word : List ℕ) → is_numeral word ≡ true → IsUtf8 word
-numeral_is_text word e = IsUtf8-from_ascii word (IsAscii-from_digits word (own.to word (numeral_is word e).digits))

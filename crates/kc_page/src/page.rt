@@ -42,11 +42,25 @@ pub fn scrub_each(pages: &mut [Page])
 /// Some 100 microseconds of work for a thread.
 const PAGES_A_CHUNK: usize = 256;
 
-/// Zeroes the bytes of all pages and keeps their records, by several threads. It is never refused: where no thread
-/// can be started, this one does all.
+/// So many pages to zero are worth several threads.
+const MANY_PAGES: usize = 2_048;
+
+/// How many pages are not known to be zero.
+fn to_scrub(pages: &[Page]) -> usize {
+    pages
+        .iter()
+        .filter(|page| !page.bytes.is_known_zero())
+        .count()
+}
+
+/// Zeroes the bytes of all pages and keeps their records, by several threads where 2,048 pages and more are not known to
+/// be zero. It is never refused: where no thread can be started, this one does all.
 pub fn scrub_all(rt: &(impl Threads + Sync), pages: &mut [Page])
     ensures { pages.new ≡ map scrubbed_page pages.old }
 {
+    if to_scrub(pages) < MANY_PAGES {
+        return scrub_each(pages);
+    }
     par_chunks_mut_for_each(
         rt,
         pages,

@@ -8,7 +8,7 @@ mod stream;
 mod traces;
 
 pub use lines::{LONGEST_LINE, Line, give_lines};
-pub use piece::empty_piece;
+pub use piece::{PIECE, empty_piece};
 pub use replies::give_replies;
 pub use stream::{CallStream, Part, StreamFault, read_calls};
 pub use traces::give_trace;

@@ -8,6 +8,7 @@ ghost use Rattle.kc_trace.specs.Trace.{IsTrace, IsRefused};
 ghost use Rattle.kc_io.specs.Ends.{ReadFailed, byte_limit};
 ghost use Rattle.kc_streams.specs.Streamed.{HasRead, GoesOn};
 
+use crate::piece::PIECE;
 use kc_io::{Failed, MOST_BYTES, ReadFault, Source};
 use kc_trace::{TraceFault, TraceReader};
 use kc_types::Call;
@@ -45,6 +46,9 @@ impl From<ReadFault> for StreamFault {
 
 /// So many calls are worth going on with, before more are read.
 const CALLS_AT_ONCE: usize = 4_096;
+
+/// So many bytes of text are, too: calls with whole pages let go of their memory before it has to grow.
+const TEXT_AT_ONCE: usize = 2 * PIECE;
 
 /// The calls with more behind them; where there were none, those that come as they lie.
 fn joined(mut calls: Vec<Call>, mut more: Vec<Call>) -> Result<Vec<Call>, AllocError>
@@ -95,9 +99,15 @@ impl CallStream {
         }
     }
 
-    /// Reads on in the source until at least 4,096 calls came or it has no more bytes. After a fault of the trace, which
-    /// `finish` tells, the rest of the source is only read to its end.
-    pub fn next<T: Source>(&mut self, alloc: Global, source: &mut T) -> Result<Part, ReadFault>
+    /// Reads on in the source until at least 4,096 calls or 131,072 bytes came or it has no more bytes. After a fault of
+    /// the trace, which `finish` tells, the rest of the source is only read to its end. What the buffer holds is written
+    /// over.
+    pub fn next<T: Source>(
+        &mut self,
+        alloc: Global,
+        source: &mut T,
+        buffer: &mut [u8; PIECE],
+    ) -> Result<Part, ReadFault>
         requires { T.failed source.old ≡ false }
         ensures calls { IfOk result (λ part. GoesOn self.old self.new (T.left source.old) (T.left source.new) part.calls.items) }
         ensures last { IfOk result (λ part. part.is_last ≡ true → IsAtEnd (T.left source.new)) }
@@ -108,10 +118,10 @@ impl CallStream {
         // A read that failed is never reported as want of memory.
         ensures memory { result ≡ Err ReadFault.Memory → T.failed source.new ≡ false }
     {
-        let mut buffer = [0u8; 65536];
+        let start = self.total;
         let mut calls = Vec::new(alloc);
-        while calls.len() < CALLS_AT_ONCE {
-            let n = match source.read(&mut buffer) {
+        while calls.len() < CALLS_AT_ONCE && self.total - start < TEXT_AT_ONCE {
+            let n = match source.read(buffer) {
                 Ok(n) => n,
                 Err(Failed) => return Err(ReadFault::Read),
             };
@@ -169,10 +179,11 @@ pub fn read_calls<T: Source>(alloc: Global, source: &mut T) -> Result<Vec<Call>,
     ensures failure { T.failed source.new ≡ true → result ≡ Err StreamFault.Read }
     ensures few { result ≢ Err StreamFault.Read → result ≢ Err StreamFault.Memory → IfSome (T.left source.old) (λ text. length text ≤ byte_limit) }
 {
+    let mut buffer = [0u8; PIECE];
     let mut stream = CallStream::new();
     let mut calls = Vec::new(alloc);
     loop {
-        let part = stream.next(alloc, source)?;
+        let part = stream.next(alloc, source, &mut buffer)?;
         let Part {
             calls: mut more,
             is_last,
