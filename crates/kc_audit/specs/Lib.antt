@@ -1,3 +1,4 @@
+pub mod Report
 pub mod Verdicts
 pub mod Findings
 pub mod Walking

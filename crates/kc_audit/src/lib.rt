@@ -1,5 +1,5 @@
-//! The audit of dumps: what is found in a dump that no core in order shows. Dumps are handed on from `kc_dump`, the
-//! digests of pages from `kc_digests`.
+//! The audit of dumps: what is found in a dump that no core in order shows, and the line that reports it. Dumps are
+//! re-exported from `kc_dump`, the digests of pages from `kc_digests`.
 #![tactic(auto)]
 
 mod auditing;
@@ -9,6 +9,7 @@ mod counts;
 mod finding;
 mod frames;
 mod leaves;
+mod line;
 mod lists;
 mod marks;
 mod parallel;
@@ -18,4 +19,5 @@ pub use auditing::audit;
 pub use finding::Finding;
 pub use kc_digests::frame_digests;
 pub use kc_dump::{Dump, FrameLine, SlotDump};
+pub use line::report;
 pub use parallel::audit_parallel;

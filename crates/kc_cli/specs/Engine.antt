@@ -6,7 +6,7 @@ use Rattle.kc_types.specs.declared.reply.Reply.{Reply}
 use Rattle.kc_model.specs.State.{State}
 use Rattle.kc_model.specs.Boot.{boot}
 use Rattle.kc_model.specs.Next.{replies_from, state_after}
-use Rattle.kc_dumping.specs.Dumping.{dump_of}
+use Rattle.kc_cli.specs.Dumping.{dump_of}
 use Rattle.kc_dump_text.specs.DumpText.{dump_text}
 use Rattle.kc_trace.specs.ConfigText.{config_in}
 use Rattle.kc_trace.specs.Trace.{IsTrace}

@@ -7,10 +7,8 @@ ghost use Rattle.kc_cli.specs.Engine.{IsReplyText};
 ghost use Rattle.kc_texts.specs.Outcomes.{seen, TellsSources, TellsTexts, TellsReplay, TellsSink};
 
 use crate::replaying::replay_texts;
-use kc_io::{Sink, Source};
 use kc_replay::Outcome;
-use kc_streams::{empty_piece, give_replies};
-use kc_texts::TextFault;
+use kc_texts::{Sink, Source, TextFault, empty_piece, give_replies};
 use std::alloc::Global;
 use std::sync::Wait;
 use std::thread::Threads;

@@ -6,15 +6,13 @@ ghost use Rattle.kc_types.specs.declared.reply.Reply.{Reply};
 ghost use Rattle.kc_types.specs.declared.call.Call.{Call};
 ghost use Rattle.kc_trace.specs.declared.fault.TraceFault.{TraceFault};
 ghost use Rattle.kc_trace.specs.Trace.{IsTrace, IsRefused};
-ghost use Rattle.kc_io.specs.Ends.{ReadFailed};
+ghost use Rattle.kc_texts.specs.Ends.{ReadFailed};
 ghost use Rattle.kc_replay.specs.Replayer.{IsFed};
 ghost use Rattle.kc_cli.specs.Engine.{IsReplayed, AreReplayed, IsReplayFault};
 ghost use Rattle.kc_texts.specs.Outcomes.{seen, TellsSources, TellsTexts, TellsReplay};
 
-use kc_io::Source;
 use kc_replay::{OpenGate, Outcome, ReplayFault, Replayer};
-use kc_streams::{CallStream, PIECE};
-use kc_texts::{TextFault, read_configuration};
+use kc_texts::{CallStream, PIECE, Source, TextFault, read_configuration};
 use kc_types::{Call, Config, Reply};
 use std::alloc::Global;
 use std::sync::Wait;

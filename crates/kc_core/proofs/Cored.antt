@@ -17,7 +17,7 @@ use Rattle.kc_model.proofs.States.Changes.{exists}
 use Rattle.kc_model.proofs.Lawful.LawfulTraces.{orderly-is}
 use Rattle.kc_parts.specs.Parts.{Held, page_at, vm_at}
 use Rattle.kc_parts.specs.States.{state_of, here_of, IsLinked}
-use Rattle.kc_calls.specs.Applying.{IsAble, KeepsPlaces}
+use Rattle.kc_core.specs.Applying.{IsAble, KeepsPlaces}
 use Rattle.kc_core.specs.KCore.{IsCore}
 
 not_core : (owner other : Owner) → same_owner owner other ≡ true → (same_owner Core other ≡ false) → owner ≡ Core → ⊥

@@ -6,8 +6,8 @@ ghost use Rattle.kc_parts.specs.States.{state_of};
 ghost use Rattle.kc_core.specs.KCore.{IsCore};
 ghost use Rattle.kc_core.specs.Runs.{StopsAfter};
 
+use crate::dispatch::apply;
 use crate::one_thread::RunStop;
-use kc_calls::apply;
 use kc_parts::Parts;
 use kc_types::{Call, Config, Memory, Reply};
 use std::alloc::Global;

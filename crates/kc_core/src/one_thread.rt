@@ -18,9 +18,9 @@ ghost use Rattle.kc_page.specs.Page.{frame_of, IsRecordOf};
 ghost use Rattle.kc_parts.specs.States.{state_of, unlinked_slot};
 ghost use Rattle.kc_core.specs.KCore.{IsCore};
 
+use crate::dispatch::answer;
 use crate::look_ups::{frames_of, page_record};
 use crate::on_parts::{answer_each, make, run};
-use kc_calls::answer;
 use kc_page::{Page, PageBytes, PageRecord, scrub_all};
 use kc_parts::Parts;
 use kc_types::{

@@ -10,7 +10,7 @@ use Rattle.std.specs.Ordering.{nat_cmp, is_lt, eq_by_cmp}
 use Rattle.std.specs.Cmp.{ranked}
 use Rattle.std.specs.FinMap.{FinMap, entries, get, get-entries, entries_sorted}
 use Rattle.std.specs.FinMap.Entries.{find, below_all, is_sorted}
-use Rattle.kc_stage2.proofs.Maps.{keys-same, keys-other}
+use Rattle.kc_vms.proofs.Maps.{keys-same, keys-other}
 
 abbrev is_entry : ℕ → ℕ → ℕ × ℕ → Bool
 is_entry g f e = e.0 == g && e.1 == f

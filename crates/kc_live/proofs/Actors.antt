@@ -9,12 +9,12 @@ use Rattle.std.proofs.lemmas.Option.{slice_get_within, slice_get-get_or}
 use Rattle.kc_types.specs.declared.call.Actor.{Actor}
 use Rattle.kc_types.specs.declared.call.Actor.TheVariants.{Host, Vcpu}
 use Rattle.kc_types.specs.Actors.{actor}
-use Rattle.kc_history.specs.declared.receipt.Entry.{Entry}
-use Rattle.kc_history.specs.declared.receipt.Receipt.{Receipt}
-use Rattle.kc_history.specs.Book.{entry}
-use Rattle.kc_history.specs.Settling.{times, numbers_of, all_numbers, RisesFrom, RowMatches, RowsMatch, IsSettled}
+use Rattle.kc_live.specs.declared.receipt.Entry.{Entry}
+use Rattle.kc_live.specs.declared.receipt.Receipt.{Receipt}
+use Rattle.kc_live.specs.Book.{entry}
+use Rattle.kc_live.specs.Settling.{times, numbers_of, all_numbers, RisesFrom, RowMatches, RowsMatch, IsSettled}
 use Rattle.kc_live.specs.Program.{receipt_calls, NoneIs, ActorsApart}
-use Rattle.kc_history.specs.Book.{calls_of}
+use Rattle.kc_live.specs.Book.{calls_of}
 use Rattle.kc_model.specs.Histories.{same_actor, calls_by}
 
 pub same_actor-refl : (a : Actor) → same_actor a a ≡ true

@@ -1,7 +1,7 @@
 -- Rows of calls that are beginnings of others.
 use Rattle.std.proofs.Common.{◌≡◌, ℕ, List, [], ◌∷◌, ◌++◌, take, Option, Some, None, refl}
 use Rattle.kc_types.specs.declared.call.Call.{Call}
-use Rattle.kc_history.specs.declared.fault.LiveFault.TheVariants.{Memory, NotYours, HistoryFull}
+use Rattle.kc_live.specs.declared.fault.LiveFault.TheVariants.{Memory, NotYours, HistoryFull}
 use Rattle.kc_live.specs.declared.program.ThreadStop.{ThreadStop}
 use Rattle.kc_live.specs.declared.program.ThreadStop.TheVariants.{Start, Fault}
 use Rattle.kc_live.specs.Threads.{AreBeginnings, graver}

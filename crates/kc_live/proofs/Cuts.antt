@@ -11,12 +11,12 @@ use Rattle.kc_types.specs.Configuration.{Configuration}
 use Rattle.kc_types.specs.declared.call.Call.{Call}
 use Rattle.kc_types.specs.declared.call.Actor.{Actor}
 use Rattle.kc_model.specs.Histories.{same_actor, calls_by}
-use Rattle.kc_history.specs.declared.receipt.Entry.{Entry}
-use Rattle.kc_history.specs.Book.{calls_of}
+use Rattle.kc_live.specs.declared.receipt.Entry.{Entry}
+use Rattle.kc_live.specs.Book.{calls_of}
 use Rattle.kc_live.specs.Program.{ProgramView, NoneIs, ActorsApart, actors_of, HasCalls}
 use Rattle.kc_live.specs.Plans.{count_of, stranger_in, stranger_from}
-use Rattle.kc_live.specs.declared.fault.LiveCause.{LiveCause}
-use Rattle.kc_live.specs.declared.fault.LiveCause.TheVariants.{NotYours, HistoryFull, Memory, Start, Unsettled, BadActor}
+use Rattle.kc_live.specs.declared.stop.LiveCause.{LiveCause}
+use Rattle.kc_live.specs.declared.stop.LiveCause.TheVariants.{NotYours, HistoryFull, Memory, Start, Unsettled, BadActor}
 use Rattle.kc_live.specs.Stops.{IsCauseOf}
 use Rattle.kc_live.specs.Cuts.{StopsTrace, program_of, AreOf, OwnCalls, IsCut, IsPlaceOf, grown, noted, appearing, with_call, KeepsOrders}
 use Rattle.kc_live.proofs.Actors.{same_actor-refl, same_actor-true, same_actor-false}

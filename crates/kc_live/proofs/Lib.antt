@@ -1,3 +1,5 @@
+pub mod Logs
+pub mod Settlement
 pub mod Configs
 pub mod Actors
 pub mod Planning

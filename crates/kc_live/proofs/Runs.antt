@@ -6,10 +6,10 @@ use Rattle.std.proofs.lemmas.Iterator.Adapters.{position_from-zero}
 use Rattle.kc_types.specs.declared.call.Call.{Call}
 use Rattle.kc_types.specs.declared.call.Actor.{Actor}
 use Rattle.kc_types.specs.Actors.{actor}
-use Rattle.kc_history.specs.declared.receipt.Entry.{Entry}
-use Rattle.kc_history.specs.declared.receipt.Receipt.{Receipt}
+use Rattle.kc_live.specs.declared.receipt.Entry.{Entry}
+use Rattle.kc_live.specs.declared.receipt.Receipt.{Receipt}
 use Rattle.kc_live.specs.Program.{ProgramView}
-use Rattle.kc_history.specs.Settling.{IsSettled}
+use Rattle.kc_live.specs.Settling.{IsSettled}
 use Rattle.kc_live.specs.Program.{receipt_calls, ActorsApart, actors_of, HasCalls, HasBeginnings, HasNoOthers}
 use Rattle.kc_live.specs.Threads.{AreBeginnings}
 use Rattle.kc_model.specs.Histories.{same_actor}

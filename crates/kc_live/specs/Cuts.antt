@@ -6,10 +6,10 @@ use Rattle.kc_types.specs.Limits.{call_limit}
 use Rattle.kc_types.specs.declared.call.Call.{Call}
 use Rattle.kc_types.specs.declared.call.Actor.{Actor}
 use Rattle.kc_model.specs.Histories.{same_actor, calls_by}
-use Rattle.kc_live.specs.declared.fault.LiveCause.{LiveCause}
-use Rattle.kc_live.specs.declared.fault.LiveCause.TheVariants.{NotYours, HistoryFull, Memory, Start, Unsettled, BadActor}
+use Rattle.kc_live.specs.declared.stop.LiveCause.{LiveCause}
+use Rattle.kc_live.specs.declared.stop.LiveCause.TheVariants.{NotYours, HistoryFull, Memory, Start, Unsettled, BadActor}
 use Rattle.kc_live.specs.Program.{ProgramView, NoneIs, ActorsApart, actors_of}
-use Rattle.kc_history.specs.Book.{Log}
+use Rattle.kc_live.specs.Book.{Log}
 use Rattle.kc_live.specs.Plans.{IsFirstBad, MayRunTogether, count_of}
 use Rattle.kc_live.specs.Stops.{IsLeftHistory}
 

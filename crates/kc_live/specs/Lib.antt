@@ -1,3 +1,8 @@
+pub mod Book
+pub mod Seat
+pub mod Lending
+pub mod Settling
+pub mod Ready
 pub mod Program
 pub mod Plans
 pub mod Threads

@@ -3,9 +3,9 @@ use Rattle.std.specs.Prelude.{◌≡◌, ◌≢◌, ℕ, List, [], ◌∷◌, ma
 use Rattle.kc_types.specs.declared.call.Call.{Call}
 use Rattle.kc_types.specs.declared.call.Actor.{Actor}
 use Rattle.kc_model.specs.Histories.{calls_by}
-use Rattle.kc_history.specs.declared.receipt.Entry.{Entry}
-use Rattle.kc_history.specs.declared.receipt.Receipt.{Receipt}
-use Rattle.kc_history.specs.Book.{calls_of}
+use Rattle.kc_live.specs.declared.receipt.Entry.{Entry}
+use Rattle.kc_live.specs.declared.receipt.Receipt.{Receipt}
+use Rattle.kc_live.specs.Book.{calls_of}
 
 -- an actor, and its calls in order
 pub record ProgramView : Type 0 where

@@ -2,13 +2,13 @@
 use Rattle.std.specs.Prelude.{Bool, true, false, ◌≡◌, ◌≢◌, ◌<◌, Some, None, List}
 use Rattle.kc_types.specs.Configuration.{Configuration}
 use Rattle.kc_types.specs.Limits.{call_limit}
-use Rattle.kc_history.specs.declared.fault.LiveFault.{LiveFault}
-use Rattle.kc_history.specs.declared.fault.LiveFault.TheVariants as faults
-use Rattle.kc_live.specs.declared.fault.LiveCause.{LiveCause}
-use Rattle.kc_live.specs.declared.fault.LiveCause.TheVariants.{NotYours, HistoryFull, Memory, Start, Unsettled, BadActor}
+use Rattle.kc_live.specs.declared.fault.LiveFault.{LiveFault}
+use Rattle.kc_live.specs.declared.fault.LiveFault.TheVariants as faults
+use Rattle.kc_live.specs.declared.stop.LiveCause.{LiveCause}
+use Rattle.kc_live.specs.declared.stop.LiveCause.TheVariants.{NotYours, HistoryFull, Memory, Start, Unsettled, BadActor}
 use Rattle.kc_live.specs.declared.program.ThreadStop.{ThreadStop}
 use Rattle.kc_live.specs.declared.program.ThreadStop.TheVariants as stops
-use Rattle.kc_history.specs.Book.{Log, IsLegal}
+use Rattle.kc_live.specs.Book.{Log, IsLegal}
 use Rattle.kc_live.specs.Program.{ProgramView, HasBeginnings, HasNoOthers}
 use Rattle.kc_live.specs.Plans.{HaveActors, IsFirstBad, stranger_from, count_of, MayRunTogether}
 

@@ -1,8 +1,8 @@
 -- What the threads of programs made of them.
 use Rattle.std.specs.Prelude.{◌≡◌, ℕ, List, [], ◌∷◌, take, Option, Some, None}
 use Rattle.kc_types.specs.declared.call.Call.{Call}
-use Rattle.kc_history.specs.declared.receipt.Receipt.{Receipt}
-use Rattle.kc_history.specs.declared.fault.LiveFault.TheVariants.{Memory}
+use Rattle.kc_live.specs.declared.receipt.Receipt.{Receipt}
+use Rattle.kc_live.specs.declared.fault.LiveFault.TheVariants.{Memory}
 use Rattle.kc_live.specs.declared.program.ThreadStop.{ThreadStop}
 use Rattle.kc_live.specs.declared.program.ThreadStop.TheVariants.{Start, Fault}
 use Rattle.kc_live.specs.Program.{receipt_calls}

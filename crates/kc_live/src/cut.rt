@@ -1,16 +1,17 @@
 //! A trace that is cut into programs and run.
 ghost use Rattle.std.specs.Prelude.{◌≡◌, [], ◌∷◌, is_some, IfSome, IfOk, IfErr, OnOk, MatchOption, IsTrue, ◌↔◌};
 ghost use Rattle.kc_types.specs.Actors.{actor as actor_made};
-ghost use Rattle.kc_history.specs.Book.{calls_of};
+ghost use Rattle.kc_live.specs.Book.{calls_of};
 ghost use Rattle.kc_live.specs.Program.{NoneIs, actors_of};
 ghost use Rattle.kc_live.specs.Cuts.{IsCut, IsLeftOf, IsPlaceOf, KeepsOrders, MayRun, StopsTrace, with_call};
 ghost use Rattle.kc_live.specs.Stops.{FitsHistory};
 
-use crate::fault::{LiveCause, LiveStop};
+use crate::book::History;
 use crate::program::Program;
+use crate::receipt::Receipt;
 use crate::run::{refused, run_live};
+use crate::stop::{LiveCause, LiveStop};
 use kc_core::Gate;
-use kc_history::{History, Receipt};
 use kc_types::{Actor, Call, Config, Memory, actor_of};
 use std::alloc::Global;
 use std::sync::Wait;

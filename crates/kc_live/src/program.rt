@@ -4,8 +4,11 @@ ghost use Rattle.kc_live.specs.Threads.{IsRun};
 ghost use Rattle.kc_live.specs.Plans.{stranger_in};
 ghost use Rattle.kc_live.specs.Cuts.{grown};
 
+use crate::fault::LiveFault;
+use crate::live_core::LiveCore;
+use crate::receipt::Receipt;
+use crate::seat::Seat;
 use kc_core::Gate;
-use kc_history::{LiveCore, LiveFault, Receipt, Seat};
 use kc_types::{Actor, Call, Memory};
 use std::alloc::Global;
 use std::marker::Model;

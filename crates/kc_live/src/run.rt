@@ -2,16 +2,20 @@
 ghost use Rattle.std.specs.Prelude.{◌≡◌, ◌↔◌, ◌≤◌, map, true, false, is_some, IfOk, IfErr, OnOk, IfSome, MatchOption, IsTrue};
 ghost use Rattle.kc_types.specs.Limits.{call_limit};
 ghost use Rattle.kc_live.specs.Program.{receipt_calls, HasCalls, HasNoOthers};
-ghost use Rattle.kc_history.specs.Settling.{IsSettled};
+ghost use Rattle.kc_live.specs.Settling.{IsSettled};
 ghost use Rattle.kc_live.specs.Plans.{MayRunTogether};
 ghost use Rattle.kc_live.specs.Stops.{IsCauseOf, IsLate, IsLeftHistory, FitsHistory, thread_cause};
 
+use crate::book::History;
 use crate::early::{first_bad, first_stranger, has_too_many};
-use crate::fault::{LiveCause, LiveStop};
+use crate::fault::LiveFault;
+use crate::live_core::LiveCore;
 use crate::program::{Program, ThreadStop};
+use crate::receipt::Receipt;
+use crate::settling::Marks;
+use crate::stop::{LiveCause, LiveStop};
 use crate::threads::{Made, Places, make_calls};
 use kc_core::Gate;
-use kc_history::{History, LiveCore, LiveFault, Marks, Receipt};
 use kc_types::{CALL_LIMIT, Config, Memory};
 use std::alloc::Global;
 use std::sync::Wait;

@@ -3,9 +3,11 @@ ghost use Rattle.std.specs.Prelude.{◌≡◌, ◌≤◌, [], length, map, vec_c
 ghost use Rattle.kc_live.specs.Program.{receipt_calls};
 ghost use Rattle.kc_live.specs.Threads.{IsRun, AreBeginnings, graver};
 
+use crate::fault::LiveFault;
+use crate::live_core::LiveCore;
 use crate::program::{MakesCalls, Program, Ran, ThreadStop, run_program};
+use crate::receipt::Receipt;
 use kc_core::Gate;
-use kc_history::{LiveCore, LiveFault, Receipt};
 use kc_types::Memory;
 use std::alloc::Global;
 use std::marker::Model;

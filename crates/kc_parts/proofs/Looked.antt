@@ -11,7 +11,7 @@ use Rattle.std.proofs.lemmas.Grind.{common_steps}
 use Rattle.std.proofs.lemmas.Bool.{cases_lt}
 use Rattle.kc_types.specs.declared.refusal.Refusal.TheVariants.{TablesFull}
 use Rattle.kc_model.specs.Refusals.{when, tables_full}
-use Rattle.kc_stage2.specs.Stage2.{fits}
+use Rattle.kc_vms.specs.Stage2.{fits}
 use Rattle.kc_vms.specs.Vm.{VmSlot, slot_table}
 use Rattle.kc_model.specs.State.{State, Frame, Slot, frame_at, slot_at, untouched, absent_vcpu, empty_slot}
 use Rattle.kc_model.proofs.States.Slots.{at-no_vcpus}

@@ -6,7 +6,7 @@
 
 use anyhow::{Context, Result, bail};
 use kc_core::KCore;
-use kc_plan::{Plan, footprints};
+use kc_replay::{Plan, footprints};
 use kc_trace::{read_config, read_trace};
 use kc_types::{Call, Resource};
 use std::time::CpuClock;

@@ -1,3 +1,4 @@
+pub mod Owning
 pub mod Apart
 pub mod Zips
 pub mod Taking

@@ -38,13 +38,13 @@ use Rattle.kc_parts.specs.Restricted.{seen_link, seen_part, seen_at, exists_in, 
 use Rattle.kc_model.specs.Footprints.{call_at, state_at}
 use Rattle.kc_model.proofs.Lawful.LawfulTraces.{lawful-at}
 use Rattle.kc_parts.specs.Cuts.{IsSplit, AreHere}
-use Rattle.kc_calls.specs.Applying.{IsAble, IsAnswer}
+use Rattle.kc_core.specs.Applying.{IsAble, IsAnswer}
 use Rattle.kc_replay.specs.declared.task.Task.{Task}
 use Rattle.kc_replay.specs.declared.task.Finished.{Finished}
 use Rattle.kc_replay.specs.Working.{IsTaskOf, Finishes}
 use Rattle.kc_replay.specs.Wave.{AreFeet, out, IsRest, down_from, wave_calls, feet_at, IsWave, IsTaskAt, IsFinishedAt}
 use Rattle.kc_replay.proofs.Apart.{config-at, closed-at, needs-at, taken, rest-left}
-use Rattle.kc_calls.proofs.Restricted.{able-cut, reply-is, restricted-after}
+use Rattle.kc_core.proofs.Restricted.{able-cut, reply-is, restricted-after}
 use Rattle.kc_links.proofs.Neighbours.{link_in-linked, chain-ends}
 
 not-low : (f n : ℕ) → n ≤ f → nat_lt f n ≡ false

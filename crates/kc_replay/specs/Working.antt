@@ -5,7 +5,7 @@ use Rattle.kc_types.specs.Configuration.{Configuration}
 use Rattle.kc_types.specs.declared.version.Version.TheVariants.{One}
 use Rattle.kc_types.specs.declared.call.Call.{Call}
 use Rattle.kc_model.specs.Footprints.{call_at}
-use Rattle.kc_calls.specs.Applying.{IsAble, IsAnswer}
+use Rattle.kc_core.specs.Applying.{IsAble, IsAnswer}
 use Rattle.kc_replay.specs.declared.task.Task.{Task}
 use Rattle.kc_replay.specs.declared.task.Finished.{Finished}
 

@@ -1,17 +1,22 @@
-//! The calls of a trace taken by workers, wave after wave, with what one thread gives that takes them in order.
+//! What each call of a trace may touch that starts from a core, the waves in which the calls are taken, and the calls
+//! taken by workers, wave after wave, with what one thread gives that takes them in order.
 #![tactic(auto)]
 
 mod deal;
 mod fault;
 mod lanes;
 pub mod laws;
+mod owned;
 mod replayer;
 mod segment;
 mod task;
+mod trace;
 mod wave;
 mod work;
 
 pub use fault::ReplayFault;
 pub use kc_core::{Gate, OpenGate};
+pub use kc_footprints::{Footprints, Plan};
 pub use replayer::{Replayer, replay};
 pub use segment::Outcome;
+pub use trace::footprints;

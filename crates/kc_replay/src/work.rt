@@ -9,7 +9,7 @@ ghost use Rattle.kc_replay.specs.Working.{Finishes, AnswersAll, IsTaskOf, no_con
 use crate::Gate;
 use crate::fault::ReplayFault;
 use crate::task::{Finished, Task};
-use kc_calls::apply;
+use kc_core::apply;
 use kc_types::{Call, Config, Memory};
 use std::alloc::Global;
 use std::marker::{Brand, PhantomData};

@@ -1,9 +1,9 @@
 //! A dump by the libraries' calls, from a core to its text and back.
 use crate::support::after;
 use kc_audit::audit;
+use kc_cli::dump;
 use kc_core::KCore;
 use kc_dump_text::{read_dump, write_dump};
-use kc_dumping::dump;
 use std::alloc::Global;
 use std::thread::Threads;
 

@@ -1,8 +1,7 @@
 //! Live runs from text to text, through a gate.
 use crate::gates::Hold;
 use crate::support::SMALL;
-use kc_cli::Mem;
-use kc_live_text::live_text;
+use kc_cli::{Mem, live_text};
 use std::sync::atomic::{AtomicBool, Ordering};
 use std::test::Fail;
 

@@ -4,8 +4,8 @@ use Rattle.kc_trace.specs.declared.config_text.ConfigTextFault.{ConfigTextFault}
 use Rattle.kc_trace.specs.declared.fault.TraceFault.TheVariants.{Memory}
 use Rattle.kc_texts.specs.Reading.{IsTold}
 use Rattle.kc_trace.specs.declared.fault.TraceFault.{TraceFault}
-use Rattle.kc_streams.specs.declared.stream.StreamFault.{StreamFault}
-use Rattle.kc_streams.specs.declared.stream.StreamFault.TheVariants as streams
+use Rattle.kc_texts.specs.declared.stream.StreamFault.{StreamFault}
+use Rattle.kc_texts.specs.declared.stream.StreamFault.TheVariants as streams
 use Rattle.kc_texts.specs.declared.fault.TextFault.TheVariants as texts
 use Rattle.kc_texts.specs.Faults.{text_fault}
 

@@ -9,7 +9,7 @@ use Rattle.kc_audit.specs.Findings.{AreFindings}
 use Rattle.kc_dump_text.specs.declared.fault.DumpFault.TheVariants as dumps
 use Rattle.kc_texts.specs.declared.fault.TextFault.{TextFault}
 use Rattle.kc_texts.specs.declared.fault.TextFault.TheVariants as texts
-use Rattle.kc_report.specs.Report.{report_of}
+use Rattle.kc_audit.specs.Report.{report_of}
 
 -- the text is a dump, the report is that of what is found in it, and nothing is found exactly where it is sound
 pub record IsAudited (text : List ℕ) (sound : Bool) (report : List ℕ) : Type 0 where

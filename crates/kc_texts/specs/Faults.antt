@@ -7,10 +7,10 @@ use Rattle.kc_trace.specs.declared.fault.TraceFault.TheVariants as traces
 use Rattle.kc_dump_text.specs.Faults.{dump_fault_words, dump_fault_end}
 use Rattle.kc_dump_text.specs.declared.fault.DumpFault.{DumpFault}
 use Rattle.kc_dump_text.specs.declared.fault.DumpFault.TheVariants as dumps
-use Rattle.kc_io.specs.declared.whole.ReadFault.{ReadFault}
-use Rattle.kc_io.specs.declared.whole.ReadFault.TheVariants as reads
-use Rattle.kc_streams.specs.declared.stream.StreamFault.{StreamFault}
-use Rattle.kc_streams.specs.declared.stream.StreamFault.TheVariants as streams
+use Rattle.kc_texts.specs.declared.whole.ReadFault.{ReadFault}
+use Rattle.kc_texts.specs.declared.whole.ReadFault.TheVariants as reads
+use Rattle.kc_texts.specs.declared.stream.StreamFault.{StreamFault}
+use Rattle.kc_texts.specs.declared.stream.StreamFault.TheVariants as streams
 use Rattle.kc_texts.specs.declared.fault.TextFault.{TextFault}
 use Rattle.kc_texts.specs.declared.fault.TextFault.TheVariants as texts
 

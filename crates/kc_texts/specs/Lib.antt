@@ -1,3 +1,6 @@
+pub mod Streamed
+pub mod Lines
+pub mod Ends
 pub mod Faults
 pub mod Reading
 pub mod Outcomes

@@ -6,7 +6,7 @@ use Rattle.kc_trace.specs.declared.config_text.ConfigTextFault.{ConfigTextFault}
 use Rattle.kc_trace.specs.declared.fault.TraceFault.{TraceFault}
 use Rattle.kc_trace.specs.ConfigText.{config_in}
 use Rattle.kc_trace.specs.Trace.{IsRefused}
-use Rattle.kc_io.specs.Ends.{ReadFailed}
+use Rattle.kc_texts.specs.Ends.{ReadFailed}
 use Rattle.kc_texts.specs.Reading.{IsConfigured, IsTold}
 use Rattle.kc_texts.specs.declared.fault.TextFault.{TextFault}
 use Rattle.kc_texts.specs.declared.fault.TextFault.TheVariants as texts

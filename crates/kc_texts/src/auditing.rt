@@ -3,16 +3,16 @@ ghost use Rattle.std.specs.Prelude.{◌≡◌, ◌≤◌, ◌⊎◌, ◌∷◌, 
 ghost use Rattle.std.specs.Io.KnownBytes.{IsAtEnd};
 ghost use Rattle.kc_dump_text.specs.declared.fault.DumpFault.{DumpFault};
 ghost use Rattle.kc_dump_text.specs.Refused.{IsRefusedDump};
-ghost use Rattle.kc_io.specs.Ends.{byte_limit};
+ghost use Rattle.kc_texts.specs.Ends.{byte_limit};
 ghost use Rattle.kc_texts.specs.Audit.{IsAudited, Audits, BeginsAudit, IsDumpFault};
 ghost use Rattle.kc_texts.specs.Outcomes.{seen, TellsSources, TellsSink};
 
 use crate::TextFault;
+use crate::source::{Sink, Source};
+use crate::whole::{read_whole, write_whole};
 use arrayvec::ArrayString;
-use kc_audit::audit_parallel;
+use kc_audit::{audit_parallel, report};
 use kc_dump_text::read_dump;
-use kc_io::{Sink, Source, read_whole, write_whole};
-use kc_report::report;
 use std::alloc::Global;
 use std::thread::Threads;
 

@@ -2,9 +2,9 @@
 ghost use Rattle.std.specs.Prelude.{◌≡◌, ◌≤◌, length};
 ghost use Rattle.kc_texts.specs.Faults.{read_fault, text_fault, config_fault, dump_fault, status_of, fault_words, fault_number, fault_end};
 
+use crate::stream::StreamFault;
+use crate::whole::ReadFault;
 use kc_dump_text::DumpFault;
-use kc_io::ReadFault;
-use kc_streams::StreamFault;
 use kc_trace::{ConfigTextFault, TraceFault};
 use std::error::Error;
 use std::fmt;

@@ -1,12 +1,31 @@
-//! What the text engines share: faults and the lines that tell them, texts read whole; and the audit of a dump's text.
+//! What the engines read and write: sources and sinks, traces read from them and texts given to them a piece at a time,
+//! texts read whole, faults and the lines that tell them; and the engine that audits a dump.
 #![tactic(auto)]
 
 mod auditing;
 mod fault;
+mod lines;
+mod mem;
+mod piece;
 mod reading;
+mod replies;
+mod source;
+mod standard;
+mod stream;
 mod telling;
+mod traces;
+mod whole;
 
 pub use auditing::audit_text;
 pub use fault::TextFault;
+pub use lines::{LONGEST_LINE, Line, give_lines};
+pub use mem::Mem;
+pub use piece::{PIECE, empty_piece};
 pub use reading::{DEFAULT_CONFIG, read_both, read_configuration};
+pub use replies::give_replies;
+pub use source::{Failed, Sink, Source};
+pub use standard::Std;
+pub use stream::{CallStream, Part, StreamFault, read_calls};
 pub use telling::tell;
+pub use traces::give_trace;
+pub use whole::{MOST_BYTES, ReadFault, read_whole, write_whole};

@@ -4,13 +4,14 @@ ghost use Rattle.std.specs.Io.KnownBytes.{IsAtEnd};
 ghost use Rattle.kc_types.specs.Limits.{call_limit};
 ghost use Rattle.kc_trace.specs.declared.config_text.ConfigTextFault.{ConfigTextFault};
 ghost use Rattle.kc_trace.specs.ConfigText.{config_in};
-ghost use Rattle.kc_io.specs.Ends.{ReadFailed};
+ghost use Rattle.kc_texts.specs.Ends.{ReadFailed};
 ghost use Rattle.kc_texts.specs.Reading.{HaveRead, IsReadingFault, IsConfigFault};
 ghost use Rattle.kc_texts.specs.Outcomes.{seen, TellsSources, TellsTexts};
 
 use crate::TextFault;
-use kc_io::{Source, read_whole};
-use kc_streams::read_calls;
+use crate::source::Source;
+use crate::stream::read_calls;
+use crate::whole::read_whole;
 use kc_trace::read_config;
 use kc_types::{Call, Config};
 use std::alloc::Global;

@@ -4,9 +4,10 @@ ghost use Rattle.std.specs.Io.KnownBytes.{Appends};
 ghost use Rattle.kc_texts.specs.Faults.{status_of, fault_line};
 
 use crate::TextFault;
+use crate::source::Sink;
+use crate::whole::write_whole;
 use arrayvec::ArrayString;
 use itoa::Buffer;
-use kc_io::{Sink, write_whole};
 
 /// The line of a fault, with its line feed.
 fn line(fault: &TextFault) -> ArrayString<96>

@@ -1,2 +1,8 @@
+pub mod Maps
+pub mod Lookups
+pub mod Tables
+pub mod Changes
+pub mod Rising
+pub mod Emptied
 pub mod Kept
 pub mod Rows

@@ -2,8 +2,8 @@
 use Rattle.std.specs.Borrow.{Lends, MutBor, Fml}
 use Rattle.kc_types.specs.declared.link.Ends.{Ends}
 use Rattle.kc_types.specs.contracts.link.Ends.{the_row as ends_row}
-use Rattle.kc_stage2.specs.Stage2.{Table}
-use Rattle.kc_stage2.specs.contracts.table.Stage2.{the_row as table_row}
+use Rattle.kc_vms.specs.Stage2.{Table}
+use Rattle.kc_vms.specs.contracts.table.Stage2.{the_row as table_row}
 use Rattle.kc_vms.specs.Vm.{VmSlot, with_table}
 use Rattle.kc_vms.specs.contracts.vm.Vm.{the_row}
 

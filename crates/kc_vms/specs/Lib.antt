@@ -1,3 +1,9 @@
+pub mod Measure
+pub mod Stage2
+pub mod Faults
+pub mod Levels
+pub mod TwoLevels
+pub mod TablePool
 pub mod Vm
 pub mod Refusals
 pub mod Lending

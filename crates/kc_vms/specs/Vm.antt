@@ -6,7 +6,7 @@ use Rattle.kc_types.specs.declared.slot.Phase.TheVariants.{Empty}
 use Rattle.kc_model.specs.State.{Vcpu, Image, absent_vcpu, no_vcpus, empty_slot}
 use Rattle.kc_model.specs.Lawful.{IsLawfulVcpu, IsLawfulImage, Apart}
 use Rattle.kc_model.specs.Linked.{LinkedSlot, linked_slot}
-use Rattle.kc_stage2.specs.Stage2.{Table}
+use Rattle.kc_vms.specs.Stage2.{Table}
 
 -- a slot with the ends of its list, and how many leaves its table can have
 pub record VmSlot : Type 0 where

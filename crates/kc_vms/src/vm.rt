@@ -10,10 +10,10 @@ ghost use Rattle.kc_vms.specs.Vm.{IsVm, empty_vm, slot_table};
 ghost use Rattle.kc_model.specs.Slot.{vcpu_of, next_gfn_of, in_phase, with_vcpu, awaiting, with_image, with_image_page};
 ghost use Rattle.kc_vms.specs.Refusals.{no_vm_in, not_booting_in, register_refusal, add_vcpu_refusal, add_image_refusal, next_page_refusal};
 
+use crate::pages::pages_of;
+use crate::table::Stage2;
 use arrayvec::ArrayVec;
-use kc_image::{Image, pages_of};
-use kc_stage2::Stage2;
-use kc_types::{Ends, Gfn, IMAGE_LIMIT, Memory, Phase, Refusal, VCPU_LIMIT, Vcpu, VcpuId};
+use kc_types::{Ends, Gfn, IMAGE_LIMIT, Image, Memory, Phase, Refusal, VCPU_LIMIT, Vcpu, VcpuId};
 use std::alloc::Global;
 use std::marker::Model;
 

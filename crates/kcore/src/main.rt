@@ -5,9 +5,8 @@ ghost use Rattle.std.specs.Prelude.{◌≡◌, false};
 
 use kc_cli::{
     ArgFault, DEFAULT_CONFIG, Job, Mem, Source, Std, TextFault, audit_text, dump_text, job_of,
-    replay_text, tell,
+    live_text, replay_text, tell,
 };
-use kc_live_text::live_text;
 use kc_replay::OpenGate;
 use std::env;
 use std::fs::File;

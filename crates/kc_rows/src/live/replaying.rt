@@ -2,8 +2,8 @@
 use crate::gates::Count;
 use crate::live::{programs, small_config, stories};
 use crate::replays::{Unknown, are_same_cores};
+use kc_cli::replay_history;
 use kc_live::{History, run_live};
-use kc_live_text::replay_history;
 use kc_replay::{OpenGate, ReplayFault};
 use std::alloc::Global;
 use std::sync::{Mutex, Wait};

@@ -2,7 +2,7 @@ use Rattle.std.proofs.Common.{◌∙◌, length, Err, sym, ap}
 use Rattle.std.proofs.lemmas.Iterator.Adapters.{YieldsList-from_vec}
 use Rattle.std.proofs.lemmas.Iterator.Consumers.{YieldsList-turn, YieldsList-so_far}
 use Rattle.std.proofs.lemmas.List.{map-id}
-use Rattle.kc_history.specs.Seat.{SeatView}
+use Rattle.kc_live.specs.Seat.{SeatView}
 use Rattle.kc_live.specs.Program.{ProgramView, receipt_calls}
 use Rattle.kc_live.proofs.Runs.{own_call}
 use Rattle.kc_live.proofs.program.run_program.Goals as goal

@@ -2,8 +2,8 @@ use Rattle.std.proofs.Common.{sym, ap, ◌∙◌}
 use Rattle.std.specs.FinMap as finite
 use Rattle.kc_model.specs.State.{Slot}
 use Rattle.kc_model.proofs.States.Slots.{slot-past}
-use Rattle.kc_stage2.proofs.Rising.{empty-entries}
-use Rattle.kc_core.proofs.Slots.{past_none}
+use Rattle.kc_vms.proofs.Rising.{empty-entries}
+use Rattle.kc_core.proofs.SlotsShown.{past_none}
 use Rattle.kc_core.proofs.one_thread.KCore.entries.Goals as goal
 
 pub returns-in-None : goal.returns-in-None

@@ -1,5 +1,5 @@
 use Rattle.std.proofs.Common.{sym, ◌∙◌}
-use Rattle.kc_core.proofs.Slots.{past_none, unmapped-past_gfns, unmapped-past_slots}
+use Rattle.kc_core.proofs.SlotsShown.{past_none, unmapped-past_gfns, unmapped-past_slots}
 use Rattle.kc_core.proofs.one_thread.KCore.lookup.Goals as goal
 
 pub returns-in_err-slot-clause-value : goal.returns-in_err-slot-clause-value

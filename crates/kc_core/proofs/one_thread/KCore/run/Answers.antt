@@ -1,6 +1,6 @@
 use Rattle.kc_model.proofs.Safe.Safe.{safe}
 use Rattle.kc_model.proofs.Blind.HostBlind.{shows_nothing}
-use Rattle.kc_core.proofs.Answered.{where_ok}
+use Rattle.kc_core.proofs.AnswersKept.{where_ok}
 use Rattle.kc_core.proofs.one_thread.KCore.run.Goals as goal
 
 pub returns-clause-safe : goal.returns-clause-safe

@@ -1,5 +1,5 @@
 use Rattle.std.proofs.Common.{◌≡◌, refl}
-use Rattle.kc_core.proofs.Slots.{slot-shown}
+use Rattle.kc_core.proofs.SlotsShown.{slot-shown}
 use Rattle.kc_core.proofs.Ended.{slot-ended}
 use Rattle.kc_core.proofs.one_thread.KCore.slot.Goals as goal
 

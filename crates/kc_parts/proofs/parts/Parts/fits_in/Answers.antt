@@ -1,7 +1,7 @@
 use Rattle.std.proofs.Common.{refl, ap, sym, ◌∙◌, not}
 use Rattle.kc_types.specs.declared.refusal.Refusal.TheVariants.{TablesFull}
 use Rattle.kc_model.specs.Refusals.{when}
-use Rattle.kc_stage2.specs.Stage2.{Table, fits}
+use Rattle.kc_vms.specs.Stage2.{Table, fits}
 use Rattle.kc_parts.specs.States.{state_of}
 use Rattle.kc_parts.proofs.Looked.{fits-seen}
 use Rattle.kc_parts.proofs.parts.Parts.fits_in.Goals as goal

@@ -1,4 +1,0 @@
-pub mod Applying
-pub mod Verifying
-pub mod Guests
-pub mod Hands

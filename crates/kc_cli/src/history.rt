@@ -1,0 +1,52 @@
+//! A history that is replayed.
+ghost use Rattle.std.specs.Prelude.{◌≡◌, ◌<◌, ◌≤◌, ◌⊎◌, ◌↔◌, OnOk, IfOk, IfErr};
+ghost use Rattle.kc_live.specs.Book.{calls_of, end_state, replies_of};
+ghost use Rattle.kc_replay.specs.declared.fault.ReplayFault.TheVariants.{BadWorkers};
+
+use kc_core::Gate;
+use kc_live::{Entry, History};
+use kc_replay::{Outcome, ReplayFault, replay};
+use kc_types::{Call, Memory};
+use std::alloc::Global;
+use std::sync::Wait;
+use std::thread::Threads;
+
+/// Copies of the calls of some entries.
+fn copied_calls(alloc: Global, entries: &[Entry]) -> Result<Vec<Call>, Memory>
+    ensures { IfOk result (λ calls. calls.items ≡ calls_of entries.now) }
+{
+    let mut calls = Vec::with_capacity(alloc, entries.len())?;
+    for entry in entries {
+        calls.push(entry.call.copy()?)?;
+    }
+    Ok(calls)
+}
+
+/// Makes the calls of a history once more, on a core of their own with the history's configuration, by 1 to 64
+/// workers: the replies and the core are those of the history. The gate is told each call by its place in the history.
+///
+/// `BadWorkers` for any other number of workers, which is judged first; `Start` where a worker could not be started,
+/// else `Memory` where a growth was refused.
+pub fn replay_history<R: Threads + Wait + Sync, G: Gate + Sync>(
+    rt: &R,
+    alloc: Global,
+    history: &History,
+    workers: usize,
+    gate: &G,
+) -> Result<Outcome, ReplayFault>
+    ensures replies { IfOk result (λ outcome. outcome.replies.items ≡ replies_of history.now.entries) }
+    ensures state { IfOk result (λ outcome. outcome.core ≡ end_state history.now) }
+    ensures workers { OnOk result ((0 < workers) × (workers ≤ 64)) }
+    ensures bad_workers { IfErr result (λ fault. (fault ≡ BadWorkers) ↔ ((workers ≡ 0) ⊎ (64 < workers))) }
+{
+    if workers == 0 || workers > 64 {
+        return Err(ReplayFault::BadWorkers);
+    }
+    let Ok(config) = history.config().copy() else {
+        return Err(ReplayFault::Memory);
+    };
+    let Ok(calls) = copied_calls(alloc, history.entries()) else {
+        return Err(ReplayFault::Memory);
+    };
+    replay(rt, alloc, config, calls.as_slice(), workers, gate)
+}

@@ -1,0 +1,201 @@
+//! The engine that runs a trace live, over any sources and any sink.
+ghost use Rattle.std.specs.Prelude.{◌≡◌, ◌<◌, ◌≤◌, ◌⊎◌, ◌↔◌, ◌∷◌, [], ℕ, length, take, false, IfOk, IfErr, OnOk, Err, IsErrOf};
+ghost use Rattle.std.specs.Io.KnownBytes.{Appends};
+ghost use Rattle.kc_types.specs.Limits.{call_limit};
+ghost use Rattle.kc_model.specs.Boot.{boot};
+ghost use Rattle.kc_model.specs.Next.{state_after};
+ghost use Rattle.kc_model.specs.Wiped.{wiped};
+ghost use Rattle.kc_live.specs.Cuts.{KeepsOrders, MayRun};
+ghost use Rattle.kc_live.specs.Book.{calls_of};
+ghost use Rattle.kc_trace.specs.Spelling.{trace_of};
+ghost use Rattle.kc_texts.specs.Reading.{Writes, Begins};
+ghost use Rattle.kc_texts.specs.Outcomes.{seen, TellsSources, TellsTexts, TellsSink};
+ghost use Rattle.kc_cli.specs.Live.{live_fault};
+ghost use Rattle.kc_cli.specs.Live.{IsLiveFault, CouldRun, IsLiveText, HasBadActor};
+
+use kc_core::KCore;
+use kc_live::{Entry, History, LiveCause, LiveStop, run_trace};
+use kc_replay::{Gate, OpenGate, Outcome, ReplayFault, replay};
+use kc_texts::{Sink, Source, TextFault, empty_piece, give_trace, read_both};
+use kc_trace::TraceFault;
+use kc_types::{Call, Config, Memory};
+use std::alloc::Global;
+use std::sync::Wait;
+use std::thread::Threads;
+
+/// The fault that the cause of a live run is.
+fn fault_of(cause: LiveCause) -> TextFault
+    ensures { result ≡ live_fault cause }
+{
+    match cause {
+        LiveCause::BadActor(program) => TextFault::BadActor(program),
+        LiveCause::HistoryFull => TextFault::Trace(TraceFault::TooManyCalls),
+        LiveCause::Memory => TextFault::Memory,
+        LiveCause::Start => TextFault::Start,
+        LiveCause::Unsettled | LiveCause::NotYours(_, _) => TextFault::Unsettled,
+    }
+}
+
+/// The calls of some entries.
+fn calls_in(alloc: Global, entries: Vec<Entry>) -> Result<Vec<Call>, Memory>
+    ensures { IfOk result (λ calls. calls.items ≡ calls_of entries.items) }
+{
+    let mut calls = Vec::new(alloc);
+    for entry in entries {
+        let Entry { call, reply: _ } = entry;
+        calls.push(call)?;
+    }
+    Ok(calls)
+}
+
+/// Makes the calls by so many workers, and gives the core that they leave, wiped.
+fn replay_wiped<R: Threads + Wait + Sync>(
+    rt: &R,
+    alloc: Global,
+    config: Config,
+    calls: &[Call],
+    workers: u32,
+) -> Result<KCore, LiveCause>
+    requires workers { (0 < workers) × (workers ≤ 64) }
+    requires short { length calls.now ≤ call_limit }
+    ensures core { IfOk result (λ core. core ≡ wiped (state_after (boot config) calls.now)) }
+    ensures cause { IfErr result (λ cause. (cause ≡ LiveCause.Memory) ⊎ (cause ≡ LiveCause.Start)) }
+{
+    match replay(rt, alloc, config, calls, workers as usize, &OpenGate) {
+        Ok(outcome) => {
+            let Outcome { mut core, .. } = outcome;
+            core.wipe(rt);
+            Ok(core)
+        },
+        Err(ReplayFault::Start) => Err(LiveCause::Start),
+        Err(_) => Err(LiveCause::Memory),
+    }
+}
+
+/// The cause of a run that gave no answer. The core that it left, if any, is wiped.
+fn wiped(rt: &(impl Threads + Sync), stop: LiveStop) -> LiveCause
+    ensures { result ≡ stop.cause }
+{
+    let LiveStop { cause, history } = stop;
+    match history {
+        Some(history) => {
+            let (_entries, mut core) = history.into_parts();
+            core.wipe(rt);
+        }
+        None => {}
+    }
+    cause
+}
+
+/// The entries of a history, whose core is wiped.
+fn entries_of(rt: &(impl Threads + Sync), history: History) -> Vec<Entry>
+    ensures entries { result.items ≡ history.entries }
+    ensures short { length result.items ≤ call_limit }
+{
+    let (entries, mut core) = history.into_parts();
+    core.wipe(rt);
+    entries
+}
+
+/// The calls of a history, which so many workers replay first. Both cores are wiped.
+fn replayed<R: Threads + Wait + Sync>(
+    rt: &R,
+    alloc: Global,
+    config: Config,
+    history: History,
+    workers: u32,
+) -> Result<Vec<Call>, LiveCause>
+    requires workers { (0 < workers) × (workers ≤ 64) }
+    ensures calls { IfOk result (λ calls. calls.items ≡ calls_of history.entries) }
+    ensures cause { IfErr result (λ cause. (cause ≡ LiveCause.Memory) ⊎ (cause ≡ LiveCause.Start)) }
+{
+    let Ok(calls) = calls_in(alloc, entries_of(rt, history)) else {
+        return Err(LiveCause::Memory);
+    };
+    let _core = replay_wiped(rt, alloc, config, &calls, workers)?;
+    Ok(calls)
+}
+
+/// The calls of the history of a live run of some calls, which so many workers replay. The cores are wiped before they
+/// go, whatever the outcome.
+fn made_live<G: Gate + Sync, R: Threads + Wait + Sync>(
+    rt: &R,
+    alloc: Global,
+    config: Config,
+    calls: Vec<Call>,
+    workers: u32,
+    gate: &G,
+) -> Result<Vec<Call>, TextFault>
+    requires { (0 < workers) × (workers ≤ 64) }
+    ensures sound { OnOk result (MayRun config calls.items) }
+    ensures made { IfOk result (λ made. KeepsOrders made.items calls.items) }
+    ensures fault { IfErr result (IsLiveFault config calls.items) }
+{
+    let Ok(kept) = config.copy() else {
+        return Err(fault_of(LiveCause::Memory));
+    };
+    let history = match run_trace(rt, alloc, config, calls, gate) {
+        Ok(history) => history,
+        Err(stop) => return Err(fault_of(wiped(rt, stop))),
+    };
+    match replayed(rt, alloc, kept, history, workers) {
+        Ok(made) => Ok(made),
+        Err(cause) => Err(fault_of(cause)),
+    }
+}
+
+/// Gives the trace of some calls.
+fn give_made<K: Sink>(alloc: Global, made: Vec<Call>, out: &mut K) -> Result<(), TextFault>
+    requires { K.failed out.old ≡ false }
+    ensures ok { OnOk result (Appends (K.taken out.old) (K.taken out.new) (trace_of made.items)) }
+    ensures sink { TellsSink (K.failed out.new) ((n : ℕ) × Appends (K.taken out.old) (K.taken out.new) (take n (trace_of made.items))) (out.new ≡ out.old) result }
+    ensures fault { IfErr result (λ fault. (fault ≡ TextFault.Memory) ⊎ (fault ≡ TextFault.Write)) }
+{
+    // All memory that writing takes is there before the first byte is written.
+    let Ok(piece) = empty_piece(alloc) else {
+        return Err(TextFault::Memory);
+    };
+    match give_trace(out, piece, &made) {
+        Ok(()) => Ok(()),
+        Err(_) => Err(TextFault::Write),
+    }
+}
+
+/// Reads a configuration and a trace, each to its end, makes the trace's calls live, each actor's in a thread of its
+/// own, has 1 to 64 workers replay the history, and writes it as a trace. The number of workers is judged before anything
+/// is read.
+///
+/// Nothing is written but after the whole run. A source that fails, or that has more than 1,073,741,824 bytes, is
+/// `Read`, also where its bytes so far are refused already.
+pub fn live_text<C: Source, T: Source, K: Sink, G: Gate + Sync, R: Threads + Wait + Sync>(
+    rt: &R,
+    alloc: Global,
+    config: &mut C,
+    trace: &mut T,
+    out: &mut K,
+    workers: u32,
+    gate: &G,
+) -> Result<(), TextFault>
+    requires config { C.failed config.old ≡ false }
+    requires trace { T.failed trace.old ≡ false }
+    requires out { K.failed out.old ≡ false }
+
+    // What is written is the trace read, which may run, in an order that keeps each actor's.
+    ensures ok { OnOk result (Writes IsLiveText (C.left config.old) (T.left trace.old) (K.taken out.old) (K.taken out.new)) }
+    ensures sources { TellsSources (seen (C.failed config.new) (C.left config.old) (C.left config.new) ∷ seen (T.failed trace.new) (T.left trace.old) (T.left trace.new) ∷ []) result }
+    ensures texts { TellsTexts (seen (C.failed config.new) (C.left config.old) (C.left config.new)) (seen (T.failed trace.new) (T.left trace.old) (T.left trace.new)) (trace.new ≡ trace.old) result }
+    ensures sink { TellsSink (K.failed out.new) (Begins IsLiveText (C.left config.old) (T.left trace.old) (K.taken out.old) (K.taken out.new)) (out.new ≡ out.old) result }
+
+    // The run comes only behind both texts, and only of a trace that may run.
+    ensures workers { IsErrOf result TextFault.Workers ↔ ((workers ≡ 0) ⊎ (64 < workers)) }
+    ensures actor { (program : ℕ) → result ≡ Err (TextFault.BadActor program) → HasBadActor (C.left config.old) (T.left trace.old) program }
+    ensures started { result ≡ Err TextFault.Start → CouldRun (C.left config.old) (T.left trace.old) }
+    ensures unsettled { result ≡ Err TextFault.Unsettled → CouldRun (C.left config.old) (T.left trace.old) }
+{
+    if workers == 0 || workers > 64 {
+        return Err(TextFault::Workers);
+    }
+    let (config, calls) = read_both(alloc, config, trace)?;
+    let made = made_live(rt, alloc, config, calls, workers, gate)?;
+    give_made(alloc, made, out)
+}

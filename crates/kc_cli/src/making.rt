@@ -1,0 +1,78 @@
+//! The dump of a core.
+ghost use Rattle.std.specs.Prelude.{◌≡◌, ◌<◌, IfOk};
+ghost use Rattle.kc_types.specs.Configuration.{slot_count};
+ghost use Rattle.kc_model.specs.State.{slot_at};
+ghost use Rattle.kc_cli.specs.Dumping.{digests_of, frame_lines, slot_dump, slot_dumps, dump_of};
+ghost use Rattle.kc_dump.specs.Sound.{IsSound};
+
+use kc_core::KCore;
+use kc_digests::frame_digests;
+use kc_dump::{Dump, FrameLine, SlotDump};
+use kc_types::Memory;
+use std::alloc::Global;
+use std::thread::Threads;
+
+/// The records of all frames with the digests of their pages.
+fn lines(alloc: Global, core: &KCore, digests: &[[u8; 32]]) -> Result<Vec<FrameLine>, Memory>
+    requires { digests.now ≡ digests_of core.now }
+    ensures { IfOk result (λ lines. lines.items ≡ frame_lines core.now core.now.config.frames) }
+{
+    let mut lines = Vec::with_capacity(alloc, digests.len())?;
+    for number in 0..core.config().frames() {
+        let meta = core.page_record(number).unwrap();
+        lines.push(FrameLine {
+            owner: meta.owner,
+            share: meta.share,
+            gfn: meta.gfn,
+            present: meta.present,
+            prev: meta.prev,
+            next: meta.next,
+            digest: digests[number as usize],
+        })?;
+    }
+    Ok(lines)
+}
+
+/// A VM slot that exists.
+fn slot(alloc: Global, core: &KCore, vm: u32) -> Result<SlotDump, Memory>
+    requires { vm < slot_count core.now.config }
+    ensures { IfOk result (λ slot. slot ≡ slot_dump (slot_at core.now vm)) }
+{
+    let phase = core.phase(vm).unwrap();
+    let list = core.slot_ends(vm).unwrap();
+    let leaves = core.leaves(vm).unwrap().to_vec(alloc)?;
+    let entries = core.entries(alloc, vm)?;
+    Ok(SlotDump::new(phase, list, leaves, entries))
+}
+
+/// All VM slots.
+fn slots(alloc: Global, core: &KCore) -> Result<Vec<SlotDump>, Memory>
+    ensures { IfOk result (λ slots. slots.items ≡ slot_dumps core.now (slot_count core.now.config)) }
+{
+    let mut slots = Vec::new(alloc);
+    for vm in 0..core.config().slots() {
+        slots.push(slot(alloc, core, vm)?)?;
+    }
+    Ok(slots)
+}
+
+/// A dump of a core, in time that grows with its frames, its mapped guest frames and its leaves. The pages are hashed
+/// by several threads. `Memory` where a growth was refused.
+pub fn dump(rt: &(impl Threads + Sync), alloc: Global, core: &KCore) -> Result<Dump, Memory>
+    // No clause can rule out want of memory: a test dumps a core.
+    ensures dump { IfOk result (λ dump. dump ≡ dump_of core.now) }
+    ensures sound { IfOk result IsSound }
+{
+    let digests = frame_digests(rt, alloc, core.pages())?;
+    let frames = lines(alloc, core, digests.as_slice())?;
+    let slots = slots(alloc, core)?;
+    let config = core.config();
+    Ok(Dump::new(
+        config.version(),
+        config.core(),
+        config.leaves(),
+        core.free_ends(),
+        slots,
+        frames,
+    ))
+}

@@ -1,0 +1,54 @@
+use Rattle.std.proofs.Common.{◌≡◌, ◌+◌, ◌-◌, Some, is_some, refl, ap, ◌∙◌, arith}
+use Rattle.kc_types.specs.declared.call.Call.TheVariants.{RevokeRange}
+use Rattle.kc_types.specs.declared.reply.Reply.TheVariants as reply
+use Rattle.kc_model.specs.State.{State, mapped_at}
+use Rattle.kc_model.specs.Refusals.{backing}
+use Rattle.kc_model.specs.Effects.{revoked}
+use Rattle.kc_model.proofs.Lawful.RangeCalls.{IsRangeCall, guest_range-served}
+use Rattle.kc_parts.specs.States.{state_of}
+use Rattle.kc_core.proofs.Frames.{places-through}
+use Rattle.kc_core.proofs.Answered.{answer-refused, answer-served}
+use Rattle.kc_core.proofs.Sharing.{mapped-still, page-still, each-one, one-done, all-done}
+use Rattle.kc_core.proofs.shares.revoke_range.Goals as goal
+use Rattle.kc_core.proofs.shares.revoke_range.Goals.{In-loop-at}
+
+call : (c : In-loop-at) → IsRangeCall (state_of c.args.config.now c.args.parts.now) c.args.vm c.args.vcpu c.args.gfn c.args.count
+call c = (guest_range-served (state_of c.args.config.now c.args.parts.now) c.args.vm c.args.vcpu c.args.gfn c.args.count _ c.in-Ok.ensures).0
+
+-- the guest frame is mapped as at the start
+mapped : (c : In-loop-at) → mapped_at (state_of c.args.config.now c.loop-at.parts) c.args.vm c.loop-at.at ≡ Some (backing (mapped_at (state_of c.args.config.now c.args.parts.now) c.args.vm c.loop-at.at))
+mapped c = mapped-still (state_of c.args.config.now c.args.parts.now) (state_of c.args.config.now c.loop-at.parts) c.args.vm c.loop-at.at c.loop-at.invariant.slots ((call c).mapped c.loop-at.at c.loop-at.invariant.from c.loop-at-test.true)
+
+pub frame_under-frame-requires-clause-mapped : goal.frame_under-frame-requires-clause-mapped
+frame_under-frame-requires-clause-mapped c = ap is_some (mapped (goal.at.frame_under-frame-requires-clause-mapped c).In-loop-at)
+
+pub revoke_frame-requires-clause-here : goal.revoke_frame-requires-clause-here
+revoke_frame-requires-clause-here c =
+    let k = (goal.at.revoke_frame-requires-clause-here c).In-loop-at in
+    page-still _ c.args.parts.now c.loop-at.parts _ _ c.loop-at.at _ c.requires refl (call k).call.vm ((call k).mapped c.loop-at.at c.loop-at.invariant.from c.loop-at-test.true) (mapped k) c.loop-at.invariant.places c.frame_under-frame.ensures
+
+pub loop-at-preserved : goal.loop-at-preserved
+loop-at-preserved c =
+    let so_far = c.loop-at.invariant in
+    let from = so_far.from in
+    let low = c.loop-at-test.true in
+    let mid = state_of c.args.config.now c.loop-at.parts in
+    let done = c.revoke_frame.ensures.state ∙ each-one revoked mid c.args.vm c.loop-at.at _ c.frame_under-frame.ensures in
+    record {
+      from = omega (arith, from);
+      left = one-done revoked mid (state_of c.args.config.now c.revoke_frame.new.parts) _ c.args.vm c.loop-at.at (c.args.gfn + c.args.count - c.loop-at.at) (c.args.gfn + c.args.count - (c.loop-at.at + 1)) (omega (arith, low)) done so_far.left;
+      slots = ap (λ (m : State). m.slots) c.revoke_frame.ensures.state ∙ so_far.slots;
+      linked = c.revoke_frame.ensures.linked;
+      places = places-through _ _ _ so_far.places c.revoke_frame.ensures.places;
+    }
+
+pub returns-after-loop-at : goal.returns-after-loop-at
+returns-after-loop-at c =
+    let so_far = c.loop-at.invariant in
+    let past = c.loop-at-test.false in
+    let none : c.args.gfn + c.args.count - c.loop-at.at ≡ 0 = omega (arith, past) in
+    answer-served c.args.config.now c.args.parts.now _ (RevokeRange c.args.vm c.args.vcpu c.args.gfn c.args.count) reply.Done c.in-Ok.ensures refl
+    (all-done revoked (state_of c.args.config.now c.loop-at.parts) _ c.args.vm c.loop-at.at _ none so_far.left) so_far.linked so_far.places
+
+pub returns-in-Err : goal.returns-in-Err
+returns-in-Err c = answer-refused _ _ _ c.in-Err.refusal c.requires.linked c.in-Err.ensures

@@ -1,0 +1,16 @@
+use Rattle.std.proofs.Common.{◌≡◌, ◌≤◌, ◌+◌, ◌-◌}
+use Rattle.std.specs.List.{range_with_len}
+use Rattle.kc_model.specs.Effects.{with_each, revoked}
+use Rattle.kc_parts.specs.States.{state_of, IsLinked}
+use Rattle.kc_core.specs.Applying.{KeepsPlaces}
+use Rattle.kc_core.proofs.shares.revoke_range.Given as goal
+
+-- what is left to do leads where the whole does
+abbrev pub invariant-loop-at : goal.invariant-loop-at
+invariant-loop-at l = record {
+  from : l.gfn ≤ l.at;
+  left : with_each (state_of l.config l.parts) l.vm (range_with_len l.at (l.gfn + l.count - l.at)) revoked ≡ with_each (state_of l.config l.initial.parts) l.vm (range_with_len l.gfn l.count) revoked;
+  slots : (state_of l.config l.parts).slots ≡ (state_of l.config l.initial.parts).slots;
+  linked : IsLinked l.config l.parts;
+  places : KeepsPlaces l.initial.parts l.parts;
+}

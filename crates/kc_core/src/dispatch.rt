@@ -1,0 +1,113 @@
+//! A call, by its kind.
+ghost use Rattle.std.specs.Prelude.{◌≡◌, ◌≤◌, true, IfOk, IsOk, IsErr, OnOk, OnErr};
+ghost use Rattle.kc_types.specs.ReplyBytes.{is_data, most_reply_bytes};
+ghost use Rattle.kc_model.specs.Next.{next};
+ghost use Rattle.kc_parts.specs.States.{state_of, IsLinked};
+ghost use Rattle.kc_core.specs.Applying.{IsAble, IsAnswer, KeepsPlaces};
+
+use crate::freeing::{clear, drop_page};
+use crate::guest::{guest_read, guest_write};
+use crate::hand::{map, remap};
+use crate::host::{give, host_fault, host_read, host_write, take};
+use crate::shares::{grant, grant_range, revoke, revoke_range};
+use crate::slots::{register_vcpu, register_vm, set_boot};
+use crate::verify::verify;
+use kc_parts::Parts;
+use kc_types::{Call, Config, Memory, Reply, ReplyBuffer};
+use std::alloc::Global;
+
+/// Answers a call. The room is for the bytes of the reply, and grows where it is too small for them.
+fn answer_in(
+    parts: &mut Parts,
+    config: &Config,
+    call: &Call,
+    buffer: ReplyBuffer,
+) -> Result<Reply, Memory>
+    requires { IsAble config.now parts.old call.now }
+    ensures answer { IfOk result (IsAnswer config.now parts.old parts.new call.now) }
+    ensures err { OnErr result (parts.new ≡ parts.old) }
+    ensures memory { IsErr result → is_data (next (state_of config.now parts.old) call.now).0 ≡ true }
+    ensures fits { most_reply_bytes call.now ≤ buffer → IsOk result }
+{
+    match call {
+        Call::Take => Ok(take(parts, config)),
+        Call::Give { frame } => Ok(give(parts, config, *frame)),
+        Call::HostFault { frame } => Ok(host_fault(parts, config, *frame)),
+        Call::HostRead { frame, offset, len } => {
+            host_read(parts, config, *frame, *offset, *len, buffer)
+        },
+        Call::HostWrite {
+            frame,
+            offset,
+            data,
+        } => Ok(host_write(parts, config, *frame, *offset, data)),
+        Call::RegisterVm { vm } => Ok(register_vm(parts, config, *vm)),
+        Call::RegisterVcpu { vm, vcpu } => Ok(register_vcpu(parts, config, *vm, *vcpu)),
+        Call::SetBoot { vm, base, len } => Ok(set_boot(parts, config, *vm, *base, *len)),
+        Call::Remap { vm, image, frame } => Ok(remap(parts, config, *vm, *image, *frame)),
+        Call::Verify { vm } => Ok(verify(parts, config, *vm)),
+        Call::Map { vm, vcpu, frame } => Ok(map(parts, config, *vm, *vcpu, *frame)),
+        Call::GuestRead {
+            vm,
+            vcpu,
+            gfn,
+            offset,
+            len,
+        } => guest_read(parts, config, *vm, *vcpu, *gfn, *offset, *len, buffer),
+        Call::GuestWrite {
+            vm,
+            vcpu,
+            gfn,
+            offset,
+            data,
+        } => Ok(guest_write(parts, config, *vm, *vcpu, *gfn, *offset, data)),
+        Call::Grant { vm, vcpu, gfn } => Ok(grant(parts, config, *vm, *vcpu, *gfn)),
+        Call::Revoke { vm, vcpu, gfn } => Ok(revoke(parts, config, *vm, *vcpu, *gfn)),
+        Call::GrantRange {
+            vm,
+            vcpu,
+            gfn,
+            count,
+        } => Ok(grant_range(parts, config, *vm, *vcpu, *gfn, *count)),
+        Call::RevokeRange {
+            vm,
+            vcpu,
+            gfn,
+            count,
+        } => Ok(revoke_range(parts, config, *vm, *vcpu, *gfn, *count)),
+        Call::Drop { vm, vcpu, gfn } => Ok(drop_page(parts, config, *vm, *vcpu, *gfn)),
+        Call::Clear { vm } => Ok(clear(parts, config, *vm)),
+    }
+}
+
+/// Answers a call on parts that hold what it needs, and leaves all else as it was: with the first refusal that
+/// applies, and then nothing has changed, or with its effect. `Memory` where a growth was refused, which comes only
+/// where the reply would be bytes, and then nothing has changed.
+pub fn apply(
+    alloc: Global,
+    parts: &mut Parts,
+    config: &Config,
+    call: &Call,
+) -> Result<Reply, Memory>
+    requires { IsAble config.now parts.old call.now }
+    ensures reply { IfOk result (λ reply. reply ≡ (next (state_of config.now parts.old) call.now).0) }
+    ensures state { OnOk result (state_of config.now parts.new ≡ (next (state_of config.now parts.old) call.now).1) }
+    ensures linked { IsLinked config.now parts.new }
+    ensures places { KeepsPlaces parts.old parts.new }
+    ensures err { OnErr result (parts.new ≡ parts.old) }
+    ensures memory { IsErr result → is_data (next (state_of config.now parts.old) call.now).0 ≡ true }
+{
+    answer_in(parts, config, call, ReplyBuffer::none(alloc))
+}
+
+/// The same, with room for the bytes of the reply that was made before: nothing takes memory.
+pub fn answer(parts: &mut Parts, config: &Config, call: &Call, buffer: ReplyBuffer) -> Reply
+    requires able { IsAble config.now parts.old call.now }
+    requires fits { most_reply_bytes call.now ≤ buffer }
+    ensures reply { result ≡ (next (state_of config.now parts.old) call.now).0 }
+    ensures state { state_of config.now parts.new ≡ (next (state_of config.now parts.old) call.now).1 }
+    ensures linked { IsLinked config.now parts.new }
+    ensures places { KeepsPlaces parts.old parts.new }
+{
+    answer_in(parts, config, call, buffer).unwrap()
+}

@@ -1,0 +1,172 @@
+//! The calls that hand a frame of the host's to a slot.
+ghost use Rattle.std.specs.Prelude.{◌≡◌, ◌<◌, None, [], ◌∷◌, IsSome, IfOk};
+ghost use Rattle.kc_types.specs.Configuration.{slot_count};
+ghost use Rattle.kc_types.specs.declared.owner.Owner.TheVariants.{Host};
+ghost use Rattle.kc_types.specs.declared.call.Call.TheVariants.{Remap, Map};
+ghost use Rattle.kc_types.specs.Refusals.{Answers};
+ghost use Rattle.kc_model.specs.State.{mapped_at};
+ghost use Rattle.kc_model.specs.Refusals.{refusal, first_of_these, not_host, tables_full};
+ghost use Rattle.kc_model.specs.Effects.{hand};
+ghost use Rattle.kc_parts.specs.Parts.{page_at, vm_at};
+ghost use Rattle.kc_parts.specs.States.{state_of, owner_at, IsLinked};
+ghost use Rattle.kc_core.specs.Applying.{IsAble, IsAnswer, KeepsPlaces};
+ghost use Rattle.kc_core.specs.Hands.{IsNextPage, IsAwaited};
+
+use crate::guest::{spend_fault, vcpu_refusal};
+use kc_parts::Parts;
+use kc_types::{Config, FrameNo, Gfn, Owner, Refusal, Reply, VcpuId, VmId};
+
+/// Why a frame can't be handed to a slot at a guest frame.
+fn hand_refusal(parts: &Parts, config: &Config, vm: u32, gfn: Gfn, frame: u32) -> Option<Refusal>
+    requires { IsLinked config.now parts.now }
+    ensures { result ≡ first_of_these (not_host (state_of config.now parts.now) frame ∷ tables_full (state_of config.now parts.now) vm gfn ∷ []) }
+{
+    if parts.record_of(config, frame).owner != Owner::Host {
+        return Some(Refusal::NotHost);
+    }
+    if !parts.fits_in(config, vm, gfn) {
+        return Some(Refusal::TablesFull);
+    }
+    None
+}
+
+/// A frame of the host's becomes the last in the list of a slot, which sees it at a guest frame.
+fn hand(parts: &mut Parts, config: &Config, vm: VmId, gfn: Gfn, frame: FrameNo)
+    requires linked { IsLinked config.now parts.old }
+    requires slot { IsSome (vm_at parts.old vm) }
+    requires exists { vm < slot_count config.now }
+    requires page { IsSome (page_at parts.old frame) }
+    requires host { owner_at parts.old frame ≡ Host }
+    requires unmapped { mapped_at (state_of config.now parts.old) vm gfn ≡ None }
+    requires fits { tables_full (state_of config.now parts.old) vm gfn ≡ None }
+    ensures state { state_of config.now parts.new ≡ hand (state_of config.now parts.old) vm gfn frame }
+    ensures linked { IsLinked config.now parts.new }
+    ensures places { KeepsPlaces parts.old parts.new }
+{
+    let slot = parts.slot_mut(vm);
+    slot.table_mut().map(gfn, frame).unwrap();
+    let page = parts.page_mut(frame);
+    page.meta.owner = Owner::Vm(vm);
+    page.meta.gfn = Some(gfn);
+    page.meta.present = false;
+    parts.append_vm(vm, frame);
+}
+
+/// A frame of the host's, and where in a slot it goes as the next page of a boot image.
+#[derive(Clone, Copy)]
+pub struct NextPage {
+    pub vm: VmId,
+    pub gfn: Gfn,
+    pub frame: FrameNo,
+}
+
+/// The frame of this number, which may become the next page of the image.
+fn next_page(
+    parts: &Parts,
+    config: &Config,
+    vm: u32,
+    image: u32,
+    frame: u32,
+) -> Result<NextPage, Refusal>
+    requires { IsLinked config.now parts.now }
+    ensures answer { Answers result (refusal (state_of config.now parts.now) (Remap vm image frame)) }
+    ensures found { IfOk result (IsNextPage (state_of config.now parts.now) vm image frame) }
+{
+    let Some(slot) = config.vm(vm) else {
+        return Err(Refusal::BadVm);
+    };
+    let Some(found) = config.frame(frame) else {
+        return Err(Refusal::BadFrame);
+    };
+    match parts.next_page_of(config, vm, image) {
+        Ok(gfn) => match hand_refusal(parts, config, vm, gfn, frame) {
+            Some(refusal) => Err(refusal),
+            None => Ok(NextPage {
+                vm: slot,
+                gfn,
+                frame: found,
+            }),
+        },
+        Err(refusal) => Err(refusal),
+    }
+}
+
+/// A frame of the host's becomes the next page of a boot image.
+pub fn remap(parts: &mut Parts, config: &Config, vm: u32, image: u32, frame: u32) -> Reply
+    requires { IsAble config.now parts.old (Remap vm image frame) }
+    ensures { IsAnswer config.now parts.old parts.new (Remap vm image frame) result }
+{
+    match next_page(parts, config, vm, image, frame) {
+        Ok(page) => {
+            hand(parts, config, page.vm, page.gfn, page.frame);
+            parts.slot_mut(page.vm).add_page(image);
+            Reply::Done
+        },
+        Err(refusal) => Reply::Refused(refusal),
+    }
+}
+
+/// A frame of the host's, and the guest frame for which a virtual processor waits.
+#[derive(Clone, Copy)]
+pub struct Awaited {
+    pub vm: VmId,
+    pub vcpu: VcpuId,
+    pub gfn: Gfn,
+    pub frame: FrameNo,
+}
+
+/// The frame of this number, which may go where the virtual processor waits for one.
+fn awaited_frame(
+    parts: &Parts,
+    config: &Config,
+    vm: u32,
+    vcpu: u32,
+    frame: u32,
+) -> Result<Awaited, Refusal>
+    requires { IsLinked config.now parts.now }
+    ensures answer { Answers result (refusal (state_of config.now parts.now) (Map vm vcpu frame)) }
+    ensures found { IfOk result (IsAwaited (state_of config.now parts.now) vm vcpu frame) }
+{
+    let Some(slot) = config.vm(vm) else {
+        return Err(Refusal::BadVm);
+    };
+    let Some(vcpu) = VcpuId::try_new(vcpu) else {
+        return Err(Refusal::BadVcpu);
+    };
+    let Some(found) = config.frame(frame) else {
+        return Err(Refusal::BadFrame);
+    };
+    if let Some(refusal) = vcpu_refusal(parts, config, vm, vcpu) {
+        return Err(refusal);
+    }
+    let Some(gfn) = parts.pending_of(config, vm, vcpu) else {
+        return Err(Refusal::NoFault);
+    };
+    if parts.mapping_of(config, vm, gfn).is_some() {
+        return Err(Refusal::Mapped);
+    }
+    match hand_refusal(parts, config, vm, gfn, frame) {
+        Some(refusal) => Err(refusal),
+        None => Ok(Awaited {
+            vm: slot,
+            vcpu,
+            gfn,
+            frame: found,
+        }),
+    }
+}
+
+/// A frame of the host's goes where a virtual processor waits for one.
+pub fn map(parts: &mut Parts, config: &Config, vm: u32, vcpu: u32, frame: u32) -> Reply
+    requires { IsAble config.now parts.old (Map vm vcpu frame) }
+    ensures { IsAnswer config.now parts.old parts.new (Map vm vcpu frame) result }
+{
+    match awaited_frame(parts, config, vm, vcpu, frame) {
+        Ok(page) => {
+            hand(parts, config, page.vm, page.gfn, page.frame);
+            spend_fault(parts, config, page.vm, page.vcpu);
+            Reply::Done
+        },
+        Err(refusal) => Reply::Refused(refusal),
+    }
+}

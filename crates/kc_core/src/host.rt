@@ -1,0 +1,171 @@
+//! The host's calls on frames: taking and giving them, mapping, reading and writing.
+ghost use Rattle.std.specs.Prelude.{◌≡◌, ◌+◌, ◌≤◌, true, length, IsSome, IsOk, IsErr, IfOk};
+ghost use Rattle.kc_types.specs.Limits.{page_size};
+ghost use Rattle.kc_types.specs.ReplyBytes.{is_data, readable};
+ghost use Rattle.kc_types.specs.declared.call.Call.TheVariants.{Take, Give, HostFault, HostRead, HostWrite};
+ghost use Rattle.kc_types.specs.Refusals.{Answers};
+ghost use Rattle.kc_model.specs.Refusals.{refusal};
+ghost use Rattle.kc_model.specs.Effects.{written};
+ghost use Rattle.kc_model.specs.Next.{next};
+ghost use Rattle.kc_parts.specs.Parts.{page_at};
+ghost use Rattle.kc_parts.specs.States.{state_of, IsLinked};
+ghost use Rattle.kc_core.specs.Applying.{IsAble, IsAnswer, KeepsPlaces};
+
+use kc_parts::Parts;
+use kc_types::{Config, Data, FrameNo, Memory, Owner, PAGE_SIZE, Refusal, Reply, ReplyBuffer};
+
+/// The first free frame becomes the host's.
+pub fn take(parts: &mut Parts, config: &Config) -> Reply
+    requires { IsAble config.now parts.old Take }
+    ensures { IsAnswer config.now parts.old parts.new Take result }
+{
+    let Some(frame) = parts.pop_free() else {
+        return Reply::Refused(Refusal::NoFree);
+    };
+    let page = parts.page_mut(frame);
+    page.meta.owner = Owner::Host;
+    page.meta.present = false;
+    Reply::Frame(frame.number())
+}
+
+/// The frame of this number, which is the host's.
+fn host_frame(parts: &Parts, config: &Config, frame: u32) -> Result<FrameNo, Refusal>
+    ensures answer { Answers result (refusal (state_of config.now parts.now) (Give frame)) }
+    ensures frame { IfOk result (λ found. found ≡ frame) }
+{
+    let Some(found) = config.frame(frame) else {
+        return Err(Refusal::BadFrame);
+    };
+    if parts.record_of(config, frame).owner != Owner::Host {
+        return Err(Refusal::NotHost);
+    }
+    Ok(found)
+}
+
+/// A frame of the host's becomes free.
+pub fn give(parts: &mut Parts, config: &Config, frame: u32) -> Reply
+    requires { IsAble config.now parts.old (Give frame) }
+    ensures { IsAnswer config.now parts.old parts.new (Give frame) result }
+{
+    match host_frame(parts, config, frame) {
+        Ok(frame) => {
+            let page = parts.page_mut(frame);
+            page.meta.owner = Owner::Free;
+            page.meta.present = false;
+            page.bytes.scrub();
+            parts.append_free(frame);
+            Reply::Done
+        },
+        Err(refusal) => Reply::Refused(refusal),
+    }
+}
+
+/// The frame of this number, which the host may reach: it is its own, or shared.
+fn reachable_frame(parts: &Parts, config: &Config, frame: u32) -> Result<FrameNo, Refusal>
+    ensures answer { Answers result (refusal (state_of config.now parts.now) (HostFault frame)) }
+    ensures frame { IfOk result (λ found. found ≡ frame) }
+{
+    let Some(found) = config.frame(frame) else {
+        return Err(Refusal::BadFrame);
+    };
+    let record = parts.record_of(config, frame);
+    if record.owner != Owner::Host && record.share == 0 {
+        return Err(Refusal::Protected);
+    }
+    Ok(found)
+}
+
+/// Marks a frame as present.
+pub fn host_fault(parts: &mut Parts, config: &Config, frame: u32) -> Reply
+    requires { IsAble config.now parts.old (HostFault frame) }
+    ensures { IsAnswer config.now parts.old parts.new (HostFault frame) result }
+{
+    match reachable_frame(parts, config, frame) {
+        Ok(frame) => {
+            let page = parts.page_mut(frame);
+            page.meta.present = true;
+            Reply::Done
+        },
+        Err(refusal) => Reply::Refused(refusal),
+    }
+}
+
+/// The frame of this number, of which the host may read or write `len` bytes from `offset` on.
+fn present_frame(
+    parts: &Parts,
+    config: &Config,
+    frame: u32,
+    offset: u32,
+    len: u32,
+) -> Result<FrameNo, Refusal>
+    ensures answer { Answers result (refusal (state_of config.now parts.now) (HostRead frame offset len)) }
+    ensures frame { IfOk result (λ found. found ≡ frame) }
+{
+    let Some(found) = config.frame(frame) else {
+        return Err(Refusal::BadFrame);
+    };
+    if len == 0 || len > PAGE_SIZE || offset > PAGE_SIZE - len {
+        return Err(Refusal::BadRange);
+    }
+    if !parts.record_of(config, frame).present {
+        return Err(Refusal::NotPresent);
+    }
+    Ok(found)
+}
+
+/// Bytes of a frame, `len` of them from `offset` on. `Memory` where there was no room for them.
+pub fn host_read(
+    parts: &Parts,
+    config: &Config,
+    frame: u32,
+    offset: u32,
+    len: u32,
+    buffer: ReplyBuffer,
+) -> Result<Reply, Memory>
+    requires { IsAble config.now parts.now (HostRead frame offset len) }
+    ensures answer { IfOk result (IsAnswer config.now parts.now parts.now (HostRead frame offset len)) }
+    ensures memory { IsErr result → is_data (next (state_of config.now parts.now) (HostRead frame offset len)).0 ≡ true }
+    ensures fits { readable len ≤ buffer → IsOk result }
+{
+    match present_frame(parts, config, frame, offset, len) {
+        Ok(frame) => {
+            let buffer = buffer.at_least(len as usize)?;
+            let page = parts.page(frame);
+            Ok(Reply::Data(page.bytes.read(offset as usize, len as usize, buffer)))
+        },
+        Err(refusal) => Ok(Reply::Refused(refusal)),
+    }
+}
+
+/// Writes bytes to a frame, from `offset` on.
+pub fn write_frame(parts: &mut Parts, config: &Config, frame: FrameNo, offset: u32, bytes: &Data)
+    requires here { IsSome (page_at parts.old frame) }
+    requires within { offset + length bytes.now ≤ page_size }
+    requires linked { IsLinked config.now parts.old }
+    ensures state { state_of config.now parts.new ≡ written (state_of config.now parts.old) frame offset bytes.now }
+    ensures linked { IsLinked config.now parts.new }
+    ensures places { KeepsPlaces parts.old parts.new }
+{
+    let page = parts.page_mut(frame);
+    page.bytes.write(offset as usize, bytes.as_slice());
+}
+
+/// Writes bytes to a frame, from `offset` on.
+pub fn host_write(
+    parts: &mut Parts,
+    config: &Config,
+    frame: u32,
+    offset: u32,
+    bytes: &Data,
+) -> Reply
+    requires { IsAble config.now parts.old (HostWrite frame offset bytes.now) }
+    ensures { IsAnswer config.now parts.old parts.new (HostWrite frame offset bytes.now) result }
+{
+    match present_frame(parts, config, frame, offset, bytes.as_slice().len() as u32) {
+        Ok(frame) => {
+            write_frame(parts, config, frame, offset, bytes);
+            Reply::Done
+        },
+        Err(refusal) => Reply::Refused(refusal),
+    }
+}

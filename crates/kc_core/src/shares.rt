@@ -1,0 +1,343 @@
+//! Granting the host access to guest frames, one or those of a range, and taking it back.
+ghost use Rattle.std.specs.Prelude.{◌≡◌, ◌+◌, ◌-◌, ◌<◌, ◌==◌, false, if◌then◌else◌, IsSome, IfOk, ◌≤◌, nat_le, is_none};
+ghost use Rattle.kc_types.specs.declared.call.Call.TheVariants.{Grant, Revoke, GrantRange, RevokeRange};
+ghost use Rattle.kc_model.specs.State.{frame_at, mapped_at, with_frame};
+ghost use Rattle.kc_model.specs.Ranged.{IsWord};
+ghost use Rattle.kc_model.specs.Refusals.{refusal, any_from, share_at};
+ghost use Rattle.kc_model.specs.Effects.{granted, revoked};
+ghost use Rattle.kc_parts.specs.Parts.{page_at};
+ghost use Rattle.kc_parts.specs.States.{state_of, IsLinked};
+ghost use Rattle.kc_core.specs.Applying.{IsAble, IsAnswer, KeepsPlaces};
+ghost use Rattle.kc_core.specs.Guests.{AnswersMapped, AnswersRange};
+ghost use Rattle.kc_types.specs.Limits.{gfn_limit, share_limit};
+ghost use Rattle.kc_types.specs.Refusals.{Answers};
+
+use crate::guest::vcpu_refusal;
+use kc_page::PageRecord;
+use kc_parts::Parts;
+use kc_types::{
+    Config, FrameNo, GFN_LIMIT, Gfn, RANGE_LIMIT, Refusal, Reply, SHARE_LIMIT, VcpuId, VmId,
+};
+
+/// A guest frame of a slot, and the frame that is mapped there.
+#[derive(Clone, Copy)]
+pub struct Mapping {
+    pub vm: VmId,
+    pub gfn: Gfn,
+    pub frame: FrameNo,
+}
+
+/// The frame at the guest frame that a virtual processor's call names.
+pub fn mapped_frame(
+    parts: &Parts,
+    config: &Config,
+    vm: u32,
+    vcpu: u32,
+    gfn: u32,
+) -> Result<Mapping, Refusal>
+    ensures { AnswersMapped (state_of config.now parts.now) vm vcpu gfn result }
+{
+    let Some(slot) = config.vm(vm) else {
+        return Err(Refusal::BadVm);
+    };
+    let Some(vcpu) = VcpuId::try_new(vcpu) else {
+        return Err(Refusal::BadVcpu);
+    };
+    let Some(gfn) = Gfn::try_new(gfn) else {
+        return Err(Refusal::BadGfn);
+    };
+    if let Some(refusal) = vcpu_refusal(parts, config, vm, vcpu) {
+        return Err(refusal);
+    }
+    match parts.mapping_of(config, vm, gfn) {
+        Some(frame) => Ok(Mapping {
+            vm: slot,
+            gfn,
+            frame,
+        }),
+        None => Err(Refusal::NotMapped),
+    }
+}
+
+/// The frame at a guest frame to which the host may be granted access once more.
+fn grantable_frame(
+    parts: &Parts,
+    config: &Config,
+    vm: u32,
+    vcpu: u32,
+    gfn: u32,
+) -> Result<FrameNo, Refusal>
+    ensures answer { Answers result (refusal (state_of config.now parts.now) (Grant vm vcpu gfn)) }
+    ensures mapped { IfOk result (λ frame. mapped_at (state_of config.now parts.now) vm gfn ≡ Some frame) }
+{
+    match mapped_frame(parts, config, vm, vcpu, gfn) {
+        Ok(found) => if parts.record_of(config, found.frame.number()).share >= SHARE_LIMIT {
+            Err(Refusal::ShareFull)
+        } else {
+            Ok(found.frame)
+        },
+        Err(refusal) => Err(refusal),
+    }
+}
+
+/// The frame at a guest frame of which a grant of the host's may be taken back.
+fn shared_frame(
+    parts: &Parts,
+    config: &Config,
+    vm: u32,
+    vcpu: u32,
+    gfn: u32,
+) -> Result<FrameNo, Refusal>
+    ensures answer { Answers result (refusal (state_of config.now parts.now) (Revoke vm vcpu gfn)) }
+    ensures mapped { IfOk result (λ frame. mapped_at (state_of config.now parts.now) vm gfn ≡ Some frame) }
+{
+    match mapped_frame(parts, config, vm, vcpu, gfn) {
+        Ok(found) => if parts.record_of(config, found.frame.number()).share == 0 {
+            Err(Refusal::NotShared)
+        } else {
+            Ok(found.frame)
+        },
+        Err(refusal) => Err(refusal),
+    }
+}
+
+/// The host has one grant more to a frame.
+pub fn grant_frame(parts: &mut Parts, config: &Config, frame: FrameNo)
+    requires here { IsSome (page_at parts.old frame) }
+    requires few { IsWord ((frame_at (state_of config.now parts.old) frame).share + 1) }
+    requires linked { IsLinked config.now parts.old }
+    ensures state { state_of config.now parts.new ≡ with_frame (state_of config.now parts.old) frame (granted (frame_at (state_of config.now parts.old) frame)) }
+    ensures linked { IsLinked config.now parts.new }
+    ensures places { KeepsPlaces parts.old parts.new }
+{
+    let page = parts.page_mut(frame);
+    page.meta.share += 1;
+}
+
+/// The record of a frame to which the host has one grant less, and which it no longer reaches where that was
+/// the last.
+fn revoked(meta: PageRecord) -> PageRecord
+    ensures { result ≡ record meta { share = meta.share - 1; present = if meta.share == 1 then false else meta.present } }
+{
+    PageRecord {
+        share: meta.share.saturating_sub(1),
+        present: meta.share != 1 && meta.present,
+        ..meta
+    }
+}
+
+/// The host has one grant less to a frame.
+pub fn revoke_frame(parts: &mut Parts, config: &Config, frame: FrameNo)
+    requires here { IsSome (page_at parts.old frame) }
+    requires linked { IsLinked config.now parts.old }
+    ensures state { state_of config.now parts.new ≡ with_frame (state_of config.now parts.old) frame (revoked (frame_at (state_of config.now parts.old) frame)) }
+    ensures linked { IsLinked config.now parts.new }
+    ensures places { KeepsPlaces parts.old parts.new }
+{
+    let page = parts.page_mut(frame);
+    page.meta = revoked(page.meta);
+}
+
+/// The host is granted access to a guest frame once more.
+pub fn grant(parts: &mut Parts, config: &Config, vm: u32, vcpu: u32, gfn: u32) -> Reply
+    requires { IsAble config.now parts.old (Grant vm vcpu gfn) }
+    ensures { IsAnswer config.now parts.old parts.new (Grant vm vcpu gfn) result }
+{
+    match grantable_frame(parts, config, vm, vcpu, gfn) {
+        Ok(frame) => {
+            grant_frame(parts, config, frame);
+            Reply::Done
+        },
+        Err(refusal) => Reply::Refused(refusal),
+    }
+}
+
+/// A grant of the host's to a guest frame is taken back.
+pub fn revoke(parts: &mut Parts, config: &Config, vm: u32, vcpu: u32, gfn: u32) -> Reply
+    requires { IsAble config.now parts.old (Revoke vm vcpu gfn) }
+    ensures { IsAnswer config.now parts.old parts.new (Revoke vm vcpu gfn) result }
+{
+    match shared_frame(parts, config, vm, vcpu, gfn) {
+        Ok(frame) => {
+            revoke_frame(parts, config, frame);
+            Reply::Done
+        },
+        Err(refusal) => Reply::Refused(refusal),
+    }
+}
+
+/// The frame at a guest frame of a slot, by its number.
+fn mapped_under(parts: &Parts, config: &Config, vm: u32, gfn: u32) -> Option<FrameNo>
+    requires { gfn < gfn_limit }
+    ensures { result ≡ mapped_at (state_of config.now parts.now) vm gfn }
+{
+    parts.mapping_of(config, vm, Gfn::try_new(gfn).unwrap())
+}
+
+/// Whether one of `count` guest frames from `gfn` on is not mapped.
+fn any_unmapped(parts: &Parts, config: &Config, vm: u32, gfn: u32, count: u32) -> bool
+    requires { gfn + count ≤ gfn_limit }
+    ensures { result ≡ any_from gfn count (λ h. is_none (mapped_at (state_of config.now parts.now) vm h)) }
+{
+    (gfn..gfn + count).any(|at| mapped_under(parts, config, vm, at).is_none())
+}
+
+/// How often the frame at a mapped guest frame is granted; where none is mapped, frame 0.
+fn share_under(parts: &Parts, config: &Config, vm: u32, gfn: u32) -> u32
+    requires { gfn < gfn_limit }
+    ensures { result ≡ share_at (state_of config.now parts.now) vm gfn }
+{
+    let frame = match mapped_under(parts, config, vm, gfn) {
+        Some(frame) => frame.number(),
+        None => 0,
+    };
+    parts.record_of(config, frame).share
+}
+
+/// Whether one of the frames is granted 100 times.
+fn any_full(parts: &Parts, config: &Config, vm: u32, gfn: u32, count: u32) -> bool
+    requires { gfn + count ≤ gfn_limit }
+    ensures { result ≡ any_from gfn count (λ h. nat_le share_limit (share_at (state_of config.now parts.now) vm h)) }
+{
+    (gfn..gfn + count).any(|at| share_under(parts, config, vm, at) >= SHARE_LIMIT)
+}
+
+/// Whether one of the frames is not granted.
+fn any_unshared(parts: &Parts, config: &Config, vm: u32, gfn: u32, count: u32) -> bool
+    requires { gfn + count ≤ gfn_limit }
+    ensures { result ≡ any_from gfn count (λ h. share_at (state_of config.now parts.now) vm h == 0) }
+{
+    (gfn..gfn + count).any(|at| share_under(parts, config, vm, at) == 0)
+}
+
+/// Why a virtual processor can make no call on `count` guest frames from `gfn` on: the slot, the virtual processor or
+/// the guest frames do not exist, or one of these is not mapped.
+fn expect_range(
+    parts: &Parts,
+    config: &Config,
+    vm: u32,
+    vcpu: u32,
+    gfn: u32,
+    count: u32,
+) -> Result<(), Refusal>
+    ensures { AnswersRange (state_of config.now parts.now) vm vcpu gfn count result }
+{
+    if vm >= config.slots() {
+        return Err(Refusal::BadVm);
+    }
+    let Some(vcpu) = VcpuId::try_new(vcpu) else {
+        return Err(Refusal::BadVcpu);
+    };
+    if gfn >= GFN_LIMIT || count > GFN_LIMIT - gfn {
+        return Err(Refusal::BadGfn);
+    }
+    if count == 0 || count > RANGE_LIMIT {
+        return Err(Refusal::BadRange);
+    }
+    if let Some(refusal) = vcpu_refusal(parts, config, vm, vcpu) {
+        return Err(refusal);
+    }
+    if any_unmapped(parts, config, vm, gfn, count) {
+        return Err(Refusal::NotMapped);
+    }
+    Ok(())
+}
+
+/// Why the host can't be granted access to each of `count` guest frames once more.
+fn expect_grantable(
+    parts: &Parts,
+    config: &Config,
+    vm: u32,
+    vcpu: u32,
+    gfn: u32,
+    count: u32,
+) -> Result<(), Refusal>
+    ensures { Answers result (refusal (state_of config.now parts.now) (GrantRange vm vcpu gfn count)) }
+{
+    match expect_range(parts, config, vm, vcpu, gfn, count) {
+        Ok(()) => if any_full(parts, config, vm, gfn, count) {
+            Err(Refusal::ShareFull)
+        } else {
+            Ok(())
+        },
+        Err(refusal) => Err(refusal),
+    }
+}
+
+/// Why no grant of the host's to each of `count` guest frames can be taken back.
+fn expect_shared(
+    parts: &Parts,
+    config: &Config,
+    vm: u32,
+    vcpu: u32,
+    gfn: u32,
+    count: u32,
+) -> Result<(), Refusal>
+    ensures { Answers result (refusal (state_of config.now parts.now) (RevokeRange vm vcpu gfn count)) }
+{
+    match expect_range(parts, config, vm, vcpu, gfn, count) {
+        Ok(()) => if any_unshared(parts, config, vm, gfn, count) {
+            Err(Refusal::NotShared)
+        } else {
+            Ok(())
+        },
+        Err(refusal) => Err(refusal),
+    }
+}
+
+/// The frame at a mapped guest frame of a slot, by its number.
+fn frame_under(parts: &Parts, config: &Config, vm: u32, gfn: u32) -> FrameNo
+    requires low { gfn < gfn_limit }
+    requires mapped { IsSome (mapped_at (state_of config.now parts.now) vm gfn) }
+    ensures { mapped_at (state_of config.now parts.now) vm gfn ≡ Some result }
+{
+    mapped_under(parts, config, vm, gfn).unwrap()
+}
+
+/// The host is granted access to each of `count` guest frames from `gfn` on once more.
+pub fn grant_range(
+    parts: &mut Parts,
+    config: &Config,
+    vm: u32,
+    vcpu: u32,
+    gfn: u32,
+    count: u32,
+) -> Reply
+    requires { IsAble config.now parts.old (GrantRange vm vcpu gfn count) }
+    ensures { IsAnswer config.now parts.old parts.new (GrantRange vm vcpu gfn count) result }
+{
+    match expect_grantable(parts, config, vm, vcpu, gfn, count) {
+        Ok(()) => {
+            for at in gfn..gfn + count {
+                let frame = frame_under(parts, config, vm, at);
+                grant_frame(parts, config, frame);
+            }
+            Reply::Done
+        },
+        Err(refusal) => Reply::Refused(refusal),
+    }
+}
+
+/// A grant of the host's to each of `count` guest frames from `gfn` on is taken back.
+pub fn revoke_range(
+    parts: &mut Parts,
+    config: &Config,
+    vm: u32,
+    vcpu: u32,
+    gfn: u32,
+    count: u32,
+) -> Reply
+    requires { IsAble config.now parts.old (RevokeRange vm vcpu gfn count) }
+    ensures { IsAnswer config.now parts.old parts.new (RevokeRange vm vcpu gfn count) result }
+{
+    match expect_shared(parts, config, vm, vcpu, gfn, count) {
+        Ok(()) => {
+            for at in gfn..gfn + count {
+                let frame = frame_under(parts, config, vm, at);
+                revoke_frame(parts, config, frame);
+            }
+            Reply::Done
+        },
+        Err(refusal) => Reply::Refused(refusal),
+    }
+}

@@ -1,0 +1,277 @@
+//! Verifying a VM: its boot images are measured, and it becomes active or dead.
+ghost use Rattle.std.specs.Prelude.{◌≡◌, ◌+◌, ◌<◌, ◌↔◌, ◌||◌, ◌==◌, All, IsTrue, IfOk, Some, None, true, is_some, length, map};
+ghost use Rattle.std.specs.List.{list_any};
+ghost use Rattle.std.specs.FinMap as finite;
+ghost use Rattle.sha2.specs.Sha256.{sha256};
+ghost use Rattle.kc_types.specs.Limits.{gfn_limit, page_size};
+ghost use Rattle.kc_types.specs.Configuration.{slot_count};
+ghost use Rattle.kc_types.specs.declared.call.Call.TheVariants.{Verify};
+ghost use Rattle.kc_types.specs.Refusals.{Answers};
+ghost use Rattle.kc_model.specs.State.{slot_at};
+ghost use Rattle.kc_model.specs.Lawful.{IsLawfulImage};
+ghost use Rattle.kc_model.specs.Refusals.{refusal, backing, pages_of, is_short};
+ghost use Rattle.kc_model.specs.Effects.{effect, is_approved, first_failing, trimmed, all_trimmed};
+ghost use Rattle.kc_parts.specs.Parts.{vm_at};
+ghost use Rattle.kc_parts.specs.States.{state_of, IsLinked};
+ghost use Rattle.kc_core.specs.Applying.{IsAble, IsAnswer, KeepsPlaces};
+ghost use Rattle.kc_core.specs.Verifying.{mapped_in, page_under, bytes_under, bytes_of_image, is_approved_digest, AreFourAlike, IsImageHere};
+
+use kc_digests::MeasureFour;
+use kc_page::Page;
+use kc_parts::Parts;
+use kc_types::{Config, FrameNo, Gfn, Image, PAGE_SIZE, Phase, Refusal, Reply, VmId};
+use kc_vms::{Approved, Measure, Stage2, Vm, pages_of};
+
+/// The frame at a mapped guest frame.
+fn frame_under(table: &Stage2, gfn: u32) -> FrameNo
+    requires low { gfn < gfn_limit }
+    requires mapped { is_some (finite.get table.now.mapped gfn) ≡ true }
+    ensures { result ≡ backing (finite.get table.now.mapped gfn) }
+{
+    let gfn = Gfn::try_new(gfn).unwrap();
+    table.get(gfn).unwrap()
+}
+
+/// The page at a mapped guest frame, which is here.
+fn page_under<'a>(parts: &'a Parts, table: &Stage2, gfn: u32) -> &'a Page
+    requires low { gfn < gfn_limit }
+    requires mapped { is_some (finite.get table.now.mapped gfn) ≡ true }
+    requires here { is_some (page_under parts.now (finite.get table.now.mapped) gfn) ≡ true }
+    ensures { page_under parts.now (finite.get table.now.mapped) gfn ≡ Some result.now }
+{
+    parts.page(frame_under(table, gfn))
+}
+
+/// The bytes of a page of an image, by its number from the image's first page on.
+fn page_of<'a>(parts: &'a Parts, table: &Stage2, image: &Image, number: u32) -> &'a [u8]
+    requires lawful { IsLawfulImage image.now }
+    requires here { IsImageHere parts.now (finite.get table.now.mapped) image.now }
+    requires within { number < pages_of image.now.len }
+    ensures value { result.now ≡ bytes_under parts.now (finite.get table.now.mapped) (image.now.base + number) }
+    ensures whole { length result.now ≡ page_size }
+{
+    page_under(parts, table, image.base + number)
+        .bytes
+        .as_slice()
+}
+
+/// The bytes of a page of each of four images.
+fn pages_of_four<'a>(
+    parts: &'a Parts,
+    table: &Stage2,
+    images: &[Image],
+    number: u32,
+) -> [&'a [u8]; 4]
+    requires four { length images.now ≡ 4 }
+    requires lawful { All IsLawfulImage images.now }
+    requires here { All (IsImageHere parts.now (finite.get table.now.mapped)) images.now }
+    requires within { All (λ image. number < pages_of image.len) images.now }
+    ensures value { map (λ page. page.now) result ≡ map (λ image. bytes_under parts.now (finite.get table.now.mapped) (image.base + number)) images.now }
+    ensures whole { All (λ page. length page.now ≡ page_size) result }
+{
+    [
+        page_of(parts, table, &images[0], number),
+        page_of(parts, table, &images[1], number),
+        page_of(parts, table, &images[2], number),
+        page_of(parts, table, &images[3], number),
+    ]
+}
+
+/// The digests of four images' bytes, of one length, side by side.
+fn digests_of_four(parts: &Parts, table: &Stage2, images: &[Image]) -> [[u8; 32]; 4]
+    requires four { AreFourAlike images.now }
+    requires lawful { All IsLawfulImage images.now }
+    requires here { All (IsImageHere parts.now (finite.get table.now.mapped)) images.now }
+    ensures { result ≡ map (λ image. sha256 (bytes_of_image parts.now (finite.get table.now.mapped) image)) images.now }
+{
+    let len = images[0].len;
+    let last = pages_of(len) - 1;
+    let mut measure = MeasureFour::new();
+    for number in 0..last {
+        measure.pages(pages_of_four(parts, table, images, number));
+    }
+    let used = len - last * PAGE_SIZE;
+    measure.finish(pages_of_four(parts, table, images, last), used as usize)
+}
+
+/// The digest of an image's bytes, page by page.
+fn digest_of(parts: &Parts, table: &Stage2, image: &Image) -> [u8; 32]
+    requires lawful { IsLawfulImage image.now }
+    requires here { IsImageHere parts.now (finite.get table.now.mapped) image.now }
+    ensures { result ≡ sha256 (bytes_of_image parts.now (finite.get table.now.mapped) image.now) }
+{
+    let mut measure = Measure::new();
+    let mut left = image.len;
+    for gfn in image.base..image.base + pages_of(image.len) {
+        let used = left.min(PAGE_SIZE);
+        measure.page(&page_under(parts, table, gfn).bytes, used as usize);
+        left -= used;
+    }
+    measure.finish()
+}
+
+/// Whether the digest of an image's bytes is approved.
+fn is_approved_image(parts: &Parts, config: &Config, vm: VmId, image: &Image) -> bool
+    requires low { vm < slot_count config.now }
+    requires linked { IsLinked config.now parts.now }
+    requires lawful { IsLawfulImage image.now }
+    requires here { IsImageHere parts.now (mapped_in (vm_at parts.now vm)) image.now }
+    ensures { result ≡ is_approved (state_of config.now parts.now) vm image.now }
+{
+    let slot = parts.slot(vm);
+    let digest = digest_of(parts, slot.table(), image);
+    Approved::new(config.approved()).is_approved(&digest)
+}
+
+/// Whether these are four images of one length.
+fn are_four_alike(images: &[Image]) -> bool
+    ensures { IsTrue result ↔ AreFourAlike images.now }
+{
+    images.len() == 4 && images.iter().all(|image| image.len == images[0].len)
+}
+
+/// The number of the first digest that is not approved.
+fn first_unapproved_digest(config: &Config, digests: &[[u8; 32]; 4]) -> Option<u32>
+    ensures { result ≡ first_failing (is_approved_digest config.now) digests.now }
+{
+    let approved = Approved::new(config.approved());
+    for i in 0..digests.len() {
+        if !approved.is_approved(&digests[i]) {
+            return Some(i as u32);
+        }
+    }
+    None
+}
+
+/// The number of a slot's first image that is not approved.
+fn first_unapproved(parts: &Parts, config: &Config, vm: VmId) -> Option<u32>
+    requires low { vm < slot_count config.now }
+    requires linked { IsLinked config.now parts.now }
+    requires slot { is_some (vm_at parts.now vm) ≡ true }
+    requires here { All (IsImageHere parts.now (mapped_in (vm_at parts.now vm))) (slot_at (state_of config.now parts.now) vm).images }
+    ensures { result ≡ first_failing (is_approved (state_of config.now parts.now) vm) (slot_at (state_of config.now parts.now) vm).images }
+{
+    let slot = parts.slot(vm);
+    let images = slot.images();
+    if are_four_alike(images) {
+        return first_unapproved_digest(config, &digests_of_four(parts, slot.table(), images));
+    }
+    for i in 0..images.len() {
+        if !is_approved_image(parts, config, vm, &images[i]) {
+            return Some(i as u32);
+        }
+    }
+    None
+}
+
+/// Zeroes the bytes past an image's end in its last page.
+fn trim_image(parts: &mut Parts, config: &Config, vm: VmId, image: &Image)
+    requires low { vm < slot_count config.now }
+    requires linked { IsLinked config.now parts.old }
+    requires lawful { IsLawfulImage image.now }
+    requires here { IsImageHere parts.old (mapped_in (vm_at parts.old vm)) image.now }
+    ensures state { state_of config.now parts.new ≡ trimmed (state_of config.now parts.old) vm image.now }
+    ensures linked { IsLinked config.now parts.new }
+    ensures places { KeepsPlaces parts.old parts.new }
+    ensures slots { parts.new.vms ≡ parts.old.vms }
+{
+    let slot = parts.slot(vm);
+    let frame = frame_under(slot.table(), image.base + (pages_of(image.len) - 1));
+    let page = parts.page_mut(frame);
+    let used = (image.len - 1) % PAGE_SIZE + 1;
+    page.bytes.zero_from(used as usize);
+}
+
+/// Zeroes the bytes past the end of each of a slot's images.
+fn trim_images(parts: &mut Parts, config: &Config, vm: VmId)
+    requires low { vm < slot_count config.now }
+    requires linked { IsLinked config.now parts.old }
+    requires slot { is_some (vm_at parts.old vm) ≡ true }
+    requires here { All (IsImageHere parts.old (mapped_in (vm_at parts.old vm))) (slot_at (state_of config.now parts.old) vm).images }
+    ensures state { state_of config.now parts.new ≡ all_trimmed (state_of config.now parts.old) vm (slot_at (state_of config.now parts.old) vm).images }
+    ensures linked { IsLinked config.now parts.new }
+    ensures places { KeepsPlaces parts.old parts.new }
+    ensures slots { parts.new.vms ≡ parts.old.vms }
+{
+    let count = parts.slot(vm).images().len();
+    for i in 0..count {
+        let image = parts.slot(vm).images()[i];
+        trim_image(parts, config, vm, &image);
+    }
+}
+
+/// Whether the image lacks a page.
+fn is_short(image: &Image) -> bool
+    ensures { result ≡ is_short image.now }
+{
+    image.pages < pages_of(image.len)
+}
+
+/// Whether one of the images lacks a page.
+fn any_is_short(images: &[Image]) -> bool
+    ensures { result ≡ list_any is_short images.now }
+{
+    images.iter().any(|image| is_short(image))
+}
+
+/// Whether a slot has no image, or one that lacks a page.
+fn lacks_pages(slot: &Vm) -> bool
+    ensures { result ≡ (length slot.now.slot.images == 0 || list_any is_short slot.now.slot.images) }
+{
+    let images = slot.images();
+    images.is_empty() || any_is_short(images)
+}
+
+/// The slot of this number, which is booting and has all pages of its images. A slot that is not here counts as
+/// empty.
+fn booted_slot(parts: &Parts, config: &Config, vm: u32) -> Result<VmId, Refusal>
+    ensures answer { Answers result (refusal (state_of config.now parts.now) (Verify vm)) }
+    ensures slot { IfOk result (λ slot. slot ≡ vm) }
+{
+    let Some(vm) = config.vm(vm) else {
+        return Err(Refusal::BadVm);
+    };
+    let Some(slot) = parts.vm(vm) else {
+        return Err(Refusal::NoVm);
+    };
+    match slot.phase() {
+        Phase::Empty => Err(Refusal::NoVm),
+        Phase::Booting => if lacks_pages(slot) {
+            Err(Refusal::ImageShort)
+        } else {
+            Ok(vm)
+        },
+        Phase::Active | Phase::Dead => Err(Refusal::WrongPhase),
+    }
+}
+
+/// Measures the images of a slot, which is booting and has all their pages: it becomes active if all are approved,
+/// and dead if one is not. It stands apart from its judge, since what it needs of the slot is all of it: that no
+/// condition holds, and no one value that the judge could hand over.
+fn measure_slot(parts: &mut Parts, config: &Config, vm: VmId) -> Reply
+    requires served { refusal (state_of config.now parts.old) (Verify vm) ≡ None }
+    requires able { IsAble config.now parts.old (Verify vm) }
+    ensures reply { result ≡ (effect (state_of config.now parts.old) (Verify vm)).0 }
+    ensures state { state_of config.now parts.new ≡ (effect (state_of config.now parts.old) (Verify vm)).1 }
+    ensures linked { IsLinked config.now parts.new }
+    ensures places { KeepsPlaces parts.old parts.new }
+{
+    if let Some(image) = first_unapproved(parts, config, vm) {
+        parts.slot_mut(vm).kill();
+        return Reply::Rejected(image);
+    }
+    trim_images(parts, config, vm);
+    parts.slot_mut(vm).activate();
+    Reply::Done
+}
+
+/// The slot becomes active if all its images are approved, and dead if one is not.
+pub fn verify(parts: &mut Parts, config: &Config, vm: u32) -> Reply
+    requires { IsAble config.now parts.old (Verify vm) }
+    ensures { IsAnswer config.now parts.old parts.new (Verify vm) result }
+{
+    match booted_slot(parts, config, vm) {
+        Ok(vm) => measure_slot(parts, config, vm),
+        Err(refusal) => Reply::Refused(refusal),
+    }
+}

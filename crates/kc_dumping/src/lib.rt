@@ -1,6 +1,0 @@
-//! How a core is dumped.
-#![tactic(auto)]
-
-mod making;
-
-pub use making::dump;

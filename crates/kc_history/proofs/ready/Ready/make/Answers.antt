@@ -1,5 +1,0 @@
-use Rattle.kc_history.proofs.Logs.{buffer_fits}
-use Rattle.kc_history.proofs.ready.Ready.make.Goals as goal
-
-pub share-reply-requires : goal.share-reply-requires
-share-reply-requires c = buffer_fits _ _ _ _ c.answer-reply.ensures.reply c.self.invariant.copy_fits

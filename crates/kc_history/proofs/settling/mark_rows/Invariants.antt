@@ -1,8 +1,0 @@
-use Rattle.std.proofs.Common.{drop, map}
-use Rattle.std.specs.Prelude.{◌↔◌}
-use Rattle.kc_history.specs.Settling.{RowsFit}
-use Rattle.kc_history.proofs.settling.mark_rows.Given as goal
-
-abbrev pub invariant-loop-row : goal.invariant-loop-row
-invariant-loop-row l =
-    RowsFit l.entries l.initial.seen (map (λ v. v.items) l.rows) ↔ RowsFit l.entries l.seen (map (λ v. v.items) (drop l.row-index l.rows))

@@ -1,0 +1,51 @@
+//! The core under its one lock.
+ghost use Rattle.std.specs.Prelude.{◌≡◌, ◌≢◌, ◌↔◌, Err, OnOk, OnErr};
+ghost use Rattle.kc_types.specs.Actors.{actor as actor_made};
+ghost use Rattle.kc_live.specs.Book.{IsLegal};
+ghost use Rattle.kc_live.specs.Seat.{GainsReceipt};
+
+use crate::book::{Book, History};
+use crate::fault::LiveFault;
+use crate::seat::Seat;
+use kc_types::{Call, Config, Memory};
+use std::alloc::Global;
+use std::sync::{Mutex, Wait};
+
+/// The core and its history under one lock, which many threads share. Whenever the lock is free the history is one
+/// that a single thread could have made, and the core stands at its end.
+#[derive(Drop)]
+pub struct LiveCore {
+    alloc: Global,
+    book: Mutex<Book>,
+}
+
+impl LiveCore {
+    /// The core in the boot state of its configuration, and no calls; `Memory` where a growth was refused.
+    // No clause can name what is under the lock: tests call, close and settle.
+    pub fn new(alloc: Global, config: Config) -> Result<LiveCore, Memory> {
+        Ok(LiveCore {
+            alloc,
+            book: Mutex::new(Book::new(alloc, config)?),
+        })
+    }
+
+    /// Makes one call from a seat, which gains its receipt; it may wait for the lock, before which all is made that
+    /// the call takes of memory. The first fault that applies is answered: `NotYours`, `Memory`, `HistoryFull`.
+    /// Seat and history are then unchanged.
+    pub fn call<R: Wait>(&self, rt: &R, seat: &mut Seat, call: Call) -> Result<(), LiveFault>
+        ensures gains { OnOk result (GainsReceipt seat.old seat.new call) }
+        ensures yours { (result ≡ Err LiveFault.NotYours) ↔ (actor_made call ≢ seat.old.actor) }
+        ensures err { OnErr result (seat.new ≡ seat.old) }
+    {
+        seat.make(rt, self.alloc, &self.book, call)
+    }
+
+    /// Ends the history and hands it out. It waits for nobody.
+    // A fresh history is legal too: tests settle what is handed out.
+    pub fn close(self) -> History
+        ensures { IsLegal result }
+    {
+        let LiveCore { alloc: _, book } = self;
+        book.into_inner().close()
+    }
+}

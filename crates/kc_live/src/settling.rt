@@ -1,0 +1,128 @@
+//! Whether the receipts of all callers are the history's, each once.
+ghost use Rattle.std.specs.Prelude.{◌≡◌, ◌↔◌, ◌≤◌, length, map, IsTrue, IfOk};
+ghost use Rattle.std.specs.Bool.{OnTrue};
+ghost use Rattle.kc_live.specs.Book.{entry as entry_of};
+ghost use Rattle.kc_live.specs.Settling.{MayComeNext, RowFits, RowsFit, IsSettled, marked};
+
+use crate::book::History;
+use crate::receipt::{Entry, Receipt};
+use kc_types::{Call, Memory, Reply};
+use std::alloc::Global;
+use std::marker::Model;
+
+fn is_same_call(call: &Call, other: &Call) -> bool
+    ensures { IsTrue result ↔ (call.now ≡ other.now) }
+{
+    call == other
+}
+
+fn is_same_reply(reply: &Reply, other: &Reply) -> bool
+    ensures { IsTrue result ↔ (reply.now ≡ other.now) }
+{
+    reply == other
+}
+
+/// Whether the receipt says what the entry says.
+fn is_of(entry: &Entry, receipt: &Receipt) -> bool
+    ensures { IsTrue result ↔ (entry.now ≡ entry_of receipt.now.call receipt.now.reply) }
+{
+    is_same_call(&entry.call, &receipt.call) && is_same_reply(&entry.reply, &receipt.reply)
+}
+
+/// Whether the receipt may come next in its row: its number is not below `least`, no receipt had it before, and it
+/// says what the entry says.
+fn is_next(entries: &[Entry], seen: &[bool], least: u64, receipt: &Receipt) -> bool
+    requires { length seen.now ≡ length entries.now }
+    ensures { IsTrue result ↔ MayComeNext entries.now seen.now least receipt.now }
+{
+    let number = receipt.number as usize;
+    let Some(entry) = entries.get(number) else {
+        return false;
+    };
+    if seen[number] {
+        return false;
+    }
+    if u64::from(receipt.number) < least {
+        return false;
+    }
+    is_of(entry, receipt)
+}
+
+/// Whether the receipts of a row may come next, in order; it marks them.
+fn mark_row(entries: &[Entry], seen: &mut [bool], row: &[Receipt]) -> bool
+    requires { length seen.old ≡ length entries.now }
+    ensures fits { IsTrue result ↔ RowFits entries.now seen.old 0 row.now }
+    ensures seen { OnTrue result (seen.new ≡ marked seen.old row.now) }
+{
+    let mut least = 0;
+    for receipt in row {
+        if !is_next(entries, seen, least, receipt) {
+            return false;
+        }
+        seen[receipt.number as usize] = true;
+        least = u64::from(receipt.number) + 1;
+    }
+    true
+}
+
+/// Whether all rows may come next, and leave no entry unmarked.
+fn mark_rows(entries: &[Entry], seen: &mut [bool], rows: &[Vec<Receipt>]) -> bool
+    requires { length seen.old ≡ length entries.now }
+    ensures { IsTrue result ↔ RowsFit entries.now seen.old (map (λ v. v.items) rows.now) }
+{
+    for row in rows {
+        if !mark_row(entries, seen, row.as_slice()) {
+            return false;
+        }
+    }
+    seen.iter().all(|is_seen| *is_seen)
+}
+
+/// Room in which a history is settled, made before the history is there. Seen as how many calls it has room for.
+#[derive(Debug, Drop)]
+pub struct Marks {
+    seen: Vec<bool>,
+}
+
+impl Model for Marks {
+    ghost use Rattle.std.specs.Prelude.{◌≡◌, ℕ, replicate, false, vec_len};
+
+    ghost Value = { ℕ };
+
+    ghost view = { λ m. vec_len m.seen };
+
+    ghost invariant = { λ m. m.seen.items ≡ replicate (vec_len m.seen) false };
+}
+
+impl Marks {
+    /// Room for a history of this many calls; `Memory` where a growth was refused.
+    pub fn with_room(alloc: Global, calls: usize) -> Result<Marks, Memory>
+        // No clause can rule out want of memory: tests settle.
+        ensures { IfOk result (λ marks. marks ≡ calls) }
+    {
+        let mut seen = Vec::new(alloc);
+        seen.resize(calls, false)?;
+        Ok(Marks { seen })
+    }
+
+    /// Whether the receipts are just those of a history's entries: each entry's number stands in exactly one receipt
+    /// and no other number does, each receipt says what its entry says, and numbers rise in each row. It takes no
+    /// memory.
+    pub fn settle(self, entries: &[Entry], rows: &[Vec<Receipt>]) -> bool
+        requires { length entries.now ≤ self }
+        ensures { IsTrue result ↔ IsSettled entries.now (map (λ v. v.items) rows.now) }
+    {
+        let Marks { mut seen } = self;
+        mark_rows(entries, &mut seen[..entries.len()], rows)
+    }
+}
+
+/// The same as `Marks::settle`, in room made for it; `Memory` where a growth was refused.
+pub fn settle(alloc: Global, history: &History, rows: &[Vec<Receipt>]) -> Result<bool, Memory>
+    // No clause can rule out want of memory: tests settle.
+    ensures { IfOk result (λ yes. IsTrue yes ↔ IsSettled history.now.entries (map (λ v. v.items) rows.now)) }
+{
+    let entries = history.entries();
+    let marks = Marks::with_room(alloc, entries.len())?;
+    Ok(marks.settle(entries, rows))
+}

@@ -1,0 +1,26 @@
+//! Why a whole live run gave no answer.
+use crate::book::History;
+
+/// Why a live run gave no answer. Programs, and the calls of a program, are counted from 0.
+#[derive(Clone, Copy, Debug, PartialEq, Eq)]
+pub enum LiveCause {
+    /// The program, and its first call whose actor is not the program's.
+    NotYours(usize, usize),
+    /// There are more than 65,536 calls in all.
+    HistoryFull,
+    /// A growth of memory was refused.
+    Memory,
+    /// A thread could not be started.
+    Start,
+    /// The receipts are not those of the history, or the history is of another configuration.
+    Unsettled,
+    /// The first program whose actor an earlier program has, or is no slot or no virtual processor of the core.
+    BadActor(usize),
+}
+
+/// A live run that gave no answer, and the closed history that it left: none where it did not begin.
+#[derive(Drop)]
+pub struct LiveStop {
+    pub cause: LiveCause,
+    pub history: Option<History>,
+}

@@ -1,5 +1,0 @@
-use Rattle.kc_plan.proofs.Owning.{IsOwnedBelow}
-use Rattle.kc_plan.proofs.owned.owned_frames.Given as goal
-
-abbrev pub invariant-loop-frame : goal.invariant-loop-frame
-invariant-loop-frame l = IsOwnedBelow l.core l.frame l.pairs.items

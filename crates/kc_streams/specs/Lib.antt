@@ -1,2 +1,0 @@
-pub mod Streamed
-pub mod Lines

@@ -1,0 +1,178 @@
+-- A stream that is fed in pieces.
+use Rattle.std.proofs.Common.{◌≡◌, ◌≤◌, ◌<◌, ◌+◌, ℕ, Bool, true, false, List, [], ◌∷◌, ◌++◌, length, Option, Some, None, Result, Ok, Err, refl, ap, ◌∙◌, append_assoc, arith, inr, length-append}
+use Rattle.std.specs.Prelude.{MatchOption, IfSome, IfOk, OnOk, ◌==◌, nat_le, if◌then◌else◌}
+use Rattle.std.proofs.lemmas.Bool.{leb-false}
+use Rattle.std.proofs.lemmas.List.{append-nil, nil_from_length}
+use Rattle.std.proofs.KnownBytes.{Consumes-nil, Consumes-trans}
+use Rattle.std.specs.Io.KnownBytes.{Consumes, IsAtEnd}
+use Rattle.kc_types.specs.Limits.{call_limit}
+use Rattle.kc_types.specs.declared.version.Version.{Version}
+use Rattle.kc_types.specs.declared.call.Call.{Call}
+use Rattle.kc_texts.specs.Ends.{ReadFailed, byte_limit}
+use Rattle.kc_trace.specs.declared.fault.TraceFault.{TraceFault}
+use Rattle.kc_trace.specs.declared.fault.TraceFault.TheVariants.{NoHeader, BadLine, NoNewline, TooManyCalls, Memory}
+use Rattle.kc_trace.specs.Trace.{IsTrace, IsRefused}
+use Rattle.kc_trace.specs.Machine.{◌>>=◌, Progress, Fails, start, with_byte, told, call_in, after_line, after_header_byte, after_byte, step, feed, fed, fed_after, ended, reading}
+use Rattle.kc_trace.proofs.Traces.{feed-append, and_then_feed, added, Reads, reading_reads}
+use Rattle.kc_texts.specs.Streamed.{Streamed, answer, HasRead, GoesOn}
+
+fed_ok : (fault : Option TraceFault) (p q : Progress) (bytes piece : List ℕ) (calls more : List Call) → feed start bytes ≡ answer fault p calls → fed_after fault p piece ≡ Ok (q, more) → feed start (bytes ++ piece) ≡ Ok (q, calls ++ more)
+fed_ok None p q bytes piece calls more h e =
+    feed-append bytes piece start ∙ ap (and_then_feed piece) h ∙ ap (λ (read : Result (Progress × List Call) TraceFault). read >>= added calls) e
+fed_ok (Some f) p q bytes piece calls more h e = absurd cc
+
+fed_err : (fault : Option TraceFault) (p : Progress) (bytes piece : List ℕ) (calls : List Call) (f : TraceFault) → feed start bytes ≡ answer fault p calls → fed_after fault p piece ≡ Err f → feed start (bytes ++ piece) ≡ Err f
+fed_err None p bytes piece calls f h e =
+    feed-append bytes piece start ∙ ap (and_then_feed piece) h ∙ ap (λ (read : Result (Progress × List Call) TraceFault). read >>= added calls) e
+fed_err (Some g) p bytes piece calls f h e = feed-append bytes piece start ∙ ap (and_then_feed piece) h ∙ e
+
+fails_is : (e : TraceFault) (read : Result (Progress × List Call) TraceFault) → (e ≡ Memory → ⊥) → Fails e read → read ≡ Err e
+fails_is NoHeader read other h = h
+fails_is (BadLine n) read other h = h
+fails_is NoNewline read other h = h
+fails_is TooManyCalls read other h = h
+fails_is Memory read other h = absurd (other refl)
+
+feed_nothing : (p : Progress) → feed p [] ≡ Ok (p, [])
+unfolding feed
+feed_nothing p = refl
+
+-- ---- how many calls came
+
+-- behind so many bytes the calls are counted, and there are not too many of them
+abbrev Counts : Progress → Progress × List Call → Type 0
+Counts p read = (read.0.calls ≡ p.calls + length read.1) × (read.0.calls ≤ call_limit)
+
+line_counts : (p : Progress) (found : Option Call) → p.calls < call_limit → IfOk (after_line p found) (Counts p)
+line_counts p None lt = tt
+line_counts p (Some call) lt = (refl, omega (arith, lt))
+
+text_counts : (p : Progress) (byte : ℕ) (full newline : Bool) → nat_le call_limit p.calls ≡ full → p.calls ≤ call_limit
+    → IfOk (if full then Err TooManyCalls else if newline then after_line p (call_in p.version p.line) else Ok (record p { line = with_byte p.line byte }, [])) (Counts p)
+text_counts p byte true newline f le = tt
+text_counts p byte false true f le = line_counts p (call_in p.version p.line) (leb-false call_limit p.calls f)
+text_counts p byte false false f le = (omega arith, le)
+
+header_counts : (left : List ℕ) (p : Progress) (version : Option Version) → p.calls ≤ call_limit → IfOk (after_header_byte left p version) (Counts p)
+header_counts left p None le = tt
+header_counts left p (Some version) le = (omega arith, le)
+
+byte_counts : (left : List ℕ) (p : Progress) (byte : ℕ) → p.calls ≤ call_limit → IfOk (after_byte left p byte) (Counts p)
+byte_counts [] p byte le = text_counts p byte (nat_le call_limit p.calls) (byte == 10) refl le
+byte_counts (next ∷ left) p byte le = header_counts left p (told next byte p.version) le
+
+rest_counts : (p p1 : Progress) (new : List Call) (rest : Result (Progress × List Call) TraceFault) → Counts p (p1, new) → IfOk rest (Counts p1) → IfOk (rest >>= λ others. Ok (others.0, new ++ others.1)) (Counts p)
+rest_counts p p1 new (Err f) one more = tt
+rest_counts p p1 new (Ok (p2, calls)) one more = (omega (arith, one.0, more.0, length-append new calls), more.1)
+
+first_counts : (p : Progress) (bytes : List ℕ) (first : Result (Progress × List Call) TraceFault) → IfOk first (Counts p) → ((p1 : Progress) → p1.calls ≤ call_limit → IfOk (feed p1 bytes) (Counts p1))
+    → IfOk (first >>= λ one. feed one.0 bytes >>= λ others. Ok (others.0, one.1 ++ others.1)) (Counts p)
+first_counts p bytes (Err f) one more = tt
+first_counts p bytes (Ok (p1, new)) one more = rest_counts p p1 new (feed p1 bytes) one (more p1 one.1)
+
+feed_counts : (bytes : List ℕ) (p : Progress) → p.calls ≤ call_limit → IfOk (feed p bytes) (Counts p)
+unfolding feed step
+feed_counts [] p le = (omega arith, le)
+feed_counts (byte ∷ bytes) p le = first_counts p bytes (step p byte) (byte_counts p.header_left p byte le) (λ p1 le1. feed_counts bytes p1 le1)
+
+-- ---- one more piece
+
+has_read_ok : (stream after : Streamed) (bytes piece : List ℕ) (calls more : List Call) (n : ℕ) (first mid now : Option (List ℕ)) → HasRead stream bytes calls first mid → Consumes mid now piece → fed stream.reader piece ≡ Ok (after.reader.progress, more) → after.reader.fault ≡ None → length piece ≡ n → after.total ≡ stream.total + n
+    → HasRead after (bytes ++ piece) (calls ++ more) first now
+has_read_ok stream after bytes piece calls more n first mid now h more_read told none len total =
+    let so_far = fed_ok stream.reader.fault stream.reader.progress after.reader.progress bytes piece calls more h.so_far told in
+    let counted : Counts start (after.reader.progress, calls ++ more) = rw so_far at (feed_counts (bytes ++ piece) start (omega arith)) in
+    record {
+      so_far = rw none so_far;
+      consumed = Consumes-trans first mid now bytes piece h.consumed more_read;
+      many = omega (arith, length-append bytes piece, h.many, len, total);
+      few = omega (arith, counted.0, counted.1);
+    }
+
+has_read_err : (stream after : Streamed) (bytes piece : List ℕ) (calls : List Call) (f : TraceFault) (n : ℕ) (first mid now : Option (List ℕ)) → HasRead stream bytes calls first mid → Consumes mid now piece → Fails f (fed stream.reader piece) → (f ≡ Memory → ⊥) → after.reader.fault ≡ Some f → length piece ≡ n → after.total ≡ stream.total + n
+    → HasRead after (bytes ++ piece) calls first now
+has_read_err stream after bytes piece calls f n first mid now h more_read told other some len total = record {
+  so_far = rw some (fed_err stream.reader.fault stream.reader.progress bytes piece calls f h.so_far (fails_is f (fed stream.reader piece) other told));
+  consumed = Consumes-trans first mid now bytes piece h.consumed more_read;
+  many = omega (arith, length-append bytes piece, h.many, len, total);
+  few = h.few;
+}
+
+-- ---- going on
+
+pub stays : (stream : Streamed) (left : Option (List ℕ)) → GoesOn stream stream left left []
+stays stream left bytes calls first h = ([], rw (append-nil bytes, append-nil calls) h)
+
+pub goes_on_ok : (before stream after : Streamed) (piece : List ℕ) (given more all : List Call) (n : ℕ) (left mid now : Option (List ℕ)) → GoesOn before stream left mid given → Consumes mid now piece → fed stream.reader piece ≡ Ok (after.reader.progress, more) → after.reader.fault ≡ None → length piece ≡ n → after.total ≡ stream.total + n → all ≡ given ++ more
+    → GoesOn before after left now all
+goes_on_ok before stream after piece given more all n left mid now on more_read told none len total grown bytes calls first h =
+    let earlier = on bytes calls first h in
+    (earlier.0 ++ piece, rw (grown, ← append_assoc bytes earlier.0 piece, ← append_assoc calls given more) (has_read_ok stream after (bytes ++ earlier.0) piece (calls ++ given) more n first mid now earlier.1 more_read told none len total))
+
+pub goes_on_err : (before stream after : Streamed) (piece : List ℕ) (given : List Call) (f : TraceFault) (n : ℕ) (left mid now : Option (List ℕ)) → GoesOn before stream left mid given → Consumes mid now piece → Fails f (fed stream.reader piece) → (f ≡ Memory → ⊥) → after.reader.fault ≡ Some f → length piece ≡ n → after.total ≡ stream.total + n
+    → GoesOn before after left now given
+goes_on_err before stream after piece given f n left mid now on more_read told other some len total bytes calls first h =
+    let earlier = on bytes calls first h in
+    (earlier.0 ++ piece, rw (← append_assoc bytes earlier.0 piece) (has_read_err stream after (bytes ++ earlier.0) piece (calls ++ given) f n first mid now earlier.1 more_read told other some len total))
+
+-- the last read moved no bytes
+pub goes_on_nothing : (before after : Streamed) (piece : List ℕ) (given : List Call) (left mid now : Option (List ℕ)) → GoesOn before after left mid given → Consumes mid now piece → length piece ≡ 0 → GoesOn before after left now given
+goes_on_nothing before after piece given left mid now on more_read none bytes calls first h =
+    let earlier = on bytes calls first h in
+    let empty : piece ≡ [] = nil_from_length piece none in
+    let again : Consumes first now ((bytes ++ earlier.0) ++ []) = rw empty at (Consumes-trans first mid now (bytes ++ earlier.0) piece earlier.1.consumed more_read) in
+    (earlier.0, record { so_far = earlier.1.so_far; consumed = rw (append-nil (bytes ++ earlier.0)) at again; many = earlier.1.many; few = earlier.1.few })
+
+-- too many bytes came
+pub too_many : (before stream : Streamed) (piece : List ℕ) (given : List Call) (n : ℕ) (failed : Bool) (left mid now : Option (List ℕ)) → GoesOn before stream left mid given → Consumes mid now piece → length piece ≡ n → byte_limit < stream.total + n
+    → (bytes : List ℕ) (calls : List Call) (first : Option (List ℕ)) → HasRead before bytes calls first left → ReadFailed failed first now
+too_many before stream piece given n failed left mid now on more_read len past bytes calls first h =
+    let earlier = on bytes calls first h in
+    inr ((bytes ++ earlier.0) ++ piece, Consumes-trans first mid now (bytes ++ earlier.0) piece earlier.1.consumed more_read, omega (arith, length-append (bytes ++ earlier.0) piece, earlier.1.many, len))
+
+-- ---- at the end
+
+all_read : (first now : Option (List ℕ)) (bytes : List ℕ) → Consumes first now bytes → IsAtEnd now → IfSome first (λ text. text ≡ bytes)
+all_read None now bytes p end = tt
+all_read (Some a) None bytes p end = absurd p
+all_read (Some a) (Some b) bytes p end = p ∙ ap (λ (t : List ℕ). bytes ++ t) end ∙ append-nil bytes
+
+reading_of : (text : List ℕ) (fault : Option TraceFault) (p : Progress) (calls : List Call) (r : Result (Unit {0}) TraceFault) → feed start text ≡ answer fault p calls → MatchOption fault (r ≡ ended p.header_left p.line) (λ f. r ≡ Err f) → reading text ≡ (r >>= λ e. Ok calls)
+unfolding reading
+reading_of text None p calls r h e = rw (h, e) refl
+reading_of text (Some f) p calls r h e = rw (h, e) refl
+
+-- the whole text is read
+finished : (stream : Streamed) (bytes : List ℕ) (calls : List Call) (first now : Option (List ℕ)) (result : Result (Unit {0}) TraceFault) → HasRead stream bytes calls first now → IsAtEnd now
+    → MatchOption stream.reader.fault (result ≡ ended stream.reader.progress.header_left stream.reader.progress.line) (λ f. result ≡ Err f) → IfSome first (λ text. reading text ≡ (result >>= λ e. Ok calls))
+finished stream bytes calls None now result h end e = tt
+finished stream bytes calls (Some text) now result h end e =
+    let same : text ≡ bytes = all_read (Some text) now bytes h.consumed end in
+    rw same (reading_of bytes stream.reader.fault stream.reader.progress calls result h.so_far e)
+
+-- what was read is the trace, or why there is none
+read_is_trace : (known : Option (List ℕ)) (calls : List Call) → IfSome known (λ text. reading text ≡ Ok calls) → IfSome known (λ text. IsTrace text calls)
+read_is_trace None calls h = tt
+read_is_trace (Some text) calls h = let e : Reads text (Ok calls) = rw h at (reading_reads text) in e
+
+read_is_refused : (known : Option (List ℕ)) (fault : TraceFault) → IfSome known (λ text. reading text ≡ Err fault) → IfSome known (λ text. IsRefused text fault)
+read_is_refused None fault h = tt
+read_is_refused (Some text) fault h = let e : Reads text (Err fault) = rw h at (reading_reads text) in e
+
+pub ends_a_trace : (stream : Streamed) (result : Result (Unit {0}) TraceFault) → MatchOption stream.reader.fault (result ≡ ended stream.reader.progress.header_left stream.reader.progress.line) (λ f. result ≡ Err f)
+    → OnOk result ((bytes : List ℕ) (calls : List Call) (first now : Option (List ℕ)) → HasRead stream bytes calls first now → IsAtEnd now → IfSome first (λ text. IsTrace text calls))
+ends_a_trace stream (Ok u) e = λ bytes calls first now h end. read_is_trace first calls (finished stream bytes calls first now (Ok u) h end e)
+ends_a_trace stream (Err f) e = tt
+
+pub ends_refused : (stream : Streamed) (result : Result (Unit {0}) TraceFault) (fault : TraceFault) → MatchOption stream.reader.fault (result ≡ ended stream.reader.progress.header_left stream.reader.progress.line) (λ f. result ≡ Err f) → result ≡ Err fault
+    → (bytes : List ℕ) (calls : List Call) (first now : Option (List ℕ)) → HasRead stream bytes calls first now → IsAtEnd now → IfSome first (λ text. IsRefused text fault)
+ends_refused stream result fault e is bytes calls first now h end = read_is_refused first fault (rw is at (finished stream bytes calls first now result h end e))
+
+pub in_front : (stream : Streamed) (first : Option (List ℕ)) → stream.reader ≡ record { progress = start; fault = None } → stream.total ≡ 0 → HasRead stream [] [] first first
+in_front stream first reader none = record { so_far = rw reader (feed_nothing start); consumed = Consumes-nil first; many = omega (arith, none); few = omega arith }
+
+pub few_bytes : (stream : Streamed) (bytes : List ℕ) (calls : List Call) (first now : Option (List ℕ)) → HasRead stream bytes calls first now → IsAtEnd now → stream.total ≤ byte_limit → IfSome first (λ text. length text ≤ byte_limit)
+few_bytes stream bytes calls None now h end few = tt
+few_bytes stream bytes calls (Some text) now h end few =
+    let same : text ≡ bytes = all_read (Some text) now bytes h.consumed end in
+    rw same (omega (arith, h.many, few))

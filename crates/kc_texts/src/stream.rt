@@ -1,0 +1,203 @@
+//! A trace, read from a source in pieces.
+ghost use Rattle.std.specs.Prelude.{◌≡◌, ◌≢◌, ◌<◌, ◌≤◌, ◌++◌, ℕ, [], List, length, Option, IfOk, OnOk, IfSome, Err, true, false};
+ghost use Rattle.std.specs.Io.KnownBytes.{IsAtEnd};
+ghost use Rattle.kc_types.specs.Limits.{call_limit};
+ghost use Rattle.kc_types.specs.declared.call.Call.{Call};
+ghost use Rattle.kc_trace.specs.declared.fault.TraceFault.{TraceFault};
+ghost use Rattle.kc_trace.specs.Trace.{IsTrace, IsRefused};
+ghost use Rattle.kc_texts.specs.Ends.{ReadFailed, byte_limit};
+ghost use Rattle.kc_texts.specs.Streamed.{HasRead, GoesOn};
+
+use crate::piece::PIECE;
+use crate::source::{Failed, Source};
+use crate::whole::{MOST_BYTES, ReadFault};
+use kc_trace::{TraceFault, TraceReader};
+use kc_types::Call;
+use std::alloc::{AllocError, Global};
+use std::marker::Model;
+use thiserror::Error;
+
+/// Why the calls of a source are not all read.
+#[derive(Clone, Copy, Debug, PartialEq, Eq, Error)]
+pub enum StreamFault {
+    /// The bytes are no trace.
+    #[error("{0}")]
+    Trace(TraceFault),
+    /// A growth of memory was refused.
+    #[error("out of memory")]
+    Memory,
+    /// A read failed, or there are more than 1,073,741,824 bytes.
+    #[error("read failed")]
+    Read,
+}
+
+impl From<ReadFault> for StreamFault {
+    ghost use Rattle.std.specs.Prelude.{◌≡◌};
+    ghost use Rattle.kc_texts.specs.Streamed.{stream_fault};
+
+    ghost from_gives = { λ fault made. made ≡ stream_fault fault };
+
+    fn from(fault: ReadFault) -> StreamFault {
+        match fault {
+            ReadFault::Memory => StreamFault::Memory,
+            ReadFault::Read => StreamFault::Read,
+        }
+    }
+}
+
+/// So many calls are worth going on with, before more are read.
+const CALLS_AT_ONCE: usize = 4_096;
+
+/// So many bytes of text are, too: calls with whole pages let go of their memory before it has to grow.
+const TEXT_AT_ONCE: usize = 2 * PIECE;
+
+/// The calls with more behind them; where there were none, those that come as they lie.
+fn joined(mut calls: Vec<Call>, mut more: Vec<Call>) -> Result<Vec<Call>, AllocError>
+    ensures { IfOk result (λ all. all.items ≡ calls.items ++ more.items) }
+{
+    if calls.is_empty() {
+        return Ok(more);
+    }
+    calls.append(&mut more)?;
+    Ok(calls)
+}
+
+/// The next calls of a trace.
+#[derive(Drop)]
+pub struct Part {
+    pub calls: Vec<Call>,
+    /// Whether the source has no more bytes.
+    pub is_last: bool,
+}
+
+/// A trace that is read from a source a part at a time. No more of the text is kept than one piece and the line begun.
+#[derive(Drop)]
+pub struct CallStream {
+    reader: TraceReader,
+    total: usize,
+}
+
+impl Model for CallStream {
+    ghost use Rattle.std.specs.Prelude.{◌≤◌};
+    ghost use Rattle.kc_texts.specs.Ends.{byte_limit};
+    ghost use Rattle.kc_texts.specs.Streamed.{Streamed};
+
+    ghost Value = { Streamed };
+
+    ghost view = { λ s. record { reader = s.reader; total = s.total } };
+
+    ghost invariant = { λ s. s.total ≤ byte_limit };
+}
+
+impl CallStream {
+    /// In front of the header.
+    pub fn new() -> CallStream
+        ensures { (first : Option (List ℕ)) → HasRead result [] [] first first }
+    {
+        CallStream {
+            reader: TraceReader::new(),
+            total: 0,
+        }
+    }
+
+    /// Reads on in the source until at least 4,096 calls or 131,072 bytes came or it has no more bytes. After a fault of
+    /// the trace, which `finish` tells, the rest of the source is only read to its end. What the buffer holds is written
+    /// over.
+    pub fn next<T: Source>(
+        &mut self,
+        alloc: Global,
+        source: &mut T,
+        buffer: &mut [u8; PIECE],
+    ) -> Result<Part, ReadFault>
+        requires { T.failed source.old ≡ false }
+        ensures calls { IfOk result (λ part. GoesOn self.old self.new (T.left source.old) (T.left source.new) part.calls.items) }
+        ensures last { IfOk result (λ part. part.is_last ≡ true → IsAtEnd (T.left source.new)) }
+        ensures more { IfOk result (λ part. part.is_last ≡ false → self.old.total < self.new.total) }
+        ensures few { self.new.total ≤ byte_limit }
+        ensures mark { OnOk result (T.failed source.new ≡ false) }
+        ensures read { result ≡ Err ReadFault.Read → (bytes : List ℕ) (calls : List Call) (first : Option (List ℕ)) → HasRead self.old bytes calls first (T.left source.old) → ReadFailed (T.failed source.new) first (T.left source.new) }
+        // A read that failed is never reported as want of memory.
+        ensures memory { result ≡ Err ReadFault.Memory → T.failed source.new ≡ false }
+    {
+        let start = self.total;
+        let mut calls = Vec::new(alloc);
+        while calls.len() < CALLS_AT_ONCE && self.total - start < TEXT_AT_ONCE {
+            let n = match source.read(buffer) {
+                Ok(n) => n,
+                Err(Failed) => return Err(ReadFault::Read),
+            };
+            if n == 0 {
+                return Ok(Part {
+                    calls,
+                    is_last: true,
+                });
+            }
+            if n > MOST_BYTES - self.total {
+                return Err(ReadFault::Read);
+            }
+            self.total += n;
+            let (piece, _) = buffer.split_at(n);
+            // After a fault the reader answers it again, so the rest is only read to its end.
+            match self.reader.feed(alloc, piece) {
+                Ok(more) => match joined(calls, more) {
+                    Ok(all) => calls = all,
+                    Err(_) => return Err(ReadFault::Memory),
+                },
+                Err(fault) => match fault {
+                    TraceFault::Memory => return Err(ReadFault::Memory),
+                    _ => {}
+                },
+            }
+        }
+        Ok(Part {
+            calls,
+            is_last: false,
+        })
+    }
+
+    /// Whether what was read is a trace, once the source has no more bytes.
+    pub fn finish(self) -> Result<(), TraceFault>
+        ensures ok { OnOk result ((bytes : List ℕ) (calls : List Call) (first now : Option (List ℕ)) → HasRead self bytes calls first now → IsAtEnd now → IfSome first (λ text. IsTrace text calls)) }
+        ensures trace { (fault : TraceFault) → result ≡ Err fault → (bytes : List ℕ) (calls : List Call) (first now : Option (List ℕ)) → HasRead self bytes calls first now → IsAtEnd now → IfSome first (λ text. IsRefused text fault) }
+        // Want of memory is no fault of the trace.
+        ensures told { result ≢ Err TraceFault.Memory }
+    {
+        self.reader.finish()
+    }
+}
+
+/// The calls of the trace that a source has left, which is read to its end also where the trace is refused.
+pub fn read_calls<T: Source>(alloc: Global, source: &mut T) -> Result<Vec<Call>, StreamFault>
+    requires { T.failed source.old ≡ false }
+    ensures ok { IfOk result (λ calls. IfSome (T.left source.old) (λ text. IsTrace text calls.items)) }
+    ensures short { IfOk result (λ calls. length calls.items ≤ call_limit) }
+    ensures ended { OnOk result (IsAtEnd (T.left source.new)) }
+    ensures trace { (fault : TraceFault) → result ≡ Err (StreamFault.Trace fault) → IfSome (T.left source.old) (λ text. IsRefused text fault) × IsAtEnd (T.left source.new) }
+    ensures read { result ≡ Err StreamFault.Read → ReadFailed (T.failed source.new) (T.left source.old) (T.left source.new) }
+    // Want of memory is no fault of the trace.
+    ensures told { result ≢ Err (StreamFault.Trace TraceFault.Memory) }
+    // A read that failed is reported as nothing else, and more bytes than are read as nothing else but want of memory.
+    ensures failure { T.failed source.new ≡ true → result ≡ Err StreamFault.Read }
+    ensures few { result ≢ Err StreamFault.Read → result ≢ Err StreamFault.Memory → IfSome (T.left source.old) (λ text. length text ≤ byte_limit) }
+{
+    let mut buffer = [0u8; PIECE];
+    let mut stream = CallStream::new();
+    let mut calls = Vec::new(alloc);
+    loop {
+        let part = stream.next(alloc, source, &mut buffer)?;
+        let Part {
+            calls: mut more,
+            is_last,
+        } = part;
+        if calls.append(&mut more).is_err() {
+            return Err(StreamFault::Memory);
+        }
+        if is_last {
+            break;
+        }
+    }
+    match stream.finish() {
+        Ok(()) => Ok(calls),
+        Err(fault) => Err(StreamFault::Trace(fault)),
+    }
+}

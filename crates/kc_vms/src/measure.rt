@@ -1,0 +1,42 @@
+//! Measuring a boot image, page by page.
+ghost use Rattle.std.specs.Prelude.{◌≡◌, ℕ, ◌++◌, ◌≤◌, List, [], take, length};
+ghost use Rattle.sha2.specs.Sha256.{sha256};
+ghost use Rattle.kc_types.specs.Limits.{page_size};
+
+use kc_page::PageBytes;
+use sha2::{Digest, Sha256};
+
+/// The SHA-256 digest (FIPS 180-4) of bytes that come page by page.
+#[derive(Drop)]
+pub struct Measure {
+    hasher: Sha256,
+}
+
+impl Measure {
+    ghost use Rattle.kc_vms.specs.Measure.{WasFed};
+
+    /// A measure that was fed no bytes.
+    pub fn new() -> Measure
+        ensures { WasFed result [] }
+    {
+        Measure {
+            hasher: Sha256::new(),
+        }
+    }
+
+    /// Feeds the first `used` bytes of a page, 0 to 4,096 of them.
+    pub fn page(&mut self, bytes: &PageBytes, used: usize)
+        requires { used ≤ page_size }
+        ensures fed { (fed : List ℕ) → WasFed self.old fed → WasFed self.new (fed ++ take used bytes.now) }
+        ensures whole { length bytes.now ≡ page_size }
+    {
+        self.hasher.update(&bytes.as_slice()[..used]);
+    }
+
+    /// The digest of all bytes that were fed, in the order in which they were.
+    pub fn finish(self) -> [u8; 32]
+        ensures { (fed : List ℕ) → WasFed self fed → result ≡ sha256 fed }
+    {
+        self.hasher.finalize()
+    }
+}

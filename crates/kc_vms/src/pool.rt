@@ -1,0 +1,101 @@
+//! The pool that a VM's leaf tables come from.
+ghost use Rattle.std.specs.Prelude.{◌≡◌, ◌+◌, ◌*◌, ◌<◌, ◌≤◌, Option, Some, None, map, IfOk, MatchOption};
+ghost use Rattle.kc_types.specs.Limits.{leaf_entries, leaf_limit};
+ghost use Rattle.kc_vms.specs.TablePool.{Pool, IsPool, new_pool, entry_at, with_cell, with_taken_leaf, emptied};
+
+use crate::LeafNo;
+use kc_types::{FrameNo, LEAF_ENTRIES, Memory};
+use std::alloc::Global;
+use std::marker::Model;
+
+/// Leaf tables of 512 entries each. They are handed out in order, and come back only all together.
+#[derive(Drop)]
+pub struct TablePool {
+    entries: Vec<Option<FrameNo>>,
+    taken: u8,
+    capacity: u8,
+}
+
+impl Model for TablePool {
+    ghost use Rattle.std.specs.Prelude.{◌≡◌, ◌*◌, ◌≤◌};
+    ghost use Rattle.kc_vms.specs.TablePool.{Pool, IsPool};
+
+    ghost Value = { Pool };
+
+    ghost view = { λ p. record { entries = p.entries.items; taken = p.taken; capacity = p.capacity } };
+
+    ghost invariant = { λ p. IsPool (record { entries = p.entries.items; taken = p.taken; capacity = p.capacity }) };
+}
+
+impl TablePool {
+    /// This many leaves, none of them taken, or `Memory` where a growth was refused. Nothing else takes memory.
+    #[tactic(auto, unfolding(crate::specs::TablePool::no_entries))]
+    pub fn try_new(alloc: Global, leaves: u8) -> Result<TablePool, Memory>
+        requires { leaves ≤ leaf_limit }
+        ensures value { IfOk result (λ pool. pool ≡ new_pool leaves) }
+        ensures kept { IfOk result IsPool }
+    {
+        Ok(TablePool {
+            entries: vec![in alloc; None; leaves as usize * LEAF_ENTRIES]?,
+            taken: 0,
+            capacity: leaves,
+        })
+    }
+
+    /// How many leaves there are, taken or not.
+    pub fn capacity(&self) -> u8
+        ensures value { result ≡ self.now.capacity }
+        ensures kept { IsPool self.now }
+    {
+        self.capacity
+    }
+
+    /// The next leaf, which has no entries.
+    pub fn take_leaf(&mut self) -> Option<LeafNo>
+        ensures leaf { MatchOption result ((self.old.taken ≡ self.old.capacity) × (self.new ≡ self.old)) (λ leaf. (leaf ≡ self.old.taken) × (self.old.taken < self.old.capacity) × (self.new ≡ with_taken_leaf self.old)) }
+        ensures kept { IsPool self.new }
+    {
+        if self.taken == self.capacity {
+            return None;
+        }
+        let leaf = LeafNo::of(self.taken);
+        self.taken += 1;
+        Some(leaf)
+    }
+
+    /// What stands at a place of a leaf that is taken.
+    pub fn entry(&self, leaf: LeafNo, at: usize) -> Option<FrameNo>
+        requires taken { leaf < self.now.taken }
+        requires within { at < leaf_entries }
+        ensures { result ≡ entry_at self.now leaf at }
+    {
+        self.entries[leaf.index() * LEAF_ENTRIES + at]
+    }
+
+    /// Sets what stands at a place of a leaf that is taken.
+    pub fn set_entry(&mut self, leaf: LeafNo, at: usize, frame: Option<FrameNo>)
+        requires taken { leaf < self.old.taken }
+        requires within { at < leaf_entries }
+        ensures value { self.new ≡ with_cell self.old leaf at frame }
+        ensures kept { IsPool self.new }
+    {
+        self.entries[leaf.index() * LEAF_ENTRIES + at] = frame;
+    }
+
+    /// All leaves come back.
+    pub fn reset(&mut self)
+        ensures value { self.new ≡ new_pool self.old.capacity }
+        ensures kept { IsPool self.new }
+    {
+        make_empty(&mut self.entries);
+        self.taken = 0;
+    }
+}
+
+fn make_empty(entries: &mut [Option<FrameNo>])
+    ensures { entries.new ≡ map emptied entries.old }
+{
+    for entry in entries.iter_mut() {
+        *entry = None;
+    }
+}

@@ -1,0 +1,126 @@
+//! The two levels, seen as a finite map.
+ghost use Rattle.std.specs.Prelude.{◌≡◌, ◌/◌, ◌≤◌, IfOk, OnOk, OnErr};
+ghost use Rattle.std.specs.FinMap as finite;
+ghost use Rattle.kc_types.specs.Limits.{leaf_limit};
+ghost use Rattle.kc_types.specs.Refusals.{Answers};
+ghost use Rattle.kc_vms.specs.Stage2.{Table, new_table, with_mapping, fits};
+ghost use Rattle.kc_vms.specs.Faults.{map_fault};
+
+use crate::entries::entries_of;
+use crate::levels::Levels;
+use kc_types::{FrameNo, Gfn, LEAF_ENTRIES, Memory};
+use std::alloc::Global;
+use std::marker::Model;
+
+/// Why a guest frame can't be mapped. Each leaves the table as it was.
+#[derive(Clone, Copy, Debug, PartialEq, Eq)]
+pub enum MapFault {
+    Mapped,
+    TablesFull,
+}
+
+/// A VM's table, from guest frames to frames, and the root slots that have leaves, in the order in which they
+/// took them. After it was made it takes no memory.
+#[derive(Drop)]
+pub struct Stage2 {
+    levels: Levels,
+}
+
+impl Model for Stage2 {
+    ghost use Rattle.kc_vms.specs.Stage2.{Table, table_code};
+
+    ghost Value = { Table };
+
+    ghost coded = { table_code };
+
+    ghost use Rattle.kc_vms.specs.TwoLevels.{IsLevels, table_of};
+
+    ghost view = { λ t. table_of t.levels };
+
+    ghost invariant = { λ t. IsLevels t.levels };
+}
+
+impl Stage2 {
+    /// An empty table with room for this many leaves of 512 entries, or `Memory` where a growth was refused.
+    pub fn try_new(alloc: Global, leaves: u8) -> Result<Stage2, Memory>
+        requires { leaves ≤ leaf_limit }
+        ensures { IfOk result (λ table. table ≡ new_table leaves) }
+    {
+        Ok(Stage2 {
+            levels: Levels::try_new(alloc, leaves)?,
+        })
+    }
+
+    /// The frame at a guest frame.
+    pub fn get(&self, gfn: Gfn) -> Option<FrameNo>
+        ensures { result ≡ finite.get self.now.mapped gfn }
+    {
+        let number = gfn.number() as usize;
+        let leaf = self.levels.leaf_at(number / LEAF_ENTRIES)?;
+        self.levels.pool.entry(leaf, number % LEAF_ENTRIES)
+    }
+
+    /// The root slots that have leaves, in the order in which they took them.
+    pub fn leaves(&self) -> &[u32]
+        ensures { result.now ≡ self.now.leaves }
+    {
+        self.levels.leaves.as_slice()
+    }
+
+    /// All mapped guest frames with their frames, by rising guest frame. Only the leaves that are taken are read.
+    /// `Memory` where a growth was refused.
+    pub fn entries(&self, alloc: Global) -> Result<Vec<(Gfn, FrameNo)>, Memory>
+        // No clause can rule out want of memory: a test lists entries.
+        ensures { IfOk result (λ entries. entries.items ≡ finite.entries self.now.mapped) }
+    {
+        entries_of(alloc, &self.levels)
+    }
+
+    /// Whether the guest frame's root slot has a leaf or can take one.
+    pub fn fits(&self, gfn: Gfn) -> bool
+        ensures { result ≡ fits self.now gfn }
+    {
+        let slot = gfn.number() as usize / LEAF_ENTRIES;
+        self.levels.leaf_at(slot).is_some()
+            || self.levels.leaves.len() < self.levels.pool.capacity() as usize
+    }
+
+    /// Maps a guest frame that isn't mapped yet. `Mapped` where it is, else `TablesFull` where its root slot has
+    /// no leaf and the pool has none left.
+    pub fn map(&mut self, gfn: Gfn, frame: FrameNo) -> Result<(), MapFault>
+        ensures answer { Answers result (map_fault self.old gfn) }
+        ensures ok { OnOk result (self.new ≡ with_mapping self.old gfn frame) }
+        ensures err { OnErr result (self.new ≡ self.old) }
+    {
+        if self.get(gfn).is_some() {
+            return Err(MapFault::Mapped);
+        }
+        let number = gfn.number() as usize;
+        let Some(leaf) = self.levels.leaf_for(number / LEAF_ENTRIES) else {
+            return Err(MapFault::TablesFull);
+        };
+        let at = number % LEAF_ENTRIES;
+        self.levels.pool.set_entry(leaf, at, Some(frame));
+        Ok(())
+    }
+
+    /// Unmaps a guest frame, and answers the frame that was there. Its leaf stays taken.
+    pub fn unmap(&mut self, gfn: Gfn) -> Option<FrameNo>
+        ensures value { result ≡ finite.get self.old.mapped gfn }
+        ensures table { self.new ≡ record self.old { mapped = finite.remove self.old.mapped gfn } }
+    {
+        let number = gfn.number() as usize;
+        let leaf = self.levels.leaf_at(number / LEAF_ENTRIES)?;
+        let at = number % LEAF_ENTRIES;
+        let frame = self.levels.pool.entry(leaf, at);
+        self.levels.pool.set_entry(leaf, at, None);
+        frame
+    }
+
+    /// All leaves go back to the pool.
+    pub fn clear(&mut self)
+        ensures { self.new ≡ new_table self.old.capacity }
+    {
+        self.levels.clear();
+    }
+}
