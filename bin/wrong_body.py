@@ -36,6 +36,7 @@ class Body:
     lines: tuple
     where: tuple
     is_right: bool = False
+    has_answers: bool = True
 
     def __str__(self):
         kind, name = ("right", "::".join(self.where)) if self.is_right else ("wrong", self.edit)
@@ -44,7 +45,7 @@ class Body:
     def as_right(self):
         """Returns the right body of the same function."""
         lines = self.function.lines_of((self.crate / self.path).read_text())
-        return dataclasses.replace(self, lines=tuple(lines), is_right=True)
+        return dataclasses.replace(self, lines=tuple(lines), is_right=True, has_answers=True)
 
     def is_of_trait(self):
         return " for " in self.function.owner or "trait " in self.function.owner
@@ -117,8 +118,8 @@ def outside(text, found):
 
 
 def applied(edit, crate):
-    """Returns the one file that an edit turns, and the text that it makes of it."""
-    path, old, text = None, None, None
+    """Returns the one file that an edit turns, the text that it makes of it, and whether answers are tried with it."""
+    path, old, text, has_answers = None, None, None, True
     for line in edit.read_text().split("\n"):
         word, _, rest = line.partition(": ")
         if word == "file":
@@ -134,14 +135,18 @@ def applied(edit, crate):
             if text.count(old) != 1:
                 raise BadEdit(f"an old text is in {path.name} {text.count(old)} times, and not once")
             text, old = text.replace(old, rest), None
+        elif word == "answers":
+            if rest != "none":
+                raise BadEdit("behind 'answers: ' stands 'none', or there is no such line")
+            has_answers = False
     if text is None:
         raise BadEdit("it has no new text")
-    return path, text
+    return path, text, has_answers
 
 
 def wrong_body(edit, crate):
     """Returns the wrong body that an edit makes of the one function whose body it turns."""
-    path, now = applied(edit, crate)
+    path, now, has_answers = applied(edit, crate)
     was = path.read_text()
     old, new = functions(was), functions(now)
     if outside(was, old) != outside(now, new):
@@ -154,7 +159,11 @@ def wrong_body(edit, crate):
     if head_of(right) != head_of(wrong):
         raise BadEdit("it turns a signature or a clause")
     path = str(path.relative_to(crate))
-    return Body(crate, edit.name, path, function, tuple(wrong), place(crate, path, function))
+    where = place(crate, path, function)
+    body = Body(crate, edit.name, path, function, tuple(wrong), where, has_answers=has_answers)
+    if not has_answers and all(it.name != "Answers.antt" for it in body.proof_files()):
+        raise BadEdit("its function has no answers to leave out")
+    return body
 
 
 def place(crate, path, function):
