@@ -3,7 +3,7 @@ ghost use Rattle.std.specs.Prelude.{◌≡◌, ◌+◌, ◌*◌, ◌<◌, ◌≤
 ghost use Rattle.kc_types.specs.Limits.{leaf_entries, leaf_limit};
 ghost use Rattle.kc_vms.specs.TablePool.{Pool, IsPool, new_pool, entry_at, with_cell, with_taken_leaf, emptied};
 
-use crate::LeafNo;
+use crate::leaf::LeafNo;
 use kc_types::{FrameNo, LEAF_ENTRIES, Memory};
 use std::alloc::Global;
 use std::marker::Model;
