@@ -56,7 +56,7 @@ pub fn run(
 }
 
 /// Makes the calls of a trace in order, lets each go once it is answered, and gives their replies.
-#[tactic(auto, using(crate::proofs::Answered::replies_more, crate::proofs::Answered::state_more))]
+#[tactic(auto, using(crate::proofs::AnswersKept::replies_more, crate::proofs::AnswersKept::state_more))]
 pub fn answer_each(
     alloc: Global,
     parts: &mut Parts,
