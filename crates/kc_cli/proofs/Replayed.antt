@@ -22,25 +22,25 @@ gives_replies None trace old new replies core h taken = tt
 gives_replies (Some config) None old new replies core h taken = tt
 gives_replies (Some config) (Some trace) old new replies core h taken =
     let r = h.2 in
-    (reply_text_of replies, (h.0, r.calls, record { configured = h.1; traced = r.traced }, ap reply_text_of r.given), taken)
+    (reply_text_of replies, (h.0, r.calls, record { configured = h.1; traced = r.traced }, r.safe, ap reply_text_of r.given), taken)
 
 pub begins_replies : (config trace old new : Option (List ℕ)) (replies : List Reply) (core : State) → AreReplayed config trace replies core → ((n : ℕ) × Appends old new (take n (reply_text_of replies))) → Begins IsReplyText config trace old new
 begins_replies None trace old new replies core h taken = tt
 begins_replies (Some config) None old new replies core h taken = tt
 begins_replies (Some config) (Some trace) old new replies core h taken =
     let r = h.2 in
-    (reply_text_of replies, taken.0, (h.0, r.calls, record { configured = h.1; traced = r.traced }, ap reply_text_of r.given), taken.1)
+    (reply_text_of replies, taken.0, (h.0, r.calls, record { configured = h.1; traced = r.traced }, r.safe, ap reply_text_of r.given), taken.1)
 
 pub gives_state : (config trace old new : Option (List ℕ)) (replies : List Reply) (core : State) → AreReplayed config trace replies core → Appends old new (dump_text (dump_of core)) → Writes IsStateText config trace old new
 gives_state None trace old new replies core h taken = tt
 gives_state (Some config) None old new replies core h taken = tt
 gives_state (Some config) (Some trace) old new replies core h taken =
     let r = h.2 in
-    (dump_text (dump_of core), (h.0, r.calls, record { configured = h.1; traced = r.traced }, ap (λ (m : State). dump_text (dump_of m)) r.left), taken)
+    (dump_text (dump_of core), (h.0, r.calls, record { configured = h.1; traced = r.traced }, r.safe, ap (λ (m : State). dump_text (dump_of m)) r.left), taken)
 
 pub begins_state : (config trace old new : Option (List ℕ)) (replies : List Reply) (core : State) → AreReplayed config trace replies core → ((n : ℕ) × Appends old new (take n (dump_text (dump_of core)))) → Begins IsStateText config trace old new
 begins_state None trace old new replies core h taken = tt
 begins_state (Some config) None old new replies core h taken = tt
 begins_state (Some config) (Some trace) old new replies core h taken =
     let r = h.2 in
-    (dump_text (dump_of core), taken.0, (h.0, r.calls, record { configured = h.1; traced = r.traced }, ap (λ (m : State). dump_text (dump_of m)) r.left), taken.1)
+    (dump_text (dump_of core), taken.0, (h.0, r.calls, record { configured = h.1; traced = r.traced }, r.safe, ap (λ (m : State). dump_text (dump_of m)) r.left), taken.1)

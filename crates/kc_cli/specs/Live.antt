@@ -5,6 +5,8 @@ use Rattle.kc_types.specs.Limits.{call_limit}
 use Rattle.kc_types.specs.declared.call.Call.{Call}
 use Rattle.kc_live.specs.declared.stop.LiveCause.{LiveCause}
 use Rattle.kc_live.specs.declared.stop.LiveCause.TheVariants as causes
+use Rattle.kc_model.specs.Boot.{boot}
+use Rattle.kc_model.specs.Safety.{IsSafe}
 use Rattle.kc_live.specs.Cuts.{KeepsOrders, MayRun, StopsTrace}
 use Rattle.kc_dump_text.specs.declared.fault.DumpFault.{DumpFault}
 use Rattle.kc_trace.specs.declared.config_text.ConfigTextFault.{ConfigTextFault}
@@ -15,9 +17,9 @@ use Rattle.kc_texts.specs.Reading.{AreRead}
 use Rattle.kc_texts.specs.declared.fault.TextFault.{TextFault}
 use Rattle.kc_texts.specs.declared.fault.TextFault.TheVariants as texts
 
--- the text is the trace of these calls in an order in which each actor's calls keep theirs
-abbrev pub IsRearranged : List Call → List ℕ → Type 0
-IsRearranged calls text = (made : List Call) × KeepsOrders made calls × (text ≡ trace_of made)
+-- the text is the trace of these calls in an order in which each actor's calls keep theirs, and what every trace keeps holds of them in that order
+abbrev pub IsRearranged : Configuration → List Call → List ℕ → Type 0
+IsRearranged config calls text = (made : List Call) × KeepsOrders made calls × IsSafe (boot config) made × (text ≡ trace_of made)
 
 -- both texts were read, where the sources tell them, and the trace may run
 abbrev pub CouldRun : Option (List ℕ) → Option (List ℕ) → Type 0
@@ -28,7 +30,7 @@ CouldRun (Some config_text) (Some trace_text) =
 
 -- the text is the trace read, which may run, rearranged
 abbrev pub IsLiveText : List ℕ → List ℕ → List ℕ → Type 0
-IsLiveText config_text trace_text text = (config : Configuration) × (calls : List Call) × AreRead config_text trace_text config calls × MayRun config calls × IsRearranged calls text
+IsLiveText config_text trace_text text = (config : Configuration) × (calls : List Call) × AreRead config_text trace_text config calls × MayRun config calls × IsRearranged config calls text
 
 -- the program of this number, of those that the trace is cut into, has an actor that is none of the core's
 abbrev pub HasBadActor : Option (List ℕ) → Option (List ℕ) → ℕ → Type 0

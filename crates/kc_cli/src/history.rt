@@ -1,7 +1,7 @@
 //! A history that is replayed.
-ghost use Rattle.std.specs.Prelude.{◌≡◌, ◌<◌, ◌≤◌, ◌⊎◌, ◌↔◌, OnOk, IfOk, IfErr};
-ghost use Rattle.kc_live.specs.Book.{calls_of, end_state, replies_of};
-ghost use Rattle.kc_replay.specs.declared.fault.ReplayFault.TheVariants.{BadWorkers};
+ghost use Rattle.std.specs.Prelude.{◌≡◌, ◌≢◌, ◌<◌, ◌≤◌, ◌⊎◌, ◌↔◌, Err, OnOk, IfOk, IfErr};
+ghost use Rattle.kc_live.specs.Book.{IsSafeHistory, calls_of, end_state, replies_of};
+ghost use Rattle.kc_replay.specs.declared.fault.ReplayFault.TheVariants.{BadWorkers, Broken};
 
 use kc_core::Gate;
 use kc_live::{Entry, History};
@@ -38,6 +38,9 @@ pub fn replay_history<R: Threads + Wait + Sync, G: Gate + Sync>(
     ensures state { IfOk result (λ outcome. outcome.core ≡ end_state history.now) }
     ensures workers { OnOk result ((0 < workers) × (workers ≤ 64)) }
     ensures bad_workers { IfErr result (λ fault. (fault ≡ BadWorkers) ↔ ((workers ≡ 0) ⊎ (64 < workers))) }
+    ensures whole { result ≢ Err Broken }
+    ensures started { result ≡ Err ReplayFault.Start → 1 < workers }
+    ensures safe { OnOk result (IsSafeHistory history.now) }
 {
     if workers == 0 || workers > 64 {
         return Err(ReplayFault::BadWorkers);

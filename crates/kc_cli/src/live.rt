@@ -3,8 +3,7 @@ ghost use Rattle.std.specs.Prelude.{◌≡◌, ◌<◌, ◌≤◌, ◌⊎◌, �
 ghost use Rattle.std.specs.Io.KnownBytes.{Appends};
 ghost use Rattle.kc_types.specs.Limits.{call_limit};
 ghost use Rattle.kc_model.specs.Boot.{boot};
-ghost use Rattle.kc_model.specs.Next.{state_after};
-ghost use Rattle.kc_model.specs.Wiped.{wiped};
+ghost use Rattle.kc_model.specs.Safety.{IsSafe};
 ghost use Rattle.kc_live.specs.Cuts.{KeepsOrders, MayRun};
 ghost use Rattle.kc_live.specs.Book.{calls_of};
 ghost use Rattle.kc_trace.specs.Spelling.{trace_of};
@@ -13,9 +12,9 @@ ghost use Rattle.kc_texts.specs.Outcomes.{seen, TellsSources, TellsTexts, TellsS
 ghost use Rattle.kc_cli.specs.Live.{live_fault};
 ghost use Rattle.kc_cli.specs.Live.{IsLiveFault, CouldRun, IsLiveText, HasBadActor};
 
-use kc_core::KCore;
+use crate::history::replay_history;
 use kc_live::{Entry, History, LiveCause, LiveStop, run_trace};
-use kc_replay::{Gate, OpenGate, Outcome, ReplayFault, replay};
+use kc_replay::{Gate, OpenGate, Outcome, ReplayFault};
 use kc_texts::{Sink, Source, TextFault, empty_piece, give_trace, read_both};
 use kc_trace::TraceFault;
 use kc_types::{Call, Config, Memory};
@@ -48,30 +47,6 @@ fn calls_in(alloc: Global, entries: Vec<Entry>) -> Result<Vec<Call>, Memory>
     Ok(calls)
 }
 
-/// Makes the calls by so many workers, and gives the core that they leave, wiped.
-fn replay_wiped<R: Threads + Wait + Sync>(
-    rt: &R,
-    alloc: Global,
-    config: Config,
-    calls: &[Call],
-    workers: u32,
-) -> Result<KCore, LiveCause>
-    requires workers { (0 < workers) × (workers ≤ 64) }
-    requires short { length calls.now ≤ call_limit }
-    ensures core { IfOk result (λ core. core ≡ wiped (state_after (boot config) calls.now)) }
-    ensures cause { IfErr result (λ cause. (cause ≡ LiveCause.Memory) ⊎ (cause ≡ LiveCause.Start)) }
-{
-    match replay(rt, alloc, config, calls, workers as usize, &OpenGate) {
-        Ok(outcome) => {
-            let Outcome { mut core, .. } = outcome;
-            core.wipe(rt);
-            Ok(core)
-        },
-        Err(ReplayFault::Start) => Err(LiveCause::Start),
-        Err(_) => Err(LiveCause::Memory),
-    }
-}
-
 /// The cause of a run that gave no answer. The core that it left, if any, is wiped.
 fn wiped(rt: &(impl Threads + Sync), stop: LiveStop) -> LiveCause
     ensures { result ≡ stop.cause }
@@ -97,11 +72,31 @@ fn entries_of(rt: &(impl Threads + Sync), history: History) -> Vec<Entry>
     entries
 }
 
+/// Has so many workers replay a history, and wipes the core that they leave.
+fn replay_wiped<R: Threads + Wait + Sync>(
+    rt: &R,
+    alloc: Global,
+    history: &History,
+    workers: u32,
+) -> Result<(), LiveCause>
+    requires { (0 < workers) × (workers ≤ 64) }
+    ensures { IfErr result (λ cause. (cause ≡ LiveCause.Memory) ⊎ (cause ≡ LiveCause.Start)) }
+{
+    match replay_history(rt, alloc, history, workers as usize, &OpenGate) {
+        Ok(outcome) => {
+            let Outcome { mut core, .. } = outcome;
+            core.wipe(rt);
+            Ok(())
+        },
+        Err(ReplayFault::Start) => Err(LiveCause::Start),
+        Err(_) => Err(LiveCause::Memory),
+    }
+}
+
 /// The calls of a history, which so many workers replay first. Both cores are wiped.
 fn replayed<R: Threads + Wait + Sync>(
     rt: &R,
     alloc: Global,
-    config: Config,
     history: History,
     workers: u32,
 ) -> Result<Vec<Call>, LiveCause>
@@ -109,10 +104,12 @@ fn replayed<R: Threads + Wait + Sync>(
     ensures calls { IfOk result (λ calls. calls.items ≡ calls_of history.entries) }
     ensures cause { IfErr result (λ cause. (cause ≡ LiveCause.Memory) ⊎ (cause ≡ LiveCause.Start)) }
 {
-    let Ok(calls) = calls_in(alloc, entries_of(rt, history)) else {
+    let outcome = replay_wiped(rt, alloc, &history, workers);
+    let entries = entries_of(rt, history);
+    outcome?;
+    let Ok(calls) = calls_in(alloc, entries) else {
         return Err(LiveCause::Memory);
     };
-    let _core = replay_wiped(rt, alloc, config, &calls, workers)?;
     Ok(calls)
 }
 
@@ -128,17 +125,14 @@ fn made_live<G: Gate + Sync, R: Threads + Wait + Sync>(
 ) -> Result<Vec<Call>, TextFault>
     requires { (0 < workers) × (workers ≤ 64) }
     ensures sound { OnOk result (MayRun config calls.items) }
-    ensures made { IfOk result (λ made. KeepsOrders made.items calls.items) }
+    ensures made { IfOk result (λ made. KeepsOrders made.items calls.items × IsSafe (boot config) made.items) }
     ensures fault { IfErr result (IsLiveFault config calls.items) }
 {
-    let Ok(kept) = config.copy() else {
-        return Err(fault_of(LiveCause::Memory));
-    };
     let history = match run_trace(rt, alloc, config, calls, gate) {
         Ok(history) => history,
         Err(stop) => return Err(fault_of(wiped(rt, stop))),
     };
-    match replayed(rt, alloc, kept, history, workers) {
+    match replayed(rt, alloc, history, workers) {
         Ok(made) => Ok(made),
         Err(cause) => Err(fault_of(cause)),
     }

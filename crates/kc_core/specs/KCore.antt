@@ -1,11 +1,14 @@
 -- What a core keeps of its parts.
-use Rattle.std.specs.Prelude.{ℕ, ◌≡◌, Bool, true, false, if◌then◌else◌, Some, None}
+use Rattle.std.specs.Prelude.{ℕ, ◌≡◌, Bool, true, false, if◌then◌else◌, is_none, length, Some, None}
 use Rattle.std.specs.Option.{option_map}
 use Rattle.kc_types.specs.Configuration.{Configuration}
 use Rattle.kc_types.specs.declared.owner.Owner.{Owner}
 use Rattle.kc_types.specs.declared.owner.Owner.TheVariants.{Core, Host, Free, Vm}
 use Rattle.kc_page.specs.declared.page.Page.{Page}
 use Rattle.kc_page.specs.declared.page.PageRecord.{PageRecord}
+use Rattle.kc_types.specs.declared.call.Call.TheVariants.{Verify}
+use Rattle.kc_model.specs.State.{State, slot_at}
+use Rattle.kc_model.specs.Refusals.{refusal}
 use Rattle.kc_model.specs.Lawful.{IsLawful}
 use Rattle.kc_parts.specs.Parts.{Held, page_at}
 use Rattle.kc_parts.specs.States.{state_of, IsLinked}
@@ -30,3 +33,7 @@ shown meta = record meta { prev = if has_list meta.owner then meta.prev else Non
 
 abbrev pub ShowsRecord : Held → ℕ → PageRecord → Type 0
 ShowsRecord parts f meta = Some meta ≡ option_map (λ (page : Page). shown page.meta) (page_at parts f)
+
+-- how many frames `verify` of a slot hashes: all that the slot has, or none where the call is refused
+abbrev pub frames_to_hash : State → ℕ → ℕ
+frames_to_hash m v = if is_none (refusal m (Verify v)) then length (slot_at m v).frames else 0

@@ -54,23 +54,3 @@ pub fn run(
     }
     Ok(replies)
 }
-
-/// Makes the calls of a trace in order, lets each go once it is answered, and gives their replies.
-#[tactic(auto, using(crate::proofs::AnswersKept::replies_more, crate::proofs::AnswersKept::state_more))]
-pub fn answer_each(
-    alloc: Global,
-    parts: &mut Parts,
-    config: &Config,
-    calls: Vec<Call>,
-) -> Result<Vec<Reply>, Memory>
-    requires { IsCore config.now parts.old }
-    ensures replies { IfOk result (λ replies. replies.items ≡ replies_from (state_of config.now parts.old) calls.items) }
-    ensures state { OnOk result (state_of config.now parts.new ≡ state_after (state_of config.now parts.old) calls.items) }
-    ensures core { IsCore config.now parts.new }
-{
-    let mut replies = Vec::with_capacity(alloc, calls.len())?;
-    for call in calls {
-        replies.push(make(alloc, parts, config, &call)?)?;
-    }
-    Ok(replies)
-}

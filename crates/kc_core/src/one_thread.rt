@@ -16,11 +16,12 @@ ghost use Rattle.kc_model.specs.Linked.{ends_of};
 ghost use Rattle.kc_model.specs.Wiped.{wiped};
 ghost use Rattle.kc_page.specs.Page.{frame_of, IsRecordOf};
 ghost use Rattle.kc_parts.specs.States.{state_of, unlinked_slot};
-ghost use Rattle.kc_core.specs.KCore.{IsCore};
+ghost use Rattle.kc_core.specs.KCore.{IsCore, frames_to_hash};
 
 use crate::dispatch::answer;
 use crate::look_ups::{frames_of, page_record};
-use crate::on_parts::{answer_each, make, run};
+use crate::on_parts::{make, run};
+use crate::verify::booted_slot;
 use kc_page::{Page, PageBytes, PageRecord, scrub_all};
 use kc_parts::Parts;
 use kc_types::{
@@ -71,7 +72,8 @@ impl KCore {
     /// growth was refused.
     pub fn boot(alloc: Global, config: Config) -> Result<KCore, Memory>
         // No clause can rule out want of memory: tests boot cores.
-        ensures { IfOk result (λ core. core ≡ boot config) }
+        ensures state { IfOk result (λ core. core ≡ boot config) }
+        ensures lawful { OnOk result (IsLawful (boot config)) }
     {
         let parts = Parts::boot(alloc, &config)?;
         Ok(KCore {
@@ -134,17 +136,6 @@ impl KCore {
         ensures stop { IfErr result (λ stop. StopsAfter self.old calls.now stop.done stop.replies.items self.new) }
     {
         run(alloc, &mut self.parts, &self.config, calls)
-    }
-
-    /// Answers a trace and gives the replies in order. Each call is let go once it is answered, so that the replies
-    /// take the memory of the calls. After `Memory`, where a growth was refused, some calls are done.
-    pub fn answer_all(&mut self, alloc: Global, calls: Vec<Call>) -> Result<Vec<Reply>, Memory>
-        ensures safe { IsSafe self.old calls.items }
-        ensures blind { IfOk result (λ replies. ShowsNothing self.old calls.items replies.items self.new) }
-        ensures replies { IfOk result (λ replies. replies.items ≡ replies_from self.old calls.items) }
-        ensures state { OnOk result (self.new ≡ state_after self.old calls.items) }
-    {
-        answer_each(alloc, &mut self.parts, &self.config, calls)
     }
 
     /// What the core was started with.
@@ -229,6 +220,19 @@ impl KCore {
         ensures value { IfSome result (λ phase. phase ≡ (slot_at self.now vm).phase) }
     {
         Some(self.slot(vm)?.phase())
+    }
+
+    /// How many frames `verify` of a VM slot hashes: all that the slot has, or none where the call is refused.
+    pub fn frames_to_hash(&self, vm: u32) -> u32
+        ensures { result ≡ frames_to_hash self.now vm }
+    {
+        if booted_slot(&self.parts, &self.config, vm).is_err() {
+            return 0;
+        }
+        match self.slot_ends(vm) {
+            Some(ends) => ends.count,
+            None => 0,
+        }
     }
 
     /// The guest frame that a virtual processor, 0 to 7, of a VM slot, 0 to 15, waits for; `None` where the slot

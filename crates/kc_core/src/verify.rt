@@ -224,7 +224,7 @@ fn lacks_pages(slot: &Vm) -> bool
 
 /// The slot of this number, which is booting and has all pages of its images. A slot that is not here counts as
 /// empty.
-fn booted_slot(parts: &Parts, config: &Config, vm: u32) -> Result<VmId, Refusal>
+pub(crate) fn booted_slot(parts: &Parts, config: &Config, vm: u32) -> Result<VmId, Refusal>
     ensures answer { Answers result (refusal (state_of config.now parts.now) (Verify vm)) }
     ensures slot { IfOk result (λ slot. slot ≡ vm) }
 {

@@ -113,6 +113,28 @@ impl Footprints {
         self.rows[number]
     }
 
+    /// How many parts a call may touch at most; one that it names and that a slot or the free list may have as well counts
+    /// twice. Takes no longer for more of them.
+    pub fn count_at_most(&self, number: usize) -> u32
+        // No clause: whether threads are worth starting is weighed by it, and any number would do.
+        requires { number < length self.now.rows }
+    {
+        let row = self.row(number);
+        let slot = Footprints::count_of(row.slot);
+        slot.saturating_add(Footprints::count_of(row.free))
+            .saturating_add(1)
+    }
+
+    /// How many parts a principal stands for: itself and what it may have.
+    fn count_of(span: Option<Span>) -> u32 {
+        match span {
+            Some(span) => u32::try_from(span.length)
+                .unwrap_or(u32::MAX)
+                .saturating_add(1),
+            None => 0,
+        }
+    }
+
     /// Whether a frame is among the first of what a principal may have.
     fn has(&self, span: Option<Span>, frame: u32) -> bool
         requires { IfSome span (λ s. IsSpan self.now.sets s) }

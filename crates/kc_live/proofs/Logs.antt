@@ -24,5 +24,6 @@ kept_more config es m n call reply kept fits is_reply is_after = record {
       map-append (λ (e : Entry). e.reply) es (entry call reply ∷ [])
       ∙ rw (map-append (λ (e : Entry). e.call) es (entry call reply ∷ []), replies_from-append (boot config) (calls_of es) (call ∷ []), kept.legal, is_reply, kept.ends) refl;
   ends = rw (map-append (λ (e : Entry). e.call) es (entry call reply ∷ []), state_after-append (boot config) (calls_of es) (call ∷ []), is_after, kept.ends) refl;
+  starts = kept.starts;
   short = omega (arith, length-append es (entry call reply ∷ []));
 }

@@ -6,6 +6,8 @@ use Rattle.kc_types.specs.declared.call.Call.{Call}
 use Rattle.kc_types.specs.declared.reply.Reply.{Reply}
 use Rattle.kc_model.specs.State.{State}
 use Rattle.kc_model.specs.Boot.{boot}
+use Rattle.kc_model.specs.Lawful.{IsLawful}
+use Rattle.kc_model.specs.Safety.{IsSafe}
 use Rattle.kc_model.specs.Next.{next, state_after}
 use Rattle.kc_model.specs.Histories.{IsLegalHistory}
 use Rattle.kc_live.specs.declared.receipt.Entry.{Entry}
@@ -25,14 +27,19 @@ replies_of entries = map (λ e. e.reply) entries
 abbrev pub IsLegal : Log → Type 0
 IsLegal l = IsLegalHistory l.config (calls_of l.entries) (replies_of l.entries)
 
+-- what every trace keeps holds of its calls
+abbrev pub IsSafeHistory : Log → Type 0
+IsSafeHistory l = IsSafe (boot l.config) (calls_of l.entries)
+
 -- the state that the calls leave
 abbrev pub end_state : Log → State
 end_state l = state_after (boot l.config) (calls_of l.entries)
 
--- the history is legal and not too long, and a core in this state stands at its end
+-- the history is legal and not too long, it begins in a lawful state, and a core in this state stands at its end
 pub record IsKept (config : Configuration) (entries : List Entry) (state : State) : Type 0 where
   pub legal : IsLegalHistory config (calls_of entries) (replies_of entries)
   pub ends : state ≡ state_after (boot config) (calls_of entries)
+  pub starts : IsLawful (boot config)
   pub short : length entries ≤ call_limit
 
 abbrev pub new_log : Configuration → Log

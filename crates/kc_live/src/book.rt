@@ -33,7 +33,7 @@ impl Model for Book {
 }
 
 impl Book {
-    ghost use Rattle.kc_live.specs.Book.{IsLegal, longer, receipt_of, reply_to, new_log};
+    ghost use Rattle.kc_live.specs.Book.{IsLegal, IsSafeHistory, longer, receipt_of, reply_to, new_log};
 
     /// The core in the boot state of its configuration, no calls, and room for as many as there can be; `Memory`
     /// where a growth was refused.
@@ -86,6 +86,7 @@ impl Book {
     pub fn close(self) -> History
         ensures same { result ≡ self }
         ensures legal { IsLegal result }
+        ensures safe { IsSafeHistory result }
     {
         let Book {
             config,
@@ -119,7 +120,7 @@ impl Model for History {
 }
 
 impl History {
-    ghost use Rattle.kc_live.specs.Book.{IsLegal, end_state};
+    ghost use Rattle.kc_live.specs.Book.{IsLegal, IsSafeHistory, end_state};
 
     /// The configuration of the core.
     pub fn config(&self) -> &Config
@@ -132,6 +133,7 @@ impl History {
     pub fn entries(&self) -> &[Entry]
         ensures entries { result.now ≡ self.now.entries }
         ensures legal { IsLegal self.now }
+        ensures safe { IsSafeHistory self.now }
         ensures short { length self.now.entries ≤ call_limit }
     {
         self.entries.as_slice()
@@ -149,6 +151,7 @@ impl History {
         ensures entries { result.0.items ≡ self.entries }
         ensures core { result.1 ≡ end_state self }
         ensures legal { IsLegal self }
+        ensures safe { IsSafeHistory self }
         ensures short { length self.entries ≤ call_limit }
     {
         let History {

@@ -1,7 +1,7 @@
 //! A trace that is cut into programs and run.
 ghost use Rattle.std.specs.Prelude.{◌≡◌, [], ◌∷◌, is_some, IfSome, IfOk, IfErr, OnOk, MatchOption, IsTrue, ◌↔◌};
 ghost use Rattle.kc_types.specs.Actors.{actor as actor_made};
-ghost use Rattle.kc_live.specs.Book.{calls_of};
+ghost use Rattle.kc_live.specs.Book.{IsSafeHistory, calls_of};
 ghost use Rattle.kc_live.specs.Program.{NoneIs, actors_of};
 ghost use Rattle.kc_live.specs.Cuts.{IsCut, IsLeftOf, IsPlaceOf, KeepsOrders, MayRun, StopsTrace, with_call};
 ghost use Rattle.kc_live.specs.Stops.{FitsHistory};
@@ -92,6 +92,7 @@ pub fn run_trace<G: Gate + Sync, R: Threads + Wait + Sync>(
     // The history is of the configuration handed in, and has each actor's calls in order.
     ensures config { IfOk result (λ history. history.config ≡ config) }
     ensures order { IfOk result (λ history. KeepsOrders (calls_of history.entries) calls.items) }
+    ensures safe { IfOk result IsSafeHistory }
 {
     let Ok(programs) = programs_of(alloc, calls) else {
         return Err(refused(LiveCause::Memory));

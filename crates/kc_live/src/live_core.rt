@@ -1,7 +1,7 @@
 //! The core under its one lock.
 ghost use Rattle.std.specs.Prelude.{◌≡◌, ◌≢◌, ◌↔◌, Err, OnOk, OnErr};
 ghost use Rattle.kc_types.specs.Actors.{actor as actor_made};
-ghost use Rattle.kc_live.specs.Book.{IsLegal};
+ghost use Rattle.kc_live.specs.Book.{IsLegal, IsSafeHistory};
 ghost use Rattle.kc_live.specs.Seat.{GainsReceipt};
 
 use crate::book::{Book, History};
@@ -43,7 +43,8 @@ impl LiveCore {
     /// Ends the history and hands it out. It waits for nobody.
     // A fresh history is legal too: tests settle what is handed out.
     pub fn close(self) -> History
-        ensures { IsLegal result }
+        ensures legal { IsLegal result }
+        ensures safe { IsSafeHistory result }
     {
         let LiveCore { alloc: _, book } = self;
         book.into_inner().close()

@@ -1,6 +1,7 @@
 //! A whole live run: from programs to a closed history with its receipts.
 ghost use Rattle.std.specs.Prelude.{◌≡◌, ◌↔◌, ◌≤◌, map, true, false, is_some, IfOk, IfErr, OnOk, IfSome, MatchOption, IsTrue};
 ghost use Rattle.kc_types.specs.Limits.{call_limit};
+ghost use Rattle.kc_live.specs.Book.{IsSafeHistory};
 ghost use Rattle.kc_live.specs.Program.{receipt_calls, HasCalls, HasNoOthers};
 ghost use Rattle.kc_live.specs.Settling.{IsSettled};
 ghost use Rattle.kc_live.specs.Plans.{MayRunTogether};
@@ -126,6 +127,9 @@ pub fn run_live<G: Gate + Sync, R: Threads + Wait + Sync>(
     // The history is of the configuration handed in, and the receipts are just those of it.
     ensures config { IfOk result (λ r. r.0.config ≡ config) }
     ensures settled { IfOk result (λ r. IsSettled r.0.entries (map (λ v. v.items) r.1.items)) }
+
+    // What every trace keeps holds of the history.
+    ensures safe { IfOk result (λ r. IsSafeHistory r.0) }
 
     // Row by row the receipts are of the programs' calls, and so is the history, actor by actor.
     ensures rows { IfOk result (λ r. map (λ row. receipt_calls row.items) r.1.items ≡ map (λ p. p.calls) programs.items) }

@@ -5,7 +5,9 @@ use Rattle.kc_types.specs.declared.call.Call.{Call}
 use Rattle.kc_types.specs.declared.call.Call.TheVariants.{GuestRead, GuestWrite, Grant, GrantRange}
 use Rattle.kc_types.specs.declared.reply.Reply.{Reply}
 use Rattle.kc_types.specs.declared.owner.Owner.TheVariants.{Vm}
+use Rattle.kc_types.specs.Configuration.{Configuration}
 use Rattle.kc_model.specs.State.{State, Frame, frame_at, slot_at}
+use Rattle.kc_model.specs.Boot.{boot}
 use Rattle.kc_model.specs.Refusals.{is_active, any_from}
 use Rattle.kc_model.specs.Next.{replies_from, state_after}
 use Rattle.kc_model.specs.Lawful.{IsLawful, same_owner}
@@ -83,3 +85,8 @@ HostIsBlind m calls = (s : Secret) (n : State) (others : List Call) → IsLawful
 abbrev pub ShowsNothing : State → List Call → List Reply → State → Type 0
 ShowsNothing old calls replies new = (s : Secret) (n : State) (others : List Call) → IsLawful n → AreAlike s old n → AlikeTraces s calls others
     → AllByRecursion (λ call. grants_secret s call ≡ false) calls → SameReplies s calls replies (replies_from n others) × AreAlike s new (state_after n others)
+
+-- the same of a run from boot, beside any other trace in the same configuration
+abbrev pub ShowsNothingFromBoot : Configuration → List Call → List Reply → State → Type 0
+ShowsNothingFromBoot c calls replies new = (s : Secret) (others : List Call) → AlikeTraces s calls others
+    → AllByRecursion (λ call. grants_secret s call ≡ false) calls → SameReplies s calls replies (replies_from (boot c) others) × AreAlike s new (state_after (boot c) others)

@@ -2,8 +2,10 @@
 ghost use Rattle.std.specs.Prelude.{◌≡◌, ◌≢◌, ◌+◌, ◌-◌, ◌<◌, ◌≤◌, ◌⊎◌, ◌↔◌, length, Some, None, Err, OnOk, OnErr, IfOk, IfErr, IsErrOf};
 ghost use Rattle.kc_types.specs.Limits.{call_limit};
 ghost use Rattle.kc_model.specs.State.{State};
-ghost use Rattle.kc_model.specs.Blind.{ShowsNothing};
+ghost use Rattle.kc_model.specs.Safety.{IsSafe};
+ghost use Rattle.kc_model.specs.Blind.{ShowsNothing, ShowsNothingFromBoot};
 ghost use Rattle.kc_model.specs.Boot.{boot};
+ghost use Rattle.kc_model.specs.Lawful.{IsLawful};
 ghost use Rattle.kc_model.specs.Next.{replies_from, state_after};
 ghost use Rattle.kc_replay.specs.Replayer.{IsFed};
 ghost use Rattle.kc_replay.specs.declared.fault.ReplayFault.TheVariants.{BadWorkers, Broken};
@@ -73,9 +75,10 @@ impl Replayer {
     /// and `Memory` where a growth was refused.
     pub fn new(alloc: Global, config: Config, workers: usize) -> Result<Replayer, ReplayFault>
         ensures start { IfOk result (λ replayer. replayer ≡ record { state = Some (boot config); fed = 0; workers = workers }) }
+        ensures lawful { OnOk result (IsLawful (boot config)) }
         ensures workers { OnOk result ((0 < workers) × (workers ≤ 64)) }
         ensures bad_workers { IfErr result (λ fault. (fault ≡ BadWorkers) ↔ ((workers ≡ 0) ⊎ (64 < workers))) }
-        ensures whole { result ≢ Err Broken }
+        ensures fault { IfErr result (λ fault. (fault ≡ BadWorkers) ⊎ (fault ≡ ReplayFault.Memory)) }
     {
         if workers == 0 || workers > 64 {
             return Err(ReplayFault::BadWorkers);
@@ -114,6 +117,7 @@ impl Replayer {
         requires { self.old.fed + length calls.now ≤ call_limit }
         ensures fed { IfOk result (λ replies. IsFed self.old self.new calls.now replies.items) }
         ensures blind { IfOk result (λ replies. (start : State) → self.old.state ≡ Some start → ShowsNothing start calls.now replies.items (state_after start calls.now)) }
+        ensures safe { OnOk result ((start : State) → self.old.state ≡ Some start → IsSafe start calls.now) }
         ensures fails { OnErr result (self.new ≡ record self.old { state = None }) }
         ensures broken { IsErrOf result Broken ↔ (self.old.state ≡ None) }
         ensures workers { result ≢ Err BadWorkers }
@@ -164,10 +168,14 @@ pub fn replay<R: Threads + Wait + Sync, G: Gate + Sync>(
 ) -> Result<Outcome, ReplayFault>
     requires { length calls.now ≤ call_limit }
     ensures blind { IfOk result (λ outcome. ShowsNothing (boot config) calls.now outcome.replies.items outcome.core) }
+    ensures blind_from_boot { IfOk result (λ outcome. ShowsNothingFromBoot config calls.now outcome.replies.items outcome.core) }
+    ensures safe { OnOk result (IsSafe (boot config) calls.now) }
     ensures replies { IfOk result (λ outcome. outcome.replies.items ≡ replies_from (boot config) calls.now) }
     ensures state { IfOk result (λ outcome. outcome.core ≡ state_after (boot config) calls.now) }
     ensures workers { OnOk result ((0 < workers) × (workers ≤ 64)) }
     ensures bad_workers { IfErr result (λ fault. (fault ≡ BadWorkers) ↔ ((workers ≡ 0) ⊎ (64 < workers))) }
+    ensures whole { result ≢ Err Broken }
+    ensures started { result ≡ Err ReplayFault.Start → 1 < workers }
 {
     let mut replayer = Replayer::new(alloc, config, workers)?;
     let replies = replayer.feed(rt, alloc, calls, gate)?;

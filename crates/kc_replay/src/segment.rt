@@ -2,6 +2,7 @@
 ghost use Rattle.std.specs.Prelude.{◌≡◌, ◌≢◌, ℕ, ◌<◌, ◌≤◌, List, length, Err, OnOk, IfOk};
 ghost use Rattle.std.specs.List.Sorted.{IsPermutation};
 ghost use Rattle.kc_types.specs.Limits.{call_limit};
+ghost use Rattle.kc_model.specs.Safety.{IsSafe};
 ghost use Rattle.kc_model.specs.Blind.{ShowsNothing};
 ghost use Rattle.kc_model.specs.Lawful.{IsLawful};
 ghost use Rattle.kc_model.specs.Next.{replies_from, state_after};
@@ -17,7 +18,7 @@ use crate::trace::footprints;
 use crate::wave::run_wave;
 use kc_core::KCore;
 use kc_footprints::{Footprints, Plan};
-use kc_types::{Call, Memory, Phase, Reply};
+use kc_types::{Call, Memory, Reply};
 use std::alloc::Global;
 use std::sync::Wait;
 use std::thread::Threads;
@@ -78,36 +79,43 @@ fn share_wave<R: Threads + Wait + Sync, G: Gate + Sync>(
 }
 
 /// So many frames to hash are worth a thread. A frame takes SHA-256 some 12 to 15 µs (8,192 frames 94 to 124 ms on one
-/// thread), so these take 0.4 ms and more, where starting a thread takes 0.02 to 0.03 ms and taking them out and
-/// putting them back some 0.07 ms. What other calls do costs no more than taking parts out.
+/// thread), so these take 0.4 ms and more, where starting a thread takes 0.02 to 0.03 ms.
 const FRAMES_WORTH_A_THREAD: u32 = 32;
 
-/// How many frames a call hashes: all that a booting slot has are its images'.
+/// So many parts may be taken out for each frame that is hashed beside others. One taken out and put back takes some
+/// 0.07 µs, so these take a tenth of what is gained. What other calls do costs no more than taking parts out.
+const PARTS_FOR_A_FRAME: u32 = 16;
+
+/// How many frames a call hashes.
 fn hashed(core: &KCore, call: &Call) -> u32 {
-    let Call::Verify { vm } = call else {
-        return 0;
-    };
-    if core.phase(*vm) != Some(Phase::Booting) {
-        return 0;
-    }
-    match core.slot_ends(*vm) {
-        Some(ends) => ends.count,
-        None => 0,
+    match call {
+        Call::Verify { vm } => core.frames_to_hash(*vm),
+        _ => 0,
     }
 }
 
-/// Whether the calls of a wave but the longest are work enough to start threads for.
-fn is_worth_threads(core: &KCore, calls: &[Call], members: &[usize]) -> bool
+/// Whether the calls of a wave but the longest are work enough to start threads for, and to take out what all may touch.
+fn is_worth_threads(
+    core: &KCore,
+    calls: &[Call],
+    feet: &Footprints,
+    members: &[usize],
+) -> bool
     requires members { AreCallNumbers (length calls.now) members.now }
+    requires rows { length feet.now.rows ≡ length calls.now }
 {
     let mut all: u32 = 0;
     let mut longest = 0;
+    let mut taken: u32 = 0;
     for place in 0..members.len() {
-        let one = hashed(core, &calls[members[place]]);
+        let number = members[place];
+        let one = hashed(core, &calls[number]);
         all = all.saturating_add(one);
         longest = longest.max(one);
+        taken = taken.saturating_add(feet.count_at_most(number));
     }
-    all.saturating_sub(longest) >= FRAMES_WORTH_A_THREAD
+    let beside = all.saturating_sub(longest);
+    beside >= FRAMES_WORTH_A_THREAD && taken / PARTS_FOR_A_FRAME <= beside
 }
 
 /// Makes the calls of a wave: by workers where a call may wait for another, or where that is worth it.
@@ -129,7 +137,7 @@ fn take_wave<R: Threads + Wait + Sync, G: Gate + Sync>(
     ensures { IfOk result (IsWaveTaken core calls.now members.now replies.old replies.new) }
 {
     let hands = workers.min(members.len());
-    if hands > 1 && (gate.may_wait() || is_worth_threads(&core, calls, members)) {
+    if hands > 1 && (gate.may_wait() || is_worth_threads(&core, calls, feet, members)) {
         let Ok(dealt) = deal(alloc, members, hands) else {
             let mut core = core;
             core.wipe(rt);
@@ -333,6 +341,7 @@ pub(crate) fn answer_segment<R: Threads + Wait + Sync, G: Gate + Sync>(
     ensures blind { IfOk result (λ outcome. ShowsNothing core calls.now outcome.replies.items outcome.core) }
     ensures replies { IfOk result (λ outcome. outcome.replies.items ≡ replies_from core calls.now) }
     ensures state { IfOk result (λ outcome. outcome.core ≡ state_after core calls.now) }
+    ensures safe { IsSafe core calls.now }
     ensures started { result ≡ Err ReplayFault.Start → 1 < workers }
 {
     if workers > 1 && calls.len() > 1 && (gate.may_wait() || hash_twice(calls)) {

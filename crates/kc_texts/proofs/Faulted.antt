@@ -21,6 +21,6 @@ stream_config streams.Memory fault e = cc
 stream_config streams.Read fault e = cc
 
 pub stream_told : (said : StreamFault) → said ≢ streams.Trace Memory → IsTold (text_fault said)
-stream_told (streams.Trace other) h = (λ e. cc, λ e. let same : other ≡ Memory = cc in h (ap streams.Trace same), λ e. cc)
-stream_told streams.Memory h = (λ e. cc, λ e. cc, λ e. cc)
-stream_told streams.Read h = (λ e. cc, λ e. cc, λ e. cc)
+stream_told (streams.Trace other) h = (λ e. cc, λ e. let same : other ≡ Memory = cc in h (ap streams.Trace same), λ d e. cc)
+stream_told streams.Memory h = (λ e. cc, λ e. cc, λ d e. cc)
+stream_told streams.Read h = (λ e. cc, λ e. cc, λ d e. cc)

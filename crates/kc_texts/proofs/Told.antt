@@ -23,8 +23,8 @@ sources_after sources x (Err f) h (inr write) = record { ended = tt; read = λ e
 
 pub texts_after : {A B : Type 0} (config trace : Seen) (unread : Type 0) (x : A) (last : Result B TextFault) → TellsTexts config trace unread (Ok x) → IfErr last IsLastFault → TellsTexts config trace unread last
 texts_after config trace unread x (Ok y) h fault = record { config_fault = λ f e. absurd cc; trace_fault = λ f e. absurd cc; behind = h.behind; configured = λ f e. absurd cc; told = tt }
-texts_after config trace unread x (Err f) h (inl memory) = record { config_fault = λ g e. absurd cc; trace_fault = λ g e. absurd cc; behind = h.behind; configured = λ g e. absurd cc; told = (λ e. cc, λ e. cc, λ e. cc) }
-texts_after config trace unread x (Err f) h (inr write) = record { config_fault = λ g e. absurd cc; trace_fault = λ g e. absurd cc; behind = h.behind; configured = λ g e. absurd cc; told = (λ e. cc, λ e. cc, λ e. cc) }
+texts_after config trace unread x (Err f) h (inl memory) = record { config_fault = λ g e. absurd cc; trace_fault = λ g e. absurd cc; behind = h.behind; configured = λ g e. absurd cc; told = (λ e. cc, λ e. cc, λ d e. cc) }
+texts_after config trace unread x (Err f) h (inr write) = record { config_fault = λ g e. absurd cc; trace_fault = λ g e. absurd cc; behind = h.behind; configured = λ g e. absurd cc; told = (λ e. cc, λ e. cc, λ d e. cc) }
 
 pub replay_after : {A B : Type 0} (workers : ℕ) (config : Option (List ℕ)) (x : A) (last : Result B TextFault) → TellsReplay workers config (Ok x) → IfErr last IsLastFault → TellsReplay workers config last
 replay_after workers config x (Ok y) h fault = record { judged = (λ e. absurd cc, λ bad. let e = h.judged.1 bad in absurd cc); started = λ e. absurd cc; settled = λ e. cc; actor = λ p e. cc }

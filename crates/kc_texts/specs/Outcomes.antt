@@ -45,7 +45,7 @@ pub record TellsTexts {A : Type 0} (config trace : Seen) (unread : Type 0) (resu
   -- the trace is read and judged only behind a configuration
   pub behind : unread ⊎ IsConfigured config.had
   pub configured : (fault : TraceFault) → result ≡ Err (texts.Trace fault) → IsConfigured config.had
-  -- want of memory is told as that, and never as a fault of a text
+  -- out of memory is told as that, and never as a fault of a text; no fault is one of a dump
   pub told : IfErr result IsTold
 
 -- what a replay by so many workers may be refused for, behind this configuration

@@ -3,7 +3,7 @@ use Rattle.std.specs.Prelude.{◌≡◌, ◌≢◌, ℕ, List, take, Option, Som
 use Rattle.std.specs.Io.KnownBytes.{Appends}
 use Rattle.kc_types.specs.Configuration.{Configuration}
 use Rattle.kc_types.specs.declared.call.Call.{Call}
-use Rattle.kc_dump_text.specs.declared.fault.DumpFault.TheVariants as dumps
+use Rattle.kc_dump_text.specs.declared.fault.DumpFault.{DumpFault}
 use Rattle.kc_trace.specs.ConfigText.{config_in}
 use Rattle.kc_trace.specs.Trace.{IsTrace}
 use Rattle.kc_trace.specs.declared.config_text.ConfigTextFault.TheVariants as configs
@@ -27,9 +27,9 @@ pub record HaveRead (config_source trace_source : Option (List ℕ)) (config : C
   pub configured : IfSome config_source (λ text. config_in text ≡ Ok config)
   pub traced : IfSome trace_source (λ text. IsTrace text calls)
 
--- want of memory is told as that, and never as a fault of a text
+-- out of memory is told as that, and never as a fault of a text; no fault is one of a dump
 abbrev pub IsTold : TextFault → Type 0
-IsTold fault = (fault ≢ texts.Config configs.Memory) × (fault ≢ texts.Trace traces.Memory) × (fault ≢ texts.Dump dumps.Memory)
+IsTold fault = (fault ≢ texts.Config configs.Memory) × (fault ≢ texts.Trace traces.Memory) × ((said : DumpFault) → fault ≢ texts.Dump said)
 
 -- reading ends in a fault of a source, of a text or of memory
 pub record IsReadingFault (fault : TextFault) : Type 0 where

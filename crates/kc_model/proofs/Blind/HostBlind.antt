@@ -9,7 +9,7 @@ use Rattle.kc_model.specs.State.{State, Frame, Slot, frame_at, mapped_at}
 use Rattle.kc_model.specs.Refusals.{refusal, is_active}
 use Rattle.kc_model.specs.Next.{next, unless_refused, replies_from, state_after}
 use Rattle.kc_model.specs.Lawful.{IsLawful, same_owner}
-use Rattle.kc_model.specs.Blind.{Secret, has_gfn, is_secret, is_running, hidden, hidden_call, reads_secret, grants_secret, IsPrivate, AreAlike, AlikeTraces, SeesTheSame, HostIsBlind, ShowsNothing}
+use Rattle.kc_model.specs.Blind.{Secret, has_gfn, is_secret, is_running, hidden, hidden_call, reads_secret, grants_secret, IsPrivate, AreAlike, AlikeTraces, SeesTheSame, HostIsBlind, ShowsNothing, ShowsNothingFromBoot}
 use Rattle.kc_model.proofs.Lawful.Keeps.{lawful-next}
 use Rattle.kc_model.proofs.Blind.Unseen.{refusal-hidden, frame-hidden, and-false}
 use Rattle.kc_model.proofs.Blind.Blinds.{blind-effect, hidden-again}
@@ -126,3 +126,6 @@ secret-mapped s m f is v_in e = by-gfn (frame_at m f).gfn refl (second (same_own
     by-gfn : (gfn : Option ℕ) → (frame_at m f).gfn ≡ gfn → has_gfn s.gfns gfn ≡ true → (g : ℕ) × (mapped_at m s.vm g ≡ Some f) × (s.gfns g ≡ true)
     by-gfn None at h = absurd cc
     by-gfn (Some g) at h = (g, (is.mapped s.vm g f v_in).1 (secret-owner s (is_running m s.vm) (frame_at m f) e, at), h)
+
+pub shows_nothing-boot : (c : Configuration) (calls : List Call) (replies : List Reply) (new : State) → IsLawful (boot c) → ShowsNothing (boot c) calls replies new → ShowsNothingFromBoot c calls replies new
+shows_nothing-boot c calls replies new is shown s others traces grants = shown s (boot c) others is (alike-boot s c) traces grants

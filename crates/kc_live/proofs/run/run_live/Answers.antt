@@ -11,7 +11,7 @@ returns-in-Some-stop-clause-left g c =
     let settled = rw c.as_slice-2.ensures.value at answer.1 in
     let begun = c.make_calls-rows.ensures.begun in
     rw c.stopped-in-Some-stop.ensures (record {
-      legal = c.close-history.ensures;
+      legal = c.close-history.ensures.legal;
       config = λ late. answer.0 ∙ c.in-Ok.ensures.config;
       begun = λ late. run_begun (λ v. v.items) _ _ c.make_calls-rows.result.rows.items settled begun sound.own sound.apart;
       others = λ late. run_others (λ v. v.items) _ _ c.make_calls-rows.result.rows.items settled begun sound.own sound.apart;

@@ -16,3 +16,9 @@ returns-in-Ok-clause-blind g c = λ start from.
     let before : c.args.self.now.state ≡ Some c.in-Some.core = search rules in
     let same : c.in-Some.core ≡ start = cc in
     rw same at (rw c.in-Ok.ensures.state at c.in-Ok.ensures.blind)
+
+pub returns-in-Ok-clause-safe : goal.returns-in-Ok-clause-safe
+returns-in-Ok-clause-safe g c = λ start from.
+    let before : c.args.self.now.state ≡ Some c.in-Some.core = search rules in
+    let same : c.in-Some.core ≡ start = cc in
+    rw same at c.in-Ok.ensures.safe
