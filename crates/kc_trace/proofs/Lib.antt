@@ -3,3 +3,4 @@ pub mod Spelled
 pub mod Runs
 pub mod Traces
 pub mod ConfigMembers
+pub mod Written

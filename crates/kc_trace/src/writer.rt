@@ -4,6 +4,9 @@ ghost use Rattle.std.specs.List.{list_any, join_with_byte};
 ghost use Rattle.std.specs.Fmt.{decimal};
 ghost use Rattle.hex.specs.Hex.{encode_lower};
 ghost use Rattle.kc_types.specs.Limits.{call_limit};
+ghost use Rattle.kc_types.specs.Bytes.{IsData};
+ghost use Rattle.kc_model.specs.Ranged.{IsRanged};
+ghost use Rattle.kc_trace.specs.Trace.{IsTrace};
 ghost use Rattle.kc_trace.specs.Spelling.{is_new, stands_in, version_of, trace_header, line_of, longest_call, trace_of};
 
 use kc_lines::{push_bytes, push_digits, push_number};
@@ -18,6 +21,7 @@ fn push_data(text: &mut Vec<u8>, bytes: &Data)
     requires { vec_len text.old + 8193 ≤ vec_capacity text.old }
     ensures items { text.new.items ≡ text.old.items ++ (32 ∷ encode_lower bytes.now) }
     ensures len { vec_len text.new ≤ vec_len text.old + 8193 }
+    ensures data { IsData bytes.now }
     ensures capacity { vec_capacity text.old ≤ vec_capacity text.new }
 {
     push_bytes(text, b" ");
@@ -73,6 +77,7 @@ fn push_line(text: &mut Vec<u8>, call: &Call)
     requires { vec_len text.old + 8243 ≤ vec_capacity text.old }
     ensures items { text.new.items ≡ text.old.items ++ line_of call.now }
     ensures len { vec_len text.new ≤ vec_len text.old + 8243 }
+    ensures ranged { IsRanged call.now }
     ensures capacity { vec_capacity text.old ≤ vec_capacity text.new }
 {
     match call {
@@ -139,6 +144,7 @@ fn push_line(text: &mut Vec<u8>, call: &Call)
 pub fn push_call(text: &mut Vec<u8>, call: &Call)
     requires { vec_len text.old + longest_call ≤ vec_capacity text.old }
     ensures line { text.new.items ≡ text.old.items ++ (line_of call.now ++ 10 ∷ []) }
+    ensures ranged { IsRanged call.now }
     ensures capacity { vec_capacity text.old ≤ vec_capacity text.new }
 {
     push_line(text, call);
@@ -193,11 +199,12 @@ pub fn push_header(text: &mut Vec<u8>, version: Version)
 }
 
 /// The text of at most 65,536 calls: the header of the first version in which they may all stand, and a line for
-/// each call. Each line ends with a newline.
+/// each call. Each line ends with a newline. `read_trace` reads it as these calls.
 pub fn write_trace(alloc: Global, calls: &[Call]) -> Result<Vec<u8>, Memory>
     requires { length calls.now ≤ call_limit }
     // No clause can rule out want of memory: tests write traces.
-    ensures { IfOk result (λ text. text.items ≡ trace_of calls.now) }
+    ensures text { IfOk result (λ text. text.items ≡ trace_of calls.now) }
+    ensures read { IfOk result (λ text. IsTrace text.items calls.now) }
 {
     let mut text = Vec::with_capacity(alloc, LONGEST_CALL)?;
     push_header(&mut text, version_of(calls));

@@ -1,0 +1,31 @@
+-- Calls that were written are those of a trace.
+use Rattle.std.proofs.Common.{◌≡◌, Bool, true, false, List, [], ◌∷◌, ◌++◌, refl, inl, inr}
+use Rattle.std.specs.List.{AllByRecursion, list_any}
+use Rattle.std.proofs.lemmas.Bool.{cases_Bool, or_parts}
+use Rattle.kc_types.specs.declared.version.Version.TheVariants.{One, Two}
+use Rattle.kc_types.specs.declared.call.Call.{Call}
+use Rattle.kc_model.specs.Ranged.{IsRanged}
+use Rattle.kc_trace.specs.Spelling.{is_new, version_of}
+use Rattle.kc_trace.specs.Trace.{AreCalls}
+
+pub ranged_push : (calls : List Call) (call : Call) → AllByRecursion IsRanged calls → IsRanged call → AllByRecursion IsRanged (calls ++ call ∷ [])
+ranged_push [] call all one = (one, tt)
+ranged_push (first ∷ calls) call all one = (all.0, ranged_push calls call all.1 one)
+
+in_the_second : (calls : List Call) → AllByRecursion IsRanged calls → AreCalls Two calls
+in_the_second [] all = tt
+in_the_second (call ∷ calls) all = ((all.0, refl), in_the_second calls all.1)
+
+in_the_first : (calls : List Call) → list_any is_new calls ≡ false → AllByRecursion IsRanged calls → AreCalls One calls
+in_the_first [] none all = tt
+in_the_first (call ∷ calls) none all =
+    let parts = or_parts (is_new call) (list_any is_new calls) none in
+    ((all.0, rw parts.0 refl), in_the_first calls parts.1 all.1)
+
+pub are_calls : (calls : List Call) → AllByRecursion IsRanged calls → AreCalls (version_of calls) calls
+unfolding version_of
+are_calls calls all =
+    elim (cases_Bool (list_any is_new calls)) [
+      | inl new ↦ rw new (in_the_second calls all)
+      | inr old ↦ rw old (in_the_first calls old all)
+    ]
