@@ -19,7 +19,7 @@ use Rattle.kc_links.specs.Chain.{Links, spelled, next_of}
 use Rattle.kc_links.specs.Ending.{listed, IsList}
 use Rattle.kc_links.proofs.Times.{times-same, times-other}
 use Rattle.kc_links.proofs.Steps.{inside-held}
-use Rattle.kc_parts.specs.Parts.{Held, page_at, held_slot, vm_at, links_of, ends_at, with_page, with_vm, link_of}
+use Rattle.kc_parts.specs.Parts.{HeldSlots, Held, page_at, held_slot, vm_at, links_of, ends_at, with_page, with_vm, link_of}
 use Rattle.kc_parts.specs.States.{frame_in, unlinked_slot, state_of, here_of, owner_at, lacks_list, is_away, listed_frames, AreLists, IsLinked}
 use Rattle.kc_parts.specs.Emptying.{untouched_page, with_untouched, with_scrubbed, all_scrubbed, IsEmptied}
 use Rattle.kc_parts.proofs.Pages.{page-set, page-other, links-kept}
@@ -283,6 +283,7 @@ module _ (old : Held) (v : ℕ) (vm : VmSlot) (at : vm_at old v ≡ Some vm) whe
       let same : listed_frames old v ≡ fs = frames-here old v vm at in
       record {
         numbers = kept.numbers;
+        slots = ap (λ (vms : HeldSlots). vms.numbers) kept.vms;
         filled = kept.filled;
         free = kept.free;
         links = kept.links;

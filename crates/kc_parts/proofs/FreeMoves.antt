@@ -17,7 +17,7 @@ use Rattle.kc_links.specs.Chain.{unlinked}
 use Rattle.kc_links.specs.Ending.{listed, IsList, KeepsOthers}
 use Rattle.kc_links.proofs.Times.{times-same, times-other, once-first}
 use Rattle.kc_links.proofs.Chains.{chain-once}
-use Rattle.kc_parts.specs.Parts.{Held, page_at, vm_at, links_of, ends_at}
+use Rattle.kc_parts.specs.Parts.{HeldSlots, Held, page_at, vm_at, links_of, ends_at}
 use Rattle.kc_parts.specs.States.{frame_in, slot_in, owner_at, here_of, AreLists, IsLoose, IsFreeMove}
 use Rattle.kc_parts.specs.Linking.{IsSameRest}
 use Rattle.kc_parts.proofs.Moving.{lists-moved, lists-same}
@@ -44,6 +44,7 @@ module _ (old mid : Held) (e e' : Ends) (frames : List ℕ) (rest : IsSameRest o
   pub free-moved : IsList (links_of mid) e' → ((f : ℕ) → 0 < times_in (listed (links_of mid) e') f → 0 < times_in frames f) → IsFreeMove old moved
   free-moved list within = record {
     numbers = rest.numbers;
+    slots = ap (λ (vms : HeldSlots). vms.numbers) rest.vms;
     filled = rest.filled;
     here = here-all;
     owners = owners-same;

@@ -16,7 +16,7 @@ use Rattle.kc_model.specs.Effects.{without}
 use Rattle.kc_links.proofs.Others.{without-same, without-other}
 use Rattle.kc_links.specs.Chain.{unlinked}
 use Rattle.kc_links.specs.Ending.{listed, IsList, KeepsOthers}
-use Rattle.kc_parts.specs.Parts.{Held, page_at, held_slot, vm_at, links_of, ends_at, with_vm, with_ends}
+use Rattle.kc_parts.specs.Parts.{HeldSlots, Held, page_at, held_slot, vm_at, links_of, ends_at, with_vm, with_ends}
 use Rattle.kc_parts.specs.States.{frame_in, slot_in, unlinked_slot, owner_at, here_of, listed_frames, AreLists, IsLoose, IsSlotMove}
 use Rattle.kc_parts.specs.Linking.{IsSameRest}
 use Rattle.kc_parts.proofs.Moving.{same_or_other, lists-moved, lists-same}
@@ -70,6 +70,7 @@ module _ (old mid : Held) (v : ℕ) (vm : VmSlot) (e' : Ends) (frames : List ℕ
   pub slot-moved : IsList (links_of mid) e' → ((f : ℕ) → 0 < times_in (listed (links_of mid) e') f → 0 < times_in frames f) → IsSlotMove v old moved
   slot-moved list within = record {
     numbers = rest.numbers;
+    slots = ap (λ (vms : HeldSlots). vms.numbers) rest.vms;
     filled = rest.filled;
     here = here-all;
     owners = owners-same;

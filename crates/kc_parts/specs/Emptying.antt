@@ -31,6 +31,7 @@ all_scrubbed h (f ∷ fs) = all_scrubbed (with_scrubbed h f) fs
 -- the slot is as at boot, its frames are untouched free ones of no list, and nothing else that is seen has changed
 pub record IsEmptied (v : ℕ) (old new : Held) : Type 0 where
   pub numbers : new.numbers ≡ old.numbers
+  pub slots : new.vms.numbers ≡ old.vms.numbers
   pub filled : new.filled ≡ old.filled
   pub free : new.free ≡ old.free
   pub links : links_of new ≡ links_of old

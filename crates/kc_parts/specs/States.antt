@@ -88,6 +88,7 @@ pub record IsLoose (h : Held) (f : ℕ) : Type 0 where
 -- the free list changes, and nothing else that is seen
 pub record IsFreeMove (old new : Held) : Type 0 where
   pub numbers : new.numbers ≡ old.numbers
+  pub slots : new.vms.numbers ≡ old.vms.numbers
   pub filled : new.filled ≡ old.filled
   pub here : (r : Resource) → here_of new r ≡ here_of old r
   pub owners : (f : ℕ) → owner_at new f ≡ owner_at old f
@@ -102,6 +103,7 @@ listed_frames h v = (slot_in (links_of h) (vm_at h v)).frames
 -- the list of a slot changes, and nothing else that is seen
 pub record IsSlotMove (v : ℕ) (old new : Held) : Type 0 where
   pub numbers : new.numbers ≡ old.numbers
+  pub slots : new.vms.numbers ≡ old.vms.numbers
   pub filled : new.filled ≡ old.filled
   pub here : (r : Resource) → here_of new r ≡ here_of old r
   pub owners : (f : ℕ) → owner_at new f ≡ owner_at old f
