@@ -7,3 +7,6 @@ invariant_of-result c = record {
   linked = c.in_ok-parts.ensures.linked;
   whole = c.in_ok-parts.ensures.whole;
 }
+
+pub returns-clause-lawful : goal.returns-clause-lawful
+returns-clause-lawful c = lawful-boot c.args.config c.in_ok-parts.ensures.config
