@@ -95,12 +95,7 @@ fn hashed(core: &KCore, call: &Call) -> u32 {
 }
 
 /// Whether the calls of a wave but the longest are work enough to start threads for, and to take out what all may touch.
-fn is_worth_threads(
-    core: &KCore,
-    calls: &[Call],
-    feet: &Footprints,
-    members: &[usize],
-) -> bool
+fn is_worth_threads(core: &KCore, calls: &[Call], feet: &Footprints, members: &[usize]) -> bool
     requires members { AreCallNumbers (length calls.now) members.now }
     requires rows { length feet.now.rows ≡ length calls.now }
 {
