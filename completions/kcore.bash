@@ -1,0 +1,20 @@
+# Completions of kcore for bash.
+_kcore() {
+    local word=$2 before=$3 command=
+    [ "$COMP_CWORD" -le 1 ] || command=${COMP_WORDS[1]}
+    COMPREPLY=()
+    case $before in
+        --config) mapfile -t COMPREPLY < <(compgen -f -- "$word"); compopt -o filenames 2> /dev/null; return ;;
+        --workers) mapfile -t COMPREPLY < <(compgen -W "$(seq 64)" -- "$word"); return ;;
+    esac
+    local words=
+    case $command in
+        '') words='replay live audit help --help --version' ;;
+        replay) words='--config --workers --dump --help' ;;
+        live) words='--config --workers --help' ;;
+        audit) words='--help' ;;
+        help) [ "$COMP_CWORD" -gt 2 ] || words='replay live audit help' ;;
+    esac
+    mapfile -t COMPREPLY < <(compgen -W "$words" -- "$word")
+}
+complete -F _kcore kcore
