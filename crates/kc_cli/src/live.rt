@@ -51,7 +51,11 @@ fn calls_in(alloc: Global, entries: Vec<Entry>) -> Result<Vec<Call>, Memory>
 fn wiped(rt: &(impl Threads + Sync), stop: LiveStop) -> LiveCause
     ensures { result ≡ stop.cause }
 {
-    let LiveStop { cause, history } = stop;
+    let LiveStop {
+        cause,
+        history,
+        is_settled: _,
+    } = stop;
     match history {
         Some(history) => {
             let (_entries, mut core) = history.into_parts();

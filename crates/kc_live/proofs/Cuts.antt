@@ -15,10 +15,7 @@ use Rattle.kc_live.specs.declared.receipt.Entry.{Entry}
 use Rattle.kc_live.specs.Book.{calls_of}
 use Rattle.kc_live.specs.Program.{ProgramView, NoneIs, ActorsApart, actors_of, HasCalls}
 use Rattle.kc_live.specs.Plans.{count_of, stranger_in, stranger_from}
-use Rattle.kc_live.specs.declared.stop.LiveCause.{LiveCause}
-use Rattle.kc_live.specs.declared.stop.LiveCause.TheVariants.{NotYours, HistoryFull, Memory, Start, Unsettled, BadActor}
-use Rattle.kc_live.specs.Stops.{IsCauseOf}
-use Rattle.kc_live.specs.Cuts.{StopsTrace, program_of, AreOf, OwnCalls, IsCut, IsPlaceOf, grown, noted, appearing, with_call, KeepsOrders}
+use Rattle.kc_live.specs.Cuts.{program_of, AreOf, OwnCalls, IsCut, IsPlaceOf, grown, noted, appearing, with_call, KeepsOrders}
 use Rattle.kc_live.proofs.Actors.{same_actor-refl, same_actor-true, same_actor-false}
 
 -- the call, where it is this actor's
@@ -157,21 +154,3 @@ by-programs a h (p ∷ ps) has others =
 
 pub keeps-orders : (h : List Entry) (ps : List ProgramView) (calls : List Call) → IsCut calls ps → HasCalls h ps → ((a : Actor) → NoneIs a (actors_of ps) → calls_by a (calls_of h) ≡ []) → KeepsOrders (calls_of h) calls
 keeps-orders h ps calls cut has others a = by-programs a h ps has (others a) ∙ cut.each a
-
-some-none : (i call : ℕ) (found : Option (ℕ × ℕ)) → found ≡ None → found ≡ Some (i, call) → ⊥
-some-none i call None none some = cc
-some-none i call (Some x) none some = cc
-
--- why the programs of a trace stop is why the trace stops
-pub stops-trace : (config : Configuration) (calls : List Call) (ps : List ProgramView) (cause : LiveCause) → IsCut calls ps → IsCauseOf config ps cause → StopsTrace config calls cause
-stops-trace config calls ps (BadActor i) cut stops = (ps, cut, stops)
-stops-trace config calls ps (NotYours i call) cut stops = some-none i call (stranger_from 0 ps) (strangers-none 0 ps cut.own) stops.1
-stops-trace config calls ps HistoryFull cut stops = let count = cut.count in let many = stops.1 in omega arith
-stops-trace config calls ps Memory cut stops = tt
-stops-trace config calls ps Start cut stops = (ps, cut, stops)
-stops-trace config calls ps Unsettled cut stops = (ps, cut, stops)
-
--- what is so of all that is there, is so of what is there
-pub where_some : {X : Type 0} {P Q : X → Type 0} (found : Option X) → ((x : X) → P x → Q x) → IfSome found P → IfSome found Q
-where_some (Some x) then_ held = then_ x held
-where_some None then_ held = tt

@@ -6,3 +6,4 @@ pub mod Planning
 pub mod Runs
 pub mod Beginnings
 pub mod Cuts
+pub mod Judged

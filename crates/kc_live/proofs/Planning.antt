@@ -14,7 +14,7 @@ apart_push : (a : Actor) (owners : List Actor) → ActorsApart owners → NoneIs
 apart_push a [] apart none = (tt, tt)
 apart_push a (o ∷ owners) apart none = (none_push o a owners apart.0 (λ e. none.0 (sym e)), apart_push a owners apart.1 none.1)
 
-known_push : (config : Configuration) (a : Actor) (owners : List Actor) → AreActors config owners → IsActor config a → AreActors config (owners ++ a ∷ [])
+pub known_push : (config : Configuration) (a : Actor) (owners : List Actor) → AreActors config owners → IsActor config a → AreActors config (owners ++ a ∷ [])
 known_push config a [] known one = (one, tt)
 known_push config a (o ∷ owners) known one = (known.0, known_push config a owners known.1 one)
 

@@ -8,9 +8,11 @@ use Rattle.kc_types.specs.declared.call.Actor.{Actor}
 use Rattle.kc_types.specs.Actors.{actor}
 use Rattle.kc_live.specs.declared.receipt.Entry.{Entry}
 use Rattle.kc_live.specs.declared.receipt.Receipt.{Receipt}
+use Rattle.kc_live.specs.declared.program.ThreadStop.{ThreadStop}
 use Rattle.kc_live.specs.Program.{ProgramView}
 use Rattle.kc_live.specs.Settling.{IsSettled}
 use Rattle.kc_live.specs.Program.{receipt_calls, ActorsApart, actors_of, HasCalls, HasBeginnings, HasNoOthers}
+use Rattle.kc_live.specs.Stops.{run_cause}
 use Rattle.kc_live.specs.Threads.{AreBeginnings}
 use Rattle.kc_model.specs.Histories.{same_actor}
 use Rattle.kc_live.specs.Plans.{stranger_in, stranger_from}
@@ -100,3 +102,9 @@ module _ {X : Type 0} (items : X → List Receipt) (h : List Entry) (ps : List P
   run_others a none =
       let beside : IsSettled h ([] ∷ map items rows) = record { once = settled.once; match = ((tt, tt), settled.match) } in
       (settled_by_actors h (a ∷ actors_of ps) ([] ∷ map items rows) beside (tt, owned) (none, apart)).0
+
+-- a run with no cause to stop made all calls, and its receipts are settled
+pub no_cause : (stop : Option ThreadStop) (is_settled : Bool) → run_cause stop is_settled ≡ None → (stop ≡ None) × (is_settled ≡ true)
+no_cause None true none = (refl, refl)
+no_cause None false none = cc
+no_cause (Some stop) is_settled none = cc

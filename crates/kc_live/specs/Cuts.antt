@@ -1,5 +1,5 @@
 -- A trace that is cut into programs, and a history that has its calls.
-use Rattle.std.specs.Prelude.{◌≡◌, ◌<◌, ◌++◌, ℕ, List, [], ◌∷◌, length, take, slice_get, Some, true, if◌then◌else◌}
+use Rattle.std.specs.Prelude.{◌≡◌, ◌<◌, ◌++◌, ℕ, Bool, List, [], ◌∷◌, length, map, take, slice_get, Some, true, if◌then◌else◌}
 use Rattle.kc_types.specs.Actors.{actor}
 use Rattle.kc_types.specs.Configuration.{Configuration}
 use Rattle.kc_types.specs.Limits.{call_limit}
@@ -10,7 +10,7 @@ use Rattle.kc_live.specs.declared.stop.LiveCause.{LiveCause}
 use Rattle.kc_live.specs.declared.stop.LiveCause.TheVariants.{NotYours, HistoryFull, Memory, Start, Unsettled, BadActor}
 use Rattle.kc_live.specs.Program.{ProgramView, NoneIs, ActorsApart, actors_of}
 use Rattle.kc_live.specs.Book.{Log}
-use Rattle.kc_live.specs.Plans.{IsFirstBad, MayRunTogether, count_of}
+use Rattle.kc_live.specs.Plans.{IsActor, AreActors, IsFirstBad, MayRunTogether, count_of}
 use Rattle.kc_live.specs.Stops.{IsLeftHistory}
 
 -- the calls of the actor's program; none where it has no program
@@ -80,5 +80,22 @@ StopsTrace config calls Start = MayRun config calls
 StopsTrace config calls Unsettled = MayRun config calls
 
 -- the history that a run of a trace left, for the programs that the trace is cut into
-abbrev pub IsLeftOf : Configuration → List Call → LiveCause → Log → Type 0
-IsLeftOf config calls cause left = (ps : List ProgramView) × IsCut calls ps × IsLeftHistory config ps cause left
+abbrev pub IsLeftOf : Configuration → List Call → Bool → Log → Type 0
+IsLeftOf config calls is_settled left = (ps : List ProgramView) × IsCut calls ps × IsLeftHistory config ps is_settled left
+
+-- who makes each call
+abbrev pub callers : List Call → List Actor
+callers calls = map actor calls
+
+-- the core has none that makes this call, and it is the first such call
+pub record IsFirstUnknown (config : Configuration) (calls : List Call) (at : ℕ) : Type 0 where
+  pub call : Call
+  pub there : slice_get calls at ≡ Some call
+  pub unknown : IsActor config (actor call) → ⊥
+  pub before : AreActors config (callers (take at calls))
+
+-- a beginning of the calls that shows whether the core has all that make them: nothing is behind it where it has those of the beginning
+pub record IsJudgedPart (config : Configuration) (calls part : List Call) : Type 0 where
+  pub rest : List Call
+  pub whole : calls ≡ part ++ rest
+  pub known : AreActors config (callers part) → rest ≡ []

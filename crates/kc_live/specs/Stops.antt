@@ -1,5 +1,5 @@
 -- Why a run gives no answer.
-use Rattle.std.specs.Prelude.{Bool, true, false, ◌≡◌, ◌≢◌, ◌<◌, Some, None, List}
+use Rattle.std.specs.Prelude.{Bool, true, false, ◌≡◌, ◌<◌, Option, Some, None, List}
 use Rattle.kc_types.specs.Configuration.{Configuration}
 use Rattle.kc_types.specs.Limits.{call_limit}
 use Rattle.kc_live.specs.declared.fault.LiveFault.{LiveFault}
@@ -39,12 +39,12 @@ FitsHistory Memory is_there = Unit {0}
 FitsHistory Start is_there = is_there ≡ true
 FitsHistory Unsettled is_there = is_there ≡ true
 
--- the history of a run that gave no answer: it is legal, and where the receipts settled it is of the configuration handed in, has of each program's calls a beginning, and no others
-pub record IsLeftHistory (machine : Configuration) (ps : List ProgramView) (cause : LiveCause) (left : Log) : Type 0 where
+-- the history of a run that gave no answer: it is legal, and where the receipts are settled with it it is of the configuration handed in, has of each program's calls a beginning, and no others
+pub record IsLeftHistory (machine : Configuration) (ps : List ProgramView) (is_settled : Bool) (left : Log) : Type 0 where
   pub legal : IsLegal left
-  pub config : cause ≢ Unsettled → left.config ≡ machine
-  pub begun : cause ≢ Unsettled → HasBeginnings left.entries ps
-  pub others : cause ≢ Unsettled → HasNoOthers left.entries ps
+  pub config : is_settled ≡ true → left.config ≡ machine
+  pub begun : is_settled ≡ true → HasBeginnings left.entries ps
+  pub others : is_settled ≡ true → HasNoOthers left.entries ps
 
 -- the cause that a call which a thread did not make is: want of memory is told as that, and with programs that were judged any other fault settles nothing
 abbrev pub fault_cause : LiveFault → LiveCause
@@ -56,3 +56,9 @@ fault_cause faults.HistoryFull = Unsettled
 abbrev pub thread_cause : ThreadStop → LiveCause
 thread_cause stops.Start = Start
 thread_cause (stops.Fault fault) = fault_cause fault
+
+-- the cause of a run that began, if it gives no answer: what stopped a thread goes before receipts that are not the history's
+abbrev pub run_cause : Option ThreadStop → Bool → Option LiveCause
+run_cause (Some stop) is_settled = Some (thread_cause stop)
+run_cause None true = None
+run_cause None false = Some Unsettled

@@ -1,12 +1,14 @@
 //! A trace that is cut into programs and run.
-ghost use Rattle.std.specs.Prelude.{◌≡◌, [], ◌∷◌, is_some, IfSome, IfOk, IfErr, OnOk, MatchOption, IsTrue, ◌↔◌};
+ghost use Rattle.std.specs.Prelude.{◌≡◌, ◌↔◌, [], ◌∷◌, is_some, IfSome, IfOk, IfErr, OnOk, MatchOption, IsTrue};
 ghost use Rattle.kc_types.specs.Actors.{actor as actor_made};
 ghost use Rattle.kc_live.specs.Book.{IsSafeHistory, calls_of};
 ghost use Rattle.kc_live.specs.Program.{NoneIs, actors_of};
-ghost use Rattle.kc_live.specs.Cuts.{IsCut, IsLeftOf, IsPlaceOf, KeepsOrders, MayRun, StopsTrace, with_call};
+ghost use Rattle.kc_live.specs.Plans.{AreActors};
+ghost use Rattle.kc_live.specs.Cuts.{IsCut, IsFirstUnknown, IsJudgedPart, IsLeftOf, IsPlaceOf, KeepsOrders, MayRun, StopsTrace, callers, with_call};
 ghost use Rattle.kc_live.specs.Stops.{FitsHistory};
 
 use crate::book::History;
+use crate::early::is_actor;
 use crate::program::Program;
 use crate::receipt::Receipt;
 use crate::run::{refused, run_live};
@@ -67,6 +69,30 @@ pub fn programs_of(alloc: Global, calls: Vec<Call>) -> Result<Vec<Program>, Memo
     Ok(programs)
 }
 
+/// The first call that is made by none of the core's actors.
+fn first_unknown(config: &Config, calls: &[Call]) -> Option<usize>
+    ensures { MatchOption result (AreActors config.now (callers calls.now)) (IsFirstUnknown config.now calls.now) }
+{
+    for at in 0..calls.len() {
+        if !is_actor(config, actor_of(&calls[at])) {
+            return Some(at);
+        }
+    }
+    None
+}
+
+/// The calls up to the first that is made by none of the core's actors, and this one: it is what the trace is refused
+/// for, and its actor's program is the last that those before it may be cut into.
+fn judged_part(config: &Config, calls: Vec<Call>) -> Vec<Call>
+    ensures { IsJudgedPart config.now calls.items result.items }
+{
+    let mut calls = calls;
+    if let Some(at) = first_unknown(config, calls.as_slice()) {
+        calls.truncate(at + 1);
+    }
+    calls
+}
+
 fn history_of(answer: (History, Vec<Vec<Receipt>>)) -> History
     ensures { result ≡ answer.0 }
 {
@@ -87,14 +113,15 @@ pub fn run_trace<G: Gate + Sync, R: Threads + Wait + Sync>(
     ensures sound { OnOk result (MayRun config calls.items) }
     ensures stop { IfErr result (λ stop. StopsTrace config calls.items stop.cause) }
     ensures history { IfErr result (λ stop. FitsHistory stop.cause (is_some stop.history)) }
-    ensures left { IfErr result (λ stop. IfSome stop.history (IsLeftOf config calls.items stop.cause)) }
+    ensures left { IfErr result (λ stop. IfSome stop.history (IsLeftOf config calls.items stop.is_settled)) }
 
     // The history is of the configuration handed in, and has each actor's calls in order.
     ensures config { IfOk result (λ history. history.config ≡ config) }
     ensures order { IfOk result (λ history. KeepsOrders (calls_of history.entries) calls.items) }
     ensures safe { IfOk result IsSafeHistory }
 {
-    let Ok(programs) = programs_of(alloc, calls) else {
+    let part = judged_part(&config, calls);
+    let Ok(programs) = programs_of(alloc, part) else {
         return Err(refused(LiveCause::Memory));
     };
     match run_live(rt, alloc, config, programs, gate) {

@@ -22,7 +22,7 @@ fn is_free(programs: &[Program], actor: Actor) -> bool
 }
 
 /// Whether the actor is the host, or names a slot and a virtual processor that there can be.
-fn is_actor(config: &Config, actor: Actor) -> bool
+pub fn is_actor(config: &Config, actor: Actor) -> bool
     ensures { IsTrue result ↔ IsActor config.now actor }
 {
     match actor {

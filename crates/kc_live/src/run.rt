@@ -5,7 +5,7 @@ ghost use Rattle.kc_live.specs.Book.{IsSafeHistory};
 ghost use Rattle.kc_live.specs.Program.{receipt_calls, HasCalls, HasNoOthers};
 ghost use Rattle.kc_live.specs.Settling.{IsSettled};
 ghost use Rattle.kc_live.specs.Plans.{MayRunTogether};
-ghost use Rattle.kc_live.specs.Stops.{IsCauseOf, IsLate, IsLeftHistory, FitsHistory, thread_cause};
+ghost use Rattle.kc_live.specs.Stops.{IsCauseOf, IsLate, IsLeftHistory, FitsHistory, run_cause, thread_cause};
 
 use crate::book::History;
 use crate::early::{first_bad, first_stranger, has_too_many};
@@ -24,21 +24,23 @@ use std::thread::Threads;
 
 /// A run that was refused before it began.
 pub fn refused(cause: LiveCause) -> LiveStop
-    ensures { result ≡ record { cause = cause; history = None } }
+    ensures { result ≡ record { cause = cause; history = None; is_settled = false } }
 {
     LiveStop {
         cause,
         history: None,
+        is_settled: false,
     }
 }
 
 /// A run that left a history.
-fn stopped(cause: LiveCause, history: History) -> LiveStop
-    ensures { result ≡ record { cause = cause; history = Some history } }
+fn stopped(cause: LiveCause, history: History, is_settled: bool) -> LiveStop
+    ensures { result ≡ record { cause = cause; history = Some history; is_settled = is_settled } }
 {
     LiveStop {
         cause,
         history: Some(history),
+        is_settled,
     }
 }
 
@@ -90,6 +92,19 @@ fn cause_of(stop: ThreadStop) -> LiveCause
     }
 }
 
+/// Why a run gives no answer, if it does not: what stopped a thread goes before receipts that are not the history's.
+fn run_cause(stop: Option<ThreadStop>, is_settled: bool) -> Option<LiveCause>
+    ensures cause { result ≡ run_cause stop is_settled }
+    ensures late { IfSome result IsLate }
+    ensures begun { IfSome result (λ cause. FitsHistory cause true) }
+{
+    match stop {
+        Some(stop) => Some(cause_of(stop)),
+        None if is_settled => None,
+        None => Some(LiveCause::Unsettled),
+    }
+}
+
 fn is_same_config(config: &Config, other: &Config) -> bool
     ensures { IsTrue result ↔ (config.now ≡ other.now) }
 {
@@ -108,9 +123,9 @@ fn is_answer(config: &Config, history: &History, marks: Marks, rows: &[Vec<Recei
 ///
 /// Before the run the programs are judged: `BadActor`, `NotYours` and `HistoryFull` come in this order. Each thread is
 /// joined, whatever comes; a program that meets want of memory makes no more calls, one whose thread could not be
-/// started makes none, and the others go on to their ends. Then the receipts are settled with the history: `Unsettled`
-/// where they are not its. Else `Start` goes before `Memory`. The gate is told call `j` of program `p` by the number `j` plus the lengths of the programs before
-/// `p`, outside the lock.
+/// started makes none, and the others go on to their ends. Then the receipts are settled with the history. `Start` goes
+/// before `Memory`, and both before `Unsettled`, where the receipts are not the history's. The gate is told call `j` of
+/// program `p` by the number `j` plus the lengths of the programs before `p`, outside the lock.
 pub fn run_live<G: Gate + Sync, R: Threads + Wait + Sync>(
     rt: &R,
     alloc: Global,
@@ -122,7 +137,7 @@ pub fn run_live<G: Gate + Sync, R: Threads + Wait + Sync>(
     ensures sound { OnOk result (MayRunTogether config programs.items) }
     ensures stop { IfErr result (λ stop. IsCauseOf config programs.items stop.cause) }
     ensures history { IfErr result (λ stop. FitsHistory stop.cause (is_some stop.history)) }
-    ensures left { IfErr result (λ stop. IfSome stop.history (IsLeftHistory config programs.items stop.cause)) }
+    ensures left { IfErr result (λ stop. IfSome stop.history (IsLeftHistory config programs.items stop.is_settled)) }
 
     // The history is of the configuration handed in, and the receipts are just those of it.
     ensures config { IfOk result (λ r. r.0.config ≡ config) }
@@ -144,11 +159,9 @@ pub fn run_live<G: Gate + Sync, R: Threads + Wait + Sync>(
     };
     let Made { rows, stop } = make_calls(rt, alloc, &core, gate, programs, places);
     let history = core.close();
-    if !is_answer(&config, &history, marks, rows.as_slice()) {
-        return Err(stopped(LiveCause::Unsettled, history));
-    }
-    match stop {
-        Some(stop) => Err(stopped(cause_of(stop), history)),
+    let is_settled = is_answer(&config, &history, marks, rows.as_slice());
+    match run_cause(stop, is_settled) {
+        Some(cause) => Err(stopped(cause, history, is_settled)),
         None => Ok((history, rows)),
     }
 }

@@ -23,4 +23,6 @@ pub enum LiveCause {
 pub struct LiveStop {
     pub cause: LiveCause,
     pub history: Option<History>,
+    /// Whether the receipts of all programs are those of the history; a run that did not begin has none.
+    pub is_settled: bool,
 }

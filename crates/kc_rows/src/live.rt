@@ -54,11 +54,11 @@ fn cause<R: Threads + Wait + Sync>(
     takes: usize,
 ) -> Option<LiveCause> {
     let programs = with_takes(alloc, actors, takes)?;
-    let LiveStop { cause, history } = stop_of(rt, alloc, programs)?;
-    if history.is_some() {
+    let stop = stop_of(rt, alloc, programs)?;
+    if stop.history.is_some() {
         return None;
     }
-    Some(cause)
+    Some(stop.cause)
 }
 
 /// An actor runs once, its slot and its virtual processor exist, its calls are its own, and a history has no more than
