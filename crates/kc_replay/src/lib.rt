@@ -2,6 +2,7 @@
 //! taken by workers, wave after wave, with what one thread gives that takes them in order.
 #![tactic(auto)]
 
+mod budget;
 mod deal;
 mod fault;
 mod lanes;

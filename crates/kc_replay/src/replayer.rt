@@ -11,6 +11,7 @@ ghost use Rattle.kc_replay.specs.Replayer.{IsFed};
 ghost use Rattle.kc_replay.specs.declared.fault.ReplayFault.TheVariants.{BadWorkers, Broken};
 
 use crate::Gate;
+use crate::budget::Budget;
 use crate::fault::ReplayFault;
 use crate::segment::{Outcome, answer_segment};
 use kc_core::KCore;
@@ -51,6 +52,7 @@ pub struct Replayer {
     workers: usize,
     /// How many calls came so far.
     fed: usize,
+    budget: Budget,
 }
 
 impl Model for Replayer {
@@ -88,6 +90,7 @@ impl Replayer {
                 core: Some(core),
                 workers,
                 fed: 0,
+                budget: Budget::new(),
             }),
             Err(_) => Err(ReplayFault::Memory),
         }
@@ -130,7 +133,15 @@ impl Replayer {
             gate,
             fed: self.fed,
         };
-        match answer_segment(rt, alloc, core, calls, self.workers, &gate) {
+        match answer_segment(
+            rt,
+            alloc,
+            core,
+            calls,
+            self.workers,
+            &gate,
+            &mut self.budget,
+        ) {
             Ok(outcome) => {
                 let Outcome { replies, core } = outcome;
                 self.core = Some(core);

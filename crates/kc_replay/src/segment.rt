@@ -12,6 +12,7 @@ ghost use Rattle.kc_replay.specs.Wave.{IsWave, IsWaveTaken, AreReplied, wave_cal
 ghost use Rattle.kc_footprints.specs.Plan.{AreCallNumbers};
 
 use crate::Gate;
+use crate::budget::Budget;
 use crate::deal::deal;
 use crate::fault::ReplayFault;
 use crate::trace::footprints;
@@ -94,23 +95,53 @@ fn hashed(core: &KCore, call: &Call) -> u32 {
     }
 }
 
-/// Whether the calls of a wave but the longest are work enough to start threads for, and to take out what all may touch.
-fn is_worth_threads(core: &KCore, calls: &[Call], feet: &Footprints, members: &[usize]) -> bool
-    requires members { AreCallNumbers (length calls.now) members.now }
-    requires rows { length feet.now.rows ≡ length calls.now }
-{
-    let mut all: u32 = 0;
-    let mut longest = 0;
-    let mut taken: u32 = 0;
-    for place in 0..members.len() {
-        let number = members[place];
-        let one = hashed(core, &calls[number]);
-        all = all.saturating_add(one);
-        longest = longest.max(one);
-        taken = taken.saturating_add(feet.count_at_most(number));
+/// What the calls of a wave hash, and what they take out.
+#[derive(Clone, Copy)]
+struct Work {
+    /// How many calls hash frames.
+    hashing: usize,
+    /// How many frames all of them hash.
+    frames: u32,
+    /// How many frames they hash but the longest of them.
+    beside: u32,
+    /// How many parts the calls may touch, at most.
+    parts: u32,
+}
+
+impl Work {
+    fn of(core: &KCore, calls: &[Call], feet: &Footprints, members: &[usize]) -> Work
+        requires members { AreCallNumbers (length calls.now) members.now }
+        requires rows { length feet.now.rows ≡ length calls.now }
+    {
+        let mut hashing: usize = 0;
+        let mut frames: u32 = 0;
+        let mut longest = 0;
+        let mut parts: u32 = 0;
+        for place in 0..members.len() {
+            let number = members[place];
+            let one = hashed(core, &calls[number]);
+            hashing = hashing.saturating_add(usize::from(one > 0));
+            frames = frames.saturating_add(one);
+            longest = longest.max(one);
+            parts = parts.saturating_add(feet.count_at_most(number));
+        }
+        Work {
+            hashing,
+            frames,
+            beside: frames.saturating_sub(longest),
+            parts,
+        }
     }
-    let beside = all.saturating_sub(longest);
-    beside >= FRAMES_WORTH_A_THREAD && taken / PARTS_FOR_A_FRAME <= beside
+
+    /// How many threads this is worth: one for the longest call, and one more for as many frames as are worth a thread, if
+    /// so much is gained that what all calls may touch may be taken out for it.
+    fn threads(&self) -> usize {
+        if self.parts / PARTS_FOR_A_FRAME > self.beside {
+            return 1;
+        }
+        let more = self.beside / FRAMES_WORTH_A_THREAD;
+        self.hashing.min(more as usize + 1)
+    }
 }
 
 /// Makes the calls of a wave: by workers where a call may wait for another, or where that is worth it.
@@ -124,6 +155,7 @@ fn take_wave<R: Threads + Wait + Sync, G: Gate + Sync>(
     workers: usize,
     replies: &mut [Reply],
     gate: &G,
+    budget: &mut Budget,
 ) -> Result<KCore, ReplayFault>
     requires wave { (order : List ℕ) → IsPermutation members.now order → IsWave core calls.now (foot_of feet.now) order }
     requires rows { length feet.now.rows ≡ length calls.now }
@@ -131,8 +163,15 @@ fn take_wave<R: Threads + Wait + Sync, G: Gate + Sync>(
     requires long { length replies.old ≡ length calls.now }
     ensures { IfOk result (IsWaveTaken core calls.now members.now replies.old replies.new) }
 {
-    let hands = workers.min(members.len());
-    if hands > 1 && (gate.may_wait() || is_worth_threads(&core, calls, feet, members)) {
+    let work = Work::of(&core, calls, feet, members);
+    let worth = if gate.may_wait() {
+        members.len()
+    } else {
+        work.threads()
+    };
+    let hands = workers.min(worth);
+    if hands > 1 {
+        budget.add_frames(work.frames);
         let Ok(dealt) = deal(alloc, members, hands) else {
             let mut core = core;
             core.wipe(rt);
@@ -180,6 +219,7 @@ fn replay_waves<R: Threads + Wait + Sync, G: Gate + Sync>(
     workers: usize,
     mut replies: Vec<Reply>,
     gate: &G,
+    budget: &mut Budget,
 ) -> Result<Outcome, ReplayFault>
     requires lawful { IsLawful core }
     requires feet { AreFootprints core calls.now feet.now }
@@ -202,6 +242,7 @@ fn replay_waves<R: Threads + Wait + Sync, G: Gate + Sync>(
             workers,
             &mut replies,
             gate,
+            budget,
         )?;
     }
     Ok(Outcome {
@@ -242,6 +283,7 @@ fn answer_by_waves<R: Threads + Wait + Sync, G: Gate + Sync>(
     calls: &[Call],
     workers: usize,
     gate: &G,
+    budget: &mut Budget,
 ) -> Result<Outcome, ReplayFault>
     requires lawful { IsLawful core }
     requires short { length calls.now ≤ call_limit }
@@ -259,7 +301,9 @@ fn answer_by_waves<R: Threads + Wait + Sync, G: Gate + Sync>(
         plan,
         replies,
     } = prepared;
-    replay_waves(rt, alloc, core, calls, &feet, &plan, workers, replies, gate)
+    replay_waves(
+        rt, alloc, core, calls, &feet, &plan, workers, replies, gate, budget,
+    )
 }
 
 /// Makes some calls in their order, and tells the gate of each.
@@ -320,9 +364,14 @@ fn hash_twice(calls: &[Call]) -> bool {
     false
 }
 
+/// Whether some calls are worth a plan, and it is paid for.
+fn is_planned<G: Gate>(core: &KCore, calls: &[Call], gate: &G, budget: &mut Budget) -> bool {
+    gate.may_wait() || hash_twice(calls) && budget.pay(core.config().frames(), calls.len())
+}
+
 /// Makes some calls: by workers where there are at least two of each, and a call may wait for another or two may be worth
-/// a thread, since they hash frames. No other wave would start a thread, so no plan is made for it.
-/// Where that fails all pages are wiped.
+/// a thread, since they hash frames, and a plan may be paid for. No other wave would start a thread, so no plan is made
+/// for it. Where that fails all pages are wiped.
 pub(crate) fn answer_segment<R: Threads + Wait + Sync, G: Gate + Sync>(
     rt: &R,
     alloc: Global,
@@ -330,6 +379,7 @@ pub(crate) fn answer_segment<R: Threads + Wait + Sync, G: Gate + Sync>(
     calls: &[Call],
     workers: usize,
     gate: &G,
+    budget: &mut Budget,
 ) -> Result<Outcome, ReplayFault>
     requires lawful { IsLawful core }
     requires short { length calls.now ≤ call_limit }
@@ -339,8 +389,9 @@ pub(crate) fn answer_segment<R: Threads + Wait + Sync, G: Gate + Sync>(
     ensures safe { IsSafe core calls.now }
     ensures started { result ≡ Err ReplayFault.Start → 1 < workers }
 {
-    if workers > 1 && calls.len() > 1 && (gate.may_wait() || hash_twice(calls)) {
-        return answer_by_waves(rt, alloc, core, calls, workers, gate);
+    budget.add_calls(calls.len());
+    if workers > 1 && calls.len() > 1 && is_planned(&core, calls, gate, budget) {
+        return answer_by_waves(rt, alloc, core, calls, workers, gate, budget);
     }
     answer_in_order(rt, alloc, core, calls, gate)
 }
