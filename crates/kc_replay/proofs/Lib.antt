@@ -7,3 +7,4 @@ pub mod Ready
 pub mod Onward
 pub mod Dealing
 pub mod Cutting
+pub mod Moving

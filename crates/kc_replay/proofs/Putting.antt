@@ -99,6 +99,33 @@ cut-whole m is = λ i. record {
   slots = pick-whole (λ v. nat_lt v (slot_count m.config)) empty_slot m.slots (λ v low. lt-ltb v (slot_count m.config) (rw is.slots at low)) i;
 }
 
+-- parts that are all of a state's are a whole core's
+module _ (m : State) (h : Held) (lawful : IsLawful m) (restricted : IsRestricted m (exists_in m.config) h) where
+  closed : IsClosed m (exists_in m.config)
+  closed = record { exist = λ r e. e; lists = λ p f ends inside. lt-ltb f m.config.frames (listed-low m lawful p f inside) }
+
+  state-again : state_of m.config h ≡ m
+  state-again = state-cut m (exists_in m.config) h lawful closed restricted ∙ cut-whole m lawful
+
+  here-again : (r : Resource) → exists_in m.config r ≡ true → here_of h r ≡ true
+  here-again r e = here-is m (exists_in m.config) h lawful closed restricted r ∙ e
+
+  pub core-again : HasPlaces m.config h → IsCore m.config h × (state_of m.config h ≡ m)
+  core-again places = (
+    record {
+      lawful = subst IsLawful (sym state-again) lawful;
+      linked = linked-cut m (exists_in m.config) h lawful closed restricted;
+      whole = record {
+        numbers = places.numbers;
+        frames = λ f low. here-again (resource.Frame f) (lt-ltb f m.config.frames low);
+        vms = λ v low. here-again (resource.Vm v) (lt-ltb v (slot_count m.config) low);
+        past = λ v some. ltb-true v (slot_count m.config) (sym (here-is m (exists_in m.config) h lawful closed restricted (resource.Vm v)) ∙ some);
+        free = here-again resource.Free refl;
+      };
+    },
+    state-again,
+  )
+
 module _ (m : State) (calls : List Call) (feet : ℕ → Resources) (members : List ℕ) (wave : IsWave m calls feet members) where
   abbrev pub last : State
   last = state_at m (wave_calls calls members) (length (wave_calls calls members))
@@ -146,43 +173,12 @@ module _ (m : State) (calls : List Call) (feet : ℕ → Resources) (members : L
   config-last : (state_at m (wave_calls calls members) (length (wave_calls calls members))).config ≡ m.config
   config-last = config-at m (wave_calls calls members) (feet_at feet members) wave.lawful wave.feet_are (length (wave_calls calls members))
 
-  module _ (h : Held) (left : IsRest (state_at m (wave_calls calls members) (length (wave_calls calls members))) (feet_at feet members) [] h) where
-    restricted : IsRestricted (state_at m (wave_calls calls members) (length (wave_calls calls members))) (exists_in (state_at m (wave_calls calls members) (length (wave_calls calls members))).config) h
-    restricted = record { parts = left.parts; capacities = left.capacities }
-
-    low-listed : (p : Owner) (f : ℕ) → is_in (list_of (state_at m (wave_calls calls members) (length (wave_calls calls members))) p) f ≡ true → f < (state_at m (wave_calls calls members) (length (wave_calls calls members))).config.frames
-    low-listed p f inside = listed-low (state_at m (wave_calls calls members) (length (wave_calls calls members))) lawful-last p f inside
-
-    closed : IsClosed (state_at m (wave_calls calls members) (length (wave_calls calls members))) (exists_in (state_at m (wave_calls calls members) (length (wave_calls calls members))).config)
-    closed = record { exist = λ r e. e; lists = λ p f ends inside. lt-ltb f (state_at m (wave_calls calls members) (length (wave_calls calls members))).config.frames (low-listed p f inside) }
-
-    pub linked-last : IsLinked m.config h
-    linked-last = subst (λ config. IsLinked config h) config-last (linked-cut (state_at m (wave_calls calls members) (length (wave_calls calls members))) (exists_in (state_at m (wave_calls calls members) (length (wave_calls calls members))).config) h lawful-last closed restricted)
-
-    state-last : state_of m.config h ≡ state_at m (wave_calls calls members) (length (wave_calls calls members))
-    state-last =
-        let end : State = state_at m (wave_calls calls members) (length (wave_calls calls members)) in
-        subst (λ config. state_of config h ≡ end) config-last (state-cut end (exists_in end.config) h lawful-last closed restricted ∙ cut-whole end lawful-last)
-
-    here-last : (r : Resource) → exists_in m.config r ≡ true → here_of h r ≡ true
-    here-last r e = here-is (state_at m (wave_calls calls members) (length (wave_calls calls members))) (exists_in (state_at m (wave_calls calls members) (length (wave_calls calls members))).config) h lawful-last closed restricted r ∙ ap (λ config. exists_in config r) config-last ∙ e
-
-    -- a whole core is left
-    pub core-last : HasPlaces m.config h → IsCore m.config h × (state_of m.config h ≡ state_at m (wave_calls calls members) (length (wave_calls calls members)))
-    core-last places = (
-      record {
-        lawful = subst IsLawful (sym state-last) lawful-last;
-        linked = linked-last;
-        whole = record {
-          numbers = places.numbers;
-          frames = λ f low. here-last (resource.Frame f) (lt-ltb f m.config.frames low);
-          vms = λ v low. here-last (resource.Vm v) (lt-ltb v (slot_count m.config) low);
-          past = λ v some. ltb-true v (slot_count m.config) (sym (ap (λ config. exists_in config (resource.Vm v)) config-last) ∙ sym (here-is (state_at m (wave_calls calls members) (length (wave_calls calls members))) (exists_in (state_at m (wave_calls calls members) (length (wave_calls calls members))).config) h lawful-last closed restricted (resource.Vm v)) ∙ some);
-          free = here-last resource.Free refl;
-        };
-      },
-      state-last,
-    )
+  -- a whole core is left
+  pub core-last : (h : Held) → IsRest (state_at m (wave_calls calls members) (length (wave_calls calls members))) (feet_at feet members) [] h → HasPlaces m.config h → IsCore m.config h × (state_of m.config h ≡ state_at m (wave_calls calls members) (length (wave_calls calls members)))
+  core-last h left places =
+      let end : State = state_at m (wave_calls calls members) (length (wave_calls calls members)) in
+      subst (λ config. IsCore config h × (state_of config h ≡ end)) config-last
+      (core-again end h lawful-last (record { parts = left.parts; capacities = left.capacities }) (subst (λ config. HasPlaces config h) (sym config-last) places))
 
 -- one result fewer
 module _ (R : ℕ → Finished → Type 0) (all rest : List Finished) (one : Finished) (items : all ≡ rest ++ one ∷ []) (zip : AllZip R (range_with_len 0 (length all)) all) where

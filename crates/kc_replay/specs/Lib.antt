@@ -1,3 +1,4 @@
 pub mod Wave
 pub mod Working
 pub mod Replayer
+pub mod Moving

@@ -1,5 +1,5 @@
 //! Tasks cut into lanes, and results of lanes joined.
-ghost use Rattle.std.specs.Prelude.{◌≡◌, ◌<◌, IfOk};
+ghost use Rattle.std.specs.Prelude.{◌≡◌, ◌<◌, ◌≤◌, length, IfOk};
 ghost use Rattle.std.specs.List.{flat_map};
 
 use crate::task::{Finished, Task};
@@ -14,13 +14,14 @@ fn share(tasks: usize, lanes: usize) -> usize
     tasks / lanes + usize::from(tasks % lanes != 0)
 }
 
-/// Cuts tasks into lanes of about as many each, in their order.
+/// Cuts tasks into lanes of about as many each, in their order: at most so many lanes.
 pub(crate) fn cut_lanes(
     alloc: Global,
     tasks: Vec<Task>,
     count: usize,
 ) -> Result<Vec<Vec<Task>>, Memory>
-    ensures { IfOk result (λ lanes. flat_map (λ lane. lane.items) lanes.items ≡ tasks.items) }
+    ensures tasks { IfOk result (λ lanes. flat_map (λ lane. lane.items) lanes.items ≡ tasks.items) }
+    ensures few { IfOk result (λ lanes. 0 < count → length lanes.items ≤ count) }
 {
     let mut lanes = Vec::with_capacity(alloc, count)?;
     let mut rest = tasks;

@@ -41,7 +41,7 @@ run_lanes-requires-after_bounds g c =
     subst (λ (config : Configuration). All (IsTaskOf config c.args.calls.now) c.in_ok-tasks.tasks.items) (sym config)
     (subst (λ (calls : List Call). All (IsTaskOf g.wave.start.config calls) c.in_ok-tasks.tasks.items) (sym r.1.0)
     (all-able g.wave.start g.wave.calls (foot_of c.args.feet.now) c.args.members.now wave c.in_ok-tasks.tasks.items c.in_ok-tasks.ensures.tasks)) in
-    λ κs bounds. all_lanes (λ lane. lane.items) (IsTaskOf c.args.config.now c.args.calls.now) c.in_ok-lanes.lanes.items (rw c.in_ok-lanes.ensures able)
+    λ κs bounds. all_lanes (λ lane. lane.items) (IsTaskOf c.args.config.now c.args.calls.now) c.in_ok-lanes.lanes.items (rw c.in_ok-lanes.ensures.tasks able)
 
 pub put_all-requires : goal.put_all-requires
 put_all-requires g c =
@@ -50,7 +50,7 @@ put_all-requires g c =
     let foot = foot_of c.args.feet.now in
     let wave = across (λ feet members. IsWave g.wave.start g.wave.calls feet members) g.wave.feet (foot_of c.args.feet.now) g.wave.members c.args.members.now (sym r.1.1.0) (sym r.1.1.1.0) r.1.1.1.1.0 in
     let joined = zip_lanes (λ lane. lane.items) (λ lane. lane.items) (Finishes c.args.config.now c.args.calls.now) c.in_ok-lanes.lanes.items c.in_ok-all.all.items c.in_ok-all.ensures in
-    let answers : AnswersAll c.args.config.now c.args.calls.now c.in_ok-tasks.tasks.items c.in_ok-finished.finished.items = rw (← c.in_ok-lanes.ensures, c.in_ok-finished.ensures) joined in
+    let answers : AnswersAll c.args.config.now c.args.calls.now c.in_ok-tasks.tasks.items c.in_ok-finished.finished.items = rw (← c.in_ok-lanes.ensures.tasks, c.in_ok-finished.ensures) joined in
     let finished =
     all-finished g.wave.start g.wave.calls (foot_of c.args.feet.now) c.args.members.now wave c.in_ok-tasks.tasks.items c.in_ok-tasks.ensures.tasks c.in_ok-finished.finished.items
     (subst (λ (config : Configuration). AnswersAll config g.wave.calls c.in_ok-tasks.tasks.items c.in_ok-finished.finished.items) config
