@@ -1,14 +1,18 @@
-//! What each call of a trace may touch, and its wave, to be compared with what another program finds; or how long
-//! finding that takes.
+//! What each call of a trace may touch, and its wave, to be compared with what another program finds; how long finding
+//! that takes; or what a replay gives whose waves are all taken by workers, whatever they gain.
 //!
-//! The words are the paths of a configuration and of a trace, and perhaps a number: how often to measure.
+//! The words are the paths of a configuration and of a trace, and perhaps a number, how often to measure; or the word
+//! `replay` or `dump` and a number of workers.
 #![tactic(auto)]
 
 use anyhow::{Context, Result, bail};
+use kc_cli::dump;
 use kc_core::KCore;
-use kc_replay::{Plan, footprints};
-use kc_trace::{read_config, read_trace};
-use kc_types::{Call, Resource};
+use kc_dump_text::write_dump;
+use kc_replay::{Gate, Outcome, Plan, footprints, replay};
+use kc_trace::{read_config, read_trace, write_replies};
+use kc_types::{Call, Config, Resource};
+use std::io::Write;
 use std::time::CpuClock;
 use std::{env, fs};
 
@@ -73,16 +77,63 @@ fn print_time(rt: &HostRuntime, core: &KCore, calls: &[Call]) -> Result<()> {
     Ok(())
 }
 
+/// A gate at which calls could wait for each other, so that every wave of two calls and more is taken by workers.
+struct MeetingPlace;
+
+impl Gate for MeetingPlace {
+    fn before(&self, _number: usize) {}
+
+    fn after(&self, _number: usize) {}
+
+    fn may_wait(&self) -> bool {
+        true
+    }
+}
+
+/// What a replay by so many workers gives: the replies, or the dump of the core that it leaves.
+fn print_replay(
+    rt: &HostRuntime,
+    config: Config,
+    calls: &[Call],
+    workers: usize,
+    dumps: bool,
+) -> Result<()> {
+    let alloc = rt.alloc();
+    if calls.len() > MOST_CALLS {
+        bail!("too many calls");
+    }
+    let Outcome { replies, core } = replay(rt, alloc, config, calls, workers, &MeetingPlace)?;
+    let text = if dumps {
+        let dumped = dump(rt, alloc, &core)?;
+        write_dump(alloc, &dumped)?
+    } else {
+        write_replies(alloc, replies.as_slice())?
+    };
+    rt.stdout().write_all(text.as_slice())?;
+    Ok(())
+}
+
 fn main(rt: HostRuntime) -> Result<()> {
     let alloc = rt.alloc();
     let mut words = env::args(&rt)?.skip(1);
     let (Some(config), Some(trace)) = (words.next(), words.next()) else {
-        bail!("usage: kc_plans CONFIG TRACE [TIMES]");
+        bail!("usage: kc_plans CONFIG TRACE [TIMES | replay WORKERS | dump WORKERS]");
     };
     let config = read_config(alloc, fs::read(&rt, config.as_str())?.as_slice())?;
     let calls = read_trace(alloc, fs::read(&rt, trace.as_str())?.as_slice())?;
+    let word = words.next();
+    if let (Some(given), Some(workers)) = (&word, words.next()) {
+        let workers = workers.as_str().parse::<usize>()?;
+        return print_replay(
+            &rt,
+            config,
+            calls.as_slice(),
+            workers,
+            given.as_str() == "dump",
+        );
+    }
     let core = KCore::boot(alloc, config)?;
-    match words.next() {
+    match word {
         Some(times) => {
             for _ in 0..times.as_str().parse::<u32>()? {
                 print_time(&rt, &core, calls.as_slice())?;
