@@ -11,6 +11,7 @@ mod writer;
 
 pub use config_text::{ConfigTextFault, read_config};
 pub use fault::TraceFault;
+pub use line::call_of_line;
 pub use reader::{TraceReader, read_trace};
 pub use reply_writer::{LONGEST_REPLY, push_reply, write_replies};
 pub use writer::{LONGEST_CALL, push_call, push_header, version_of, write_trace};

@@ -17,6 +17,7 @@ pub const LONGEST_REPLY: usize = 8_198;
 fn push_word(text: &mut Vec<u8>, name: &str, word: &str)
     requires { vec_len text.old + (length name.now + (length word.now + 2)) ≤ vec_capacity text.old }
     ensures line { text.new.items ≡ text.old.items ++ (join_with_byte 32 (name.now ∷ word.now ∷ []) ++ 10 ∷ []) }
+    ensures len { vec_len text.new ≤ vec_len text.old + (length name.now + (length word.now + 2)) }
     ensures capacity { vec_capacity text.old ≤ vec_capacity text.new }
 {
     push_bytes(text, name.as_bytes());
@@ -29,6 +30,7 @@ fn push_word(text: &mut Vec<u8>, name: &str, word: &str)
 fn push_number(text: &mut Vec<u8>, name: &str, number: u32)
     requires { vec_len text.old + (length name.now + 12) ≤ vec_capacity text.old }
     ensures line { text.new.items ≡ text.old.items ++ (join_with_byte 32 (name.now ∷ decimal number ∷ []) ++ 10 ∷ []) }
+    ensures len { vec_len text.new ≤ vec_len text.old + (length name.now + 12) }
     ensures capacity { vec_capacity text.old ≤ vec_capacity text.new }
 {
     push_word(text, name, Buffer::new().format(number));
@@ -38,6 +40,7 @@ fn push_number(text: &mut Vec<u8>, name: &str, number: u32)
 fn push_data(text: &mut Vec<u8>, bytes: &Data)
     requires { vec_len text.old + longest_reply ≤ vec_capacity text.old }
     ensures line { text.new.items ≡ text.old.items ++ (join_with_byte 32 (codes "data" ∷ encode_lower bytes.now ∷ []) ++ 10 ∷ []) }
+    ensures len { vec_len text.new ≤ vec_len text.old + longest_reply }
     ensures capacity { vec_capacity text.old ≤ vec_capacity text.new }
 {
     push_bytes(text, b"data ");
@@ -49,6 +52,7 @@ fn push_data(text: &mut Vec<u8>, bytes: &Data)
 pub fn push_reply(text: &mut Vec<u8>, reply: &Reply)
     requires { vec_len text.old + longest_reply ≤ vec_capacity text.old }
     ensures line { text.new.items ≡ text.old.items ++ (reply_line_of reply.now ++ 10 ∷ []) }
+    ensures len { vec_len text.new ≤ vec_len text.old + longest_reply }
     ensures capacity { vec_capacity text.old ≤ vec_capacity text.new }
 {
     match reply {
