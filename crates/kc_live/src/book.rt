@@ -82,6 +82,14 @@ impl Book {
         Ok(())
     }
 
+    /// The calls so far in the order in which they were made, each with its reply.
+    pub fn entries(&self) -> &[Entry]
+        ensures entries { result.now ≡ self.now.entries }
+        ensures short { length self.now.entries ≤ call_limit }
+    {
+        self.entries.as_slice()
+    }
+
     /// Ends the history.
     pub fn close(self) -> History
         ensures same { result ≡ self }
