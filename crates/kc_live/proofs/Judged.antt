@@ -88,7 +88,7 @@ cut-rest config part (call ∷ rest) ps i cut first =
 pub callers-more : (config : Configuration) (calls : List Call) (i : ℕ) (call : Call) → call ≡ get_or calls i call → i < length calls → AreActors config (callers (take i calls)) → IsActor config (actor call) → AreActors config (callers (take (i + 1) calls))
 callers-more config calls i call is lt known one =
     let more : callers (take (i + 1) calls) ≡ callers (take i calls) ++ actor call ∷ [] =
-        ap callers (take_more calls i call lt) ∙ (map-append actor (take i calls) (get_or calls i call ∷ []) ∙ ap (λ (c : Call). callers (take i calls) ++ actor c ∷ []) (sym is)) in
+    ap callers (take_more calls i call lt) ∙ (map-append actor (take i calls) (get_or calls i call ∷ []) ∙ ap (λ (c : Call). callers (take i calls) ++ actor c ∷ []) (sym is)) in
     rw more (known_push config (actor call) (callers (take i calls)) known one)
 
 taken : (config : Configuration) (calls : List Call) (i : ℕ) (call : Call) → slice_get calls i ≡ Some call → AreActors config (callers (take (suc i) calls)) → IsActor config (actor call)
