@@ -214,7 +214,7 @@ impl KCore {
         self.parts.vm(self.config.vm(vm)?)
     }
 
-    /// The phase of a VM slot, 0 to 15; `None` for a slot that does not exist.
+    /// The phase of a VM slot, 0 to 63; `None` for a slot that does not exist.
     pub fn phase(&self, vm: u32) -> Option<Phase>
         ensures exists { IsSome result ↔ (vm < slot_count self.now.config) }
         ensures value { IfSome result (λ phase. phase ≡ (slot_at self.now vm).phase) }
@@ -235,7 +235,7 @@ impl KCore {
         }
     }
 
-    /// The guest frame that a virtual processor, 0 to 7, of a VM slot, 0 to 15, waits for; `None` where the slot
+    /// The guest frame that a virtual processor, 0 to 7, of a VM slot, 0 to 63, waits for; `None` where the slot
     /// or the virtual processor does not exist, or where it waits for nothing.
     pub fn fault(&self, vm: u32, vcpu: u32) -> Option<Gfn>
         ensures exists { IsSome result → (vm < slot_count self.now.config) × (vcpu < vcpu_limit) }
@@ -245,7 +245,7 @@ impl KCore {
         Gfn::try_new(slot.vcpu(VcpuId::try_new(vcpu)?).fault?)
     }
 
-    /// The frame at a guest frame, 0 to 262,143, of a VM slot, 0 to 15; `None` where the slot or the guest frame
+    /// The frame at a guest frame, 0 to 262,143, of a VM slot, 0 to 63; `None` where the slot or the guest frame
     /// does not exist, or where nothing is mapped there.
     pub fn lookup(&self, vm: u32, gfn: u32) -> Option<FrameNo>
         ensures exists { IsSome result → (vm < slot_count self.now.config) × (gfn < gfn_limit) }
@@ -255,7 +255,7 @@ impl KCore {
         table.get(Gfn::try_new(gfn)?)
     }
 
-    /// The root slots, 0 to 511, that have leaves in the table of a VM slot, 0 to 15, in the order in which they
+    /// The root slots, 0 to 511, that have leaves in the table of a VM slot, 0 to 63, in the order in which they
     /// took them; `None` for a VM slot that does not exist.
     pub fn leaves(&self, vm: u32) -> Option<&[u32]>
         ensures exists { IsSome result ↔ (vm < slot_count self.now.config) }
