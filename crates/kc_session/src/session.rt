@@ -1,0 +1,129 @@
+//! A core that is asked line by line.
+ghost use Rattle.std.specs.Prelude.{◌≡◌, ◌≤◌, length, vec_len, slice_get, option_map, IfOk, IfErr, OnErr};
+ghost use Rattle.std.specs.List.{concat};
+ghost use Rattle.kc_trace.specs.ReplyText.{longest_reply};
+ghost use Rattle.kc_trace.specs.Trace.{IsTrace};
+ghost use Rattle.kc_live.specs.Book.{new_log, calls_of};
+ghost use Rattle.kc_session.specs.Session.{IsAnswer, IsUnanswered, trace_lines};
+
+use kc_live::{Book, Ready};
+use kc_trace::{LONGEST_CALL, LONGEST_REPLY, call_of_line, push_call, push_header, push_reply};
+use kc_types::{Config, Memory, Version};
+use std::alloc::{AllocError, Global};
+use std::marker::Model;
+
+/// Why a line was not answered. Nothing has changed then.
+#[derive(Clone, Copy, Debug, PartialEq, Eq)]
+pub enum AskFault {
+    /// The line is no call.
+    BadLine,
+    /// The line is a call, and the history has 65,536 calls.
+    HistoryFull,
+    /// A growth of memory was refused.
+    Memory,
+}
+
+impl From<Memory> for AskFault {
+    ghost use Rattle.kc_session.specs.declared.session.AskFault.TheVariants.{Memory};
+
+    ghost from_gives = { λ _ fault. fault ≡ Memory };
+
+    fn from(_refused: Memory) -> AskFault {
+        AskFault::Memory
+    }
+}
+
+impl From<AllocError> for AskFault {
+    ghost use Rattle.kc_session.specs.declared.session.AskFault.TheVariants.{Memory};
+
+    ghost from_gives = { λ _ fault. fault ≡ Memory };
+
+    fn from(_refused: AllocError) -> AskFault {
+        AskFault::Memory
+    }
+}
+
+/// A core and the history of the calls that it answered, seen as that history.
+#[derive(Drop)]
+pub struct Session {
+    alloc: Global,
+    book: Book,
+}
+
+impl Model for Session {
+    ghost use Rattle.std.specs.List.{AllByRecursion};
+    ghost use Rattle.kc_model.specs.Ranged.{IsRanged};
+    ghost use Rattle.kc_live.specs.Book.{Log, calls_of};
+
+    ghost Value = { Log };
+
+    ghost view = { λ s. s.book };
+
+    ghost invariant = { λ s. AllByRecursion IsRanged (calls_of s.book.entries) };
+}
+
+impl Session {
+    /// The core in the boot state of its configuration, asked nothing yet; `Memory` where a growth was refused.
+    pub fn new(alloc: Global, config: Config) -> Result<Session, Memory>
+        // No clause can rule out want of memory: tests open sessions.
+        ensures { IfOk result (λ session. session ≡ new_log config) }
+    {
+        let book = Book::new(alloc, config)?;
+        Ok(Session { alloc, book })
+    }
+
+    /// Answers the call that a line is, given without its newline: the line of its reply, with its newline. `Memory`
+    /// where a growth was refused, then `BadLine`, then `HistoryFull`.
+    pub fn ask(&mut self, line: &[u8]) -> Result<Vec<u8>, AskFault>
+        ensures reply { IfOk result (λ told. IsAnswer self.old self.new line.now told.items) }
+        ensures short { IfOk result (λ told. vec_len told ≤ longest_reply) }
+        ensures fault { IfErr result (λ fault. IsUnanswered self.old line.now fault) }
+        ensures err { OnErr result (self.new ≡ self.old) }
+    {
+        let mut told = Vec::with_capacity(self.alloc, LONGEST_REPLY)?;
+        let Some(call) = call_of_line(self.alloc, line)? else {
+            return Err(AskFault::BadLine);
+        };
+        let ready = Ready::new(self.alloc, call)?;
+        let Ok(receipt) = self.book.step(ready) else {
+            return Err(AskFault::HistoryFull);
+        };
+        push_reply(&mut told, &receipt.reply);
+        Ok(told)
+    }
+
+    /// How many lines the session's trace has: the header, and a line for each call that was answered. All of them, one
+    /// behind the other, are the trace of these calls.
+    pub fn lines(&self) -> usize
+        ensures count { result ≡ length (trace_lines self.now) }
+        ensures trace { IsTrace (concat (trace_lines self.now)) (calls_of self.now.entries) }
+    {
+        self.book.entries().len() + 1
+    }
+
+    /// A line of that trace, by its place from 0, with its newline. `None` where there are no more; `Memory` where a
+    /// growth was refused.
+    pub fn line(&self, number: usize) -> Result<Option<Vec<u8>>, Memory>
+        ensures { IfOk result (λ told. option_map (λ line. line.items) told ≡ slice_get (trace_lines self.now) number) }
+    {
+        let mut told = Vec::with_capacity(self.alloc, LONGEST_CALL)?;
+        if number == 0 {
+            push_header(&mut told, Version::Two);
+            return Ok(Some(told));
+        }
+        let place = number - 1;
+        let Some(entry) = self.book.entries().get(place) else {
+            return Ok(None);
+        };
+        push_call(&mut told, &entry.call);
+        Ok(Some(told))
+    }
+
+    /// Ends the session: the core's pages are zeroed before their memory goes.
+    pub fn end(self) {
+        let Session { alloc: _, book } = self;
+        let (_entries, core) = book.close().into_parts();
+        let (_config, mut parts) = core.into_parts();
+        parts.wipe();
+    }
+}
