@@ -1,0 +1,78 @@
+//! The core for a program in C: a session behind a handle that C keeps. No proof covers C, so each function tests all that
+//! it needs but the pointers themselves; what C owes stands in `kcore.h`.
+#![tactic(auto)]
+
+ghost use Rattle.std.specs.Prelude.{◌≡◌, ◌≤◌, None, length, take};
+ghost use Rattle.kcore_c.specs.Status.{IsCode, BootSays, CallSays, LineSays, EndSays};
+
+mod handle;
+mod session;
+mod status;
+
+pub use handle::Handle;
+use kc_trace::{LONGEST_CALL, LONGEST_REPLY};
+pub use status::Status;
+use std::alloc::Global;
+
+/// How many bytes the longest reply has, with its newline: as much room `kcore_call` wants.
+#[unsafe(no_mangle)]
+pub extern "C" fn kcore_longest_reply() -> usize {
+    LONGEST_REPLY
+}
+
+/// How many bytes the longest line of a trace has, with its newline.
+#[unsafe(no_mangle)]
+pub extern "C" fn kcore_longest_line() -> usize {
+    LONGEST_CALL
+}
+
+/// Opens a session whose core is in the boot state of the configuration that a text is. Where there is no such session,
+/// the handle stays closed.
+#[unsafe(no_mangle)]
+pub extern "C" fn kcore_boot(alloc: Global, core: &mut Handle, config: &[u8]) -> u32
+    ensures { IsCode (BootSays core.old.held.session core.new.held.session config.now) result }
+{
+    session::boot(alloc, core, config).code()
+}
+
+/// Answers the call that a line is, given without its newline: the first `used` bytes of the buffer are the reply's line,
+/// with its newline. Where it is not answered, nothing has changed and `used` is 0.
+#[unsafe(no_mangle)]
+pub extern "C" fn kcore_call(
+    alloc: Global,
+    core: &mut Handle,
+    line: &[u8],
+    out: &mut [u8],
+    used: &mut usize,
+) -> u32
+    ensures says { IsCode (CallSays core.old.held.session core.new.held.session line.now (length out.old) (take used.new out.new)) result }
+    ensures within { used.new ≤ length out.new }
+{
+    session::call(alloc, core, line, out, used).code()
+}
+
+/// Tells a line of the session's trace, by its place from 0, with its newline: the header, then a line for each call that
+/// was answered, so that all lines, one behind the other, are the trace.
+#[unsafe(no_mangle)]
+pub extern "C" fn kcore_line(
+    alloc: Global,
+    core: &mut Handle,
+    number: usize,
+    out: &mut [u8],
+    used: &mut usize,
+) -> u32
+    ensures says { IsCode (LineSays core.old.held.session number (length out.old) (take used.new out.new)) result }
+    ensures within { used.new ≤ length out.new }
+    ensures same { core.new.held.session ≡ core.old.held.session }
+{
+    session::line(alloc, core, number, out, used).code()
+}
+
+/// Ends a session: the core's pages are zeroed before their memory goes, and the handle is closed.
+#[unsafe(no_mangle)]
+pub extern "C" fn kcore_end(alloc: Global, core: &mut Handle) -> u32
+    ensures says { IsCode (EndSays core.old.held.session) result }
+    ensures closed { core.new.held.session ≡ None }
+{
+    session::end(alloc, core).code()
+}

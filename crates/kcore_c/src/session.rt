@@ -1,0 +1,118 @@
+//! What is done with the session behind a handle.
+ghost use Rattle.std.specs.Prelude.{◌≡◌, ◌≤◌, Some, None, length, take, IfOk, IfErr};
+ghost use Rattle.kc_trace.specs.ConfigText.{config_in, ConfigFails};
+ghost use Rattle.kcore_c.specs.Status.{BootSays, CallSays, LineSays, EndSays, IsBooted};
+
+use crate::handle::Handle;
+use crate::status::Status;
+use kc_session::Session;
+use kc_trace::{ConfigTextFault, LONGEST_REPLY, read_config};
+use std::alloc::Global;
+
+fn opened(alloc: Global, text: &[u8]) -> Result<Box<Session>, ConfigTextFault>
+    ensures session { IfOk result (λ session. IsBooted (Some session.value) text.now) }
+    ensures fault { IfErr result (λ fault. ConfigFails fault (config_in text.now)) }
+{
+    let config = read_config(alloc, text)?;
+    let Ok(session) = Session::new(alloc, config) else {
+        return Err(ConfigTextFault::Memory);
+    };
+    match Box::new(alloc, session) {
+        Ok(session) => Ok(session),
+        Err(_) => Err(ConfigTextFault::Memory),
+    }
+}
+
+/// Opens a session by the text of its configuration.
+pub fn boot(alloc: Global, core: &mut Handle, text: &[u8]) -> Status
+    ensures { BootSays core.old.held.session core.new.held.session text.now result }
+{
+    if core.is_open() {
+        return Status::AlreadyOpen;
+    }
+    match opened(alloc, text) {
+        Ok(session) => {
+            core.put(session);
+            Status::Done
+        }
+        Err(fault) => Status::Config(fault),
+    }
+}
+
+/// Asks the session by a line, for a reply into `out`.
+pub fn call(
+    alloc: Global,
+    core: &mut Handle,
+    line: &[u8],
+    out: &mut [u8],
+    used: &mut usize,
+) -> Status
+    ensures says { CallSays core.old.held.session core.new.held.session line.now (length out.old) (take used.new out.new) result }
+    ensures within { used.new ≤ length out.new }
+{
+    *used = 0;
+    let Some(session) = core.take(alloc) else {
+        return Status::Closed;
+    };
+    let mut session = session;
+    if out.len() < LONGEST_REPLY {
+        core.put(session);
+        return Status::NoRoom;
+    }
+    let told = session.ask(line);
+    core.put(session);
+    match told {
+        Ok(told) => {
+            out[..told.len()].copy_from_slice(&told);
+            *used = told.len();
+            Status::Done
+        }
+        Err(fault) => Status::Ask(fault),
+    }
+}
+
+/// Tells a line of the session's trace into `out`.
+pub fn line(
+    alloc: Global,
+    core: &mut Handle,
+    number: usize,
+    out: &mut [u8],
+    used: &mut usize,
+) -> Status
+    ensures says { LineSays core.old.held.session number (length out.old) (take used.new out.new) result }
+    ensures within { used.new ≤ length out.new }
+    ensures same { core.new.held.session ≡ core.old.held.session }
+{
+    *used = 0;
+    let Some(session) = core.take(alloc) else {
+        return Status::Closed;
+    };
+    let told = session.line(number);
+    core.put(session);
+    match told {
+        Ok(Some(told)) => {
+            if out.len() < told.len() {
+                return Status::NoRoom;
+            }
+            out[..told.len()].copy_from_slice(&told);
+            *used = told.len();
+            Status::Done
+        }
+        Ok(None) => Status::NoSuchLine,
+        Err(_) => Status::Memory,
+    }
+}
+
+/// Ends the session.
+pub fn end(alloc: Global, core: &mut Handle) -> Status
+    ensures says { EndSays core.old.held.session result }
+    ensures closed { core.new.held.session ≡ None }
+{
+    match core.take(alloc) {
+        Some(session) => {
+            Box::into_inner(session).end();
+            Status::Done
+        }
+        None => Status::Closed,
+    }
+}

@@ -1,0 +1,54 @@
+//! What a function answers C.
+ghost use Rattle.std.specs.Prelude.{◌≡◌};
+ghost use Rattle.kcore_c.specs.Status.{code_of};
+
+use kc_session::AskFault;
+use kc_trace::ConfigTextFault;
+use kc_types::ConfigFault;
+
+/// What a function answers C.
+#[derive(Clone, Copy, Debug, PartialEq, Eq)]
+pub enum Status {
+    /// It is done.
+    Done,
+    /// The session is not open.
+    Closed,
+    /// A session is open already.
+    AlreadyOpen,
+    /// A growth of memory was refused.
+    Memory,
+    /// The buffer is too short.
+    NoRoom,
+    /// The trace has no such line.
+    NoSuchLine,
+    /// The line was not answered.
+    Ask(AskFault),
+    /// The text is no configuration.
+    Config(ConfigTextFault),
+}
+
+impl Status {
+    /// The number of it that `kcore.h` names.
+    pub fn code(self) -> u32
+        ensures { result ≡ code_of self }
+    {
+        match self {
+            Status::Done => 0,
+            Status::Closed => 1,
+            Status::AlreadyOpen => 2,
+            Status::Memory => 3,
+            Status::NoRoom => 4,
+            Status::NoSuchLine => 5,
+            Status::Ask(AskFault::BadLine) => 6,
+            Status::Ask(AskFault::HistoryFull) => 7,
+            Status::Ask(AskFault::Memory) => 3,
+            Status::Config(ConfigTextFault::NotJson) => 8,
+            Status::Config(ConfigTextFault::BadShape) => 9,
+            Status::Config(ConfigTextFault::Config(ConfigFault::Frames)) => 10,
+            Status::Config(ConfigTextFault::Config(ConfigFault::CoreHost)) => 11,
+            Status::Config(ConfigTextFault::Config(ConfigFault::Leaves)) => 12,
+            Status::Config(ConfigTextFault::Config(ConfigFault::TooManyDigests)) => 13,
+            Status::Config(ConfigTextFault::Memory) => 3,
+        }
+    }
+}

@@ -1,0 +1,72 @@
+/* Refuses each growth of memory in turn, over a session from its boot to its end: what says KCORE_MEMORY has changed nothing,
+ * and asked again it answers as it does in ample memory. Linked with --wrap=malloc,--wrap=realloc. */
+#include <kcore.h>
+#include <stdio.h>
+#include <stdlib.h>
+#include <string.h>
+
+void *__real_malloc(size_t size), *__real_realloc(void *block, size_t size);
+static unsigned long met, refused;
+void *__wrap_malloc(size_t size) { return ++met == refused ? NULL : __real_malloc(size); }
+void *__wrap_realloc(void *block, size_t size) { return ++met == refused ? NULL : __real_realloc(block, size); }
+
+static const char config[] = "{\"frames\":8,\"core\":1,\"host\":4,\"leaves\":1,\"approved\":"
+                             "[\"ba7816bf8f01cfea414140de5dae2223b00361a396177a9cb410ff61f20015ad\"]}";
+/* What is asked, and what the rules answer. */
+static const char *const calls[][2] = {
+    {"hfault 1", "done"}, {"hwrite 1 0 616263", "done"}, {"hread 1 0 3", "data 616263"}, {"regvm 0", "done"},
+    {"regvcpu 0 0", "done"}, {"setboot 0 0 3", "image 0"}, {"remap 0 0 1", "done"}, {"verify 0", "done"},
+    {"gread 0 0 0 0 3", "data 616263"}, {"gread 0 0 1 0 1", "fault 1"}, {"map 0 0 2", "done"}, {"gwrite 0 0 1 0 2a", "done"},
+    {"gread 0 0 1 0 1", "data 2a"}, {"grant 0 0 1", "done"}, {"hfault 2", "done"}, {"hread 2 0 1", "data 2a"},
+    {"revoke 0 0 1", "done"}, {"hread 2 0 1", "refused not-present"}, {"clear 0", "done"}};
+enum { CALLS = sizeof calls / sizeof *calls };
+static uint8_t text[9000];
+
+static int is_line(const char *line, size_t used) {
+    return used == strlen(line) + 1 && memcmp(text, line, used - 1) == 0 && text[used - 1] == '\n';
+}
+
+/* A whole session in which one growth is refused, or none: how many functions said KCORE_MEMORY, or less than 0. */
+static int run(unsigned long at) {
+    kcore core = {0};
+    size_t used = 1;
+    uint32_t status;
+    int told = 0;
+    met = 0;
+    refused = at;
+    while ((status = kcore_boot(&core, (const uint8_t *)config, strlen(config))) == KCORE_MEMORY) {
+        told++;
+        if (kcore_call(&core, (const uint8_t *)"take", 4, text, sizeof text, &used) != KCORE_CLOSED || used) return -1;
+    }
+    if (status != KCORE_DONE) return -2;
+    for (size_t n = 0; n < CALLS; n++) {
+        const char *call = calls[n][0];
+        while ((status = kcore_call(&core, (const uint8_t *)call, strlen(call), text, sizeof text, &used)) == KCORE_MEMORY) {
+            told++;
+            if (used) return -3;
+        }
+        if (status != KCORE_DONE || !is_line(calls[n][1], used)) return -4;
+    }
+    for (size_t n = 0; n <= CALLS + 1; n++) {
+        while ((status = kcore_line(&core, n, text, sizeof text, &used)) == KCORE_MEMORY) {
+            told++;
+            if (used) return -5;
+        }
+        if (n > CALLS ? status != KCORE_NO_SUCH_LINE || used : status != KCORE_DONE || !is_line(n ? calls[n - 1][0] : "kcore-trace 2", used))
+            return -6;
+    }
+    return kcore_end(&core) == KCORE_DONE && kcore_end(&core) == KCORE_CLOSED ? told : -7;
+}
+
+int main(void) {
+    int told = run(0), all = 0;
+    unsigned long growths = met;
+    if (told != 0) return printf("in ample memory: %d\n", told), 1;
+    for (unsigned long at = 1; at <= growths; at++) {
+        told = run(at);
+        if (told < 0 || told > 1) return printf("with growth %lu refused: %d\n", at, told), 1;
+        all += told;
+    }
+    printf("%lu growths, each refused in turn: %d were told, and all was answered when asked again\n", growths, all);
+    return all == 0;
+}
