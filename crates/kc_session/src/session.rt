@@ -72,8 +72,9 @@ impl Session {
         Ok(Session { alloc, book })
     }
 
-    /// Answers the call that a line is, given without its newline: the line of its reply, with its newline. `Memory`
-    /// where a growth was refused, then `BadLine`, then `HistoryFull`.
+    /// Answers the call that a line is, given without its newline: the line of its reply, with its newline. `BadLine`
+    /// where it is no call, `HistoryFull` where it is one and the history has 65,536 calls, `Memory` where a growth was
+    /// refused, whatever the line is.
     pub fn ask(&mut self, line: &[u8]) -> Result<Vec<u8>, AskFault>
         ensures reply { IfOk result (λ told. IsAnswer self.old self.new line.now told.items) }
         ensures short { IfOk result (λ told. vec_len told ≤ longest_reply) }
