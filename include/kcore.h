@@ -44,14 +44,15 @@ enum kcore_status {
 size_t kcore_longest_reply(void);
 size_t kcore_longest_line(void);
 
-/* Opens a closed session, whose core is in the boot state of the configuration that the bytes are (JSON, no byte behind
- * it). Where it does not, the session stays closed. */
+/* Opens a closed session, whose core is in the boot state of the configuration that the bytes are (JSON). Where it does
+ * not, the session stays closed. */
 uint32_t kcore_boot(kcore *core, const uint8_t *config, size_t config_length);
 
-/* Answers the call that a line is, given without its newline. The reply's line, with its newline, is the first *used bytes
- * of the buffer, which has room for kcore_longest_reply() bytes. Where it does not answer, nothing has changed, and *used
- * is 0; after KCORE_MEMORY the same line may be asked again. */
-uint32_t kcore_call(kcore *core, const uint8_t *line, size_t line_length, uint8_t *out, size_t out_length, size_t *used);
+/* Answers the call that a line is, given without its newline. The reply's line, with its newline, is the first *used
+ * bytes of the buffer, which has room for kcore_longest_reply() bytes. Where it does not answer, nothing has changed,
+ * and *used is 0; after KCORE_MEMORY the same line may be asked again. */
+uint32_t kcore_call(kcore *core, const uint8_t *line, size_t line_length, uint8_t *out, size_t out_length,
+                    size_t *used);
 
 /* Tells a line of the session's trace, by its place from 0, with its newline: the header, then a line for each call that
  * was answered. The lines from 0 to KCORE_NO_SUCH_LINE, one behind the other, are the trace. */

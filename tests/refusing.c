@@ -1,5 +1,5 @@
-/* Refuses each growth of memory in turn, over a session from its boot to its end: what says KCORE_MEMORY has changed nothing,
- * and asked again it answers as it does in ample memory. Linked with --wrap=malloc,--wrap=realloc. */
+/* Refuses each growth of memory in turn, over a session from its boot to its end: what says KCORE_MEMORY has changed
+ * nothing, and asked again it answers as it does in ample memory. Linked with --wrap=malloc,--wrap=realloc. */
 #include <kcore.h>
 #include <stdio.h>
 #include <stdlib.h>
@@ -16,7 +16,8 @@ static const char config[] = "{\"frames\":8,\"core\":1,\"host\":4,\"leaves\":1,\
 static const char *const calls[][2] = {
     {"hfault 1", "done"}, {"hwrite 1 0 616263", "done"}, {"hread 1 0 3", "data 616263"}, {"regvm 0", "done"},
     {"regvcpu 0 0", "done"}, {"setboot 0 0 3", "image 0"}, {"remap 0 0 1", "done"}, {"verify 0", "done"},
-    {"gread 0 0 0 0 3", "data 616263"}, {"gread 0 0 1 0 1", "fault 1"}, {"map 0 0 2", "done"}, {"gwrite 0 0 1 0 2a", "done"},
+    {"gread 0 0 0 0 3", "data 616263"}, {"gread 0 0 1 0 1", "fault 1"}, {"map 0 0 2", "done"},
+    {"gwrite 0 0 1 0 2a", "done"},
     {"gread 0 0 1 0 1", "data 2a"}, {"grant 0 0 1", "done"}, {"hfault 2", "done"}, {"hread 2 0 1", "data 2a"},
     {"revoke 0 0 1", "done"}, {"hread 2 0 1", "refused not-present"}, {"clear 0", "done"}};
 enum { CALLS = sizeof calls / sizeof *calls };
@@ -41,7 +42,8 @@ static int run(unsigned long at) {
     if (status != KCORE_DONE) return -2;
     for (size_t n = 0; n < CALLS; n++) {
         const char *call = calls[n][0];
-        while ((status = kcore_call(&core, (const uint8_t *)call, strlen(call), text, sizeof text, &used)) == KCORE_MEMORY) {
+        const uint8_t *bytes = (const uint8_t *)call;
+        while ((status = kcore_call(&core, bytes, strlen(call), text, sizeof text, &used)) == KCORE_MEMORY) {
             told++;
             if (used) return -3;
         }
@@ -52,8 +54,8 @@ static int run(unsigned long at) {
             told++;
             if (used) return -5;
         }
-        if (n > CALLS ? status != KCORE_NO_SUCH_LINE || used : status != KCORE_DONE || !is_line(n ? calls[n - 1][0] : "kcore-trace 2", used))
-            return -6;
+        const char *line = n == 0 ? "kcore-trace 2" : n <= CALLS ? calls[n - 1][0] : NULL;
+        if (line ? status != KCORE_DONE || !is_line(line, used) : status != KCORE_NO_SUCH_LINE || used) return -6;
     }
     return kcore_end(&core) == KCORE_DONE && kcore_end(&core) == KCORE_CLOSED ? told : -7;
 }

@@ -34,9 +34,12 @@ int main(void) {
 
     is(boot(&core, "{"), KCORE_NOT_JSON, "half an object");
     is(boot(&core, "{}"), KCORE_BAD_SHAPE, "an object without keys");
-    is(boot(&core, "{\"frames\":0,\"core\":0,\"host\":0,\"leaves\":1,\"approved\":[]}"), KCORE_BAD_FRAMES, "no frames");
-    is(boot(&core, "{\"frames\":8,\"core\":5,\"host\":4,\"leaves\":1,\"approved\":[]}"), KCORE_BAD_CORE_HOST, "more than there is");
-    is(boot(&core, "{\"frames\":8,\"core\":1,\"host\":4,\"leaves\":99,\"approved\":[]}"), KCORE_BAD_LEAVES, "too many leaves");
+    is(boot(&core, "{\"frames\":0,\"core\":0,\"host\":0,\"leaves\":1,\"approved\":[]}"),
+       KCORE_BAD_FRAMES, "no frames");
+    is(boot(&core, "{\"frames\":8,\"core\":5,\"host\":4,\"leaves\":1,\"approved\":[]}"),
+       KCORE_BAD_CORE_HOST, "more than there is");
+    is(boot(&core, "{\"frames\":8,\"core\":1,\"host\":4,\"leaves\":99,\"approved\":[]}"),
+       KCORE_BAD_LEAVES, "too many leaves");
     char many[65 * 67 + 100];
     size_t at = (size_t)sprintf(many, "{\"frames\":8,\"core\":1,\"host\":4,\"leaves\":1,\"approved\":[");
     for (int n = 0; n < 65; n++) at += (size_t)sprintf(many + at, "%s\"%064d\"", n ? "," : "", n);
@@ -44,9 +47,11 @@ int main(void) {
     is(boot(&core, many), KCORE_TOO_MANY_DIGESTS, "65 digests");
     is(ask(&core, "take", sizeof out), KCORE_CLOSED, "a call on a session that was refused");
 
-    is(boot(&core, "{\"frames\":8,\"core\":1,\"host\":4,\"leaves\":1,\"approved\":[]}"), KCORE_DONE, "a configuration");
+    is(boot(&core, "{\"frames\":8,\"core\":1,\"host\":4,\"leaves\":1,\"approved\":[]}"),
+       KCORE_DONE, "a configuration");
     is(boot(&core, "{"), KCORE_ALREADY_OPEN, "a second one");
-    is(boot(&other, "{\"frames\":8,\"core\":1,\"host\":7,\"leaves\":1,\"approved\":[]}"), KCORE_DONE, "a second session");
+    is(boot(&other, "{\"frames\":8,\"core\":1,\"host\":7,\"leaves\":1,\"approved\":[]}"),
+       KCORE_DONE, "a second session");
     is(ask(&core, "nonsense", sizeof out), KCORE_BAD_LINE, "a line that is no call");
     is(ask(&core, "take\n", sizeof out), KCORE_BAD_LINE, "a line with its newline");
     is(ask(&core, "", sizeof out), KCORE_BAD_LINE, "an empty line");

@@ -1,5 +1,5 @@
-//! The core for a program in C: a session behind a handle that C keeps. No proof covers C, so each function tests all that
-//! it needs but the pointers themselves; what C owes stands in `kcore.h`.
+//! The core for a program in C: a session behind a handle that C keeps. No proof covers C, so each function tests all
+//! that it needs but the pointers themselves; what C owes stands in `kcore.h`.
 #![tactic(auto)]
 
 ghost use Rattle.std.specs.Prelude.{◌≡◌, ◌≤◌, None, length, take};
@@ -26,8 +26,8 @@ pub extern "C" fn kcore_longest_line() -> usize {
     LONGEST_CALL
 }
 
-/// Opens a session whose core is in the boot state of the configuration that a text is. Where there is no such session,
-/// the handle stays closed.
+/// Opens a session whose core is in the boot state of the configuration that a text is. Where it does not, the handle
+/// stays as it is.
 #[unsafe(no_mangle)]
 pub extern "C" fn kcore_boot(alloc: Global, core: &mut Handle, config: &[u8]) -> u32
     ensures { IsCode (BootSays core.old.held.session core.new.held.session config.now) result }
@@ -35,8 +35,8 @@ pub extern "C" fn kcore_boot(alloc: Global, core: &mut Handle, config: &[u8]) ->
     session::boot(alloc, core, config).code()
 }
 
-/// Answers the call that a line is, given without its newline: the first `used` bytes of the buffer are the reply's line,
-/// with its newline. Where it is not answered, nothing has changed and `used` is 0.
+/// Answers the call that a line is, given without its newline: the first `used` bytes of the buffer are the reply's
+/// line, with its newline. Where it is not answered, nothing has changed and `used` is 0.
 #[unsafe(no_mangle)]
 pub extern "C" fn kcore_call(
     alloc: Global,
@@ -51,8 +51,8 @@ pub extern "C" fn kcore_call(
     session::call(alloc, core, line, out, used).code()
 }
 
-/// Tells a line of the session's trace, by its place from 0, with its newline: the header, then a line for each call that
-/// was answered, so that all lines, one behind the other, are the trace.
+/// Tells a line of the session's trace, by its place from 0, with its newline: the header, then a line for each call
+/// that was answered, so that all lines, one behind the other, are the trace.
 #[unsafe(no_mangle)]
 pub extern "C" fn kcore_line(
     alloc: Global,
