@@ -20,6 +20,12 @@ fn fail(rt: &HostRuntime, fault: TextFault) -> u8 {
     tell(&fault, &mut Std::new(rt.stderr()))
 }
 
+/// The root folder, opened: where standard input or output is closed it takes the number, which the configuration's file
+/// would have otherwise. Nothing can be read of it, and nothing written. Where it can't be opened, the program does without.
+fn stand_in(rt: &HostRuntime) -> Option<File> {
+    File::open(rt, "/").ok()
+}
+
 /// Replays the trace on standard input in a configuration, and writes the replies, or the dump, onto standard output.
 fn replay_in<C: Source, R: Threads + Wait + Sync>(
     rt: &HostRuntime,
@@ -50,6 +56,7 @@ fn replay<R: Threads + Wait + Sync>(
 ) -> u8 {
     let outcome = match config {
         Some(path) => {
+            let _standing_in = stand_in(rt);
             let Ok(file) = File::open(rt, path) else {
                 return fail(rt, TextFault::Read);
             };
@@ -99,6 +106,7 @@ fn live<R: Threads + Wait + Sync>(
 ) -> u8 {
     let outcome = match config {
         Some(path) => {
+            let _standing_in = stand_in(rt);
             let Ok(file) = File::open(rt, path) else {
                 return fail(rt, TextFault::Read);
             };
