@@ -30,8 +30,8 @@ pub enum Job<'a> {
     Audit,
 }
 
-/// What `--version` prints behind the program's name.
-const VERSION: &str = "2.0.0";
+/// What `--version` prints behind the program's name: the version, and on a second line the toolchain that proves it.
+const VERSION: &str = "2.0.0\nrattle-kit-13f";
 
 /// Why there is no job.
 #[derive(Debug, Drop)]
