@@ -16,14 +16,22 @@ workers_rule = record (new_rule (codes "workers")) { long = Some (codes "workers
 abbrev pub dump_rule : Rule
 dump_rule = record (new_rule (codes "dump")) { long = Some (codes "dump"); action = Some SetTrue }
 
+-- another
+abbrev pub all_rule : Rule
+all_rule = record (new_rule (codes "all")) { long = Some (codes "all"); action = Some SetTrue }
+
+-- and one that each subcommand has
+abbrev pub explain_rule : Rule
+explain_rule = record (new_rule (codes "explain")) { long = Some (codes "explain"); action = Some SetTrue }
+
 abbrev pub replay : App
-replay = with_rule (with_rule (with_rule (new_app (codes "replay")) config_rule) workers_rule) dump_rule
+replay = with_rule (with_rule (with_rule (with_rule (new_app (codes "replay")) config_rule) workers_rule) dump_rule) explain_rule
 
 abbrev pub live : App
-live = with_rule (with_rule (new_app (codes "live")) config_rule) workers_rule
+live = with_rule (with_rule (with_rule (new_app (codes "live")) config_rule) workers_rule) explain_rule
 
 abbrev pub audit : App
-audit = new_app (codes "audit")
+audit = with_rule (with_rule (new_app (codes "audit")) all_rule) explain_rule
 
 -- the command with `replay` alone
 abbrev pub base : App

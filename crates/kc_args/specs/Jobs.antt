@@ -30,15 +30,15 @@ IsSet flag rows = first_of flag rows ≡ Some (codes "true")
 
 -- what the subcommand of this name asks for, by the rows of its options: there are `replay`, `live` and `audit` alone
 abbrev pub IsJobIn : Text → List Row → Job → Type 0
-IsJobIn name rows (Replay config workers dump) = (name ≢ codes "live") × (name ≢ codes "audit") × HasOptions rows config workers × (IsTrue dump ↔ IsSet (codes "dump") rows)
-IsJobIn name rows (Live config workers) = (name ≡ codes "live") × HasOptions rows config workers
-IsJobIn name rows Audit = name ≡ codes "audit"
+IsJobIn name rows (Replay config workers dump explain) = (name ≢ codes "live") × (name ≢ codes "audit") × HasOptions rows config workers × (IsTrue dump ↔ IsSet (codes "dump") rows) × (IsTrue explain ↔ IsSet (codes "explain") rows)
+IsJobIn name rows (Live config workers explain) = (name ≡ codes "live") × HasOptions rows config workers × (IsTrue explain ↔ IsSet (codes "explain") rows)
+IsJobIn name rows (Audit all explain) = (name ≡ codes "audit") × (IsTrue all ↔ IsSet (codes "all") rows) × (IsTrue explain ↔ IsSet (codes "explain") rows)
 
 -- the same where there may be no subcommand: then it is as if `replay` stood there alone
 abbrev pub Asks : Option (Text × List Row) → Job → Type 0
-Asks None (Replay config workers dump) = HasOptions [] config workers × (dump ≡ false)
-Asks None (Live config workers) = ⊥
-Asks None Audit = ⊥
+Asks None (Replay config workers dump explain) = HasOptions [] config workers × (dump ≡ false) × (explain ≡ false)
+Asks None (Live config workers explain) = ⊥
+Asks None (Audit all explain) = ⊥
 Asks (Some found) job = IsJobIn found.0 found.1 job
 
 -- clap's rules find no fault in the words, and the job is what they hold for the program's command

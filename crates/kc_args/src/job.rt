@@ -3,7 +3,7 @@ ghost use Rattle.std.specs.Prelude.{◌≡◌, ◌↔◌, IfOk, IfErr, IsTrue, m
 ghost use Rattle.clap.specs.declared.builder.command.Command.TheViews.{out-Command as fields_of};
 ghost use Rattle.clap.specs.Words.{app_of, rule_of, found_of, rows_of, first_of};
 ghost use Rattle.clap.specs.Values.{kind_of};
-ghost use Rattle.kc_args.specs.Commands.{kcore, replay, live, audit, config_rule, workers_rule, dump_rule};
+ghost use Rattle.kc_args.specs.Commands.{kcore, replay, live, audit, config_rule, workers_rule, dump_rule, all_rule, explain_rule};
 ghost use Rattle.kc_args.specs.Jobs.{in_range, workers_in, IsSet, IsJob, IsJobIn, IsRefusal, HasStatus};
 
 use clap::error::ErrorKind;
@@ -14,20 +14,25 @@ use std::alloc::{AllocError, Global};
 #[derive(Clone, Copy, Debug, PartialEq, Eq)]
 pub enum Job<'a> {
     /// Replay the trace on standard input, with the configuration in a file where a path is given, by 1 to 64 workers,
-    /// and write the replies, or the dump of the core that it leaves.
+    /// and write the replies, or the dump of the core that it leaves. `explain`, here and below: say more of a fault.
     Replay {
         config: Option<&'a str>,
         workers: u32,
         dump: bool,
+        explain: bool,
     },
     /// Run the trace on standard input live, with the configuration in a file where a path is given, and replay the
     /// history by 1 to 64 workers.
     Live {
         config: Option<&'a str>,
         workers: u32,
+        explain: bool,
     },
-    /// Audit the dump on standard input.
-    Audit,
+    /// Audit the dump on standard input, and write each finding, or the report alone.
+    Audit {
+        all: bool,
+        explain: bool,
+    },
 }
 
 /// What `--version` prints behind the program's name: the version, and on a second line the toolchain that proves it.
@@ -85,6 +90,26 @@ fn dump_arg<'a>(alloc: Global) -> Arg<'a>
         .help("Write the dump of the core that the trace leaves, in place of the replies")
 }
 
+fn all_arg<'a>(alloc: Global) -> Arg<'a>
+    ensures rule { rule_of result ≡ all_rule }
+    ensures local { result.global ≡ false }
+{
+    Arg::new(alloc, "all")
+        .long("all")
+        .action(ArgAction::SetTrue)
+        .help("Write a line for each finding, and the report last")
+}
+
+fn explain_arg<'a>(alloc: Global) -> Arg<'a>
+    ensures rule { rule_of result ≡ explain_rule }
+    ensures local { result.global ≡ false }
+{
+    Arg::new(alloc, "explain")
+        .long("explain")
+        .action(ArgAction::SetTrue)
+        .help("Say more of a fault, in further lines")
+}
+
 fn replay_command<'a>(alloc: Global) -> Result<Command<'a>, AllocError>
     ensures app { IfOk result (λ c. app_of c ≡ replay) }
     ensures local { IfOk result (λ c. (fields_of c).has_globals ≡ false) }
@@ -96,7 +121,8 @@ fn replay_command<'a>(alloc: Global) -> Result<Command<'a>, AllocError>
         .override_usage("kcore replay [OPTIONS]")
         .arg(config_arg(alloc))?
         .arg(workers_arg(alloc))?
-        .arg(dump_arg(alloc))
+        .arg(dump_arg(alloc))?
+        .arg(explain_arg(alloc))
 }
 
 fn live_command<'a>(alloc: Global) -> Result<Command<'a>, AllocError>
@@ -109,18 +135,21 @@ fn live_command<'a>(alloc: Global) -> Result<Command<'a>, AllocError>
         )
         .override_usage("kcore live [OPTIONS]")
         .arg(config_arg(alloc))?
-        .arg(workers_arg(alloc))
+        .arg(workers_arg(alloc))?
+        .arg(explain_arg(alloc))
 }
 
-fn audit_command<'a>(alloc: Global) -> Command<'a>
-    ensures app { app_of result ≡ audit }
-    ensures local { (fields_of result).has_globals ≡ false }
+fn audit_command<'a>(alloc: Global) -> Result<Command<'a>, AllocError>
+    ensures app { IfOk result (λ c. app_of c ≡ audit) }
+    ensures local { IfOk result (λ c. (fields_of c).has_globals ≡ false) }
 {
     Command::new(alloc, "audit")
         .about(
             "Say what is wrong with the dump on standard input; the status is 1 where something is",
         )
-        .override_usage("kcore audit")
+        .override_usage("kcore audit [OPTIONS]")
+        .arg(all_arg(alloc))?
+        .arg(explain_arg(alloc))
 }
 
 /// The whole command.
@@ -129,12 +158,13 @@ fn command<'a>(alloc: Global) -> Result<Command<'a>, AllocError>
 {
     let replay = replay_command(alloc)?;
     let live = live_command(alloc)?;
+    let audit = audit_command(alloc)?;
     let base = Command::new(alloc, "kcore")
         .no_binary_name(true)
         .version(VERSION)
         .about("Replay calls on the trusted core of a hypervisor")
         .subcommand(replay)?;
-    base.subcommand(live)?.subcommand(audit_command(alloc))
+    base.subcommand(live)?.subcommand(audit)
 }
 
 /// What is printed in place of a job.
@@ -199,24 +229,32 @@ fn is_named(name: &str, command: &str) -> bool
 fn job_in<'a>(name: &str, found: &ArgMatches<'a>) -> Job<'a>
     ensures { IsJobIn name.now (rows_of (found_of found.now)) result }
 {
+    let explain = is_set(found, "explain");
     if is_named(name, "audit") {
-        return Job::Audit;
+        let all = is_set(found, "all");
+        return Job::Audit { all, explain };
     }
     let config = text_in(found, "config");
     let workers = workers_in(found);
     if is_named(name, "live") {
-        return Job::Live { config, workers };
+        return Job::Live {
+            config,
+            workers,
+            explain,
+        };
     }
     let dump = is_set(found, "dump");
     Job::Replay {
         config,
         workers,
         dump,
+        explain,
     }
 }
 
 /// What the words, without the program's name, ask for: `replay` or `live`, with or without `--config PATH` and
-/// `--workers N` with a number from 1 to 64, `replay` also with `--dump`; `audit`; and `replay` for no words at all.
+/// `--workers N` with a number from 1 to 64, `replay` also with `--dump`; `audit`, also with `--all`; each also with
+/// `--explain`; and `replay` for no words at all.
 pub fn job_of<'a>(alloc: Global, words: &'a [&'a str]) -> Result<Job<'a>, ArgFault>
     // The job is what the words say by the command's rules, and only words that break them are refused.
     ensures job { IfOk result (IsJob (map (λ w. w.now) words.entry.now)) }
@@ -232,6 +270,7 @@ pub fn job_of<'a>(alloc: Global, words: &'a [&'a str]) -> Result<Job<'a>, ArgFau
             config: None,
             workers: 1,
             dump: false,
+            explain: false,
         }),
     }
 }

@@ -8,4 +8,5 @@ pub returns-clause-app : goal.returns-clause-app
 returns-clause-app c =
     let with_config = c.in_ok-arg.ensures.shape c.config_arg.ensures.local ∙ ap₂ with_rule (ap app_of_fields c.override_usage.ensures ∙ ap app_of_fields c.about.ensures ∙ c.new.ensures.app) c.config_arg.ensures.rule in
     let with_workers = c.in_ok-arg-2.ensures.shape c.workers_arg.ensures.local ∙ ap₂ with_rule with_config c.workers_arg.ensures.rule in
-    IfOk-weaker c.arg-3.result _ _ (λ r h. h.shape c.dump_arg.ensures.local ∙ ap₂ with_rule with_workers c.dump_arg.ensures.rule) c.arg-3.ensures
+    let with_dump = c.in_ok-arg-3.ensures.shape c.dump_arg.ensures.local ∙ ap₂ with_rule with_workers c.dump_arg.ensures.rule in
+    IfOk-weaker c.arg-4.result _ _ (λ r h. h.shape c.explain_arg.ensures.local ∙ ap₂ with_rule with_dump c.explain_arg.ensures.rule) c.arg-4.ensures
