@@ -1,5 +1,6 @@
 -- What an audit reports.
-use Rattle.std.specs.Prelude.{ℕ, List, [], ◌∷◌, ◌++◌, length, codes}
+use Rattle.std.specs.Prelude.{ℕ, Bool, true, false, List, [], ◌∷◌, ◌++◌, length, codes}
+use Rattle.std.specs.List.{flat_map}
 use Rattle.std.specs.Fmt.{decimal}
 use Rattle.kc_audit.specs.declared.finding.Finding.{Finding}
 use Rattle.kc_audit.specs.declared.finding.Finding.TheVariants as finding
@@ -30,3 +31,16 @@ found_text found = codes "{\"findings\":" ++ (decimal (length found) ++ (codes "
 -- a compact JSON object and a line feed: how many findings, the first, and the dump's frames
 abbrev pub report_of : List Finding → ℕ → List ℕ
 report_of found frames = found_text found ++ (codes "\",\"frames\":" ++ decimal frames) ++ codes "}\n"
+
+-- a compact JSON object with a finding, and a line feed
+abbrev pub finding_line : Finding → List ℕ
+finding_line f = codes "{\"finding\":\"" ++ finding_text f ++ codes "\"}\n"
+
+-- each finding in its line, where all are wanted
+abbrev pub all_text : Bool → List Finding → List ℕ
+all_text true found = flat_map finding_line found
+all_text false found = []
+
+-- and behind them the report
+abbrev pub written_of : Bool → List Finding → ℕ → List ℕ
+written_of all found frames = all_text all found ++ report_of found frames

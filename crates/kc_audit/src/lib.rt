@@ -1,4 +1,4 @@
-//! The audit of dumps: what is found in a dump that no core in order shows, and the line that reports it. Dumps are
+//! The audit of dumps: what is found in a dump that no core in order shows, and the lines that report it. Dumps are
 //! re-exported from `kc_dump`, the digests of pages from `kc_digests`.
 #![tactic(auto)]
 
@@ -19,5 +19,5 @@ pub use auditing::audit;
 pub use finding::Finding;
 pub use kc_digests::frame_digests;
 pub use kc_dump::{Dump, FrameLine, SlotDump};
-pub use line::report;
+pub use line::written;
 pub use parallel::audit_parallel;

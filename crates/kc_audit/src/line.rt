@@ -1,12 +1,15 @@
-//! The report of an audit.
-ghost use Rattle.std.specs.Prelude.{◌≡◌, ◌≤◌, ◌+◌, ◌++◌, length};
+//! The report of an audit, and a line for each finding.
+ghost use Rattle.std.specs.Prelude.{◌≡◌, ◌≤◌, ◌+◌, ◌++◌, length, IfOk};
+ghost use Rattle.std.specs.List.{flat_map};
 ghost use Rattle.arrayvec.specs.ArrayString.{array_string_len};
 ghost use Rattle.std.specs.Fmt.{decimal};
-ghost use Rattle.kc_audit.specs.Report.{finding_text, first_text, found_text, report_of};
+ghost use Rattle.kc_audit.specs.Report.{finding_text, first_text, found_text, report_of, finding_line, all_text, written_of};
 
 use crate::finding::Finding;
 use arrayvec::ArrayString;
 use itoa::Buffer;
+use kc_types::Memory;
+use std::alloc::Global;
 
 /// Appends a number.
 fn push_number(line: &mut ArrayString<160>, number: usize)
@@ -75,8 +78,8 @@ fn push_found(line: &mut ArrayString<160>, found: &[Finding])
 }
 
 /// The report of an audit of a dump of so many frames: a compact JSON object (RFC 8259) with the number of findings, the
-/// text of the first, empty where there is none, and the frames, and a line feed. It takes no memory.
-pub fn report(found: &[Finding], frames: usize) -> ArrayString<160>
+/// text of the first, empty where there is none, and the frames, and a line feed.
+fn report(found: &[Finding], frames: usize) -> ArrayString<160>
     ensures { result.bytes ≡ report_of found.now frames }
 {
     let mut line = ArrayString::new();
@@ -84,4 +87,52 @@ pub fn report(found: &[Finding], frames: usize) -> ArrayString<160>
     push_named(&mut line, "\",\"frames\":", frames);
     line.push_str("}\n");
     line
+}
+
+/// A finding as a line of JSON.
+fn finding_line(finding: Finding) -> ArrayString<160>
+    ensures { result.bytes ≡ finding_line finding }
+{
+    let mut line = ArrayString::new();
+    line.push_str("{\"finding\":\"");
+    push_finding(&mut line, finding);
+    line.push_str("\"}\n");
+    line
+}
+
+/// Each finding in its line.
+fn finding_lines(alloc: Global, found: &[Finding]) -> Result<Vec<u8>, Memory>
+    ensures { IfOk result (λ text. text.items ≡ flat_map finding_line found.now) }
+{
+    let mut text = Vec::new(alloc);
+    for finding in found {
+        text.extend_from_slice(finding_line(*finding).as_bytes())?;
+    }
+    Ok(text)
+}
+
+/// The same where all are wanted, and else no text.
+fn all_text(alloc: Global, all: bool, found: &[Finding]) -> Result<Vec<u8>, Memory>
+    ensures { IfOk result (λ text. text.items ≡ all_text all found.now) }
+{
+    if all {
+        finding_lines(alloc, found)
+    } else {
+        Ok(Vec::new(alloc))
+    }
+}
+
+/// What an audit writes of a dump of so many frames: its report, a line, and where `all` is set each finding before it, in
+/// their order, as a compact JSON object in a line of its own. `Memory` where a growth was refused.
+pub fn written(
+    alloc: Global,
+    all: bool,
+    found: &[Finding],
+    frames: usize,
+) -> Result<Vec<u8>, Memory>
+    ensures { IfOk result (λ text. text.items ≡ written_of all found.now frames) }
+{
+    let mut text = all_text(alloc, all, found)?;
+    text.extend_from_slice(report(found, frames).as_bytes())?;
+    Ok(text)
 }

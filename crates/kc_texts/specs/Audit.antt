@@ -9,15 +9,15 @@ use Rattle.kc_audit.specs.Findings.{AreFindings}
 use Rattle.kc_dump_text.specs.declared.fault.DumpFault.TheVariants as dumps
 use Rattle.kc_texts.specs.declared.fault.TextFault.{TextFault}
 use Rattle.kc_texts.specs.declared.fault.TextFault.TheVariants as texts
-use Rattle.kc_audit.specs.Report.{report_of}
+use Rattle.kc_audit.specs.Report.{written_of}
 
--- the text is a dump, the report is that of what is found in it, and nothing is found exactly where it is sound
-pub record IsAudited (text : List ℕ) (sound : Bool) (report : List ℕ) : Type 0 where
+-- the text is a dump, what is written is the report of what is found in it, behind a line for each finding where all are wanted, and nothing is found exactly where it is sound
+pub record IsAudited (all : Bool) (text : List ℕ) (sound : Bool) (written : List ℕ) : Type 0 where
   pub dump : Dumped
   pub found : List Finding
   pub read : IsDumpText text dump
   pub findings : AreFindings dump found
-  pub reported : report ≡ report_of found (length dump.frames)
+  pub reported : written ≡ written_of all found (length dump.frames)
   pub nothing : IsTrue sound ↔ (found ≡ [])
   pub in_order : IsTrue sound ↔ IsSound dump
 
@@ -26,12 +26,12 @@ abbrev pub IsDumpFault : TextFault → Type 0
 IsDumpFault (texts.Dump fault) = fault ≢ dumps.Memory
 IsDumpFault fault = fault ≡ texts.Memory
 
--- the sink took the report of the dump that the source held, where it tells
-abbrev pub Audits : Option (List ℕ) → Bool → Option (List ℕ) → Option (List ℕ) → Type 0
-Audits None sound old new = Unit {0}
-Audits (Some text) sound old new = (report : List ℕ) × IsAudited text sound report × Appends old new report
+-- the sink took what is written of the dump that the source held, where it tells
+abbrev pub Audits : Bool → Option (List ℕ) → Bool → Option (List ℕ) → Option (List ℕ) → Type 0
+Audits all None sound old new = Unit {0}
+Audits all (Some text) sound old new = (written : List ℕ) × IsAudited all text sound written × Appends old new written
 
--- the same of a beginning of the report
-abbrev pub BeginsAudit : Option (List ℕ) → Option (List ℕ) → Option (List ℕ) → Type 0
-BeginsAudit None old new = Unit {0}
-BeginsAudit (Some text) old new = (sound : Bool) × (report : List ℕ) × (n : ℕ) × IsAudited text sound report × Appends old new (take n report)
+-- the same of a beginning of it
+abbrev pub BeginsAudit : Bool → Option (List ℕ) → Option (List ℕ) → Option (List ℕ) → Type 0
+BeginsAudit all None old new = Unit {0}
+BeginsAudit all (Some text) old new = (sound : Bool) × (written : List ℕ) × (n : ℕ) × IsAudited all text sound written × Appends old new (take n written)

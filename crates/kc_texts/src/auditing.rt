@@ -1,5 +1,5 @@
 //! The engine that audits a dump, over any source and any sink.
-ghost use Rattle.std.specs.Prelude.{◌≡◌, ◌≤◌, ◌⊎◌, ◌∷◌, [], length, false, IfOk, IfErr, IfSome, Err};
+ghost use Rattle.std.specs.Prelude.{◌≡◌, ◌≤◌, ◌⊎◌, ◌↔◌, ◌∷◌, [], length, false, IsTrue, IfOk, IfErr, IfSome, Err};
 ghost use Rattle.std.specs.Io.KnownBytes.{IsAtEnd};
 ghost use Rattle.kc_dump_text.specs.declared.fault.DumpFault.{DumpFault};
 ghost use Rattle.kc_dump_text.specs.Refused.{IsRefusedDump};
@@ -10,20 +10,26 @@ ghost use Rattle.kc_texts.specs.Outcomes.{seen, TellsSources, TellsSink};
 use crate::TextFault;
 use crate::source::{Sink, Source};
 use crate::whole::{read_whole, write_whole};
-use arrayvec::ArrayString;
-use kc_audit::{audit_parallel, report};
+use kc_audit::{Finding, audit_parallel, written};
 use kc_dump_text::read_dump;
 use std::alloc::Global;
 use std::thread::Threads;
 
-/// Whether nothing is found in the dump that a text is, and the report.
+fn is_nothing(found: &[Finding]) -> bool
+    ensures { IsTrue result ↔ (found.now ≡ []) }
+{
+    found.is_empty()
+}
+
+/// Whether nothing is found in the dump that a text is, and what is written of it.
 fn audited(
     rt: &(impl Threads + Sync),
     alloc: Global,
+    all: bool,
     text: &[u8],
-) -> Result<(bool, ArrayString<160>), TextFault>
+) -> Result<(bool, Vec<u8>), TextFault>
     requires { length text.now ≤ byte_limit }
-    ensures ok { IfOk result (λ audit. IsAudited text.now audit.0 audit.1.bytes) }
+    ensures ok { IfOk result (λ audit. IsAudited all text.now audit.0 audit.1.items) }
     ensures fault { IfErr result IsDumpFault }
     ensures dump { (fault : DumpFault) → result ≡ Err (TextFault.Dump fault) → IsRefusedDump text.now fault }
 {
@@ -31,10 +37,14 @@ fn audited(
     let Ok(found) = audit_parallel(rt, alloc, &dump) else {
         return Err(TextFault::Memory);
     };
-    Ok((found.is_empty(), report(&found, dump.frames().len())))
+    let Ok(lines) = written(alloc, all, &found, dump.frames().len()) else {
+        return Err(TextFault::Memory);
+    };
+    Ok((is_nothing(&found), lines))
 }
 
-/// Reads a dump to its end, writes the report of what an audit finds in it, and answers whether that is nothing.
+/// Reads a dump to its end, writes the report of what an audit finds in it, where `all` is set behind a line for each
+/// finding, and answers whether that is nothing.
 ///
 /// Nothing is written but after the whole audit. A source that fails, or that has more than 1,073,741,824 bytes, is
 /// `Read`, also where its bytes so far are refused already.
@@ -42,23 +52,24 @@ pub fn audit_text<D: Source, K: Sink>(
     rt: &(impl Threads + Sync),
     alloc: Global,
     dump: &mut D,
+    all: bool,
     out: &mut K,
 ) -> Result<bool, TextFault>
     requires dump { D.failed dump.old ≡ false }
     requires out { K.failed out.old ≡ false }
 
-    // What is written is the report of the dump that the source held.
-    ensures ok { IfOk result (λ sound. Audits (D.left dump.old) sound (K.taken out.old) (K.taken out.new)) }
+    // What is written is of the dump that the source held.
+    ensures ok { IfOk result (λ sound. Audits all (D.left dump.old) sound (K.taken out.old) (K.taken out.new)) }
     ensures sources { TellsSources (seen (D.failed dump.new) (D.left dump.old) (D.left dump.new) ∷ []) result }
-    ensures sink { TellsSink (K.failed out.new) (BeginsAudit (D.left dump.old) (K.taken out.old) (K.taken out.new)) (out.new ≡ out.old) result }
+    ensures sink { TellsSink (K.failed out.new) (BeginsAudit all (D.left dump.old) (K.taken out.old) (K.taken out.new)) (out.new ≡ out.old) result }
 
     // A fault of the dump is that of all the bytes that the source held, and no other fault comes.
     ensures dump { (fault : DumpFault) → result ≡ Err (TextFault.Dump fault) → IfSome (D.left dump.old) (λ text. IsRefusedDump text fault) × IsAtEnd (D.left dump.new) }
     ensures others { IfErr result (λ fault. IsDumpFault fault ⊎ ((fault ≡ TextFault.Read) ⊎ (fault ≡ TextFault.Write))) }
 {
     let text = read_whole(alloc, dump)?;
-    let (sound, line) = audited(rt, alloc, &text)?;
-    match write_whole(out, line.as_bytes()) {
+    let (sound, lines) = audited(rt, alloc, all, &text)?;
+    match write_whole(out, &lines) {
         Ok(()) => Ok(sound),
         Err(_) => Err(TextFault::Write),
     }
