@@ -1,0 +1,16 @@
+//! What is said beside a fault's line: why a line of a trace is no call, what a text looks like that is no trace, which key
+//! of a configuration is wrong, and how far a long read is. What is said is tested, and no clause speaks of it; what is
+//! read through its sources is what their own sources give.
+#![tactic(auto)]
+
+mod config_key;
+mod look;
+mod noted;
+mod shown;
+mod trace_line;
+
+pub use config_key::explain_config;
+pub use look::look_of;
+pub use noted::Noted;
+pub use shown::Shown;
+pub use trace_line::{LineFault, Shortened, fault_of_line};

@@ -1,0 +1,151 @@
+//! A source that keeps what explains a fault of its text.
+ghost use Rattle.std.specs.Prelude.{◌≡◌};
+
+use kc_texts::{Failed, Source};
+use kc_trace::{TraceFault, TraceReader};
+use std::alloc::Global;
+
+/// The most bytes that are kept of a line.
+const MOST_OF_LINE: usize = 16_384;
+
+/// Appends a beginning of some bytes, so that no more than so many are kept. Where memory is refused nothing is.
+fn keep(text: &mut Vec<u8>, bytes: &[u8], most: usize) {
+    let count = most.saturating_sub(text.len()).min(bytes.len());
+    let _ = text.extend_from_slice(&bytes[..count]);
+}
+
+/// The line of a trace that is being read, or the bad one.
+#[derive(Drop)]
+struct Lines {
+    reader: TraceReader,
+    is_bad: bool,
+    /// How many lines ended before it.
+    ended: u64,
+    line: Vec<u8>,
+}
+
+impl Lines {
+    fn note(&mut self, alloc: Global, piece: &[u8]) {
+        if self.is_bad {
+            return;
+        }
+        match self.reader.feed(alloc, piece) {
+            Ok(_) => self.pass(piece),
+            Err(TraceFault::BadLine(number)) => {
+                self.is_bad = true;
+                self.find(piece, u64::from(number));
+            },
+            Err(_) => self.is_bad = true,
+        }
+    }
+
+    /// Notes a piece without a bad line.
+    fn pass(&mut self, piece: &[u8]) {
+        let mut is_first = true;
+        for line in piece.split(|byte| *byte == b'\n') {
+            if !is_first {
+                self.ended = self.ended.saturating_add(1);
+                self.line.clear();
+            }
+            is_first = false;
+            keep(&mut self.line, line, MOST_OF_LINE);
+        }
+    }
+
+    /// Keeps the line of this number, from 1, that ends in the piece or is begun there.
+    fn find(&mut self, piece: &[u8], number: u64) {
+        let mut at = self.ended;
+        for line in piece.split(|byte| *byte == b'\n') {
+            if at > self.ended {
+                self.line.clear();
+            }
+            at = at.saturating_add(1);
+            if at == number {
+                keep(&mut self.line, line, MOST_OF_LINE);
+                return;
+            }
+        }
+    }
+}
+
+/// A source, and of what it gave the first bytes and, where it is a trace, the line begun or the bad one. Memory is bounded,
+/// and nothing is kept where nothing is to be explained.
+#[derive(Drop)]
+pub struct Noted<S: Source + Drop> {
+    pub inner: S,
+    alloc: Global,
+    /// How many of the first bytes are kept.
+    most: usize,
+    head: Vec<u8>,
+    lines: Option<Lines>,
+    total: u64,
+}
+
+impl<S: Source + Drop> Noted<S> {
+    /// A source of which so many of the first bytes are kept.
+    pub fn with_head(alloc: Global, inner: S, most: usize) -> Noted<S>
+        ensures { result.inner ≡ inner }
+    {
+        Noted {
+            inner,
+            alloc,
+            most,
+            head: Vec::new(alloc),
+            lines: None,
+            total: 0,
+        }
+    }
+
+    /// A trace, of which the line begun or the bad one is kept too.
+    pub fn with_lines(alloc: Global, inner: S, most: usize) -> Noted<S>
+        ensures { result.inner ≡ inner }
+    {
+        Noted {
+            inner,
+            alloc,
+            most,
+            head: Vec::new(alloc),
+            lines: Some(Lines {
+                reader: TraceReader::new(),
+                is_bad: false,
+                ended: 0,
+                line: Vec::new(alloc),
+            }),
+            total: 0,
+        }
+    }
+
+    /// The first bytes.
+    pub fn head(&self) -> &[u8] {
+        self.head.as_slice()
+    }
+
+    /// The line begun, or the bad one.
+    pub fn line(&self) -> &[u8] {
+        match &self.lines {
+            Some(lines) => lines.line.as_slice(),
+            None => &[],
+        }
+    }
+
+    /// How many bytes came.
+    pub fn total(&self) -> u64 {
+        self.total
+    }
+}
+
+impl<S: Source + Drop> Source for Noted<S> {
+    ghost left = { λ s. S.left s.inner };
+
+    ghost failed = { λ s. S.failed s.inner };
+
+    fn read(&mut self, buffer: &mut [u8]) -> Result<usize, Failed> {
+        let count = self.inner.read(buffer)?;
+        self.total = self.total.saturating_add(count as u64);
+        keep(&mut self.head, &buffer[..count], self.most);
+        if let Some(lines) = &mut self.lines {
+            lines.note(self.alloc, &buffer[..count]);
+        }
+        Ok(count)
+    }
+}

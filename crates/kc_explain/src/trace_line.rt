@@ -1,0 +1,188 @@
+//! Why a line of a trace is no call.
+use arrayvec::ArrayString;
+use kc_lines::{read_number, split_word};
+use std::fmt;
+
+/// Why a line is no call. A place is that of a word behind the name, from 1.
+#[derive(Clone, Copy, Debug, PartialEq, Eq)]
+pub enum LineFault {
+    Empty,
+    CarriageReturn,
+    /// Two spaces, or one at an end.
+    Spaces,
+    NoSuchCall,
+    /// So many words behind the name, where so many are wanted.
+    Words(usize, usize),
+    NotDecimal(usize),
+    LeadingZero(usize),
+    OutOfRange(usize),
+    NotHexadecimal,
+    OddDigits,
+    TooManyBytes,
+    /// Nothing of these: `grantr` or `revoker` behind `kcore-trace 1`, or a line that is longer than any call.
+    Other,
+}
+
+impl fmt::Display for LineFault {
+    fn fmt<W: fmt::Write>(&self, f: &mut fmt::Formatter<W>) -> fmt::Result {
+        match self {
+            LineFault::Empty => f.write_str("an empty line"),
+            LineFault::CarriageReturn => f.write_str("it ends with a CR"),
+            LineFault::Spaces => f.write_str("two spaces, or a space at an end"),
+            LineFault::NoSuchCall => f.write_str("no call has this name"),
+            LineFault::Words(given, wanted) => {
+                write!(
+                    f,
+                    "words behind the name: {given}, where {wanted} are wanted"
+                )
+            },
+            LineFault::NotDecimal(place) => write!(f, "word {place} behind the name is no number"),
+            LineFault::LeadingZero(place) => {
+                write!(f, "word {place} behind the name has a leading zero")
+            },
+            LineFault::OutOfRange(place) => {
+                write!(f, "word {place} behind the name is above 4294967295")
+            },
+            LineFault::NotHexadecimal => {
+                f.write_str("the last word is not of hexadecimal digits, 0 to 9 and a to f")
+            },
+            LineFault::OddDigits => f.write_str("the last word has an odd number of digits"),
+            LineFault::TooManyBytes => f.write_str("the last word is more than 4096 bytes"),
+            LineFault::Other => f.write_str("no call of this header's version"),
+        }
+    }
+}
+
+fn is_among(name: &[u8], names: &[&str]) -> bool {
+    for one in names {
+        if one.as_bytes() == name {
+            return true;
+        }
+    }
+    false
+}
+
+/// How many words a call has behind its name, and whether the last of them is bytes.
+fn words_of(name: &[u8]) -> Option<(usize, bool)> {
+    if is_among(name, &["take"]) {
+        Some((0, false))
+    } else if is_among(name, &["give", "hfault", "regvm", "verify", "clear"]) {
+        Some((1, false))
+    } else if is_among(name, &["regvcpu"]) {
+        Some((2, false))
+    } else if is_among(
+        name,
+        &[
+            "hread", "setboot", "remap", "map", "grant", "revoke", "drop",
+        ],
+    ) {
+        Some((3, false))
+    } else if is_among(name, &["hwrite"]) {
+        Some((3, true))
+    } else if is_among(name, &["grantr", "revoker"]) {
+        Some((4, false))
+    } else if is_among(name, &["gread"]) {
+        Some((5, false))
+    } else if is_among(name, &["gwrite"]) {
+        Some((5, true))
+    } else {
+        None
+    }
+}
+
+fn fault_of_number(word: &[u8], place: usize) -> Option<LineFault> {
+    if read_number(word).is_some() {
+        None
+    } else if !word.iter().all(|byte| byte.is_ascii_digit()) {
+        Some(LineFault::NotDecimal(place))
+    } else if word.first() == Some(&b'0') {
+        Some(LineFault::LeadingZero(place))
+    } else {
+        Some(LineFault::OutOfRange(place))
+    }
+}
+
+fn is_digit(byte: u8) -> bool {
+    byte.is_ascii_digit() || (b'a'..=b'f').contains(&byte)
+}
+
+fn fault_of_bytes(word: &[u8]) -> Option<LineFault> {
+    if !word.iter().all(|byte| is_digit(*byte)) {
+        Some(LineFault::NotHexadecimal)
+    } else if word.len() % 2 == 1 {
+        Some(LineFault::OddDigits)
+    } else if word.len() > 8192 {
+        Some(LineFault::TooManyBytes)
+    } else {
+        None
+    }
+}
+
+fn fault_of_word(word: &[u8], place: usize, is_bytes: bool) -> Option<LineFault> {
+    if is_bytes {
+        fault_of_bytes(word)
+    } else {
+        fault_of_number(word, place)
+    }
+}
+
+fn has_empty_word(line: &[u8]) -> bool {
+    for word in line.split(|byte| *byte == b' ') {
+        if word.is_empty() {
+            return true;
+        }
+    }
+    false
+}
+
+/// Why a line, without its newline, is no call, where that is so.
+pub fn fault_of_line(line: &[u8]) -> LineFault {
+    if line.is_empty() {
+        return LineFault::Empty;
+    }
+    if line.last() == Some(&b'\r') {
+        return LineFault::CarriageReturn;
+    }
+    if has_empty_word(line) {
+        return LineFault::Spaces;
+    }
+    let name = match split_word(line) {
+        Some((name, _)) => name,
+        None => line,
+    };
+    let Some((wanted, has_bytes)) = words_of(name) else {
+        return LineFault::NoSuchCall;
+    };
+    let mut given = 0usize;
+    let mut found = None;
+    for (place, word) in line.split(|byte| *byte == b' ').enumerate() {
+        if place > 0 && found.is_none() {
+            found = fault_of_word(word, place, has_bytes && place == wanted);
+        }
+        given = place;
+    }
+    if given != wanted {
+        return LineFault::Words(given, wanted);
+    }
+    found.unwrap_or(LineFault::Other)
+}
+
+/// At most 60 bytes of a line, in which each that is no printable ASCII is a `.`.
+#[derive(Drop)]
+pub struct Shortened<'a>(pub &'a [u8]);
+
+impl fmt::Display for Shortened<'_> {
+    fn fmt<W: fmt::Write>(&self, f: &mut fmt::Formatter<W>) -> fmt::Result {
+        let mut text = ArrayString::<64>::new();
+        for byte in self.0.iter().take(60) {
+            let shown = if (32..127).contains(byte) {
+                *byte
+            } else {
+                b'.'
+            };
+            let _ = text.try_push(char::from(shown));
+        }
+        f.write_str(text.as_str())?;
+        f.write_str(if self.0.len() > 60 { " ..." } else { "" })
+    }
+}
