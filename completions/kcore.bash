@@ -10,9 +10,9 @@ _kcore() {
     local words=
     case $command in
         '') words='replay live audit help --help --version' ;;
-        replay) words='--config --workers --dump --help' ;;
-        live) words='--config --workers --help' ;;
-        audit) words='--help' ;;
+        replay) words='--config --workers --dump --explain --help' ;;
+        live) words='--config --workers --explain --help' ;;
+        audit) words='--all --explain --help' ;;
         help) [ "$COMP_CWORD" -gt 2 ] || words='replay live audit help' ;;
     esac
     mapfile -t COMPREPLY < <(compgen -W "$words" -- "$word")

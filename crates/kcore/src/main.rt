@@ -3,17 +3,35 @@
 
 ghost use Rattle.std.specs.Prelude.{◌≡◌, false};
 
+mod explaining;
+
+use crate::explaining::{Reading, explain_open, explain_words};
 use kc_cli::{
     ArgFault, DEFAULT_CONFIG, Job, Mem, Source, Std, TextFault, audit_text, dump_text, job_of,
     live_text, replay_text, tell,
 };
+use kc_explain::{Noted, Shown};
 use kc_replay::OpenGate;
 use std::env;
 use std::fs::File;
-use std::io::{Error, ErrorKind};
+use std::io::{Error, ErrorKind, IsTerminal, Stdin};
 use std::process::ExitCode;
 use std::sync::Wait;
 use std::thread::Threads;
+
+/// Standard input, as the engines read it.
+type Input<'a> = Noted<Shown<'a, Std<Stdin>, HostRuntime>>;
+
+/// What is to be done with the trace on standard input.
+#[derive(Clone, Copy)]
+struct Order<'a> {
+    config: Option<&'a str>,
+    workers: u32,
+    /// Whether it is run live, and what is written else: the dump, or the replies.
+    live: bool,
+    dump: bool,
+    explain: bool,
+}
 
 /// Writes the fault's line on standard error, and answers the exit status.
 fn fail(rt: &HostRuntime, fault: TextFault) -> u8 {
@@ -26,118 +44,137 @@ fn stand_in(rt: &HostRuntime) -> Option<File> {
     File::open(rt, "/").ok()
 }
 
-/// Replays the trace on standard input in a configuration, and writes the replies, or the dump, onto standard output.
-fn replay_in<C: Source, R: Threads + Wait + Sync>(
+/// Standard input, of which is shown how much was read where standard error is a terminal and standard output is none.
+/// Where it is a terminal itself, that it is awaited.
+fn input<'a>(rt: &'a HostRuntime, what: &str, explain: bool, is_trace: bool) -> Input<'a>
+    ensures { result.inner.inner.failed ≡ false }
+{
+    let is_seen = rt.stderr().is_terminal();
+    if is_seen && rt.stdin().is_terminal() {
+        let _ = eprintln!(rt; "kcore: reading a {what}; Ctrl-D ends it");
+    }
+    let to = if is_seen && !rt.stdout().is_terminal() {
+        Some(rt)
+    } else {
+        None
+    };
+    let shown = Shown::new(Std::new(rt.stdin()), to);
+    if !explain {
+        Noted::with_head(rt.alloc(), shown, 0)
+    } else if is_trace {
+        Noted::with_lines(rt.alloc(), shown, 64)
+    } else {
+        Noted::with_head(rt.alloc(), shown, 64)
+    }
+}
+
+/// Runs the trace in a configuration, and writes what is asked for onto standard output.
+fn run_in<C: Source, R: Threads + Wait + Sync>(
     rt: &HostRuntime,
     threads: &R,
     config: &mut C,
-    workers: u32,
-    dump: bool,
+    trace: &mut Input<'_>,
+    order: Order<'_>,
 ) -> Result<(), TextFault>
-    requires { C.failed config.old ≡ false }
+    requires config { C.failed config.old ≡ false }
+    requires trace { trace.old.inner.inner.failed ≡ false }
 {
     let alloc = rt.alloc();
-    let mut trace = Std::new(rt.stdin());
     let mut out = Std::new(rt.stdout());
-    if dump {
-        dump_text(threads, alloc, config, &mut trace, &mut out, workers)
+    if order.live {
+        live_text(
+            threads,
+            alloc,
+            config,
+            trace,
+            &mut out,
+            order.workers,
+            &OpenGate,
+        )
+    } else if order.dump {
+        dump_text(threads, alloc, config, trace, &mut out, order.workers)
     } else {
-        replay_text(threads, alloc, config, &mut trace, &mut out, workers)
+        replay_text(threads, alloc, config, trace, &mut out, order.workers)
     }
 }
 
-/// Replays the trace, and answers the exit status.
-fn replay<R: Threads + Wait + Sync>(
+/// Runs the trace in the configuration of a file, and answers the exit status.
+fn run_file<R: Threads + Wait + Sync>(
     rt: &HostRuntime,
     threads: &R,
-    config: Option<&str>,
-    workers: u32,
-    dump: bool,
+    path: &str,
+    order: Order<'_>,
 ) -> u8 {
-    let outcome = match config {
-        Some(path) => {
-            let _standing_in = stand_in(rt);
-            let Ok(file) = File::open(rt, path) else {
-                return fail(rt, TextFault::Read);
-            };
-            replay_in(rt, threads, &mut Std::new(file), workers, dump)
-        },
-        None => {
-            let Ok(bytes) = Vec::from_slice(rt.alloc(), DEFAULT_CONFIG.as_bytes()) else {
-                return fail(rt, TextFault::Memory);
-            };
-            replay_in(rt, threads, &mut Mem::with_bytes(bytes), workers, dump)
+    let _standing_in = stand_in(rt);
+    let file = match File::open(rt, path) {
+        Ok(file) => file,
+        Err(error) => {
+            let status = fail(rt, TextFault::Read);
+            if order.explain {
+                explain_open(rt, path, &error);
+            }
+            return status;
         },
     };
-    match outcome {
-        Ok(()) => 0,
-        Err(fault) => fail(rt, fault),
+    let most = if order.explain { 65_536 } else { 0 };
+    let mut config = Noted::with_head(rt.alloc(), Std::new(file), most);
+    let mut trace = input(rt, "trace", order.explain, true);
+    let outcome = run_in(rt, threads, &mut config, &mut trace, order);
+    trace.inner.wipe();
+    let Err(fault) = outcome else {
+        return 0;
+    };
+    let status = fail(rt, fault);
+    if order.explain {
+        Reading::of(&config, path, &trace).explain(rt, &fault);
     }
+    status
 }
 
-/// Runs the trace on standard input live in a configuration, and writes the history onto standard output.
-fn run_live_in<C: Source, R: Threads + Wait + Sync>(
-    rt: &HostRuntime,
-    threads: &R,
-    config: &mut C,
-    workers: u32,
-) -> Result<(), TextFault>
-    requires { C.failed config.old ≡ false }
-{
-    let mut trace = Std::new(rt.stdin());
-    let mut out = Std::new(rt.stdout());
-    live_text(
-        threads,
-        rt.alloc(),
-        config,
-        &mut trace,
-        &mut out,
-        workers,
-        &OpenGate,
-    )
-}
-
-/// Runs the trace live, and answers the exit status.
-fn live<R: Threads + Wait + Sync>(
-    rt: &HostRuntime,
-    threads: &R,
-    config: Option<&str>,
-    workers: u32,
-) -> u8 {
-    let outcome = match config {
-        Some(path) => {
-            let _standing_in = stand_in(rt);
-            let Ok(file) = File::open(rt, path) else {
-                return fail(rt, TextFault::Read);
-            };
-            run_live_in(rt, threads, &mut Std::new(file), workers)
-        },
-        None => {
-            let Ok(bytes) = Vec::from_slice(rt.alloc(), DEFAULT_CONFIG.as_bytes()) else {
-                return fail(rt, TextFault::Memory);
-            };
-            run_live_in(rt, threads, &mut Mem::with_bytes(bytes), workers)
-        },
+/// Runs the trace in the configuration where no other is named, and answers the exit status.
+fn run_default<R: Threads + Wait + Sync>(rt: &HostRuntime, threads: &R, order: Order<'_>) -> u8 {
+    let Ok(bytes) = Vec::from_slice(rt.alloc(), DEFAULT_CONFIG.as_bytes()) else {
+        return fail(rt, TextFault::Memory);
     };
-    match outcome {
-        Ok(()) => 0,
-        Err(fault) => fail(rt, fault),
+    let mut trace = input(rt, "trace", order.explain, true);
+    let outcome = run_in(rt, threads, &mut Mem::with_bytes(bytes), &mut trace, order);
+    trace.inner.wipe();
+    let Err(fault) = outcome else {
+        return 0;
+    };
+    let status = fail(rt, fault);
+    if order.explain {
+        Reading::of_input(&trace).explain(rt, &fault);
+    }
+    status
+}
+
+fn run_trace<R: Threads + Wait + Sync>(rt: &HostRuntime, threads: &R, order: Order<'_>) -> u8 {
+    match order.config {
+        Some(path) => run_file(rt, threads, path, order),
+        None => run_default(rt, threads, order),
     }
 }
 
 /// Audits the dump on standard input, and answers the exit status: 1 where something is found.
-fn audit(rt: &HostRuntime, threads: &(impl Threads + Sync)) -> u8 {
-    let mut dump = Std::new(rt.stdin());
+fn audit(rt: &HostRuntime, threads: &(impl Threads + Sync), all: bool, explain: bool) -> u8 {
+    let mut dump = input(rt, "dump", explain, false);
     let mut out = Std::new(rt.stdout());
-    match audit_text(threads, rt.alloc(), &mut dump, &mut out) {
-        Ok(true) => 0,
-        Ok(false) => 1,
-        Err(fault) => fail(rt, fault),
+    let outcome = audit_text(threads, rt.alloc(), &mut dump, all, &mut out);
+    dump.inner.wipe();
+    let fault = match outcome {
+        Ok(sound) => return if sound { 0 } else { 1 },
+        Err(fault) => fault,
+    };
+    let status = fail(rt, fault);
+    if explain {
+        Reading::of_input(&dump).explain(rt, &fault);
     }
+    status
 }
 
 /// Prints what stands in place of a job, and answers the exit status.
-fn refuse(rt: &HostRuntime, fault: ArgFault) -> u8 {
+fn refuse(rt: &HostRuntime, words: &[&str], fault: ArgFault) -> u8 {
     match fault {
         ArgFault::Memory => fail(rt, TextFault::Memory),
         ArgFault::Words(text, 0) => {
@@ -148,6 +185,7 @@ fn refuse(rt: &HostRuntime, fault: ArgFault) -> u8 {
         },
         ArgFault::Words(text, status) => {
             let _ = rt.eprint(text);
+            explain_words(rt, words);
             status
         },
     }
@@ -160,6 +198,41 @@ fn refuse_words(rt: &HostRuntime, error: &Error) -> u8 {
     }
     let _ = rt.eprint("error: a word is not UTF-8\n");
     2
+}
+
+fn run_job<R: Threads + Wait + Sync>(rt: &HostRuntime, threads: &R, job: Job<'_>) -> u8 {
+    match job {
+        Job::Replay {
+            config,
+            workers,
+            dump,
+            explain,
+        } => {
+            let order = Order {
+                config,
+                workers,
+                live: false,
+                dump,
+                explain,
+            };
+            run_trace(rt, threads, order)
+        },
+        Job::Live {
+            config,
+            workers,
+            explain,
+        } => {
+            let order = Order {
+                config,
+                workers,
+                live: true,
+                dump: false,
+                explain,
+            };
+            run_trace(rt, threads, order)
+        },
+        Job::Audit { all, explain } => audit(rt, threads, all, explain),
+    }
 }
 
 fn run<R: Threads + Wait + Sync>(rt: &HostRuntime, threads: &R) -> u8 {
@@ -178,16 +251,8 @@ fn run<R: Threads + Wait + Sync>(rt: &HostRuntime, threads: &R) -> u8 {
         return fail(rt, TextFault::Memory);
     };
     match job_of(rt.alloc(), words.as_slice()) {
-        Ok(
-            Job::Replay {
-                config,
-                workers,
-                dump,
-            },
-        ) => replay(rt, threads, config, workers, dump),
-        Ok(Job::Live { config, workers }) => live(rt, threads, config, workers),
-        Ok(Job::Audit) => audit(rt, threads),
-        Err(fault) => refuse(rt, fault),
+        Ok(job) => run_job(rt, threads, job),
+        Err(fault) => refuse(rt, words.as_slice(), fault),
     }
 }
 

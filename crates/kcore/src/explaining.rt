@@ -1,0 +1,192 @@
+//! What `--explain` says behind a fault's line.
+use crate::Input;
+use kc_cli::{Std, TextFault};
+use kc_dump_text::DumpFault;
+use kc_explain::{Noted, Shortened, explain_config, fault_of_line, look_of};
+use kc_trace::{ConfigTextFault, TraceFault};
+use kc_types::ConfigFault;
+use std::fs::{File, metadata};
+use std::io::{Error, ErrorKind, Read};
+
+/// The most bytes that are read of one source.
+const MOST_BYTES: u64 = 1_073_741_824;
+
+const TOO_LONG: &str = "it has more than 1073741824 bytes";
+
+/// What was read where a fault came: the configuration of a file, and standard input.
+#[derive(Drop)]
+pub struct Reading<'a> {
+    path: Option<&'a str>,
+    config: &'a [u8],
+    config_total: u64,
+    /// Why the file could not be read, where that is so.
+    unread: Option<&'static str>,
+    head: &'a [u8],
+    line: &'a [u8],
+    total: u64,
+}
+
+/// Why something can't be read.
+fn reason(kind: ErrorKind) -> &'static str {
+    match kind {
+        ErrorKind::NotFound => "it is not there",
+        ErrorKind::PermissionDenied => "reading it is not allowed",
+        ErrorKind::IsADirectory => "it is a folder",
+        _ => "reading it fails",
+    }
+}
+
+/// Says why the file at a path can't be opened.
+pub fn explain_open(rt: &HostRuntime, path: &str, error: &Error) {
+    let why = reason(error.kind());
+    let _ = eprintln!(rt; "  {path}: {why}");
+}
+
+/// Why a file could not be read, where that is so. A read that failed fails once more.
+fn unread_file(config: &Noted<Std<File>>) -> Option<&'static str> {
+    if config.total() > MOST_BYTES {
+        return Some(TOO_LONG);
+    }
+    if !config.inner.failed {
+        return None;
+    }
+    let mut file = &config.inner.inner;
+    let mut byte = [0u8; 1];
+    match Read::read(&mut file, &mut byte) {
+        Ok(_) => Some("reading it failed"),
+        Err(error) => Some(reason(error.kind())),
+    }
+}
+
+/// The same of standard input, after so many bytes. Where it is closed, the folder that stands in for it is read.
+fn unread_input(rt: &HostRuntime, total: u64) -> &'static str {
+    if total > MOST_BYTES {
+        return TOO_LONG;
+    }
+    let mut byte = [0u8; 1];
+    match rt.stdin().read(&mut byte) {
+        Ok(_) => "reading it failed",
+        Err(error) => match error.kind() {
+            ErrorKind::IsADirectory => "it is a folder, or closed",
+            _ => "it is closed, or reading it fails",
+        },
+    }
+}
+
+/// Says that traces come by standard input, where `--explain` is among wrong words and one of them names a file in reach.
+pub fn explain_words(rt: &HostRuntime, words: &[&str]) {
+    if !words.iter().any(|word| *word == "--explain") {
+        return;
+    }
+    for word in words {
+        if !word.starts_with("-") && metadata(rt, *word).is_ok() {
+            let _ = eprintln!(rt;
+                "  {word} is a file: traces and dumps come by standard input, as in kcore < {word}"
+            );
+            return;
+        }
+    }
+}
+
+impl<'a> Reading<'a> {
+    /// Both, of which the file has this path.
+    pub fn of(config: &'a Noted<Std<File>>, path: &'a str, input: &'a Input<'_>) -> Reading<'a> {
+        Reading {
+            path: Some(path),
+            config: config.head(),
+            config_total: config.total(),
+            unread: unread_file(config),
+            head: input.head(),
+            line: input.line(),
+            total: input.total(),
+        }
+    }
+
+    /// Standard input alone.
+    pub fn of_input(input: &'a Input<'_>) -> Reading<'a> {
+        Reading {
+            path: None,
+            config: &[],
+            config_total: 0,
+            unread: None,
+            head: input.head(),
+            line: input.line(),
+            total: input.total(),
+        }
+    }
+
+    /// Says more of a fault, after its line.
+    pub fn explain(&self, rt: &HostRuntime, fault: &TextFault) {
+        match fault {
+            TextFault::Trace(fault) => self.explain_trace(rt, fault),
+            TextFault::Dump(DumpFault::NoHeader) => {
+                let look = look_of(self.head);
+                let _ = eprintln!(rt; "  standard input is no dump: {look}");
+            },
+            TextFault::Config(fault) => self.explain_config(rt, fault),
+            TextFault::Read => self.explain_read(rt),
+            _ => {},
+        }
+    }
+
+    fn explain_trace(&self, rt: &HostRuntime, fault: &TraceFault) {
+        let line = Shortened(self.line);
+        match fault {
+            TraceFault::NoHeader => {
+                let look = look_of(self.head);
+                let _ = eprintln!(rt; "  standard input is no trace: {look}");
+            },
+            TraceFault::BadLine(_) => {
+                let why = fault_of_line(self.line);
+                let _ = eprintln!(rt; "  {line}\n  {why}");
+            },
+            TraceFault::NoNewline => {
+                let _ = eprintln!(rt; "  {line}");
+            },
+            _ => {},
+        }
+    }
+
+    fn explain_config(&self, rt: &HostRuntime, fault: &ConfigTextFault) {
+        let path = self.path.unwrap_or("the configuration");
+        match fault {
+            ConfigTextFault::Config(ConfigFault::Frames) => {
+                let _ = eprintln!(rt;
+                    "  {path}: frames is from 1 to 8192, with version 2 to 65536"
+                );
+            },
+            ConfigTextFault::Config(ConfigFault::CoreHost) => {
+                let _ = eprintln!(rt; "  {path}: core and host together are at most frames");
+            },
+            ConfigTextFault::Config(ConfigFault::Leaves) => {
+                let _ = eprintln!(rt; "  {path}: leaves is from 1 to 64");
+            },
+            ConfigTextFault::Config(ConfigFault::TooManyDigests) => {
+                let _ = eprintln!(rt; "  {path}: approved has at most 64 entries");
+            },
+            ConfigTextFault::NotJson => {
+                let look = look_of(self.config);
+                let _ = eprintln!(rt; "  {path}: {look}");
+                self.explain_keys(rt);
+            },
+            ConfigTextFault::BadShape => self.explain_keys(rt),
+            ConfigTextFault::Memory => {},
+        }
+    }
+
+    /// Says which key is wrong, or where the text is no JSON, of a configuration that is kept whole.
+    fn explain_keys(&self, rt: &HostRuntime) {
+        if self.config_total == self.config.len() as u64 {
+            explain_config(rt.alloc(), rt, self.config);
+        }
+    }
+
+    /// Of the file, where reading that failed, else of standard input.
+    fn explain_read(&self, rt: &HostRuntime) {
+        let (name, why) = match (self.path, self.unread) {
+            (Some(path), Some(why)) => (path, why),
+            _ => ("standard input", unread_input(rt, self.total)),
+        };
+        let _ = eprintln!(rt; "  {name}: {why}");
+    }
+}
