@@ -76,7 +76,7 @@ fn workers_arg<'a>(alloc: Global) -> Arg<'a>
         .value_name("N")
         .value_parser(clap::value_parser!(u8).range(1..=64))
         .help(
-            "How many threads make the calls of a replay, from 1 to 64; 1 where this is not given",
+            "At most so many threads, 1 to 64, make the calls of a replay, started where that pays; 1 where this is not given",
         )
 }
 
