@@ -13,6 +13,8 @@ use kc_replay::{Gate, Outcome, Plan, footprints, replay};
 use kc_trace::{read_config, read_trace, write_replies};
 use kc_types::{Call, Config, Resource};
 use std::io::Write;
+use std::sync::Wait;
+use std::thread::Threads;
 use std::time::CpuClock;
 use std::{env, fs};
 
@@ -91,8 +93,9 @@ impl Gate for MeetingPlace {
 }
 
 /// What a replay by so many workers gives: the replies, or the dump of the core that it leaves.
-fn print_replay(
+fn print_replay<R: Threads + Wait + Sync>(
     rt: &HostRuntime,
+    threads: &R,
     config: Config,
     calls: &[Call],
     workers: usize,
@@ -102,9 +105,9 @@ fn print_replay(
     if calls.len() > MOST_CALLS {
         bail!("too many calls");
     }
-    let Outcome { replies, core } = replay(rt, alloc, config, calls, workers, &MeetingPlace)?;
+    let Outcome { replies, core } = replay(threads, alloc, config, calls, workers, &MeetingPlace)?;
     let text = if dumps {
-        let dumped = dump(rt, alloc, &core)?;
+        let dumped = dump(threads, alloc, &core)?;
         write_dump(alloc, &dumped)?
     } else {
         write_replies(alloc, replies.as_slice())?
@@ -125,6 +128,7 @@ fn main(rt: HostRuntime) -> Result<()> {
     if let (Some(given), Some(workers)) = (&word, words.next()) {
         let workers = workers.as_str().parse::<usize>()?;
         return print_replay(
+            &rt,
             &rt,
             config,
             calls.as_slice(),
