@@ -250,12 +250,16 @@ written_over bytes others n size same =
     let none : drop (length bytes) others ≡ [] = drop_all (length bytes) others (omega arith) in
     ap (λ (l : List ℕ). take n (bytes ++ l)) none ∙ ap (take n) (append-nil bytes) ∙ take_all n bytes (omega arith)
 
+-- a word that spells bytes is read as these
+pub read_as_spelled : (word bytes : List ℕ) → 0 < length word → length word ≤ 8192 → word ≡ encode_lower bytes → All (λ b. b < 256) bytes → data_of word ≡ Some bytes
+read_as_spelled word bytes nonempty short spelled each =
+    let size : length word ≡ 2 * length bytes = ap length spelled ∙ length-encode_with lower_digits bytes in
+    ap data_of spelled ∙ data_of-encode_lower bytes (record { nonempty = omega (arith, nonempty, size); within = omega (arith, short, size); each_byte = each })
+
 -- what is made of the bytes of a word is what the word is read as
 pub data_is_made : (word bytes : List ℕ) (found : Option (List ℕ)) → (not (length word == 0) && nat_le (length word) 8192 && (length word % 2 == 0)) ≡ true → word ≡ encode_lower bytes → All (λ b. b < 256) bytes
     → IsSome found ↔ ((0 < length bytes) × (length bytes ≤ 4096)) → IfSome found (λ made. made ≡ bytes) → found ≡ data_of word
 data_is_made word bytes found e spelled each valid value =
     let sizes = has_length word e in
     let size : length word ≡ 2 * length bytes = ap length spelled ∙ length-encode_with lower_digits bytes in
-    let some : 0 < length bytes = omega (arith, sizes.0, size) in
-    let few : length bytes ≤ 4096 = omega (arith, sizes.1, size) in
-    made_is bytes found (some, few) valid value ∙ sym (data_of-encode_lower bytes (record { nonempty = some; within = few; each_byte = each })) ∙ ap data_of (sym spelled)
+    made_is bytes found (omega (arith, sizes.0, size), omega (arith, sizes.1, size)) valid value ∙ sym (read_as_spelled word bytes sizes.0 sizes.1 spelled each)

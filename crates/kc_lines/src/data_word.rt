@@ -1,11 +1,12 @@
 //! Bytes as a word of a line.
-ghost use Rattle.std.specs.Prelude.{◌≡◌, ◌==◌, ◌*◌, ◌%◌, ◌<◌, ◌&&◌, not, nat_le, length, All, IfOk, IsTrue};
+ghost use Rattle.std.specs.Prelude.{◌≡◌, ◌==◌, ◌*◌, ◌%◌, ◌<◌, ◌≤◌, ◌&&◌, not, nat_le, length, All, IfOk, IsTrue};
 ghost use Rattle.std.specs.List.{list_all};
 ghost use Rattle.hex.specs.Hex.{encode_lower};
+ghost use Rattle.kc_types.specs.Bytes.{short_size};
 ghost use Rattle.kc_types.specs.Limits.{page_size};
 ghost use Rattle.kc_lines.specs.Words.{is_lower_digit, digit_value, data_of};
 
-use kc_types::{Data, PAGE_SIZE};
+use kc_types::{Data, PAGE_SIZE, SHORT_SIZE};
 use std::alloc::{AllocError, Global};
 
 fn is_lower_digit(byte: u8) -> bool
@@ -51,12 +52,31 @@ pub fn decode_into(word: &[u8], bytes: &mut [u8]) -> bool
     valid
 }
 
+/// The bytes of a word of so few lower case digits that they take no memory.
+fn read_short_data(word: &[u8]) -> Option<Data>
+    requires some { 0 < length word.now }
+    requires few { length word.now ≤ 2 * short_size }
+    requires even { length word.now % 2 ≡ 0 }
+    ensures { result ≡ data_of word.now }
+{
+    let mut room = [0u8; SHORT_SIZE];
+    let bytes = &mut room[..word.len() / 2];
+    if decode_into(word, bytes) {
+        Some(Data::short(bytes))
+    } else {
+        None
+    }
+}
+
 /// The bytes that a word of lower case hexadecimal digits is, 1 to 4,096 of them.
 pub fn read_data(alloc: Global, word: &[u8]) -> Result<Option<Data>, AllocError>
     ensures { IfOk result (λ found. found ≡ data_of word.now) }
 {
     if !has_data_length(word) {
         return Ok(None);
+    }
+    if word.len() <= 2 * SHORT_SIZE {
+        return Ok(read_short_data(word));
     }
     let mut bytes = vec![in alloc; 0u8; word.len() / 2]?;
     if decode_into(word, bytes.as_mut_slice()) {

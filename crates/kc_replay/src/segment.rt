@@ -83,9 +83,16 @@ fn share_wave<R: Threads + Wait + Sync, G: Gate + Sync>(
 /// thread), so these take 0.4 ms and more, where starting a thread takes 0.02 to 0.03 ms.
 const FRAMES_WORTH_A_THREAD: u32 = 32;
 
-/// So many parts may be taken out for each frame that is hashed beside others. One taken out and put back takes some
-/// 0.07 µs, so these take a tenth of what is gained. What other calls do costs no more than taking parts out.
-const PARTS_FOR_A_FRAME: u32 = 16;
+/// So many parts may be taken out for each frame that is hashed beside others. One that is taken out and put back takes
+/// some 0.1 to 1 µs, most of it for the blank page that takes its place, so these take at most a third of what is gained.
+/// What other calls do costs no more than taking parts out.
+const PARTS_FOR_A_FRAME: u32 = 4;
+
+/// So many parts, and one for five frames of the core, may be out at once: a blank page takes as much memory as the page
+/// in whose place it stands.
+const PARTS_OUT: u32 = 512;
+
+const FRAMES_FOR_A_PART: u32 = 5;
 
 /// How many frames a call hashes.
 fn hashed(core: &KCore, call: &Call) -> u32 {
@@ -133,10 +140,11 @@ impl Work {
         }
     }
 
-    /// How many threads this is worth: one for the longest call, and one more for as many frames as are worth a thread, if
-    /// so much is gained that what all calls may touch may be taken out for it.
-    fn threads(&self) -> usize {
-        if self.parts / PARTS_FOR_A_FRAME > self.beside {
+    /// How many threads this is worth in a core of so many frames: one for the longest call, and one more for as many
+    /// frames as are worth a thread, if what all calls may touch may be taken out for that.
+    fn threads(&self, frames: u32) -> usize {
+        let most_out = PARTS_OUT + frames / FRAMES_FOR_A_PART;
+        if self.parts > most_out || self.parts / PARTS_FOR_A_FRAME > self.beside {
             return 1;
         }
         let more = self.beside / FRAMES_WORTH_A_THREAD;
@@ -167,7 +175,7 @@ fn take_wave<R: Threads + Wait + Sync, G: Gate + Sync>(
     let worth = if gate.may_wait() {
         members.len()
     } else {
-        work.threads()
+        work.threads(core.config().frames())
     };
     let hands = workers.min(worth);
     if hands > 1 {

@@ -2,7 +2,8 @@
 use Rattle.std.specs.Prelude.{ℕ, ◌≤◌, ◌<◌, List, length, All}
 use Rattle.kc_types.specs.Limits.{page_size}
 use Rattle.kc_types.specs.declared.data.Owned.{Owned}
-use Rattle.kc_types.specs.declared.data.Owned.TheVariants.{Alone, Shared}
+use Rattle.kc_types.specs.declared.data.Owned.TheVariants.{Short, Alone, Shared}
+use Rattle.kc_types.specs.declared.data.TheConstants.{SHORT_SIZE}
 
 -- between one byte and a whole page of bytes
 pub record IsData (bytes : List ℕ) : Type 0 where
@@ -10,7 +11,12 @@ pub record IsData (bytes : List ℕ) : Type 0 where
   pub within : length bytes ≤ page_size
   pub each_byte : All (λ b. b < 256) bytes
 
--- the bytes, whether one value owns them or several
+-- the most bytes that take no memory
+abbrev pub short_size : ℕ
+short_size = SHORT_SIZE
+
+-- the bytes, wherever they stand and whether one value owns them or several
 abbrev pub owned_bytes : Owned → List ℕ
+owned_bytes (Short bytes) = bytes.items
 owned_bytes (Alone bytes) = bytes.items
 owned_bytes (Shared bytes) = bytes.value.items

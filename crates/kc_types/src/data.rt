@@ -1,21 +1,27 @@
 //! The bytes of one read or write.
 ghost use Rattle.std.specs.Prelude.{◌≡◌, ℕ, ◌<◌, ◌≤◌, List, length, ◌↔◌, IsSome, IfSome, IfOk, MatchResult};
 ghost use Rattle.kc_types.specs.Limits.{page_size};
-ghost use Rattle.kc_types.specs.Bytes.{IsData};
+ghost use Rattle.kc_types.specs.Bytes.{IsData, short_size};
 
 use crate::{Memory, PAGE_SIZE};
+use arrayvec::ArrayVec;
 use std::alloc::Global;
 use std::marker::Model;
 use std::sync::Arc;
 
-/// Bytes that one value owns, or several.
+/// The most bytes that take no memory.
+pub const SHORT_SIZE: usize = 20;
+
+/// Bytes that stand in the value itself, that it owns, or that several values own.
 #[derive(Debug, Drop)]
 enum Owned {
+    Short(ArrayVec<u8, SHORT_SIZE>),
     Alone(Vec<u8>),
     Shared(Arc<Vec<u8>>),
 }
 
-/// One byte to a whole page of 4,096 bytes, seen as the list of them. Two are equal where their bytes are.
+/// One byte to a whole page of 4,096 bytes, seen as the list of them. Two are equal where their bytes are. Up to 20 bytes
+/// stand in the value itself, and then it takes no memory.
 #[derive(Debug, Drop)]
 pub struct Data {
     bytes: Owned,
@@ -47,12 +53,24 @@ impl Data {
         }
     }
 
+    /// These 1 to 20 bytes, which take no memory.
+    pub fn short(bytes: &[u8]) -> Data
+        requires some { 0 < length bytes.now }
+        requires few { length bytes.now ≤ short_size }
+        ensures { result ≡ bytes.now }
+    {
+        Data {
+            bytes: Owned::Short(ArrayVec::try_from(bytes).unwrap()),
+        }
+    }
+
     /// The bytes.
     pub fn as_slice(&self) -> &[u8]
         ensures value { result.now ≡ self.now }
         ensures within { IsData self.now }
     {
         match &self.bytes {
+            Owned::Short(bytes) => bytes.as_slice(),
             Owned::Alone(bytes) => bytes.as_slice(),
             Owned::Shared(bytes) => bytes.as_slice(),
         }
@@ -64,13 +82,14 @@ impl Data {
         ensures { IfOk result (λ made. made ≡ self.now) }
     {
         let bytes = match &self.bytes {
+            Owned::Short(bytes) => return Ok(Data::short(bytes.as_slice())),
             Owned::Alone(bytes) => Owned::Alone(bytes.clone()?),
             Owned::Shared(bytes) => Owned::Shared(Arc::try_clone(bytes)?),
         };
         Ok(Data { bytes })
     }
 
-    /// The same bytes for two owners, which share them. The data are handed back where the growth that sharing takes
+    /// The same bytes for two owners, which share them where they take memory. The data are handed back where the growth that sharing takes
     /// was refused.
     pub fn share(self, alloc: Global) -> Result<(Data, Data), Data>
         // No clause can rule out want of memory: tests share data.
@@ -78,6 +97,14 @@ impl Data {
     {
         let Data { bytes } = self;
         let shared = match bytes {
+            Owned::Short(bytes) => {
+                return Ok((
+                    Data::short(bytes.as_slice()),
+                    Data {
+                        bytes: Owned::Short(bytes),
+                    },
+                ));
+            },
             Owned::Shared(bytes) => bytes,
             Owned::Alone(bytes) => match Arc::new(alloc, bytes) {
                 Ok(shared) => shared,

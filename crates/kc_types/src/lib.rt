@@ -18,7 +18,7 @@ mod version;
 
 pub use call::{Actor, Call, actor_of};
 pub use config::{Config, ConfigFault};
-pub use data::Data;
+pub use data::{Data, SHORT_SIZE};
 pub use limits::{
     CALL_LIMIT, DIGEST_LIMIT, FIRST_FRAME_LIMIT, FIRST_SLOT_LIMIT, FRAME_LIMIT, GFN_LIMIT,
     IMAGE_LIMIT, IMAGE_SIZE_LIMIT, LEAF_ENTRIES, LEAF_LIMIT, PAGE_SIZE, RANGE_LIMIT, SHARE_LIMIT,

@@ -3,22 +3,23 @@ ghost use Rattle.std.specs.Prelude.{◌≡◌, ◌<◌, ◌≤◌, length, IfOk,
 ghost use Rattle.kc_types.specs.Limits.{page_size};
 ghost use Rattle.kc_types.specs.ReplyBytes.{bytes_in, readable, most_reply_bytes};
 
-use crate::{Call, Data, Memory, PAGE_SIZE, Reply};
+use crate::{Call, Data, Memory, PAGE_SIZE, Reply, SHORT_SIZE};
 use std::alloc::Global;
 use std::marker::Model;
 
-/// The buffer of one reply, seen as how many bytes it has room for.
+/// The buffer of one reply, seen as how many bytes it has room for. Up to 20 bytes need no memory, so each has room for them.
 #[derive(Debug, Drop)]
 pub struct ReplyBuffer {
     reserved: Vec<u8>,
 }
 
 impl Model for ReplyBuffer {
-    ghost use Rattle.std.specs.Prelude.{◌≡◌, ℕ, [], vec_capacity};
+    ghost use Rattle.std.specs.Prelude.{◌≡◌, ℕ, [], max, vec_capacity};
+    ghost use Rattle.kc_types.specs.Bytes.{short_size};
 
     ghost Value = { ℕ };
 
-    ghost view = { λ s. vec_capacity s.reserved };
+    ghost view = { λ s. max short_size (vec_capacity s.reserved) };
 
     ghost invariant = { λ s. s.reserved.items ≡ [] };
 }
@@ -38,7 +39,9 @@ impl ReplyBuffer {
         ensures none { len ≤ self → IsOk result }
     {
         let ReplyBuffer { mut reserved } = self;
-        reserved.reserve_exact(len)?;
+        if len > SHORT_SIZE {
+            reserved.reserve_exact(len)?;
+        }
         Ok(ReplyBuffer { reserved })
     }
 
@@ -49,6 +52,9 @@ impl ReplyBuffer {
         requires fits { length bytes.now ≤ self }
         ensures { result ≡ bytes.now }
     {
+        if bytes.len() <= SHORT_SIZE {
+            return Data::short(bytes);
+        }
         let ReplyBuffer { mut reserved } = self;
         reserved.extend_from_slice(bytes).unwrap();
         Data::try_new(reserved).unwrap()
