@@ -1,12 +1,13 @@
 //! A history that is replayed.
 ghost use Rattle.std.specs.Prelude.{◌≡◌, ◌≢◌, ◌<◌, ◌≤◌, ◌⊎◌, ◌↔◌, Err, OnOk, IfOk, IfErr};
+ghost use Rattle.kc_types.specs.Limits.{worker_limit};
 ghost use Rattle.kc_live.specs.Book.{IsSafeHistory, calls_of, end_state, replies_of};
 ghost use Rattle.kc_replay.specs.declared.fault.ReplayFault.TheVariants.{BadWorkers, Broken};
 
 use kc_core::Gate;
 use kc_live::{Entry, History};
 use kc_replay::{Outcome, ReplayFault, replay};
-use kc_types::{Call, Memory};
+use kc_types::{Call, Memory, WORKER_LIMIT};
 use std::alloc::Global;
 use std::sync::Wait;
 use std::thread::Threads;
@@ -36,13 +37,13 @@ pub fn replay_history<R: Threads + Wait + Sync, G: Gate + Sync>(
 ) -> Result<Outcome, ReplayFault>
     ensures replies { IfOk result (λ outcome. outcome.replies.items ≡ replies_of history.now.entries) }
     ensures state { IfOk result (λ outcome. outcome.core ≡ end_state history.now) }
-    ensures workers { OnOk result ((0 < workers) × (workers ≤ 64)) }
-    ensures bad_workers { IfErr result (λ fault. (fault ≡ BadWorkers) ↔ ((workers ≡ 0) ⊎ (64 < workers))) }
+    ensures workers { OnOk result ((0 < workers) × (workers ≤ worker_limit)) }
+    ensures bad_workers { IfErr result (λ fault. (fault ≡ BadWorkers) ↔ ((workers ≡ 0) ⊎ (worker_limit < workers))) }
     ensures whole { result ≢ Err Broken }
     ensures started { result ≡ Err ReplayFault.Start → 1 < workers }
     ensures safe { OnOk result (IsSafeHistory history.now) }
 {
-    if workers == 0 || workers > 64 {
+    if workers == 0 || workers > WORKER_LIMIT {
         return Err(ReplayFault::BadWorkers);
     }
     let Ok(config) = history.config().copy() else {

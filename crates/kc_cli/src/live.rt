@@ -1,7 +1,7 @@
 //! The engine that runs a trace live, over any sources and any sink.
 ghost use Rattle.std.specs.Prelude.{◌≡◌, ◌<◌, ◌≤◌, ◌⊎◌, ◌↔◌, ◌∷◌, [], ℕ, length, take, false, IfOk, IfErr, OnOk, Err, IsErrOf};
 ghost use Rattle.std.specs.Io.KnownBytes.{Appends};
-ghost use Rattle.kc_types.specs.Limits.{call_limit};
+ghost use Rattle.kc_types.specs.Limits.{call_limit, worker_limit};
 ghost use Rattle.kc_model.specs.Boot.{boot};
 ghost use Rattle.kc_model.specs.Safety.{IsSafe};
 ghost use Rattle.kc_live.specs.Cuts.{KeepsOrders, MayRun};
@@ -17,7 +17,7 @@ use kc_live::{Entry, History, LiveCause, LiveStop, run_trace};
 use kc_replay::{Gate, OpenGate, Outcome, ReplayFault};
 use kc_texts::{Sink, Source, TextFault, empty_piece, give_trace, read_both};
 use kc_trace::TraceFault;
-use kc_types::{Call, Config, Memory};
+use kc_types::{Call, Config, Memory, WORKER_LIMIT};
 use std::alloc::Global;
 use std::sync::Wait;
 use std::thread::Threads;
@@ -83,7 +83,7 @@ fn replay_wiped<R: Threads + Wait + Sync>(
     history: &History,
     workers: u32,
 ) -> Result<(), LiveCause>
-    requires { (0 < workers) × (workers ≤ 64) }
+    requires { (0 < workers) × (workers ≤ worker_limit) }
     ensures { IfErr result (λ cause. (cause ≡ LiveCause.Memory) ⊎ (cause ≡ LiveCause.Start)) }
 {
     match replay_history(rt, alloc, history, workers as usize, &OpenGate) {
@@ -104,7 +104,7 @@ fn replayed<R: Threads + Wait + Sync>(
     history: History,
     workers: u32,
 ) -> Result<Vec<Call>, LiveCause>
-    requires workers { (0 < workers) × (workers ≤ 64) }
+    requires workers { (0 < workers) × (workers ≤ worker_limit) }
     ensures calls { IfOk result (λ calls. calls.items ≡ calls_of history.entries) }
     ensures cause { IfErr result (λ cause. (cause ≡ LiveCause.Memory) ⊎ (cause ≡ LiveCause.Start)) }
 {
@@ -127,7 +127,7 @@ fn made_live<G: Gate + Sync, R: Threads + Wait + Sync>(
     workers: u32,
     gate: &G,
 ) -> Result<Vec<Call>, TextFault>
-    requires { (0 < workers) × (workers ≤ 64) }
+    requires { (0 < workers) × (workers ≤ worker_limit) }
     ensures sound { OnOk result (MayRun config calls.items) }
     ensures made { IfOk result (λ made. KeepsOrders made.items calls.items × IsSafe (boot config) made.items) }
     ensures fault { IfErr result (IsLiveFault config calls.items) }
@@ -185,12 +185,12 @@ pub fn live_text<C: Source, T: Source, K: Sink, G: Gate + Sync, R: Threads + Wai
     ensures sink { TellsSink (K.failed out.new) (Begins IsLiveText (C.left config.old) (T.left trace.old) (K.taken out.old) (K.taken out.new)) (out.new ≡ out.old) result }
 
     // The run comes only behind both texts, and only of a trace that may run.
-    ensures workers { IsErrOf result TextFault.Workers ↔ ((workers ≡ 0) ⊎ (64 < workers)) }
+    ensures workers { IsErrOf result TextFault.Workers ↔ ((workers ≡ 0) ⊎ (worker_limit < workers)) }
     ensures actor { (program : ℕ) → result ≡ Err (TextFault.BadActor program) → HasBadActor (C.left config.old) (T.left trace.old) program }
     ensures started { result ≡ Err TextFault.Start → CouldRun (C.left config.old) (T.left trace.old) }
     ensures unsettled { result ≡ Err TextFault.Unsettled → CouldRun (C.left config.old) (T.left trace.old) }
 {
-    if workers == 0 || workers > 64 {
+    if workers == 0 || workers > WORKER_LIMIT {
         return Err(TextFault::Workers);
     }
     let (config, calls) = read_both(alloc, config, trace)?;

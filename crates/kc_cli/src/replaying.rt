@@ -1,7 +1,7 @@
 //! A trace that is replayed as it is read.
 ghost use Rattle.std.specs.Prelude.{◌≡◌, ◌≢◌, ◌+◌, ◌++◌, ◌<◌, ◌≤◌, ◌⊎◌, ◌∷◌, [], List, length, true, false, IfOk, IfErr, IfSome, OnOk, Err, IsSome};
 ghost use Rattle.std.specs.Io.KnownBytes.{IsAtEnd};
-ghost use Rattle.kc_types.specs.Limits.{call_limit};
+ghost use Rattle.kc_types.specs.Limits.{call_limit, worker_limit};
 ghost use Rattle.kc_types.specs.declared.reply.Reply.{Reply};
 ghost use Rattle.kc_types.specs.declared.call.Call.{Call};
 ghost use Rattle.kc_trace.specs.declared.fault.TraceFault.{TraceFault};
@@ -13,7 +13,7 @@ ghost use Rattle.kc_texts.specs.Outcomes.{seen, TellsSources, TellsTexts, TellsR
 
 use kc_replay::{OpenGate, Outcome, ReplayFault, Replayer};
 use kc_texts::{CallStream, PIECE, Source, TextFault, read_configuration};
-use kc_types::{Call, Config, Reply};
+use kc_types::{Call, Config, Reply, WORKER_LIMIT};
 use std::alloc::Global;
 use std::sync::Wait;
 use std::thread::Threads;
@@ -120,7 +120,7 @@ fn replay_source<T: Source, R: Threads + Wait + Sync>(
     trace: &mut T,
     workers: u32,
 ) -> Result<Outcome, TextFault>
-    requires workers { (0 < workers) × (workers ≤ 64) }
+    requires workers { (0 < workers) × (workers ≤ worker_limit) }
     requires trace { T.failed trace.old ≡ false }
     ensures ok { IfOk result (λ outcome. IfSome (T.left trace.old) (λ text. IsReplayed config text outcome.replies.items outcome.core)) }
     ensures ended { OnOk result (IsAtEnd (T.left trace.new)) }
@@ -163,7 +163,7 @@ pub(crate) fn replay_texts<C: Source, T: Source, R: Threads + Wait + Sync>(
     ensures replay { TellsReplay workers (C.left config.old) result }
     ensures write { result ≢ Err TextFault.Write }
 {
-    if workers == 0 || workers > 64 {
+    if workers == 0 || workers > WORKER_LIMIT {
         return Err(TextFault::Workers);
     }
     let config = read_configuration(alloc, config)?;

@@ -1,7 +1,7 @@
 -- Which numbers a dump holds.
 use Rattle.std.specs.Prelude.{ℕ, suc, ◌≡◌, ◌<◌, ◌≤◌, ◌==◌, ◌&&◌, nat_lt, nat_le, Bool, true, length, Option, Some, None, slice_index_or}
 use Rattle.std.specs.List.{list_all}
-use Rattle.kc_types.specs.Limits.{leaf_limit, leaf_entries, gfn_limit, share_limit}
+use Rattle.kc_types.specs.Limits.{byte_limit, leaf_limit, leaf_entries, gfn_limit, share_limit}
 use Rattle.kc_types.specs.Configuration.{most_frames, slots_of}
 use Rattle.kc_types.specs.declared.version.Version.{Version}
 use Rattle.kc_types.specs.declared.link.Ends.{Ends}
@@ -46,7 +46,7 @@ pub record IsDump (d : Dumped) : Type 0 where
   pub free : are_ends (length d.frames) d.free ≡ true
   pub lists : (v : ℕ) → v < length d.slots → are_ends (length d.frames) (slot_dump_at d v).list ≡ true
   -- a slot may show more leaves than its table can have, but no more than a text of a gigabyte names
-  pub leaves : (v : ℕ) → length (slot_dump_at d v).leaves ≤ 1073741824
+  pub leaves : (v : ℕ) → length (slot_dump_at d v).leaves ≤ byte_limit
   pub roots : (v n : ℕ) → v < length d.slots → n < length (slot_dump_at d v).leaves → slice_index_or (slot_dump_at d v).leaves n 0 < leaf_entries
   pub entries : (v n : ℕ) → v < length d.slots → n < length (slot_dump_at d v).entries → is_entry d.version (length d.frames) v (slice_index_or (slot_dump_at d v).entries n (0, 0)) ≡ true
   -- by rising guest frame

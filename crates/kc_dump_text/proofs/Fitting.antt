@@ -3,7 +3,7 @@ use Rattle.std.proofs.Common.{ℕ, zero, suc, ◌≡◌, ◌<◌, ◌≤◌, ◌
 use Rattle.std.specs.Prelude.{◌==◌, if◌then◌else◌}
 use Rattle.std.specs.List.{list_all}
 use Rattle.std.proofs.lemmas.Bool.{and_parts, or_cases, eqb-true, ltb-true, leb-true}
-use Rattle.kc_types.specs.Limits.{frame_limit, leaf_limit, leaf_entries, gfn_limit, share_limit}
+use Rattle.kc_types.specs.Limits.{byte_limit, frame_limit, leaf_limit, leaf_entries, gfn_limit, share_limit}
 use Rattle.kc_types.specs.Configuration.{most_frames, slots_of}
 use Rattle.kc_types.specs.declared.version.Version.{Version}
 use Rattle.kc_types.specs.declared.link.Ends.{Ends}
@@ -76,7 +76,7 @@ module _ (version : Version) where
       let z = eqb-true g 0 p.0 in
       (omega (arith, z), frame-of f line le p.1)
 
-  size-fits : (l : DumpLine) (lines : List DumpLine) (d : Dumped) (next : Stage) → Built version AtSize lines d → length lines ≤ 1073741824 → after version AtSize l ≡ Some next → Fits l
+  size-fits : (l : DumpLine) (lines : List DumpLine) (d : Dumped) (next : Stage) → Built version AtSize lines d → length lines ≤ byte_limit → after version AtSize l ≡ Some next → Fits l
   size-fits (SizeOf f c x) lines d next b few h =
       let t = passed (nat_lt 0 f && nat_le f (most_frames version) && nat_le c f && nat_lt 0 x && nat_le x leaf_limit) (AtFree f) next h in
       let p = and_parts (nat_lt 0 f && nat_le f (most_frames version) && nat_le c f && nat_lt 0 x) (nat_le x leaf_limit) t.0 in
@@ -93,7 +93,7 @@ module _ (version : Version) where
   size-fits (EntryOf w e) lines d next b few h = absurd cc
   size-fits (FrameOf g line) lines d next b few h = absurd cc
 
-  free-fits : (f : ℕ) (l : DumpLine) (lines : List DumpLine) (d : Dumped) (next : Stage) → Built version (AtFree f) lines d → length lines ≤ 1073741824 → after version (AtFree f) l ≡ Some next → Fits l
+  free-fits : (f : ℕ) (l : DumpLine) (lines : List DumpLine) (d : Dumped) (next : Stage) → Built version (AtFree f) lines d → length lines ≤ byte_limit → after version (AtFree f) l ≡ Some next → Fits l
   free-fits f (FreeOf ends) lines d next b few h = ends-of f ends (few-frames version f b.small) (passed (are_ends f ends) (AtVm f 0) next h).0
   free-fits f (SizeOf a c x) lines d next b few h = absurd cc
   free-fits f (VmOf w p ends) lines d next b few h = absurd cc
@@ -101,7 +101,7 @@ module _ (version : Version) where
   free-fits f (EntryOf w e) lines d next b few h = absurd cc
   free-fits f (FrameOf g line) lines d next b few h = absurd cc
 
-  vm-fits : (f v : ℕ) (l : DumpLine) (lines : List DumpLine) (d : Dumped) (next : Stage) → Built version (AtVm f v) lines d → length lines ≤ 1073741824 → after version (AtVm f v) l ≡ Some next → Fits l
+  vm-fits : (f v : ℕ) (l : DumpLine) (lines : List DumpLine) (d : Dumped) (next : Stage) → Built version (AtVm f v) lines d → length lines ≤ byte_limit → after version (AtVm f v) l ≡ Some next → Fits l
   vm-fits f v (VmOf w p ends) lines d next b few h =
       let t = passed ((w == v) && are_ends f ends) (if v + 1 == slots_of version then AtLeaf f 0 0 else AtVm f (v + 1)) next h in
       let u = and_parts (w == v) (are_ends f ends) t.0 in
@@ -115,7 +115,7 @@ module _ (version : Version) where
   vm-fits f v (EntryOf w e) lines d next b few h = absurd cc
   vm-fits f v (FrameOf g line) lines d next b few h = absurd cc
 
-  leaf-fits : (f v n : ℕ) (l : DumpLine) (lines : List DumpLine) (d : Dumped) (next : Stage) → Built version (AtLeaf f v n) lines d → length lines ≤ 1073741824 → after version (AtLeaf f v n) l ≡ Some next → Fits l
+  leaf-fits : (f v n : ℕ) (l : DumpLine) (lines : List DumpLine) (d : Dumped) (next : Stage) → Built version (AtLeaf f v n) lines d → length lines ≤ byte_limit → after version (AtLeaf f v n) l ≡ Some next → Fits l
   leaf-fits f v n (LeafOf w k root) lines d next b few h =
       let t = passed ((nat_lt w (slots_of version) && nat_lt root leaf_entries) && (((w == v) && (k == n)) || (nat_lt v w && (k == 0)))) (AtLeaf f w (k + 1)) next h in
       let u = and_parts (nat_lt w (slots_of version) && nat_lt root leaf_entries) (((w == v) && (k == n)) || (nat_lt v w && (k == 0))) t.0 in
@@ -135,7 +135,7 @@ module _ (version : Version) where
   leaf-fits f v n (FreeOf ends) lines d next b few h = absurd cc
   leaf-fits f v n (VmOf w p ends) lines d next b few h = absurd cc
 
-  entry-fits : (f v least : ℕ) (l : DumpLine) (lines : List DumpLine) (d : Dumped) (next : Stage) → Built version (AtEntry f v least) lines d → length lines ≤ 1073741824 → after version (AtEntry f v least) l ≡ Some next → Fits l
+  entry-fits : (f v least : ℕ) (l : DumpLine) (lines : List DumpLine) (d : Dumped) (next : Stage) → Built version (AtEntry f v least) lines d → length lines ≤ byte_limit → after version (AtEntry f v least) l ≡ Some next → Fits l
   entry-fits f v least (EntryOf w e) lines d next b few h =
       let t = passed (is_entry version f w e && (nat_lt v w || ((w == v) && nat_le least e.0))) (AtEntry f w (e.0 + 1)) next h in
       entry-of f w e (few-frames version f b.small) (and_parts (is_entry version f w e) (nat_lt v w || ((w == v) && nat_le least e.0)) t.0).0
@@ -145,7 +145,7 @@ module _ (version : Version) where
   entry-fits f v least (VmOf w p ends) lines d next b few h = absurd cc
   entry-fits f v least (LeafOf w k root) lines d next b few h = absurd cc
 
-  frame-fits : (f n : ℕ) (l : DumpLine) (lines : List DumpLine) (d : Dumped) (next : Stage) → Built version (AtFrame f n) lines d → length lines ≤ 1073741824 → after version (AtFrame f n) l ≡ Some next → Fits l
+  frame-fits : (f n : ℕ) (l : DumpLine) (lines : List DumpLine) (d : Dumped) (next : Stage) → Built version (AtFrame f n) lines d → length lines ≤ byte_limit → after version (AtFrame f n) l ≡ Some next → Fits l
   frame-fits f n (FrameOf g line) lines d next b few h =
       let t = passed ((g == n) && nat_lt n f && is_frame version f line) (AtFrame f (n + 1)) next h in
       let u = and_parts ((g == n) && nat_lt n f) (is_frame version f line) t.0 in
@@ -160,7 +160,7 @@ module _ (version : Version) where
   frame-fits f n (LeafOf w k root) lines d next b few h = absurd cc
   frame-fits f n (EntryOf w e) lines d next b few h = absurd cc
 
-  pub fits-of : (stage : Stage) (l : DumpLine) (lines : List DumpLine) (d : Dumped) (next : Stage) → Built version stage lines d → length lines ≤ 1073741824 → after version stage l ≡ Some next → Fits l
+  pub fits-of : (stage : Stage) (l : DumpLine) (lines : List DumpLine) (d : Dumped) (next : Stage) → Built version stage lines d → length lines ≤ byte_limit → after version stage l ≡ Some next → Fits l
   fits-of AtSize l lines d next b few h = size-fits l lines d next b few h
   fits-of (AtFree f) l lines d next b few h = free-fits f l lines d next b few h
   fits-of (AtVm f v) l lines d next b few h = vm-fits f v l lines d next b few h

@@ -4,6 +4,7 @@ use Rattle.std.specs.Prelude.{if◌then◌else◌}
 use Rattle.std.specs.List.{flat_map}
 use Rattle.std.proofs.lemmas.Bool.{le-ltb}
 use Rattle.std.proofs.lemmas.List.{append-nil}
+use Rattle.kc_types.specs.Limits.{byte_limit}
 use Rattle.kc_types.specs.declared.version.Version.{Version}
 use Rattle.kc_types.specs.declared.version.Version.TheVariants.{One, Two}
 use Rattle.kc_dump.specs.Dump.{Dumped}
@@ -47,7 +48,7 @@ long-line x more e =
     omega (arith, a, b, none)
 
 -- lines that may stand where they do, whose text another's begins with, are its first lines
-follow : (version : Version) (xs ys before : List DumpLine) (s t u : Stage) (d : Dumped) (r : List ℕ) → Built version s before d → length before + length xs ≤ 1073741824
+follow : (version : Version) (xs ys before : List DumpLine) (s t u : Stage) (d : Dumped) (r : List ℕ) → Built version s before d → length before + length xs ≤ byte_limit
     → runs version (Some s) xs ≡ Some t → runs version (Some s) ys ≡ Some u → flat_map spell xs ++ r ≡ flat_map spell ys → Followed version t u xs ys r
 follow version [] ys before s t u d r b few h g e = record { rest = ys; whole = refl; text = e; goes_on = subst (λ (x : Stage). runs version (Some x) ys ≡ Some u) (some-same s t h) g }
 follow version (x ∷ xs) [] before s t u d r b few h g e = absurd (long-line x (flat_map spell xs ++ r) (sym (append_assoc (spell x) (flat_map spell xs) r) ∙ e))
@@ -88,9 +89,9 @@ ended version (Frame f) before n stage rest is none w =
     let clash : None ≡ Some f = sym no ∙ some in absurd cc
 
 not-stopped : (version : Version) (d : Dumped) (n : ℕ) (rest : List ℕ) (fault : DumpFault) → rest ≡ flat_map spell (dump_lines d) → runs version (Some AtSize) (dump_lines d) ≡ Some (AtFrame n n)
-    → length rest ≤ 1073741824 → DumpStopsFor version rest fault → ⊥
+    → length rest ≤ byte_limit → DumpStopsFor version rest fault → ⊥
 not-stopped version d n rest fault is ran small s =
-    let few : 0 + length s.lines ≤ 1073741824 = (let m = many s.lines in let a = length-append (flat_map spell s.lines) s.rest in let b = ap length s.stops.whole in omega (arith, m, a, b, small)) in
+    let few : 0 + length s.lines ≤ byte_limit = (let m = many s.lines in let a = length-append (flat_map spell s.lines) s.rest in let b = ap length s.stops.whole in omega (arith, m, a, b, small)) in
     let f = follow version s.lines (dump_lines d) [] AtSize s.stage (AtFrame n n) (nothing version) s.rest (built-none version) few s.stops.reached ran (sym s.stops.whole ∙ is) in
     by_rest f.rest f.text f.goes_on
   where
@@ -105,11 +106,11 @@ as-version text rest d version is e =
     let h = header-same d.version version (flat_map spell (dump_lines d)) rest (sym is.whole ∙ e) in
     (sym h.1, subst (λ v. runs v (Some AtSize) (dump_lines d) ≡ Some (AtFrame (length d.frames) (length d.frames))) h.0 is.ordered)
 
-behind-header : (version : Version) (text rest : List ℕ) → text ≡ dump_header version ++ rest → length text ≤ 1073741824 → length rest ≤ 1073741824
+behind-header : (version : Version) (text rest : List ℕ) → text ≡ dump_header version ++ rest → length text ≤ byte_limit → length rest ≤ byte_limit
 behind-header version text rest e small = let a = length-append (dump_header version) rest in let b = ap length e in omega (arith, a, b, small)
 
 -- no text of a dump is refused
-pub not-refused : (text : List ℕ) (d : Dumped) (fault : DumpFault) → length text ≤ 1073741824 → IsDumpText text d → IsRefusedDump text fault → fault ≡ Memory
+pub not-refused : (text : List ℕ) (d : Dumped) (fault : DumpFault) → length text ≤ byte_limit → IsDumpText text d → IsRefusedDump text fault → fault ≡ Memory
 not-refused text d NoHeader small is r = absurd (r d.version (flat_map spell (dump_lines d)) is.whole)
 not-refused text d Memory small is r = refl
 not-refused text d (BadLine n) small is r = (let a = as-version text r.1 d r.0 is r.2 in absurd (not-stopped r.0 d (length d.frames) r.1 (BadLine n) a.0 a.1 (behind-header r.0 text r.1 r.2 small) r.3))
@@ -120,11 +121,11 @@ no-lines [] e = refl
 no-lines (z ∷ zs) e = absurd (long-line z (flat_map spell zs) (sym e))
 
 -- a text is one dump's at most
-pub one-dump : (text : List ℕ) (d e : Dumped) → length text ≤ 1073741824 → IsDumpText text d → IsDumpText text e → d ≡ e
+pub one-dump : (text : List ℕ) (d e : Dumped) → length text ≤ byte_limit → IsDumpText text d → IsDumpText text e → d ≡ e
 one-dump text d e small is other =
     let h = header-same d.version e.version (flat_map spell (dump_lines d)) (flat_map spell (dump_lines e)) (sym is.whole ∙ other.whole) in
     let b = behind-header d.version text (flat_map spell (dump_lines d)) is.whole small in
-    let few : 0 + length (dump_lines d) ≤ 1073741824 = (let m = many (dump_lines d) in omega (arith, m, b)) in
+    let few : 0 + length (dump_lines d) ≤ byte_limit = (let m = many (dump_lines d) in omega (arith, m, b)) in
     let end : Stage = AtFrame (length e.frames) (length e.frames) in
     let f = follow d.version (dump_lines d) (dump_lines e) [] AtSize (AtFrame (length d.frames) (length d.frames)) end (nothing d.version) [] (built-none d.version) few is.ordered
     (subst (λ v. runs v (Some AtSize) (dump_lines e) ≡ Some end) (sym h.0) other.ordered) (append-nil (flat_map spell (dump_lines d)) ∙ h.1) in

@@ -5,6 +5,7 @@ use Rattle.std.specs.List.{flat_map, list_all}
 use Rattle.std.proofs.lemmas.Bool.{and_parts, eqb-true, eqb-false, not-true, ltb-true, ltb-false, cases_Bool}
 use Rattle.std.proofs.lemmas.List.{append-nil}
 use Rattle.std.proofs.lemmas.Grind.{flat_map-append}
+use Rattle.kc_types.specs.Limits.{byte_limit}
 use Rattle.kc_dump.specs.declared.line.FrameLine.{FrameLine}
 use Rattle.kc_dump.specs.Ranges.{is_frame}
 use Rattle.kc_dump.specs.Dump.{Dumped}
@@ -86,7 +87,7 @@ module _ (version : Version) where
 
   -- ---- nothing to read
 
-  pub none-no-newline : (stage : Stage) (lines : List DumpLine) (d : Dumped) (rest : List ℕ) → Built version stage lines d → length lines ≤ 1073741824 → IsOneLine rest → HasNoLine version stage rest
+  pub none-no-newline : (stage : Stage) (lines : List DumpLine) (d : Dumped) (rest : List ℕ) → Built version stage lines d → length lines ≤ byte_limit → IsOneLine rest → HasNoLine version stage rest
   none-no-newline stage lines d rest b few one = λ l next more ok e. no-cut rest (bare l) more one (e ∙ spelled-cut l more)
 
   pub lacks-no-newline : (stage : Stage) (lines : List DumpLine) (d : Dumped) (rest : List ℕ) → Built version stage lines d → IsOneLine rest → 0 < length rest → (f : ℕ) → LacksFrame version stage rest f → ⊥
@@ -98,7 +99,7 @@ module _ (version : Version) where
 
   -- ---- a line that is none
 
-  pub none-unread : (stage : Stage) (lines : List DumpLine) (d : Dumped) (rest bytes more : List ℕ) → Built version stage lines d → length lines ≤ 1073741824 → IsOneLine bytes → rest ≡ bytes ++ 10 ∷ more
+  pub none-unread : (stage : Stage) (lines : List DumpLine) (d : Dumped) (rest bytes more : List ℕ) → Built version stage lines d → length lines ≤ byte_limit → IsOneLine bytes → rest ≡ bytes ++ 10 ∷ more
       → line_read bytes ≡ None → HasNoLine version stage rest
   none-unread stage lines d rest bytes more b few one cut none = λ l next others ok e.
       (let some = only-line rest bytes more l others one cut (fits-of version stage l lines d next b few ok) e in let z : None ≡ Some l = sym none ∙ some in absurd cc)
@@ -128,15 +129,15 @@ module _ (version : Version) where
   abbrev EndsAt : List ℕ → List DumpLine → Stage → Dumped → Type 0
   EndsAt text lines stage d = ReadUpTo version text lines stage d []
 
-  end-stuck : (text : List ℕ) (lines : List DumpLine) (stage : Stage) (d : Dumped) (n : ℕ) → EndsAt text lines stage d → length lines ≤ 1073741824 → length lines ≡ n → ((f : ℕ) → due stage ≡ Some f → ⊥) → (IsEnd stage → ⊥)
+  end-stuck : (text : List ℕ) (lines : List DumpLine) (stage : Stage) (d : Dumped) (n : ℕ) → EndsAt text lines stage d → length lines ≤ byte_limit → length lines ≡ n → ((f : ℕ) → due stage ≡ Some f → ⊥) → (IsEnd stage → ⊥)
       → IsStuck version text (BadLine (n + 2))
   end-stuck text lines stage d n r few is none not-end =
       stuck version text (BadLine (n + 2)) lines stage d [] r (none-no-newline stage lines d [] r.built few refl) (omega (arith, is), λ f h. none f h.0, λ e. not-end)
 
-  end-frame : (text : List ℕ) (lines : List DumpLine) (stage : Stage) (d : Dumped) (f : ℕ) → EndsAt text lines stage d → length lines ≤ 1073741824 → due stage ≡ Some f → IsStuck version text (Frame f)
+  end-frame : (text : List ℕ) (lines : List DumpLine) (stage : Stage) (d : Dumped) (f : ℕ) → EndsAt text lines stage d → length lines ≤ byte_limit → due stage ≡ Some f → IsStuck version text (Frame f)
   end-frame text lines stage d f r few is = stuck version text (Frame f) lines stage d [] r (none-no-newline stage lines d [] r.built few refl) (is, inl refl)
 
-  pub stuck-end : (text : List ℕ) (lines : List DumpLine) (stage : Stage) (d : Dumped) (n : ℕ) (fault : DumpFault) → EndsAt text lines stage d → length lines ≤ 1073741824 → length lines ≡ n → end_fault stage n ≡ Some fault → IsStuck version text fault
+  pub stuck-end : (text : List ℕ) (lines : List DumpLine) (stage : Stage) (d : Dumped) (n : ℕ) (fault : DumpFault) → EndsAt text lines stage d → length lines ≤ byte_limit → length lines ≡ n → end_fault stage n ≡ Some fault → IsStuck version text fault
   stuck-end text lines AtSize d n fault r few is e = let same : BadLine (n + 2) ≡ fault = cc in subst (IsStuck version text) same (end-stuck text lines AtSize d n r few is (λ f h. absurd cc) (λ h. h))
   stuck-end text lines (AtFree k) d n fault r few is e = let same : BadLine (n + 2) ≡ fault = cc in subst (IsStuck version text) same (end-stuck text lines (AtFree k) d n r few is (λ f h. absurd cc) (λ h. h))
   stuck-end text lines (AtVm k v) d n fault r few is e = let same : BadLine (n + 2) ≡ fault = cc in subst (IsStuck version text) same (end-stuck text lines (AtVm k v) d n r few is (λ f h. absurd cc) (λ h. h))
@@ -180,7 +181,7 @@ module _ (version : Version) where
         λ e h. (let z : length rest ≡ 0 = ap length e in let s = u.some in omega (arith, z, s)),
       )
 
-  pub unfit : (text : List ℕ) (lines : List DumpLine) (stage : Stage) (d : Dumped) (rest bytes more : List ℕ) (l : DumpLine) → ReadUpTo version text lines stage d rest → length lines ≤ 1073741824 → IsOneLine bytes → rest ≡ bytes ++ 10 ∷ more
+  pub unfit : (text : List ℕ) (lines : List DumpLine) (stage : Stage) (d : Dumped) (rest bytes more : List ℕ) (l : DumpLine) → ReadUpTo version text lines stage d rest → length lines ≤ byte_limit → IsOneLine bytes → rest ≡ bytes ++ 10 ∷ more
       → line_read bytes ≡ Some l → after version stage l ≡ None → 0 < length rest → Unfit text lines stage d rest l
   unfit text lines stage d rest bytes more l r few one cut read stop some = record {
     reached = r;

@@ -2,7 +2,7 @@
 use Rattle.std.proofs.Common.{ℕ, zero, suc, ◌≡◌, ◌<◌, ◌≤◌, ◌+◌, true, ◌&&◌, ◌||◌, nat_lt, nat_le, List, [], ◌∷◌, ◌++◌, length, get_or, Option, Some, None, refl, sym, ap, subst, ◌∙◌, arith, inl, inr}
 use Rattle.std.specs.Prelude.{◌==◌, if◌then◌else◌}
 use Rattle.std.proofs.lemmas.Bool.{and_parts, or_cases, ltb-true, leb-true, eq-eqb, ne_eqb}
-use Rattle.kc_types.specs.Limits.{leaf_limit, leaf_entries}
+use Rattle.kc_types.specs.Limits.{byte_limit, leaf_limit, leaf_entries}
 use Rattle.kc_types.specs.Configuration.{most_frames, slots_of}
 use Rattle.kc_types.specs.declared.version.Version.{Version}
 use Rattle.kc_dump.specs.declared.line.FrameLine.{FrameLine}
@@ -227,7 +227,7 @@ module _ (version : Version) where
   as-entry-stage f s at = subst (IsEntryStage f) at.is (led at.v at.n)
 
 -- a dump whose lines are in order is in range
-pub in-range : (d : Dumped) → length d.slots ≡ slots_of d.version → ((v : ℕ) → length (slot_dump_at d v).leaves ≤ 1073741824)
+pub in-range : (d : Dumped) → length d.slots ≡ slots_of d.version → ((v : ℕ) → length (slot_dump_at d v).leaves ≤ byte_limit)
     → runs d.version (Some AtSize) (dump_lines d) ≡ Some (AtFrame (length d.frames) (length d.frames)) → IsDump d
 in-range d long few r =
     let version = d.version in

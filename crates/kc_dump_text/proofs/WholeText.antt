@@ -3,6 +3,7 @@ use Rattle.std.specs.Prelude.{not}
 use Rattle.std.proofs.Common.{Bool, true, false, zero, suc, ℕ, ◌≡◌, ◌<◌, ◌≤◌, ◌+◌, List, [], ◌∷◌, ◌++◌, length, take, drop, Some, refl, sym, ap, ◌∙◌, arith, length-append}
 use Rattle.std.specs.List.{flat_map}
 use Rattle.std.proofs.lemmas.List.{append-nil}
+use Rattle.kc_types.specs.Limits.{byte_limit}
 use Rattle.kc_types.specs.declared.version.Version.{Version}
 use Rattle.kc_types.specs.declared.version.Version.TheVariants.{One, Two}
 use Rattle.kc_types.specs.Configuration.{slots_of}
@@ -40,7 +41,7 @@ whole-text version text rest d e w =
       ordered = ap (λ v. runs v (Some AtSize) (dump_lines d)) b.same ∙ ap (runs version (Some AtSize)) (sym (lines-are version rest d w)) ∙ b.ran ∙ ap (λ n. Some (AtFrame n n)) (sym b.shape.1);
     }
 
-pub whole-dump : (version : Version) (rest : List ℕ) (d : Dumped) → length rest ≤ 1073741824 → IsTextOf version rest d → IsDump d
+pub whole-dump : (version : Version) (rest : List ℕ) (d : Dumped) → length rest ≤ byte_limit → IsTextOf version rest d → IsDump d
 whole-dump version rest d small w =
     let b = w.2.built in
     let text = whole-text version (dump_header version ++ rest) rest d refl w in

@@ -1,6 +1,6 @@
 -- What a line adds to the dump begun.
 use Rattle.std.specs.Prelude.{ℕ, ◌<◌, ◌≤◌, [], ◌∷◌, ◌++◌, length, slice_set}
-use Rattle.kc_types.specs.Limits.{slot_limit}
+use Rattle.kc_types.specs.Limits.{byte_limit, slot_limit}
 use Rattle.kc_types.specs.declared.version.Version.{Version}
 use Rattle.kc_dump.specs.Dump.{Dumped, SlotDump, slot_dump_at, no_ends}
 use Rattle.kc_dump_text.specs.declared.dump_line.DumpLine.{DumpLine}
@@ -13,7 +13,7 @@ abbrev pub IsStage : Stage → Type 0
 IsStage AtSize = Unit {0}
 IsStage (AtFree frames) = Unit {0}
 IsStage (AtVm frames v) = v < slot_limit
-IsStage (AtLeaf frames v n) = n ≤ 1073741824
+IsStage (AtLeaf frames v n) = n ≤ byte_limit
 IsStage (AtEntry frames v least) = Unit {0}
 IsStage (AtFrame frames n) = Unit {0}
 

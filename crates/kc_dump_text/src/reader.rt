@@ -1,5 +1,6 @@
 //! Reading a dump.
 ghost use Rattle.std.specs.Prelude.{ℕ, List, ◌≡◌, ◌≤◌, ◌++◌, length, MatchOption, MatchResult};
+ghost use Rattle.kc_types.specs.Limits.{byte_limit};
 ghost use Rattle.kc_types.specs.declared.version.Version.{Version};
 ghost use Rattle.kc_dump.specs.Dump.{Dumped};
 ghost use Rattle.kc_dump_text.specs.declared.fault.DumpFault.TheVariants.{Memory};
@@ -45,7 +46,7 @@ fn frames_at(stage: &Stage) -> u32
 
 /// What is wrong where the text ends behind so many lines.
 fn end_fault(stage: &Stage, lines: u32) -> Option<DumpFault>
-    requires { lines ≤ 1073741824 }
+    requires { lines ≤ byte_limit }
     ensures { result ≡ end_fault stage.now lines }
 {
     match *stage {
@@ -63,7 +64,7 @@ fn end_fault(stage: &Stage, lines: u32) -> Option<DumpFault>
 }
 
 fn due_fault(due: Option<u32>, number: u32, lines: u32) -> DumpFault
-    requires { lines ≤ 1073741824 }
+    requires { lines ≤ byte_limit }
     ensures { result ≡ due_fault due number lines }
 {
     match due {
@@ -80,7 +81,7 @@ fn due_fault(due: Option<u32>, number: u32, lines: u32) -> DumpFault
 
 /// What is wrong where this line cannot stand behind so many lines.
 fn line_fault(version: Version, stage: &Stage, line: &DumpLine, lines: u32) -> DumpFault
-    requires { lines ≤ 1073741824 }
+    requires { lines ≤ byte_limit }
     ensures { result ≡ line_fault version stage.now line.now lines }
 {
     match line {
@@ -98,7 +99,7 @@ fn line_fault(version: Version, stage: &Stage, line: &DumpLine, lines: u32) -> D
 
 /// The dump whose lines these are.
 fn read_lines(alloc: Global, version: Version, text: &[u8]) -> Result<Begun, DumpFault>
-    requires { length text.now ≤ 1073741824 }
+    requires { length text.now ≤ byte_limit }
     ensures { MatchResult result (λ begun. IsTextOf version text.now begun) (λ fault. IsStuck version text.now fault) }
 {
     let mut begun = Begun::new(alloc, version);
@@ -145,7 +146,7 @@ fn behind_header(text: &[u8]) -> Option<(Version, &[u8])>
 
 /// The dump that a text is, of at most 1,073,741,824 bytes. Memory is the only fault that says nothing of the text.
 pub fn read_dump(alloc: Global, text: &[u8]) -> Result<Dump, DumpFault>
-    requires { length text.now ≤ 1073741824 }
+    requires { length text.now ≤ byte_limit }
     // What is read is a dump, and what is refused is none, for its first fault.
     ensures found { MatchResult result (λ dump. IsDumpText text.now dump) (λ fault. IsRefusedDump text.now fault) }
 

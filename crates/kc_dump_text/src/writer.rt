@@ -1,7 +1,7 @@
 //! A dump as text.
 ghost use Rattle.std.specs.Prelude.{◌≡◌, ◌≤◌, ◌+◌, ◌++◌, ℕ, length, slice_index_or, IfOk, OnOk};
 ghost use Rattle.std.specs.List.{flat_map};
-ghost use Rattle.kc_types.specs.Limits.{frame_limit, slot_limit};
+ghost use Rattle.kc_types.specs.Limits.{byte_limit, frame_limit, slot_limit};
 ghost use Rattle.kc_dump.specs.Dump.{empty_dump};
 ghost use Rattle.kc_dump.specs.Ranges.{IsDump};
 ghost use Rattle.kc_dump_text.specs.Grammar.{IsDumpText};
@@ -37,7 +37,7 @@ fn push_frames(text: &mut Vec<u8>, frames: &[FrameLine]) -> Result<(), Memory>
 }
 
 fn push_leaves(text: &mut Vec<u8>, vm: u32, leaves: &[u32]) -> Result<(), Memory>
-    requires { length leaves.now ≤ 1073741824 }
+    requires { length leaves.now ≤ byte_limit }
     ensures { OnOk result (text.new.items ≡ text.old.items ++ flat_map spell (made (LeafOf vm) 0 leaves.now)) }
 {
     for i in 0..leaves.len() {
@@ -49,7 +49,7 @@ fn push_leaves(text: &mut Vec<u8>, vm: u32, leaves: &[u32]) -> Result<(), Memory
 
 fn push_all_leaves(text: &mut Vec<u8>, slots: &[SlotDump]) -> Result<(), Memory>
     requires few { length slots.now ≤ slot_limit }
-    requires leaves { (v : ℕ) → length (slice_index_or slots.now v empty_dump).leaves ≤ 1073741824 }
+    requires leaves { (v : ℕ) → length (slice_index_or slots.now v empty_dump).leaves ≤ byte_limit }
     ensures { OnOk result (text.new.items ≡ text.old.items ++ flat_map spell (leaves_of 0 slots.now)) }
 {
     for i in 0..slots.len() {

@@ -1,6 +1,6 @@
 //! A replay, whole or in segments.
 ghost use Rattle.std.specs.Prelude.{◌≡◌, ◌≢◌, ◌+◌, ◌-◌, ◌<◌, ◌≤◌, ◌⊎◌, ◌↔◌, length, Some, None, Err, OnOk, OnErr, IfOk, IfErr, IsErrOf};
-ghost use Rattle.kc_types.specs.Limits.{call_limit};
+ghost use Rattle.kc_types.specs.Limits.{call_limit, worker_limit};
 ghost use Rattle.kc_model.specs.State.{State};
 ghost use Rattle.kc_model.specs.Safety.{IsSafe};
 ghost use Rattle.kc_model.specs.Blind.{ShowsNothing, ShowsNothingFromBoot};
@@ -15,7 +15,7 @@ use crate::budget::Budget;
 use crate::fault::ReplayFault;
 use crate::segment::{Outcome, answer_segment};
 use kc_core::KCore;
-use kc_types::{CALL_LIMIT, Call, Config, Reply};
+use kc_types::{CALL_LIMIT, Call, Config, Reply, WORKER_LIMIT};
 use std::alloc::Global;
 use std::marker::Model;
 use std::sync::Wait;
@@ -69,7 +69,7 @@ impl Model for Replayer {
 
     ghost view = { λ r. record { state = r.core; fed = r.fed; workers = r.workers } };
 
-    ghost invariant = { λ r. (0 < r.workers) × (r.workers ≤ 64) × (r.fed ≤ call_limit) };
+    ghost invariant = { λ r. (0 < r.workers) × (r.workers ≤ worker_limit) × (r.fed ≤ call_limit) };
 }
 
 impl Replayer {
@@ -78,11 +78,11 @@ impl Replayer {
     pub fn new(alloc: Global, config: Config, workers: usize) -> Result<Replayer, ReplayFault>
         ensures start { IfOk result (λ replayer. replayer ≡ record { state = Some (boot config); fed = 0; workers = workers }) }
         ensures lawful { OnOk result (IsLawful (boot config)) }
-        ensures workers { OnOk result ((0 < workers) × (workers ≤ 64)) }
-        ensures bad_workers { IfErr result (λ fault. (fault ≡ BadWorkers) ↔ ((workers ≡ 0) ⊎ (64 < workers))) }
+        ensures workers { OnOk result ((0 < workers) × (workers ≤ worker_limit)) }
+        ensures bad_workers { IfErr result (λ fault. (fault ≡ BadWorkers) ↔ ((workers ≡ 0) ⊎ (worker_limit < workers))) }
         ensures fault { IfErr result (λ fault. (fault ≡ BadWorkers) ⊎ (fault ≡ ReplayFault.Memory)) }
     {
-        if workers == 0 || workers > 64 {
+        if workers == 0 || workers > WORKER_LIMIT {
             return Err(ReplayFault::BadWorkers);
         }
         match KCore::boot(alloc, config) {
@@ -183,8 +183,8 @@ pub fn replay<R: Threads + Wait + Sync, G: Gate + Sync>(
     ensures safe { OnOk result (IsSafe (boot config) calls.now) }
     ensures replies { IfOk result (λ outcome. outcome.replies.items ≡ replies_from (boot config) calls.now) }
     ensures state { IfOk result (λ outcome. outcome.core ≡ state_after (boot config) calls.now) }
-    ensures workers { OnOk result ((0 < workers) × (workers ≤ 64)) }
-    ensures bad_workers { IfErr result (λ fault. (fault ≡ BadWorkers) ↔ ((workers ≡ 0) ⊎ (64 < workers))) }
+    ensures workers { OnOk result ((0 < workers) × (workers ≤ worker_limit)) }
+    ensures bad_workers { IfErr result (λ fault. (fault ≡ BadWorkers) ↔ ((workers ≡ 0) ⊎ (worker_limit < workers))) }
     ensures whole { result ≢ Err Broken }
     ensures started { result ≡ Err ReplayFault.Start → 1 < workers }
 {

@@ -5,10 +5,10 @@ use Rattle.std.proofs.lemmas.Bool.{leb-false}
 use Rattle.std.proofs.lemmas.List.{append-nil, nil_from_length}
 use Rattle.std.proofs.KnownBytes.{Consumes-nil, Consumes-trans}
 use Rattle.std.specs.Io.KnownBytes.{Consumes, IsAtEnd}
-use Rattle.kc_types.specs.Limits.{call_limit}
+use Rattle.kc_types.specs.Limits.{byte_limit, call_limit}
 use Rattle.kc_types.specs.declared.version.Version.{Version}
 use Rattle.kc_types.specs.declared.call.Call.{Call}
-use Rattle.kc_texts.specs.Ends.{ReadFailed, byte_limit}
+use Rattle.kc_texts.specs.Ends.{ReadFailed}
 use Rattle.kc_trace.specs.declared.fault.TraceFault.{TraceFault}
 use Rattle.kc_trace.specs.declared.fault.TraceFault.TheVariants.{NoHeader, BadLine, NoNewline, TooManyCalls, Memory}
 use Rattle.kc_trace.specs.Trace.{IsTrace, IsRefused}

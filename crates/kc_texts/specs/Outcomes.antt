@@ -2,6 +2,7 @@
 use Rattle.std.specs.Prelude.{◌≡◌, ◌≢◌, ◌<◌, ◌⊎◌, ◌↔◌, ℕ, Bool, true, List, [], ◌∷◌, Option, Result, Err, IfErr, IfSome, OnOk, OnErr, IsErrOf}
 use Rattle.std.specs.List.{AllByRecursion}
 use Rattle.std.specs.Io.KnownBytes.{IsAtEnd}
+use Rattle.kc_types.specs.Limits.{worker_limit}
 use Rattle.kc_trace.specs.declared.config_text.ConfigTextFault.{ConfigTextFault}
 use Rattle.kc_trace.specs.declared.fault.TraceFault.{TraceFault}
 use Rattle.kc_trace.specs.ConfigText.{config_in}
@@ -50,7 +51,7 @@ pub record TellsTexts {A : Type 0} (config trace : Seen) (unread : Type 0) (resu
 
 -- what a replay by so many workers may be refused for, behind this configuration
 pub record TellsReplay {A : Type 0} (workers : ℕ) (config : Option (List ℕ)) (result : Result A TextFault) : Type 0 where
-  pub judged : IsErrOf result texts.Workers ↔ ((workers ≡ 0) ⊎ (64 < workers))
+  pub judged : IsErrOf result texts.Workers ↔ ((workers ≡ 0) ⊎ (worker_limit < workers))
   -- a worker is started only where there is more than one
   pub started : result ≡ Err texts.Start → (1 < workers) × IsConfigured config
   -- no fault of a live run comes

@@ -3,7 +3,7 @@ ghost use Rattle.std.specs.Prelude.{◌≡◌, ◌≤◌, ◌⊎◌, ◌↔◌, 
 ghost use Rattle.std.specs.Io.KnownBytes.{IsAtEnd};
 ghost use Rattle.kc_dump_text.specs.declared.fault.DumpFault.{DumpFault};
 ghost use Rattle.kc_dump_text.specs.Refused.{IsRefusedDump};
-ghost use Rattle.kc_texts.specs.Ends.{byte_limit};
+ghost use Rattle.kc_types.specs.Limits.{byte_limit};
 ghost use Rattle.kc_texts.specs.Audit.{IsAudited, Audits, BeginsAudit, IsDumpFault};
 ghost use Rattle.kc_texts.specs.Outcomes.{seen, TellsSources, TellsSink};
 

@@ -1,18 +1,18 @@
 //! A trace, read from a source in pieces.
 ghost use Rattle.std.specs.Prelude.{◌≡◌, ◌≢◌, ◌<◌, ◌≤◌, ◌++◌, ℕ, [], List, length, Option, IfOk, OnOk, IfSome, Err, true, false};
 ghost use Rattle.std.specs.Io.KnownBytes.{IsAtEnd};
-ghost use Rattle.kc_types.specs.Limits.{call_limit};
+ghost use Rattle.kc_types.specs.Limits.{byte_limit, call_limit};
 ghost use Rattle.kc_types.specs.declared.call.Call.{Call};
 ghost use Rattle.kc_trace.specs.declared.fault.TraceFault.{TraceFault};
 ghost use Rattle.kc_trace.specs.Trace.{IsTrace, IsRefused};
-ghost use Rattle.kc_texts.specs.Ends.{ReadFailed, byte_limit};
+ghost use Rattle.kc_texts.specs.Ends.{ReadFailed};
 ghost use Rattle.kc_texts.specs.Streamed.{HasRead, GoesOn};
 
 use crate::piece::PIECE;
 use crate::source::{Failed, Source};
-use crate::whole::{MOST_BYTES, ReadFault};
+use crate::whole::ReadFault;
 use kc_trace::{TraceFault, TraceReader};
-use kc_types::Call;
+use kc_types::{BYTE_LIMIT, Call};
 use std::alloc::{AllocError, Global};
 use std::marker::Model;
 use thiserror::Error;
@@ -79,7 +79,7 @@ pub struct CallStream {
 
 impl Model for CallStream {
     ghost use Rattle.std.specs.Prelude.{◌≤◌};
-    ghost use Rattle.kc_texts.specs.Ends.{byte_limit};
+    ghost use Rattle.kc_types.specs.Limits.{byte_limit};
     ghost use Rattle.kc_texts.specs.Streamed.{Streamed};
 
     ghost Value = { Streamed };
@@ -132,7 +132,7 @@ impl CallStream {
                     is_last: true,
                 });
             }
-            if n > MOST_BYTES - self.total {
+            if n > BYTE_LIMIT - self.total {
                 return Err(ReadFault::Read);
             }
             self.total += n;

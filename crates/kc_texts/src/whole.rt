@@ -1,14 +1,13 @@
 //! All that a source has, and all that a sink is given.
 ghost use Rattle.std.specs.Prelude.{◌≡◌, ◌≤◌, false, ℕ, length, take, is_err, IfOk, OnOk, OnErr};
 ghost use Rattle.std.specs.Io.KnownBytes.{Consumes, Appends, IsAtEnd};
-ghost use Rattle.kc_texts.specs.Ends.{ReadFailed, byte_limit};
+ghost use Rattle.kc_texts.specs.Ends.{ReadFailed};
+ghost use Rattle.kc_types.specs.Limits.{byte_limit};
 
 use crate::{Failed, Sink, Source};
+use kc_types::BYTE_LIMIT;
 use std::alloc::Global;
 use thiserror::Error;
-
-/// The most bytes that are read from one source.
-pub const MOST_BYTES: usize = 1_073_741_824;
 
 /// Why the bytes of a source are not all read.
 #[derive(Clone, Copy, Debug, PartialEq, Eq, Error)]
@@ -42,7 +41,7 @@ pub fn read_whole<S: Source>(alloc: Global, source: &mut S) -> Result<Vec<u8>, R
         if n == 0 {
             return Ok(all);
         }
-        if n > MOST_BYTES - all.len() {
+        if n > BYTE_LIMIT - all.len() {
             return Err(ReadFault::Read);
         }
         if all.extend_from_slice(&buffer[..n]).is_err() {

@@ -125,26 +125,14 @@ impl Fields {
     fn into_config(self) -> Result<Config, ConfigTextFault>
         ensures { ConfigGives result (configured self) }
     {
-        let made = match self.version {
-            Version::One => {
-                Config::try_new(
-                    self.frames,
-                    self.core,
-                    self.host,
-                    self.leaves,
-                    self.approved,
-                )
-            },
-            Version::Two => {
-                Config::try_new2(
-                    self.frames,
-                    self.core,
-                    self.host,
-                    self.leaves,
-                    self.approved,
-                )
-            },
-        };
+        let made = Config::with_version(
+            self.version,
+            self.frames,
+            self.core,
+            self.host,
+            self.leaves,
+            self.approved,
+        );
         match made {
             Ok(config) => Ok(config),
             Err(fault) => Err(ConfigTextFault::Config(fault)),

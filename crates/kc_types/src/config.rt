@@ -78,7 +78,23 @@ pub enum ConfigFault {
 }
 
 impl Config {
-    fn make(
+    /// A configuration of version 1, with `frames` frames of 4,096 bytes, the first `core` of them the core's for
+    /// ever and the next `host` the host's at boot; with `leaves` leaf tables for each VM; and with the SHA-256
+    /// digests (FIPS 180-4) of the boot images that are approved.
+    pub fn try_new(
+        frames: u32,
+        core: u32,
+        host: u32,
+        leaves: u32,
+        approved: Vec<[u8; 32]>,
+    ) -> Result<Config, ConfigFault>
+        ensures { Configures result (record { version = Version.One; frames = frames; core = core; host = host; leaves = leaves; approved = approved.items }) }
+    {
+        Config::with_version(Version::One, frames, core, host, leaves, approved)
+    }
+
+    /// The same of a version: version 2 has up to 65,536 frames, and 64 slots.
+    pub fn with_version(
         version: Version,
         frames: u32,
         core: u32,
@@ -108,34 +124,6 @@ impl Config {
             leaves,
             approved: Digests { digests: approved },
         })
-    }
-
-    /// A configuration of version 1, with `frames` frames of 4,096 bytes, the first `core` of them the core's for
-    /// ever and the next `host` the host's at boot; with `leaves` leaf tables for each VM; and with the SHA-256
-    /// digests (FIPS 180-4) of the boot images that are approved.
-    pub fn try_new(
-        frames: u32,
-        core: u32,
-        host: u32,
-        leaves: u32,
-        approved: Vec<[u8; 32]>,
-    ) -> Result<Config, ConfigFault>
-        ensures { Configures result (record { version = Version.One; frames = frames; core = core; host = host; leaves = leaves; approved = approved.items }) }
-    {
-        Config::make(Version::One, frames, core, host, leaves, approved)
-    }
-
-    /// The same of version 2, which has up to 65,536 frames, and 64 slots.
-    pub fn try_new2(
-        frames: u32,
-        core: u32,
-        host: u32,
-        leaves: u32,
-        approved: Vec<[u8; 32]>,
-    ) -> Result<Config, ConfigFault>
-        ensures { Configures result (record { version = Version.Two; frames = frames; core = core; host = host; leaves = leaves; approved = approved.items }) }
-    {
-        Config::make(Version::Two, frames, core, host, leaves, approved)
     }
 
     /// The version.

@@ -31,3 +31,7 @@ pub const SHARE_LIMIT: u32 = 100;
 pub const RANGE_LIMIT: u32 = 64;
 /// The most calls of a trace, and of a history.
 pub const CALL_LIMIT: usize = 65_536;
+/// The most workers of a replay.
+pub const WORKER_LIMIT: usize = 64;
+/// The most bytes that are read of a source.
+pub const BYTE_LIMIT: usize = 1_073_741_824;

@@ -4,12 +4,9 @@ use kc_cli::{Std, TextFault};
 use kc_dump_text::DumpFault;
 use kc_explain::{Noted, Shortened, explain_config, fault_of_line, look_of};
 use kc_trace::{ConfigTextFault, TraceFault};
-use kc_types::ConfigFault;
+use kc_types::{BYTE_LIMIT, ConfigFault};
 use std::fs::{File, metadata};
 use std::io::{Error, ErrorKind, Read};
-
-/// The most bytes that are read of one source.
-const MOST_BYTES: u64 = 1_073_741_824;
 
 const TOO_LONG: &str = "it has more than 1073741824 bytes";
 
@@ -44,7 +41,7 @@ pub fn explain_open(rt: &HostRuntime, path: &str, error: &Error) {
 
 /// Why a file could not be read, where that is so. A read that failed fails once more.
 fn unread_file(config: &Noted<Std<File>>) -> Option<&'static str> {
-    if config.total() > MOST_BYTES {
+    if config.total() > BYTE_LIMIT as u64 {
         return Some(TOO_LONG);
     }
     if !config.inner.failed {
@@ -60,7 +57,7 @@ fn unread_file(config: &Noted<Std<File>>) -> Option<&'static str> {
 
 /// The same of standard input, after so many bytes. Where it is closed, the folder that stands in for it is read.
 fn unread_input(rt: &HostRuntime, total: u64) -> &'static str {
-    if total > MOST_BYTES {
+    if total > BYTE_LIMIT as u64 {
         return TOO_LONG;
     }
     let mut byte = [0u8; 1];

@@ -1,7 +1,7 @@
 use Rattle.std.proofs.Common.{◌≡◌, ◌≤◌, ◌-◌, ℕ, List, false}
 use Rattle.std.specs.Prelude.{IsSome}
 use Rattle.kc_types.specs.declared.call.Call.{Call}
-use Rattle.kc_texts.specs.Ends.{byte_limit}
+use Rattle.kc_types.specs.Limits.{byte_limit}
 use Rattle.kc_texts.specs.Streamed.{HasRead}
 use Rattle.kc_replay.specs.Replayer.{IsFed}
 use Rattle.kc_cli.proofs.replaying.feed_source.Given as goal

@@ -1,5 +1,6 @@
 use Rattle.std.proofs.Common.{[], ◌∷◌, ◌++◌, ◌≡◌, ◌≢◌, ◌≤◌, ◌+◌, length, sym, ap, ◌∙◌, arith, length-append}
 use Rattle.std.proofs.lemmas.Bool.{eqb-true, eqb-false}
+use Rattle.kc_types.specs.Limits.{byte_limit}
 use Rattle.kc_dump_text.proofs.LinesRead.{stuck, none-no-newline, lacks-no-newline, none-unread, lacks-unread, reached-more, stuck-end, whole-end, unfit, is-nil, stuck-line, first-line}
 use Rattle.kc_dump_text.proofs.reader.read_lines.Goals as goal
 
@@ -7,7 +8,7 @@ pub returns-in_default : goal.returns-in_default
 returns-in_default c =
     let inv = c.loop-rest.invariant in
     let some : length c.loop-rest.rest.now ≢ 0 = eqb-false _ _ (sym c.is_empty.ensures ∙ c.loop-rest-test.true) in
-    let few : length inv.0 ≤ 1073741824 = omega (arith, inv.2, inv.3, c.requires) in
+    let few : length inv.0 ≤ byte_limit = omega (arith, inv.2, inv.3, c.requires) in
     stuck c.args.version c.args.text.now _ inv.0 c.loop-rest.stage c.loop-rest.begun c.loop-rest.rest.now inv.1 (none-no-newline c.args.version c.loop-rest.stage inv.0 c.loop-rest.begun c.loop-rest.rest.now inv.1.built few c.in_default.ensures)
     (omega (arith, inv.2), lacks-no-newline c.args.version c.loop-rest.stage inv.0 c.loop-rest.begun c.loop-rest.rest.now inv.1.built c.in_default.ensures (omega (arith, some)), λ e h. absurd (some (ap length e)))
 
@@ -15,7 +16,7 @@ pub returns-in_default-read_line : goal.returns-in_default-read_line
 returns-in_default-read_line c =
     let inv = c.loop-rest.invariant in
     let some : length c.loop-rest.rest.now ≢ 0 = eqb-false _ _ (sym c.is_empty.ensures ∙ c.loop-rest-test.true) in
-    let few : length inv.0 ≤ 1073741824 = omega (arith, inv.2, inv.3, c.requires) in
+    let few : length inv.0 ≤ byte_limit = omega (arith, inv.2, inv.3, c.requires) in
     stuck c.args.version c.args.text.now _ inv.0 c.loop-rest.stage c.loop-rest.begun c.loop-rest.rest.now inv.1
     (none-unread c.args.version c.loop-rest.stage inv.0 c.loop-rest.begun c.loop-rest.rest.now c.in-Some.bytes.now c.in-Some.more.now inv.1.built few c.in-Some.ensures.0 c.in-Some.ensures.1 (sym c.in_default-read_line.ensures)) (
       omega (arith, inv.2),
@@ -47,7 +48,7 @@ pub returns-in_default-after : goal.returns-in_default-after
 returns-in_default-after c =
     let inv = c.loop-rest.invariant in
     let some : length c.loop-rest.rest.now ≢ 0 = eqb-false _ _ (sym c.is_empty.ensures ∙ c.loop-rest-test.true) in
-    let few : length inv.0 ≤ 1073741824 = omega (arith, inv.2, inv.3, c.requires) in
+    let few : length inv.0 ≤ byte_limit = omega (arith, inv.2, inv.3, c.requires) in
     let read = sym c.in-Some-read_line.ensures in
     let u = unfit c.args.version c.args.text.now inv.0 c.loop-rest.stage c.loop-rest.begun c.loop-rest.rest.now c.in-Some.bytes.now c.in-Some.more.now c.in-Some-read_line.line inv.1 few c.in-Some.ensures.0 c.in-Some.ensures.1 read
     (sym c.in_default-after.ensures) (omega (arith, some)) in

@@ -1,5 +1,5 @@
 use Rattle.std.proofs.Common.{◌≡◌, ◌≤◌, ◌-◌, ℕ, List, false}
-use Rattle.kc_texts.specs.Ends.{byte_limit}
+use Rattle.kc_types.specs.Limits.{byte_limit}
 use Rattle.kc_texts.specs.Streamed.{HasRead}
 use Rattle.kc_texts.proofs.stream.read_calls.Given as goal
 

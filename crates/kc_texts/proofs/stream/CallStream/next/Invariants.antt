@@ -1,5 +1,5 @@
 use Rattle.std.proofs.Common.{◌≡◌, ◌≤◌, ◌<◌, ◌-◌, length, false}
-use Rattle.kc_texts.specs.Ends.{byte_limit}
+use Rattle.kc_types.specs.Limits.{byte_limit}
 use Rattle.kc_texts.specs.Streamed.{GoesOn}
 use Rattle.kc_texts.proofs.stream.CallStream.next.Given as goal
 
