@@ -22,14 +22,14 @@ pub record IsNumeralWord (word : List ℕ) : Type 0 where
   pub some : 0 < length word
   pub first : get_or word 0 0 ≡ 48 → length word ≡ 1
 
-tests_are : (a b c d : Bool) → (a && not b && (c || not d)) ≡ true → (a ≡ true) × (b ≡ false) × (d ≡ true → c ≡ true)
+tests_are : (a b c d : Bool) → (a && (not b && (c || not d))) ≡ true → (a ≡ true) × (b ≡ false) × (d ≡ true → c ≡ true)
 tests_are true false true d e = (refl, refl, λ h. refl)
 tests_are true false false true e = absurd cc
 tests_are true false false false e = (refl, refl, λ h. absurd cc)
 tests_are true true c d e = absurd cc
 tests_are false b c d e = absurd cc
 
-tests_from : (a b c d : Bool) → a ≡ true → b ≡ false → (d ≡ true → c ≡ true) → (a && not b && (c || not d)) ≡ true
+tests_from : (a b c d : Bool) → a ≡ true → b ≡ false → (d ≡ true → c ≡ true) → (a && (not b && (c || not d))) ≡ true
 tests_from a b c true ea eb h = rw (ea, eb, h refl) refl
 tests_from a b true false ea eb h = rw (ea, eb) refl
 tests_from a b false false ea eb h = rw (ea, eb) refl

@@ -8,7 +8,7 @@ use Rattle.std.proofs.lemmas.List.{take_all}
 use Rattle.std.proofs.lemmas.List.Folds.{list_all_at}
 use Rattle.std.proofs.lemmas.Int.Digits.{digits_value_more}
 use Rattle.std.proofs.lemmas.Bool.{and_parts, leb-true, eqb-true, ltb-true, le-ltb, cases_lt, cases_Bool}
-use Rattle.kc_lines.specs.Words.{is_numeral, number_in}
+use Rattle.kc_lines.specs.Words.{has_no_leading_zero, is_numeral, number_in}
 use Rattle.kc_lines.proofs.Digits.{all_below, at_below}
 use Rattle.kc_lines.proofs.Numbers.{number_when}
 
@@ -90,6 +90,13 @@ no_value word v e cut le =
       | inr past ↦ none_when word e past
     ]
 
+-- digits are a numeral where they have no leading zero
+pub digits_numeral : (digits : List ℕ) (b : Bool) → list_all is_ascii_digit digits ≡ true → b ≡ has_no_leading_zero digits → is_numeral digits ≡ b
+digits_numeral digits b e h = rw e (sym h)
+
 pub not_numeral : (word : List ℕ) → is_numeral word ≡ false → None ≡ number_in word
 unfolding number_in
 not_numeral word e = rw e refl
+
+pub not_digits : (word : List ℕ) → list_all is_ascii_digit word ≡ false → None ≡ number_in word
+not_digits word e = not_numeral word (rw e refl)

@@ -1,16 +1,18 @@
 -- Words joined by spaces, and cut at them again.
-use Rattle.std.proofs.Common.{◌≡◌, ◌⊎◌, ◌<◌, ◌+◌, ℕ, Bool, true, false, cond, List, [], ◌∷◌, ◌++◌, length, take, drop, Some, None, refl, ap, ◌∙◌, arith, inl, inr, length-append}
+use Rattle.std.proofs.Common.{◌≡◌, ◌⊎◌, ◌<◌, ◌+◌, ◌-◌, ℕ, suc, Bool, true, false, cond, List, [], ◌∷◌, ◌++◌, length, get_or, take, drop, Option, Some, None, refl, sym, ap, ◌∙◌, arith, inl, inr, length-append}
 use Rattle.std.specs.Prelude.{◌^◌, ◌&&◌, ◌==◌, not, nat_le, position, nat_lt}
 use Rattle.std.specs.List.{list_all, slice_split, join_with_byte, position_or_len}
 use Rattle.std.specs.Char.{is_ascii_digit}
 use Rattle.std.specs.Fmt.{decimal}
 use Rattle.std.proofs.lemmas.Bool.{and_parts, and_from, not-true, ne_eqb, leb-true, or_cases, ltb-true, ltb-false}
+use Rattle.std.proofs.lemmas.List.{take-append-drop, take_all, length-drop}
+use Rattle.std.proofs.Math.Seq.{drop-cons}
 use Rattle.std.proofs.lemmas.List.Splits.{slice_split_first, slice_split_none}
 use Rattle.std.proofs.lemmas.List.Sums.{fails_before_first}
 use Rattle.std.proofs.lemmas.Fmt.{digits_decimal}
 use Rattle.hex.specs.Hex.{encode_lower}
 use Rattle.kc_types.specs.Bytes.{IsData}
-use Rattle.kc_lines.specs.Words.{is_lower_digit}
+use Rattle.kc_lines.specs.Words.{is_lower_digit, number_in, IsLastNumber, IsFirstNumber}
 use Rattle.kc_lines.specs.Lines.{IsOneLine}
 use Rattle.kc_lines.proofs.Numbers.{own}
 use Rattle.kc_lines.proofs.Digits.{encoded_is_lower}
@@ -103,8 +105,11 @@ lower_is_plain c e =
       | inr h ↦ range_is_plain 97 102 c (omega arith) h
     ]
 
+digits_are_word : (digits : List ℕ) → list_all is_ascii_digit digits ≡ true → is_word digits ≡ true
+digits_are_word digits e = all_weaker is_ascii_digit is_plain (λ c h. range_is_plain 48 57 c (omega arith) h) digits e
+
 pub decimal_is_word : (n : ℕ) → n < 2 ^ 32 → is_word (decimal n) ≡ true
-decimal_is_word n lt = all_weaker is_ascii_digit is_plain (λ c e. range_is_plain 48 57 c (omega arith) e) (decimal n) (digits_decimal own n (omega arith))
+decimal_is_word n lt = digits_are_word (decimal n) (digits_decimal own n (omega arith))
 
 pub encoded_is_word : (bytes : List ℕ) → IsData bytes → is_word (encode_lower bytes) ≡ true
 encoded_is_word bytes fits = all_weaker is_lower_digit is_plain lower_is_plain (encode_lower bytes) (encoded_is_lower bytes fits)
@@ -124,3 +129,26 @@ no_space line e =
       | inl h ↦ absurd cc
       | inr h ↦ let past = ltb-false _ _ h.0 in slice_split_none is_space line (λ k d lt. fails_before_first is_space line k d (omega arith))
     ]
+
+-- a line of digits is one word
+pub digits_alone : (line : List ℕ) → list_all is_ascii_digit line ≡ true → slice_split is_space line ≡ line ∷ []
+digits_alone line e = split_last line (digits_are_word line e)
+
+-- digits before a space are the first word
+pub digits_first : (line : List ℕ) (n : ℕ) → n < length line → get_or line n 0 ≡ 32 → list_all is_ascii_digit (take n line) ≡ true → slice_split is_space line ≡ take n line ∷ slice_split is_space (drop (n + 1) line)
+digits_first line n lt space e =
+    let next : suc n ≡ n + 1 = omega arith in
+    let rest : drop n line ≡ 32 ∷ drop (n + 1) line = drop-cons line n 0 lt ∙ ap (λ b. b ∷ drop (suc n) line) space ∙ ap (λ k. 32 ∷ drop k line) next in
+    let whole : line ≡ take n line ++ 32 ∷ drop (n + 1) line = sym (take-append-drop n line) ∙ ap (λ l. take n line ++ l) rest in
+    ap (slice_split is_space) whole ∙ split_word (take n line) (drop (n + 1) line) (digits_are_word (take n line) e)
+
+-- a line of digits as a number, and digits before a space
+pub last_number : (line : List ℕ) (n : ℕ) (number : Option ℕ) → n ≡ length line → list_all is_ascii_digit (take n line) ≡ true → number ≡ number_in (take n line) → IsLastNumber line number
+last_number line n number size e same =
+    let whole : take n line ≡ line = take_all n line (omega arith) in
+    (digits_alone line (rw whole at e), same ∙ ap number_in whole)
+
+pub first_number : (line : List ℕ) (n : ℕ) (number : Option ℕ) → n < length line → get_or line n 0 ≡ 32 → list_all is_ascii_digit (take n line) ≡ true → number ≡ number_in (take n line) → IsFirstNumber line number (take (length line - (n + 1)) (drop (n + 1) line))
+first_number line n number lt space e same =
+    let rest : take (length line - (n + 1)) (drop (n + 1) line) ≡ drop (n + 1) line = take_all _ (drop (n + 1) line) (omega (arith, length-drop (n + 1) line)) in
+    (take n line, digits_first line n lt space e ∙ ap (λ l. take n line ∷ slice_split is_space l) (sym rest), same)

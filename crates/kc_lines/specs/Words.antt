@@ -1,19 +1,31 @@
 -- What a word of a line is read as: a number, or bytes.
-use Rattle.std.specs.Prelude.{◌+◌, ◌*◌, ◌%◌, ◌^◌, ◌==◌, ◌&&◌, ◌||◌, not, nat_lt, nat_le, ℕ, Bool, List, length, slice_index, Option, Some, None, if◌then◌else◌}
-use Rattle.std.specs.List.{list_all}
+use Rattle.std.specs.Prelude.{◌≡◌, ◌+◌, ◌*◌, ◌%◌, ◌^◌, ◌==◌, ◌&&◌, ◌||◌, not, nat_lt, nat_le, ℕ, Bool, List, [], ◌∷◌, length, slice_index, Option, Some, None, if◌then◌else◌}
+use Rattle.std.specs.List.{list_all, slice_split}
 use Rattle.std.specs.Result.{result_ok}
 use Rattle.std.specs.Char.{is_ascii_digit}
 use Rattle.std.specs.Str.Parse.{digits_value}
 use Rattle.hex.specs.Hex.{decode_of}
 use Rattle.kc_types.specs.Limits.{page_size}
 
+-- some digits, with no leading zero but a single one
+abbrev pub has_no_leading_zero : List ℕ → Bool
+has_no_leading_zero digits = not (length digits == 0) && (length digits == 1 || not (slice_index digits 0 == 48))
+
 -- digits with no leading zero
 abbrev pub is_numeral : List ℕ → Bool
-is_numeral word = list_all is_ascii_digit word && not (length word == 0) && (length word == 1 || not (slice_index word 0 == 48))
+is_numeral word = list_all is_ascii_digit word && has_no_leading_zero word
 
 -- a number of 32 bits
 unfoldable pub number_in : List ℕ → Option ℕ
 number_in word = if is_numeral word && nat_lt (digits_value 10 word) (2 ^ 32) then Some (digits_value 10 word) else None
+
+-- a line that is one word, as a number
+abbrev pub IsLastNumber : List ℕ → Option ℕ → Type 0
+IsLastNumber line number = (slice_split (λ b. b == 32) line ≡ line ∷ []) × (number ≡ number_in line)
+
+-- the first word of a line as a number, and what stands behind the space after it
+abbrev pub IsFirstNumber : List ℕ → Option ℕ → List ℕ → Type 0
+IsFirstNumber line number rest = (word : List ℕ) × (slice_split (λ b. b == 32) line ≡ word ∷ slice_split (λ b. b == 32) rest) × (number ≡ number_in word)
 
 -- a lower case hexadecimal digit
 abbrev pub is_lower_digit : ℕ → Bool

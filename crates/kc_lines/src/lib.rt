@@ -9,5 +9,5 @@ mod room;
 
 pub use cuts::{split_line, split_word};
 pub use data_word::{decode_into, read_data};
-pub use number::read_number;
+pub use number::{read_number, split_number};
 pub use room::{push_bytes, push_digits, push_number};
