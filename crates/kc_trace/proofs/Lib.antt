@@ -1,5 +1,6 @@
 pub mod Lines
 pub mod Spelled
+pub mod Cuts
 pub mod Runs
 pub mod Traces
 pub mod ConfigMembers

@@ -31,7 +31,7 @@ then_some : {A B : Type 0} (f : A → Option B) (o : Option A) (y : B) → optio
 then_some f (Some x) y e = (x, refl, e)
 then_some f None y e = absurd cc
 
-name_is : (name text : List ℕ) → bytes_eq name text ≡ true → name ≡ text
+pub name_is : (name text : List ℕ) → bytes_eq name text ≡ true → name ≡ text
 name_is name text e = (bytes_eq-Decides name text).0 e
 
 is_named : (name text : List ℕ) (arguments : List (List ℕ)) (call : Call) → bytes_eq name text ≡ true → words_of call ≡ text ∷ arguments → IsRanged call → IsSpelled (name ∷ arguments) call

@@ -1,8 +1,11 @@
 //! One line as a call.
-ghost use Rattle.std.specs.Prelude.{◌≡◌, ◌==◌, IfOk};
-ghost use Rattle.kc_trace.specs.Reading.{one_word, with_one_number, with_two_numbers, with_three_numbers, with_four_numbers, two_words, three_words, host_access, four_words, five_words, read_guest_access, six_words, call_of_words, call_of};
+ghost use Rattle.std.specs.Prelude.{◌≡◌, codes, IfOk, option_map, option_and_then};
+ghost use Rattle.std.specs.Str.{bytes_eq};
+ghost use Rattle.kc_types.specs.declared.call.Call.TheVariants.{HostWrite};
+ghost use Rattle.kc_lines.specs.Words.{data_of};
+ghost use Rattle.kc_trace.specs.Reading.{one_word, with_one_number, with_two_numbers, with_three_numbers, with_four_numbers, read_guest_access, call_of};
 
-use kc_lines::{read_data, read_number, split_word};
+use kc_lines::{read_data, read_number, split_number, split_word};
 use kc_types::Call;
 use std::alloc::{AllocError, Global};
 
@@ -119,51 +122,72 @@ fn with_four_numbers(name: &[u8], first: u32, second: u32, third: u32, fourth: u
     }
 }
 
-fn read_two_words(name: &[u8], first: &[u8]) -> Option<Call>
-    ensures { result ≡ two_words name.now first.now }
+fn read_two_words(name: &[u8], first: Option<u32>) -> Option<Call>
+    ensures { result ≡ option_and_then (with_one_number name.now) first }
 {
-    with_one_number(name, read_number(first)?)
+    with_one_number(name, first?)
 }
 
-fn read_three_words(name: &[u8], first: &[u8], second: &[u8]) -> Option<Call>
-    ensures { result ≡ three_words name.now first.now second.now }
+fn read_three_words(name: &[u8], first: Option<u32>, second: Option<u32>) -> Option<Call>
+    ensures { result ≡ option_and_then (λ a. option_and_then (with_two_numbers name.now a) second) first }
 {
-    with_two_numbers(name, read_number(first)?, read_number(second)?)
+    with_two_numbers(name, first?, second?)
 }
 
-/// Two numbers, and a number or bytes.
-fn read_host_access(
-    alloc: Global,
+fn read_four_words(
     name: &[u8],
-    first: u32,
-    second: u32,
+    first: Option<u32>,
+    second: Option<u32>,
+    third: Option<u32>,
+) -> Option<Call>
+    ensures { result ≡ option_and_then (λ a. option_and_then (λ b. option_and_then (with_three_numbers name.now a b) third) second) first }
+{
+    with_three_numbers(name, first?, second?, third?)
+}
+
+fn read_five_words(
+    name: &[u8],
+    first: Option<u32>,
+    second: Option<u32>,
+    third: Option<u32>,
+    fourth: Option<u32>,
+) -> Option<Call>
+    ensures { result ≡ option_and_then (λ a. option_and_then (λ b. option_and_then (λ c. option_and_then (with_four_numbers name.now a b c) fourth) third) second) first }
+{
+    with_four_numbers(name, first?, second?, third?, fourth?)
+}
+
+/// Two numbers and bytes.
+fn read_host_write(
+    alloc: Global,
+    first: Option<u32>,
+    second: Option<u32>,
     last: &[u8],
 ) -> Result<Option<Call>, AllocError>
-    ensures { IfOk result (λ found. found ≡ host_access name.now first second last.now) }
+    ensures { IfOk result (λ found. found ≡ option_and_then (λ a. option_and_then (λ b. option_map (HostWrite a b) (data_of last.now)) second) first) }
 {
-    if name == b"hwrite".as_slice() {
-        return Ok(read_data(alloc, last)?.map(|data| Call::HostWrite {
-            frame: first,
-            offset: second,
-            data,
-        }));
-    }
-    let Some(third) = read_number(last) else {
+    let (Some(frame), Some(offset)) = (first, second) else {
         return Ok(None);
     };
-    Ok(with_three_numbers(name, first, second, third))
+    Ok(read_data(alloc, last)?.map(|data| Call::HostWrite {
+        frame,
+        offset,
+        data,
+    }))
 }
 
 /// Four numbers, and a number or bytes.
 fn read_guest_access(
     alloc: Global,
     name: &[u8],
-    place: (u32, u32, u32, u32),
+    numbers: (Option<u32>, Option<u32>, Option<u32>, Option<u32>),
     last: &[u8],
 ) -> Result<Option<Call>, AllocError>
-    ensures { IfOk result (λ found. found ≡ read_guest_access name.now place.0 place.1 place.2 place.3 last.now) }
+    ensures { IfOk result (λ found. found ≡ option_and_then (λ a. option_and_then (λ b. option_and_then (λ c. option_and_then (λ d. read_guest_access name.now a b c d last.now) numbers.3) numbers.2) numbers.1) numbers.0) }
 {
-    let (vm, vcpu, gfn, offset) = place;
+    let (Some(vm), Some(vcpu), Some(gfn), Some(offset)) = numbers else {
+        return Ok(None);
+    };
     if name == b"gwrite".as_slice() {
         Ok(read_data(alloc, last)?.map(|data| Call::GuestWrite {
             vm,
@@ -185,81 +209,43 @@ fn read_guest_access(
     }
 }
 
-fn read_four_words(
-    alloc: Global,
-    name: &[u8],
-    first: &[u8],
-    second: &[u8],
-    third: &[u8],
-) -> Result<Option<Call>, AllocError>
-    ensures { IfOk result (λ found. found ≡ four_words name.now first.now second.now third.now) }
+fn is_host_write(name: &[u8]) -> bool
+    ensures { result ≡ bytes_eq name.now (codes "hwrite") }
 {
-    let (Some(first), Some(second)) = (read_number(first), read_number(second)) else {
-        return Ok(None);
-    };
-    read_host_access(alloc, name, first, second, third)
+    name == b"hwrite".as_slice()
 }
 
-fn read_five_words(
-    name: &[u8],
-    first: &[u8],
-    second: &[u8],
-    third: &[u8],
-    fourth: &[u8],
-) -> Option<Call>
-    ensures { result ≡ five_words name.now first.now second.now third.now fourth.now }
-{
-    with_four_numbers(
-        name,
-        read_number(first)?,
-        read_number(second)?,
-        read_number(third)?,
-        read_number(fourth)?,
-    )
-}
-
-fn read_six_words(
-    alloc: Global,
-    name: &[u8],
-    first: &[u8],
-    second: &[u8],
-    third: &[u8],
-    fourth: &[u8],
-    fifth: &[u8],
-) -> Result<Option<Call>, AllocError>
-    ensures { IfOk result (λ found. found ≡ six_words name.now first.now second.now third.now fourth.now fifth.now) }
-{
-    let (Some(first), Some(second)) = (read_number(first), read_number(second)) else {
-        return Ok(None);
-    };
-    let (Some(third), Some(fourth)) = (read_number(third), read_number(fourth)) else {
-        return Ok(None);
-    };
-    read_guest_access(alloc, name, (first, second, third, fourth), fifth)
-}
-
-/// The call that a line is, without its newline.
-#[tactic(auto, unfolding(crate::specs::Reading::call_of_words))]
+/// The call that a line is, without its newline. Each word is gone over once, as a number where it may be one.
 pub fn call_of_line(alloc: Global, line: &[u8]) -> Result<Option<Call>, AllocError>
     ensures { IfOk result (λ found. found ≡ call_of line.now) }
 {
     let Some((name, rest)) = split_word(line) else {
         return Ok(read_one_word(line));
     };
-    let Some((first, rest)) = split_word(rest) else {
-        return Ok(read_two_words(name, rest));
+    let (first, rest) = split_number(rest);
+    let Some(rest) = rest else {
+        return Ok(read_two_words(name, first));
     };
-    let Some((second, rest)) = split_word(rest) else {
-        return Ok(read_three_words(name, first, rest));
+    let (second, rest) = split_number(rest);
+    let Some(rest) = rest else {
+        return Ok(read_three_words(name, first, second));
     };
-    let Some((third, rest)) = split_word(rest) else {
-        return read_four_words(alloc, name, first, second, rest);
+    if is_host_write(name) {
+        let None = split_word(rest) else {
+            return Ok(None);
+        };
+        return read_host_write(alloc, first, second, rest);
+    }
+    let (third, rest) = split_number(rest);
+    let Some(rest) = rest else {
+        return Ok(read_four_words(name, first, second, third));
     };
-    let Some((fourth, rest)) = split_word(rest) else {
-        return Ok(read_five_words(name, first, second, third, rest));
+    let (fourth, rest) = split_number(rest);
+    let Some(rest) = rest else {
+        return Ok(read_five_words(name, first, second, third, fourth));
     };
     let None = split_word(rest) else {
         return Ok(None);
     };
-    read_six_words(alloc, name, first, second, third, fourth, rest)
+    read_guest_access(alloc, name, (first, second, third, fourth), rest)
 }
