@@ -1,12 +1,11 @@
 -- Members, digests and values of JSON, counted and gathered.
-use Rattle.std.proofs.Common.{◌≡◌, refl, ap, suc, List, [], ◌∷◌, ◌++◌, length, ℕ, Option, Some, None, Bool, true, false, cond, sym}
+use Rattle.std.proofs.Common.{◌≡◌, refl, ap, suc, List, [], ◌∷◌, ◌++◌, length, ℕ, Option, None, Bool, true, false, cond}
 use Rattle.std.specs.Prelude.{String, option_map}
 use Rattle.std.specs.declared.alloc.Global.{Global}
 use Rattle.std.specs.Str.{IsUtf8, is_utf8}
 use Rattle.std.proofs.lemmas.Str.{IsUtf8-from_is_utf8, is_utf8-from_IsUtf8}
 use Rattle.serde_json.specs.declared.value.Value.{Value}
 use Rattle.serde_json.specs.View.{members_view}
-use Rattle.serde_json.specs.Data.{Data}
 use Rattle.serde_json.specs.Read.{read as read_text}
 use Rattle.kc_trace.specs.ConfigText.{member_count, value_in}
 
@@ -18,12 +17,12 @@ pub member_count-view : (entries : List (String Global × Value)) → member_cou
 member_count-view [] = refl
 member_count-view (e ∷ entries) = ap suc (member_count-view entries)
 
-pub value_some : (bytes : List ℕ) (value : Data) → IsUtf8 bytes → read_text bytes ≡ Some value → Some value ≡ value_in bytes
-value_some bytes value text e = rw (is_utf8-from_IsUtf8 bytes text, e) refl
+pub value_of_text : (bytes : List ℕ) → IsUtf8 bytes → value_in bytes ≡ read_text bytes
+value_of_text bytes text = rw (is_utf8-from_IsUtf8 bytes text)
 
-value_of_test : (bytes : List ℕ) (b : Bool) → (b ≡ true → read_text bytes ≡ None) → None ≡ cond b (read_text bytes) None
-value_of_test bytes true h = sym (h refl)
-value_of_test bytes false h = refl
+none_of_test : (bytes : List ℕ) (b : Bool) → (b ≡ true → ⊥) → cond b (read_text bytes) None ≡ None
+none_of_test bytes true h = absurd (h refl)
+none_of_test bytes false h = refl
 
-pub value_none : (bytes : List ℕ) → (IsUtf8 bytes → read_text bytes ≡ None) → None ≡ value_in bytes
-value_none bytes h = value_of_test bytes (is_utf8 bytes) (λ e. h (IsUtf8-from_is_utf8 bytes e))
+pub value_of_no_text : (bytes : List ℕ) → (IsUtf8 bytes → ⊥) → value_in bytes ≡ None
+value_of_no_text bytes h = none_of_test bytes (is_utf8 bytes) (λ e. h (IsUtf8-from_is_utf8 bytes e))

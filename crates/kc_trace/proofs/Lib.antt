@@ -4,4 +4,6 @@ pub mod Cuts
 pub mod Runs
 pub mod Traces
 pub mod ConfigMembers
+pub mod KeptValues
+pub mod Turns
 pub mod Written

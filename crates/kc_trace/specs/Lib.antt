@@ -4,4 +4,5 @@ pub mod Machine
 pub mod Trace
 pub mod ReplyText
 pub mod ConfigText
+pub mod ConfigValue
 pub mod Faults

@@ -3,13 +3,14 @@ ghost use Rattle.std.specs.Prelude.{◌≡◌, ◌≤◌, length, IfOk, option_m
 ghost use Rattle.serde_json.specs.View.{view, items_view};
 ghost use Rattle.serde_json.specs.Find.{as_object};
 ghost use Rattle.kc_trace.specs.Faults.{config_fault_words};
-ghost use Rattle.kc_trace.specs.ConfigText.{value_in, number_under, digest_of_value, digests_in, member_count, fields_in, version_in, shape_in, configured, config_in, ConfigGives};
+ghost use Rattle.kc_trace.specs.ConfigText.{number_under, digest_of_value, digests_in, member_count, fields_in, version_in, shape_in, configured, config_in, ConfigGives};
 
+use crate::config_value::read_value;
 use hex::FromHex;
+use json::Invalid;
 use kc_types::{Config, ConfigFault, Version};
 use serde_json::Value;
-use serde_json::error::Category;
-use std::alloc::{AllocError, Global};
+use std::alloc::{AllocError, AllocFailed, Global};
 use std::error::Error;
 use std::fmt;
 use std::marker::Model;
@@ -55,6 +56,39 @@ impl fmt::Display for ConfigTextFault {
 }
 
 impl Error for ConfigTextFault {}
+
+impl From<Invalid> for ConfigTextFault {
+    ghost use Rattle.kc_trace.specs.declared.config_text.ConfigTextFault.TheVariants.{NotJson};
+    ghost use Rattle.std.specs.Prelude.{◌≡◌};
+
+    ghost from_gives = { λ _ fault. fault ≡ NotJson };
+
+    fn from(_invalid: Invalid) -> ConfigTextFault {
+        ConfigTextFault::NotJson
+    }
+}
+
+impl From<AllocError> for ConfigTextFault {
+    ghost use Rattle.kc_trace.specs.declared.config_text.ConfigTextFault.TheVariants.{Memory};
+    ghost use Rattle.std.specs.Prelude.{◌≡◌};
+
+    ghost from_gives = { λ _ fault. fault ≡ Memory };
+
+    fn from(_refused: AllocError) -> ConfigTextFault {
+        ConfigTextFault::Memory
+    }
+}
+
+impl<T: Drop> From<AllocFailed<T>> for ConfigTextFault {
+    ghost use Rattle.kc_trace.specs.declared.config_text.ConfigTextFault.TheVariants.{Memory};
+    ghost use Rattle.std.specs.Prelude.{◌≡◌};
+
+    ghost from_gives = { λ _ fault. fault ≡ Memory };
+
+    fn from(_refused: AllocFailed<T>) -> ConfigTextFault {
+        ConfigTextFault::Memory
+    }
+}
 
 /// What an object of these keys holds, before it is judged.
 #[derive(Drop)]
@@ -190,39 +224,19 @@ fn version_of_value(value: &Value) -> Option<Version>
     }
 }
 
-/// The value that bytes are, or `None` where they are not JSON.
-fn value_of(alloc: Global, bytes: &[u8]) -> Result<Option<Value>, AllocError>
-    ensures { IfOk result (λ found. option_map view found ≡ value_in bytes.now) }
-{
-    match Value::from_slice(alloc, bytes) {
-        Ok(value) => Ok(Some(value)),
-        Err(error) => match error.classify() {
-            Category::Memory => Err(AllocError),
-            _ => Ok(None),
-        },
-    }
-}
-
 /// The configuration that a JSON text says: an object of exactly the keys `frames`, `core`, `host` and `leaves`
 /// with whole numbers of 32 bits, and `approved` with an array of texts of 64 hexadecimal digits each, upper or
 /// lower case; a key `version` may stand beside them, with 1 or 2, and without it the version is 1. Of a key that
-/// stands twice the last value counts. A number with a fraction or an exponent is no whole number.
+/// stands twice the last value counts. A number with a fraction or an exponent is no whole number. Of the text no more is
+/// kept than a configuration may say.
 #[tactic(auto, unfolding(crate::specs::ConfigText::config_in))]
 pub fn read_config(alloc: Global, bytes: &[u8]) -> Result<Config, ConfigTextFault>
     // The configuration or the fault of the text, unless memory runs out.
     ensures exact { ConfigGives result (config_in bytes.now) }
 {
-    let Ok(value) = value_of(alloc, bytes) else {
-        return Err(ConfigTextFault::Memory);
-    };
-    let Some(value) = value else {
-        return Err(ConfigTextFault::NotJson);
-    };
-    let Ok(fields) = Fields::of_value(alloc, &value) else {
-        return Err(ConfigTextFault::Memory);
-    };
-    let Some(fields) = fields else {
-        return Err(ConfigTextFault::BadShape);
-    };
-    fields.into_config()
+    let value = read_value(alloc, bytes)?;
+    match Fields::of_value(alloc, &value)? {
+        Some(fields) => fields.into_config(),
+        None => Err(ConfigTextFault::BadShape),
+    }
 }

@@ -2,6 +2,7 @@
 #![tactic(auto)]
 
 mod config_text;
+mod config_value;
 mod fault;
 pub mod laws;
 mod line;
