@@ -3,6 +3,7 @@ pub mod Apart
 pub mod Zips
 pub mod Taking
 pub mod Putting
+pub mod Wiping
 pub mod Ready
 pub mod Onward
 pub mod Dealing

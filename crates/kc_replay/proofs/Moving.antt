@@ -1,18 +1,14 @@
 -- Parts that are a state's at some resources, taken out and put back.
-use Rattle.std.proofs.Common.{ℕ, ◌≡◌, ◌<◌, ◌≤◌, ◌⊎◌, inl, inr, Bool, true, false, cond, not, ◌&&◌, ◌||◌, nat_lt, Option, Some, None, refl, sym, ap, ◌∙◌, subst, arith}
+use Rattle.std.proofs.Common.{◌≡◌, ◌⊎◌, inl, inr, Bool, true, false, cond, not, ◌&&◌, ◌||◌, Option, Some, None, refl, sym, ap, ◌∙◌}
 use Rattle.std.specs.Option.{option_map}
-use Rattle.std.proofs.lemmas.Bool.{ltb-true, lt-ltb}
-use Rattle.std.proofs.lemmas.Option.{same_Some}
-use Rattle.kc_types.specs.Configuration.{Configuration, slot_count}
+use Rattle.kc_types.specs.Configuration.{Configuration}
 use Rattle.kc_types.specs.declared.call.Call.{Call}
-use Rattle.kc_types.specs.declared.owner.Owner.{Owner}
 use Rattle.kc_types.specs.declared.resource.Resource.TheVariants as resource
-use Rattle.kc_model.specs.State.{State, untouched, empty_slot}
+use Rattle.kc_model.specs.State.{State}
 use Rattle.kc_model.specs.Lawful.{IsLawful}
-use Rattle.kc_model.specs.Links.{list_of}
 use Rattle.kc_model.specs.Linked.{LinkedPart, linked_part_of}
 use Rattle.kc_model.specs.Next.{next}
-use Rattle.kc_model.specs.Resources.{Resource, Resources, is_in, need}
+use Rattle.kc_model.specs.Resources.{Resource, Resources, need}
 use Rattle.kc_model.proofs.Lawful.LawfulTraces.{orderly-is, lists-all}
 use Rattle.kc_model.proofs.Local.LinksKept.{links-kept}
 use Rattle.kc_model.proofs.States.Sizes.{sized-next}
@@ -25,7 +21,7 @@ use Rattle.kc_parts.specs.States.{state_of}
 use Rattle.kc_core.specs.KCore.{IsCore}
 use Rattle.kc_replay.specs.Wave.{HasPlaces}
 use Rattle.kc_replay.specs.Moving.{in_both, in_first, in_either, IsMoving}
-use Rattle.kc_replay.proofs.Taking.{left-whole, slots-whole}
+use Rattle.kc_replay.proofs.Taking.{left-whole, places-whole}
 use Rattle.kc_replay.proofs.Putting.{core-again}
 
 -- the slot of what is held
@@ -100,7 +96,7 @@ same m here there h is equal = record { parts = λ r. rw (← equal r) (is.parts
 whole : (config : Configuration) (h : Held) → IsCore config h → IsRestricted (state_of config h) (exists_in config) h × HasPlaces config h
 whole config h is =
     let left = left-whole config h is (λ k r. false) in
-    (record { parts = left.parts; capacities = left.capacities }, record { numbers = is.whole.numbers; slots = slots-whole config h is })
+    (record { parts = left.parts; capacities = left.capacities }, places-whole config h is)
 
 pub moving : IsMoving
 moving = record { whole = whole; taken = taken; stays = stays; joined = joined; same = same; core = core-again }

@@ -22,7 +22,7 @@ use Rattle.kc_footprints.specs.Reordering.{after_order, AnswersAlike}
 use Rattle.kc_footprints.proofs.Reordered.{alike, is_order_free}
 use Rattle.kc_replay.specs.Wave.{IsWave, AreReplied, wave_calls}
 use Rattle.kc_footprints.specs.Plan.{AreCallNumbers, AreCallsOf}
-use Rattle.kc_replay.proofs.Ready.{feet-of-wave}
+use Rattle.kc_replay.proofs.Ready.{config-order, feet-of-wave}
 
 -- the calls of the waves up to w are taken, in whatever order, and their replies stand in their places
 pub record IsUpTo (m : State) (calls : List Call) (wave : ℕ → ℕ) (w : ℕ) (store : State) (replies : List Reply) : Type 0 where
@@ -145,6 +145,9 @@ same-replies m (c ∷ cs) (r ∷ rs) size each =
     ap (λ (x : Reply). x ∷ rs) (each 0 (omega arith))
     ∙ ap (λ (xs : List Reply). (next m c).0 ∷ xs)
     (same-replies (next m c).1 cs rs (omega (arith, size)) (λ k low. each (suc k) (omega (arith, low)) ∙ ap (λ (s : State). (next s (call_at cs k)).0) (state_at-rest m c cs k)))
+
+pub up-to-config : (m : State) (calls : List Call) (wave : ℕ → ℕ) (w : ℕ) (store : State) (replies : List Reply) → IsUpTo m calls wave w store replies → store.config ≡ m.config
+up-to-config m calls wave w store replies up = ap (λ (s : State). s.config) up.state ∙ config-order calls m up.order
 
 module _ (m : State) (calls : List Call) (is : IsLawful m) (wave : ℕ → ℕ) (plan : IsWaves m calls wave) where
   -- no call is done

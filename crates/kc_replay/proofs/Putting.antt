@@ -1,20 +1,19 @@
 -- What the calls of a wave left goes back into the store.
-use Rattle.std.proofs.Common.{ℕ, suc, ◌≡◌, ◌≢◌, ◌<◌, ◌≤◌, ◌+◌, ◌⊎◌, inl, inr, Bool, true, false, cond, nat_lt, List, [], ◌∷◌, ◌++◌, length, length-append, All, get_or, set, map, Option, Some, None, refl, sym, ap, ◌∙◌, subst, arith}
+use Rattle.std.proofs.Common.{ℕ, suc, ◌≡◌, ◌≢◌, ◌<◌, ◌≤◌, ◌+◌, ◌⊎◌, inl, inr, Bool, true, false, cond, nat_lt, List, [], ◌∷◌, ◌++◌, length, length-append, All, get_or, set, Option, Some, None, refl, sym, ap, ◌∙◌, subst, arith}
 use Rattle.std.specs.List.{AllZip, range_with_len}
 use Rattle.std.specs.Option.{option_map}
 use Rattle.std.proofs.lemmas.Bool.{ltb-true, lt-ltb, cases_eq}
-use Rattle.std.proofs.lemmas.Option.{same_Some}
 use Rattle.std.proofs.lemmas.List.{get_or-set_same, get_or-set_other}
 use Rattle.kc_types.specs.declared.reply.Reply.{Reply}
 use Rattle.kc_types.specs.declared.reply.Reply.TheVariants.{Done}
 use Rattle.std.proofs.lemmas.List.FromFn.{get_or-range_with_len, length-range_with_len}
-use Rattle.kc_types.specs.Configuration.{Configuration, slot_count}
+use Rattle.kc_types.specs.Configuration.{slot_count}
 use Rattle.kc_types.specs.declared.call.Call.{Call}
 use Rattle.kc_types.specs.declared.link.Ends.{Ends}
 use Rattle.kc_types.specs.declared.owner.Owner.{Owner}
 use Rattle.kc_types.specs.declared.owner.Owner.TheVariants.{Core, Host, Free, Vm}
 use Rattle.kc_types.specs.declared.resource.Resource.TheVariants as resource
-use Rattle.kc_model.specs.State.{State, frame_at, untouched, empty_slot, zero_page}
+use Rattle.kc_model.specs.State.{State, frame_at, untouched, empty_slot}
 use Rattle.kc_model.specs.Lawful.{IsLawful}
 use Rattle.kc_model.specs.Resources.{Resource, Resources, is_in, pick}
 use Rattle.kc_model.specs.Local.{cut}
@@ -23,18 +22,16 @@ use Rattle.kc_model.specs.Linked.{LinkedPart, linked_part_of}
 use Rattle.kc_model.specs.Footprints.{state_at, reply_at}
 use Rattle.kc_model.proofs.Lawful.LawfulTraces.{lawful-at}
 use Rattle.kc_page.specs.declared.page.Page.{Page}
-use Rattle.kc_page.specs.Page.{scrubbed_page}
 use Rattle.kc_vms.specs.Vm.{VmSlot}
 use Rattle.kc_parts.specs.Cuts.{HeldPart, held_at, IsJoin, FitsInto}
 use Rattle.kc_parts.specs.Cuts.HeldPart.{page_part, slot_part, ends_part}
 use Rattle.kc_parts.specs.Parts.{Held, IsRising, place_of, page_at, vm_at}
-use Rattle.kc_parts.specs.States.{state_of, here_of, IsLinked}
+use Rattle.kc_parts.specs.States.{state_of, here_of}
 use Rattle.kc_parts.proofs.Places.{place-found}
 use Rattle.kc_core.specs.KCore.{IsCore}
-use Rattle.kc_core.proofs.Wiped.{page-clean}
 use Rattle.kc_model.proofs.States.Changes.{exists}
 use Rattle.kc_parts.specs.Restricted.{seen_part, exists_in, IsRestricted, IsClosed}
-use Rattle.kc_replay.specs.Wave.{IsRest, HasPlaces, HasNoBytes, down_from, wave_calls, feet_at, IsWave, IsTaskAt, IsFinishedAt}
+use Rattle.kc_replay.specs.Wave.{IsRest, HasPlaces, down_from, wave_calls, feet_at, IsWave, IsTaskAt, IsFinishedAt}
 use Rattle.kc_replay.specs.declared.task.Finished.{Finished}
 use Rattle.kc_model.proofs.Local.Orderly.{owned-is}
 use Rattle.kc_parts.proofs.Restricting.{linked-cut, state-cut, here-is}
@@ -220,11 +217,3 @@ module _ (m : State) (calls : List Call) (feet : ℕ → Resources) (members : L
 
   pub kept-more : (k : ℕ) → ((i : ℕ) → i < length members → get_or members i 0 ≢ k) → get_or (set replies number reply) k Done ≡ get_or replies k Done
   kept-more k none = get_or-set_other replies number k reply Done (λ e. none j low (sym is ∙ sym e))
-
--- pages that were wiped have no bytes but zeros
-wiped-page : (there : Option Page) (page : Page) → option_map scrubbed_page there ≡ Some page → page.bytes ≡ zero_page
-wiped-page None page e = cc
-wiped-page (Some p) page e = ap (λ (x : Page). x.bytes) (sym (same_Some (scrubbed_page p) page e))
-
-pub no-bytes : (config : Configuration) (h : Held) → HasNoBytes (record h { pages = map scrubbed_page h.pages })
-no-bytes config h f page e = wiped-page (page_at h f) page (sym (page-clean config h f) ∙ e)

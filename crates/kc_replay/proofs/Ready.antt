@@ -22,7 +22,7 @@ use Rattle.kc_parts.specs.Restricted.{exists_in}
 use Rattle.kc_replay.specs.Wave.{AreFeet, wave_calls, feet_at}
 use Rattle.kc_replay.proofs.Taking.{wave-call, wave-length}
 
-config-order : (calls : List Call) (store : State) (order : List ℕ) → (after_order calls store order).config ≡ store.config
+pub config-order : (calls : List Call) (store : State) (order : List ℕ) → (after_order calls store order).config ≡ store.config
 config-order calls store [] = refl
 config-order calls store (k ∷ ks) = config-order calls (next store (call_at calls k)).1 ks ∙ (sized-next store (call_at calls k)).config
 

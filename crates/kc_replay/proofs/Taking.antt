@@ -42,7 +42,7 @@ use Rattle.kc_core.specs.Applying.{IsAble, IsAnswer}
 use Rattle.kc_replay.specs.declared.task.Task.{Task}
 use Rattle.kc_replay.specs.declared.task.Finished.{Finished}
 use Rattle.kc_replay.specs.Working.{IsTaskOf, Finishes}
-use Rattle.kc_replay.specs.Wave.{AreFeet, out, IsRest, down_from, wave_calls, feet_at, IsWave, IsTaskAt, IsFinishedAt}
+use Rattle.kc_replay.specs.Wave.{AreFeet, out, IsRest, HasPlaces, down_from, wave_calls, feet_at, IsWave, IsTaskAt, IsFinishedAt}
 use Rattle.kc_replay.proofs.Apart.{config-at, closed-at, needs-at, taken, rest-left}
 use Rattle.kc_core.proofs.Restricted.{able-cut, reply-is, restricted-after}
 use Rattle.kc_links.proofs.Neighbours.{link_in-linked, chain-ends}
@@ -84,13 +84,16 @@ module _ (config : Configuration) (h : Held) (is : IsCore config h) where
           list-here (Vm v) vm.slot.frames f page (ap (option_map (λ (vm : VmSlot). vm.slot.frames)) e) (sym (ap (λ (s : Slot). s.frames) (slot-seen config h v v_low ∙ ap (slot_in (links_of h)) e))) low at
           ((lists-all (state_of config h) is.lawful).slots v f v_low own)
 
-  -- it has a place for each slot
-  pub slots-whole : (v : ℕ) → v < slot_count config → HasPlace h.vms.numbers v
+  -- it has all places
+  slots-whole : (v : ℕ) → v < slot_count config → HasPlace h.vms.numbers v
   slots-whole v low = by_vm (vm_at h v) refl
     where
       by_vm : (there : Option VmSlot) → vm_at h v ≡ there → HasPlace h.vms.numbers v
       by_vm None e = let some = is.whole.vms v low in let no = rw e at some in cc
       by_vm (Some vm) e = place-held h.vms.numbers h.vms.slots v vm e
+
+  pub places-whole : HasPlaces config h
+  places-whole = record { numbers = is.whole.numbers; slots = slots-whole }
 
   -- a whole core has all of its state
   pub left-whole : (feet : ℕ → Resources) → IsRest (state_of config h) feet [] h

@@ -95,6 +95,11 @@ pub record AreReplied (m : State) (calls : List Call) (members : List ℕ) (old 
 abbrev pub HasNoBytes : Held → Type 0
 HasNoBytes h = (f : ℕ) (page : Page) → page_at h f ≡ Some page → page.bytes ≡ zero_page
 
+-- what is left of a core that failed, wiped: it has the places of the configuration, and no page with bytes but zeros
+pub record IsWiped (config : Configuration) (left : Held) : Type 0 where
+  pub places : HasPlaces config left
+  pub bytes : HasNoBytes left
+
 -- the calls of a wave are taken, in some order, and their replies stand in their places
 pub record IsWaveTaken (m : State) (calls : List Call) (members : List ℕ) (old new : List Reply) (left : State) : Type 0 where
   pub order : List ℕ

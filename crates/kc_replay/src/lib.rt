@@ -4,6 +4,7 @@
 
 mod budget;
 mod deal;
+mod failed;
 mod fault;
 mod lanes;
 pub mod laws;

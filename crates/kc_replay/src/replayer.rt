@@ -148,8 +148,10 @@ impl Replayer {
                 self.fed += calls.len();
                 Ok(replies)
             },
-            Err(ReplayFault::Start) => Err(ReplayFault::Start),
-            Err(_) => Err(ReplayFault::Memory),
+            Err(failed) => match failed.fault {
+                ReplayFault::Start => Err(ReplayFault::Start),
+                _ => Err(ReplayFault::Memory),
+            },
         }
     }
 

@@ -1,5 +1,5 @@
 //! The calls of a trace, or of a segment of one, from a core on.
-ghost use Rattle.std.specs.Prelude.{◌≡◌, ◌≢◌, ℕ, ◌<◌, ◌≤◌, List, length, Err, OnOk, IfOk};
+ghost use Rattle.std.specs.Prelude.{◌≡◌, ◌≢◌, ℕ, ◌<◌, ◌≤◌, List, length, OnOk, IfOk, IfErr};
 ghost use Rattle.std.specs.List.Sorted.{IsPermutation};
 ghost use Rattle.kc_types.specs.Limits.{call_limit};
 ghost use Rattle.kc_model.specs.Safety.{IsSafe};
@@ -8,13 +8,14 @@ ghost use Rattle.kc_model.specs.Lawful.{IsLawful};
 ghost use Rattle.kc_model.specs.Next.{replies_from, state_after};
 ghost use Rattle.kc_model.specs.Footprints.{state_at};
 ghost use Rattle.kc_footprints.specs.Footprints.{AreFootprints};
-ghost use Rattle.kc_replay.specs.Wave.{IsWave, IsWaveTaken, AreReplied, wave_calls, foot_of};
+ghost use Rattle.kc_replay.specs.declared.fault.ReplayFault.TheVariants.{Start};
+ghost use Rattle.kc_replay.specs.Wave.{IsWave, IsWaveTaken, IsWiped, AreReplied, wave_calls, foot_of};
 ghost use Rattle.kc_footprints.specs.Plan.{AreCallNumbers};
 
 use crate::Gate;
 use crate::budget::Budget;
 use crate::deal::deal;
-use crate::fault::ReplayFault;
+use crate::failed::Failed;
 use crate::trace::footprints;
 use crate::wave::run_wave;
 use kc_core::KCore;
@@ -43,6 +44,7 @@ fn answer_wave<G: Gate>(
     requires long { length replies.old ≡ length calls.now }
     ensures replies { OnOk result (AreReplied core.old calls.now members.now replies.old replies.new) }
     ensures state { OnOk result (core.new ≡ state_at core.old (wave_calls calls.now members.now) (length members.now)) }
+    ensures config { core.new.config ≡ core.old.config }
 {
     for place in 0..members.len() {
         let number = members[place];
@@ -65,18 +67,21 @@ fn share_wave<R: Threads + Wait + Sync, G: Gate + Sync>(
     workers: usize,
     replies: &mut [Reply],
     gate: &G,
-) -> Result<KCore, ReplayFault>
+) -> Result<KCore, Failed>
     requires wave { IsWave core calls.now (foot_of feet.now) members.now }
     requires rows { length feet.now.rows ≡ length calls.now }
     requires long { length replies.old ≡ length calls.now }
     ensures replies { OnOk result (AreReplied core calls.now members.now replies.old replies.new) }
     ensures state { IfOk result (λ left. left ≡ state_at core (wave_calls calls.now members.now) (length members.now)) }
+    ensures wiped { IfErr result (λ failed. IsWiped core.config failed.left) }
 {
     let (config, mut parts) = core.into_parts();
-    run_wave(
+    match run_wave(
         rt, alloc, &config, &mut parts, calls, feet, members, workers, replies, gate,
-    )?;
-    Ok(KCore::from_parts(alloc, config, parts))
+    ) {
+        Ok(()) => Ok(KCore::from_parts(alloc, config, parts)),
+        Err(fault) => Err(Failed { fault, left: parts }),
+    }
 }
 
 /// So many frames to hash are worth a thread. A frame takes SHA-256 some 12 to 15 µs (8,192 frames 94 to 124 ms on one
@@ -164,12 +169,13 @@ fn take_wave<R: Threads + Wait + Sync, G: Gate + Sync>(
     replies: &mut [Reply],
     gate: &G,
     budget: &mut Budget,
-) -> Result<KCore, ReplayFault>
+) -> Result<KCore, Failed>
     requires wave { (order : List ℕ) → IsPermutation members.now order → IsWave core calls.now (foot_of feet.now) order }
     requires rows { length feet.now.rows ≡ length calls.now }
     requires members { AreCallNumbers (length calls.now) members.now }
     requires long { length replies.old ≡ length calls.now }
-    ensures { IfOk result (IsWaveTaken core calls.now members.now replies.old replies.new) }
+    ensures taken { IfOk result (IsWaveTaken core calls.now members.now replies.old replies.new) }
+    ensures wiped { IfErr result (λ failed. IsWiped core.config failed.left) }
 {
     let work = Work::of(&core, calls, feet, members);
     let worth = if gate.may_wait() {
@@ -181,9 +187,7 @@ fn take_wave<R: Threads + Wait + Sync, G: Gate + Sync>(
     if hands > 1 {
         budget.add_frames(work.frames);
         let Ok(dealt) = deal(alloc, members, hands) else {
-            let mut core = core;
-            core.wipe(rt);
-            return Err(ReplayFault::Memory);
+            return Err(Failed::for_memory(rt, core));
         };
         return share_wave(
             rt,
@@ -199,8 +203,7 @@ fn take_wave<R: Threads + Wait + Sync, G: Gate + Sync>(
     }
     let mut core = core;
     if answer_wave(&mut core, calls, members, replies, gate).is_err() {
-        core.wipe(rt);
-        return Err(ReplayFault::Memory);
+        return Err(Failed::for_memory(rt, core));
     }
     Ok(core)
 }
@@ -228,7 +231,7 @@ fn replay_waves<R: Threads + Wait + Sync, G: Gate + Sync>(
     mut replies: Vec<Reply>,
     gate: &G,
     budget: &mut Budget,
-) -> Result<Outcome, ReplayFault>
+) -> Result<Outcome, Failed>
     requires lawful { IsLawful core }
     requires feet { AreFootprints core calls.now feet.now }
     requires plan { plan.now ≡ feet.now.waves }
@@ -236,6 +239,7 @@ fn replay_waves<R: Threads + Wait + Sync, G: Gate + Sync>(
     ensures blind { IfOk result (λ outcome. ShowsNothing core calls.now outcome.replies.items outcome.core) }
     ensures replies { IfOk result (λ outcome. outcome.replies.items ≡ replies_from core calls.now) }
     ensures state { IfOk result (λ outcome. outcome.core ≡ state_after core calls.now) }
+    ensures wiped { IfErr result (λ failed. IsWiped core.config failed.left) }
 {
     let mut store = core;
     for done in 0..plan.waves() {
@@ -292,17 +296,16 @@ fn answer_by_waves<R: Threads + Wait + Sync, G: Gate + Sync>(
     workers: usize,
     gate: &G,
     budget: &mut Budget,
-) -> Result<Outcome, ReplayFault>
+) -> Result<Outcome, Failed>
     requires lawful { IsLawful core }
     requires short { length calls.now ≤ call_limit }
     ensures blind { IfOk result (λ outcome. ShowsNothing core calls.now outcome.replies.items outcome.core) }
     ensures replies { IfOk result (λ outcome. outcome.replies.items ≡ replies_from core calls.now) }
     ensures state { IfOk result (λ outcome. outcome.core ≡ state_after core calls.now) }
+    ensures wiped { IfErr result (λ failed. IsWiped core.config failed.left) }
 {
     let Ok(prepared) = prepare(alloc, &core, calls) else {
-        let mut core = core;
-        core.wipe(rt);
-        return Err(ReplayFault::Memory);
+        return Err(Failed::for_memory(rt, core));
     };
     let Prepared {
         feet,
@@ -323,6 +326,7 @@ fn answer_each<G: Gate>(
 ) -> Result<Vec<Reply>, Memory>
     ensures replies { IfOk result (λ replies. replies.items ≡ replies_from core.old calls.now) }
     ensures state { OnOk result (core.new ≡ state_after core.old calls.now) }
+    ensures config { core.new.config ≡ core.old.config }
 {
     let mut replies = Vec::with_capacity(alloc, calls.len())?;
     for number in 0..calls.len() {
@@ -341,20 +345,18 @@ fn answer_in_order<R: Threads + Sync, G: Gate>(
     core: KCore,
     calls: &[Call],
     gate: &G,
-) -> Result<Outcome, ReplayFault>
+) -> Result<Outcome, Failed>
     requires lawful { IsLawful core }
     ensures blind { IfOk result (λ outcome. ShowsNothing core calls.now outcome.replies.items outcome.core) }
     ensures replies { IfOk result (λ outcome. outcome.replies.items ≡ replies_from core calls.now) }
     ensures state { IfOk result (λ outcome. outcome.core ≡ state_after core calls.now) }
-    ensures alone { result ≢ Err ReplayFault.Start }
+    ensures wiped { IfErr result (λ failed. IsWiped core.config failed.left) }
+    ensures alone { IfErr result (λ failed. failed.fault ≢ Start) }
 {
     let mut core = core;
     match answer_each(alloc, &mut core, calls, gate) {
         Ok(replies) => Ok(Outcome { replies, core }),
-        Err(_) => {
-            core.wipe(rt);
-            Err(ReplayFault::Memory)
-        },
+        Err(_) => Err(Failed::for_memory(rt, core)),
     }
 }
 
@@ -388,14 +390,15 @@ pub(crate) fn answer_segment<R: Threads + Wait + Sync, G: Gate + Sync>(
     workers: usize,
     gate: &G,
     budget: &mut Budget,
-) -> Result<Outcome, ReplayFault>
+) -> Result<Outcome, Failed>
     requires lawful { IsLawful core }
     requires short { length calls.now ≤ call_limit }
     ensures blind { IfOk result (λ outcome. ShowsNothing core calls.now outcome.replies.items outcome.core) }
     ensures replies { IfOk result (λ outcome. outcome.replies.items ≡ replies_from core calls.now) }
     ensures state { IfOk result (λ outcome. outcome.core ≡ state_after core calls.now) }
+    ensures wiped { IfErr result (λ failed. IsWiped core.config failed.left) }
     ensures safe { IsSafe core calls.now }
-    ensures started { result ≡ Err ReplayFault.Start → 1 < workers }
+    ensures started { IfErr result (λ failed. failed.fault ≡ Start → 1 < workers) }
 {
     budget.add_calls(calls.len());
     if workers > 1 && calls.len() > 1 && is_planned(&core, calls, gate, budget) {

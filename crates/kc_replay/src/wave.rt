@@ -4,7 +4,7 @@ ghost use Rattle.std.specs.List.{AllZip, range_with_len};
 ghost use Rattle.kc_model.specs.Footprints.{state_at};
 ghost use Rattle.kc_core.specs.KCore.{IsCore};
 ghost use Rattle.kc_parts.specs.States.{state_of};
-ghost use Rattle.kc_replay.specs.Wave.{Wave, IsWave, IsRest, HasPlaces, IsTaskAt, IsFinishedAt, AreReplied, HasNoBytes, wave_calls, foot_of, feet_at, down_from};
+ghost use Rattle.kc_replay.specs.Wave.{Wave, IsWave, IsRest, HasPlaces, IsTaskAt, IsFinishedAt, AreReplied, IsWiped, wave_calls, foot_of, feet_at, down_from};
 
 use crate::Gate;
 use crate::fault::ReplayFault;
@@ -32,7 +32,7 @@ fn take_tasks(
     requires state { state_of wave.start.config store.old ≡ wave.start }
     ensures tasks { IfOk result (λ ts. AllZip (IsTaskAt wave.start wave.calls (foot_of feet.now) members.now) (range_with_len 0 (length members.now)) ts.items) }
     ensures store { OnOk result (IsRest wave.start (feet_at (foot_of feet.now) members.now) (down_from (length members.now)) store.new) }
-    ensures places { OnOk result (HasPlaces wave.start.config store.new) }
+    ensures places { HasPlaces wave.start.config store.new }
 {
     let mut tasks = Vec::with_capacity(alloc, members.len())?;
     for place in 0..members.len() {
@@ -61,6 +61,7 @@ fn put_all(store: &mut Parts, mut done: Vec<Finished>, replies: &mut [Reply])
     requires places { HasPlaces wave.start.config store.old }
     requires long { length replies.old ≡ length wave.calls }
     ensures core { IsCore wave.start.config store.new }
+    ensures places { HasPlaces wave.start.config store.new }
     ensures replies { AreReplied wave.start wave.calls wave.members replies.old replies.new }
     ensures state { state_of wave.start.config store.new ≡ state_at wave.start (wave_calls wave.calls wave.members) (length wave.members) }
 {
@@ -96,6 +97,7 @@ fn share_out<R: Threads + Wait + Sync, G: Gate + Sync>(
     requires long { length replies.old ≡ length wave.calls }
     ensures replies { OnOk result (AreReplied wave.start wave.calls wave.members replies.old replies.new) }
     ensures core { OnOk result (IsCore config.now store.new) }
+    ensures places { HasPlaces wave.start.config store.new }
     ensures state { OnOk result (state_of config.now store.new ≡ state_at wave.start (wave_calls wave.calls wave.members) (length wave.members)) }
 {
     let tasks = take_tasks(alloc, store, feet, members)?;
@@ -127,7 +129,7 @@ pub(crate) fn run_wave<R: Threads + Wait + Sync, G: Gate + Sync>(
     ensures replies { OnOk result (AreReplied (state_of config.now store.old) calls.now members.now replies.old replies.new) }
     ensures core { OnOk result (IsCore config.now store.new) }
     ensures state { OnOk result (state_of config.now store.new ≡ state_at (state_of config.now store.old) (wave_calls calls.now members.now) (length members.now)) }
-    ensures wiped { OnErr result (HasNoBytes store.new) }
+    ensures wiped { OnErr result (IsWiped config.now store.new) }
 {
     let outcome = share_out(
         rt, alloc, config, store, calls, feet, members, workers, replies, gate,

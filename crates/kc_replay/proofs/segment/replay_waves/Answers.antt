@@ -1,5 +1,7 @@
 use Rattle.std.proofs.Common.{ℕ, suc, ◌≡◌, ◌≤◌, ◌+◌, List, length, sym, ap, subst, ◌∙◌, arith, rules}
 use Rattle.std.specs.List.Sorted.{IsPermutation}
+use Rattle.std.proofs.lemmas.Result.{err_from_is_err_and}
+use Rattle.kc_types.specs.Configuration.{Configuration}
 use Rattle.kc_types.specs.declared.call.Call.{Call}
 use Rattle.kc_model.specs.State.{State}
 use Rattle.kc_model.proofs.Blind.HostBlind.{shows_nothing}
@@ -8,8 +10,8 @@ use Rattle.kc_footprints.specs.Plan.{wave_of, highest, AreCallsOf}
 use Rattle.kc_footprints.specs.Footprints.{AreFootprints}
 use Rattle.kc_footprints.specs.Rows.{Rows}
 use Rattle.kc_footprints.proofs.Listing.{at_most}
-use Rattle.kc_replay.specs.Wave.{foot_of}
-use Rattle.kc_replay.proofs.Onward.{up-to-none, up-to-all, up-to-next, wave-next, written-whole}
+use Rattle.kc_replay.specs.Wave.{IsWiped, foot_of}
+use Rattle.kc_replay.proofs.Onward.{up-to-none, up-to-config, up-to-all, up-to-next, wave-next, written-whole}
 use Rattle.kc_replay.proofs.Dealing.{dealt-members}
 use Rattle.kc_replay.proofs.segment.replay_waves.Goals as goal
 
@@ -35,9 +37,15 @@ take_wave-requires-clause-wave g c κs within order same =
     wave-next c.args.core c.args.calls.now c.requires.lawful (wave_of c.args.plan.now) (longest c.args.core c.args.calls.now c.args.feet.now c.args.plan.now c.requires.feet c.requires.plan) (foot_of c.args.feet.now) (λ k r low. c.requires.feet.touches k r low)
     c.loop-done.done c.loop-done.store c.loop-done.replies.items c.loop-done.invariant order are
 
+pub returns-in_err-store-clause-wiped : goal.returns-in_err-store-clause-wiped
+returns-in_err-store-clause-wiped g c =
+    let made = err_from_is_err_and c.from_residual.result c.from_residual.ensures.1 in
+    let same = up-to-config c.args.core c.args.calls.now (wave_of c.args.plan.now) c.loop-done.done c.loop-done.store c.loop-done.replies.items c.loop-done.invariant in
+    rw (made.1, made.2) (subst (λ (config : Configuration). IsWiped config c.in_err-store.field-0.0.left) same c.in_err-store.ensures.wiped)
+
 pub loop-done-preserved : goal.loop-done-preserved
 loop-done-preserved g c =
-    let taken = rw c.deref_mut.ensures.value at c.in_ok-store.ensures in
+    let taken = rw c.deref_mut.ensures.value at c.in_ok-store.ensures.taken in
     let are = in-order c.args.core c.args.calls.now c.args.feet.now c.args.plan.now c.loop-done.done c.calls_in-members.result.now taken.order c.requires.feet c.requires.plan c.calls_in-members.ensures.members taken.same in
     let one : c.loop-done.done + 1 ≡ suc c.loop-done.done = omega arith in
     let size : c.loop-done.replies.len ≡ length c.take_wave.new.replies = search rules in

@@ -4,15 +4,18 @@ use Rattle.kc_model.specs.Resources.{Resources, is_wanted}
 use Rattle.kc_parts.specs.Cuts.{IsSplit}
 use Rattle.kc_replay.specs.Wave.{IsRest, IsTaskAt, foot_of, feet_at}
 use Rattle.kc_replay.proofs.Zips.{zip_push}
-use Rattle.kc_replay.proofs.Taking.{left-whole, slots-whole, here-wave, taken-wave, range-more}
+use Rattle.kc_replay.proofs.Taking.{left-whole, places-whole, here-wave, taken-wave, range-more}
 use Rattle.kc_replay.proofs.wave.take_tasks.Goals as goal
 
 pub loop-place-init : goal.loop-place-init
 loop-place-init g c = record {
   tasks = rw c.in_ok-tasks.ensures.items tt;
   store = subst (λ (s : State). IsRest s (feet_at (foot_of c.args.feet.now) c.args.members.now) [] c.args.store.now) c.requires.1.1.1 (left-whole g.wave.start.config c.args.store.now c.requires.1.1.0 (feet_at (foot_of c.args.feet.now) c.args.members.now));
-  places = record { numbers = c.requires.1.1.0.whole.numbers; slots = slots-whole g.wave.start.config c.args.store.now c.requires.1.1.0 };
+  places = places-whole g.wave.start.config c.args.store.now c.requires.1.1.0;
 }
+
+pub returns-in_err-tasks-clause-places : goal.returns-in_err-tasks-clause-places
+returns-in_err-tasks-clause-places g c = places-whole g.wave.start.config c.args.store.now c.requires.1.1.0
 
 pub take_out-requires : goal.take_out-requires
 take_out-requires g c =

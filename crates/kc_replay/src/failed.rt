@@ -1,0 +1,31 @@
+//! What a segment leaves that failed.
+ghost use Rattle.std.specs.Prelude.{◌≡◌};
+ghost use Rattle.kc_replay.specs.Wave.{IsWiped};
+
+use crate::fault::ReplayFault;
+use kc_core::KCore;
+use kc_parts::Parts;
+use std::thread::Threads;
+
+/// Why a segment failed, and the parts of its core that are left, whose pages are wiped.
+#[derive(Drop)]
+pub(crate) struct Failed {
+    pub(crate) fault: ReplayFault,
+    pub(crate) left: Parts,
+}
+
+impl Failed {
+    /// `Memory`, and the parts of a core that is wiped first, by several threads.
+    pub(crate) fn for_memory<R: Threads + Sync>(rt: &R, core: KCore) -> Failed
+        ensures fault { result.fault ≡ ReplayFault.Memory }
+        ensures wiped { IsWiped core.config result.left }
+    {
+        let mut core = core;
+        core.wipe(rt);
+        let (_config, left) = core.into_parts();
+        Failed {
+            fault: ReplayFault::Memory,
+            left,
+        }
+    }
+}
