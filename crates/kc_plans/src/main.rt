@@ -1,16 +1,17 @@
 //! What each call of a trace may touch, and its wave, to be compared with what another program finds; how long finding
-//! that takes; or what a replay gives whose waves are all taken by workers, whatever they gain.
+//! that takes; what a replay gives whose waves are all taken by workers, whatever they gain; or what a live run leaves.
 //!
 //! The words are the paths of a configuration and of a trace, and perhaps a number, how often to measure; or the word
-//! `replay` or `dump` and a number of workers.
+//! `replay` or `dump` and a number of workers; or the word `live`.
 #![tactic(auto)]
 
 use anyhow::{Context, Result, bail};
 use kc_cli::dump;
 use kc_core::KCore;
 use kc_dump_text::write_dump;
-use kc_replay::{Gate, Outcome, Plan, footprints, replay};
-use kc_trace::{read_config, read_trace, write_replies};
+use kc_live::{Entry, History, LiveStop, run_trace};
+use kc_replay::{Gate, OpenGate, Outcome, Plan, footprints, replay};
+use kc_trace::{read_config, read_trace, write_replies, write_trace};
 use kc_types::{Call, Config, Resource};
 use std::io::Write;
 use std::sync::Wait;
@@ -116,15 +117,63 @@ fn print_replay<R: Threads + Wait + Sync>(
     Ok(())
 }
 
+/// The calls of a history, as a trace.
+fn print_history(rt: &HostRuntime, history: History) -> Result<()> {
+    let alloc = rt.alloc();
+    let (entries, _core) = history.into_parts();
+    let mut calls = Vec::new(alloc);
+    for entry in entries {
+        let Entry { call, reply: _ } = entry;
+        calls.push(call)?;
+    }
+    if calls.len() > MOST_CALLS {
+        bail!("too many calls");
+    }
+    let text = write_trace(alloc, calls.as_slice())?;
+    rt.stdout().write_all(text.as_slice())?;
+    Ok(())
+}
+
+/// What a live run leaves, with a thread for each actor of the trace: the calls of its history. Where it gave no answer, a
+/// line with the cause comes first, and whether the receipts are those of the history; there are no calls where it left
+/// no history.
+fn print_live<R: Threads + Wait + Sync>(
+    rt: &HostRuntime,
+    threads: &R,
+    config: Config,
+    calls: Vec<Call>,
+) -> Result<()> {
+    match run_trace(threads, rt.alloc(), config, calls, &OpenGate) {
+        Ok(history) => print_history(rt, history),
+        Err(stop) => {
+            let LiveStop {
+                cause,
+                history,
+                is_settled,
+            } = stop;
+            println!(rt; "{cause:?}, settled: {is_settled}")?;
+            match history {
+                Some(history) => print_history(rt, history),
+                None => Ok(()),
+            }
+        },
+    }
+}
+
 fn main(rt: HostRuntime) -> Result<()> {
     let alloc = rt.alloc();
     let mut words = env::args(&rt)?.skip(1);
     let (Some(config), Some(trace)) = (words.next(), words.next()) else {
-        bail!("usage: kc_plans CONFIG TRACE [TIMES | replay WORKERS | dump WORKERS]");
+        bail!("usage: kc_plans CONFIG TRACE [TIMES | replay WORKERS | dump WORKERS | live]");
     };
     let config = read_config(alloc, fs::read(&rt, config.as_str())?.as_slice())?;
     let calls = read_trace(alloc, fs::read(&rt, trace.as_str())?.as_slice())?;
     let word = words.next();
+    if let Some(given) = &word {
+        if given.as_str() == "live" {
+            return print_live(&rt, &rt, config, calls);
+        }
+    }
     if let (Some(given), Some(workers)) = (&word, words.next()) {
         let workers = workers.as_str().parse::<usize>()?;
         return print_replay(
