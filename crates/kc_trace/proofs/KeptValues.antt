@@ -10,10 +10,9 @@ use Rattle.serde_json.specs.Data.{Data, null, boolean, string, number, Num, unsi
 use Rattle.serde_json.specs.Find.{get_member, as_number, as_u64, as_str, as_array}
 use Rattle.serde_json.specs.View.{view, items_view}
 use Rattle.serde_json.specs.declared.value.Value.{Value}
-use Rattle.kc_types.specs.Configuration.{Configuration}
 use Rattle.kc_types.specs.declared.version.Version.{Version}
 use Rattle.kc_types.specs.declared.version.Version.TheVariants.{One}
-use Rattle.kc_trace.specs.ConfigText.{small, number_under, digest_of_value, digests_in, approved_in, fields_in, member_count, version_numbered, version_in, shape_in, of_value, of_shape}
+use Rattle.kc_trace.specs.ConfigText.{small, number_under, digest_of_value, digests_in, approved_in, fields_in, member_count, version_numbered, version_in, shape_in}
 use Rattle.kc_trace.specs.ConfigValue.{number_in, digests_of, kept_number, IsAlike, Keeps, KeepsItem, AreAlike, KeepsMembers, NotRead}
 use Rattle.kc_trace.specs.declared.config_text.ConfigTextFault.{ConfigTextFault}
 use Rattle.kc_trace.specs.declared.config_text.ConfigTextFault.TheVariants as faults
@@ -69,19 +68,9 @@ number_alike k vs ds all = found_alike (λ o. option_and_then small (option_and_
 approved_alike : (vs ds : Members) → AreAlike vs ds → approved_in (object vs) ≡ approved_in (object ds)
 approved_alike vs ds all = found_alike (λ o. option_and_then digests_in (option_and_then as_array o)) (λ v d same. same.digests) (codes "approved") vs ds all
 
-abbrev made : Version → Option ℕ → Option ℕ → Option ℕ → Option ℕ → Option (List (List ℕ)) → Option Configuration
-made version frames core host leaves approved =
-    option_and_then (λ f. option_and_then (λ c. option_and_then (λ h. option_and_then (λ l.
-    option_map (λ a. record { version = version; frames = f; core = c; host = h; leaves = l; approved = a }) approved) leaves) host) core) frames
-
 fields_alike : (version : Version) (vs ds : Members) → AreAlike vs ds → fields_in version (object vs) ≡ fields_in version (object ds)
 fields_alike version vs ds all =
-    let under : List ℕ → Members → Option ℕ = λ k ms. number_under k (object ms) in
-    ap (λ n. made version n (under (codes "core") vs) (under (codes "host") vs) (under (codes "leaves") vs) (approved_in (object vs))) (number_alike (codes "frames") vs ds all)
-    ∙ ap (λ n. made version (under (codes "frames") ds) n (under (codes "host") vs) (under (codes "leaves") vs) (approved_in (object vs))) (number_alike (codes "core") vs ds all)
-    ∙ ap (λ n. made version (under (codes "frames") ds) (under (codes "core") ds) n (under (codes "leaves") vs) (approved_in (object vs))) (number_alike (codes "host") vs ds all)
-    ∙ ap (λ n. made version (under (codes "frames") ds) (under (codes "core") ds) (under (codes "host") ds) n (approved_in (object vs))) (number_alike (codes "leaves") vs ds all)
-    ∙ ap (λ a. made version (under (codes "frames") ds) (under (codes "core") ds) (under (codes "host") ds) (under (codes "leaves") ds) a) (approved_alike vs ds all)
+    simp (number_alike (codes "frames") vs ds all, number_alike (codes "core") vs ds all, number_alike (codes "host") vs ds all, number_alike (codes "leaves") vs ds all, approved_alike vs ds all)
 
 abbrev versioned : Option ℕ → ℕ → Option Version
 versioned said count = if count == 5 then Some One else if count == 6 then version_numbered said else None

@@ -1,12 +1,12 @@
 -- The loops of JSON's grammar, a turn at a time, where each value that is read is data.
-use Rattle.std.proofs.Common.{◌≡◌, ℕ, zero, suc, ◌-◌, ◌<◌, ◌≤◌, List, [], ◌∷◌, length, Option, Some, None, refl, ap, ◌∙◌}
+use Rattle.std.proofs.Common.{◌≡◌, ℕ, zero, suc, ◌-◌, ◌<◌, ◌≤◌, List, [], ◌∷◌, length, Option, Bool, Some, None, refl, ap, ap₂, ◌∙◌}
 use Rattle.std.specs.Prelude.{option_map, option_and_then}
 use Rattle.json.specs.Token.{Token}
 use Rattle.json.specs.Json as json
-use Rattle.json.specs.Json.{Json, Parse, parse_map, after_end_array, read_key, items_step, items, members, if_last}
-use Rattle.json.proofs.Grammar.{items_end, items_more, members_end, members_no_key, members_more}
-use Rattle.serde_json.specs.Data.{Data, array, object, no_items, item, Members, no_members, put}
-use Rattle.serde_json.specs.Read.{of_json, of_items, of_members, converted}
+use Rattle.json.specs.Json.{Json, Parse, parse_map, after_end_array, read_key, items_step, items, members, value}
+use Rattle.json.proofs.Grammar.{value_is, value-begin_array, value-begin_object, items_end, items_more, members_end, members_no_key, members_more}
+use Rattle.serde_json.specs.Data.{Num, Data, null, boolean, string, number, array, object, no_items, item, Members, no_members, put}
+use Rattle.serde_json.specs.Read.{of_json, of_items, of_members, converted, number_of}
 
 -- what is data was read, and where it is none after reading, it is none
 abbrev given : {A : Type 0} → A → Option A → A
@@ -29,13 +29,50 @@ renamed : {A B : Type 0} (g : A → B) (s : List Token) (x : Option A) → optio
 renamed g s None = refl
 renamed g s (Some a) = refl
 
-pub converted-array : (o : Option (json.Items × List Token)) → converted of_json (parse_map json.array o) ≡ parse_map array (converted of_items o)
+converted-array : (o : Option (json.Items × List Token)) → converted of_json (parse_map json.array o) ≡ parse_map array (converted of_items o)
 converted-array None = refl
 converted-array (Some p) = renamed array p.1 (of_items p.0)
 
-pub converted-object : (o : Option (json.Members × List Token)) → converted of_json (parse_map json.object o) ≡ parse_map object (converted (λ ms. of_members ms no_members) o)
+converted-object : (o : Option (json.Members × List Token)) → converted of_json (parse_map json.object o) ≡ parse_map object (converted (λ ms. of_members ms no_members) o)
 converted-object None = refl
 converted-object (Some p) = renamed object p.1 (of_members p.0 no_members)
+
+-- ---- the first token
+
+of_number : (r : List Token) (o : Option Num) → option_map {U = Data × List Token} (λ d. (d, r)) (option_map number o) ≡ option_map {U = Data × List Token} (λ n. (number n, r)) o
+of_number r None = refl
+of_number r (Some n) = refl
+
+module _ (depth : ℕ) (ts r : List Token) where
+  pub string_read : (s : List ℕ) → ts ≡ Token.string s ∷ r → converted of_json (value depth ts) ≡ Some (string s, r)
+  string_read s e = ap (converted of_json) (ap (value depth) e ∙ value_is depth (Token.string s ∷ r))
+
+  pub boolean_read : (b : Bool) → ts ≡ Token.boolean b ∷ r → converted of_json (value depth ts) ≡ Some (boolean b, r)
+  boolean_read b e = ap (converted of_json) (ap (value depth) e ∙ value_is depth (Token.boolean b ∷ r))
+
+  pub null_read : ts ≡ Token.null ∷ r → converted of_json (value depth ts) ≡ Some (null, r)
+  null_read e = ap (converted of_json) (ap (value depth) e ∙ value_is depth (Token.null ∷ r))
+
+  pub number_read : (s : List ℕ) → ts ≡ Token.number s ∷ r → converted of_json (value depth ts) ≡ option_map (λ n. (number n, r)) (number_of s)
+  number_read s e = ap (converted of_json) (ap (value depth) e ∙ value_is depth (Token.number s ∷ r)) ∙ of_number r (number_of s)
+
+  pub array_read : 0 < depth → ts ≡ Token.begin_array ∷ r → converted of_json (value depth ts) ≡ parse_map array (converted of_items (items (value (depth - 1)) (length r) r))
+  array_read some e = ap (converted of_json) (ap (value depth) e ∙ value-begin_array depth r some) ∙ converted-array (items (value (depth - 1)) (length r) r)
+
+  pub object_read : 0 < depth → ts ≡ Token.begin_object ∷ r → converted of_json (value depth ts) ≡ parse_map object (converted (λ ms. of_members ms no_members) (members (value (depth - 1)) (length r) r))
+  object_read some e = ap (converted of_json) (ap (value depth) e ∙ value-begin_object depth r some) ∙ converted-object (members (value (depth - 1)) (length r) r)
+
+module _ (depth : ℕ) (ts r : List Token) (none : depth ≡ 0) where
+  pub array_too_deep : ts ≡ Token.begin_array ∷ r → converted of_json (value depth ts) ≡ None
+  unfolding value
+  array_too_deep e = ap (converted of_json) (ap₂ value none e)
+
+  pub object_too_deep : ts ≡ Token.begin_object ∷ r → converted of_json (value depth ts) ≡ None
+  unfolding value
+  object_too_deep e = ap (converted of_json) (ap₂ value none e)
+
+pub none_first : (depth : ℕ) → converted of_json (value depth []) ≡ None
+none_first depth = ap (converted of_json) (value_is depth [])
 
 -- ---- one value before the others, as an item or a member
 

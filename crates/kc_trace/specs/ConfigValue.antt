@@ -22,7 +22,7 @@ pub record IsAlike (kept value : Data) : Type 0 where
   pub digest : digest_of_value kept ≡ digest_of_value value
   pub digests : digests_of kept ≡ digests_of value
 
--- so it does as a whole text
+-- and it says the same where the value is a whole text
 pub record Keeps (kept value : Data) : Type 0 where
   pub alike : IsAlike kept value
   pub shape : shape_in kept ≡ shape_in value
@@ -39,11 +39,11 @@ AreAlike no_members (member key value values) = ⊥
 AreAlike (member key kept more) no_members = ⊥
 AreAlike (member key kept more) (member name value values) = (key ≡ name) × IsAlike kept value × AreAlike more values
 
--- each member is kept, or there are more of them than a configuration has
+-- each member is kept, or both have more of them than a configuration
 abbrev pub KeepsMembers : Members → Members → Type 0
 KeepsMembers kept members = AreAlike kept members ⊎ ((6 < member_count kept) × (6 < member_count members))
 
--- a whole number is kept, and of the others only that they are numbers
+-- a whole number of 64 bits is kept, and of another number nothing
 abbrev pub kept_number : Num → Data
 kept_number (unsigned n) = number (unsigned n)
 kept_number (negative z) = null

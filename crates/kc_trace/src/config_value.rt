@@ -1,6 +1,6 @@
 //! Reading the JSON value of a configuration's text, of which no more is kept than a configuration may say. So a text of
 //! any form takes memory of a few times its length.
-ghost use Rattle.std.specs.Prelude.{◌≡◌, ◌<◌, ◌==◌, length, slice_index, Some, None, IfOk, IfErr, OnOk, IsTrue, true, false, option_map, string_bytes};
+ghost use Rattle.std.specs.Prelude.{◌≡◌, ◌<◌, ◌==◌, length, slice_index, Some, None, IfOk, IfErr, OnOk, IsTrue, true, false, option_map};
 ghost use Rattle.json.specs.Json.{value, items, members};
 ghost use Rattle.serde_json.specs.Data.{Data, Items, Members, number, string, no_members, put};
 ghost use Rattle.serde_json.specs.Read.{of_json, of_items, of_members, converted, number_of, number_from, float_of, read as read_text};
@@ -59,7 +59,10 @@ fn keep_negative(numeral: &Numeral<'_>) -> Option<Value>
     keep_float(true, numeral)
 }
 
+// What takes much of the stack is not inlined, since arrays and objects nest deep.
+
 /// Keeps the number that a token spells where it is a whole one of 64 bits. `None` where it is past a float's range.
+#[inline(never)]
 fn keep_number(text: &str) -> Option<Value>
     ensures { option_map view result ≡ option_map kept_number (number_of text.now) }
 {
@@ -72,6 +75,7 @@ fn keep_number(text: &str) -> Option<Value>
 }
 
 /// Keeps a text that spells a digest.
+#[inline(never)]
 fn keep_text(alloc: Global, text: &str) -> Result<Value, AllocError>
     ensures { IfOk result (λ kept. Keeps (view kept) (string text.now)) }
 {
@@ -92,6 +96,7 @@ fn keep_inner(value: Value) -> Value
 }
 
 /// Keeps an item, where those before it are digests. Answers whether all are.
+#[inline(never)]
 fn keep_item(found: &mut Vec<Value>, are_digests: bool, item: Value) -> Result<bool, AllocError>
     ensures { IfOk result (λ are. KeepsItem are_digests found.old.items (view item) are found.new.items) }
 {
@@ -104,6 +109,7 @@ fn keep_item(found: &mut Vec<Value>, are_digests: bool, item: Value) -> Result<b
 }
 
 /// Keeps a member, unless there are too many for a configuration.
+#[inline(never)]
 fn keep_member(
     alloc: Global,
     found: &mut Map<String, Value>,

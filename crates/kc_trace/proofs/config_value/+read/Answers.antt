@@ -1,16 +1,16 @@
-use Rattle.std.proofs.Common.{◌≡◌, ◌-◌, ◌<◌, [], ◌∷◌, length, Some, None, Err, refl, ap, ap₂, ◌∙◌, inl, arith, rules}
+use Rattle.std.proofs.Common.{◌≡◌, ◌-◌, ◌<◌, [], ◌∷◌, length, Some, None, Err, refl, ap, ◌∙◌, inl, arith, rules}
 use Rattle.std.specs.Prelude.{option_map}
 use Rattle.json.specs.Token.{Token}
-use Rattle.json.specs.Json.{parse_map, after_end_array, read_key, items, members, value}
+use Rattle.json.specs.Json.{parse_map, after_end_array, read_key, value}
 use Rattle.json.specs.Reads.{token_of}
-use Rattle.json.proofs.Grammar.{value_is, value-begin_array, value-begin_object, read_key-shorter}
+use Rattle.json.proofs.Grammar.{value_is, read_key-shorter}
 use Rattle.serde_json.specs.Data.{null, boolean, number, string, array, object, no_members, put}
 use Rattle.serde_json.specs.Read.{of_json, converted, number_of}
 use Rattle.serde_json.specs.View.{view}
-use Rattle.serde_json.specs.declared.value.Value.{Null, the_lemmas}
+use Rattle.serde_json.specs.declared.value.Value.{the_lemmas}
 use Rattle.serde_json.proofs.Views.{view-Array, view-Object}
 use Rattle.kc_trace.specs.declared.config_text.ConfigTextFault.TheVariants.{NotJson}
-use Rattle.kc_trace.proofs.Turns.{converted-array, converted-object, item_read, item_refused, items_over, member_read, member_refused, key_refused, members_over}
+use Rattle.kc_trace.proofs.Turns.{string_read, boolean_read, null_read, number_read, array_read, object_read, array_too_deep, object_too_deep, none_first, item_read, item_refused, items_over, member_read, member_refused, key_refused, members_over}
 use Rattle.kc_trace.proofs.KeptValues.{not_read, nothing_kept, number_said, no_number_said, array_keeps, object_keeps, no_item_found, next_item, all_found}
 use Rattle.kc_trace.proofs.config_value.+read.Goals as goal
 
@@ -18,68 +18,61 @@ pub read-returns-in_err-token-clause-err : goal.read-returns-in_err-token-clause
 read-returns-in_err-token-clause-err t c =
     let empty : c.args.reader.now ≡ [] = grind arith in
     let is : c.from_residual.result ≡ Err NotJson = grind arith in
-    rw is (ap (converted of_json) (ap (value c.args.depth) empty ∙ value_is c.args.depth []))
+    rw (is, empty) (none_first c.args.depth)
 
 pub read-returns-then-depth-eq0-clause-err : goal.read-returns-then-depth-eq0-clause-err
-unfolding value
 read-returns-then-depth-eq0-clause-err t c =
-    let first : c.args.reader.now ≡ token_of c.in_ok-token.token ∷ c.next.new.self = grind arith in
-    let none : c.args.depth ≡ 0 = omega arith in
-    ap (converted of_json) (ap₂ value none (first ∙ ap (λ k. token_of k ∷ c.next.new.self) c.in-BeginArray.is))
+    let opens : c.args.reader.now ≡ Token.begin_array ∷ c.next.new.self = grind arith in
+    array_too_deep c.args.depth _ _ (omega arith) opens
 
 pub read-returns-then-depth-eq0-2-clause-err : goal.read-returns-then-depth-eq0-2-clause-err
-unfolding value
 read-returns-then-depth-eq0-2-clause-err t c =
-    let first : c.args.reader.now ≡ token_of c.in_ok-token.token ∷ c.next.new.self = grind arith in
-    let none : c.args.depth ≡ 0 = omega arith in
-    ap (converted of_json) (ap₂ value none (first ∙ ap (λ k. token_of k ∷ c.next.new.self) c.in-BeginObject.is))
+    let opens : c.args.reader.now ≡ Token.begin_object ∷ c.next.new.self = grind arith in
+    object_too_deep c.args.depth _ _ (omega arith) opens
 
 pub read-returns-in_err-read_items-in-BeginArray-clause-err : goal.read-returns-in_err-read_items-in-BeginArray-clause-err
 read-returns-in_err-read_items-in-BeginArray-clause-err t c =
-    let first : c.args.reader.now ≡ token_of c.in_ok-token.token ∷ c.next.new.self = grind arith in
-    let opened = ap (converted of_json) (ap (value c.args.depth) (first ∙ ap (λ k. token_of k ∷ c.next.new.self) c.in-BeginArray.is) ∙ value-begin_array c.args.depth c.next.new.self (omega arith)) ∙ converted-array (items (value (c.args.depth - 1)) (length c.next.new.self) c.next.new.self) in
-    let is : c.from_residual-in_err-read_items-in-BeginArray.result ≡ Err c.in_err-read_items-in-BeginArray.field-0.0 = grind arith in
-    rw is (not_read _ _ _ (λ refused. opened ∙ ap (parse_map array) refused) c.in_err-read_items-in-BeginArray.ensures.err)
+    let opens : c.args.reader.now ≡ Token.begin_array ∷ c.next.new.self = grind arith in
+    let items = c.in_err-read_items-in-BeginArray in
+    let is : c.from_residual-in_err-read_items-in-BeginArray.result ≡ Err items.field-0.0 = grind arith in
+    rw is (not_read _ _ _ (λ refused. array_read c.args.depth _ _ (omega arith) opens ∙ ap (parse_map array) refused) items.ensures.err)
 
 pub read-returns-in_err-read_members-in-BeginObject-clause-err : goal.read-returns-in_err-read_members-in-BeginObject-clause-err
 read-returns-in_err-read_members-in-BeginObject-clause-err t c =
-    let first : c.args.reader.now ≡ token_of c.in_ok-token.token ∷ c.next.new.self = grind arith in
-    let opened = ap (converted of_json) (ap (value c.args.depth) (first ∙ ap (λ k. token_of k ∷ c.next.new.self) c.in-BeginObject.is) ∙ value-begin_object c.args.depth c.next.new.self (omega arith)) ∙ converted-object (members (value (c.args.depth - 1)) (length c.next.new.self) c.next.new.self) in
-    let is : c.from_residual-in_err-read_members-in-BeginObject.result ≡ Err c.in_err-read_members-in-BeginObject.field-0.0 = grind arith in
-    rw is (not_read _ _ _ (λ refused. opened ∙ ap (parse_map object) refused) c.in_err-read_members-in-BeginObject.ensures.err)
+    let opens : c.args.reader.now ≡ Token.begin_object ∷ c.next.new.self = grind arith in
+    let members = c.in_err-read_members-in-BeginObject in
+    let is : c.from_residual-in_err-read_members-in-BeginObject.result ≡ Err members.field-0.0 = grind arith in
+    rw is (not_read _ _ _ (λ refused. object_read c.args.depth _ _ (omega arith) opens ∙ ap (parse_map object) refused) members.ensures.err)
 
 pub read-returns-in_ok-keep_text-in-String-clause-ok : goal.read-returns-in_ok-keep_text-in-String-clause-ok
 read-returns-in_ok-keep_text-in-String-clause-ok t c =
-    let first : c.args.reader.now ≡ token_of c.in_ok-token.token ∷ c.next.new.self = grind arith in
-    let is : c.args.reader.now ≡ Token.string c.in-String.text.now ∷ c.next.new.self = grind (arith, first) in
-    (string c.in-String.text.now, ap (converted of_json) (ap (value c.args.depth) is ∙ value_is c.args.depth _), c.in_ok-keep_text-in-String.ensures)
+    let text = c.in-String.text.now in
+    let is : c.args.reader.now ≡ Token.string text ∷ c.next.new.self = grind arith in
+    (string text, string_read c.args.depth _ _ text is, c.in_ok-keep_text-in-String.ensures)
 
 pub read-returns-in-Bool-clause-ok : goal.read-returns-in-Bool-clause-ok
 read-returns-in-Bool-clause-ok t c =
-    let first : c.args.reader.now ≡ token_of c.in_ok-token.token ∷ c.next.new.self = grind arith in
-    let is : c.args.reader.now ≡ Token.boolean c.in-Bool.field-0 ∷ c.next.new.self = grind (arith, first) in
-    let seen : view Null ≡ null = search (rules, the_lemmas) in
-    (boolean c.in-Bool.field-0, ap (converted of_json) (ap (value c.args.depth) is ∙ value_is c.args.depth _), nothing_kept _ _ seen refl refl refl refl)
+    let b = c.in-Bool.field-0 in
+    let is : c.args.reader.now ≡ Token.boolean b ∷ c.next.new.self = grind arith in
+    (boolean b, boolean_read c.args.depth _ _ b is, nothing_kept _ _ (search (rules, the_lemmas)) refl refl refl refl)
 
 pub read-returns-in-Null-clause-ok : goal.read-returns-in-Null-clause-ok
 read-returns-in-Null-clause-ok t c =
-    let first : c.args.reader.now ≡ token_of c.in_ok-token.token ∷ c.next.new.self = grind arith in
-    let is : c.args.reader.now ≡ Token.null ∷ c.next.new.self = grind (arith, first) in
-    let seen : view Null ≡ null = search (rules, the_lemmas) in
-    (null, ap (converted of_json) (ap (value c.args.depth) is ∙ value_is c.args.depth _), nothing_kept _ _ seen refl refl refl refl)
+    let is : c.args.reader.now ≡ Token.null ∷ c.next.new.self = grind arith in
+    (null, null_read c.args.depth _ _ is, nothing_kept _ _ (search (rules, the_lemmas)) refl refl refl refl)
 
 pub read-returns-in-Some-clause-ok : goal.read-returns-in-Some-clause-ok
 read-returns-in-Some-clause-ok t c =
-    let first : c.args.reader.now ≡ token_of c.in_ok-token.token ∷ c.next.new.self = grind arith in
-    let is : c.args.reader.now ≡ Token.number c.in-Number.text.now ∷ c.next.new.self = grind (arith, first) in
-    let said = number_said (number_of c.in-Number.text.now) (view c.in-Some.kept) c.in-Some.ensures in
-    (number said.0, ap (converted of_json) (ap (value c.args.depth) is ∙ value_is c.args.depth _) ∙ ap (λ o. option_map (λ d. (d, c.next.new.self)) (option_map number o)) said.1, said.2)
+    let text = c.in-Number.text.now in
+    let is : c.args.reader.now ≡ Token.number text ∷ c.next.new.self = grind arith in
+    let said = number_said (number_of text) (view c.in-Some.kept) c.in-Some.ensures in
+    (number said.0, number_read c.args.depth _ _ text is ∙ ap (option_map (λ n. (number n, c.next.new.self))) said.1, said.2)
 
 pub read-returns-in-None-clause-err : goal.read-returns-in-None-clause-err
 read-returns-in-None-clause-err t c =
-    let first : c.args.reader.now ≡ token_of c.in_ok-token.token ∷ c.next.new.self = grind arith in
-    let is : c.args.reader.now ≡ Token.number c.in-Number.text.now ∷ c.next.new.self = grind (arith, first) in
-    ap (converted of_json) (ap (value c.args.depth) is ∙ value_is c.args.depth _) ∙ ap (λ o. option_map (λ d. (d, c.next.new.self)) (option_map number o)) (no_number_said (number_of c.in-Number.text.now) c.in-None.ensures)
+    let text = c.in-Number.text.now in
+    let is : c.args.reader.now ≡ Token.number text ∷ c.next.new.self = grind arith in
+    number_read c.args.depth _ _ text is ∙ ap (option_map (λ n. (number n, c.next.new.self))) (no_number_said (number_of text) c.in-None.ensures)
 
 pub read-returns-in-EndObject-clause-err : goal.read-returns-in-EndObject-clause-err
 read-returns-in-EndObject-clause-err t c =
@@ -89,19 +82,17 @@ read-returns-in-EndObject-clause-err t c =
 
 pub read-returns-in_ok-read_items-in-BeginArray-clause-ok : goal.read-returns-in_ok-read_items-in-BeginArray-clause-ok
 read-returns-in_ok-read_items-in-BeginArray-clause-ok t c =
-    let first : c.args.reader.now ≡ token_of c.in_ok-token.token ∷ c.next.new.self = grind arith in
-    let opened = ap (converted of_json) (ap (value c.args.depth) (first ∙ ap (λ k. token_of k ∷ c.next.new.self) c.in-BeginArray.is) ∙ value-begin_array c.args.depth c.next.new.self (omega arith)) ∙ converted-array (items (value (c.args.depth - 1)) (length c.next.new.self) c.next.new.self) in
+    let opens : c.args.reader.now ≡ Token.begin_array ∷ c.next.new.self = grind arith in
     let found = c.in_ok-read_items-in-BeginArray in
     let of = found.ensures.ok in
-    (array of.0, opened ∙ ap (parse_map array) of.1, array_keeps _ _ _ (view-Array found.field-0) of.2)
+    (array of.0, array_read c.args.depth _ _ (omega arith) opens ∙ ap (parse_map array) of.1, array_keeps _ _ _ (view-Array found.field-0) of.2)
 
 pub read-returns-in_ok-read_members-in-BeginObject-clause-ok : goal.read-returns-in_ok-read_members-in-BeginObject-clause-ok
 read-returns-in_ok-read_members-in-BeginObject-clause-ok t c =
-    let first : c.args.reader.now ≡ token_of c.in_ok-token.token ∷ c.next.new.self = grind arith in
-    let opened = ap (converted of_json) (ap (value c.args.depth) (first ∙ ap (λ k. token_of k ∷ c.next.new.self) c.in-BeginObject.is) ∙ value-begin_object c.args.depth c.next.new.self (omega arith)) ∙ converted-object (members (value (c.args.depth - 1)) (length c.next.new.self) c.next.new.self) in
+    let opens : c.args.reader.now ≡ Token.begin_object ∷ c.next.new.self = grind arith in
     let found = c.in_ok-read_members-in-BeginObject in
     let of = found.ensures.ok in
-    (object of.0, opened ∙ ap (parse_map object) of.1, object_keeps _ _ _ (view-Object found.field-0) of.2)
+    (object of.0, object_read c.args.depth _ _ (omega arith) opens ∙ ap (parse_map object) of.1, object_keeps _ _ _ (view-Object found.field-0) of.2)
 
 pub read_items-items-init : goal.read_items-items-init
 read_items-items-init t c = (length c.args.reader.now, omega arith, omega arith, rw c.new-found.ensures.items (no_item_found _))
