@@ -60,7 +60,7 @@ impl Model for Replayer {
     ghost use Rattle.std.specs.Coded.{codes, coded_ℕ};
     ghost use Rattle.std.specs.FinMap as map;
     ghost use Rattle.std.specs.Ordering.{nat_cmp};
-    ghost use Rattle.kc_types.specs.Limits.{call_limit};
+    ghost use Rattle.kc_types.specs.Limits.{call_limit, worker_limit};
     ghost use Rattle.kc_replay.specs.Replayer.{Replaying};
 
     ghost Value = { Replaying };
