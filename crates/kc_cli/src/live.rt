@@ -190,7 +190,7 @@ pub fn live_text<C: Source, T: Source, K: Sink, G: Gate + Sync, R: Threads + Wai
     ensures started { result ≡ Err TextFault.Start → CouldRun (C.left config.old) (T.left trace.old) }
     ensures unsettled { result ≡ Err TextFault.Unsettled → CouldRun (C.left config.old) (T.left trace.old) }
 {
-    if workers == 0 || workers > WORKER_LIMIT {
+    if workers == 0 || workers as usize > WORKER_LIMIT {
         return Err(TextFault::Workers);
     }
     let (config, calls) = read_both(alloc, config, trace)?;

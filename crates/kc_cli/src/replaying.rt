@@ -163,7 +163,7 @@ pub(crate) fn replay_texts<C: Source, T: Source, R: Threads + Wait + Sync>(
     ensures replay { TellsReplay workers (C.left config.old) result }
     ensures write { result ≢ Err TextFault.Write }
 {
-    if workers == 0 || workers > WORKER_LIMIT {
+    if workers == 0 || workers as usize > WORKER_LIMIT {
         return Err(TextFault::Workers);
     }
     let config = read_configuration(alloc, config)?;
