@@ -12,7 +12,7 @@ use Rattle.serde_json.specs.View.{view, items_view}
 use Rattle.serde_json.specs.declared.value.Value.{Value}
 use Rattle.kc_types.specs.declared.version.Version.{Version}
 use Rattle.kc_types.specs.declared.version.Version.TheVariants.{One}
-use Rattle.kc_trace.specs.ConfigText.{small, number_under, digest_of_value, digests_in, approved_in, fields_in, member_count, version_numbered, version_in, shape_in}
+use Rattle.kc_trace.specs.ConfigText.{small, number_under, digest_of_value, digests_in, approved_in, fields_in, member_count, version_numbered, shape_in}
 use Rattle.kc_trace.specs.ConfigValue.{number_in, digests_of, kept_number, IsAlike, Keeps, KeepsItem, AreAlike, KeepsMembers, NotRead}
 use Rattle.kc_trace.specs.declared.config_text.ConfigTextFault.{ConfigTextFault}
 use Rattle.kc_trace.specs.declared.config_text.ConfigTextFault.TheVariants as faults
@@ -68,10 +68,6 @@ number_alike k vs ds all = found_alike (λ o. option_and_then small (option_and_
 approved_alike : (vs ds : Members) → AreAlike vs ds → approved_in (object vs) ≡ approved_in (object ds)
 approved_alike vs ds all = found_alike (λ o. option_and_then digests_in (option_and_then as_array o)) (λ v d same. same.digests) (codes "approved") vs ds all
 
-fields_alike : (version : Version) (vs ds : Members) → AreAlike vs ds → fields_in version (object vs) ≡ fields_in version (object ds)
-fields_alike version vs ds all =
-    simp (number_alike (codes "frames") vs ds all, number_alike (codes "core") vs ds all, number_alike (codes "host") vs ds all, number_alike (codes "leaves") vs ds all, approved_alike vs ds all)
-
 abbrev versioned : Option ℕ → ℕ → Option Version
 versioned said count = if count == 5 then Some One else if count == 6 then version_numbered said else None
 
@@ -81,18 +77,11 @@ too_many said n h = grind (arith, nat_tests)
 shape_of_many : (ms : Members) → 6 < member_count ms → shape_in (object ms) ≡ None
 shape_of_many ms h = ap (option_and_then (λ version. fields_in version (object ms))) (too_many (number_under (codes "version") (object ms)) (member_count ms) h)
 
-version_alike : (vs ds : Members) → AreAlike vs ds → version_in (object vs) (Some (member_count vs)) ≡ version_in (object ds) (Some (member_count ds))
-version_alike vs ds all =
-    ap (versioned (number_under (codes "version") (object vs))) (count_alike vs ds all)
-    ∙ ap (λ said. versioned said (member_count ds)) (number_alike (codes "version") vs ds all)
-
-then_alike : (o : Option Version) (vs ds : Members) → AreAlike vs ds → option_and_then (λ version. fields_in version (object vs)) o ≡ option_and_then (λ version. fields_in version (object ds)) o
-then_alike None vs ds all = refl
-then_alike (Some version) vs ds all = fields_alike version vs ds all
-
 -- an object says what is kept of it
 pub shape_kept : (vs ds : Members) → KeepsMembers vs ds → shape_in (object vs) ≡ shape_in (object ds)
-shape_kept vs ds (inl all) = then_alike _ vs ds all ∙ ap (option_and_then (λ version. fields_in version (object ds))) (version_alike vs ds all)
+shape_kept vs ds (inl all) =
+    let under = λ (key : List ℕ). number_alike key vs ds all in
+    simp (count_alike vs ds all, under (codes "version"), under (codes "frames"), under (codes "core"), under (codes "host"), under (codes "leaves"), approved_alike vs ds all)
 shape_kept vs ds (inr many) = shape_of_many vs many.0 ∙ sym (shape_of_many ds many.1)
 
 put_more_at : (o : Ordering) (k l : List ℕ) (d e : Data) (ms : Members) → member_count ms ≤ member_count (put k d ms)

@@ -87,6 +87,7 @@ fn keep_text(alloc: Global, text: &str) -> Result<Value, AllocError>
 
 /// Keeps a value within another, unless it is an object, so that what is kept does not branch.
 fn keep_inner(value: Value) -> Value
+    // It holds of the value itself too: how little is kept is a matter of memory alone.
     ensures { IsAlike (view result) (view value) }
 {
     match value {
