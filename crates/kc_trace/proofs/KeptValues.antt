@@ -158,14 +158,14 @@ module _ (found : List Value) (are_digests : Bool) (all left more : Option (Item
   read_on = so_far.read ∙ ap (parse_map so_far.front) turn ∙ with_item so_far.front d more
 
   -- an item is kept behind the digests
-  item_found : (v : Value) (is_digest : Bool) → IsAlike (view v) d → (is_digest ≡ false → digest_of_value d ≡ None) → FindsDigests (found ++ v ∷ []) is_digest all more
-  item_found v is_digest alike none = record {
+  item_found : (v : Value) (is_digest : Bool) → digest_of_value (view v) ≡ digest_of_value d → (is_digest ≡ false → digest_of_value d ≡ None) → FindsDigests (found ++ v ∷ []) is_digest all more
+  item_found v is_digest same none = record {
     front = λ rest. so_far.front (item d rest);
     read = read_on;
     digests = λ rest. digests_before-append found (v ∷ []) (digests_in rest)
-        ∙ ap (λ digest. digests_before found (digest_first digest (digests_in rest))) alike.digest ∙ so_far.digests (item d rest);
+        ∙ ap (λ digest. digests_before found (digest_first digest (digests_in rest))) same ∙ so_far.digests (item d rest);
     none = λ other behind. digests_before-append found (v ∷ []) behind
-        ∙ ap (λ digest. digests_before found (digest_first digest behind)) (alike.digest ∙ none other) ∙ digests_before-none found;
+        ∙ ap (λ digest. digests_before found (digest_first digest behind)) (same ∙ none other) ∙ digests_before-none found;
   }
 
   -- an item is passed over behind one that is no digest
@@ -177,7 +177,7 @@ module _ (found : List Value) (are_digests : Bool) (all left more : Option (Item
     none = λ _. so_far.none other;
   }
 
-text_or_none : (d : Data) → false ≡ is_some (as_str d) → digest_of_value d ≡ None
+pub text_or_none : (d : Data) → false ≡ is_some (as_str d) → digest_of_value d ≡ None
 text_or_none null e = refl
 text_or_none (boolean b) e = refl
 text_or_none (number n) e = refl
@@ -188,7 +188,7 @@ text_or_none (object ms) e = refl
 pub next_item : (found new : List Value) (are_digests is_digest : Bool) (all left more : Option (Items × List Token)) (v d : Data) → FindsDigests found are_digests all left → left ≡ parse_map (item d) more
     → IsAlike v d → KeepsItem are_digests found v is_digest new → FindsDigests new is_digest all more
 next_item found new true is_digest all left more v d so_far turn alike (kept, appended, as_kept, is) =
-    rw appended (item_found found true all left more d so_far turn kept is_digest (alike_through _ _ _ as_kept alike) (λ other. sym alike.digest ∙ text_or_none v (sym other ∙ is)))
+    rw appended (item_found found true all left more d so_far turn kept is_digest (as_kept ∙ alike.digest) (λ other. sym alike.digest ∙ text_or_none v (sym other ∙ is)))
 next_item found new false is_digest all left more v d so_far turn alike (same, is) = rw (same, is) (item_passed found false all left more d so_far turn refl)
 
 -- at the bracket, the digests of all items are found

@@ -29,7 +29,7 @@ pub record Keeps (kept value : Data) : Type 0 where
 
 -- an item is kept behind digests alone, and it is known whether it is a text too
 abbrev pub KeepsItem : Bool → List Value → Data → Bool → List Value → Type 0
-KeepsItem true old value is_digest new = (kept : Value) × (new ≡ old ++ kept ∷ []) × IsAlike (view kept) value × (is_digest ≡ is_some (as_str value))
+KeepsItem true old value is_digest new = (kept : Value) × (new ≡ old ++ kept ∷ []) × (digest_of_value (view kept) ≡ digest_of_value value) × (is_digest ≡ is_some (as_str value))
 KeepsItem false old value is_digest new = (new ≡ old) × (is_digest ≡ false)
 
 -- each member is kept, under its key

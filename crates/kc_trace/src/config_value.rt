@@ -85,7 +85,7 @@ fn keep_text(alloc: Global, text: &str) -> Result<Value, AllocError>
     Ok(Value::String(String::from_str(alloc, text)?))
 }
 
-/// Keeps a value within another, unless it is an object, so that what is kept does not branch.
+/// Keeps a value under a key, unless it is an object, so that what is kept does not branch.
 fn keep_inner(value: Value) -> Value
     // It holds of the value itself too: how little is kept is a matter of memory alone.
     ensures { IsAlike (view result) (view value) }
@@ -96,7 +96,7 @@ fn keep_inner(value: Value) -> Value
     }
 }
 
-/// Keeps an item, where those before it are digests. Answers whether all are.
+/// Keeps an item, where those before it are digests; of one that is none, only that it is there. Answers whether all are.
 #[inline(never)]
 fn keep_item(found: &mut Vec<Value>, are_digests: bool, item: Value) -> Result<bool, AllocError>
     ensures { IfOk result (λ are. KeepsItem are_digests found.old.items (view item) are found.new.items) }
@@ -104,9 +104,12 @@ fn keep_item(found: &mut Vec<Value>, are_digests: bool, item: Value) -> Result<b
     if !are_digests {
         return Ok(false);
     }
-    let is_digest = item.is_string();
-    found.push(keep_inner(item))?;
-    Ok(is_digest)
+    if !item.is_string() {
+        found.push(Value::Null)?;
+        return Ok(false);
+    }
+    found.push(item)?;
+    Ok(true)
 }
 
 /// Keeps a member, unless there are too many for a configuration.

@@ -1,7 +1,8 @@
-use Rattle.std.proofs.Common.{◌≡◌, true, arith}
+use Rattle.std.proofs.Common.{◌≡◌, true, refl, sym, ◌∙◌, arith}
 use Rattle.kc_trace.proofs.config_value.keep_item.Goals as goal
 
 pub returns : goal.returns
 returns c =
     let kept : c.args.are_digests ≡ true = grind arith in
-    rw kept (c.keep_inner.result, c.in_ok-push.ensures.items, c.keep_inner.ensures, c.is_string-is_digest.ensures)
+    let text : c.is_string.result ≡ true = grind arith in
+    rw kept (c.args.item, c.in_ok-push-2.ensures.items, refl, sym text ∙ c.is_string.ensures)
