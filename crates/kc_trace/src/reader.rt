@@ -58,10 +58,9 @@ fn call_of_whole(alloc: Global, line: &[u8]) -> Result<Option<Call>, AllocError>
     call_of_line(alloc, line)
 }
 
-/// The most calls that these bytes may end: one a newline, and no more than a trace has.
-fn most_calls(bytes: &[u8]) -> usize {
-    let lines = bytes.iter().filter(|byte| **byte == b'\n').count();
-    lines.min(CALL_LIMIT)
+/// Room for the calls of so many bytes, as most lines have eight and more.
+fn room_for(bytes: usize) -> usize {
+    (bytes / 8).min(CALL_LIMIT)
 }
 
 /// How far a trace has been read: what is still to come of the header, the version that it tells, how many calls
@@ -204,7 +203,7 @@ impl Progress {
     fn feed(mut self, alloc: Global, bytes: &[u8]) -> Result<(Progress, Vec<Call>), TraceFault>
         ensures { Gives (λ fed. (fed.0, fed.1.items)) result (feed self bytes.now) }
     {
-        let mut calls = Vec::with_capacity(alloc, most_calls(bytes))?;
+        let mut calls = Vec::with_capacity(alloc, room_for(bytes.len()))?;
         let mut rest = bytes;
         while !rest.is_empty() {
             let (call, left) = self.take_some(alloc, rest)?;
