@@ -1,80 +1,84 @@
-//! Gates that hold calls and watch them.
+//! A gate that holds calls and counts them.
 use kc_replay::Gate;
+use std::alloc::Global;
 use std::rt::Clock;
-use std::sync::atomic::{AtomicBool, AtomicU64, Ordering};
+use std::sync::atomic::{AtomicBool, Ordering};
 use std::sync::{Mutex, Wait};
 use std::thread;
 use std::time::Duration;
 
-/// How often a gate looks before it gives up, each time after 1 ms.
+/// How often a call that is held looks before it gives up, each time after 1 ms.
 const TURNS: u32 = 10_000;
 
-/// Lets the calls in one by one, in a given order.
+/// Holds each call of a list until the one before it there has been answered, and no others. Counts how often each call is
+/// told, before and after.
 #[derive(Drop)]
-pub struct Script<'a, R: Clock + Sync> {
-    pub rt: &'a R,
-    pub order: &'a [usize],
-    pub turn: AtomicU64,
-    pub gave_up: AtomicBool,
+pub struct Watch<'a, R: Wait + Clock + Sync> {
+    rt: &'a R,
+    order: &'a [usize],
+    counts: Mutex<Vec<(u32, u32)>>,
+    gave_up: AtomicBool,
 }
 
-impl<'a, R: Clock + Sync> Gate for Script<'a, R> {
-    fn before(&self, number: usize) {
-        for _turn in 0..TURNS {
-            let turn = self.turn.load(Ordering::SeqCst);
-            if turn < self.order.len() as u64 && self.order[turn as usize] == number {
-                return;
+impl<'a, R: Wait + Clock + Sync> Watch<'a, R> {
+    /// A gate for so many calls, of which those of a list are let in in its order.
+    pub fn new(rt: &'a R, alloc: Global, calls: usize, order: &'a [usize]) -> Option<Watch<'a, R>> {
+        Some(Watch {
+            rt,
+            order,
+            counts: Mutex::new(vec![in alloc; (0u32, 0u32); calls].ok()?),
+            gave_up: AtomicBool::new(false),
+        })
+    }
+
+    /// Whether each call was told once, before and after, and none was held for too long.
+    pub fn has_told_each_once(&self) -> bool {
+        let counts = self.counts.lock(self.rt);
+        for count in counts.iter() {
+            if *count != (1u32, 1u32) {
+                return false;
             }
-            let _ = thread::sleep(self.rt, Duration::from_millis(1));
         }
-        self.gave_up.store(true, Ordering::SeqCst);
-    }
-
-    fn after(&self, _number: usize) {
-        self.turn.fetch_add(1, Ordering::SeqCst);
+        !self.gave_up.load(Ordering::SeqCst)
     }
 }
 
-/// Holds one call until another has been answered.
-#[derive(Drop)]
-pub struct Hold<'a, R: Clock + Sync> {
-    pub rt: &'a R,
-    pub held: usize,
-    pub until: usize,
-    pub is_answered: AtomicBool,
-    pub gave_up: AtomicBool,
+/// The call that comes before a call in a list, if any does.
+fn earlier(order: &[usize], number: usize) -> Option<usize> {
+    let mut earlier = None;
+    for it in order {
+        if *it == number {
+            return earlier;
+        }
+        earlier = Some(*it);
+    }
+    None
 }
 
-impl<'a, R: Clock + Sync> Gate for Hold<'a, R> {
+/// Whether a call has been answered.
+fn is_answered<R: Wait>(rt: &R, counts: &Mutex<Vec<(u32, u32)>>, number: usize) -> bool {
+    let counts = counts.lock(rt);
+    number < counts.len() && counts[number].1 > 0
+}
+
+/// Waits until a call has been answered; whether it was, before the waiting was given up.
+fn wait_for<R: Wait + Clock>(rt: &R, counts: &Mutex<Vec<(u32, u32)>>, number: usize) -> bool {
+    for _turn in 0..TURNS {
+        if is_answered(rt, counts, number) {
+            return true;
+        }
+        let _ = thread::sleep(rt, Duration::from_millis(1));
+    }
+    false
+}
+
+impl<'a, R: Wait + Clock + Sync> Gate for Watch<'a, R> {
     fn before(&self, number: usize) {
-        if number != self.held {
-            return;
-        }
-        for _turn in 0..TURNS {
-            if self.is_answered.load(Ordering::SeqCst) {
-                return;
+        if let Some(earlier) = earlier(self.order, number) {
+            if !wait_for(self.rt, &self.counts, earlier) {
+                self.gave_up.store(true, Ordering::SeqCst);
             }
-            let _ = thread::sleep(self.rt, Duration::from_millis(1));
         }
-        self.gave_up.store(true, Ordering::SeqCst);
-    }
-
-    fn after(&self, number: usize) {
-        if number == self.until {
-            self.is_answered.store(true, Ordering::SeqCst);
-        }
-    }
-}
-
-/// Counts how often each call was told, before and after.
-#[derive(Drop)]
-pub struct Count<'a, R: Wait + Sync> {
-    pub rt: &'a R,
-    pub counts: Mutex<Vec<(u32, u32)>>,
-}
-
-impl<'a, R: Wait + Sync> Gate for Count<'a, R> {
-    fn before(&self, number: usize) {
         let mut counts = self.counts.lock(self.rt);
         if number < counts.len() {
             counts[number].0 = counts[number].0.wrapping_add(1);

@@ -1,89 +1,132 @@
-//! Which programs run live, and which are refused before.
-use crate::support::{calls_of, config};
-use kc_live::{LiveCause, LiveCore, LiveFault, LiveStop, Program, Seat, run_live};
-use kc_replay::OpenGate;
-use kc_types::{Actor, CALL_LIMIT, Call, Config};
+//! Live runs through a gate, which holds their calls and counts them, and calls from seats.
+use crate::gates::Watch;
+use crate::support::{calls_of, small_config};
+use kc_cli::replay_history;
+use kc_live::{History, LiveCore, LiveFault, Program, Receipt, Seat, run_live, settle};
+use kc_trace::{LONGEST_CALL, LONGEST_REPLY, push_call, push_reply};
+use kc_types::{Actor, CALL_LIMIT, Call, Reply};
 use std::alloc::Global;
+use std::rt::Clock;
 use std::sync::Wait;
 use std::test::Fail;
 use std::thread::Threads;
 
-mod gated;
-mod replaying;
-mod stories;
+/// Calls 0 to 9: a VM of two virtual processors boots, and each is supplied with a frame.
+const HOST: &str =
+    "hfault 1\nhwrite 1 0 616263\nregvm 0\nregvcpu 0 0\nregvcpu 0 1\nsetboot 0 0 3\nremap 0 0 1\nverify 0\nmap 0 0 2\nmap 0 1 3\n";
 
-/// 8 frames, of which 0 is the core's, 1 to 4 are the host's and the rest is free.
-fn small_config(alloc: Global) -> Option<Config> {
-    config(alloc, 8, 4)
-}
+/// Calls 10 to 12: two writes of a byte to a guest frame, and a read.
+const GUEST: &str = "gwrite 0 0 7 0 2a\ngwrite 0 0 7 0 2a\ngread 0 0 7 0 1\n";
 
-/// A program of each actor, which makes the calls of a trace whose header is left out.
-fn programs(alloc: Global, actors: &[(Actor, &str)]) -> Option<Vec<Program>> {
+/// Calls 13 to 15: the same of another virtual processor.
+const OTHER: &str = "gwrite 0 1 8 0 2b\ngwrite 0 1 8 0 2b\ngread 0 1 8 0 1\n";
+
+/// The last program has no calls.
+const ACTORS: [(Actor, &str); 4] = [
+    (Actor::Host, HOST),
+    (Actor::Vcpu(0, 0), GUEST),
+    (Actor::Vcpu(0, 1), OTHER),
+    (Actor::Vcpu(15, 7), ""),
+];
+
+/// The guests first touch memory before the host supplies it.
+const ORDER: [usize; 16] = [0, 1, 2, 3, 4, 5, 6, 7, 10, 13, 8, 9, 11, 14, 12, 15];
+
+/// The calls in this order, and behind each what it is answered.
+const HISTORY: &str =
+    "hfault 1\ndone\nhwrite 1 0 616263\ndone\nregvm 0\ndone\nregvcpu 0 0\ndone\nregvcpu 0 1\ndone\nsetboot 0 0 3\nimage 0\nremap 0 0 1\ndone\nverify 0\ndone\ngwrite 0 0 7 0 2a\nfault 7\ngwrite 0 1 8 0 2b\nfault 8\nmap 0 0 2\ndone\nmap 0 1 3\ndone\ngwrite 0 0 7 0 2a\ndone\ngwrite 0 1 8 0 2b\ndone\ngread 0 0 7 0 1\ndata 2a\ngread 0 1 8 0 1\ndata 2b\n";
+
+/// A program of each actor.
+fn programs(alloc: Global) -> Option<Vec<Program>> {
     let mut programs = Vec::new(alloc);
-    for (actor, lines) in actors {
-        let program = Program::new(*actor, calls_of(alloc, lines)?);
+    for (actor, lines) in ACTORS {
+        let program = Program::new(actor, calls_of(alloc, lines)?);
         programs.push(program).ok()?;
     }
     Some(programs)
 }
 
-/// Programs of which the second takes a frame so often more.
-fn with_takes(alloc: Global, actors: &[(Actor, &str); 2], takes: usize) -> Option<Vec<Program>> {
-    let mut programs = programs(alloc, actors)?;
-    let second = programs.last_mut()?;
-    for _ in 0..takes {
-        second.add(Call::Take).ok()?;
-    }
-    Some(programs)
-}
-
-/// What stops a run of some programs.
-fn stop_of<R: Threads + Wait + Sync>(
+/// Runs the programs, whose calls are let in in this order; no answer where one was not told once, or held for too long.
+fn run<R: Threads + Wait + Clock + Sync>(
     rt: &R,
     alloc: Global,
-    programs: Vec<Program>,
-) -> Option<LiveStop> {
-    run_live(rt, alloc, small_config(alloc)?, programs, &OpenGate).err()
+    order: &[usize],
+) -> Option<(History, Vec<Vec<Receipt>>)> {
+    let gate = Watch::new(rt, alloc, 16, order)?;
+    let programs = programs(alloc)?;
+    let ran = run_live(rt, alloc, small_config(alloc)?, programs, &gate).ok()?;
+    if gate.has_told_each_once() {
+        Some(ran)
+    } else {
+        None
+    }
 }
 
-/// Why programs do not run, of which the second takes a frame so often more.
-fn cause<R: Threads + Wait + Sync>(
+/// Appends the line of a call.
+fn push_call_line(text: &mut Vec<u8>, call: &Call) -> Option<()> {
+    text.reserve(LONGEST_CALL).ok()?;
+    push_call(text, call);
+    Some(())
+}
+
+/// Appends the line of a reply.
+fn push_reply_line(text: &mut Vec<u8>, reply: &Reply) -> Option<()> {
+    text.reserve(LONGEST_REPLY).ok()?;
+    push_reply(text, reply);
+    Some(())
+}
+
+/// The calls of a history, each with its reply behind it, as they are written.
+fn text_of(alloc: Global, history: &History) -> Option<Vec<u8>> {
+    let mut text = Vec::new(alloc);
+    for entry in history.entries() {
+        push_call_line(&mut text, &entry.call)?;
+        push_reply_line(&mut text, &entry.reply)?;
+    }
+    Some(text)
+}
+
+/// Whether a history has these calls and replies.
+fn is_history(alloc: Global, history: &History, lines: &str) -> bool {
+    match text_of(alloc, history) {
+        Some(text) => text.as_slice() == lines.as_bytes(),
+        None => false,
+    }
+}
+
+/// Whether these are the receipts of a history.
+fn is_settled(alloc: Global, history: &History, rows: &[Vec<Receipt>]) -> bool {
+    matches!(settle(alloc, history, rows), Ok(true))
+}
+
+/// Whether a run whose calls are let in in this order has this history, and the receipts are its own.
+fn is_run<R: Threads + Wait + Clock + Sync>(
     rt: &R,
     alloc: Global,
-    actors: &[(Actor, &str); 2],
-    takes: usize,
-) -> Option<LiveCause> {
-    let programs = with_takes(alloc, actors, takes)?;
-    let stop = stop_of(rt, alloc, programs)?;
-    if stop.history.is_some() {
-        return None;
-    }
-    Some(stop.cause)
+    order: &[usize],
+    lines: &str,
+) -> Option<bool> {
+    let (history, rows) = run(rt, alloc, order)?;
+    Some(is_history(alloc, &history, lines) && is_settled(alloc, &history, &rows))
 }
 
-/// An actor runs once, its slot and its virtual processor exist, its calls are its own, and a history has no more than
-/// 65,536 calls.
 #[test]
-fn programs_that_do_not_run(rt: HostRuntime) {
-    let takes = (Actor::Host, "take\n");
-    let cases = [
-        ([takes, takes], 0, LiveCause::BadActor(1)),
-        ([takes, (Actor::Vcpu(16, 0), "")], 0, LiveCause::BadActor(1)),
-        ([takes, (Actor::Vcpu(0, 8), "")], 0, LiveCause::BadActor(1)),
-        (
-            [takes, (Actor::Vcpu(0, 0), "")],
-            CALL_LIMIT + 1,
-            LiveCause::NotYours(1, 0),
-        ),
-        (
-            [(Actor::Vcpu(0, 0), ""), takes],
-            CALL_LIMIT,
-            LiveCause::HistoryFull,
-        ),
-    ];
-    for (actors, takes, wanted) in cases {
-        assert_eq!(rt; cause(&rt, rt.alloc(), &actors, takes), Some(wanted));
-    }
+fn threads_follow_a_script(rt: HostRuntime) {
+    assert_eq!(rt; is_run(&rt, rt.alloc(), &ORDER, HISTORY), Some(true));
+}
+
+/// Whether two workers make the calls of a run's history once more, and tell each once, by its place there.
+fn is_made_again<R: Threads + Wait + Clock + Sync>(rt: &R, alloc: Global) -> Option<bool> {
+    let (history, _rows) = run(rt, alloc, &[])?;
+    let gate = Watch::new(rt, alloc, history.entries().len(), &[])?;
+    replay_history(rt, alloc, &history, 2, &gate).ok()?;
+    Some(gate.has_told_each_once())
+}
+
+/// The calls are made once more, and their replies not taken from the history.
+#[test]
+fn the_calls_of_a_history_are_made_again(rt: HostRuntime) {
+    assert_eq!(rt; is_made_again(&rt, rt.alloc()), Some(true));
 }
 
 /// Makes so many calls of one seat, each of which is refused.
@@ -105,15 +148,5 @@ fn a_seat_has_no_more_than_65_536_calls(rt: HostRuntime) -> Result<(), Fail> {
     let once_more = core.call(&rt, &mut seat, Call::HostFault { frame: 0 });
     assert_eq!(rt; once_more, Err(LiveFault::HistoryFull));
     assert_eq!(rt; seat.receipts().len(), CALL_LIMIT);
-    Ok(())
-}
-
-#[test]
-fn a_seat_makes_its_own_calls(rt: HostRuntime) -> Result<(), Fail> {
-    let alloc = rt.alloc();
-    let core = LiveCore::new(alloc, small_config(alloc).ok_or("no configuration")?)?;
-    let mut other = Seat::new(alloc, Actor::Vcpu(0, 0));
-    let not_its_own = core.call(&rt, &mut other, Call::Take);
-    assert_eq!(rt; not_its_own, Err(LiveFault::NotYours));
     Ok(())
 }

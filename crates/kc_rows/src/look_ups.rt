@@ -1,25 +1,35 @@
 //! What the core shows of its state, where a program cannot ask for it.
 use crate::support::after;
-use kc_types::{FrameNo, Owner};
-use std::test::Fail;
+use kc_core::KCore;
+use kc_types::Owner;
+use std::alloc::Global;
 
-/// A free frame is taken, and frame 2 given.
-#[test]
-fn owners_have_frames(rt: HostRuntime) -> Result<(), Fail> {
-    let core = after(rt.alloc(), "take\ngive 2\n").ok_or("no core")?;
-    let rows: [(Owner, &[u32]); 3] = [
-        (Owner::Free, &[6, 7, 2]),
-        (Owner::Host, &[1, 3, 4, 5]),
-        (Owner::Core, &[0]),
-    ];
-    for (owner, numbers) in rows {
-        let frames = core.frames_of(owner)?;
-        assert!(rt;
-            frames
-                .iter()
-                .map(|it| it.number())
-                .eq(numbers.iter().copied())
-        );
+/// Whether an owner has frames of these numbers, in this order.
+fn has_frames(core: &KCore, owner: Owner, numbers: &[u32]) -> bool {
+    let Ok(frames) = core.frames_of(owner) else {
+        return false;
+    };
+    if frames.len() != numbers.len() {
+        return false;
     }
-    Ok(())
+    for at in 0..numbers.len() {
+        if frames[at].number() != numbers[at] {
+            return false;
+        }
+    }
+    true
+}
+
+/// Whether an owner has these frames once a free frame was taken, and frame 2 given.
+fn has_then(alloc: Global, owner: Owner, numbers: &[u32]) -> Option<bool> {
+    let core = after(alloc, "take\ngive 2\n")?;
+    Some(has_frames(&core, owner, numbers))
+}
+
+#[test]
+fn owners_have_frames(rt: HostRuntime) {
+    let alloc = rt.alloc();
+    assert_eq!(rt; has_then(alloc, Owner::Free, &[6, 7, 2]), Some(true));
+    assert_eq!(rt; has_then(alloc, Owner::Host, &[1, 3, 4, 5]), Some(true));
+    assert_eq!(rt; has_then(alloc, Owner::Core, &[0]), Some(true));
 }

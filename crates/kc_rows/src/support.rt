@@ -1,24 +1,22 @@
 //! What the tests share.
-use kc_cli::DEFAULT_CONFIG;
 use kc_core::KCore;
 use kc_trace::read_trace;
 use kc_types::{Call, Config};
 use std::alloc::Global;
 
-/// 8 frames: 0 is the core's, 1 to 4 are the host's, 5 to 7 are free.
-pub const SMALL: &str = DEFAULT_CONFIG;
-
 /// The SHA-256 digest of `abc`, from the examples of FIPS 180-4.
-pub const ABC: [u8; 32] = [
+const ABC: [u8; 32] = [
     0xba, 0x78, 0x16, 0xbf, 0x8f, 0x01, 0xcf, 0xea, 0x41, 0x41, 0x40, 0xde, 0x5d, 0xae, 0x22, 0x23,
     0xb0, 0x03, 0x61, 0xa3, 0x96, 0x17, 0x7a, 0x9c, 0xb4, 0x10, 0xff, 0x61, 0xf2, 0x00, 0x15, 0xad,
 ];
 
-/// So many frames, of which 0 is the core's and the next are the host's, and one leaf for each VM; images of `abc` may
-/// run.
-pub fn config(alloc: Global, frames: u32, host: u32) -> Option<Config> {
+/// Six calls: 0, 1, 3 and 5 share nothing, and 2 and 4 come after them.
+pub const TWO_WAVES: &str = "hfault 1\nhfault 2\nhwrite 1 0 aa\ntake\nhfault 5\nhfault 3\n";
+
+/// 8 frames: 0 is the core's, 1 to 4 are the host's, 5 to 7 are free. Each VM has a leaf, and images of `abc` may run.
+pub fn small_config(alloc: Global) -> Option<Config> {
     let approved = Vec::from_slice(alloc, &[ABC]).ok()?;
-    Config::try_new(frames, 1, host, 1, approved).ok()
+    Config::try_new(8, 1, 4, 1, approved).ok()
 }
 
 /// The calls of a trace, whose header is left out.
@@ -27,10 +25,9 @@ pub fn calls_of(alloc: Global, lines: &str) -> Option<Vec<Call>> {
     read_trace(alloc, trace.as_bytes()).ok()
 }
 
-/// A core of 8 frames after the calls of a trace, whose header is left out: 0 is the core's, 1 to 4 are the host's, 5 to 7
-/// are free at boot.
+/// A small core after the calls of a trace, whose header is left out.
 pub fn after(alloc: Global, lines: &str) -> Option<KCore> {
-    let mut core = KCore::boot(alloc, config(alloc, 8, 4)?).ok()?;
+    let mut core = KCore::boot(alloc, small_config(alloc)?).ok()?;
     let calls = calls_of(alloc, lines)?;
     core.run(alloc, calls.as_slice()).ok()?;
     Some(core)
