@@ -109,7 +109,7 @@ def end_of(lines, start, depth):
         return start
     for at in range(start, len(lines)):
         has_body = has_body or lines[at].endswith("{")
-        if lines[at] == depth + "}" or lines[at].endswith(";") and not has_body:
+        if lines[at] in (depth + "}", depth + "{}") or lines[at].endswith(";") and not has_body:
             return at
     raise BadEdit(f"the function on line {start + 1} has no end")
 
