@@ -36,8 +36,7 @@ class Body:
     lines: tuple
     where: tuple
     is_right: bool = False
-    # Goals whose answers are left out; None where all are.
-    without: tuple | None = ()
+    has_answers: bool = True
 
     def __str__(self):
         kind, name = ("right", "::".join(self.where)) if self.is_right else ("wrong", self.edit)
@@ -46,7 +45,7 @@ class Body:
     def as_right(self):
         """Returns the right body of the same function."""
         lines = self.function.lines_of((self.crate / self.path).read_text())
-        return dataclasses.replace(self, lines=tuple(lines), is_right=True, without=())
+        return dataclasses.replace(self, lines=tuple(lines), is_right=True, has_answers=True)
 
     def is_of_trait(self):
         return " for " in self.function.owner or "trait " in self.function.owner
@@ -59,23 +58,6 @@ class Body:
     def proof_files(self):
         folders = self.proof_folders(self.crate, self.function.name)
         return [file for folder in folders for file in folder.glob("**/*.antt")]
-
-    def has_answer(self, goal):
-        return any(answer_of(goal).search(it.read_text()) for it in self.proof_files() if it.name == "Answers.antt")
-
-    def leave_out_answers(self, root, name):
-        """Leaves out the answers that are not to be tried, of the function under a name."""
-        for folder in self.proof_folders(root, name):
-            for file in folder.glob("**/Answers.antt"):
-                if self.without is None:
-                    file.unlink()
-                for goal in self.without or ():
-                    file.write_text(answer_of(goal).sub("", file.read_text()))
-
-
-def answer_of(goal):
-    """Returns a pattern of the answer of a goal, up to the next one."""
-    return re.compile(rf"(?ms)^pub {re.escape(goal)} :.*?(?=^pub |\Z)")
 
 
 def functions(text):
@@ -137,7 +119,7 @@ def outside(text, found):
 
 def applied(edit, crate):
     """Returns the one file that an edit turns, the text that it makes of it, and whether answers are tried with it."""
-    path, old, text, without = None, None, None, ()
+    path, old, text, has_answers = None, None, None, True
     for line in edit.read_text().split("\n"):
         word, _, rest = line.partition(": ")
         if word == "file":
@@ -154,18 +136,17 @@ def applied(edit, crate):
                 raise BadEdit(f"an old text is in {path.name} {text.count(old)} times, and not once")
             text, old = text.replace(old, rest), None
         elif word == "answers":
-            kind, *goals = rest.split()
-            if (kind, bool(goals)) not in (("none", False), ("without", True)):
-                raise BadEdit("behind 'answers: ' stands 'none' or 'without' and names of goals, or there is no such line")
-            without = tuple(goals) or None
+            if rest != "none":
+                raise BadEdit("behind 'answers: ' stands 'none', or there is no such line")
+            has_answers = False
     if text is None:
         raise BadEdit("it has no new text")
-    return path, text, without
+    return path, text, has_answers
 
 
 def wrong_body(edit, crate):
     """Returns the wrong body that an edit makes of the one function whose body it turns."""
-    path, now, without = applied(edit, crate)
+    path, now, has_answers = applied(edit, crate)
     was = path.read_text()
     old, new = functions(was), functions(now)
     if outside(was, old) != outside(now, new):
@@ -179,12 +160,9 @@ def wrong_body(edit, crate):
         raise BadEdit("it turns a signature or a clause")
     path = str(path.relative_to(crate))
     where = place(crate, path, function)
-    body = Body(crate, edit.name, path, function, tuple(wrong), where, without=without)
-    if without is None and all(it.name != "Answers.antt" for it in body.proof_files()):
+    body = Body(crate, edit.name, path, function, tuple(wrong), where, has_answers=has_answers)
+    if not has_answers and all(it.name != "Answers.antt" for it in body.proof_files()):
         raise BadEdit("its function has no answers to leave out")
-    for goal in without or ():
-        if not body.has_answer(goal):
-            raise BadEdit(f"its function has no answer of {goal} to leave out")
     return body
 
 
