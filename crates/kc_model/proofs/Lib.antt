@@ -5,3 +5,4 @@ pub mod Safe
 pub mod Blind
 pub mod Local
 pub mod Footprints
+pub mod Custody

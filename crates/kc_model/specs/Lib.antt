@@ -16,3 +16,5 @@ pub mod Local
 pub mod Footprints
 pub mod Linked
 pub mod Histories
+pub mod Custody
+pub mod CustodyLaws

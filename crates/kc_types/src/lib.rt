@@ -3,6 +3,7 @@
 
 mod call;
 mod config;
+mod custody;
 mod data;
 mod limits;
 mod link;
@@ -18,6 +19,7 @@ mod version;
 
 pub use call::{Actor, Call, actor_of};
 pub use config::{Config, ConfigFault};
+pub use custody::{Change, Custody, FrameChange, MeasuredImage, MeasuredImages, PhaseChange};
 pub use data::{Data, SHORT_SIZE};
 pub use limits::{
     BYTE_LIMIT, CALL_LIMIT, DIGEST_LIMIT, FIRST_FRAME_LIMIT, FIRST_SLOT_LIMIT, FRAME_LIMIT,

@@ -114,7 +114,7 @@ unless-active v None m call active = effect-active v m call active
 unless-active v (Some r) m call active = inl (refused-clears v call r, active)
 
 -- a slot is active after a call if it was and was not cleared, or if the call measured it
-becomes_active : (v : ℕ) (m : State) (call : Call) → IsActive (next m call).1 v → ((Clears v call (next m call).0 → ⊥) × IsActive m v) ⊎ Measures v m call (next m call).0
+pub becomes_active : (v : ℕ) (m : State) (call : Call) → IsActive (next m call).1 v → ((Clears v call (next m call).0 → ⊥) × IsActive m v) ⊎ Measures v m call (next m call).0
 unfolding Becomes next
 becomes_active v m call active = unless-active v (refusal m call) m call active
 

@@ -1,0 +1,11 @@
+pub mod Same
+pub mod Told
+pub mod Traced
+pub mod Still
+pub mod Private
+pub mod Phases
+pub mod Active
+pub mod Approved
+pub mod Tells
+pub mod Runs
+pub mod Laws

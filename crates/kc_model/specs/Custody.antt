@@ -1,0 +1,98 @@
+-- Custody: what is told of each frame and slot, and every change of it, call by call.
+use Rattle.std.specs.Prelude.{ℕ, ◌+◌, Bool, true, false, not, ◌&&◌, ◌==◌, List, [], ◌∷◌, ◌++◌, map, filter, Option, Some, None}
+use Rattle.std.specs.List.{range_with_len}
+use Rattle.sha2.specs.Sha256.{sha256}
+use Rattle.kc_types.specs.Configuration.{slot_count}
+use Rattle.kc_types.specs.declared.call.Call.{Call}
+use Rattle.kc_types.specs.declared.slot.Phase.{Phase}
+use Rattle.kc_types.specs.declared.slot.Phase.TheVariants.{Empty, Booting, Active, Dead}
+use Rattle.kc_types.specs.declared.custody.Custody.{Custody}
+use Rattle.kc_types.specs.declared.custody.FrameChange.{FrameChange}
+use Rattle.kc_types.specs.declared.custody.MeasuredImage.{MeasuredImage}
+use Rattle.kc_types.specs.declared.custody.PhaseChange.{PhaseChange}
+use Rattle.kc_types.specs.declared.custody.Change.{Change}
+use Rattle.kc_types.specs.declared.custody.Change.TheVariants as change
+use Rattle.kc_model.specs.State.{State, Frame, Image, frame_at, slot_at}
+use Rattle.kc_model.specs.Lawful.{same_owner}
+use Rattle.kc_model.specs.Effects.{image_bytes}
+use Rattle.kc_model.specs.Next.{next}
+
+-- the custody of a frame: who owns it, where its VM sees it, how often it is shared, whether the host reaches it. All of it but its bytes
+abbrev pub custody_of : Frame → Custody
+custody_of frame = record { owner = frame.owner; gfn = frame.gfn; share = frame.share; present = frame.present }
+
+abbrev pub custody_at : State → ℕ → Custody
+custody_at m f = custody_of (frame_at m f)
+
+abbrev pub same_gfn : Option ℕ → Option ℕ → Bool
+same_gfn None None = true
+same_gfn (Some g) (Some h) = g == h
+same_gfn _ _ = false
+
+abbrev pub same_flag : Bool → Bool → Bool
+same_flag true b = b
+same_flag false b = not b
+
+abbrev pub same_custody : Custody → Custody → Bool
+same_custody a b = same_owner a.owner b.owner && same_gfn a.gfn b.gfn && (a.share == b.share) && same_flag a.present b.present
+
+-- whether the frame's custody differs between two states
+abbrev pub has_moved : State → State → ℕ → Bool
+has_moved old new f = not (same_custody (custody_at old f) (custody_at new f))
+
+-- the frame's custody in both
+abbrev pub frame_change : ℕ → State → State → ℕ → FrameChange
+frame_change line old new f = record { line = line; frame = f; before = custody_at old f; after = custody_at new f }
+
+-- the changes of frames by a call: of all frames, rising, those whose custody differs before and after it
+abbrev pub frame_changes_by : ℕ → State → State → List FrameChange
+frame_changes_by line old new = map (frame_change line old new) (filter (has_moved old new) (range_with_len 0 old.config.frames))
+
+abbrev pub same_phase : Phase → Phase → Bool
+same_phase Empty Empty = true
+same_phase Booting Booting = true
+same_phase Active Active = true
+same_phase Dead Dead = true
+same_phase _ _ = false
+
+-- whether the slot's phase differs between two states
+abbrev pub has_turned : State → State → ℕ → Bool
+has_turned old new v = not (same_phase (slot_at old v).phase (slot_at new v).phase)
+
+-- an image of a slot, with the digest of its bytes
+abbrev pub measured_image : State → ℕ → Image → MeasuredImage
+measured_image m v image = record { base = image.base; len = image.len; digest = sha256 (image_bytes m v image) }
+
+abbrev pub measured_images : State → ℕ → List MeasuredImage
+measured_images m v = map (measured_image m v) (slot_at m v).images
+
+-- a slot is measured where it becomes active or dead
+abbrev pub images_for : Phase → List MeasuredImage → List MeasuredImage
+images_for Active images = images
+images_for Dead images = images
+images_for _ images = []
+
+-- the slot's phase after a call, and its images as they stood before it where they were measured
+abbrev pub phase_change : ℕ → State → State → ℕ → PhaseChange
+phase_change line old new v = record { line = line; vm = v; phase = (slot_at new v).phase; images = images_for (slot_at new v).phase (measured_images old v) }
+
+-- the changes of slots by a call: of all slots, rising, those whose phase differs before and after it
+abbrev pub phase_changes_by : ℕ → State → State → List PhaseChange
+phase_changes_by line old new = map (phase_change line old new) (filter (has_turned old new) (range_with_len 0 (slot_count old.config)))
+
+-- the changes by a call: of frames, and then of slots
+abbrev pub changes_by : ℕ → State → State → List Change
+changes_by line old new = map change.Frame (frame_changes_by line old new) ++ map change.Phase (phase_changes_by line old new)
+
+-- the changes by calls, one after another; the first call has this line
+abbrev pub custody_from : ℕ → State → List Call → List Change
+custody_from n m [] = []
+custody_from n m (call ∷ calls) = changes_by n m (next m call).1 ++ custody_from (n + 1) (next m call).1 calls
+
+-- the line of a trace's first call: its header is line 1
+abbrev pub first_line : ℕ
+first_line = 2
+
+-- the changes of a trace
+abbrev pub custody : State → List Call → List Change
+custody m calls = custody_from first_line m calls

@@ -1,0 +1,106 @@
+//! What an auditor is told of frames and slots, and its changes by calls.
+ghost use Rattle.std.specs.Prelude.{◌≡◌, ◌≤◌, [], length, IfOk};
+ghost use Rattle.kc_types.specs.Limits.{image_limit};
+
+use crate::{Gfn, IMAGE_LIMIT, Memory, Owner, Phase};
+use arrayvec::ArrayVec;
+use std::alloc::Global;
+use std::marker::Model;
+
+/// The custody of a frame: all that the core keeps of it but its bytes and its neighbours in lists.
+#[derive(Clone, Copy, Debug, PartialEq, Eq)]
+pub struct Custody {
+    pub owner: Owner,
+    /// The guest frame at which its VM sees it.
+    pub gfn: Option<Gfn>,
+    /// How often its VM has granted the host access, 0 to 100.
+    pub share: u32,
+    /// Whether the host's access is mapped.
+    pub present: bool,
+}
+
+/// A change of a frame's custody by a call.
+#[derive(Clone, Copy, Debug, PartialEq, Eq)]
+pub struct FrameChange {
+    /// The line of the call in its trace, whose header is line 1.
+    pub line: u32,
+    pub frame: u32,
+    pub before: Custody,
+    pub after: Custody,
+}
+
+/// A boot image as it was measured.
+#[derive(Clone, Copy, Debug, Default, PartialEq, Eq)]
+pub struct MeasuredImage {
+    /// Its first guest frame.
+    pub base: u32,
+    /// Its length in bytes.
+    pub len: u32,
+    /// The SHA-256 digest (FIPS 180-4) of its bytes.
+    pub digest: [u8; 32],
+}
+
+/// The boot images of a slot as they were measured, at most 4, seen as the list of them.
+#[derive(Debug, Drop)]
+pub struct MeasuredImages {
+    images: Box<ArrayVec<MeasuredImage, IMAGE_LIMIT>>,
+}
+
+impl Model for MeasuredImages {
+    ghost use Rattle.std.specs.Prelude.{List, ◌≤◌, length};
+    ghost use Rattle.kc_types.specs.Limits.{image_limit};
+    ghost use Rattle.kc_types.specs.declared.custody.MeasuredImage.{MeasuredImage};
+
+    ghost Value = { List MeasuredImage };
+
+    ghost view = { λ m. m.images.value.items };
+
+    ghost invariant = { λ m. length m.images.value.items ≤ image_limit };
+}
+
+impl MeasuredImages {
+    /// No images, with room for 4; `Memory` where a growth was refused.
+    pub fn none(alloc: Global) -> Result<MeasuredImages, Memory>
+        // No clause can rule out want of memory: a test makes them.
+        ensures { IfOk result (λ images. images ≡ []) }
+    {
+        match Box::new(alloc, ArrayVec::new()) {
+            Ok(images) => Ok(MeasuredImages { images }),
+            Err(_) => Err(Memory),
+        }
+    }
+
+    /// These images in place of those that were there.
+    pub fn set(&mut self, images: ArrayVec<MeasuredImage, IMAGE_LIMIT>)
+        ensures { self.new ≡ images.items }
+    {
+        *self.images = images;
+    }
+
+    /// The images, by their numbers.
+    pub fn as_slice(&self) -> &[MeasuredImage]
+        ensures value { result.now ≡ self.now }
+        ensures few { length result.now ≤ image_limit }
+    {
+        self.images.as_slice()
+    }
+}
+
+/// A change of a slot's phase by a call.
+#[derive(Debug, Drop)]
+pub struct PhaseChange {
+    /// The line of the call in its trace, whose header is line 1.
+    pub line: u32,
+    pub vm: u32,
+    /// The phase after the call.
+    pub phase: Phase,
+    /// Its boot images, where the call measured them: where it became active or dead.
+    pub images: MeasuredImages,
+}
+
+/// What is told of a call.
+#[derive(Debug, Drop)]
+pub enum Change {
+    Frame(FrameChange),
+    Phase(PhaseChange),
+}
