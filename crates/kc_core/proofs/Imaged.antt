@@ -2,13 +2,16 @@
 use Rattle.std.proofs.Common.{ℕ, zero, suc, ◌≡◌, ◌<◌, ◌+◌, ◌-◌, ◌%◌, true, false, is_some, All, List, [], ◌∷◌, length, get_or, take, Option, Some, None, refl, sym, ap, subst, ◌∙◌, arith}
 use Rattle.std.specs.Ordering.{nat_cmp}
 use Rattle.std.specs.FinMap as map
+use Rattle.sha2.specs.Sha256.{sha256}
+use Rattle.kc_types.specs.declared.custody.MeasuredImage.{MeasuredImage}
 use Rattle.kc_model.proofs.Local.VerifyLocal.{pages-same}
 use Rattle.kc_types.specs.Configuration.{Configuration, slot_count}
 use Rattle.kc_types.specs.declared.call.Call.TheVariants.{Verify}
 use Rattle.kc_types.specs.declared.resource.Resource.TheVariants as resource
 use Rattle.kc_model.specs.State.{State, Image, Slot, slot_at, mapped_at, frame_at, with_frame}
 use Rattle.kc_model.specs.Refusals.{refusal, backing, pages_of, is_short}
-use Rattle.kc_model.specs.Effects.{bytes_at, image_bytes, trimmed, all_trimmed}
+use Rattle.kc_model.specs.Effects.{bytes_at, image_bytes, trimmed, all_trimmed, first_failing, is_approved}
+use Rattle.kc_model.specs.Custody.{measured_image, measured_images}
 use Rattle.kc_model.proofs.Lawful.Verifies.{verify-served, backing-of}
 use Rattle.kc_model.proofs.States.Slots.{none-at}
 use Rattle.kc_model.proofs.Local.Needs.{not_short}
@@ -22,8 +25,9 @@ use Rattle.kc_parts.specs.States.{slot_in, state_of, IsLinked}
 use Rattle.kc_parts.proofs.Seen.{frame-seen, slot-seen}
 use Rattle.kc_links.specs.Chain.{Links}
 use Rattle.kc_core.specs.Applying.{KeepsPlaces, IsAble}
-use Rattle.kc_core.specs.Verifying.{mapped_in, page_under, bytes_under, bytes_of_image, IsImageHere}
+use Rattle.kc_core.specs.Verifying.{mapped_in, page_under, bytes_under, bytes_of_image, is_approved_digest, IsImageHere}
 use Rattle.kc_core.proofs.Frames.{changed}
+use Rattle.kc_core.proofs.FirstFailing.{fails-map}
 use Rattle.kc_parts.proofs.Looked.{slot-is}
 use Rattle.kc_core.proofs.Needed.{slot-needed, mapped-needed}
 
@@ -43,9 +47,23 @@ pub image-seen : (config : Configuration) (h : Held) (v : ℕ) (vm : VmSlot) (im
 image-seen config h v vm image low linked at here =
     ap (take image.len) (pages-same (bytes_under h (map.get vm.slot.mapped)) (bytes_at (state_of config h) v) image.base (pages_of image.len) (λ g from below. bytes-seen config h v vm g low linked at (here.pages g from below)))
 
+-- the first image that is not approved, by the digests that were measured
+pub unapproved-seen : (config : Configuration) (h : Held) (v : ℕ) → first_failing (λ (image : MeasuredImage). is_approved_digest config image.digest) (measured_images (state_of config h) v) ≡ first_failing (is_approved (state_of config h) v) (slot_at (state_of config h) v).images
+unapproved-seen config h v =
+    fails-map (is_approved (state_of config h) v) (λ (image : MeasuredImage). is_approved_digest config image.digest) (measured_image (state_of config h) v) (slot_at (state_of config h) v).images (λ i d low. refl)
+
 -- the images of a slot that is here, through its table
 pub image-through : (h : Held) (v : ℕ) (vm : VmSlot) (table : Table) (image : Image) → vm_at h v ≡ Some vm → table ≡ slot_table vm → IsImageHere h (mapped_in (vm_at h v)) image → IsImageHere h (map.get table.mapped) image
 image-through h v vm table image at through here = subst (λ (t : Table). IsImageHere h (map.get t.mapped) image) (sym through) (subst (λ there. IsImageHere h (mapped_in there) image) at here)
+
+-- an image of such a slot, with the digest of its bytes
+pub measured-seen : (config : Configuration) (h : Held) (v : ℕ) (vm : VmSlot) (table : Table) (image : Image) (digest : List ℕ) → v < slot_count config → IsLinked config h → vm_at h v ≡ Some vm → table ≡ slot_table vm
+    → IsImageHere h (mapped_in (vm_at h v)) image → digest ≡ sha256 (bytes_of_image h (map.get table.mapped) image) → record { base = image.base; len = image.len; digest = digest } ≡ measured_image (state_of config h) v image
+measured-seen config h v vm table image digest low linked at through here is =
+    ap (λ bytes. record { base = image.base; len = image.len; digest = bytes })
+    (is
+    ∙ ap (λ (t : Table). sha256 (bytes_of_image h (map.get t.mapped) image)) through
+    ∙ ap sha256 (image-seen config h v vm image low linked at (image-through h v vm (slot_table vm) image at refl here)))
 
 -- the last page of an image that is trimmed
 pub state-trimmed : (config : Configuration) (h : Held) (v : ℕ) (vm : VmSlot) (image : Image) (f : ℕ) (page new : Page) → v < slot_count config → IsLinked config h → vm_at h v ≡ Some vm → 0 < image.len

@@ -1,8 +1,8 @@
 -- The bytes of pages, joined and cut, and the approval of their digest.
 use Rattle.std.proofs.Common.{ℕ, zero, suc, ◌≡◌, ◌<◌, ◌≤◌, ◌+◌, ◌-◌, ◌*◌, inl, inr, min, All, Bool, true, false, cond, List, [], ◌∷◌, ◌++◌, length, take, map, get_or, refl, sym, ap, ap₂, subst, ◌∙◌, arith, eq-eqb, length-append}
-use Rattle.std.specs.Prelude.{◌==◌, ◌↔◌, IsTrue, Contains}
+use Rattle.std.specs.Prelude.{◌↔◌, IsTrue, Contains}
 use Rattle.std.specs.List.{flat_map, list_any, range_with_len}
-use Rattle.std.proofs.lemmas.Bool.{cases_lt, eqb-true}
+use Rattle.std.proofs.lemmas.Bool.{cases_lt}
 use Rattle.std.proofs.lemmas.Grind.{flat_map-append}
 use Rattle.std.proofs.lemmas.List.{take_all, append-nil, get_or-map, length-map}
 use Rattle.std.proofs.lemmas.List.FromFn.{map-range_with_len_more}
@@ -10,12 +10,13 @@ use Rattle.std.proofs.lemmas.List.{map-id}
 use Rattle.std.proofs.lemmas.List.Folds.{list_any_at, Any-from_list_any}
 use Rattle.kc_model.specs.Refusals.{pages_of}
 use Rattle.kc_model.specs.Effects.{same_bytes}
+use Rattle.kc_model.proofs.Custody.Approved.{same_bytes-is}
 
 -- the bytes of `n` places, joined
 abbrev pub joined : (ℕ → List ℕ) → ℕ → ℕ → List ℕ
 joined bytes a n = flat_map bytes (range_with_len a n)
 
-range-more : (a n : ℕ) → range_with_len a (n + 1) ≡ range_with_len a n ++ (a + n) ∷ []
+pub range-more : (a n : ℕ) → range_with_len a (n + 1) ≡ range_with_len a n ++ (a + n) ∷ []
 range-more a n = sym (map-id (range_with_len a (n + 1))) ∙ map-range_with_len_more (λ g. g) a n (a + n) refl ∙ ap (λ gs. gs ++ (a + n) ∷ []) (map-id (range_with_len a n))
 
 pub joined-more : (bytes : ℕ → List ℕ) (a n : ℕ) → joined bytes a (n + 1) ≡ joined bytes a n ++ bytes (a + n)
@@ -56,17 +57,6 @@ whole-more bytes a g page from is whole before =
     let at : a + (g - a) ≡ g = omega (arith, from) in
     let more : joined bytes a (g + 1 - a) ≡ joined bytes a (g - a) ++ page = ap (joined bytes a) next ∙ joined-more bytes a (g - a) ∙ ap (λ k. joined bytes a (g - a) ++ bytes k) at ∙ ap (λ p. joined bytes a (g - a) ++ p) is in
     ap length more ∙ length-append (joined bytes a (g - a)) page ∙ (omega (arith, before, whole, from))
-
--- bytes are the same where the test says so
-same_bytes-is : (xs ys : List ℕ) → same_bytes xs ys ≡ true → xs ≡ ys
-same_bytes-is [] [] same = refl
-same_bytes-is [] (y ∷ ys) same = cc
-same_bytes-is (x ∷ xs) [] same = cc
-same_bytes-is (x ∷ xs) (y ∷ ys) same = by_first (x == y) refl (same_bytes-is xs ys) same
-  where
-    by_first : (first : Bool) → (x == y) ≡ first → (same_bytes xs ys ≡ true → xs ≡ ys) → cond first (same_bytes xs ys) false ≡ true → x ∷ xs ≡ y ∷ ys
-    by_first true is later rest = rw (eqb-true x y is, later rest) refl
-    by_first false is later rest = cc
 
 same_bytes-refl : (xs : List ℕ) → same_bytes xs xs ≡ true
 same_bytes-refl [] = refl

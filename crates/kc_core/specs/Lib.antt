@@ -4,3 +4,4 @@ pub mod Guests
 pub mod Hands
 pub mod KCore
 pub mod Runs
+pub mod Locality

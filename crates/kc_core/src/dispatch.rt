@@ -45,7 +45,7 @@ fn answer_in(
         Call::RegisterVcpu { vm, vcpu } => Ok(register_vcpu(parts, config, *vm, *vcpu)),
         Call::SetBoot { vm, base, len } => Ok(set_boot(parts, config, *vm, *base, *len)),
         Call::Remap { vm, image, frame } => Ok(remap(parts, config, *vm, *image, *frame)),
-        Call::Verify { vm } => Ok(verify(parts, config, *vm)),
+        Call::Verify { vm } => Ok(verify(parts, config, *vm).reply),
         Call::Map { vm, vcpu, frame } => Ok(map(parts, config, *vm, *vcpu, *frame)),
         Call::GuestRead {
             vm,

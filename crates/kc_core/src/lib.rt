@@ -18,3 +18,4 @@ mod verify;
 pub use dispatch::{answer, apply};
 pub use gate::{Gate, OpenGate};
 pub use one_thread::{KCore, RunStop};
+pub use verify::Verified;

@@ -1,8 +1,11 @@
 //! The core, seen as a state that is lawful after every call.
-ghost use Rattle.std.specs.Prelude.{◌≡◌, ◌+◌, ◌<◌, ◌≤◌, map, IsSome, IfSome, ◌↔◌, IfOk, IfErr, IsErr, OnOk, OnErr, true};
+ghost use Rattle.std.specs.Prelude.{◌≡◌, ◌+◌, ◌<◌, ◌≤◌, map, IsSome, IfSome, ◌↔◌, IfOk, IfErr, IsErr, OnOk, OnErr, None, true};
 ghost use Rattle.kc_types.specs.ReplyBytes.{is_data, most_reply_bytes};
+ghost use Rattle.kc_types.specs.declared.call.Call.TheVariants.{Verify};
 ghost use Rattle.kc_model.specs.Boot.{boot};
 ghost use Rattle.kc_model.specs.Next.{next, replies_from, state_after};
+ghost use Rattle.kc_model.specs.Refusals.{refusal};
+ghost use Rattle.kc_model.specs.Custody.{measured_images};
 ghost use Rattle.kc_model.specs.Lawful.{IsLawful};
 ghost use Rattle.kc_core.specs.Runs.{StopsAfter};
 ghost use Rattle.kc_model.specs.Safety.{IsSafe};
@@ -21,7 +24,7 @@ ghost use Rattle.kc_core.specs.KCore.{IsCore, frames_to_hash};
 use crate::dispatch::answer;
 use crate::look_ups::{frames_of, page_record};
 use crate::on_parts::{make, run};
-use crate::verify::booted_slot;
+use crate::verify::{Verified, booted_slot, verify};
 use kc_page::{Page, PageBytes, PageRecord, scrub_all};
 use kc_parts::Parts;
 use kc_types::{
@@ -124,6 +127,16 @@ impl KCore {
         ensures memory { IsErr result → is_data (next self.old call.now).0 ≡ true }
     {
         make(self.alloc, &mut self.parts, &self.config, call)
+    }
+
+    /// Answers `verify` of a VM slot, 0 to 63, as `call` does, and gives the images that it measured.
+    pub fn verify(&mut self, vm: u32) -> Verified
+        ensures reply { result.reply ≡ (next self.old (Verify vm)).0 }
+        ensures images { refusal self.old (Verify vm) ≡ None → result.images.items ≡ measured_images self.old vm }
+        ensures state { self.new ≡ (next self.old (Verify vm)).1 }
+        ensures lawful { IsLawful self.new }
+    {
+        verify(&mut self.parts, &self.config, vm)
     }
 
     /// Answers a trace, call by call, and gives the replies in order.

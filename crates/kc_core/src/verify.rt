@@ -1,25 +1,30 @@
 //! Verifying a VM: its boot images are measured, and it becomes active or dead.
-ghost use Rattle.std.specs.Prelude.{◌≡◌, ◌+◌, ◌<◌, ◌↔◌, ◌||◌, ◌==◌, All, IsTrue, IfOk, Some, None, true, is_some, length, map};
+ghost use Rattle.std.specs.Prelude.{◌≡◌, ◌+◌, ◌<◌, ◌≤◌, ◌↔◌, ◌||◌, ◌==◌, All, IsTrue, IfOk, Some, None, true, is_some, length, map};
 ghost use Rattle.std.specs.List.{list_any};
 ghost use Rattle.std.specs.FinMap as finite;
 ghost use Rattle.sha2.specs.Sha256.{sha256};
-ghost use Rattle.kc_types.specs.Limits.{gfn_limit, page_size};
+ghost use Rattle.kc_types.specs.Limits.{gfn_limit, page_size, image_limit};
 ghost use Rattle.kc_types.specs.Configuration.{slot_count};
 ghost use Rattle.kc_types.specs.declared.call.Call.TheVariants.{Verify};
 ghost use Rattle.kc_types.specs.Refusals.{Answers};
 ghost use Rattle.kc_model.specs.State.{slot_at};
 ghost use Rattle.kc_model.specs.Lawful.{IsLawfulImage};
 ghost use Rattle.kc_model.specs.Refusals.{refusal, backing, pages_of, is_short};
-ghost use Rattle.kc_model.specs.Effects.{effect, is_approved, first_failing, trimmed, all_trimmed};
+ghost use Rattle.kc_model.specs.Effects.{effect, first_failing, trimmed, all_trimmed};
+ghost use Rattle.kc_model.specs.Custody.{measured_images};
+ghost use Rattle.kc_types.specs.declared.custody.MeasuredImage.{MeasuredImage};
 ghost use Rattle.kc_parts.specs.Parts.{vm_at};
 ghost use Rattle.kc_parts.specs.States.{state_of, IsLinked};
 ghost use Rattle.kc_core.specs.Applying.{IsAble, IsAnswer, KeepsPlaces};
 ghost use Rattle.kc_core.specs.Verifying.{mapped_in, page_under, bytes_under, bytes_of_image, is_approved_digest, AreFourAlike, IsImageHere};
 
+use arrayvec::ArrayVec;
 use kc_digests::MeasureFour;
 use kc_page::Page;
 use kc_parts::Parts;
-use kc_types::{Config, FrameNo, Gfn, Image, PAGE_SIZE, Phase, Refusal, Reply, VmId};
+use kc_types::{
+    Config, FrameNo, Gfn, IMAGE_LIMIT, Image, MeasuredImage, PAGE_SIZE, Phase, Refusal, Reply, VmId,
+};
 use kc_vms::{Approved, Measure, Stage2, Vm, pages_of};
 
 /// The frame at a mapped guest frame.
@@ -110,19 +115,6 @@ fn digest_of(parts: &Parts, table: &Stage2, image: &Image) -> [u8; 32]
     measure.finish()
 }
 
-/// Whether the digest of an image's bytes is approved.
-fn is_approved_image(parts: &Parts, config: &Config, vm: VmId, image: &Image) -> bool
-    requires low { vm < slot_count config.now }
-    requires linked { IsLinked config.now parts.now }
-    requires lawful { IsLawfulImage image.now }
-    requires here { IsImageHere parts.now (mapped_in (vm_at parts.now vm)) image.now }
-    ensures { result ≡ is_approved (state_of config.now parts.now) vm image.now }
-{
-    let slot = parts.slot(vm);
-    let digest = digest_of(parts, slot.table(), image);
-    Approved::new(config.approved()).is_approved(&digest)
-}
-
 /// Whether these are four images of one length.
 fn are_four_alike(images: &[Image]) -> bool
     ensures { IsTrue result ↔ AreFourAlike images.now }
@@ -130,34 +122,49 @@ fn are_four_alike(images: &[Image]) -> bool
     images.len() == 4 && images.iter().all(|image| image.len == images[0].len)
 }
 
-/// The number of the first digest that is not approved.
-fn first_unapproved_digest(config: &Config, digests: &[[u8; 32]; 4]) -> Option<u32>
-    ensures { result ≡ first_failing (is_approved_digest config.now) digests.now }
+/// An image with the digest of its bytes.
+fn measured(image: &Image, digest: [u8; 32]) -> MeasuredImage
+    ensures { result ≡ record { base = image.now.base; len = image.now.len; digest = digest } }
 {
-    let approved = Approved::new(config.approved());
-    for i in 0..digests.len() {
-        if !approved.is_approved(&digests[i]) {
-            return Some(i as u32);
-        }
+    MeasuredImage {
+        base: image.base,
+        len: image.len,
+        digest,
     }
-    None
 }
 
-/// The number of a slot's first image that is not approved.
-fn first_unapproved(parts: &Parts, config: &Config, vm: VmId) -> Option<u32>
+/// A slot's images, each with the digest of its bytes.
+fn measured_images(parts: &Parts, config: &Config, vm: VmId) -> ArrayVec<MeasuredImage, IMAGE_LIMIT>
     requires low { vm < slot_count config.now }
     requires linked { IsLinked config.now parts.now }
     requires slot { is_some (vm_at parts.now vm) ≡ true }
     requires here { All (IsImageHere parts.now (mapped_in (vm_at parts.now vm))) (slot_at (state_of config.now parts.now) vm).images }
-    ensures { result ≡ first_failing (is_approved (state_of config.now parts.now) vm) (slot_at (state_of config.now parts.now) vm).images }
+    ensures { result.items ≡ measured_images (state_of config.now parts.now) vm }
 {
     let slot = parts.slot(vm);
     let images = slot.images();
+    let mut measured_images = ArrayVec::new();
     if are_four_alike(images) {
-        return first_unapproved_digest(config, &digests_of_four(parts, slot.table(), images));
+        let digests = digests_of_four(parts, slot.table(), images);
+        for i in 0..4 {
+            measured_images.push(measured(&images[i], digests[i]));
+        }
+    } else {
+        for image in images {
+            measured_images.push(measured(image, digest_of(parts, slot.table(), image)));
+        }
     }
+    measured_images
+}
+
+/// The number of the first image whose digest is not approved.
+fn first_unapproved(config: &Config, images: &[MeasuredImage]) -> Option<u32>
+    requires { length images.now ≤ image_limit }
+    ensures { result ≡ first_failing (λ (image : MeasuredImage). is_approved_digest config.now image.digest) images.now }
+{
+    let approved = Approved::new(config.approved());
     for i in 0..images.len() {
-        if !is_approved_image(parts, config, vm, &images[i]) {
+        if !approved.is_approved(&images[i].digest) {
             return Some(i as u32);
         }
     }
@@ -245,33 +252,53 @@ pub(crate) fn booted_slot(parts: &Parts, config: &Config, vm: u32) -> Result<VmI
     }
 }
 
+/// The answer of `verify`, and the images that it measured.
+#[derive(Drop)]
+pub struct Verified {
+    pub reply: Reply,
+    /// Where the call was not refused the slot's images, by their numbers.
+    pub images: ArrayVec<MeasuredImage, IMAGE_LIMIT>,
+}
+
 /// Measures the images of a slot, which is booting and has all their pages: it becomes active if all are approved,
 /// and dead if one is not. It stands apart from its judge, since what it needs of the slot is all of it: that no
 /// condition holds, and no one value that the judge could hand over.
-fn measure_slot(parts: &mut Parts, config: &Config, vm: VmId) -> Reply
+fn measure_slot(parts: &mut Parts, config: &Config, vm: VmId) -> Verified
     requires served { refusal (state_of config.now parts.old) (Verify vm) ≡ None }
     requires able { IsAble config.now parts.old (Verify vm) }
-    ensures reply { result ≡ (effect (state_of config.now parts.old) (Verify vm)).0 }
+    ensures reply { result.reply ≡ (effect (state_of config.now parts.old) (Verify vm)).0 }
+    ensures images { result.images.items ≡ measured_images (state_of config.now parts.old) vm }
     ensures state { state_of config.now parts.new ≡ (effect (state_of config.now parts.old) (Verify vm)).1 }
     ensures linked { IsLinked config.now parts.new }
     ensures places { KeepsPlaces parts.old parts.new }
 {
-    if let Some(image) = first_unapproved(parts, config, vm) {
+    let images = measured_images(parts, config, vm);
+    if let Some(image) = first_unapproved(config, images.as_slice()) {
         parts.slot_mut(vm).kill();
-        return Reply::Rejected(image);
+        return Verified {
+            reply: Reply::Rejected(image),
+            images,
+        };
     }
     trim_images(parts, config, vm);
     parts.slot_mut(vm).activate();
-    Reply::Done
+    Verified {
+        reply: Reply::Done,
+        images,
+    }
 }
 
 /// The slot becomes active if all its images are approved, and dead if one is not.
-pub fn verify(parts: &mut Parts, config: &Config, vm: u32) -> Reply
+pub fn verify(parts: &mut Parts, config: &Config, vm: u32) -> Verified
     requires { IsAble config.now parts.old (Verify vm) }
-    ensures { IsAnswer config.now parts.old parts.new (Verify vm) result }
+    ensures answer { IsAnswer config.now parts.old parts.new (Verify vm) result.reply }
+    ensures images { refusal (state_of config.now parts.old) (Verify vm) ≡ None → result.images.items ≡ measured_images (state_of config.now parts.old) vm }
 {
     match booted_slot(parts, config, vm) {
         Ok(vm) => measure_slot(parts, config, vm),
-        Err(refusal) => Reply::Refused(refusal),
+        Err(refusal) => Verified {
+            reply: Reply::Refused(refusal),
+            images: ArrayVec::new(),
+        },
     }
 }

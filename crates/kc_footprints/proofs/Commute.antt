@@ -8,7 +8,8 @@ use Rattle.kc_model.proofs.Footprints.Reaches.{need-within, footprint-keeps, not
 use Rattle.kc_model.proofs.Local.LinksKept.{links-kept}
 use Rattle.kc_model.proofs.Lawful.LawfulTraces.{lawful-at, orderly-at, lists-all}
 use Rattle.waves.proofs.Laws.{commutes}
-use Rattle.kc_footprints.specs.Commuting.{IsCommuting, IsCommutingLinked, HasNeeds, IsStepping}
+use Rattle.kc_footprints.specs.Commuting.{IsCommuting, IsCommutingLinked, HasNeeds}
+use Rattle.kc_footprints.specs.Stepping.{IsStepping}
 
 pub has_needs : HasNeeds
 has_needs m calls is k lt r h = need-within m calls is (orderly-at m calls is) k lt r h

@@ -1,13 +1,11 @@
 -- What each call of a trace needs, and what each wave finds and leaves.
-use Rattle.std.specs.Prelude.{ℕ, ◌≡◌, ◌<◌, suc, false, List, length}
+use Rattle.std.specs.Prelude.{ℕ, ◌≡◌, ◌<◌, List, length}
 use Rattle.kc_types.specs.declared.call.Call.{Call}
 use Rattle.kc_model.specs.State.{State}
 use Rattle.kc_model.specs.Lawful.{IsLawful}
-use Rattle.kc_model.specs.Next.{next}
-use Rattle.kc_model.specs.Resources.{Resource, need, part_of, IsWithin}
-use Rattle.kc_model.specs.Local.{AgreesOn}
+use Rattle.kc_model.specs.Resources.{need, IsWithin}
 use Rattle.kc_model.specs.Linked.{linked_part_at}
-use Rattle.kc_model.specs.Footprints.{call_at, state_at, reply_at, part_at, footprint}
+use Rattle.kc_model.specs.Footprints.{call_at, state_at, part_at, footprint}
 use Rattle.waves.specs.Order.{IsPlan, Commutes}
 
 -- what a call needs lies in its footprint
@@ -27,12 +25,3 @@ IsCommuting = (m : State) (calls : List Call) (wave : ℕ → ℕ) → IsLawful 
 abbrev pub IsCommutingLinked : Type 0
 IsCommutingLinked = (m : State) (calls : List Call) (wave : ℕ → ℕ) → IsLawful m → IsWaves m calls wave
     → Commutes (footprint m calls) wave (linked_part_at m calls) (length calls)
-
--- a call of the trace, made in a store that has the right parts in the call's footprint and anything elsewhere
-pub record IsStep (m : State) (calls : List Call) (k : ℕ) (store : State) : Type 0 where
-  pub reply : (next store (call_at calls k)).0 ≡ reply_at m calls k
-  pub here : AgreesOn (footprint m calls k) (state_at m calls (suc k)) (next store (call_at calls k)).1
-  pub elsewhere : (r : Resource) → footprint m calls k r ≡ false → part_of (next store (call_at calls k)).1 r ≡ part_of store r
-
-abbrev pub IsStepping : Type 0
-IsStepping = (m : State) (calls : List Call) → IsLawful m → (k : ℕ) → k < length calls → (store : State) → AgreesOn (footprint m calls k) (state_at m calls k) store → IsStep m calls k store

@@ -1,6 +1,7 @@
 //! Laws over the definitions alone.
 
-ghost use Rattle.kc_footprints.specs.Commuting.{IsCommuting, IsCommutingLinked, HasNeeds, IsStepping};
+ghost use Rattle.kc_footprints.specs.Commuting.{IsCommuting, IsCommutingLinked, HasNeeds};
+ghost use Rattle.kc_footprints.specs.Stepping.{IsStepping};
 ghost use Rattle.kc_footprints.specs.Reordering.{IsReadiness, IsOrderFree, IsWaveOrderFree};
 
 /// What a call needs lies in its footprint.

@@ -8,10 +8,10 @@ measure_slot-requires-clause-served c = rw c.in-Ok.ensures.slot c.in-Ok.ensures.
 pub measure_slot-requires-clause-able : goal.measure_slot-requires-clause-able
 measure_slot-requires-clause-able c = rw c.in-Ok.ensures.slot c.requires
 
-pub returns-in-Ok : goal.returns-in-Ok
-returns-in-Ok c =
+pub returns-in-Ok-clause-answer : goal.returns-in-Ok-clause-answer
+returns-in-Ok-clause-answer c =
     let done = c.measure_slot.ensures in
     rw (← c.in-Ok.ensures.slot) (answer-served c.args.config.now c.args.parts.now _ (Verify c.in-Ok.vm) _ (rw c.in-Ok.ensures.slot c.in-Ok.ensures.answer) done.reply done.state done.linked done.places)
 
-pub returns-in-Err : goal.returns-in-Err
-returns-in-Err c = answer-refused _ _ _ c.in-Err.refusal c.requires.linked c.in-Err.ensures.answer
+pub returns-in-Err-clause-answer : goal.returns-in-Err-clause-answer
+returns-in-Err-clause-answer c = answer-refused _ _ _ c.in-Err.refusal c.requires.linked c.in-Err.ensures.answer
