@@ -1,0 +1,7 @@
+pub mod Moved
+pub mod Ranges
+pub mod Ordered
+pub mod Told
+pub mod Turned
+pub mod Calls
+pub mod Pushed

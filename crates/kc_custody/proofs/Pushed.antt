@@ -1,0 +1,57 @@
+-- Frames and changes that are appended, one after another.
+use Rattle.std.proofs.Common.{ℕ, ◌≡◌, ◌<◌, ◌≤◌, ◌+◌, ◌||◌, nat_lt, nat_le, Bool, true, false, cond, List, [], ◌∷◌, ◌++◌, map, filter, take, length, get_or, Option, Some, None, refl, sym, ap, ◌∙◌, append_assoc, append-nil}
+use Rattle.std.specs.List.{range_with_len, filter_map, cons_option}
+use Rattle.std.specs.Option.{option_to_list}
+use Rattle.std.proofs.lemmas.List.{take_more, map_push, map-append}
+use Rattle.std.proofs.lemmas.List.Elements.{filter-append, filter_map-append}
+use Rattle.std.proofs.lemmas.Bool.{le-ltb, lt-leb}
+use Rattle.kc_model.specs.State.{State, mapped_at}
+use Rattle.kc_custody.specs.Movable.{mapped_in}
+use Rattle.kc_types.specs.declared.custody.FrameChange.{FrameChange}
+use Rattle.kc_types.specs.declared.custody.Change.{Change}
+use Rattle.kc_types.specs.declared.custody.Change.TheVariants as change
+use Rattle.kc_core.proofs.Measuring.{range-more}
+use Rattle.kc_custody.specs.Marks.{settled, differs}
+
+one-of : (at : Option ℕ) → cons_option at [] ≡ option_to_list at
+one-of None = refl
+one-of (Some f) = refl
+
+-- one guest frame more of a range
+pub ranged-more : (get : ℕ → Option ℕ) (g n : ℕ) → filter_map get (range_with_len g (n + 1)) ≡ filter_map get (range_with_len g n) ++ option_to_list (get (g + n))
+ranged-more get g n = ap (filter_map get) (range-more g n) ∙ filter_map-append get (range_with_len g n) ((g + n) ∷ []) ∙ ap (λ xs. filter_map get (range_with_len g n) ++ xs) (one-of (get (g + n)))
+
+-- one mark more is compared
+pub settled-more : (new : State) (marks : List FrameChange) (i : ℕ) (mark : FrameChange) → i < length marks → mark ≡ get_or marks i mark
+    → map change.Frame (filter differs (map (settled new) (take (i + 1) marks))) ≡ map change.Frame (filter differs (map (settled new) (take i marks))) ++ cond (differs (settled new mark)) (change.Frame (settled new mark) ∷ []) []
+settled-more new marks i mark lt is =
+    let last : take (i + 1) marks ≡ take i marks ++ mark ∷ [] = take_more marks i mark lt ∙ ap (λ x. take i marks ++ x ∷ []) (sym is) in
+    ap (λ xs. map change.Frame (filter differs (map (settled new) xs))) last
+    ∙ ap (λ xs. map change.Frame (filter differs xs)) (map_push (settled new) (take i marks) mark)
+    ∙ ap (map change.Frame) (filter-append differs (map (settled new) (take i marks)) (settled new mark ∷ []))
+    ∙ map-append change.Frame (filter differs (map (settled new) (take i marks))) (cond (differs (settled new mark)) (settled new mark ∷ []) [])
+    ∙ ap (λ (xs : List Change). map change.Frame (filter differs (map (settled new) (take i marks))) ++ xs) (one-or-none (differs (settled new mark)) (settled new mark))
+  where
+    one-or-none : (b : Bool) (told : FrameChange) → map change.Frame (cond b (told ∷ []) []) ≡ cond b (change.Frame told ∷ []) []
+    one-or-none true told = refl
+    one-or-none false told = refl
+
+-- it differs, or not
+pub told-one : (told fn before : List Change) (change : Change) (b : Bool) → b ≡ true → told ≡ (fn ++ before) ++ change ∷ [] → told ≡ fn ++ (before ++ cond b (change ∷ []) [])
+told-one told fn before change true is e = e ∙ append_assoc fn before (change ∷ [])
+told-one told fn before change false is e = cc
+
+pub told-none : (fn before : List Change) (change : Change) (b : Bool) → b ≡ false → fn ++ before ≡ fn ++ (before ++ cond b (change ∷ []) [])
+told-none fn before change false none = ap (λ xs. fn ++ xs) (sym (append-nil before))
+told-none fn before change true none = cc
+
+untested : (a b : Bool) (xs : List ℕ) → a ≡ false → b ≡ false → xs ≡ cond (a || b) [] xs
+untested false false xs x y = refl
+untested false true xs x y = cc
+untested true b xs x y = cc
+
+-- all guest frames of a range
+pub mapped-is : (m : State) (v g n i : ℕ) (frames : List ℕ) → n ≤ 64 → g < 262144 → i ≡ n → frames ≡ filter_map (λ h. mapped_at m v h) (range_with_len g i) → frames ≡ mapped_in m v g n
+mapped-is m v g n i frames few low same e =
+    e ∙ ap (λ k. filter_map (λ h. mapped_at m v h) (range_with_len g k)) same
+    ∙ untested (nat_lt 64 n) (nat_le 262144 g) (filter_map (λ h. mapped_at m v h) (range_with_len g n)) (le-ltb 64 n few) (lt-leb 262144 g low)

@@ -1,0 +1,4 @@
+pub mod Movable
+pub mod Rising
+pub mod Marks
+pub mod Selected

@@ -1,0 +1,174 @@
+//! The changes of a call, and of calls in order.
+ghost use Rattle.std.specs.Prelude.{◌≡◌, ◌≤◌, ◌+◌, ◌^◌, ◌++◌, ◌<◌, length, map, filter, vec_len, vec_capacity, IfOk, IfSome, OnOk, OnErr, None, option_map};
+ghost use Rattle.kc_types.specs.declared.call.Call.TheVariants.{Verify};
+ghost use Rattle.kc_types.specs.declared.custody.Change.TheVariants.{Frame as a_frame};
+ghost use Rattle.kc_model.specs.Refusals.{refusal};
+ghost use Rattle.kc_model.specs.Next.{next, state_after};
+ghost use Rattle.kc_model.specs.Custody.{changes_by, custody_from, measured_images};
+ghost use Rattle.kc_custody.specs.Marks.{mark_of, settled, differs, turning, phase_mark, phase_told, MeasuredBy};
+
+use crate::look_ups::{custody_at, phase_at, same_custody, same_phase};
+use crate::movable::movable;
+use crate::rising::put_in_order;
+use arrayvec::ArrayVec;
+use kc_core::KCore;
+use kc_types::{
+    Call, Change, FrameChange, IMAGE_LIMIT, MeasuredImage, MeasuredImages, Memory, PhaseChange,
+    Reply,
+};
+use std::alloc::Global;
+
+/// The slot whose phase a call may change.
+fn turning(call: &Call) -> Option<u32>
+    ensures { result ≡ turning call.now }
+{
+    match call {
+        Call::RegisterVm { vm } | Call::Verify { vm } | Call::Clear { vm } => Some(*vm),
+        _ => None,
+    }
+}
+
+/// What stands of some frames before a call, in their order: changes of nothing yet.
+fn marks_of(
+    alloc: Global,
+    core: &KCore,
+    line: u32,
+    frames: &[u32],
+) -> Result<Vec<FrameChange>, Memory>
+    ensures { IfOk result (λ marks. marks.items ≡ map (mark_of line core.now) frames.now) }
+{
+    let mut marks = Vec::with_capacity(alloc, frames.len())?;
+    for frame in frames {
+        let before = custody_at(core, *frame);
+        let after = before;
+        marks.push(FrameChange {
+            line,
+            frame: *frame,
+            before,
+            after,
+        })?;
+    }
+    Ok(marks)
+}
+
+/// What stands of the slot whose phase a call may change, before it.
+fn phase_mark(
+    alloc: Global,
+    core: &KCore,
+    line: u32,
+    call: &Call,
+) -> Result<Option<PhaseChange>, Memory>
+    ensures { IfOk result (λ mark. mark ≡ option_map (phase_mark line core.now) (turning call.now)) }
+{
+    let Some(vm) = turning(call) else {
+        return Ok(None);
+    };
+    Ok(Some(PhaseChange {
+        line,
+        vm,
+        phase: phase_at(core, vm),
+        images: MeasuredImages::none(alloc)?,
+    }))
+}
+
+/// Tells of each mark whose frame's custody differs now. There is room for all of them.
+fn tell_frames(core: &KCore, marks: &[FrameChange], told: &mut Vec<Change>)
+    requires { vec_len told.old + length marks.now ≤ vec_capacity told.old }
+    ensures items { told.new.items ≡ told.old.items ++ map a_frame (filter differs (map (settled core.now) marks.now)) }
+    ensures len { vec_len told.new ≤ vec_len told.old + length marks.now }
+    ensures capacity { vec_capacity told.old ≤ vec_capacity told.new }
+{
+    for mark in marks {
+        let change = FrameChange {
+            after: custody_at(core, mark.frame),
+            ..*mark
+        };
+        if !same_custody(&change.before, &change.after) {
+            told.push(Change::Frame(change)).unwrap();
+        }
+    }
+}
+
+/// Tells of a mark whose slot's phase differs now, with the images that the call measured. There is room for it.
+fn tell_phase(
+    core: &KCore,
+    mark: Option<PhaseChange>,
+    images: ArrayVec<MeasuredImage, IMAGE_LIMIT>,
+    told: &mut Vec<Change>,
+)
+    requires { vec_len told.old + 1 ≤ vec_capacity told.old }
+    ensures { told.new.items ≡ told.old.items ++ phase_told core.now images.items mark }
+{
+    let Some(mut change) = mark else {
+        return;
+    };
+    let phase = phase_at(core, change.vm);
+    if !same_phase(change.phase, phase) {
+        change.phase = phase;
+        change.images.set(images);
+        told.push(Change::Phase(change)).unwrap();
+    }
+}
+
+/// Makes a call: its reply, and the images that it measured, which are none but for `verify`.
+fn make(
+    core: &mut KCore,
+    call: &Call,
+) -> Result<(Reply, ArrayVec<MeasuredImage, IMAGE_LIMIT>), Memory>
+    ensures reply { IfOk result (λ made. made.0 ≡ (next core.old call.now).0) }
+    ensures images { IfOk result (λ made. MeasuredBy core.old call.now made.1.items) }
+    ensures state { OnOk result (core.new ≡ (next core.old call.now).1) }
+    ensures err { OnErr result (core.new ≡ core.old) }
+{
+    match call {
+        Call::Verify { vm } => {
+            let verified = core.verify(*vm);
+            Ok((verified.reply, verified.images))
+        },
+        _ => Ok((core.call(call)?, ArrayVec::new())),
+    }
+}
+
+/// Makes a call, and adds the changes of custody that it makes; the call has this line in its trace. `Memory` where a
+/// growth was refused, and then neither core nor changes are other than before.
+pub fn tell_call(
+    alloc: Global,
+    core: &mut KCore,
+    call: &Call,
+    line: u32,
+    told: &mut Vec<Change>,
+) -> Result<Reply, Memory>
+    ensures reply { IfOk result (λ reply. reply ≡ (next core.old call.now).0) }
+    ensures state { OnOk result (core.new ≡ (next core.old call.now).1) }
+    ensures told { OnOk result (told.new.items ≡ told.old.items ++ changes_by line core.old core.new) }
+    ensures err { OnErr result ((core.new ≡ core.old) × (told.new.items ≡ told.old.items)) }
+{
+    let mut frames = movable(alloc, core, call)?;
+    put_in_order(&mut frames);
+    let marks = marks_of(alloc, core, line, &frames)?;
+    let mark = phase_mark(alloc, core, line, call)?;
+    told.reserve(marks.len() + 1)?;
+    let (reply, images) = make(core, call)?;
+    tell_frames(core, &marks, told);
+    tell_phase(core, mark, images, told);
+    Ok(reply)
+}
+
+/// Makes some calls in order, of which the first has this line in the trace, and adds their changes of custody. After
+/// `Memory`, where a growth was refused, some calls are done.
+pub fn tell_calls(
+    alloc: Global,
+    core: &mut KCore,
+    calls: &[Call],
+    first: u32,
+    told: &mut Vec<Change>,
+) -> Result<(), Memory>
+    requires { first + length calls.now < 2 ^ 32 }
+    ensures told { OnOk result (told.new.items ≡ told.old.items ++ custody_from first core.old calls.now) }
+    ensures state { OnOk result (core.new ≡ state_after core.old calls.now) }
+{
+    for (i, call) in calls.iter().enumerate() {
+        tell_call(alloc, core, call, first + i as u32, told)?;
+    }
+    Ok(())
+}
