@@ -3,6 +3,7 @@
 #![tactic(auto)]
 
 mod auditing;
+mod changes;
 mod fault;
 mod lines;
 mod mem;

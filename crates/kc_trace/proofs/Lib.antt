@@ -7,3 +7,4 @@ pub mod ConfigMembers
 pub mod KeptValues
 pub mod Turns
 pub mod Written
+mod Pushed

@@ -6,3 +6,4 @@ pub mod ReplyText
 pub mod ConfigText
 pub mod ConfigValue
 pub mod Faults
+pub mod CustodyText

@@ -3,6 +3,7 @@
 
 mod config_text;
 mod config_value;
+mod custody_writer;
 mod fault;
 pub mod laws;
 mod line;
@@ -11,6 +12,7 @@ mod reply_writer;
 mod writer;
 
 pub use config_text::{ConfigTextFault, read_config};
+pub use custody_writer::{LONGEST_CHANGE, push_change, push_custody_end, push_custody_header};
 pub use fault::TraceFault;
 pub use line::call_of_line;
 pub use reader::{TraceReader, read_trace};

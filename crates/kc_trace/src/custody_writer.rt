@@ -1,0 +1,222 @@
+//! What happened to frames and slots, as JSON Lines (RFC 8259): an object a line.
+ghost use Rattle.std.specs.Prelude.{◌≡◌, ◌≤◌, ◌+◌, ◌*◌, ◌++◌, ◌∷◌, [], length, vec_len, vec_capacity};
+ghost use Rattle.std.specs.List.{flat_map};
+ghost use Rattle.std.specs.Fmt.{decimal};
+ghost use Rattle.kc_types.specs.Limits.{image_limit};
+ghost use Rattle.kc_types.specs.Configuration.{slot_count};
+ghost use Rattle.kc_trace.specs.CustodyText.{owner_text, gfn_text, flag_text, phase_text, custody_text, frame_line, image_text, more_image_text, images_text, phase_line, change_line, header_line, end_line, longest_custody, longest_image, longest_images, longest_change};
+
+use itoa::Buffer;
+use kc_lines::{push_bytes, push_digits};
+use kc_types::{
+    Change, Config, Custody, FrameChange, Gfn, MeasuredImage, Owner, Phase, PhaseChange,
+};
+
+/// More bytes than the longest line of a change, of the beginning or of the end has, with its newline.
+pub const LONGEST_CHANGE: usize = 768;
+
+/// Appends some bytes and a number.
+fn push_member(text: &mut Vec<u8>, key: &[u8], number: u32)
+    requires { vec_len text.old + (length key.now + 10) ≤ vec_capacity text.old }
+    ensures items { text.new.items ≡ text.old.items ++ (key.now ++ decimal number) }
+    ensures len { vec_len text.new ≤ vec_len text.old + (length key.now + 10) }
+    ensures capacity { vec_capacity text.old ≤ vec_capacity text.new }
+{
+    push_bytes(text, key);
+    push_bytes(text, Buffer::new().format(number).as_bytes());
+}
+
+/// Appends an owner's name, as text.
+fn push_owner(text: &mut Vec<u8>, owner: Owner)
+    requires { vec_len text.old + 15 ≤ vec_capacity text.old }
+    ensures items { text.new.items ≡ text.old.items ++ owner_text owner }
+    ensures len { vec_len text.new ≤ vec_len text.old + 15 }
+    ensures capacity { vec_capacity text.old ≤ vec_capacity text.new }
+{
+    match owner {
+        Owner::Core => push_bytes(text, b"\"core\""),
+        Owner::Host => push_bytes(text, b"\"host\""),
+        Owner::Free => push_bytes(text, b"\"free\""),
+        Owner::Vm(vm) => {
+            push_member(text, b"\"vm", vm.index() as u32);
+            push_bytes(text, b"\"");
+        },
+    }
+}
+
+/// Appends a guest frame, or `null`.
+fn push_gfn(text: &mut Vec<u8>, gfn: Option<Gfn>)
+    requires { vec_len text.old + 10 ≤ vec_capacity text.old }
+    ensures items { text.new.items ≡ text.old.items ++ gfn_text gfn }
+    ensures len { vec_len text.new ≤ vec_len text.old + 10 }
+    ensures capacity { vec_capacity text.old ≤ vec_capacity text.new }
+{
+    match gfn {
+        Some(gfn) => push_bytes(text, Buffer::new().format(gfn.number()).as_bytes()),
+        None => push_bytes(text, b"null"),
+    }
+}
+
+fn push_flag(text: &mut Vec<u8>, flag: bool)
+    requires { vec_len text.old + 5 ≤ vec_capacity text.old }
+    ensures items { text.new.items ≡ text.old.items ++ flag_text flag }
+    ensures len { vec_len text.new ≤ vec_len text.old + 5 }
+    ensures capacity { vec_capacity text.old ≤ vec_capacity text.new }
+{
+    if flag {
+        push_bytes(text, b"true");
+    } else {
+        push_bytes(text, b"false");
+    }
+}
+
+/// Appends a custody as an object.
+fn push_custody(text: &mut Vec<u8>, custody: &Custody)
+    requires { vec_len text.old + longest_custody ≤ vec_capacity text.old }
+    ensures items { text.new.items ≡ text.old.items ++ custody_text custody.now }
+    ensures len { vec_len text.new ≤ vec_len text.old + longest_custody }
+    ensures capacity { vec_capacity text.old ≤ vec_capacity text.new }
+{
+    push_bytes(text, b"{\"owner\":");
+    push_owner(text, custody.owner);
+    push_bytes(text, b",\"gfn\":");
+    push_gfn(text, custody.gfn);
+    push_member(text, b",\"share\":", custody.share);
+    push_bytes(text, b",\"present\":");
+    push_flag(text, custody.present);
+    push_bytes(text, b"}");
+}
+
+/// Appends the line of a frame's change.
+fn push_frame_change(text: &mut Vec<u8>, change: &FrameChange)
+    requires { vec_len text.old + longest_change ≤ vec_capacity text.old }
+    ensures line { text.new.items ≡ text.old.items ++ frame_line change.now }
+    ensures capacity { vec_capacity text.old ≤ vec_capacity text.new }
+{
+    push_member(text, b"{\"line\":", change.line);
+    push_member(text, b",\"frame\":", change.frame);
+    push_bytes(text, b",\"from\":");
+    push_custody(text, &change.before);
+    push_bytes(text, b",\"to\":");
+    push_custody(text, &change.after);
+    push_bytes(text, b"}\n");
+}
+
+/// Appends a phase's name, as text.
+fn push_phase(text: &mut Vec<u8>, phase: Phase)
+    requires { vec_len text.old + 9 ≤ vec_capacity text.old }
+    ensures items { text.new.items ≡ text.old.items ++ phase_text phase }
+    ensures len { vec_len text.new ≤ vec_len text.old + 9 }
+    ensures capacity { vec_capacity text.old ≤ vec_capacity text.new }
+{
+    match phase {
+        Phase::Empty => push_bytes(text, b"\"empty\""),
+        Phase::Booting => push_bytes(text, b"\"booting\""),
+        Phase::Active => push_bytes(text, b"\"active\""),
+        Phase::Dead => push_bytes(text, b"\"dead\""),
+    }
+}
+
+/// Appends an image as an object.
+fn push_image(text: &mut Vec<u8>, image: &MeasuredImage)
+    requires { vec_len text.old + longest_image ≤ vec_capacity text.old }
+    ensures items { text.new.items ≡ text.old.items ++ image_text image.now }
+    ensures len { vec_len text.new ≤ vec_len text.old + longest_image }
+    ensures capacity { vec_capacity text.old ≤ vec_capacity text.new }
+{
+    push_member(text, b"{\"base\":", image.base);
+    push_member(text, b",\"len\":", image.len);
+    push_bytes(text, b",\"sha256\":\"");
+    push_digits(text, &image.digest);
+    push_bytes(text, b"\"}");
+}
+
+/// Appends images as objects with a comma before each, at most 4.
+fn push_more_images(text: &mut Vec<u8>, images: &[MeasuredImage])
+    requires few { length images.now ≤ image_limit }
+    requires room { vec_len text.old + length images.now * (longest_image + 1) ≤ vec_capacity text.old }
+    ensures items { text.new.items ≡ text.old.items ++ flat_map more_image_text images.now }
+    ensures len { vec_len text.new ≤ vec_len text.old + length images.now * (longest_image + 1) }
+    ensures capacity { vec_capacity text.old ≤ vec_capacity text.new }
+{
+    for image in images {
+        push_bytes(text, b",");
+        push_image(text, image);
+    }
+}
+
+/// Appends images as objects with a comma between two, at most 4.
+fn push_images(text: &mut Vec<u8>, images: &[MeasuredImage])
+    requires few { length images.now ≤ image_limit }
+    requires room { vec_len text.old + longest_images ≤ vec_capacity text.old }
+    ensures items { text.new.items ≡ text.old.items ++ images_text images.now }
+    ensures len { vec_len text.new ≤ vec_len text.old + longest_images }
+    ensures capacity { vec_capacity text.old ≤ vec_capacity text.new }
+{
+    if let Some((first, more)) = images.split_first() {
+        push_image(text, first);
+        push_more_images(text, more);
+    }
+}
+
+/// Appends the line of a slot's change.
+fn push_phase_change(text: &mut Vec<u8>, change: &PhaseChange)
+    requires { vec_len text.old + longest_change ≤ vec_capacity text.old }
+    ensures line { text.new.items ≡ text.old.items ++ phase_line change.now }
+    ensures capacity { vec_capacity text.old ≤ vec_capacity text.new }
+{
+    push_member(text, b"{\"line\":", change.line);
+    push_member(text, b",\"vm\":", change.vm);
+    push_bytes(text, b",\"phase\":");
+    push_phase(text, change.phase);
+    push_bytes(text, b",\"images\":[");
+    push_images(text, change.images.as_slice());
+    push_bytes(text, b"]}\n");
+}
+
+/// Appends the line of a change, with its newline, for which there is room: memory does not grow.
+pub fn push_change(text: &mut Vec<u8>, change: &Change)
+    requires { vec_len text.old + longest_change ≤ vec_capacity text.old }
+    ensures line { text.new.items ≡ text.old.items ++ change_line change.now }
+    ensures capacity { vec_capacity text.old ≤ vec_capacity text.new }
+{
+    match change {
+        Change::Frame(change) => push_frame_change(text, change),
+        Change::Phase(change) => push_phase_change(text, change),
+    }
+}
+
+/// Appends the first line, with its newline: the sizes of the core, as the boot state follows from them.
+pub fn push_custody_header(text: &mut Vec<u8>, config: &Config)
+    requires { vec_len text.old + longest_change ≤ vec_capacity text.old }
+    ensures line { text.new.items ≡ text.old.items ++ header_line config.now }
+    ensures capacity { vec_capacity text.old ≤ vec_capacity text.new }
+{
+    push_member(text, b"{\"custody\":1,\"frames\":", config.frames());
+    push_member(text, b",\"core\":", config.core());
+    push_member(text, b",\"host\":", config.host());
+    push_member(text, b",\"slots\":", config.slots());
+    push_bytes(text, b"}\n");
+}
+
+/// Appends some bytes and a count.
+fn push_count(text: &mut Vec<u8>, key: &[u8], count: usize)
+    requires { vec_len text.old + (length key.now + 20) ≤ vec_capacity text.old }
+    ensures items { text.new.items ≡ text.old.items ++ (key.now ++ decimal count) }
+    ensures len { vec_len text.new ≤ vec_len text.old + (length key.now + 20) }
+    ensures capacity { vec_capacity text.old ≤ vec_capacity text.new }
+{
+    push_bytes(text, key);
+    push_bytes(text, Buffer::new().format(count).as_bytes());
+}
+
+/// Appends the last line, with its newline: how many calls the trace has, and how many lines of changes the text.
+pub fn push_custody_end(text: &mut Vec<u8>, calls: usize, lines: usize)
+    requires { vec_len text.old + longest_change ≤ vec_capacity text.old }
+    ensures line { text.new.items ≡ text.old.items ++ end_line calls lines }
+    ensures capacity { vec_capacity text.old ≤ vec_capacity text.new }
+{
+    push_count(text, b"{\"calls\":", calls);
+    push_count(text, b",\"lines\":", lines);
+    push_bytes(text, b"}\n");
+}
