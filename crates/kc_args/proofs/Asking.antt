@@ -52,13 +52,13 @@ refused_for words app kind Memory same among h = tt
 refused_for words app kind (Words text status) same (inl none) h = absurd (h.0 none)
 refused_for words app kind (Words text status) same (inr among) h = (kind, rw same at among, h.1)
 
--- what is read of the option, as a byte, is what its text says
-pub workers_read : {E : Type 0} (G : Text → Result ℕ E → Type 0) (said : Option Text) (read : Option ℕ) → ((text : Text) (r : Result ℕ E) → G text r → ParsesUnsigned 8 10 text r)
+-- what is read of an option, as a byte, is what its text says
+pub number_read : {E : Type 0} (f : ℕ → ℕ) (G : Text → Result ℕ E → Type 0) (said : Option Text) (read : Option ℕ) → ((text : Text) (r : Result ℕ E) → G text r → ParsesUnsigned 8 10 text r)
     → (said ≡ None → read ≡ None) → ((text : Text) → said ≡ Some text → ReadsOne G text read)
-    → option_map_or in_range read 1 ≡ option_map_or (λ text. in_range (byte_or_zero text)) said 1
-workers_read {E} G None read gives none value = rw (none refl) refl
-workers_read {E} G (Some text) (Some n) gives none value = ap in_range (byte_read {E = E} text (Ok n) (gives text (Ok n) (value text refl)))
-workers_read {E} G (Some text) None gives none value = let read = value text refl in ap in_range (byte_read {E = E} text (Err read.0) (gives text (Err read.0) read.1))
+    → option_map_or f read (f 0) ≡ option_map_or (λ text. f (byte_or_zero text)) said (f 0)
+number_read {E} f G None read gives none value = rw (none refl) refl
+number_read {E} f G (Some text) (Some n) gives none value = ap f (byte_read {E = E} text (Ok n) (gives text (Ok n) (value text refl)))
+number_read {E} f G (Some text) None gives none value = let read = value text refl in ap f (byte_read {E = E} text (Err read.0) (gives text (Err read.0) read.1))
 
 pub nothing_refused : (words : List Text) (app : App) → app ≡ kcore → fault_of app words ≡ [] → fault_of kcore words ≡ []
 nothing_refused words app same none = rw same at none

@@ -16,7 +16,11 @@ workers_rule = record (new_rule (codes "workers")) { long = Some (codes "workers
 abbrev pub dump_rule : Rule
 dump_rule = record (new_rule (codes "dump")) { long = Some (codes "dump"); action = Some SetTrue }
 
--- another
+-- a whole number from 0 to 63
+abbrev pub vm_rule : Rule
+vm_rule = record (new_rule (codes "vm")) { long = Some (codes "vm"); value_names = 1; parser = Some (Signed (pos 0) (pos 63)) }
+
+-- another flag
 abbrev pub all_rule : Rule
 all_rule = record (new_rule (codes "all")) { long = Some (codes "all"); action = Some SetTrue }
 
@@ -30,6 +34,9 @@ replay = with_rule (with_rule (with_rule (with_rule (new_app (codes "replay")) c
 abbrev pub live : App
 live = with_rule (with_rule (with_rule (new_app (codes "live")) config_rule) workers_rule) explain_rule
 
+abbrev pub custody : App
+custody = with_rule (with_rule (with_rule (new_app (codes "custody")) config_rule) vm_rule) explain_rule
+
 abbrev pub audit : App
 audit = with_rule (with_rule (new_app (codes "audit")) all_rule) explain_rule
 
@@ -41,5 +48,9 @@ base = with_subcommand (on_top (λ s. record s { no_binary_name = true; has_vers
 abbrev pub more : App
 more = with_subcommand base live.top
 
+-- the command with all but `audit`
+abbrev pub most : App
+most = with_subcommand more custody.top
+
 abbrev pub kcore : App
-kcore = with_subcommand more audit.top
+kcore = with_subcommand most audit.top

@@ -7,7 +7,7 @@ use Rattle.clap.specs.Walk.{byte_or_zero}
 use Rattle.clap.specs.declared.error.kind.ErrorKind.{ErrorKind}
 use Rattle.clap.specs.declared.error.kind.ErrorKind.TheVariants.{DisplayHelp, DisplayVersion, OutOfMemory}
 use Rattle.kc_args.specs.declared.job.Job.{Job}
-use Rattle.kc_args.specs.declared.job.Job.TheVariants.{Replay, Live, Audit}
+use Rattle.kc_args.specs.declared.job.Job.TheVariants.{Replay, Live, Custody, Audit}
 use Rattle.kc_args.specs.declared.job.ArgFault.{ArgFault}
 use Rattle.kc_args.specs.declared.job.ArgFault.TheVariants.{Memory, Words}
 use Rattle.kc_args.specs.Commands.{kcore}
@@ -20,6 +20,14 @@ in_range n = if nat_le 1 n && nat_le n 64 then n else 1
 abbrev pub workers_in : List Row → ℕ
 workers_in rows = option_map_or (λ text. in_range (byte_or_zero text)) (one_of (codes "workers") rows) 1
 
+-- the number behind `--vm`
+abbrev pub slot_in : List Row → ℕ
+slot_in rows = option_map_or byte_or_zero (one_of (codes "vm") rows) 0
+
+-- the slot that the words name, where they name one
+abbrev pub vm_in : List Row → Option ℕ
+vm_in rows = option_map (λ text. slot_in rows) (first_of (codes "vm") rows)
+
 -- the path of the configuration, and the number of workers, are those of the rows
 abbrev pub HasOptions : List Row → Option (Bor Text) → ℕ → Type 0
 HasOptions rows config workers = (option_map (λ s. s.now) config ≡ first_of (codes "config") rows) × (workers ≡ workers_in rows)
@@ -28,16 +36,18 @@ HasOptions rows config workers = (option_map (λ s. s.now) config ≡ first_of (
 abbrev pub IsSet : Text → List Row → Type 0
 IsSet flag rows = first_of flag rows ≡ Some (codes "true")
 
--- what the subcommand of this name asks for, by the rows of its options: there are `replay`, `live` and `audit` alone
+-- what the subcommand of this name asks for, by the rows of its options: there are `replay`, `live`, `custody` and `audit` alone
 abbrev pub IsJobIn : Text → List Row → Job → Type 0
-IsJobIn name rows (Replay config workers dump explain) = (name ≢ codes "live") × (name ≢ codes "audit") × HasOptions rows config workers × (IsTrue dump ↔ IsSet (codes "dump") rows) × (IsTrue explain ↔ IsSet (codes "explain") rows)
+IsJobIn name rows (Replay config workers dump explain) = (name ≢ codes "live") × (name ≢ codes "custody") × (name ≢ codes "audit") × HasOptions rows config workers × (IsTrue dump ↔ IsSet (codes "dump") rows) × (IsTrue explain ↔ IsSet (codes "explain") rows)
 IsJobIn name rows (Live config workers explain) = (name ≡ codes "live") × HasOptions rows config workers × (IsTrue explain ↔ IsSet (codes "explain") rows)
+IsJobIn name rows (Custody config vm explain) = (name ≡ codes "custody") × (option_map (λ s. s.now) config ≡ first_of (codes "config") rows) × (vm ≡ vm_in rows) × (IsTrue explain ↔ IsSet (codes "explain") rows)
 IsJobIn name rows (Audit all explain) = (name ≡ codes "audit") × (IsTrue all ↔ IsSet (codes "all") rows) × (IsTrue explain ↔ IsSet (codes "explain") rows)
 
 -- the same where there may be no subcommand: then it is as if `replay` stood there alone
 abbrev pub Asks : Option (Text × List Row) → Job → Type 0
 Asks None (Replay config workers dump explain) = HasOptions [] config workers × (dump ≡ false) × (explain ≡ false)
 Asks None (Live config workers explain) = ⊥
+Asks None (Custody config vm explain) = ⊥
 Asks None (Audit all explain) = ⊥
 Asks (Some found) job = IsJobIn found.0 found.1 job
 

@@ -3,8 +3,8 @@ ghost use Rattle.std.specs.Prelude.{◌≡◌, ◌↔◌, IfOk, IfErr, IsTrue, m
 ghost use Rattle.clap.specs.declared.builder.command.Command.TheViews.{out-Command as fields_of};
 ghost use Rattle.clap.specs.Words.{app_of, rule_of, found_of, rows_of, first_of};
 ghost use Rattle.clap.specs.Values.{kind_of};
-ghost use Rattle.kc_args.specs.Commands.{kcore, replay, live, audit, config_rule, workers_rule, dump_rule, all_rule, explain_rule};
-ghost use Rattle.kc_args.specs.Jobs.{in_range, workers_in, IsSet, IsJob, IsJobIn, IsRefusal, HasStatus};
+ghost use Rattle.kc_args.specs.Commands.{kcore, replay, live, custody, audit, config_rule, workers_rule, dump_rule, vm_rule, all_rule, explain_rule};
+ghost use Rattle.kc_args.specs.Jobs.{in_range, workers_in, slot_in, vm_in, IsSet, IsJob, IsJobIn, IsRefusal, HasStatus};
 
 use clap::error::ErrorKind;
 use clap::{Arg, ArgAction, ArgMatches, Command, Error};
@@ -26,6 +26,13 @@ pub enum Job<'a> {
     Live {
         config: Option<&'a str>,
         workers: u32,
+        explain: bool,
+    },
+    /// Make the calls of the trace on standard input, with the configuration in a file where a path is given, and write what
+    /// happened to each frame and slot; of one slot's VM alone where a slot is given.
+    Custody {
+        config: Option<&'a str>,
+        vm: Option<u32>,
         explain: bool,
     },
     /// Audit the dump on standard input, and write each finding, or the report alone.
@@ -90,6 +97,17 @@ fn dump_arg<'a>(alloc: Global) -> Arg<'a>
         .help("Write the dump of the core that the trace leaves, in place of the replies")
 }
 
+fn vm_arg<'a>(alloc: Global) -> Arg<'a>
+    ensures rule { rule_of result ≡ vm_rule }
+    ensures local { result.global ≡ false }
+{
+    Arg::new(alloc, "vm")
+        .long("vm")
+        .value_name("V")
+        .value_parser(clap::value_parser!(u8).range(0..=63))
+        .help("Tell of the VM in this slot alone, 0 to 63")
+}
+
 fn all_arg<'a>(alloc: Global) -> Arg<'a>
     ensures rule { rule_of result ≡ all_rule }
     ensures local { result.global ≡ false }
@@ -139,6 +157,18 @@ fn live_command<'a>(alloc: Global) -> Result<Command<'a>, AllocError>
         .arg(explain_arg(alloc))
 }
 
+fn custody_command<'a>(alloc: Global) -> Result<Command<'a>, AllocError>
+    ensures app { IfOk result (λ c. app_of c ≡ custody) }
+    ensures local { IfOk result (λ c. (fields_of c).has_globals ≡ false) }
+{
+    Command::new(alloc, "custody")
+        .about("Write what happened to each frame and VM: every change, with the line of its call")
+        .override_usage("kcore custody [OPTIONS]")
+        .arg(config_arg(alloc))?
+        .arg(vm_arg(alloc))?
+        .arg(explain_arg(alloc))
+}
+
 fn audit_command<'a>(alloc: Global) -> Result<Command<'a>, AllocError>
     ensures app { IfOk result (λ c. app_of c ≡ audit) }
     ensures local { IfOk result (λ c. (fields_of c).has_globals ≡ false) }
@@ -158,13 +188,16 @@ fn command<'a>(alloc: Global) -> Result<Command<'a>, AllocError>
 {
     let replay = replay_command(alloc)?;
     let live = live_command(alloc)?;
+    let custody = custody_command(alloc)?;
     let audit = audit_command(alloc)?;
     let base = Command::new(alloc, "kcore")
         .no_binary_name(true)
         .version(VERSION)
         .about("Replay calls on the trusted core of a hypervisor")
         .subcommand(replay)?;
-    base.subcommand(live)?.subcommand(audit)
+    base.subcommand(live)?
+        .subcommand(custody)?
+        .subcommand(audit)
 }
 
 /// What is printed in place of a job.
@@ -219,6 +252,26 @@ fn workers_in(matches: &ArgMatches<'_>) -> u32
     }
 }
 
+/// The number behind `--vm`; 0 where the command's rules do not let it through.
+fn slot_in(matches: &ArgMatches<'_>) -> u32
+    ensures { result ≡ slot_in (rows_of (found_of matches.now)) }
+{
+    match matches.get_one::<u8>("vm") {
+        Some(vm) => u32::from(vm),
+        None => 0,
+    }
+}
+
+/// The slot that the words name, if they name one.
+fn vm_in(matches: &ArgMatches<'_>) -> Option<u32>
+    ensures { result ≡ vm_in (rows_of (found_of matches.now)) }
+{
+    match text_in(matches, "vm") {
+        Some(_) => Some(slot_in(matches)),
+        None => None,
+    }
+}
+
 fn is_named(name: &str, command: &str) -> bool
     ensures { IsTrue result ↔ (name.now ≡ command.now) }
 {
@@ -235,6 +288,13 @@ fn job_in<'a>(name: &str, found: &ArgMatches<'a>) -> Job<'a>
         return Job::Audit { all, explain };
     }
     let config = text_in(found, "config");
+    if is_named(name, "custody") {
+        return Job::Custody {
+            config,
+            vm: vm_in(found),
+            explain,
+        };
+    }
     let workers = workers_in(found);
     if is_named(name, "live") {
         return Job::Live {
@@ -253,7 +313,8 @@ fn job_in<'a>(name: &str, found: &ArgMatches<'a>) -> Job<'a>
 }
 
 /// What the words, without the program's name, ask for: `replay` or `live`, with or without `--config PATH` and
-/// `--workers N` with a number from 1 to 64, `replay` also with `--dump`; `audit`, also with `--all`; each also with
+/// `--workers N` with a number from 1 to 64, `replay` also with `--dump`; `custody`, with or without `--config PATH` and
+/// `--vm V` with a number from 0 to 63; `audit`, also with `--all`; each also with
 /// `--explain`; and `replay` for no words at all.
 pub fn job_of<'a>(alloc: Global, words: &'a [&'a str]) -> Result<Job<'a>, ArgFault>
     // The job is what the words say by the command's rules, and only words that break them are refused.

@@ -1,5 +1,5 @@
 -- A beginning of a live run's text is given.
-use Rattle.std.proofs.Common.{◌≡◌, ℕ, List, Option, Some, None, take, refl}
+use Rattle.std.proofs.Common.{ℕ, List, Option, Some, None, take, refl}
 use Rattle.std.specs.Io.KnownBytes.{Appends}
 use Rattle.kc_types.specs.Configuration.{Configuration}
 use Rattle.kc_types.specs.declared.call.Call.{Call}

@@ -5,3 +5,4 @@ mod Made
 pub mod Begun
 pub mod Replayed
 pub mod Fed
+mod Told

@@ -2,6 +2,7 @@
 //! beside them, what the program is asked, reads and writes.
 #![tactic(auto)]
 
+mod custody;
 mod dumping;
 mod engine;
 mod history;
@@ -9,6 +10,7 @@ mod live;
 mod making;
 mod replaying;
 
+pub use custody::custody_text;
 pub use dumping::dump_text;
 pub use engine::replay_text;
 pub use history::replay_history;

@@ -7,8 +7,8 @@ mod explaining;
 
 use crate::explaining::{Reading, explain_open, explain_words};
 use kc_cli::{
-    ArgFault, DEFAULT_CONFIG, Job, Mem, Source, Std, TextFault, audit_text, dump_text, job_of,
-    live_text, replay_text, tell,
+    ArgFault, DEFAULT_CONFIG, Job, Mem, Source, Std, TextFault, audit_text, custody_text,
+    dump_text, job_of, live_text, replay_text, tell,
 };
 use kc_explain::{Noted, Shown};
 use kc_replay::OpenGate;
@@ -22,14 +22,23 @@ use std::thread::Threads;
 /// Standard input, as the engines read it.
 type Input<'a> = Noted<Shown<'a, Std<Stdin>, HostRuntime>>;
 
+/// What is written of a trace.
+#[derive(Clone, Copy)]
+enum Wanted {
+    Replies,
+    Dump,
+    /// The trace of a live run of it.
+    History,
+    /// The changes of custody, of one slot's VM alone where it is named.
+    Custody(Option<u32>),
+}
+
 /// What is to be done with the trace on standard input.
 #[derive(Clone, Copy)]
 struct Order<'a> {
     config: Option<&'a str>,
     workers: u32,
-    /// Whether it is run live, and what is written else: the dump, or the replies.
-    live: bool,
-    dump: bool,
+    wanted: Wanted,
     explain: bool,
 }
 
@@ -81,8 +90,10 @@ fn run_in<C: Source, R: Threads + Wait + Sync>(
 {
     let alloc = rt.alloc();
     let mut out = Std::new(rt.stdout());
-    if order.live {
-        live_text(
+    match order.wanted {
+        Wanted::Replies => replay_text(threads, alloc, config, trace, &mut out, order.workers),
+        Wanted::Dump => dump_text(threads, alloc, config, trace, &mut out, order.workers),
+        Wanted::History => live_text(
             threads,
             alloc,
             config,
@@ -90,11 +101,8 @@ fn run_in<C: Source, R: Threads + Wait + Sync>(
             &mut out,
             order.workers,
             &OpenGate,
-        )
-    } else if order.dump {
-        dump_text(threads, alloc, config, trace, &mut out, order.workers)
-    } else {
-        replay_text(threads, alloc, config, trace, &mut out, order.workers)
+        ),
+        Wanted::Custody(vm) => custody_text(threads, alloc, config, trace, &mut out, vm),
     }
 }
 
@@ -211,8 +219,7 @@ fn run_job<R: Threads + Wait + Sync>(rt: &HostRuntime, threads: &R, job: Job<'_>
             let order = Order {
                 config,
                 workers,
-                live: false,
-                dump,
+                wanted: if dump { Wanted::Dump } else { Wanted::Replies },
                 explain,
             };
             run_trace(rt, threads, order)
@@ -225,8 +232,20 @@ fn run_job<R: Threads + Wait + Sync>(rt: &HostRuntime, threads: &R, job: Job<'_>
             let order = Order {
                 config,
                 workers,
-                live: true,
-                dump: false,
+                wanted: Wanted::History,
+                explain,
+            };
+            run_trace(rt, threads, order)
+        },
+        Job::Custody {
+            config,
+            vm,
+            explain,
+        } => {
+            let order = Order {
+                config,
+                workers: 1,
+                wanted: Wanted::Custody(vm),
                 explain,
             };
             run_trace(rt, threads, order)

@@ -1,0 +1,11 @@
+use Rattle.std.proofs.Common.{ap, ap₂, ◌∙◌}
+use Rattle.std.proofs.lemmas.Result.{IfOk-weaker}
+use Rattle.clap.specs.Words.{with_rule}
+use Rattle.clap.specs.Simple.{app_of_fields}
+use Rattle.kc_args.proofs.job.custody_command.Goals as goal
+
+pub returns-clause-app : goal.returns-clause-app
+returns-clause-app c =
+    let with_config = c.in_ok-arg.ensures.shape c.config_arg.ensures.local ∙ ap₂ with_rule (ap app_of_fields c.override_usage.ensures ∙ ap app_of_fields c.about.ensures ∙ c.new.ensures.app) c.config_arg.ensures.rule in
+    let with_vm = c.in_ok-arg-2.ensures.shape c.vm_arg.ensures.local ∙ ap₂ with_rule with_config c.vm_arg.ensures.rule in
+    IfOk-weaker c.arg-3.result _ _ (λ r h. h.shape c.explain_arg.ensures.local ∙ ap₂ with_rule with_vm c.explain_arg.ensures.rule) c.arg-3.ensures
