@@ -5,7 +5,7 @@
 //! `replay` or `dump` and a number of workers; or the word `live`.
 #![tactic(auto)]
 
-use anyhow::{Context, Result, bail};
+use anyhow::{Result, bail};
 use kc_cli::dump;
 use kc_core::KCore;
 use kc_dump_text::write_dump;
@@ -160,39 +160,65 @@ fn print_live<R: Threads + Wait + Sync>(
     }
 }
 
+fn read_machine(rt: &HostRuntime, path: &str) -> Result<Config> {
+    let text = fs::read(rt, path)?;
+    Ok(read_config(rt.alloc(), text.as_slice())?)
+}
+
+fn read_calls(rt: &HostRuntime, path: &str) -> Result<Vec<Call>> {
+    let text = fs::read(rt, path)?;
+    Ok(read_trace(rt.alloc(), text.as_slice())?)
+}
+
+/// As often as the word says, a line with what footprints and plan take.
+fn print_times(rt: &HostRuntime, core: &KCore, calls: &[Call], times: &str) -> Result<()> {
+    for _ in 0..times.parse::<u32>()? {
+        print_time(rt, core, calls)?;
+    }
+    Ok(())
+}
+
+/// What the words behind configuration and trace ask for.
+fn print_asked<R: Threads + Wait + Sync>(
+    rt: &HostRuntime,
+    threads: &R,
+    config: Config,
+    calls: Vec<Call>,
+    word: Option<&str>,
+    number: Option<&str>,
+) -> Result<()> {
+    match (word, number) {
+        (Some("live"), _) => print_live(rt, threads, config, calls),
+        (Some(word), Some(workers)) => {
+            let workers = workers.parse::<usize>()?;
+            print_replay(
+                rt,
+                threads,
+                config,
+                calls.as_slice(),
+                workers,
+                word == "dump",
+            )
+        },
+        (Some(times), None) => {
+            let core = KCore::boot(rt.alloc(), config)?;
+            print_times(rt, &core, calls.as_slice(), times)
+        },
+        (None, _) => {
+            let core = KCore::boot(rt.alloc(), config)?;
+            print_plan(rt, &core, calls.as_slice())
+        },
+    }
+}
+
 fn main(rt: HostRuntime) -> Result<()> {
-    let alloc = rt.alloc();
-    let mut words = env::args(&rt)?.skip(1);
-    let (Some(config), Some(trace)) = (words.next(), words.next()) else {
+    let words = env::args(&rt)?.skip(1).collect::<Vec<String>>(rt.alloc())?;
+    let (Some(config), Some(trace)) = (words.first(), words.get(1)) else {
         bail!("usage: kc_plans CONFIG TRACE [TIMES | replay WORKERS | dump WORKERS | live]");
     };
-    let config = read_config(alloc, fs::read(&rt, config.as_str())?.as_slice())?;
-    let calls = read_trace(alloc, fs::read(&rt, trace.as_str())?.as_slice())?;
-    let word = words.next();
-    if let Some(given) = &word {
-        if given.as_str() == "live" {
-            return print_live(&rt, &rt, config, calls);
-        }
-    }
-    if let (Some(given), Some(workers)) = (&word, words.next()) {
-        let workers = workers.as_str().parse::<usize>()?;
-        return print_replay(
-            &rt,
-            &rt,
-            config,
-            calls.as_slice(),
-            workers,
-            given.as_str() == "dump",
-        );
-    }
-    let core = KCore::boot(alloc, config)?;
-    match word {
-        Some(times) => {
-            for _ in 0..times.as_str().parse::<u32>()? {
-                print_time(&rt, &core, calls.as_slice())?;
-            }
-            Ok(())
-        },
-        None => print_plan(&rt, &core, calls.as_slice()),
-    }
+    let config = read_machine(&rt, config.as_str())?;
+    let calls = read_calls(&rt, trace.as_str())?;
+    let word = words.get(2).map(String::as_str);
+    let number = words.get(3).map(String::as_str);
+    print_asked(&rt, &rt, config, calls, word, number)
 }
