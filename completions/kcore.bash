@@ -5,15 +5,17 @@ _kcore() {
     COMPREPLY=()
     case $before in
         --config) mapfile -t COMPREPLY < <(compgen -f -- "$word"); compopt -o filenames 2> /dev/null; return ;;
+        --vm) mapfile -t COMPREPLY < <(compgen -W "$(seq 0 63)" -- "$word"); return ;;
         --workers) mapfile -t COMPREPLY < <(compgen -W "$(seq 64)" -- "$word"); return ;;
     esac
     local words=
     case $command in
-        '') words='replay live audit help --help --version' ;;
+        '') words='replay live custody audit help --help --version' ;;
         replay) words='--config --workers --dump --explain --help' ;;
         live) words='--config --workers --explain --help' ;;
+        custody) words='--config --vm --explain --help' ;;
         audit) words='--all --explain --help' ;;
-        help) [ "$COMP_CWORD" -gt 2 ] || words='replay live audit help' ;;
+        help) [ "$COMP_CWORD" -gt 2 ] || words='replay live custody audit help' ;;
     esac
     mapfile -t COMPREPLY < <(compgen -W "$words" -- "$word")
 }
