@@ -21,7 +21,7 @@ use Rattle.kc_dump.specs.Lists.{HasList}
 use Rattle.kc_dump.specs.Sound.{IsSound, IsSoundSlot}
 use Rattle.kc_audit.specs.Verdicts.{shows, named}
 use Rattle.kc_audit.specs.Findings.{is_mapped, verdict_of, verdicts_of, frames_named, list_owner, list_ends, list_name, AreGoodLists, lists_named, is_gfn, says, has_double, all_rooted, entries_named, all_entries_named, wrong_leaves, wrong_empty, leaves_named, empty_named, findings_by, AreFindings}
-use Rattle.kc_dump.proofs.Owners.{same-is}
+use Rattle.kc_model.proofs.States.Owners.{same-is}
 use Rattle.kc_audit.proofs.Marked.{says-true}
 use Rattle.kc_audit.proofs.SoundFrames.{IsClear, sound-frame, frame-clear, gfn-mapped, and-right, and-none, or-parts, negated, negates}
 use Rattle.kc_dump.proofs.Entries.{entry-place, place-entry}

@@ -20,7 +20,7 @@ use Rattle.kc_dump.specs.Lists.{owned, HasList}
 use Rattle.kc_dump.specs.Sums.{sum_below}
 use Rattle.kc_audit.specs.Walking.{Walks, next_in, count_owned}
 use Rattle.kc_dump.proofs.Sums.{sum-same, sum-tight, sum-times}
-use Rattle.kc_dump.proofs.Owners.{same-itself, same-is}
+use Rattle.kc_model.proofs.States.Owners.{same-itself, same-is}
 
 module _ (lines : List FrameLine) (owner : Owner) where
   -- what is left of a sequence, from here on

@@ -14,7 +14,7 @@ use Rattle.kc_dump.specs.declared.line.FrameLine.{FrameLine}
 use Rattle.kc_audit.specs.declared.verdict.FrameVerdict.{FrameVerdict}
 use Rattle.kc_dump.specs.Sound.{IsSoundFrame}
 use Rattle.kc_audit.specs.Verdicts.{verdict_by, wrong_core, wrong_link, wrong_gfn}
-use Rattle.kc_dump.proofs.Owners.{same-is}
+use Rattle.kc_model.proofs.States.Owners.{same-is}
 
 pointwise-same : (xs ys : List ℕ) → xs ≡ ys → pointwise ◌==◌ xs ys ≡ true
 pointwise-same xs ys same = by_test (pointwise ◌==◌ xs ys) refl

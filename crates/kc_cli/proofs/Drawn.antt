@@ -25,7 +25,7 @@ use Rattle.kc_dump.specs.Sound.{IsSoundFrame, IsSoundSlot, IsSound}
 use Rattle.kc_dump.specs.Lists.{HasList}
 use Rattle.kc_cli.specs.Dumping.{frame_line, slot_dump, dump_of}
 use Rattle.sha2.specs.Sha256.{sha256}
-use Rattle.kc_dump.proofs.Owners.{same-is}
+use Rattle.kc_model.proofs.States.Owners.{same-is}
 use Rattle.kc_vms.proofs.Rising.{empty-entries}
 use Rattle.kc_core.proofs.Ended.{first-same, last-same}
 use Rattle.kc_dump.proofs.Entries.{entry-get}

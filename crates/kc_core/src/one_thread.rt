@@ -4,8 +4,7 @@ ghost use Rattle.kc_types.specs.ReplyBytes.{is_data, most_reply_bytes};
 ghost use Rattle.kc_types.specs.declared.call.Call.TheVariants.{Verify};
 ghost use Rattle.kc_model.specs.Boot.{boot};
 ghost use Rattle.kc_model.specs.Next.{next, replies_from, state_after};
-ghost use Rattle.kc_model.specs.Refusals.{refusal};
-ghost use Rattle.kc_model.specs.Custody.{measured_images};
+ghost use Rattle.kc_model.specs.Custody.{images_by};
 ghost use Rattle.kc_model.specs.Lawful.{IsLawful};
 ghost use Rattle.kc_core.specs.Runs.{StopsAfter};
 ghost use Rattle.kc_model.specs.Safety.{IsSafe};
@@ -132,7 +131,7 @@ impl KCore {
     /// Answers `verify` of a VM slot, 0 to 63, as `call` does, and gives the images that it measured.
     pub fn verify(&mut self, vm: u32) -> Verified
         ensures reply { result.reply ≡ (next self.old (Verify vm)).0 }
-        ensures images { refusal self.old (Verify vm) ≡ None → result.images.items ≡ measured_images self.old vm }
+        ensures images { result.images.items ≡ images_by self.old (Verify vm) }
         ensures state { self.new ≡ (next self.old (Verify vm)).1 }
         ensures lawful { IsLawful self.new }
     {

@@ -11,7 +11,7 @@ ghost use Rattle.kc_model.specs.State.{slot_at};
 ghost use Rattle.kc_model.specs.Lawful.{IsLawfulImage};
 ghost use Rattle.kc_model.specs.Refusals.{refusal, backing, pages_of, is_short};
 ghost use Rattle.kc_model.specs.Effects.{effect, first_failing, trimmed, all_trimmed};
-ghost use Rattle.kc_model.specs.Custody.{measured_images};
+ghost use Rattle.kc_model.specs.Custody.{measured_images, images_by};
 ghost use Rattle.kc_types.specs.declared.custody.MeasuredImage.{MeasuredImage};
 ghost use Rattle.kc_parts.specs.Parts.{vm_at};
 ghost use Rattle.kc_parts.specs.States.{state_of, IsLinked};
@@ -289,10 +289,11 @@ fn measure_slot(parts: &mut Parts, config: &Config, vm: VmId) -> Verified
 }
 
 /// The slot becomes active if all its images are approved, and dead if one is not.
+#[inline(never)]
 pub fn verify(parts: &mut Parts, config: &Config, vm: u32) -> Verified
     requires { IsAble config.now parts.old (Verify vm) }
     ensures answer { IsAnswer config.now parts.old parts.new (Verify vm) result.reply }
-    ensures images { refusal (state_of config.now parts.old) (Verify vm) ≡ None → result.images.items ≡ measured_images (state_of config.now parts.old) vm }
+    ensures images { result.images.items ≡ images_by (state_of config.now parts.old) (Verify vm) }
 {
     match booted_slot(parts, config, vm) {
         Ok(vm) => measure_slot(parts, config, vm),

@@ -1,3 +1,2 @@
-pub mod Owners
 pub mod Sums
 pub mod Entries

@@ -12,3 +12,4 @@ pub mod Each
 pub mod Members
 pub mod Sizes
 pub mod Places
+pub mod Owners

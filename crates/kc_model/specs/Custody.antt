@@ -4,6 +4,8 @@ use Rattle.std.specs.List.{range_with_len}
 use Rattle.sha2.specs.Sha256.{sha256}
 use Rattle.kc_types.specs.Configuration.{slot_count}
 use Rattle.kc_types.specs.declared.call.Call.{Call}
+use Rattle.kc_types.specs.declared.call.Call.TheVariants.{Verify}
+use Rattle.kc_types.specs.declared.refusal.Refusal.{Refusal}
 use Rattle.kc_types.specs.declared.slot.Phase.{Phase}
 use Rattle.kc_types.specs.declared.slot.Phase.TheVariants.{Empty, Booting, Active, Dead}
 use Rattle.kc_types.specs.declared.custody.Custody.{Custody}
@@ -14,6 +16,7 @@ use Rattle.kc_types.specs.declared.custody.Change.{Change}
 use Rattle.kc_types.specs.declared.custody.Change.TheVariants as change
 use Rattle.kc_model.specs.State.{State, Frame, Image, frame_at, slot_at}
 use Rattle.kc_model.specs.Lawful.{same_owner}
+use Rattle.kc_model.specs.Refusals.{refusal}
 use Rattle.kc_model.specs.Effects.{image_bytes}
 use Rattle.kc_model.specs.Next.{next}
 
@@ -65,6 +68,15 @@ measured_image m v image = record { base = image.base; len = image.len; digest =
 
 abbrev pub measured_images : State → ℕ → List MeasuredImage
 measured_images m v = map (measured_image m v) (slot_at m v).images
+
+abbrev pub images_unless : Option Refusal → List MeasuredImage → List MeasuredImage
+images_unless None images = images
+images_unless (Some refused) images = []
+
+-- the images that a call measures: of `verify` where it is not refused, the slot's, and else none
+abbrev pub images_by : State → Call → List MeasuredImage
+images_by m (Verify v) = images_unless (refusal m (Verify v)) (measured_images m v)
+images_by m _ = []
 
 -- a slot is measured where it becomes active or dead
 abbrev pub images_for : Phase → List MeasuredImage → List MeasuredImage

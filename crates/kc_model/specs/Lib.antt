@@ -18,3 +18,6 @@ pub mod Linked
 pub mod Histories
 pub mod Custody
 pub mod CustodyLaws
+pub mod Events
+pub mod Lives
+pub mod Bars

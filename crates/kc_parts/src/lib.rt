@@ -15,3 +15,4 @@ mod wanted;
 
 pub use parts::Parts;
 pub use place_counts::PlaceCounts;
+pub use wanted::sort_once;

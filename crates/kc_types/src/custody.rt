@@ -1,4 +1,4 @@
-//! What an auditor is told of frames and slots, and its changes by calls.
+//! What an auditor is told of frames and slots: their changes by calls, and what follows from these.
 ghost use Rattle.std.specs.Prelude.{◌≡◌, ◌≤◌, [], length, IfOk};
 ghost use Rattle.kc_types.specs.Limits.{image_limit};
 
@@ -103,4 +103,97 @@ pub struct PhaseChange {
 pub enum Change {
     Frame(FrameChange),
     Phase(PhaseChange),
+}
+
+/// What is noted of a call.
+#[derive(Debug, Drop)]
+pub enum Event {
+    Change(Change),
+    /// The host read a frame that this VM had shared.
+    Read { vm: u32 },
+    /// The host wrote a frame that this VM had shared.
+    Write { vm: u32 },
+}
+
+/// A stretch in which a VM shared a frame with the host.
+#[derive(Clone, Copy, Debug, PartialEq, Eq)]
+pub struct Sharing {
+    pub frame: u32,
+    /// The guest frame at which its VM sees it.
+    pub gfn: Option<Gfn>,
+    /// The line of the call that shared it.
+    pub from: u32,
+    /// The line of the call that ended that; none where it is shared at the trace's end.
+    pub to: Option<u32>,
+}
+
+/// Stretches in which a VM shared frames, seen as the list of them.
+#[derive(Debug, Drop)]
+pub struct Sharings {
+    sharings: Vec<Sharing>,
+}
+
+impl Model for Sharings {
+    ghost use Rattle.std.specs.Prelude.{List};
+    ghost use Rattle.kc_types.specs.declared.custody.Sharing.{Sharing};
+
+    ghost Value = { List Sharing };
+
+    ghost view = { λ s. s.sharings.items };
+}
+
+impl Sharings {
+    pub fn of(sharings: Vec<Sharing>) -> Sharings
+        ensures { result ≡ sharings.items }
+    {
+        Sharings { sharings }
+    }
+
+    /// The stretches, in order.
+    pub fn as_slice(&self) -> &[Sharing]
+        ensures { result.now ≡ self.now }
+    {
+        self.sharings.as_slice()
+    }
+}
+
+/// A life of a VM: what happened to it from the call that registered it to the one that cleared it.
+#[derive(Debug, Drop)]
+pub struct Life {
+    /// Its slot, 0 to 63.
+    pub vm: u32,
+    /// The line of the call that registered it.
+    pub registered: u32,
+    /// The line of the `verify` that approved its images.
+    pub active: Option<u32>,
+    /// The line of the `verify` that refused them.
+    pub dead: Option<u32>,
+    /// The line of the `clear` that ended it; none where it is there at the trace's end.
+    pub cleared: Option<u32>,
+    /// Its boot images as they were measured.
+    pub images: MeasuredImages,
+    /// How many frames it ever owned.
+    pub frames: usize,
+    /// How many it owned at once, at most.
+    pub most: usize,
+    /// How many it owns at the end.
+    pub left: usize,
+    /// How often it gave a frame back.
+    pub returned: usize,
+    /// How many reads and writes of the host its shared frames served.
+    pub reads: usize,
+    pub writes: usize,
+    /// When it shared which frames, in the order in which that began.
+    pub shared: Sharings,
+}
+
+/// A stretch of lines after whose calls a frame has the same custody.
+#[derive(Clone, Copy, Debug, PartialEq, Eq)]
+pub struct Bar {
+    pub frame: u32,
+    pub custody: Custody,
+    /// The first line.
+    pub from: u32,
+    /// The line behind the last one.
+    pub to: u32,
 }

@@ -19,7 +19,10 @@ mod version;
 
 pub use call::{Actor, Call, actor_of};
 pub use config::{Config, ConfigFault};
-pub use custody::{Change, Custody, FrameChange, MeasuredImage, MeasuredImages, PhaseChange};
+pub use custody::{
+    Bar, Change, Custody, Event, FrameChange, Life, MeasuredImage, MeasuredImages, PhaseChange,
+    Sharing, Sharings,
+};
 pub use data::{Data, SHORT_SIZE};
 pub use limits::{
     BYTE_LIMIT, CALL_LIMIT, DIGEST_LIMIT, FIRST_FRAME_LIMIT, FIRST_SLOT_LIMIT, FRAME_LIMIT,

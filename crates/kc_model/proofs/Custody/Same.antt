@@ -8,13 +8,8 @@ use Rattle.kc_types.specs.declared.slot.Phase.TheVariants.{Empty, Booting, Activ
 use Rattle.kc_types.specs.declared.custody.Custody.{Custody}
 use Rattle.kc_model.specs.State.{State, slot_at}
 use Rattle.kc_model.specs.Lawful.{same_owner}
+use Rattle.kc_model.proofs.States.Owners.{same-itself, same-is}
 use Rattle.kc_model.specs.Custody.{custody_at, same_custody, same_gfn, same_flag, has_moved, same_phase, has_turned}
-
-same_owner-refl : (o : Owner) → same_owner o o ≡ true
-same_owner-refl Core = refl
-same_owner-refl Host = refl
-same_owner-refl Free = refl
-same_owner-refl (Vm v) = eq-eqb v v refl
 
 same_gfn-refl : (g : Option ℕ) → same_gfn g g ≡ true
 same_gfn-refl None = refl
@@ -28,25 +23,7 @@ four : (a b c d : Bool) → a ≡ true → b ≡ true → c ≡ true → d ≡ t
 four a b c d x y z w = rw (x, y, z, w) refl
 
 pub same_custody-refl : (c : Custody) → same_custody c c ≡ true
-same_custody-refl c = four _ _ _ _ (same_owner-refl c.owner) (same_gfn-refl c.gfn) (eq-eqb c.share c.share refl) (same_flag-refl c.present)
-
-owner-is : (a b : Owner) → same_owner a b ≡ true → a ≡ b
-owner-is Core Core e = refl
-owner-is Core Host e = cc
-owner-is Core Free e = cc
-owner-is Core (Vm w) e = cc
-owner-is Host Core e = cc
-owner-is Host Host e = refl
-owner-is Host Free e = cc
-owner-is Host (Vm w) e = cc
-owner-is Free Core e = cc
-owner-is Free Host e = cc
-owner-is Free Free e = refl
-owner-is Free (Vm w) e = cc
-owner-is (Vm v) Core e = cc
-owner-is (Vm v) Host e = cc
-owner-is (Vm v) Free e = cc
-owner-is (Vm v) (Vm w) e = ap Vm (eqb-true v w e)
+same_custody-refl c = four _ _ _ _ (same-itself c.owner) (same_gfn-refl c.gfn) (eq-eqb c.share c.share refl) (same_flag-refl c.present)
 
 gfn-is : (a b : Option ℕ) → same_gfn a b ≡ true → a ≡ b
 gfn-is None None e = refl
@@ -69,7 +46,7 @@ same_custody-is a b e =
     let three = and_parts (same_owner a.owner b.owner && same_gfn a.gfn b.gfn && nat_eq a.share b.share) (same_flag a.present b.present) e in
     let two = and_parts (same_owner a.owner b.owner && same_gfn a.gfn b.gfn) (nat_eq a.share b.share) three.0 in
     let one = and_parts (same_owner a.owner b.owner) (same_gfn a.gfn b.gfn) two.0 in
-    let owner : a.owner ≡ b.owner = owner-is a.owner b.owner one.0 in
+    let owner : a.owner ≡ b.owner = same-is a.owner b.owner one.0 in
     let gfn : a.gfn ≡ b.gfn = gfn-is a.gfn b.gfn one.1 in
     let share : a.share ≡ b.share = eqb-true a.share b.share two.1 in
     let present : a.present ≡ b.present = flag-is a.present b.present three.1 in

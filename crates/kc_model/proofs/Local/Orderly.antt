@@ -12,6 +12,7 @@ use Rattle.kc_model.specs.Links.{list_of}
 use Rattle.kc_model.specs.Resources.{is_in, listed_in}
 use Rattle.kc_model.specs.Local.{IsOrderly, HasMappedPages}
 use Rattle.kc_model.proofs.Refusals.Answered.{is_none-of}
+use Rattle.kc_model.proofs.States.Owners.{same-is}
 use Rattle.kc_model.proofs.States.Slots.{next-held}
 use Rattle.kc_model.proofs.States.Members.{times_in-held, held-times_in, same_number}
 use Rattle.kc_types.specs.Configuration.{slot_count}
@@ -19,28 +20,6 @@ use Rattle.kc_types.specs.Configuration.{slot_count}
 of-times : (b : Bool) (n : ℕ) → 0 < n → n ≡ cond b 1 0 → b ≡ true
 of-times true n some is = refl
 of-times false n some is = absurd (omega (arith, some, is))
-
-same-owner : (a b : Owner) → same_owner a b ≡ true → a ≡ b
-same-owner Core Core e = refl
-same-owner Core Host e = cc
-same-owner Core Free e = cc
-same-owner Core (Vm w) e = cc
-same-owner Host Core e = cc
-same-owner Host Host e = refl
-same-owner Host Free e = cc
-same-owner Host (Vm w) e = cc
-same-owner Free Core e = cc
-same-owner Free Host e = cc
-same-owner Free Free e = refl
-same-owner Free (Vm w) e = cc
-same-owner (Vm v) Core e = cc
-same-owner (Vm v) Host e = cc
-same-owner (Vm v) Free e = cc
-same-owner (Vm v) (Vm w) e = ap Vm (by_number (cases_eq v w))
-  where
-    by_number : ((v ≡ w) ⊎ (v ≢ w)) → v ≡ w
-    by_number (inl same) = same
-    by_number (inr other) = let no = ne_eqb v w other in cc
 
 -- a listed frame is the owner's
 pub listed-owned : (m : State) → IsLawful m → (owner : Owner) (f : ℕ) → listed_in m owner f ≡ true → same_owner (frame_at m f).owner owner ≡ true
@@ -56,8 +35,8 @@ listed-owned m is (Vm v) f h = elim (cases_lt v (slot_count m.config)) [
 pub owned-is : (m : State) → IsLawful m → (owner : Owner) (f : ℕ) → is_in (list_of m owner) f ≡ true → (frame_at m f).owner ≡ owner
 owned-is m is Core f listed = cc
 owned-is m is Host f listed = cc
-owned-is m is Free f listed = same-owner (frame_at m f).owner Free (listed-owned m is Free f listed)
-owned-is m is (Vm v) f listed = same-owner (frame_at m f).owner (Vm v) (listed-owned m is (Vm v) f listed)
+owned-is m is Free f listed = same-is (frame_at m f).owner Free (listed-owned m is Free f listed)
+owned-is m is (Vm v) f listed = same-is (frame_at m f).owner (Vm v) (listed-owned m is (Vm v) f listed)
 
 -- a mapped frame is in the list of its slot
 mapped-listed : (m : State) (v g f : ℕ) → IsLawful m → v < slot_count m.config → mapped_at m v g ≡ Some f → is_in (slot_at m v).frames f ≡ true
