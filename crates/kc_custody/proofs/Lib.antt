@@ -1,6 +1,7 @@
+pub mod Ordered
 pub mod Moved
 pub mod Ranges
-pub mod Ordered
+pub mod Runs
 pub mod Told
 pub mod Turned
 pub mod Calls

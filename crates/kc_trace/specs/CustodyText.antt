@@ -21,9 +21,9 @@ owner_text Host = codes "\"host\""
 owner_text Free = codes "\"free\""
 owner_text (Vm v) = (codes "\"vm" ++ decimal v) ++ codes "\""
 
-abbrev pub gfn_text : Option ℕ → List ℕ
-gfn_text None = codes "null"
-gfn_text (Some g) = decimal g
+abbrev pub number_text : Option ℕ → List ℕ
+number_text None = codes "null"
+number_text (Some n) = decimal n
 
 abbrev pub flag_text : Bool → List ℕ
 flag_text true = codes "true"
@@ -35,7 +35,7 @@ member key number = key ++ decimal number
 
 -- an object with these four keys, in this order
 abbrev pub custody_text : Custody → List ℕ
-custody_text custody = codes "{\"owner\":" ++ (owner_text custody.owner ++ (codes ",\"gfn\":" ++ (gfn_text custody.gfn
+custody_text custody = codes "{\"owner\":" ++ (owner_text custody.owner ++ (codes ",\"gfn\":" ++ (number_text custody.gfn
     ++ (member (codes ",\"share\":") custody.share ++ (codes ",\"present\":" ++ (flag_text custody.present ++ codes "}"))))))
 
 -- the line of a frame's change, with its newline
@@ -86,13 +86,13 @@ custody_text_of config calls changes = header_line config ++ (flat_map change_li
 
 -- no longer text is made of a custody, an image, four images, and a change
 abbrev pub longest_custody : ℕ
-longest_custody = 80
+longest_custody = 100
 
 abbrev pub longest_image : ℕ
-longest_image = 120
+longest_image = 135
 
 abbrev pub longest_images : ℕ
-longest_images = 500
+longest_images = 550
 
 abbrev pub longest_change : ℕ
 longest_change = 768
