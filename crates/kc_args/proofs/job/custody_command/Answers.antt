@@ -8,4 +8,6 @@ pub returns-clause-app : goal.returns-clause-app
 returns-clause-app c =
     let with_config = c.in_ok-arg.ensures.shape c.config_arg.ensures.local ∙ ap₂ with_rule (ap app_of_fields c.override_usage.ensures ∙ ap app_of_fields c.about.ensures ∙ c.new.ensures.app) c.config_arg.ensures.rule in
     let with_vm = c.in_ok-arg-2.ensures.shape c.vm_arg.ensures.local ∙ ap₂ with_rule with_config c.vm_arg.ensures.rule in
-    IfOk-weaker c.arg-3.result _ _ (λ r h. h.shape c.explain_arg.ensures.local ∙ ap₂ with_rule with_vm c.explain_arg.ensures.rule) c.arg-3.ensures
+    let with_summary = c.in_ok-arg-3.ensures.shape c.summary_arg.ensures.local ∙ ap₂ with_rule with_vm c.summary_arg.ensures.rule in
+    let with_svg = c.in_ok-arg-4.ensures.shape c.svg_arg.ensures.local ∙ ap₂ with_rule with_summary c.svg_arg.ensures.rule in
+    IfOk-weaker c.arg-5.result _ _ (λ r h. h.shape c.explain_arg.ensures.local ∙ ap₂ with_rule with_svg c.explain_arg.ensures.rule) c.arg-5.ensures
