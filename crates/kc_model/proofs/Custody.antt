@@ -8,4 +8,5 @@ pub mod Active
 pub mod Approved
 pub mod Tells
 pub mod Runs
+pub mod Events
 pub mod Laws
