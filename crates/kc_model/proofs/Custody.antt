@@ -7,6 +7,7 @@ pub mod Phases
 pub mod Active
 pub mod Approved
 pub mod Tells
+pub mod Ordered
 pub mod Runs
 pub mod Events
 pub mod Laws
