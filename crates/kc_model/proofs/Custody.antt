@@ -8,6 +8,7 @@ pub mod Active
 pub mod Approved
 pub mod Tells
 pub mod Ordered
+pub mod Bars
 pub mod Runs
 pub mod Events
 pub mod Laws
