@@ -14,6 +14,8 @@ use Rattle.kc_types.specs.declared.custody.MeasuredImage.{MeasuredImage}
 use Rattle.kc_types.specs.declared.custody.PhaseChange.{PhaseChange}
 use Rattle.kc_types.specs.declared.custody.Change.{Change}
 use Rattle.kc_types.specs.declared.custody.Change.TheVariants as change
+use Rattle.kc_types.specs.declared.custody.Event.{Event}
+use Rattle.kc_types.specs.declared.custody.Event.TheVariants as event
 
 abbrev pub owner_text : Owner → List ℕ
 owner_text Core = codes "\"core\""
@@ -70,6 +72,11 @@ phase_line told = member (codes "{\"line\":") told.line ++ (member (codes ",\"vm
 abbrev pub change_line : Change → List ℕ
 change_line (change.Frame told) = frame_line told
 change_line (change.Phase told) = phase_line told
+
+-- an event's line: a change's, and none for the host's reads and writes
+abbrev pub event_line : Event → List ℕ
+event_line (event.Change told) = change_line told
+event_line _ = []
 
 -- the first line: the sizes of the core
 abbrev pub header_line : Configuration → List ℕ
