@@ -8,13 +8,14 @@ use Rattle.kc_types.specs.declared.slot.Phase.TheVariants.{Empty, Booting, Activ
 use Rattle.kc_types.specs.declared.custody.Change.TheVariants as change
 use Rattle.kc_types.specs.declared.custody.Event.{Event}
 use Rattle.kc_types.specs.declared.custody.Event.TheVariants as event
+use Rattle.kc_types.specs.declared.custody.Life.{Life}
 use Rattle.kc_types.specs.declared.custody.Sharing.{Sharing}
 use Rattle.kc_types.specs.declared.custody.FrameChange.{FrameChange}
 use Rattle.kc_types.specs.declared.custody.PhaseChange.{PhaseChange}
-use Rattle.kc_model.specs.Lives.{is_owned_by, is_measuring, is_read, is_write, is_loss, end_of_sharing}
-use Rattle.kc_summary.specs.Tally.{Tally, no_tally, tally_of, owning, HasRoom, HasRoomFor}
+use Rattle.kc_model.specs.Lives.{life_in, life_from, is_owned_by, is_measuring, is_read, is_write, is_loss, end_of_sharing}
+use Rattle.kc_summary.specs.Tally.{Tally, no_tally, tally_of, told_life, owning, HasRoom, HasRoomFor}
 use Rattle.kc_summary.specs.Tallies.{AreTallied}
-use Rattle.kc_summary.proofs.Counts.{counted-short, most-within}
+use Rattle.kc_summary.proofs.Counts.{gains-are, counted-short, most-within}
 
 -- one stretch more, or not
 abbrev pub sharing : Bool → Sharing → Tally → Tally
@@ -82,6 +83,11 @@ pub phase-booting : (told : PhaseChange) (more : List Event) → told.phase ≡ 
 unfolding tally_of
 phase-booting told more phase = rw (eq-eqb told.vm told.vm refl, phase) refl
 
+pub life-told : (told : PhaseChange) (more : List Event) (life : Life) → told.phase ≡ Booting → life ≡ told_life told.vm told.line (tally_of told.vm more)
+    → life ∷ [] ≡ life_from (event.Change (change.Phase told)) more
+unfolding tally_of
+life-told told more life phase is = rw (phase, is, gains-are told.vm (life_in told.vm more)) refl
+
 pub phase-empty : (told : PhaseChange) (more : List Event) → told.phase ≡ Empty → tally_of told.vm (event.Change (change.Phase told) ∷ more) ≡ record no_tally { cleared = Some told.line }
 unfolding tally_of
 phase-empty told more phase = let same : nat_eq told.vm told.vm ≡ true = eq-eqb told.vm told.vm refl in rw (same, phase, is_measuring, same) refl
@@ -109,6 +115,10 @@ tallied-by told more w slots was own here at takes others tallied = record {
     | inr other ↦ get_or-set_other slots w v own no_tally other ∙ tallied.each v low ∙ sym (others v other)
   ];
 }
+
+pub phase-tallied : (told : PhaseChange) (more : List Event) (slots : List Tally) (was own : Tally) → told.vm < length slots → was ≡ get_or slots told.vm no_tally
+    → (was ≡ tally_of told.vm more → own ≡ tally_of told.vm (event.Change (change.Phase told) ∷ more)) → AreTallied more slots → AreTallied (event.Change (change.Phase told) ∷ more) (set slots told.vm own)
+phase-tallied told more slots was own here at takes tallied = tallied-by (event.Change (change.Phase told)) more told.vm slots was own here at takes (λ v. phase-other v told more) tallied
 
 -- the event names no slot
 pub tallied-left : (told : Event) (more : List Event) (w : ℕ) (slots : List Tally) → length slots ≤ w → ((v : ℕ) → v ≢ w → tally_of v (told ∷ more) ≡ tally_of v more)

@@ -1,18 +1,13 @@
-use Rattle.std.proofs.Common.{rules, ◌≡◌, ◌<◌, ◌∷◌, List, OnOk, IfOk, [], ℕ, ◌+◌, ◌-◌, ◌*◌, ◌≤◌, length, ◌/◌, ◌%◌, Bool, true, false, nat_eq, nat_lt, ◌++◌, slice_index_or, slice_set, bit_and, bit_or, Fits, w8, w32, w64, Bor, MutBor}
-use Rattle.std.specs.Option.{option_to_list}
-use Rattle.kc_types.specs.Limits.{slot_limit}
-use Rattle.kc_types.specs.declared.custody.Event.{Event as AnEvent}
-use Rattle.kc_types.specs.declared.custody.Event.TheVariants as event
-use Rattle.kc_types.specs.declared.custody.Change.TheVariants as change
-use Rattle.kc_model.specs.Lives.{life_from, end_of_sharing}
-use Rattle.kc_summary.specs.Tally.{HasRoom}
-use Rattle.kc_summary.specs.Tallies.{AreTallied, NotesOfSlots, TakesInOf}
+use Rattle.std.proofs.Common.{◌≡◌, ◌≢◌, rules}
+use Rattle.kc_summary.proofs.Taken.{taken-once, taken-twice}
 use Rattle.kc_summary.proofs.tallies.Tallies.note_frame.Goals as goal
 
--- src/tallies.rt:82:5
 pub returns-in_ok-note_owner-2 : goal.returns-in_ok-note_owner-2
-returns-in_ok-note_owner-2 c = ?
+returns-in_ok-note_owner-2 c = λ more.
+    let differ : c.args.told.now.before.owner ≢ c.args.told.now.after.owner = search rules in
+    taken-twice c.args.told.now c.args.to more _ _ _ differ c.in_ok-note_owner.ensures c.in_ok-note_owner-2.ensures
 
--- src/tallies.rt:82:5
 pub returns-else-ne : goal.returns-else-ne
-returns-else-ne c = ?
+returns-else-ne c = λ more.
+    let same : c.args.told.now.before.owner ≡ c.args.told.now.after.owner = search rules in
+    taken-once c.args.told.now c.args.to more _ _ same c.in_ok-note_owner.ensures
