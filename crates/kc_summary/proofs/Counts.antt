@@ -1,12 +1,12 @@
 -- No count of a life exceeds the number of events, and as many frames are gained as there are gains.
-use Rattle.std.proofs.Common.{ℕ, ◌≡◌, ◌≤◌, ◌+◌, ◌-◌, Bool, true, false, cond, not, ◌&&◌, List, [], ◌∷◌, length, filter, Some, None, refl, arith}
+use Rattle.std.proofs.Common.{ℕ, ◌≡◌, ◌≤◌, ◌+◌, ◌-◌, Bool, true, false, cond, List, [], ◌∷◌, length, filter, Some, None, refl, arith}
 use Rattle.std.proofs.lemmas.List.Sums.{length-filter, count_by-le-length}
 use Rattle.std.specs.List.{cons_option}
 use Rattle.kc_types.specs.declared.slot.Phase.TheVariants.{Empty, Booting}
 use Rattle.kc_types.specs.declared.custody.Change.TheVariants as change
 use Rattle.kc_types.specs.declared.custody.Event.{Event}
 use Rattle.kc_types.specs.declared.custody.Event.TheVariants as event
-use Rattle.kc_model.specs.Lives.{is_turn, life_in, is_owned_by, is_gain, is_loss, frames_gained, most_beyond}
+use Rattle.kc_model.specs.Lives.{is_turn, life_in, is_gain, is_loss, frames_gained, most_beyond}
 
 -- a life is no longer than the events behind its registering
 life-short : (v : ℕ) (more : List Event) → length (life_in v more) ≤ length more

@@ -1,5 +1,5 @@
 -- How many different numbers a list has.
-use Rattle.std.proofs.Common.{ℕ, ◌≡◌, ◌<◌, ◌+◌, ◌||◌, Bool, true, false, cond, eqb, List, [], ◌∷◌, length, get_or, refl, sym, ap, ap₂, ◌∙◌, arith}
+use Rattle.std.proofs.Common.{ℕ, ◌≡◌, ◌+◌, ◌||◌, Bool, true, false, cond, eqb, List, [], ◌∷◌, length, refl, sym, ap₂, ◌∙◌, arith}
 use Rattle.std.specs.Cmp.{nat_eq_equiv, unsigned_Decides, both_ways}
 use Rattle.std.specs.List.{dedup}
 use Rattle.std.specs.List.Sorted.{IsSorted, IsPermutation}

@@ -1,7 +1,6 @@
 -- The tallies of all slots, where a frame's owners before and after a change of it have taken the change in.
-use Rattle.std.proofs.Common.{ℕ, ◌≡◌, ◌≢◌, ◌<◌, Bool, true, false, List, ◌∷◌, length, get_or, Option, refl, sym, ap, ◌∙◌, arith}
+use Rattle.std.proofs.Common.{ℕ, ◌≡◌, ◌≢◌, Bool, true, false, List, ◌∷◌, Option, refl, sym, ap, ◌∙◌}
 use Rattle.std.proofs.lemmas.Bool.{eqb-true}
-use Rattle.kc_types.specs.Limits.{slot_limit}
 use Rattle.kc_types.specs.declared.owner.Owner.{Owner}
 use Rattle.kc_types.specs.declared.owner.Owner.TheVariants.{Core, Host, Free, Vm}
 use Rattle.kc_types.specs.declared.custody.Change.TheVariants as change
@@ -9,7 +8,7 @@ use Rattle.kc_types.specs.declared.custody.Event.{Event}
 use Rattle.kc_types.specs.declared.custody.Event.TheVariants as event
 use Rattle.kc_types.specs.declared.custody.FrameChange.{FrameChange}
 use Rattle.kc_model.specs.Lives.{is_owned_by, end_of_sharing}
-use Rattle.kc_summary.specs.Tally.{Tally, no_tally, tally_of, HasRoom}
+use Rattle.kc_summary.specs.Tally.{Tally, tally_of, HasRoom}
 use Rattle.kc_summary.specs.Tallies.{AreTallied, TakesIn, TakesInOf}
 use Rattle.kc_summary.proofs.Tallied.{frame-other}
 

@@ -25,8 +25,8 @@ returns-clause-slots c = λ low more room tallied.
       | in-Empty+in_ok-tally-in-Empty w ↦ rw w.self-inside-is (phase-tallied told more _ _ _ here.0 (here.1 no_tally) (λ is. w.in_ok-tally-in-Empty.ensures ∙ sym (phase-empty told more w.in-Empty.is)) before)
       | in-Active w ↦
           rw w.self-inside-is (phase-tallied told more _ _ _ here.0 (here.1 no_tally)
-              (λ is. w.approve.ensures ∙ ap (λ (t : Tally). record t { active = Some told.line; images = told.images }) is ∙ sym (phase-active told more w.in-Active.is)) before)
+          (λ is. w.approve.ensures ∙ ap (λ (t : Tally). record t { active = Some told.line; images = told.images }) is ∙ sym (phase-active told more w.in-Active.is)) before)
       | in-Dead w ↦
           rw w.self-inside-is (phase-tallied told more _ _ _ here.0 (here.1 no_tally)
-              (λ is. w.refuse.ensures ∙ ap (λ (t : Tally). record t { dead = Some told.line; images = told.images }) is ∙ sym (phase-dead told more w.in-Dead.is)) before)
+          (λ is. w.refuse.ensures ∙ ap (λ (t : Tally). record t { dead = Some told.line; images = told.images }) is ∙ sym (phase-dead told more w.in-Dead.is)) before)
     ]
