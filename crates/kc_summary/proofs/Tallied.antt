@@ -77,7 +77,7 @@ frame-taken v told to more had has begins old owned new before after shares owns
 
 pub phase-other : (v : ℕ) (told : PhaseChange) (more : List Event) → v ≢ told.vm → tally_of v (event.Change (change.Phase told) ∷ more) ≡ tally_of v more
 unfolding tally_of
-phase-other v told more other = let apart : nat_eq told.vm v ≡ false = ne_eqb told.vm v (λ same. other (sym same)) in rw (apart, is_measuring, apart) refl
+phase-other v told more other = let apart : nat_eq told.vm v ≡ false = ne_eqb told.vm v (λ same. other (sym same)) in rw (apart, is_measuring, apart) (refl {a = tally_of v more})
 
 pub phase-booting : (told : PhaseChange) (more : List Event) → told.phase ≡ Booting → tally_of told.vm (event.Change (change.Phase told) ∷ more) ≡ no_tally
 unfolding tally_of
@@ -94,11 +94,11 @@ phase-empty told more phase = let same : nat_eq told.vm told.vm ≡ true = eq-eq
 
 pub phase-active : (told : PhaseChange) (more : List Event) → told.phase ≡ Active → tally_of told.vm (event.Change (change.Phase told) ∷ more) ≡ record (tally_of told.vm more) { active = Some told.line; images = told.images }
 unfolding tally_of
-phase-active told more phase = let same : nat_eq told.vm told.vm ≡ true = eq-eqb told.vm told.vm refl in rw (same, phase, is_measuring, same) refl
+phase-active told more phase = let same : nat_eq told.vm told.vm ≡ true = eq-eqb told.vm told.vm refl in rw (same, phase, is_measuring, same) (refl {a = record (tally_of told.vm more) { active = Some told.line; images = told.images }})
 
 pub phase-dead : (told : PhaseChange) (more : List Event) → told.phase ≡ Dead → tally_of told.vm (event.Change (change.Phase told) ∷ more) ≡ record (tally_of told.vm more) { dead = Some told.line; images = told.images }
 unfolding tally_of
-phase-dead told more phase = let same : nat_eq told.vm told.vm ≡ true = eq-eqb told.vm told.vm refl in rw (same, phase, is_measuring, same) refl
+phase-dead told more phase = let same : nat_eq told.vm told.vm ≡ true = eq-eqb told.vm told.vm refl in rw (same, phase, is_measuring, same) (refl {a = record (tally_of told.vm more) { dead = Some told.line; images = told.images }})
 
 pub tallied-none : (slots : List Tally) → slots ≡ replicate slot_limit no_tally → AreTallied [] slots
 unfolding tally_of

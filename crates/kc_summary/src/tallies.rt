@@ -13,7 +13,6 @@ use crate::tally::Tally;
 use kc_types::{FrameChange, Life, Memory, Owner, Phase, PhaseChange, SLOT_LIMIT};
 use std::alloc::Global;
 use std::marker::Model;
-use std::mem;
 
 /// A tally of each slot.
 #[derive(Debug, Drop)]
@@ -104,11 +103,8 @@ impl Tallies {
             return Ok(None);
         };
         match told.phase {
-            Phase::Booting => {
-                let behind = mem::replace(tally, Tally::none(alloc)?);
-                return Ok(Some(behind.into_life(told.vm, told.line)));
-            },
-            Phase::Empty => *tally = Tally::cleared_on(alloc, told.line)?,
+            Phase::Booting => return Ok(Some(tally.register(alloc, told.vm, told.line)?)),
+            Phase::Empty => tally.clear(alloc, told.line)?,
             Phase::Active => tally.approve(told.line, told.images),
             Phase::Dead => tally.refuse(told.line, told.images),
         }

@@ -7,6 +7,7 @@ use crate::different::count_different;
 use kc_types::{FrameChange, Gfn, Life, MeasuredImages, Memory, Owner, Sharing, Sharings, VmId};
 use std::alloc::Global;
 use std::marker::Model;
+use std::mem;
 
 /// What events tell of a slot up to its life's end, gathered from the last of them to the first.
 #[derive(Debug, Drop)]
@@ -65,15 +66,6 @@ impl Tally {
         })
     }
 
-    /// Of the event that empties the slot, on this line.
-    pub(crate) fn cleared_on(alloc: Global, line: u32) -> Result<Tally, Memory>
-        ensures { IfOk result (λ tally. tally ≡ record no_tally { cleared = Some line }) }
-    {
-        let mut tally = Tally::none(alloc)?;
-        tally.cleared = Some(line);
-        Ok(tally)
-    }
-
     /// The host reads a frame.
     pub(crate) fn read(&mut self)
         ensures { self.old.reads + 1 < 2 ^ 64 → self.new ≡ record self.old { reads = self.old.reads + 1 } }
@@ -86,6 +78,26 @@ impl Tally {
         ensures { self.old.writes + 1 < 2 ^ 64 → self.new ≡ record self.old { writes = self.old.writes + 1 } }
     {
         self.writes = self.writes.saturating_add(1);
+    }
+
+    /// A VM is registered on this line: its life is told, and the tally begins anew for what came before. `Memory` where a
+    /// growth was refused; then the tally is as it was.
+    pub(crate) fn register(&mut self, alloc: Global, vm: u32, line: u32) -> Result<Life, Memory>
+        ensures life { IfOk result (λ life. life ≡ told_life vm line self.old) }
+        ensures anew { OnOk result (self.new ≡ no_tally) }
+    {
+        let told = mem::replace(self, Tally::none(alloc)?);
+        Ok(told.into_life(vm, line))
+    }
+
+    /// The slot is emptied on this line: what is told behind that is of no life that began before it. `Memory` where a growth
+    /// was refused; then the tally is as it was.
+    pub(crate) fn clear(&mut self, alloc: Global, line: u32) -> Result<(), Memory>
+        ensures { OnOk result (self.new ≡ record no_tally { cleared = Some line }) }
+    {
+        *self = Tally::none(alloc)?;
+        self.cleared = Some(line);
+        Ok(())
     }
 
     /// The slot becomes active, and is measured.
@@ -174,7 +186,7 @@ impl Tally {
     }
 
     /// The life that is told, of the VM that was registered on this line.
-    pub(crate) fn into_life(self, vm: u32, registered: u32) -> Life
+    fn into_life(self, vm: u32, registered: u32) -> Life
         ensures { result ≡ told_life vm registered self }
     {
         let Tally {
