@@ -12,6 +12,8 @@ mod live;
 #[cfg(test)]
 mod live_texts;
 #[cfg(test)]
+mod lives;
+#[cfg(test)]
 mod look_ups;
 #[cfg(test)]
 mod replays;
