@@ -1,0 +1,4 @@
+pub mod Counts
+pub mod Tallied
+pub mod Distinct
+pub mod Taken
