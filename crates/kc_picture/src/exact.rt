@@ -1,0 +1,226 @@
+//! Every frame by its number, a bar a stretch.
+use crate::colour::{Colour, FAINT, FREE, INK, LIFE};
+use crate::rows::bars_by_row;
+use crate::scale::{LEFT, Scale};
+use crate::svg::{Area, Style, Svg};
+use crate::words::Counted;
+use kc_types::{Bar, Custody, Memory, Owner};
+use std::alloc::Global;
+
+/// The height of a row of few frames, with room for names, and of more.
+pub(crate) fn row_height(frames: u64) -> u64 {
+    if frames <= 16 { 2_200 } else { 1_200 }
+}
+
+/// Appends who owns a frame, and at which guest frame.
+fn say_owner(words: &mut String, custody: &Custody) -> Result<(), Memory> {
+    match custody.owner {
+        Owner::Core => words.push_str("core")?,
+        Owner::Host => words.push_str("host")?,
+        Owner::Free => words.push_str("free")?,
+        Owner::Vm(vm) => {
+            let vm = vm.index();
+            write!(words, "vm {vm}")?;
+            if let Some(gfn) = custody.gfn {
+                let gfn = gfn.number();
+                write!(words, " at guest frame {gfn}")?;
+            }
+        },
+    }
+    Ok(())
+}
+
+/// All that a bar tells: "frame 3, lines 17 to 22: vm 0 at guest frame 7, 1 grant, reached by the host".
+fn bar_title(alloc: Global, bar: &Bar) -> Result<String, Memory> {
+    let mut title = String::new(alloc);
+    let frame = bar.frame;
+    let from = bar.from;
+    let last = bar.to.saturating_sub(1);
+    write!(title, "frame {frame}, lines {from} to {last}: ")?;
+    say_owner(&mut title, &bar.custody)?;
+    if bar.custody.share > 0 {
+        let grants = Counted(u64::from(bar.custody.share), "grant");
+        write!(title, ", {grants}")?;
+    }
+    if bar.custody.present {
+        title.push_str(", reached by the host")?;
+    }
+    Ok(title)
+}
+
+/// The words on a bar.
+fn bar_name(alloc: Global, custody: &Custody) -> Result<String, Memory> {
+    let mut name = String::new(alloc);
+    match custody.owner {
+        Owner::Core => name.push_str("core")?,
+        Owner::Host => name.push_str("host")?,
+        Owner::Free => name.push_str("free")?,
+        Owner::Vm(vm) => {
+            let vm = vm.index();
+            write!(name, "vm {vm}")?;
+            if let Some(gfn) = custody.gfn {
+                let gfn = gfn.number();
+                write!(name, " @{gfn}")?;
+            }
+            if custody.share > 0 {
+                name.push_str(" shared")?;
+            }
+        },
+    }
+    Ok(name)
+}
+
+/// Whether two bars of a frame have one name.
+fn same_name(a: &Custody, b: &Custody) -> bool {
+    a.owner == b.owner && a.gfn == b.gfn && (a.share > 0) == (b.share > 0)
+}
+
+fn bar_area(scale: Scale, top: u64, height: u64, bar: &Bar) -> Area {
+    let x = scale.x(bar.from);
+    Area {
+        x,
+        y: top.saturating_add(100),
+        width: scale.x(bar.to).saturating_sub(x),
+        height: height.saturating_sub(200),
+    }
+}
+
+/// Draws a bar, without its name.
+fn draw_bar(alloc: Global, svg: &mut Svg, area: &Area, bar: &Bar) -> Result<(), Memory> {
+    let title = bar_title(alloc, bar)?;
+    svg.begin_titled(&title)?;
+    let colour = Colour::of_owner(bar.custody.owner);
+    if bar.custody.owner == Owner::Free {
+        svg.edged(area, FREE, LIFE)?;
+    } else {
+        svg.rect(area, colour)?;
+    }
+    if bar.custody.share > 0 {
+        svg.hatched(area)?;
+    }
+    if bar.custody.present {
+        let foot = Area {
+            y: area.y.saturating_add(area.height).saturating_sub(250),
+            height: 250,
+            ..*area
+        };
+        svg.rect(&foot, INK)?;
+    }
+    svg.end_group()
+}
+
+/// How wide words of this length are, at most.
+fn width_of(words: &str) -> u64 {
+    620u64.saturating_mul(words.len() as u64)
+}
+
+/// Writes a bar's name on it, where there is room.
+fn name_bar(alloc: Global, svg: &mut Svg, area: &Area, bar: &Bar) -> Result<bool, Memory> {
+    let name = bar_name(alloc, &bar.custody)?;
+    let width = width_of(&name);
+    if area.width < width.saturating_add(600) {
+        return Ok(false);
+    }
+    let mut colour = if Colour::of_owner(bar.custody.owner).is_dark() {
+        FREE
+    } else {
+        INK
+    };
+    if bar.custody.share > 0 {
+        let ground = Area {
+            x: area.x.saturating_add(200),
+            y: area.y.saturating_add(300),
+            width: width.saturating_add(300),
+            height: area.height.saturating_sub(600),
+        };
+        svg.rect(&ground, FREE)?;
+        colour = INK;
+    }
+    if bar.custody.owner == Owner::Free {
+        colour = FAINT;
+    }
+    let base = area.y.saturating_add(area.height).saturating_sub(600);
+    svg.words(
+        &Style::plain(area.x.saturating_add(400), base, 10).colour(colour),
+        &name,
+    )?;
+    Ok(true)
+}
+
+/// Writes the number of a frame beside its row.
+fn name_frame(
+    alloc: Global,
+    svg: &mut Svg,
+    frame: u64,
+    top: u64,
+    height: u64,
+) -> Result<(), Memory> {
+    let roomy = height > 1_400;
+    let name = if roomy {
+        format!(in alloc; "frame {frame}")?
+    } else {
+        format!(in alloc; "{frame}")?
+    };
+    let base = top
+        .saturating_add(height)
+        .saturating_sub(if roomy { 600 } else { 250 });
+    let style = if roomy {
+        Style::plain(LEFT - 800, base, 11)
+    } else {
+        Style::plain(LEFT - 800, base, 9).colour(FAINT)
+    };
+    svg.words(&style.end(), &name)
+}
+
+/// Draws the bars of one frame, each with its name unless the one before it has the same.
+fn draw_row(
+    alloc: Global,
+    svg: &mut Svg,
+    scale: Scale,
+    top: u64,
+    height: u64,
+    bars: &[Bar],
+    row: &[usize],
+) -> Result<(), Memory> {
+    let mut named: Option<Custody> = None;
+    for i in row {
+        if let Some(bar) = bars.get(*i) {
+            let area = bar_area(scale, top, height, bar);
+            draw_bar(alloc, svg, &area, bar)?;
+            let again = match &named {
+                Some(before) => same_name(before, &bar.custody),
+                None => false,
+            };
+            if !again {
+                named = None;
+                if height > 1_400 && name_bar(alloc, svg, &area, bar)? {
+                    named = Some(bar.custody);
+                }
+            }
+        }
+    }
+    Ok(())
+}
+
+/// Draws all frames from a height on; where a VM is named its bars alone.
+pub(crate) fn draw_frames(
+    alloc: Global,
+    svg: &mut Svg,
+    scale: Scale,
+    top: u64,
+    frames: u64,
+    bars: &[Bar],
+    vm: Option<u32>,
+) -> Result<(), Memory> {
+    let height = row_height(frames);
+    let rows = bars_by_row(alloc, bars, vm, frames, frames)?;
+    let mut at = top;
+    let mut frame = 0u64;
+    for row in &rows {
+        name_frame(alloc, svg, frame, at, height)?;
+        draw_row(alloc, svg, scale, at, height, bars, row)?;
+        at = at.saturating_add(height);
+        frame = frame.saturating_add(1);
+    }
+    Ok(())
+}
