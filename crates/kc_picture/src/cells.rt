@@ -3,7 +3,7 @@ use crate::colour::{CORE, Colour, EDGE, FAINT, FREE, HOST, INK, SEVERAL};
 use crate::rows::{bars_by_row, first_of_row, row_of};
 use crate::scale::{LEFT, PLOT, Scale, nice};
 use crate::svg::{Area, Style, Svg};
-use crate::words::Points;
+use crate::words::{Counted, Points};
 use kc_types::{Bar, Memory, Owner};
 use std::alloc::Global;
 
@@ -218,19 +218,28 @@ fn most_of(sums: &Sums, running: &mut Vec<u64>, column: u64) -> Most {
     most
 }
 
-/// The colour of a cell in which all frames through all lines have this weight: that of the VM with more than half of what
-/// VMs had, or that of several, in five steps; where VMs had nothing that of the other owner that had most.
-fn colour_of(most: &Most, size: u64) -> Colour {
+/// Whose a cell is: a VM's that had more than half of what VMs had of it, or several VMs', or where VMs had nothing that of
+/// the other owner that had most.
+#[derive(Clone, Copy, PartialEq, Eq)]
+enum Whose {
+    Vm(u32),
+    Several,
+    Rest(Colour),
+}
+
+fn holder_of(most: &Most) -> Whose {
     if most.of_vms == 0 {
-        return most.rest;
-    }
-    let colour = if most.of_vm.saturating_mul(2) > most.of_vms {
-        Colour::of_vm(most.vm)
+        Whose::Rest(most.rest)
+    } else if most.of_vm.saturating_mul(2) > most.of_vms {
+        Whose::Vm(most.vm)
     } else {
-        SEVERAL
-    };
-    let fifths = most.of_vms.saturating_mul(5) / size.max(1);
-    match fifths {
+        Whose::Several
+    }
+}
+
+/// A colour in five steps, the paler the less of a cell VMs had, which is this large.
+fn shaded(colour: Colour, of_vms: u64, size: u64) -> Colour {
+    match of_vms.saturating_mul(5) / size.max(1) {
         0 => colour.paler(50),
         1 => colour.paler(35),
         2 => colour.paler(20),
@@ -239,15 +248,32 @@ fn colour_of(most: &Most, size: u64) -> Colour {
     }
 }
 
-/// The colours of a row's cells, from left to right.
-fn colours_of(alloc: Global, sums: &Sums, size: u64) -> Result<Vec<Colour>, Memory> {
+/// How a cell is drawn.
+#[derive(Clone, Copy)]
+struct Cell {
+    whose: Whose,
+    colour: Colour,
+}
+
+fn cell_of(most: &Most, size: u64) -> Cell {
+    let whose = holder_of(most);
+    let colour = match whose {
+        Whose::Vm(vm) => shaded(Colour::of_vm(vm), most.of_vms, size),
+        Whose::Several => shaded(SEVERAL, most.of_vms, size),
+        Whose::Rest(colour) => colour,
+    };
+    Cell { whose, colour }
+}
+
+/// A row's cells, from left to right.
+fn cells_of(alloc: Global, sums: &Sums, size: u64) -> Result<Vec<Cell>, Memory> {
     let mut running = vec![in alloc; 0; OWNERS]?;
-    let mut colours = Vec::new(alloc);
+    let mut cells = Vec::new(alloc);
     for column in 0..sums.columns.min(MOST_COLUMNS) {
         let most = most_of(sums, &mut running, column);
-        colours.push(colour_of(&most, size))?;
+        cells.push(cell_of(&most, size))?;
     }
-    Ok(colours)
+    Ok(cells)
 }
 
 /// Draws cells from one column up to another in one colour; nothing where that is the ground's.
@@ -267,19 +293,55 @@ fn draw_run(
 }
 
 /// Draws the cells of a row.
-fn draw_cells(svg: &mut Svg, columns: u64, colours: &[Colour], middle: u64) -> Result<(), Memory> {
+fn draw_cells(svg: &mut Svg, columns: u64, cells: &[Cell], middle: u64) -> Result<(), Memory> {
     let mut from = 0u64;
     let mut last = FREE;
     let mut column = 0u64;
-    for colour in colours {
-        if *colour != last {
+    for cell in cells {
+        if cell.colour != last {
             draw_run(svg, columns, from, column, middle, last)?;
             from = column;
-            last = *colour;
+            last = cell.colour;
         }
         column = column.saturating_add(1);
     }
     draw_run(svg, columns, from, column, middle, last)
+}
+
+/// Whether an edge is drawn between two cells: where another's begin, unless no VM had any of either.
+fn has_edge(left: Whose, right: Whose) -> bool {
+    match (left, right) {
+        (Whose::Rest(_), Whose::Rest(_)) => false,
+        _ => left != right,
+    }
+}
+
+/// Draws an edge where a VM's cells of a row begin and end, which is read in grey too.
+fn draw_edges(
+    alloc: Global,
+    svg: &mut Svg,
+    columns: u64,
+    cells: &[Cell],
+    top: u64,
+    height: u64,
+) -> Result<(), Memory> {
+    let mut path = String::new(alloc);
+    let mut before = Whose::Rest(FREE);
+    let mut column = 0u64;
+    let y = Points(top);
+    let down = Points(height);
+    for cell in cells {
+        if has_edge(before, cell.whose) {
+            let x = Points(x_of(column, columns).saturating_add(50));
+            write!(path, "M{x} {y}v{down}")?;
+        }
+        before = cell.whose;
+        column = column.saturating_add(1);
+    }
+    if path.is_empty() {
+        return Ok(());
+    }
+    svg.lines(&path, 60)
 }
 
 /// Adds a line through the columns from one up to another.
@@ -322,7 +384,7 @@ fn draw_shared(alloc: Global, svg: &mut Svg, sums: &Sums, middle: u64) -> Result
     if path.is_empty() {
         return Ok(());
     }
-    svg.underlined(&path)
+    svg.lines(&path, 120)
 }
 
 /// Writes the numbers of some frames beside their rows.
@@ -355,18 +417,32 @@ fn explain(
     alloc: Global,
     svg: &mut Svg,
     top: u64,
-    rows: u64,
-    frames: u64,
-    columns: u64,
-    last: u64,
+    tall: u64,
+    wide: u64,
+    vm: Option<u32>,
 ) -> Result<(), Memory> {
-    let tall = frames.saturating_add(rows.saturating_sub(1)) / rows.max(1);
-    let wide = last.saturating_add(columns.saturating_sub(1)) / columns.max(1);
-    let words = format!(in alloc;
-        "a cell: up to {tall} frames through up to {wide} lines; in a VM's colour where it had most of what VMs had, paler the less that was; underlined where any was shared"
-    )?;
+    let tall = Counted(tall, "frame");
+    let wide = Counted(wide, "line");
+    let words = match vm {
+        Some(vm) => {
+            format!(in alloc;
+                "a cell: up to {tall} through up to {wide}; paler the less of it vm {vm} had; underlined where it shared any"
+            )?
+        },
+        None => {
+            format!(in alloc;
+                "a cell: up to {tall} through up to {wide}; in a VM's colour where it had most of what VMs had, paler the less that was; underlined where any was shared"
+            )?
+        },
+    };
     let style = Style::plain(LEFT + PLOT, top.saturating_sub(800), 10).colour(FAINT);
     svg.words(&style.end(), &words)
+}
+
+/// How many go into each of some parts, at most.
+fn at_most_each(all: u64, parts: u64) -> u64 {
+    let parts = parts.max(1);
+    all.saturating_add(parts - 1) / parts
 }
 
 /// Draws one row, which begins at this height.
@@ -378,8 +454,9 @@ fn draw_row(
     top: u64,
     height: u64,
 ) -> Result<(), Memory> {
-    let colours = colours_of(alloc, sums, size)?;
-    draw_cells(svg, sums.columns, &colours, top.saturating_add(height / 2))?;
+    let cells = cells_of(alloc, sums, size)?;
+    draw_cells(svg, sums.columns, &cells, top.saturating_add(height / 2))?;
+    draw_edges(alloc, svg, sums.columns, &cells, top, height)?;
     draw_shared(
         alloc,
         svg,
@@ -409,7 +486,9 @@ pub(crate) fn draw_frames(
     let height = row_height(rows);
     let columns = columns_of(scale.last);
     let by_row = bars_by_row(alloc, bars, vm, rows, frames)?;
-    explain(alloc, svg, top, rows, frames, columns, scale.last)?;
+    let tall = at_most_each(frames, rows);
+    let wide = at_most_each(scale.last, columns);
+    explain(alloc, svg, top, tall, wide, vm)?;
     name_rows(alloc, svg, top, height, rows, frames)?;
     svg.begin_lines(height)?;
     let mut row = 0u64;

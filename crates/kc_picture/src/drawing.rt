@@ -125,13 +125,19 @@ fn title_of(
 }
 
 /// Writes the heading of the lanes, and at the right what their height stands for.
-fn head_lanes(alloc: Global, svg: &mut Svg, top: u64) -> Result<(), Memory> {
-    svg.words(
-        &Style::plain(800, 4_600, 12).bold(),
-        "Frames of each VM, and of them shared with the host (hatched)",
-    )?;
+fn head_lanes(alloc: Global, svg: &mut Svg, top: u64, vm: Option<u32>) -> Result<(), Memory> {
+    let heading = match vm {
+        Some(vm) => format!(in alloc;
+            "Frames of vm {vm}, and of them shared with the host (hatched)"
+        )?,
+        None => format!(in alloc; "Frames of each VM, and of them shared with the host (hatched)")?,
+    };
+    svg.words(&Style::plain(800, 4_600, 12).bold(), &heading)?;
     let highest = Counted(top, "frame");
-    let words = format!(in alloc; "highest lane: {highest}")?;
+    let words = match vm {
+        Some(_) => format!(in alloc; "at most {highest}")?,
+        None => format!(in alloc; "highest lane: {highest}")?,
+    };
     svg.words(
         &Style::plain(LEFT + PLOT, 4_600, 10).colour(FAINT).end(),
         &words,
@@ -267,24 +273,44 @@ fn draw_entry(svg: &mut Svg, x: u64, y: u64, sample: Sample, words: &str) -> Res
         &Style::plain(x.saturating_add(1_900), y.saturating_add(1_000), 11),
         words,
     )?;
-    let width = 640u64.saturating_mul(words.len() as u64);
+    let width = 590u64.saturating_mul(words.len() as u64);
     Ok(x.saturating_add(3_800).saturating_add(width))
 }
 
-fn draw_legend(svg: &mut Svg, y: u64, exact: bool, lanes: u64) -> Result<(), Memory> {
+/// The first entries: whose the colours are.
+fn draw_owners(svg: &mut Svg, y: u64, lanes: u64, vm: Option<u32>) -> Result<u64, Memory> {
+    if let Some(vm) = vm {
+        let x = draw_entry(svg, LEFT, y, Sample::Plain(Colour::of_vm(vm)), "the VM's")?;
+        return draw_entry(svg, x, y, Sample::Plain(FREE), "others'");
+    }
     let x = draw_entry(svg, LEFT, y, Sample::Plain(CORE), "core")?;
     let x = draw_entry(svg, x, y, Sample::Plain(HOST), "host")?;
     let x = draw_entry(svg, x, y, Sample::Plain(FREE), "free")?;
-    let x = if lanes > 0 {
-        let x = draw_entry(svg, x, y, Sample::Vms, "a VM's: the colour of its lane")?;
-        draw_entry(svg, x, y, Sample::Shared, "of them shared with the host")?
-    } else {
-        x
-    };
+    if lanes > 0 {
+        return draw_entry(svg, x, y, Sample::Vms, "a VM's: the colour of its lane");
+    }
+    Ok(x)
+}
+
+/// Draws what each colour and mark says.
+fn draw_legend(
+    svg: &mut Svg,
+    y: u64,
+    exact: bool,
+    lanes: u64,
+    vm: Option<u32>,
+) -> Result<(), Memory> {
+    let mut x = draw_owners(svg, y, lanes, vm)?;
+    if !exact && lanes > 0 && vm.is_none() {
+        x = draw_entry(svg, x, y, Sample::Plain(SEVERAL), "several VMs'")?;
+    }
+    if lanes > 0 {
+        x = draw_entry(svg, x, y, Sample::Shared, "shared with the host")?;
+    }
     if exact {
         draw_entry(svg, x, y, Sample::Reached, "reached by the host")?;
-    } else {
-        draw_entry(svg, x, y, Sample::Plain(SEVERAL), "several VMs'")?;
+    } else if lanes > 0 {
+        draw_entry(svg, x, y, Sample::Underlined, "some of it shared")?;
     }
     Ok(())
 }
@@ -307,7 +333,7 @@ pub fn picture(
     let title = title_of(alloc, frames, calls, extent.used, vm)?;
     let mut svg = Svg::open(alloc, layout.height, &title)?;
     if extent.lanes > 0 {
-        head_lanes(alloc, &mut svg, extent.top)?;
+        head_lanes(alloc, &mut svg, extent.top, vm)?;
         draw_lanes(
             alloc,
             &mut svg,
@@ -328,6 +354,6 @@ pub fn picture(
         cells::draw_frames(alloc, &mut svg, scale, layout.frames, frames, bars, vm)?;
     }
     draw_axis(alloc, &mut svg, scale, layout.axis)?;
-    draw_legend(&mut svg, layout.legend, exact, extent.lanes)?;
+    draw_legend(&mut svg, layout.legend, exact, extent.lanes, vm)?;
     svg.close()
 }

@@ -1,7 +1,7 @@
 //! Every frame by its number, a bar a stretch.
 use crate::colour::{Colour, FAINT, FREE, INK, LIFE};
 use crate::rows::bars_by_row;
-use crate::scale::{LEFT, Scale};
+use crate::scale::{LEFT, PLOT, Scale};
 use crate::svg::{Area, Style, Svg};
 use crate::words::Counted;
 use kc_types::{Bar, Custody, Memory, Owner};
@@ -114,19 +114,26 @@ fn width_of(words: &str) -> u64 {
     620u64.saturating_mul(words.len() as u64)
 }
 
-/// Writes a bar's name on it, where there is room.
-fn name_bar(alloc: Global, svg: &mut Svg, area: &Area, bar: &Bar) -> Result<bool, Memory> {
-    let name = bar_name(alloc, &bar.custody)?;
-    let width = width_of(&name);
-    if area.width < width.saturating_add(600) {
-        return Ok(false);
-    }
-    let mut colour = if Colour::of_owner(bar.custody.owner).is_dark() {
+/// The colour of words on a bar.
+fn colour_of_words(custody: &Custody) -> Colour {
+    if custody.share > 0 {
+        INK
+    } else if custody.owner == Owner::Free {
+        FAINT
+    } else if Colour::of_owner(custody.owner).is_dark() {
         FREE
     } else {
         INK
-    };
-    if bar.custody.share > 0 {
+    }
+}
+
+/// Writes words on a bar, and says whether there was room for them.
+fn write_on(svg: &mut Svg, area: &Area, custody: &Custody, words: &str) -> Result<bool, Memory> {
+    let width = width_of(words);
+    if area.width < width.saturating_add(600) {
+        return Ok(false);
+    }
+    if custody.share > 0 {
         let ground = Area {
             x: area.x.saturating_add(200),
             y: area.y.saturating_add(300),
@@ -134,17 +141,23 @@ fn name_bar(alloc: Global, svg: &mut Svg, area: &Area, bar: &Bar) -> Result<bool
             height: area.height.saturating_sub(600),
         };
         svg.rect(&ground, FREE)?;
-        colour = INK;
-    }
-    if bar.custody.owner == Owner::Free {
-        colour = FAINT;
     }
     let base = area.y.saturating_add(area.height).saturating_sub(600);
-    svg.words(
-        &Style::plain(area.x.saturating_add(400), base, 10).colour(colour),
-        &name,
-    )?;
+    let style = Style::plain(area.x.saturating_add(400), base, 10);
+    svg.words(&style.colour(colour_of_words(custody)), words)?;
     Ok(true)
+}
+
+/// Writes a bar's name on it, where there is room; of one that is shared at least that it is.
+fn name_bar(alloc: Global, svg: &mut Svg, area: &Area, bar: &Bar) -> Result<bool, Memory> {
+    let name = bar_name(alloc, &bar.custody)?;
+    if write_on(svg, area, &bar.custody, &name)? {
+        return Ok(true);
+    }
+    if bar.custody.share > 0 {
+        return write_on(svg, area, &bar.custody, "shared");
+    }
+    Ok(false)
 }
 
 /// Writes the number of a frame beside its row.
@@ -170,6 +183,16 @@ fn name_frame(
         Style::plain(LEFT - 800, base, 9).colour(FAINT)
     };
     svg.words(&style.end(), &name)
+}
+
+/// The whole row of a frame.
+fn row_area(top: u64, height: u64) -> Area {
+    Area {
+        x: LEFT,
+        y: top.saturating_add(100),
+        width: PLOT,
+        height: height.saturating_sub(200),
+    }
 }
 
 /// Draws the bars of one frame, each with its name unless the one before it has the same.
@@ -218,6 +241,9 @@ pub(crate) fn draw_frames(
     let mut frame = 0u64;
     for row in &rows {
         name_frame(alloc, svg, frame, at, height)?;
+        if vm.is_some() {
+            svg.edge(&row_area(at, height), LIFE)?;
+        }
         draw_row(alloc, svg, scale, at, height, bars, row)?;
         at = at.saturating_add(height);
         frame = frame.saturating_add(1);

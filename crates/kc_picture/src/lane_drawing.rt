@@ -37,15 +37,35 @@ struct Run {
     number: u64,
 }
 
-/// Adds the outline of a stretch, unless its number is 0.
-fn add_run(path: &mut String, place: &LanePlace, run: &Run) -> Result<(), Memory> {
-    if run.number > 0 {
-        let high = place.height.saturating_mul(run.number) / place.top.max(1);
-        let base = Points(place.base);
-        let top = Points(place.base.saturating_sub(high.max(LOWEST)));
+/// The outline of numbers over time so far, and whether it is above the base line.
+#[derive(Drop)]
+struct Outline {
+    path: String,
+    above: bool,
+}
+
+/// Adds a stretch; where its number is 0 the outline comes down to the base line and breaks off.
+fn add_run(outline: &mut Outline, place: &LanePlace, run: &Run) -> Result<(), Memory> {
+    let base = Points(place.base);
+    if run.number == 0 {
+        return come_down(outline, base);
+    }
+    if !outline.above {
         let from = Points(run.from);
-        let to = Points(run.to);
-        write!(path, "M{from} {base}V{top}H{to}V{base}Z")?;
+        write!(outline.path, "M{from} {base}")?;
+        outline.above = true;
+    }
+    let high = place.height.saturating_mul(run.number) / place.top.max(1);
+    let top = Points(place.base.saturating_sub(high.max(LOWEST)));
+    let to = Points(run.to);
+    write!(outline.path, "V{top}H{to}")?;
+    Ok(())
+}
+
+fn come_down(outline: &mut Outline, base: Points) -> Result<(), Memory> {
+    if outline.above {
+        write!(outline.path, "V{base}Z")?;
+        outline.above = false;
     }
     Ok(())
 }
@@ -73,7 +93,7 @@ fn end_of(steps: &[Step], i: usize, end: u32) -> u32 {
 }
 
 /// The outline of a number over time.
-fn outline(
+fn outline_of(
     alloc: Global,
     scale: Scale,
     place: &LanePlace,
@@ -81,7 +101,10 @@ fn outline(
     which: Which,
     end: u32,
 ) -> Result<String, Memory> {
-    let mut path = String::new(alloc);
+    let mut outline = Outline {
+        path: String::new(alloc),
+        above: false,
+    };
     let mut run = Run {
         from: LEFT,
         to: LEFT,
@@ -96,14 +119,16 @@ fn outline(
             if run.number == number || (narrow && run.number > 0) {
                 run.number = run.number.max(number);
             } else {
-                add_run(&mut path, place, &run)?;
+                add_run(&mut outline, place, &run)?;
                 run.from = scale.x(step.line);
                 run.number = number;
             }
             run.to = to;
         }
     }
-    add_run(&mut path, place, &run)?;
+    add_run(&mut outline, place, &run)?;
+    come_down(&mut outline, Points(place.base))?;
+    let Outline { path, above: _ } = outline;
     Ok(path)
 }
 
@@ -324,11 +349,11 @@ fn draw_numbers(
     steps: &[Step],
     end: u32,
 ) -> Result<(), Memory> {
-    let all = outline(alloc, scale, place, steps, Which::All, end)?;
+    let all = outline_of(alloc, scale, place, steps, Which::All, end)?;
     if !all.is_empty() {
         svg.path(&all, Colour::of_vm(vm))?;
     }
-    let shared = outline(alloc, scale, place, steps, Which::Shared, end)?;
+    let shared = outline_of(alloc, scale, place, steps, Which::Shared, end)?;
     if !shared.is_empty() {
         svg.hatched_path(&shared)?;
     }

@@ -89,15 +89,25 @@ impl Svg {
             "<svg xmlns=\"http://www.w3.org/2000/svg\" version=\"1.1\" width=\"{width}\" height=\"{height}\" viewBox=\"0 0 {width} {height}\" font-family=\"DejaVu Sans, Verdana, Arial, sans-serif\">\n"
         )?;
         write!(svg.text, "<title>{title}</title>\n")?;
-        svg.text.push_str(
-            "<defs><pattern id=\"shared\" width=\"5\" height=\"5\" patternUnits=\"userSpaceOnUse\" patternTransform=\"rotate(45)\"><rect width=\"2\" height=\"5\" fill=\"#111111\"/></pattern></defs>\n",
-        )?;
+        svg.text.push_str("<defs>\n")?;
+        svg.pattern("shared", "none")?;
+        svg.pattern("white", "#ffffff")?;
+        svg.text.push_str("</defs>\n")?;
         write!(
             svg.text,
             "<rect width=\"{width}\" height=\"{height}\" fill=\"{FREE}\"/>\n"
         )?;
         svg.words(&Style::plain(800, 2_200, 15).bold(), title)?;
         Ok(svg)
+    }
+
+    /// Slanted stripes of this name on a ground.
+    fn pattern(&mut self, name: &str, ground: &str) -> Result<(), Memory> {
+        write!(
+            self.text,
+            "<pattern id=\"{name}\" width=\"5\" height=\"5\" patternUnits=\"userSpaceOnUse\" patternTransform=\"rotate(45)\"><rect width=\"5\" height=\"5\" fill=\"{ground}\"/><rect width=\"2\" height=\"5\" fill=\"#111111\"/></pattern>\n"
+        )?;
+        Ok(())
     }
 
     /// The whole text.
@@ -191,27 +201,30 @@ impl Svg {
         Ok(())
     }
 
-    /// A path's inside.
+    /// A path's inside, with a thin edge.
     pub fn path(&mut self, steps: &str, fill: Colour) -> Result<(), Memory> {
-        write!(self.text, "<path d=\"{steps}\" fill=\"{fill}\"/>\n")?;
+        write!(
+            self.text,
+            "<path d=\"{steps}\" fill=\"{fill}\" stroke=\"{INK}\" stroke-width=\"0.4\"/>\n"
+        )?;
         Ok(())
     }
 
     /// A path's inside, white and hatched.
     pub fn hatched_path(&mut self, steps: &str) -> Result<(), Memory> {
-        self.path(steps, FREE)?;
         write!(
             self.text,
-            "<path d=\"{steps}\" fill=\"url(#shared)\" stroke=\"{INK}\" stroke-width=\"0.6\"/>\n"
+            "<path d=\"{steps}\" fill=\"url(#white)\" stroke=\"{INK}\" stroke-width=\"0.6\"/>\n"
         )?;
         Ok(())
     }
 
-    /// Thin lines along a path, under what is shared.
-    pub fn underlined(&mut self, steps: &str) -> Result<(), Memory> {
+    /// Lines of this width along a path.
+    pub fn lines(&mut self, steps: &str, width: u64) -> Result<(), Memory> {
+        let width = Points(width);
         write!(
             self.text,
-            "<path d=\"{steps}\" stroke=\"{INK}\" stroke-width=\"1.2\"/>\n"
+            "<path d=\"{steps}\" stroke=\"{INK}\" stroke-width=\"{width}\"/>\n"
         )?;
         Ok(())
     }
