@@ -1,4 +1,7 @@
 //! Many frames or calls: a cell for some frames through some lines, in the colour of the VM that had most of it.
+ghost use Rattle.std.specs.Prelude.{◌≡◌, ◌+◌, ◌*◌, ◌/◌, ◌%◌, ◌<◌, ◌≤◌};
+ghost use Rattle.kc_picture.specs.Cells.{IsOf};
+
 use crate::colour::{CORE, Colour, EDGE, FAINT, FREE, HOST, INK, SEVERAL};
 use crate::rows::{bars_by_row, first_of_row, row_of};
 use crate::scale::{LEFT, PLOT, Scale, nice};
@@ -227,10 +230,12 @@ enum Whose {
     Rest(Colour),
 }
 
-fn holder_of(most: &Most) -> Whose {
+fn holder_of(most: &Most) -> Whose
+    ensures { IsOf most.now result }
+{
     if most.of_vms == 0 {
         Whose::Rest(most.rest)
-    } else if most.of_vm.saturating_mul(2) > most.of_vms {
+    } else if most.of_vm > most.of_vms / 2 {
         Whose::Vm(most.vm)
     } else {
         Whose::Several

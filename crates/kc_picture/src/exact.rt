@@ -3,49 +3,13 @@ use crate::colour::{Colour, FAINT, FREE, INK, LIFE};
 use crate::rows::bars_by_row;
 use crate::scale::{LEFT, PLOT, Scale};
 use crate::svg::{Area, Style, Svg};
-use crate::words::Counted;
+use crate::titles::bar_title;
 use kc_types::{Bar, Custody, Memory, Owner};
 use std::alloc::Global;
 
 /// The height of a row of few frames, with room for names, and of more.
 pub(crate) fn row_height(frames: u64) -> u64 {
     if frames <= 16 { 2_200 } else { 1_200 }
-}
-
-/// Appends who owns a frame, and at which guest frame.
-fn say_owner(words: &mut String, custody: &Custody) -> Result<(), Memory> {
-    match custody.owner {
-        Owner::Core => words.push_str("core")?,
-        Owner::Host => words.push_str("host")?,
-        Owner::Free => words.push_str("free")?,
-        Owner::Vm(vm) => {
-            let vm = vm.index();
-            write!(words, "vm {vm}")?;
-            if let Some(gfn) = custody.gfn {
-                let gfn = gfn.number();
-                write!(words, " at guest frame {gfn}")?;
-            }
-        },
-    }
-    Ok(())
-}
-
-/// All that a bar tells: "frame 3, lines 17 to 22: vm 0 at guest frame 7, 1 grant, reached by the host".
-fn bar_title(alloc: Global, bar: &Bar) -> Result<String, Memory> {
-    let mut title = String::new(alloc);
-    let frame = bar.frame;
-    let from = bar.from;
-    let last = bar.to.saturating_sub(1);
-    write!(title, "frame {frame}, lines {from} to {last}: ")?;
-    say_owner(&mut title, &bar.custody)?;
-    if bar.custody.share > 0 {
-        let grants = Counted(u64::from(bar.custody.share), "grant");
-        write!(title, ", {grants}")?;
-    }
-    if bar.custody.present {
-        title.push_str(", reached by the host")?;
-    }
-    Ok(title)
 }
 
 /// The words on a bar.

@@ -10,6 +10,7 @@ mod rows;
 mod scale;
 mod stretches;
 mod svg;
+mod titles;
 mod vms;
 mod words;
 

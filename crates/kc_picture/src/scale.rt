@@ -1,4 +1,6 @@
 //! Where lines of the trace lie from left to right, and at which of them marks stand.
+ghost use Rattle.std.specs.Prelude.{◌+◌, ◌≤◌};
+
 use crate::svg::WIDTH;
 
 /// Where the first line lies.
@@ -28,10 +30,14 @@ impl Scale {
     }
 
     /// Where a line begins; the line behind the last, and each behind it, at the right end.
-    pub fn x(self, line: u32) -> u64 {
+    pub fn x(self, line: u32) -> u64
+        ensures from { LEFT ≤ result }
+        ensures to { result ≤ LEFT + PLOT }
+    {
         let last = self.last.max(1);
         let behind = u64::from(line).saturating_sub(1).min(last);
-        LEFT.saturating_add(PLOT.saturating_mul(behind) / last)
+        let x = LEFT.saturating_add(PLOT.saturating_mul(behind) / last);
+        x.min(LEFT + PLOT)
     }
 }
 
