@@ -6,3 +6,4 @@ pub mod Told
 pub mod Turned
 pub mod Calls
 pub mod Pushed
+pub mod Picked

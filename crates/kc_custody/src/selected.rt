@@ -3,7 +3,7 @@ ghost use Rattle.std.specs.Prelude.{◌≡◌, map};
 ghost use Rattle.kc_types.specs.declared.custody.Event.TheVariants as event;
 ghost use Rattle.kc_model.specs.Events.{changes_in};
 ghost use Rattle.kc_model.specs.Lives.{is_owned_by};
-ghost use Rattle.kc_custody.specs.Selected.{is_for, selected};
+ghost use Rattle.kc_custody.specs.Selected.{is_for, is_selected, selected};
 
 use kc_types::{Change, Event, Owner};
 

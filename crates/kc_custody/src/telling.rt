@@ -84,7 +84,9 @@ fn accessed(core: &KCore, call: &Call) -> Option<u32>
     ensures { result ≡ accessed core.now call.now }
 {
     match call {
-        Call::HostRead { frame, .. } | Call::HostWrite { frame, .. } => vm_of(custody_at(core, *frame).owner),
+        Call::HostRead { frame, .. } | Call::HostWrite { frame, .. } => vm_of(
+            custody_at(core, *frame).owner,
+        ),
         _ => None,
     }
 }

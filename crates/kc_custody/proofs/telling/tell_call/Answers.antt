@@ -17,7 +17,7 @@ returns-clause-told c =
       slot = c.in_ok-mark.ensures;
     } in
     call-told c.args.line c.args.core.now c.make.new.core c.args.call.now _ _ marks c.in_ok-mark.mark c.in_ok-reply.images.items c.args.told.now.items _ _ _ c.movable.ensures.lawful marked
-    c.accessed.ensures c.in_ok-reply.ensures.reply c.in_ok-reply.ensures.state c.in_ok-reply.ensures.images
-    (c.tell_access.ensures.items ∙ ap (λ (before : List Event). before ++ access_told c.args.call.now c.accessed.result c.in_ok-reply.reply) c.in_ok-reserve.ensures.items)
+    c.accessed-accessed.ensures c.in_ok-reply.ensures.reply c.in_ok-reply.ensures.state c.in_ok-reply.ensures.images
+    (c.tell_access.ensures.items ∙ ap (λ (before : List Event). before ++ access_told c.args.call.now c.accessed-accessed.result c.in_ok-reply.reply) c.in_ok-reserve.ensures.items)
     c.tell_frames.ensures.items
     c.tell_phase.ensures
