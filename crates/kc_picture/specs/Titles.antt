@@ -1,10 +1,13 @@
--- The words that tell of a bar.
+-- The words that tell of a bar, of a life, and of a mark in it.
 use Rattle.std.specs.Prelude.{ℕ, ◌-◌, Bool, true, false, zero, suc, ◌==◌, List, [], ◌++◌, codes, Option, Some, None, if◌then◌else◌}
 use Rattle.std.specs.Fmt.{decimal}
 use Rattle.kc_types.specs.declared.owner.Owner.{Owner}
 use Rattle.kc_types.specs.declared.owner.Owner.TheVariants.{Core, Host, Free, Vm}
 use Rattle.kc_types.specs.declared.custody.Custody.{Custody}
 use Rattle.kc_types.specs.declared.custody.Bar.{Bar}
+use Rattle.kc_picture.specs.declared.vms.Measured.{Measured}
+use Rattle.kc_picture.specs.declared.vms.Measured.TheVariants.{Not, Active, Dead}
+use Rattle.kc_picture.specs.declared.vms.Stay.{Stay}
 
 -- the guest frame at which a VM sees it, if it does
 abbrev pub place_words : Option ℕ → List ℕ
@@ -33,3 +36,22 @@ custody_words custody = owner_words custody.owner custody.gfn ++ grant_words cus
 -- as "frame 3, lines 17 to 22: vm 0 at guest frame 7, 1 grant": the last line is the one before that at which it ends
 abbrev pub bar_title : Bar → List ℕ
 bar_title bar = codes "frame " ++ decimal bar.frame ++ codes ", lines " ++ decimal bar.from ++ codes " to " ++ decimal (bar.to - 1) ++ codes ": " ++ custody_words bar.custody
+
+-- how the measuring of a VM's images ended
+abbrev pub measured_words : Measured → List ℕ
+measured_words Not = codes ", never measured"
+measured_words (Active n) = codes ", measured and active from line " ++ decimal n
+measured_words (Dead n) = codes ", measured and dead from line " ++ decimal n
+
+-- when a life ended
+abbrev pub cleared_words : Option ℕ → List ℕ
+cleared_words None = codes ", there at the end"
+cleared_words (Some n) = codes ", cleared at line " ++ decimal n
+
+-- as "vm 0: registered at line 4, measured and active from line 8, cleared at line 29"
+abbrev pub stay_title : ℕ → Stay → List ℕ
+stay_title v stay = codes "vm " ++ decimal v ++ codes ": registered at line " ++ decimal stay.registered ++ measured_words stay.measured ++ cleared_words stay.cleared
+
+-- as "vm 0 registered at line 4"
+abbrev pub tick_title : ℕ → List ℕ → ℕ → List ℕ
+tick_title v what n = codes "vm " ++ decimal v ++ codes " " ++ what ++ codes " at line " ++ decimal n

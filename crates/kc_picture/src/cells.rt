@@ -1,5 +1,5 @@
 //! Many frames or calls: a cell for some frames through some lines, in the colour of the VM that had most of it.
-ghost use Rattle.std.specs.Prelude.{◌≡◌, ◌+◌, ◌*◌, ◌/◌, ◌%◌, ◌<◌, ◌≤◌};
+ghost use Rattle.std.specs.Prelude.{◌≡◌, ◌^◌, ◌<◌, ◌≤◌, sum, slice_index, EachIndex};
 ghost use Rattle.kc_picture.specs.Cells.{IsOf};
 
 use crate::colour::{CORE, Colour, EDGE, FAINT, FREE, HOST, INK, SEVERAL};
@@ -170,71 +170,73 @@ fn sums_of(
     Ok(sums)
 }
 
-/// Who had how much of a cell: of VMs the one that had most, and all together; of the others the one that had most.
+/// What VMs had of a cell: the one that had most, how much that is, and how much all together had.
 #[derive(Clone, Copy)]
 struct Most {
-    vm: u32,
+    vm: usize,
     of_vm: u64,
     of_vms: u64,
-    rest: Colour,
-    of_rest: u64,
 }
 
-fn colour_of_rest(owner: usize) -> Colour {
-    match owner {
-        0 => CORE,
-        1 => HOST,
-        _ => FREE,
-    }
-}
-
-fn with_weight(most: Most, owner: usize, weight: u64) -> Most {
-    let mut most = most;
-    if owner >= FIRST_VM {
-        most.of_vms = most.of_vms.saturating_add(weight);
-        if weight > most.of_vm {
-            most.of_vm = weight;
-            most.vm = (owner - FIRST_VM).min(63) as u32;
+/// What VMs had, by the weight of each.
+fn most_of(weights: &[u64]) -> Most
+    ensures all { sum weights.now < 2 ^ 64 → result.of_vms ≡ sum weights.now }
+    ensures most { EachIndex weights.now (λ k. slice_index weights.now k ≤ result.of_vm) }
+    ensures vm { 0 < result.of_vm → slice_index weights.now result.vm ≡ result.of_vm }
+{
+    let mut vm = 0;
+    let mut of_vm = 0u64;
+    let mut of_vms = 0u64;
+    for (i, weight) in weights.iter().enumerate() {
+        of_vms = of_vms.saturating_add(*weight);
+        if *weight > of_vm {
+            of_vm = *weight;
+            vm = i;
         }
-    } else if weight > most.of_rest {
-        most.of_rest = weight;
-        most.rest = colour_of_rest(owner);
     }
-    most
+    Most { vm, of_vm, of_vms }
 }
 
-/// Who had most of a column; `running` holds of each owner how many frames it has, in lines, and is brought up to it.
-fn most_of(sums: &Sums, running: &mut Vec<u64>, column: u64) -> Most {
-    let mut most = Most {
-        vm: 0,
-        of_vm: 0,
-        of_vms: 0,
-        rest: FREE,
-        of_rest: 0,
-    };
+/// The colour of the core, the host or nobody, whichever had most of a cell.
+fn rest_of(weights: &[u64]) -> Colour {
+    let core = at(weights, 0);
+    let host = at(weights, 1);
+    let free = at(weights, 2);
+    if core > host && core > free {
+        CORE
+    } else if host > free {
+        HOST
+    } else {
+        FREE
+    }
+}
+
+/// Brings up to a column what each owner has of it; `running` holds how many frames each has, in lines.
+fn weigh(sums: &Sums, running: &mut Vec<u64>, weights: &mut Vec<u64>, column: u64) {
     for owner in 0..OWNERS {
         let place = place_of(column, owner);
         add(running, owner, at(&sums.wholes, place));
         let weight = at(running, owner).wrapping_add(at(&sums.parts, place));
-        most = with_weight(most, owner, weight);
+        if let Some(old) = weights.get_mut(owner) {
+            *old = weight;
+        }
     }
-    most
 }
 
 /// Whose a cell is: a VM's that had more than half of what VMs had of it, or several VMs', or where VMs had nothing that of
 /// the other owner that had most.
 #[derive(Clone, Copy, PartialEq, Eq)]
 enum Whose {
-    Vm(u32),
+    Vm(usize),
     Several,
     Rest(Colour),
 }
 
-fn holder_of(most: &Most) -> Whose
+fn holder_of(most: &Most, rest: Colour) -> Whose
     ensures { IsOf most.now result }
 {
     if most.of_vms == 0 {
-        Whose::Rest(most.rest)
+        Whose::Rest(rest)
     } else if most.of_vm > most.of_vms / 2 {
         Whose::Vm(most.vm)
     } else {
@@ -260,10 +262,15 @@ struct Cell {
     colour: Colour,
 }
 
-fn cell_of(most: &Most, size: u64) -> Cell {
-    let whose = holder_of(most);
+/// The cell of these weights, in which all frames through all lines have this weight.
+fn cell_of(weights: &[u64], size: u64) -> Cell {
+    let most = match weights.get(FIRST_VM..) {
+        Some(vms) => most_of(vms),
+        None => most_of(&[]),
+    };
+    let whose = holder_of(&most, rest_of(weights));
     let colour = match whose {
-        Whose::Vm(vm) => shaded(Colour::of_vm(vm), most.of_vms, size),
+        Whose::Vm(vm) => shaded(Colour::of_vm(vm.min(63) as u32), most.of_vms, size),
         Whose::Several => shaded(SEVERAL, most.of_vms, size),
         Whose::Rest(colour) => colour,
     };
@@ -273,10 +280,11 @@ fn cell_of(most: &Most, size: u64) -> Cell {
 /// A row's cells, from left to right.
 fn cells_of(alloc: Global, sums: &Sums, size: u64) -> Result<Vec<Cell>, Memory> {
     let mut running = vec![in alloc; 0; OWNERS]?;
+    let mut weights = vec![in alloc; 0; OWNERS]?;
     let mut cells = Vec::new(alloc);
     for column in 0..sums.columns.min(MOST_COLUMNS) {
-        let most = most_of(sums, &mut running, column);
-        cells.push(cell_of(&most, size))?;
+        weigh(sums, &mut running, &mut weights, column);
+        cells.push(cell_of(&weights, size))?;
     }
     Ok(cells)
 }

@@ -2,6 +2,7 @@
 use crate::colour::{Colour, EDGE, FAINT, INK, LIFE};
 use crate::scale::{LEFT, PLOT, Scale};
 use crate::svg::{Area, Style, Svg};
+use crate::titles::{stay_title, tick_title};
 use crate::vms::{Lane, Measured, Stay, Step};
 use crate::words::Points;
 use kc_types::Memory;
@@ -132,23 +133,6 @@ fn outline_of(
     Ok(path)
 }
 
-/// The words on a stay.
-fn stay_title(alloc: Global, vm: u32, stay: &Stay) -> Result<String, Memory> {
-    let mut title = String::new(alloc);
-    let registered = stay.registered;
-    write!(title, "vm {vm}: registered at line {registered}")?;
-    match stay.measured {
-        Measured::Not => title.push_str(", never measured")?,
-        Measured::Active(line) => write!(title, ", measured and active from line {line}")?,
-        Measured::Dead(line) => write!(title, ", measured and dead from line {line}")?,
-    }
-    match stay.cleared {
-        Some(line) => write!(title, ", cleared at line {line}")?,
-        None => title.push_str(", there at the end")?,
-    }
-    Ok(title)
-}
-
 /// A thin mark with a title.
 fn tick(
     alloc: Global,
@@ -159,7 +143,7 @@ fn tick(
     what: &str,
     line: u32,
 ) -> Result<(), Memory> {
-    let title = format!(in alloc; "vm {vm} {what} at line {line}")?;
+    let title = tick_title(alloc, vm, what, line)?;
     svg.begin_titled(&title)?;
     svg.rect(area, colour)?;
     svg.end_group()

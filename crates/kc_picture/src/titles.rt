@@ -1,8 +1,9 @@
-//! The words that tell of a bar.
-ghost use Rattle.std.specs.Prelude.{◌≡◌, ◌++◌, IfOk, OnOk};
+//! The words that tell of a bar, of a life, and of a mark in it.
+ghost use Rattle.std.specs.Prelude.{◌≡◌, ◌++◌, IfOk, OnOk, codes};
 ghost use Rattle.std.specs.String.{string_bytes};
-ghost use Rattle.kc_picture.specs.Titles.{place_words, owner_words, grant_words, reach_words, custody_words, bar_title};
+ghost use Rattle.kc_picture.specs.Titles.{place_words, owner_words, grant_words, reach_words, custody_words, bar_title, measured_words, cleared_words, stay_title, tick_title};
 
+use crate::vms::{Measured, Stay};
 use kc_types::{Bar, Custody, Gfn, Memory, Owner};
 use std::alloc::Global;
 
@@ -74,4 +75,45 @@ pub(crate) fn bar_title(alloc: Global, bar: &Bar) -> Result<String, Memory>
     let mut title = format!(in alloc; "frame {frame}, lines {from} to {last}: ")?;
     push_custody(&mut title, &bar.custody)?;
     Ok(title)
+}
+
+/// Appends how the measuring of a VM's images ended, and at which line.
+fn push_measured(words: &mut String, measured: Measured) -> Result<(), Memory>
+    ensures { OnOk result (string_bytes words.new ≡ string_bytes words.old ++ measured_words measured) }
+{
+    match measured {
+        Measured::Not => words.push_str(", never measured")?,
+        Measured::Active(line) => write!(words, ", measured and active from line {line}")?,
+        Measured::Dead(line) => write!(words, ", measured and dead from line {line}")?,
+    }
+    Ok(())
+}
+
+/// Appends at which line a life ended, if it did.
+fn push_cleared(words: &mut String, cleared: Option<u32>) -> Result<(), Memory>
+    ensures { OnOk result (string_bytes words.new ≡ string_bytes words.old ++ cleared_words cleared) }
+{
+    match cleared {
+        Some(line) => write!(words, ", cleared at line {line}")?,
+        None => words.push_str(", there at the end")?,
+    }
+    Ok(())
+}
+
+/// All that a life tells: "vm 0: registered at line 4, measured and active from line 8, cleared at line 29".
+pub(crate) fn stay_title(alloc: Global, vm: u32, stay: &Stay) -> Result<String, Memory>
+    ensures { IfOk result (λ title. string_bytes title ≡ stay_title vm stay.now) }
+{
+    let registered = stay.registered;
+    let mut title = format!(in alloc; "vm {vm}: registered at line {registered}")?;
+    push_measured(&mut title, stay.measured)?;
+    push_cleared(&mut title, stay.cleared)?;
+    Ok(title)
+}
+
+/// What a mark tells: "vm 0 registered at line 4".
+pub(crate) fn tick_title(alloc: Global, vm: u32, what: &str, line: u32) -> Result<String, Memory>
+    ensures { IfOk result (λ title. string_bytes title ≡ tick_title vm what.now line) }
+{
+    Ok(format!(in alloc; "vm {vm} {what} at line {line}")?)
 }
