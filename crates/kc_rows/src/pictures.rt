@@ -116,8 +116,13 @@ fn names_all_frames(rt: HostRuntime) {
 #[test]
 fn leaves_out_what_is_not_the_vm_s(rt: HostRuntime) {
     let text = drawn(rt.alloc(), Some(0)).expect(&rt, "memory");
-    assert!(rt; text.as_str().contains("through 5 calls, 1 VM: vm 0 alone</title>"));
-    assert!(rt; text.as_str().contains("<title>frame 1, lines 3 to 3: vm 0 at guest frame 7</title>"));
+    assert!(rt;
+        text.as_str()
+            .contains("through 5 calls, 1 VM: vm 0 alone</title>")
+    );
+    assert!(rt;
+        text.as_str().contains("<title>frame 1, lines 3 to 3: vm 0 at guest frame 7</title>")
+    );
     assert!(rt; !text.as_str().contains("<title>frame 0,"));
 }
 
