@@ -16,10 +16,16 @@ const CELL_WIDTH: u64 = 400;
 const MOST_ROWS: u64 = 128;
 
 const MOST_COLUMNS: u64 = PLOT / CELL_WIDTH;
+
 /// The core, the host, nobody, and 64 VMs.
 const OWNERS: usize = 67;
 
 const FIRST_VM: usize = 3;
+
+/// A change of a sum modulo 2^64, by one.
+const ONE_MORE: u64 = 1;
+/// The other way.
+const ONE_FEWER: u64 = u64::MAX;
 
 /// How many rows so many frames have.
 pub(crate) fn rows_of(frames: u64) -> u64 {
@@ -99,48 +105,31 @@ impl Sums {
         (at / self.last.max(1)).min(self.columns)
     }
 
-    /// From a part of a line on an owner has a frame.
-    fn begin(&mut self, owner: usize, at: u64) {
+    /// From a part of a line on an owner has one frame more, or one fewer.
+    fn change(&mut self, owner: usize, at: u64, frames: u64) {
         let column = self.column(at);
         let place = place_of(column, owner);
-        let rest = column
-            .saturating_add(1)
-            .saturating_mul(self.last)
-            .saturating_sub(at);
-        add(&mut self.parts, place, rest);
-        add(&mut self.wholes, place.saturating_add(OWNERS), self.last);
-    }
-
-    /// From a part of a line on an owner no longer has a frame.
-    fn end(&mut self, owner: usize, at: u64) {
-        let column = self.column(at);
-        let place = place_of(column, owner);
-        let rest = column
-            .saturating_add(1)
-            .saturating_mul(self.last)
-            .saturating_sub(at);
-        add(&mut self.parts, place, 0u64.wrapping_sub(rest));
-        add(
-            &mut self.wholes,
-            place.saturating_add(OWNERS),
-            0u64.wrapping_sub(self.last),
-        );
+        let behind = column.saturating_add(1).saturating_mul(self.last);
+        let rest = behind.saturating_sub(at);
+        add(&mut self.parts, place, rest.wrapping_mul(frames));
+        let next = place.saturating_add(OWNERS);
+        add(&mut self.wholes, next, self.last.wrapping_mul(frames));
     }
 
     /// A frame is shared between two parts of lines.
     fn share(&mut self, from: u64, to: u64) {
         let first = self.column(from);
         let behind = self.column(to.saturating_add(self.last.saturating_sub(1)));
-        add(&mut self.shared, first as usize, 1);
-        add(&mut self.shared, behind as usize, 0u64.wrapping_sub(1));
+        add(&mut self.shared, first as usize, ONE_MORE);
+        add(&mut self.shared, behind as usize, ONE_FEWER);
     }
 
     fn add_bar(&mut self, bar: &Bar) {
         let owner = number_of(bar.custody.owner);
         let from = self.at(bar.from);
         let to = self.at(bar.to);
-        self.begin(owner, from);
-        self.end(owner, to);
+        self.change(owner, from, ONE_MORE);
+        self.change(owner, to, ONE_FEWER);
         if bar.custody.share > 0 {
             self.share(from, to);
         }
@@ -331,14 +320,13 @@ fn has_edge(left: Whose, right: Whose) -> bool {
 
 /// Draws an edge where a VM's cells of a row begin and end, which is read in grey too.
 fn draw_edges(
-    alloc: Global,
     svg: &mut Svg,
     columns: u64,
     cells: &[Cell],
     top: u64,
     height: u64,
 ) -> Result<(), Memory> {
-    let mut path = String::new(alloc);
+    let mut path = String::new(svg.alloc());
     let mut before = Whose::Rest(FREE);
     let mut column = 0u64;
     let y = Points(top);
@@ -376,8 +364,8 @@ fn add_mark(
 }
 
 /// Underlines the cells of a row in which any frame was shared.
-fn draw_shared(alloc: Global, svg: &mut Svg, sums: &Sums, middle: u64) -> Result<(), Memory> {
-    let mut path = String::new(alloc);
+fn draw_shared(svg: &mut Svg, sums: &Sums, middle: u64) -> Result<(), Memory> {
+    let mut path = String::new(svg.alloc());
     let mut count = 0u64;
     let mut from = 0u64;
     let columns = sums.columns.min(MOST_COLUMNS);
@@ -401,19 +389,12 @@ fn draw_shared(alloc: Global, svg: &mut Svg, sums: &Sums, middle: u64) -> Result
 }
 
 /// Writes the numbers of some frames beside their rows.
-fn name_rows(
-    alloc: Global,
-    svg: &mut Svg,
-    top: u64,
-    height: u64,
-    rows: u64,
-    frames: u64,
-) -> Result<(), Memory> {
+fn name_rows(svg: &mut Svg, top: u64, height: u64, rows: u64, frames: u64) -> Result<(), Memory> {
     let step = nice(frames, 8);
     for i in 0..9u64 {
         let frame = step.saturating_mul(i);
         if frame < frames {
-            let name = format!(in alloc; "{frame}")?;
+            let name = format!(in svg.alloc(); "{frame}")?;
             let row = row_of(frame, rows, frames);
             let base = top
                 .saturating_add(row.saturating_mul(height))
@@ -426,24 +407,17 @@ fn name_rows(
 }
 
 /// Says at the right what a cell stands for.
-fn explain(
-    alloc: Global,
-    svg: &mut Svg,
-    top: u64,
-    tall: u64,
-    wide: u64,
-    vm: Option<u32>,
-) -> Result<(), Memory> {
+fn explain(svg: &mut Svg, top: u64, tall: u64, wide: u64, vm: Option<u32>) -> Result<(), Memory> {
     let tall = Counted(tall, "frame");
     let wide = Counted(wide, "line");
     let words = match vm {
         Some(vm) => {
-            format!(in alloc;
+            format!(in svg.alloc();
                 "a cell: up to {tall} through up to {wide}; paler the less of it vm {vm} had; underlined where it shared any"
             )?
         },
         None => {
-            format!(in alloc;
+            format!(in svg.alloc();
                 "a cell: up to {tall} through up to {wide}; in a VM's colour where it had most of what VMs had, paler the less that was; underlined where any was shared"
             )?
         },
@@ -459,23 +433,11 @@ fn at_most_each(all: u64, parts: u64) -> u64 {
 }
 
 /// Draws one row, which begins at this height.
-fn draw_row(
-    alloc: Global,
-    svg: &mut Svg,
-    sums: &Sums,
-    size: u64,
-    top: u64,
-    height: u64,
-) -> Result<(), Memory> {
-    let cells = cells_of(alloc, sums, size)?;
+fn draw_row(svg: &mut Svg, sums: &Sums, size: u64, top: u64, height: u64) -> Result<(), Memory> {
+    let cells = cells_of(svg.alloc(), sums, size)?;
     draw_cells(svg, sums.columns, &cells, top.saturating_add(height / 2))?;
-    draw_edges(alloc, svg, sums.columns, &cells, top, height)?;
-    draw_shared(
-        alloc,
-        svg,
-        sums,
-        top.saturating_add(height).saturating_sub(60),
-    )
+    draw_edges(svg, sums.columns, &cells, top, height)?;
+    draw_shared(svg, sums, top.saturating_add(height).saturating_sub(60))
 }
 
 /// How much of a row all its frames through all lines of a column are.
@@ -487,7 +449,6 @@ fn size_of_cell(row: u64, rows: u64, frames: u64, last: u64) -> u64 {
 
 /// Draws the cells of all frames from a height on; where a VM is named its weight alone.
 pub(crate) fn draw_frames(
-    alloc: Global,
     svg: &mut Svg,
     scale: Scale,
     top: u64,
@@ -498,18 +459,18 @@ pub(crate) fn draw_frames(
     let rows = rows_of(frames);
     let height = row_height(rows);
     let columns = columns_of(scale.last);
-    let by_row = bars_by_row(alloc, bars, vm, rows, frames)?;
+    let by_row = bars_by_row(svg.alloc(), bars, vm, rows, frames)?;
     let tall = at_most_each(frames, rows);
     let wide = at_most_each(scale.last, columns);
-    explain(alloc, svg, top, tall, wide, vm)?;
-    name_rows(alloc, svg, top, height, rows, frames)?;
+    explain(svg, top, tall, wide, vm)?;
+    name_rows(svg, top, height, rows, frames)?;
     svg.begin_lines(height)?;
     let mut row = 0u64;
     for list in &by_row {
-        let sums = sums_of(alloc, columns, scale.last, bars, list)?;
+        let sums = sums_of(svg.alloc(), columns, scale.last, bars, list)?;
         let size = size_of_cell(row, rows, frames, scale.last);
         let at = top.saturating_add(row.saturating_mul(height));
-        draw_row(alloc, svg, &sums, size, at, height)?;
+        draw_row(svg, &sums, size, at, height)?;
         row = row.saturating_add(1);
     }
     svg.end_group()?;

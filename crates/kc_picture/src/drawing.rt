@@ -125,18 +125,20 @@ fn title_of(
 }
 
 /// Writes the heading of the lanes, and at the right what their height stands for.
-fn head_lanes(alloc: Global, svg: &mut Svg, top: u64, vm: Option<u32>) -> Result<(), Memory> {
+fn head_lanes(svg: &mut Svg, top: u64, vm: Option<u32>) -> Result<(), Memory> {
     let heading = match vm {
-        Some(vm) => format!(in alloc;
+        Some(vm) => format!(in svg.alloc();
             "Frames of vm {vm}, and of them shared with the host (hatched)"
         )?,
-        None => format!(in alloc; "Frames of each VM, and of them shared with the host (hatched)")?,
+        None => format!(in svg.alloc();
+            "Frames of each VM, and of them shared with the host (hatched)"
+        )?,
     };
     svg.words(&Style::plain(800, 4_600, 12).bold(), &heading)?;
     let highest = Counted(top, "frame");
     let words = match vm {
-        Some(_) => format!(in alloc; "at most {highest}")?,
-        None => format!(in alloc; "highest lane: {highest}")?,
+        Some(_) => format!(in svg.alloc(); "at most {highest}")?,
+        None => format!(in svg.alloc(); "highest lane: {highest}")?,
     };
     svg.words(
         &Style::plain(LEFT + PLOT, 4_600, 10).colour(FAINT).end(),
@@ -145,14 +147,12 @@ fn head_lanes(alloc: Global, svg: &mut Svg, top: u64, vm: Option<u32>) -> Result
 }
 
 fn draw_lanes(
-    alloc: Global,
     svg: &mut Svg,
     scale: Scale,
     layout: &Layout,
     lanes: &[Lane],
     vm: Option<u32>,
     top: u64,
-    end: u32,
 ) -> Result<(), Memory> {
     let height = layout.lane_height;
     let mut place = LanePlace {
@@ -164,7 +164,7 @@ fn draw_lanes(
     let mut slot = 0u32;
     for lane in lanes {
         if has_lane(lane, slot, vm) {
-            draw_lane(alloc, svg, scale, &place, slot, lane, end)?;
+            draw_lane(svg, scale, &place, slot, lane)?;
             place.base = place.base.saturating_add(height);
         }
         slot = slot.saturating_add(1);
@@ -173,13 +173,7 @@ fn draw_lanes(
 }
 
 /// Draws a mark of the axis with its line.
-fn draw_mark(
-    alloc: Global,
-    svg: &mut Svg,
-    scale: Scale,
-    axis: u64,
-    line: u32,
-) -> Result<(), Memory> {
+fn draw_mark(svg: &mut Svg, scale: Scale, axis: u64, line: u32) -> Result<(), Memory> {
     let x = scale.x(line);
     let mark = Area {
         x,
@@ -188,19 +182,19 @@ fn draw_mark(
         height: 400,
     };
     svg.rect(&mark, FAINT)?;
-    let words = format!(in alloc; "{line}")?;
+    let words = format!(in svg.alloc(); "{line}")?;
     let style = Style::plain(x, axis.saturating_add(1_500), 10).colour(FAINT);
     svg.words(&style.middle(), &words)
 }
 
 /// Draws the axis: marks at the first line and at round ones.
-fn draw_axis(alloc: Global, svg: &mut Svg, scale: Scale, axis: u64) -> Result<(), Memory> {
+fn draw_axis(svg: &mut Svg, scale: Scale, axis: u64) -> Result<(), Memory> {
     let step = nice(scale.last, 12);
-    draw_mark(alloc, svg, scale, axis, 1)?;
+    draw_mark(svg, scale, axis, 1)?;
     for i in 1..13u64 {
         let line = step.saturating_mul(i);
         if line > 1 && line <= scale.last && line <= 4_000_000_000 {
-            draw_mark(alloc, svg, scale, axis, line as u32)?;
+            draw_mark(svg, scale, axis, line as u32)?;
         }
     }
     let style = Style::plain(LEFT + PLOT / 2, axis.saturating_add(3_000), 11).colour(FAINT);
@@ -333,27 +327,18 @@ pub fn picture(
     let title = title_of(alloc, frames, calls, extent.used, vm)?;
     let mut svg = Svg::open(alloc, layout.height, &title)?;
     if extent.lanes > 0 {
-        head_lanes(alloc, &mut svg, extent.top, vm)?;
-        draw_lanes(
-            alloc,
-            &mut svg,
-            scale,
-            &layout,
-            &lanes,
-            vm,
-            extent.top,
-            scale.end(),
-        )?;
+        head_lanes(&mut svg, extent.top, vm)?;
+        draw_lanes(&mut svg, scale, &layout, &lanes, vm, extent.top)?;
     }
     let heading = Style::plain(800, layout.frames.saturating_sub(800), 12).bold();
     svg.words(&heading, "Every frame, by number")?;
     let exact = is_exact(frames, scale);
     if exact {
-        exact::draw_frames(alloc, &mut svg, scale, layout.frames, frames, bars, vm)?;
+        exact::draw_frames(&mut svg, scale, layout.frames, frames, bars, vm)?;
     } else {
-        cells::draw_frames(alloc, &mut svg, scale, layout.frames, frames, bars, vm)?;
+        cells::draw_frames(&mut svg, scale, layout.frames, frames, bars, vm)?;
     }
-    draw_axis(alloc, &mut svg, scale, layout.axis)?;
+    draw_axis(&mut svg, scale, layout.axis)?;
     draw_legend(&mut svg, layout.legend, exact, extent.lanes, vm)?;
     svg.close()
 }

@@ -50,8 +50,8 @@ fn bar_area(scale: Scale, top: u64, height: u64, bar: &Bar) -> Area {
 }
 
 /// Draws a bar, without its name.
-fn draw_bar(alloc: Global, svg: &mut Svg, area: &Area, bar: &Bar) -> Result<(), Memory> {
-    let title = bar_title(alloc, bar)?;
+fn draw_bar(svg: &mut Svg, area: &Area, bar: &Bar) -> Result<(), Memory> {
+    let title = bar_title(svg.alloc(), bar)?;
     svg.begin_titled(&title)?;
     let colour = Colour::of_owner(bar.custody.owner);
     if bar.custody.owner == Owner::Free {
@@ -113,8 +113,8 @@ fn write_on(svg: &mut Svg, area: &Area, custody: &Custody, words: &str) -> Resul
 }
 
 /// Writes a bar's name on it, where there is room; of one that is shared at least that it is.
-fn name_bar(alloc: Global, svg: &mut Svg, area: &Area, bar: &Bar) -> Result<bool, Memory> {
-    let name = bar_name(alloc, &bar.custody)?;
+fn name_bar(svg: &mut Svg, area: &Area, bar: &Bar) -> Result<bool, Memory> {
+    let name = bar_name(svg.alloc(), &bar.custody)?;
     if write_on(svg, area, &bar.custody, &name)? {
         return Ok(true);
     }
@@ -125,18 +125,12 @@ fn name_bar(alloc: Global, svg: &mut Svg, area: &Area, bar: &Bar) -> Result<bool
 }
 
 /// Writes the number of a frame beside its row.
-fn name_frame(
-    alloc: Global,
-    svg: &mut Svg,
-    frame: u64,
-    top: u64,
-    height: u64,
-) -> Result<(), Memory> {
+fn name_frame(svg: &mut Svg, frame: u64, top: u64, height: u64) -> Result<(), Memory> {
     let roomy = height > 1_400;
     let name = if roomy {
-        format!(in alloc; "frame {frame}")?
+        format!(in svg.alloc(); "frame {frame}")?
     } else {
-        format!(in alloc; "{frame}")?
+        format!(in svg.alloc(); "{frame}")?
     };
     let base = top
         .saturating_add(height)
@@ -161,7 +155,6 @@ fn row_area(top: u64, height: u64) -> Area {
 
 /// Draws the bars of one frame, each with its name unless the one before it has the same.
 fn draw_row(
-    alloc: Global,
     svg: &mut Svg,
     scale: Scale,
     top: u64,
@@ -173,14 +166,14 @@ fn draw_row(
     for i in row {
         if let Some(bar) = bars.get(*i) {
             let area = bar_area(scale, top, height, bar);
-            draw_bar(alloc, svg, &area, bar)?;
+            draw_bar(svg, &area, bar)?;
             let again = match &named {
                 Some(before) => same_name(before, &bar.custody),
                 None => false,
             };
             if !again {
                 named = None;
-                if height > 1_400 && name_bar(alloc, svg, &area, bar)? {
+                if height > 1_400 && name_bar(svg, &area, bar)? {
                     named = Some(bar.custody);
                 }
             }
@@ -191,7 +184,6 @@ fn draw_row(
 
 /// Draws all frames from a height on; where a VM is named its bars alone.
 pub(crate) fn draw_frames(
-    alloc: Global,
     svg: &mut Svg,
     scale: Scale,
     top: u64,
@@ -200,15 +192,15 @@ pub(crate) fn draw_frames(
     vm: Option<u32>,
 ) -> Result<(), Memory> {
     let height = row_height(frames);
-    let rows = bars_by_row(alloc, bars, vm, frames, frames)?;
+    let rows = bars_by_row(svg.alloc(), bars, vm, frames, frames)?;
     let mut at = top;
     let mut frame = 0u64;
     for row in &rows {
-        name_frame(alloc, svg, frame, at, height)?;
+        name_frame(svg, frame, at, height)?;
         if vm.is_some() {
             svg.edge(&row_area(at, height), LIFE)?;
         }
-        draw_row(alloc, svg, scale, at, height, bars, row)?;
+        draw_row(svg, scale, at, height, bars, row)?;
         at = at.saturating_add(height);
         frame = frame.saturating_add(1);
     }

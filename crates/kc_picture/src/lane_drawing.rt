@@ -100,7 +100,6 @@ fn outline_of(
     place: &LanePlace,
     steps: &[Step],
     which: Which,
-    end: u32,
 ) -> Result<String, Memory> {
     let mut outline = Outline {
         path: String::new(alloc),
@@ -112,7 +111,7 @@ fn outline_of(
         number: 0,
     };
     for (i, step) in steps.iter().enumerate() {
-        let to_line = end_of(steps, i, end);
+        let to_line = end_of(steps, i, scale.end());
         if to_line > step.line {
             let number = number_of(step, which);
             let to = scale.x(to_line);
@@ -135,7 +134,6 @@ fn outline_of(
 
 /// A thin mark with a title.
 fn tick(
-    alloc: Global,
     svg: &mut Svg,
     area: &Area,
     colour: Colour,
@@ -143,7 +141,7 @@ fn tick(
     what: &str,
     line: u32,
 ) -> Result<(), Memory> {
-    let title = tick_title(alloc, vm, what, line)?;
+    let title = tick_title(svg.alloc(), vm, what, line)?;
     svg.begin_titled(&title)?;
     svg.rect(area, colour)?;
     svg.end_group()
@@ -161,7 +159,6 @@ fn tick_area(scale: Scale, place: &LanePlace, line: u32) -> Area {
 
 /// The marks of a stay.
 fn draw_ticks(
-    alloc: Global,
     svg: &mut Svg,
     scale: Scale,
     place: &LanePlace,
@@ -169,23 +166,23 @@ fn draw_ticks(
     stay: &Stay,
 ) -> Result<(), Memory> {
     let area = tick_area(scale, place, stay.registered);
-    tick(alloc, svg, &area, EDGE, vm, "registered", stay.registered)?;
+    tick(svg, &area, EDGE, vm, "registered", stay.registered)?;
     match stay.measured {
         Measured::Not => {},
         Measured::Active(line) => {
             let area = tick_area(scale, place, line);
-            tick(alloc, svg, &area, INK, vm, "measured and active", line)?;
+            tick(svg, &area, INK, vm, "measured and active", line)?;
             name_measured(svg, scale, place, line, "active")?;
         },
         Measured::Dead(line) => {
             let area = tick_area(scale, place, line);
-            tick(alloc, svg, &area, INK, vm, "measured and dead", line)?;
+            tick(svg, &area, INK, vm, "measured and dead", line)?;
             name_measured(svg, scale, place, line, "dead")?;
         },
     }
     if let Some(line) = stay.cleared {
         let area = tick_area(scale, place, line);
-        tick(alloc, svg, &area, INK, vm, "cleared", line)?;
+        tick(svg, &area, INK, vm, "cleared", line)?;
     }
     Ok(())
 }
@@ -254,12 +251,12 @@ fn is_narrow(scale: Scale, group: &Group) -> bool {
 }
 
 /// The stays as they are drawn: each by itself, or where there are many those that lie close as one.
-fn groups_of(alloc: Global, scale: Scale, stays: &[Stay], end: u32) -> Result<Vec<Group>, Memory> {
+fn groups_of(alloc: Global, scale: Scale, stays: &[Stay]) -> Result<Vec<Group>, Memory> {
     let mut groups = Vec::new(alloc);
     let single = stays.len() <= SINGLE_STAYS;
     let mut open = None;
     for stay in stays {
-        let next = group_of(stay, end);
+        let next = group_of(stay, scale.end());
         open = match open {
             None => Some(next),
             Some(group) => {
@@ -294,7 +291,6 @@ fn group_title(alloc: Global, vm: u32, group: &Group) -> Result<String, Memory> 
 }
 
 fn draw_groups(
-    alloc: Global,
     svg: &mut Svg,
     scale: Scale,
     place: &LanePlace,
@@ -302,14 +298,13 @@ fn draw_groups(
     groups: &[Group],
 ) -> Result<(), Memory> {
     for group in groups {
-        let title = group_title(alloc, vm, group)?;
+        let title = group_title(svg.alloc(), vm, group)?;
         draw_stretch(svg, scale, place, group.stay.registered, group.to, &title)?;
     }
     Ok(())
 }
 
 fn draw_group_ticks(
-    alloc: Global,
     svg: &mut Svg,
     scale: Scale,
     place: &LanePlace,
@@ -318,43 +313,39 @@ fn draw_group_ticks(
 ) -> Result<(), Memory> {
     for group in groups {
         if group.count == 1 {
-            draw_ticks(alloc, svg, scale, place, vm, &group.stay)?;
+            draw_ticks(svg, scale, place, vm, &group.stay)?;
         }
     }
     Ok(())
 }
 
 fn draw_numbers(
-    alloc: Global,
     svg: &mut Svg,
     scale: Scale,
     place: &LanePlace,
     vm: u32,
     steps: &[Step],
-    end: u32,
 ) -> Result<(), Memory> {
-    let all = outline_of(alloc, scale, place, steps, Which::All, end)?;
+    let all = outline_of(svg.alloc(), scale, place, steps, Which::All)?;
     if !all.is_empty() {
         svg.path(&all, Colour::of_vm(vm))?;
     }
-    let shared = outline_of(alloc, scale, place, steps, Which::Shared, end)?;
+    let shared = outline_of(svg.alloc(), scale, place, steps, Which::Shared)?;
     if !shared.is_empty() {
         svg.hatched_path(&shared)?;
     }
     Ok(())
 }
 
-/// Draws the lane of a VM, with its name, up to the line `end`.
+/// Draws the lane of a VM, with its name.
 pub(crate) fn draw_lane(
-    alloc: Global,
     svg: &mut Svg,
     scale: Scale,
     place: &LanePlace,
     vm: u32,
     lane: &Lane,
-    end: u32,
 ) -> Result<(), Memory> {
-    let name = format!(in alloc; "vm {vm}")?;
+    let name = format!(in svg.alloc(); "vm {vm}")?;
     let style = Style::plain(LEFT - 800, place.base.saturating_sub(100), 12);
     svg.words(&style.bold().end(), &name)?;
     let base = Area {
@@ -364,8 +355,8 @@ pub(crate) fn draw_lane(
         height: 80,
     };
     svg.rect(&base, EDGE)?;
-    let groups = groups_of(alloc, scale, &lane.stays, end)?;
-    draw_groups(alloc, svg, scale, place, vm, &groups)?;
-    draw_numbers(alloc, svg, scale, place, vm, &lane.steps, end)?;
-    draw_group_ticks(alloc, svg, scale, place, vm, &groups)
+    let groups = groups_of(svg.alloc(), scale, &lane.stays)?;
+    draw_groups(svg, scale, place, vm, &groups)?;
+    draw_numbers(svg, scale, place, vm, &lane.steps)?;
+    draw_group_ticks(svg, scale, place, vm, &groups)
 }

@@ -73,6 +73,7 @@ impl Style {
 /// The text so far.
 #[derive(Drop)]
 pub(crate) struct Svg {
+    alloc: Global,
     text: String,
 }
 
@@ -80,6 +81,7 @@ impl Svg {
     /// A white picture of this height with a title.
     pub fn open(alloc: Global, height: u64, title: &str) -> Result<Svg, Memory> {
         let mut svg = Svg {
+            alloc,
             text: String::new(alloc),
         };
         let width = Points(WIDTH);
@@ -110,11 +112,16 @@ impl Svg {
         Ok(())
     }
 
+    /// Where its memory comes from.
+    pub fn alloc(&self) -> Global {
+        self.alloc
+    }
+
     /// The whole text.
     pub fn close(self) -> Result<Vec<u8>, Memory> {
         let mut svg = self;
         svg.text.push_str("</svg>\n")?;
-        let Svg { text } = svg;
+        let Svg { alloc: _, text } = svg;
         Ok(text.into_bytes())
     }
 
