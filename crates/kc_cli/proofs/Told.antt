@@ -1,14 +1,17 @@
 -- What is told of calls that come after others, and what the sink takes of it.
-use Rattle.std.proofs.Common.{ℕ, ◌≡◌, ◌+◌, ◌++◌, List, [], ◌∷◌, length, take, refl, ap, sym, ◌∙◌, Option, Some, None, Ok, arith, inl, inr, append_assoc}
+use Rattle.std.proofs.Common.{ℕ, ◌≡◌, ◌+◌, ◌++◌, List, [], ◌∷◌, length, take, map, refl, ap, ap₂, sym, ◌∙◌, Option, Some, None, Ok, arith, inl, inr, append_assoc}
 use Rattle.std.proofs.lemmas.Bool.{cases_lt}
-use Rattle.std.proofs.lemmas.List.{take_all}
+use Rattle.std.proofs.lemmas.List.{take_all, length-map}
 use Rattle.std.proofs.Math.Seq.{take-append-add, take-append-le}
 use Rattle.std.proofs.KnownBytes.{Appends-trans}
 use Rattle.std.specs.Prelude.{IfSome}
+use Rattle.std.specs.List.{flat_map}
 use Rattle.std.specs.Io.KnownBytes.{Appends}
 use Rattle.kc_types.specs.Configuration.{Configuration}
 use Rattle.kc_types.specs.declared.call.Call.{Call}
+use Rattle.kc_types.specs.declared.custody.Change.{Change}
 use Rattle.kc_types.specs.declared.custody.Event.{Event}
+use Rattle.kc_types.specs.declared.custody.Event.TheVariants as event
 use Rattle.kc_model.specs.State.{State}
 use Rattle.kc_model.specs.Boot.{boot}
 use Rattle.kc_model.specs.Lawful.{IsLawful}
@@ -16,12 +19,13 @@ use Rattle.kc_model.specs.Next.{next, state_after}
 use Rattle.kc_model.specs.Custody.{first_line}
 use Rattle.kc_model.specs.Events.{events, events_from, changes_in}
 use Rattle.kc_model.proofs.Safe.Safe.{safe}
-use Rattle.kc_model.proofs.Custody.Events.{events-append, changes-of-events}
+use Rattle.kc_model.proofs.Custody.Events.{events-append, changes-of-events, flat-changes}
 use Rattle.kc_model.proofs.Custody.Bars.{bars_are}
 use Rattle.kc_model.proofs.Custody.Laws.{custody_is}
 use Rattle.kc_model.proofs.States.Runs.{state_after-append}
 use Rattle.kc_model.proofs.States.Sizes.{sized-next}
 use Rattle.kc_trace.specs.ConfigText.{config_in}
+use Rattle.kc_trace.specs.CustodyText.{change_line, event_line, header_line, end_line, custody_text_of}
 use Rattle.kc_texts.specs.Reading.{Writes, Begins}
 use Rattle.kc_cli.specs.declared.account.CustodyForm.{CustodyForm}
 use Rattle.kc_cli.specs.Custody.{AreEventsOf, IsCustodyTold, IsAccount, IsCustodyText}
@@ -48,12 +52,20 @@ is_told source config told count is h = record {
   calls = h.calls;
   traced = h.traced;
   counted = h.counted;
-  told = h.told;
-  changes = ap changes_in h.told ∙ changes-of-events (boot config) h.calls;
+  few = h.few;
+  exact = h.exact;
+  changes = ap changes_in h.exact ∙ changes-of-events (boot config) h.calls;
   safe = safe (boot config) h.calls is;
   laws = custody_is (boot config) h.calls is;
   bars = bars_are (boot config) h.calls is;
 }
+
+-- what is given of the changes among events
+pub changes_given : (config : Configuration) (calls : ℕ) (changes : List Change) (told given : List Event) (piece end : List ℕ) → given ≡ told → told ≡ map event.Change changes → piece ≡ header_line config → end ≡ end_line calls (length told)
+    → piece ++ (flat_map event_line given ++ end) ≡ custody_text_of config calls changes
+changes_given config calls changes told given piece end same are head tail =
+    ap₂ (λ (first : List ℕ) (all : List Event). first ++ (flat_map event_line all ++ end)) head (same ∙ are)
+    ∙ ap₂ (λ (lines last : List ℕ). header_line config ++ (lines ++ last)) (flat-changes event_line change_line (λ c. refl) changes) (tail ∙ ap (end_line calls) (ap length are ∙ length-map changes event.Change))
 
 -- what was written is made of what was told of both texts
 pub gives_custody : (form : CustodyForm) (vm : Option ℕ) (config trace old new : Option (List ℕ)) (machine : Configuration) (count : ℕ) (told : List Event) → IfSome config (λ text. config_in text ≡ Ok machine) → IsCustodyTold machine trace count told

@@ -26,14 +26,15 @@ pub record AreEventsOf (m : State) (source : Option (List ℕ)) (count : ℕ) (t
   pub traced : IfSome source (λ text. IsTrace text calls)
   pub counted : count ≡ length calls
   pub few : length calls ≤ call_limit
-  pub told : told ≡ events m calls
+  pub exact : told ≡ events m calls
 
 -- the same from the boot state of a configuration: the changes among them are the custody of the calls, and what every trace keeps holds of these, and what their custody and its bars say
 pub record IsCustodyTold (config : Configuration) (source : Option (List ℕ)) (count : ℕ) (told : List Event) : Type 0 where
   pub calls : List Call
   pub traced : IfSome source (λ text. IsTrace text calls)
   pub counted : count ≡ length calls
-  pub told : told ≡ events (boot config) calls
+  pub few : length calls ≤ call_limit
+  pub exact : told ≡ events (boot config) calls
   pub changes : changes_in told ≡ custody (boot config) calls
   pub safe : IsSafe (boot config) calls
   pub laws : IsCustody (boot config) calls

@@ -94,17 +94,14 @@ fn give_changes<K: Sink>(
     }
 }
 
-/// Gives a text that was made whole, or says that memory was refused to it.
-fn give_made<K: Sink>(text: Result<Vec<u8>, Memory>, out: &mut K) -> Result<(), TextFault>
+/// Gives a text that was made whole.
+fn give_whole<K: Sink>(text: &[u8], out: &mut K) -> Result<(), TextFault>
     requires { K.failed out.old ≡ false }
-    ensures ok { OnOk result (IfOk text (λ text. Appends (K.taken out.old) (K.taken out.new) text.items)) }
-    ensures sink { TellsSink (K.failed out.new) (IfOk text (λ text. (n : ℕ) × Appends (K.taken out.old) (K.taken out.new) (take n text.items))) (out.new ≡ out.old) result }
-    ensures fault { IfErr result (λ fault. (fault ≡ TextFault.Memory) ⊎ (fault ≡ TextFault.Write)) }
+    ensures ok { OnOk result (Appends (K.taken out.old) (K.taken out.new) text.now) }
+    ensures sink { TellsSink (K.failed out.new) ((n : ℕ) × Appends (K.taken out.old) (K.taken out.new) (take n text.now)) (out.new ≡ out.old) result }
+    ensures fault { IfErr result (λ fault. fault ≡ TextFault.Write) }
 {
-    let Ok(text) = text else {
-        return Err(TextFault::Memory);
-    };
-    match write_whole(out, &text) {
+    match write_whole(out, text) {
         Ok(()) => Ok(()),
         Err(_) => Err(TextFault::Write),
     }
@@ -152,6 +149,7 @@ pub(crate) fn give_told<K: Sink>(
     requires out { K.failed out.old ≡ false }
     requires few { told.calls ≤ call_limit }
     requires within { All (IsWithin told.config.frames) told.events.items }
+    requires changes { All (IsIn told.config.frames) (changes_in told.events.items) }
     ensures ok { OnOk result ((text : List ℕ) × IsAccount form vm told.config told.calls told.events.items text × Appends (K.taken out.old) (K.taken out.new) text) }
     ensures sink { TellsSink (K.failed out.new) ((text : List ℕ) × (n : ℕ) × IsAccount form vm told.config told.calls told.events.items text × Appends (K.taken out.old) (K.taken out.new) (take n text)) (out.new ≡ out.old) result }
     ensures fault { IfErr result (λ fault. (fault ≡ TextFault.Memory) ⊎ (fault ≡ TextFault.Write)) }
@@ -164,7 +162,10 @@ pub(crate) fn give_told<K: Sink>(
                 calls,
                 events,
             } = told;
-            give_made(summary_of(alloc, &config, calls, events, vm), out)
+            let Ok(text) = summary_of(alloc, &config, calls, events, vm) else {
+                return Err(TextFault::Memory);
+            };
+            give_whole(&text, out)
         },
         CustodyForm::Picture => {
             let Told {
@@ -172,7 +173,10 @@ pub(crate) fn give_told<K: Sink>(
                 calls,
                 events,
             } = told;
-            give_made(picture_of(alloc, &config, calls, &events, vm), out)
+            let Ok(text) = picture_of(alloc, &config, calls, &events, vm) else {
+                return Err(TextFault::Memory);
+            };
+            give_whole(&text, out)
         },
     }
 }

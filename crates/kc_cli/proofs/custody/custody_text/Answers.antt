@@ -1,5 +1,11 @@
+use Rattle.std.proofs.Common.{All, List, sym, subst}
 use Rattle.std.proofs.lemmas.Result.{err_from_is_err_and, on_ok_weaker}
-use Rattle.kc_texts.proofs.Told.{texts_err, sink_more}
+use Rattle.kc_model.specs.Custody.{first_line}
+use Rattle.kc_model.specs.Boot.{boot}
+use Rattle.kc_summary.specs.Within.{IsWithin}
+use Rattle.kc_summary.proofs.Traced.{events-within}
+use Rattle.kc_texts.proofs.Told.{sources_err, texts_err, sink_more}
+use Rattle.kc_types.specs.declared.custody.Event.{Event}
 use Rattle.kc_cli.proofs.Told.{gives_custody, begins_custody}
 use Rattle.kc_cli.proofs.custody.custody_text.Goals as goal
 
@@ -13,3 +19,14 @@ returns-clause-ok g c = on_ok_weaker c.give_told.result (λ given. gives_custody
 
 pub returns-clause-sink : goal.returns-clause-sink
 returns-clause-sink g c = sink_more _ _ _ _ _ (λ begun. begins_custody c.args.form c.args.vm _ _ _ _ _ _ _ c.in_ok-told.ensures.config c.in_ok-told.ensures.ok begun) c.give_told.ensures.sink
+
+pub returns-in_err-told-clause-sources : goal.returns-in_err-told-clause-sources
+returns-in_err-told-clause-sources g c =
+    let made = err_from_is_err_and c.from_residual.result c.from_residual.ensures.1 in
+    rw (made.1, made.2) (sources_err _ c.in_err-told.field-0.0 c.in_err-told.ensures.sources)
+
+pub give_told-requires-clause-within : goal.give_told-requires-clause-within
+give_told-requires-clause-within g c =
+    let told = c.in_ok-told.ensures.ok in
+    let config = c.in_ok-told.told.config in
+    subst (λ (events : List Event). All (IsWithin config.frames) events) (sym told.exact) (events-within first_line (boot config) told.calls)

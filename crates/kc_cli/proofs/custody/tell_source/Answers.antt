@@ -27,33 +27,33 @@ loop-events-preserved g c =
     let calls = c.in_ok-part.part.calls.items in
     let long = length-append before.1 calls in
     let at = before.5 in
-    let told = told_more c.args.core.now c.loop-events.core before.1 calls c.loop-events.line c.loop-events.events.items c.tell_calls.new.events.items before.3 before.4 before.5 (rw c.deref.ensures.value at c.in-Ok-tell_calls.ensures.told) in
-    let left = left_more c.args.core.now c.loop-events.core c.tell_calls.new.core before.1 calls before.4 (rw c.deref.ensures.value at c.in-Ok-tell_calls.ensures.state) in
+    let told = told_more c.args.core.now c.loop-events.core before.1 calls c.loop-events.line c.loop-events.events.items c.tell_calls.new.told.items before.3 before.4 before.5 (rw c.deref.ensures.value at c.in-Ok.ensures.told) in
+    let left = left_more c.args.core.now c.loop-events.core c.tell_calls.new.core before.1 calls before.4 (rw c.deref.ensures.value at c.in-Ok.ensures.state) in
     record {
       read = (before.0 ++ more.0, before.1 ++ calls, more.1, told, left, omega (arith, long, at));
       few = c.in_ok-part.ensures.few;
       mark = c.in_ok-part.ensures.mark;
     }
 
-pub returns-in-Ok-clause-ok : goal.returns-in-Ok-clause-ok
-returns-in-Ok-clause-ok g c =
+pub returns-in-Ok-finish-clause-ok : goal.returns-in-Ok-finish-clause-ok
+returns-in-Ok-finish-clause-ok g c =
     let before = c.loop-events.invariant.read in
     let more = c.in_ok-part.ensures.calls before.0 before.1 (g.T.Source.left c.args.trace.now) before.2 in
     let calls = c.in_ok-part.part.calls.items in
     let long = length-append before.1 calls in
     let at = before.5 in
-    let told = told_more c.args.core.now c.loop-events.core before.1 calls c.loop-events.line c.loop-events.events.items c.tell_calls.new.events.items before.3 before.4 before.5 (rw c.deref.ensures.value at c.in-Ok-tell_calls.ensures.told) in
+    let told = told_more c.args.core.now c.loop-events.core before.1 calls c.loop-events.line c.loop-events.events.items c.tell_calls.new.told.items before.3 before.4 before.5 (rw c.deref.ensures.value at c.in-Ok.ensures.told) in
     record {
       calls = before.1 ++ calls;
-      traced = c.in-Ok.ensures.ok _ _ _ _ more.1 (c.in_ok-part.ensures.last c.if-part.true);
+      traced = c.in-Ok-finish.ensures.ok _ _ _ _ more.1 (c.in_ok-part.ensures.last c.if-part.true);
       counted = omega (arith, long, at);
       few = more.1.few;
-      told = told;
+      exact = told;
     }
 
-pub returns-in-Ok-clause-config : goal.returns-in-Ok-clause-config
-returns-in-Ok-clause-config g c =
+pub returns-in-Ok-finish-clause-config : goal.returns-in-Ok-finish-clause-config
+returns-in-Ok-finish-clause-config g c =
     let before = c.loop-events.invariant.read in
     let calls = c.in_ok-part.part.calls.items in
-    ap (λ (m : State). m.config) (left_more c.args.core.now c.loop-events.core c.tell_calls.new.core before.1 calls before.4 (rw c.deref.ensures.value at c.in-Ok-tell_calls.ensures.state))
+    ap (λ (m : State). m.config) (left_more c.args.core.now c.loop-events.core c.tell_calls.new.core before.1 calls before.4 (rw c.deref.ensures.value at c.in-Ok.ensures.state))
     ∙ config_after c.args.core.now (before.1 ++ calls)
