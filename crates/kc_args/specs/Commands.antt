@@ -20,7 +20,13 @@ dump_rule = record (new_rule (codes "dump")) { long = Some (codes "dump"); actio
 abbrev pub vm_rule : Rule
 vm_rule = record (new_rule (codes "vm")) { long = Some (codes "vm"); value_names = 1; parser = Some (Signed (pos 0) (pos 63)) }
 
--- another flag
+-- further flags
+abbrev pub summary_rule : Rule
+summary_rule = record (new_rule (codes "summary")) { long = Some (codes "summary"); action = Some SetTrue }
+
+abbrev pub svg_rule : Rule
+svg_rule = record (new_rule (codes "svg")) { long = Some (codes "svg"); action = Some SetTrue }
+
 abbrev pub all_rule : Rule
 all_rule = record (new_rule (codes "all")) { long = Some (codes "all"); action = Some SetTrue }
 
@@ -35,7 +41,7 @@ abbrev pub live : App
 live = with_rule (with_rule (with_rule (new_app (codes "live")) config_rule) workers_rule) explain_rule
 
 abbrev pub custody : App
-custody = with_rule (with_rule (with_rule (new_app (codes "custody")) config_rule) vm_rule) explain_rule
+custody = with_rule (with_rule (with_rule (with_rule (with_rule (new_app (codes "custody")) config_rule) vm_rule) summary_rule) svg_rule) explain_rule
 
 abbrev pub audit : App
 audit = with_rule (with_rule (new_app (codes "audit")) all_rule) explain_rule

@@ -40,14 +40,15 @@ IsSet flag rows = first_of flag rows ≡ Some (codes "true")
 abbrev pub IsJobIn : Text → List Row → Job → Type 0
 IsJobIn name rows (Replay config workers dump explain) = (name ≢ codes "live") × (name ≢ codes "custody") × (name ≢ codes "audit") × HasOptions rows config workers × (IsTrue dump ↔ IsSet (codes "dump") rows) × (IsTrue explain ↔ IsSet (codes "explain") rows)
 IsJobIn name rows (Live config workers explain) = (name ≡ codes "live") × HasOptions rows config workers × (IsTrue explain ↔ IsSet (codes "explain") rows)
-IsJobIn name rows (Custody config vm explain) = (name ≡ codes "custody") × (option_map (λ s. s.now) config ≡ first_of (codes "config") rows) × (vm ≡ vm_in rows) × (IsTrue explain ↔ IsSet (codes "explain") rows)
+IsJobIn name rows (Custody config vm summary svg explain) = (name ≡ codes "custody") × (option_map (λ s. s.now) config ≡ first_of (codes "config") rows) × (vm ≡ vm_in rows)
+    × (IsTrue summary ↔ IsSet (codes "summary") rows) × (IsTrue svg ↔ IsSet (codes "svg") rows) × (IsTrue explain ↔ IsSet (codes "explain") rows)
 IsJobIn name rows (Audit all explain) = (name ≡ codes "audit") × (IsTrue all ↔ IsSet (codes "all") rows) × (IsTrue explain ↔ IsSet (codes "explain") rows)
 
 -- the same where there may be no subcommand: then it is as if `replay` stood there alone
 abbrev pub Asks : Option (Text × List Row) → Job → Type 0
 Asks None (Replay config workers dump explain) = HasOptions [] config workers × (dump ≡ false) × (explain ≡ false)
 Asks None (Live config workers explain) = ⊥
-Asks None (Custody config vm explain) = ⊥
+Asks None (Custody config vm summary svg explain) = ⊥
 Asks None (Audit all explain) = ⊥
 Asks (Some found) job = IsJobIn found.0 found.1 job
 

@@ -3,7 +3,7 @@ ghost use Rattle.std.specs.Prelude.{◌≡◌, ◌↔◌, IfOk, IfErr, IsTrue, m
 ghost use Rattle.clap.specs.declared.builder.command.Command.TheViews.{out-Command as fields_of};
 ghost use Rattle.clap.specs.Words.{app_of, rule_of, found_of, rows_of, first_of};
 ghost use Rattle.clap.specs.Values.{kind_of};
-ghost use Rattle.kc_args.specs.Commands.{kcore, replay, live, custody, audit, config_rule, workers_rule, dump_rule, vm_rule, all_rule, explain_rule};
+ghost use Rattle.kc_args.specs.Commands.{kcore, replay, live, custody, audit, config_rule, workers_rule, dump_rule, vm_rule, summary_rule, svg_rule, all_rule, explain_rule};
 ghost use Rattle.kc_args.specs.Jobs.{in_range, workers_in, slot_in, vm_in, IsSet, IsJob, IsJobIn, IsRefusal, HasStatus};
 
 use clap::error::ErrorKind;
@@ -29,10 +29,13 @@ pub enum Job<'a> {
         explain: bool,
     },
     /// Make the calls of the trace on standard input, with the configuration in a file where a path is given, and write what
-    /// happened to each frame and slot; of one slot's VM alone where a slot is given.
+    /// happened to each frame and slot, of one slot's VM alone where a slot is given: every change, or with `summary` an
+    /// object for each life of a VM, or with `svg` a picture. `summary` and `svg` exclude each other.
     Custody {
         config: Option<&'a str>,
         vm: Option<u32>,
+        summary: bool,
+        svg: bool,
         explain: bool,
     },
     /// Audit the dump on standard input, and write each finding, or the report alone.
@@ -108,6 +111,26 @@ fn vm_arg<'a>(alloc: Global) -> Arg<'a>
         .help("Tell of the VM in this slot alone, 0 to 63")
 }
 
+fn summary_arg<'a>(alloc: Global) -> Arg<'a>
+    ensures rule { rule_of result ≡ summary_rule }
+    ensures local { result.global ≡ false }
+{
+    Arg::new(alloc, "summary")
+        .long("summary")
+        .action(ArgAction::SetTrue)
+        .help("Write an object for each life of a VM, in place of the changes")
+}
+
+fn svg_arg<'a>(alloc: Global) -> Arg<'a>
+    ensures rule { rule_of result ≡ svg_rule }
+    ensures local { result.global ≡ false }
+{
+    Arg::new(alloc, "svg")
+        .long("svg")
+        .action(ArgAction::SetTrue)
+        .help("Write a picture (SVG 1.1), in place of the changes")
+}
+
 fn all_arg<'a>(alloc: Global) -> Arg<'a>
     ensures rule { rule_of result ≡ all_rule }
     ensures local { result.global ≡ false }
@@ -166,6 +189,8 @@ fn custody_command<'a>(alloc: Global) -> Result<Command<'a>, AllocError>
         .override_usage("kcore custody [OPTIONS]")
         .arg(config_arg(alloc))?
         .arg(vm_arg(alloc))?
+        .arg(summary_arg(alloc))?
+        .arg(svg_arg(alloc))?
         .arg(explain_arg(alloc))
 }
 
@@ -292,6 +317,8 @@ fn job_in<'a>(name: &str, found: &ArgMatches<'a>) -> Job<'a>
         return Job::Custody {
             config,
             vm: vm_in(found),
+            summary: is_set(found, "summary"),
+            svg: is_set(found, "svg"),
             explain,
         };
     }
@@ -314,7 +341,7 @@ fn job_in<'a>(name: &str, found: &ArgMatches<'a>) -> Job<'a>
 
 /// What the words, without the program's name, ask for: `replay` or `live`, with or without `--config PATH` and
 /// `--workers N` with a number from 1 to 64, `replay` also with `--dump`; `custody`, with or without `--config PATH` and
-/// `--vm V` with a number from 0 to 63; `audit`, also with `--all`; each also with
+/// `--vm V` with a number from 0 to 63, `--summary` and `--svg`; `audit`, also with `--all`; each also with
 /// `--explain`; and `replay` for no words at all.
 pub fn job_of<'a>(alloc: Global, words: &'a [&'a str]) -> Result<Job<'a>, ArgFault>
     // The job is what the words say by the command's rules, and only words that break them are refused.

@@ -8,32 +8,32 @@ use Rattle.std.specs.Prelude.{IfSome}
 use Rattle.std.specs.Io.KnownBytes.{Appends}
 use Rattle.kc_types.specs.Configuration.{Configuration}
 use Rattle.kc_types.specs.declared.call.Call.{Call}
-use Rattle.kc_types.specs.declared.custody.Change.{Change}
+use Rattle.kc_types.specs.declared.custody.Event.{Event}
 use Rattle.kc_model.specs.State.{State}
 use Rattle.kc_model.specs.Boot.{boot}
 use Rattle.kc_model.specs.Lawful.{IsLawful}
 use Rattle.kc_model.specs.Next.{next, state_after}
-use Rattle.kc_model.specs.Custody.{custody, custody_from, first_line}
+use Rattle.kc_model.specs.Custody.{first_line}
+use Rattle.kc_model.specs.Events.{events, events_from, changes_in}
 use Rattle.kc_model.proofs.Safe.Safe.{safe}
-use Rattle.kc_model.proofs.Custody.Runs.{custody-append}
+use Rattle.kc_model.proofs.Custody.Events.{events-append, changes-of-events}
+use Rattle.kc_model.proofs.Custody.Bars.{bars_are}
 use Rattle.kc_model.proofs.Custody.Laws.{custody_is}
 use Rattle.kc_model.proofs.States.Runs.{state_after-append}
 use Rattle.kc_model.proofs.States.Sizes.{sized-next}
 use Rattle.kc_trace.specs.ConfigText.{config_in}
-use Rattle.kc_trace.specs.Trace.{IsTrace}
-use Rattle.kc_trace.specs.CustodyText.{custody_text_of}
-use Rattle.kc_custody.specs.Selected.{selected}
 use Rattle.kc_texts.specs.Reading.{Writes, Begins}
-use Rattle.kc_cli.specs.Custody.{IsCustodyTold, IsCustodyToldOf, IsCustodyText}
+use Rattle.kc_cli.specs.declared.account.CustodyForm.{CustodyForm}
+use Rattle.kc_cli.specs.Custody.{AreEventsOf, IsCustodyTold, IsAccount, IsCustodyText}
 
--- what calls change behind those so far
-pub told_more : (m old : State) (xs ys : List Call) (line : ℕ) (told now : List Change) → told ≡ custody m xs → old ≡ state_after m xs → line ≡ first_line + length xs → now ≡ told ++ custody_from line old ys → now ≡ custody m (xs ++ ys)
+-- the events of calls behind those so far
+pub told_more : (m old : State) (xs ys : List Call) (line : ℕ) (told now : List Event) → told ≡ events m xs → old ≡ state_after m xs → line ≡ first_line + length xs → now ≡ told ++ events_from line old ys → now ≡ events m (xs ++ ys)
 told_more m old xs ys line told now so_far from at added =
     added
-    ∙ ap (λ (changes : List Change). changes ++ custody_from line old ys) so_far
-    ∙ ap (λ k. custody m xs ++ custody_from k old ys) at
-    ∙ ap (λ (s : State). custody m xs ++ custody_from (first_line + length xs) s ys) from
-    ∙ sym (custody-append first_line m xs ys)
+    ∙ ap (λ (before : List Event). before ++ events_from line old ys) so_far
+    ∙ ap (λ k. events m xs ++ events_from k old ys) at
+    ∙ ap (λ (s : State). events m xs ++ events_from (first_line + length xs) s ys) from
+    ∙ sym (events-append first_line m xs ys)
 
 pub left_more : (m old new : State) (xs ys : List Call) → old ≡ state_after m xs → new ≡ state_after old ys → new ≡ state_after m (xs ++ ys)
 left_more m old new xs ys from to = to ∙ ap (λ (s : State). state_after s ys) from ∙ sym (state_after-append m xs ys)
@@ -43,40 +43,30 @@ pub config_after : (m : State) (calls : List Call) → (state_after m calls).con
 config_after m [] = refl
 config_after m (call ∷ calls) = config_after (next m call).1 calls ∙ (sized-next m call).config
 
-pub told_known : (first : Option (List ℕ)) (m : State) (calls : List Call) (changes : List Change) (count : ℕ) → IfSome first (λ text. IsTrace text calls) → changes ≡ custody m calls → count ≡ length calls
-    → IfSome first (λ text. (made : List Call) × IsTrace text made × (changes ≡ custody m made) × (count ≡ length made))
-told_known None m calls changes count traced told counted = tt
-told_known (Some text) m calls changes count traced told counted = (calls, traced, told, counted)
-
-pub is_told : (first : Option (List ℕ)) (config : Configuration) (changes : List Change) (count : ℕ) → IsLawful (boot config)
-    → IfSome first (λ text. (calls : List Call) × IsTrace text calls × (changes ≡ custody (boot config) calls) × (count ≡ length calls)) → IfSome first (λ text. IsCustodyTold config text count changes)
-is_told None config changes count is told = tt
-is_told (Some text) config changes count is told = record {
-  calls = told.0;
-  traced = told.1;
-  counted = told.3;
-  told = told.2;
-  safe = safe (boot config) told.0 is;
-  laws = custody_is (boot config) told.0 is;
+pub is_told : (source : Option (List ℕ)) (config : Configuration) (told : List Event) (count : ℕ) → IsLawful (boot config) → AreEventsOf (boot config) source count told → IsCustodyTold config source count told
+is_told source config told count is h = record {
+  calls = h.calls;
+  traced = h.traced;
+  counted = h.counted;
+  told = h.told;
+  changes = ap changes_in h.told ∙ changes-of-events (boot config) h.calls;
+  safe = safe (boot config) h.calls is;
+  laws = custody_is (boot config) h.calls is;
+  bars = bars_are (boot config) h.calls is;
 }
 
--- what was told of both texts
-pub are_told : (config_left trace_left : Option (List ℕ)) (config given : Configuration) (changes : List Change) (count : ℕ) → given ≡ config → IfSome config_left (λ text. config_in text ≡ Ok config)
-    → IfSome trace_left (λ text. IsCustodyTold config text count changes) → IsCustodyToldOf config_left trace_left given count changes
-are_told None trace_left config given changes count same c t = tt
-are_told (Some text) None config given changes count same c t = tt
-are_told (Some text) (Some trace) config given changes count same c t = rw same (c, t)
+-- what was written is made of what was told of both texts
+pub gives_custody : (form : CustodyForm) (vm : Option ℕ) (config trace old new : Option (List ℕ)) (machine : Configuration) (count : ℕ) (told : List Event) → IfSome config (λ text. config_in text ≡ Ok machine) → IsCustodyTold machine trace count told
+    → ((text : List ℕ) × IsAccount form vm machine count told text × Appends old new text) → Writes (IsCustodyText form vm) config trace old new
+gives_custody form vm None trace old new machine count told read h given = tt
+gives_custody form vm (Some config) None old new machine count told read h given = tt
+gives_custody form vm (Some config) (Some trace) old new machine count told read h given = (given.0, (machine, count, told, read, h, given.1), given.2)
 
-pub gives_custody : (vm : Option ℕ) (config trace old new : Option (List ℕ)) (machine : Configuration) (count : ℕ) (changes : List Change) → IsCustodyToldOf config trace machine count changes → Appends old new (custody_text_of machine count (selected vm changes)) → Writes (IsCustodyText vm) config trace old new
-gives_custody vm None trace old new machine count changes h taken = tt
-gives_custody vm (Some config) None old new machine count changes h taken = tt
-gives_custody vm (Some config) (Some trace) old new machine count changes h taken = (custody_text_of machine count (selected vm changes), (machine, count, changes, h.0, h.1, refl), taken)
-
-pub begins_custody : (vm : Option ℕ) (config trace old new : Option (List ℕ)) (machine : Configuration) (count : ℕ) (changes : List Change) → IsCustodyToldOf config trace machine count changes
-    → ((n : ℕ) × Appends old new (take n (custody_text_of machine count (selected vm changes)))) → Begins (IsCustodyText vm) config trace old new
-begins_custody vm None trace old new machine count changes h taken = tt
-begins_custody vm (Some config) None old new machine count changes h taken = tt
-begins_custody vm (Some config) (Some trace) old new machine count changes h taken = (custody_text_of machine count (selected vm changes), taken.0, (machine, count, changes, h.0, h.1, refl), taken.1)
+pub begins_custody : (form : CustodyForm) (vm : Option ℕ) (config trace old new : Option (List ℕ)) (machine : Configuration) (count : ℕ) (told : List Event) → IfSome config (λ text. config_in text ≡ Ok machine) → IsCustodyTold machine trace count told
+    → ((text : List ℕ) × (n : ℕ) × IsAccount form vm machine count told text × Appends old new (take n text)) → Begins (IsCustodyText form vm) config trace old new
+begins_custody form vm None trace old new machine count told read h given = tt
+begins_custody form vm (Some config) None old new machine count told read h given = tt
+begins_custody form vm (Some config) (Some trace) old new machine count told read h given = (given.0, given.1, (machine, count, told, read, h, given.2), given.3)
 
 cut_first : (xs ys : List ℕ) (n : ℕ) → (m : ℕ) × (take n xs ≡ take m (xs ++ ys))
 cut_first xs ys n =

@@ -1,33 +1,51 @@
 -- What the engine of custody writes of what its sources held.
-use Rattle.std.specs.Prelude.{◌≡◌, ℕ, List, length, Option, Some, None, Ok}
+use Rattle.std.specs.Prelude.{◌≡◌, ◌≤◌, ℕ, List, length, Option, Some, IfSome, Ok}
+use Rattle.kc_types.specs.Limits.{call_limit}
 use Rattle.kc_types.specs.Configuration.{Configuration}
 use Rattle.kc_types.specs.declared.call.Call.{Call}
-use Rattle.kc_types.specs.declared.custody.Change.{Change}
+use Rattle.kc_types.specs.declared.custody.Event.{Event}
+use Rattle.kc_model.specs.State.{State}
 use Rattle.kc_model.specs.Boot.{boot}
 use Rattle.kc_model.specs.Safety.{IsSafe}
 use Rattle.kc_model.specs.Custody.{custody}
 use Rattle.kc_model.specs.CustodyLaws.{IsCustody}
+use Rattle.kc_model.specs.Events.{events, changes_in}
+use Rattle.kc_model.specs.Lives.{lives, selected_lives}
+use Rattle.kc_model.specs.Bars.{AreBars}
 use Rattle.kc_custody.specs.Selected.{selected}
 use Rattle.kc_trace.specs.ConfigText.{config_in}
 use Rattle.kc_trace.specs.Trace.{IsTrace}
 use Rattle.kc_trace.specs.CustodyText.{custody_text_of}
+use Rattle.kc_trace.specs.SummaryText.{summary_text_of}
+use Rattle.kc_cli.specs.declared.account.CustodyForm.{CustodyForm}
+use Rattle.kc_cli.specs.declared.account.CustodyForm.TheVariants.{Changes, Summary, Picture}
 
--- the changes are those that the trace's calls make, one after another, from the boot state of the configuration, and what every trace keeps holds of them, and what their custody says
-pub record IsCustodyTold (config : Configuration) (trace_text : List ℕ) (count : ℕ) (changes : List Change) : Type 0 where
+-- the events are those of the calls that the source's text holds, where it tells the text
+pub record AreEventsOf (m : State) (source : Option (List ℕ)) (count : ℕ) (told : List Event) : Type 0 where
   pub calls : List Call
-  pub traced : IsTrace trace_text calls
+  pub traced : IfSome source (λ text. IsTrace text calls)
   pub counted : count ≡ length calls
-  pub told : changes ≡ custody (boot config) calls
+  pub few : length calls ≤ call_limit
+  pub told : told ≡ events m calls
+
+-- the same from the boot state of a configuration: the changes among them are the custody of the calls, and what every trace keeps holds of these, and what their custody and its bars say
+pub record IsCustodyTold (config : Configuration) (source : Option (List ℕ)) (count : ℕ) (told : List Event) : Type 0 where
+  pub calls : List Call
+  pub traced : IfSome source (λ text. IsTrace text calls)
+  pub counted : count ≡ length calls
+  pub told : told ≡ events (boot config) calls
+  pub changes : changes_in told ≡ custody (boot config) calls
   pub safe : IsSafe (boot config) calls
   pub laws : IsCustody (boot config) calls
+  pub bars : AreBars (boot config) calls
 
--- the same for what the sources held, where they tell it
-abbrev pub IsCustodyToldOf : Option (List ℕ) → Option (List ℕ) → Configuration → ℕ → List Change → Type 0
-IsCustodyToldOf None trace config count changes = Unit {0}
-IsCustodyToldOf (Some config_text) None config count changes = Unit {0}
-IsCustodyToldOf (Some config_text) (Some trace_text) config count changes = (config_in config_text ≡ Ok config) × IsCustodyTold config trace_text count changes
+-- the text is that of the changes of all frames and slots, or of one slot's VM; that of the lives of all VMs, or of one slot's; or a picture, of whose bytes nothing is said
+abbrev pub IsAccount : CustodyForm → Option ℕ → Configuration → ℕ → List Event → List ℕ → Type 0
+IsAccount Changes vm config count told text = text ≡ custody_text_of config count (selected vm (changes_in told))
+IsAccount Summary vm config count told text = text ≡ summary_text_of config count (selected_lives vm (lives told))
+IsAccount Picture vm config count told text = Unit {0}
 
--- the text is that of the changes of all frames and slots, or of one slot's VM
-abbrev pub IsCustodyText : Option ℕ → List ℕ → List ℕ → List ℕ → Type 0
-IsCustodyText vm config_text trace_text text =
-    (config : Configuration) × (count : ℕ) × (changes : List Change) × (config_in config_text ≡ Ok config) × IsCustodyTold config trace_text count changes × (text ≡ custody_text_of config count (selected vm changes))
+-- the text is made of the events of the trace in the configuration
+abbrev pub IsCustodyText : CustodyForm → Option ℕ → List ℕ → List ℕ → List ℕ → Type 0
+IsCustodyText form vm config_text trace_text text =
+    (config : Configuration) × (count : ℕ) × (told : List Event) × (config_in config_text ≡ Ok config) × IsCustodyTold config (Some trace_text) count told × IsAccount form vm config count told text

@@ -2,6 +2,7 @@
 //! beside them, what the program is asked, reads and writes.
 #![tactic(auto)]
 
+mod account;
 mod custody;
 mod dumping;
 mod engine;
@@ -10,6 +11,7 @@ mod live;
 mod making;
 mod replaying;
 
+pub use account::CustodyForm;
 pub use custody::custody_text;
 pub use dumping::dump_text;
 pub use engine::replay_text;

@@ -8,10 +8,9 @@ use Rattle.std.proofs.lemmas.Bool.{le-ltb, lt-leb}
 use Rattle.kc_model.specs.State.{State, mapped_at}
 use Rattle.kc_custody.specs.Movable.{mapped_in}
 use Rattle.kc_types.specs.declared.custody.FrameChange.{FrameChange}
-use Rattle.kc_types.specs.declared.custody.Change.{Change}
-use Rattle.kc_types.specs.declared.custody.Change.TheVariants as change
+use Rattle.kc_types.specs.declared.custody.Event.{Event}
 use Rattle.kc_core.proofs.Measuring.{range-more}
-use Rattle.kc_custody.specs.Marks.{settled, differs}
+use Rattle.kc_custody.specs.Marks.{settled, differs, frame_event}
 
 one-of : (at : Option ℕ) → cons_option at [] ≡ option_to_list at
 one-of None = refl
@@ -23,27 +22,27 @@ ranged-more get g n = ap (filter_map get) (range-more g n) ∙ filter_map-append
 
 -- one mark more is compared
 pub settled-more : (new : State) (marks : List FrameChange) (i : ℕ) (mark : FrameChange) → i < length marks → mark ≡ get_or marks i mark
-    → map change.Frame (filter differs (map (settled new) (take (i + 1) marks))) ≡ map change.Frame (filter differs (map (settled new) (take i marks))) ++ cond (differs (settled new mark)) (change.Frame (settled new mark) ∷ []) []
+    → map frame_event (filter differs (map (settled new) (take (i + 1) marks))) ≡ map frame_event (filter differs (map (settled new) (take i marks))) ++ cond (differs (settled new mark)) (frame_event (settled new mark) ∷ []) []
 settled-more new marks i mark lt is =
     let last : take (i + 1) marks ≡ take i marks ++ mark ∷ [] = take_more marks i mark lt ∙ ap (λ x. take i marks ++ x ∷ []) (sym is) in
-    ap (λ xs. map change.Frame (filter differs (map (settled new) xs))) last
-    ∙ ap (λ xs. map change.Frame (filter differs xs)) (map_push (settled new) (take i marks) mark)
-    ∙ ap (map change.Frame) (filter-append differs (map (settled new) (take i marks)) (settled new mark ∷ []))
-    ∙ map-append change.Frame (filter differs (map (settled new) (take i marks))) (cond (differs (settled new mark)) (settled new mark ∷ []) [])
-    ∙ ap (λ (xs : List Change). map change.Frame (filter differs (map (settled new) (take i marks))) ++ xs) (one-or-none (differs (settled new mark)) (settled new mark))
+    ap (λ xs. map frame_event (filter differs (map (settled new) xs))) last
+    ∙ ap (λ xs. map frame_event (filter differs xs)) (map_push (settled new) (take i marks) mark)
+    ∙ ap (map frame_event) (filter-append differs (map (settled new) (take i marks)) (settled new mark ∷ []))
+    ∙ map-append frame_event (filter differs (map (settled new) (take i marks))) (cond (differs (settled new mark)) (settled new mark ∷ []) [])
+    ∙ ap (λ (xs : List Event). map frame_event (filter differs (map (settled new) (take i marks))) ++ xs) (one-or-none (differs (settled new mark)) (settled new mark))
   where
-    one-or-none : (b : Bool) (told : FrameChange) → map change.Frame (cond b (told ∷ []) []) ≡ cond b (change.Frame told ∷ []) []
+    one-or-none : (b : Bool) (told : FrameChange) → map frame_event (cond b (told ∷ []) []) ≡ cond b (frame_event told ∷ []) []
     one-or-none true told = refl
     one-or-none false told = refl
 
 -- it differs, or not
-pub told-one : (told fn before : List Change) (change : Change) (b : Bool) → b ≡ true → told ≡ (fn ++ before) ++ change ∷ [] → told ≡ fn ++ (before ++ cond b (change ∷ []) [])
-told-one told fn before change true is e = e ∙ append_assoc fn before (change ∷ [])
-told-one told fn before change false is e = cc
+pub told-one : (told fn before : List Event) (made : Event) (b : Bool) → b ≡ true → told ≡ (fn ++ before) ++ made ∷ [] → told ≡ fn ++ (before ++ cond b (made ∷ []) [])
+told-one told fn before made true is e = e ∙ append_assoc fn before (made ∷ [])
+told-one told fn before made false is e = cc
 
-pub told-none : (fn before : List Change) (change : Change) (b : Bool) → b ≡ false → fn ++ before ≡ fn ++ (before ++ cond b (change ∷ []) [])
-told-none fn before change false none = ap (λ xs. fn ++ xs) (sym (append-nil before))
-told-none fn before change true none = cc
+pub told-none : (fn before : List Event) (made : Event) (b : Bool) → b ≡ false → fn ++ before ≡ fn ++ (before ++ cond b (made ∷ []) [])
+told-none fn before made false none = ap (λ xs. fn ++ xs) (sym (append-nil before))
+told-none fn before made true none = cc
 
 untested : (a b : Bool) (xs : List ℕ) → a ≡ false → b ≡ false → xs ≡ cond (a || b) [] xs
 untested false false xs x y = refl

@@ -3,7 +3,7 @@ use Rattle.std.proofs.Common.{ℕ, zero, suc, ◌≡◌, ◌<◌, ◌≤◌, ◌
 use Rattle.std.specs.List.{range_with_len}
 use Rattle.std.proofs.lemmas.Bool.{cases_eq, cases_Bool, or_cases, or_from, ne_eqb, eqb-true}
 use Rattle.kc_model.specs.Resources.{is_in}
-use Rattle.kc_custody.specs.Rising.{IsRisingFrom}
+use Rattle.kc_custody.proofs.Ordered.{IsRisingFrom}
 
 -- a list that rises from a number has none below it
 pub absent-below : (low : ℕ) (xs : List ℕ) (f : ℕ) → IsRisingFrom low xs → f < low → is_in xs f ≡ false

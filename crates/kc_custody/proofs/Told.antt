@@ -14,7 +14,7 @@ use Rattle.kc_model.proofs.States.Sizes.{sized-next}
 use Rattle.kc_model.proofs.Custody.Same.{not-moved}
 use Rattle.kc_custody.specs.Movable.{movable}
 use Rattle.kc_custody.specs.Marks.{mark_of, settled, differs}
-use Rattle.kc_custody.specs.Rising.{IsRisingFrom}
+use Rattle.kc_custody.proofs.Ordered.{IsRisingFrom}
 use Rattle.kc_custody.proofs.Moved.{stays}
 use Rattle.kc_custody.proofs.Ranges.{filter-range}
 

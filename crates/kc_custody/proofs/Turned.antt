@@ -11,22 +11,21 @@ use Rattle.kc_types.specs.declared.slot.Phase.{Phase}
 use Rattle.kc_types.specs.declared.slot.Phase.TheVariants.{Empty}
 use Rattle.kc_types.specs.declared.custody.MeasuredImage.{MeasuredImage}
 use Rattle.kc_types.specs.declared.custody.PhaseChange.{PhaseChange}
-use Rattle.kc_types.specs.declared.custody.Change.TheVariants as change
 use Rattle.kc_model.specs.State.{State, Slot, slot_at, with_slot, empty_slot}
 use Rattle.kc_model.specs.Lawful.{IsLawful}
 use Rattle.kc_model.specs.Refusals.{refusal, next_gfn, pending}
 use Rattle.kc_model.specs.Effects.{effect, host_takes, hand, guest_read, guest_written, verified, all_trimmed, first_failing, is_approved}
 use Rattle.kc_model.specs.Next.{next, unless_refused}
 use Rattle.kc_model.specs.Resources.{is_in}
-use Rattle.kc_model.specs.Custody.{same_phase, has_turned, phase_change, phase_changes_by, images_for, measured_images}
+use Rattle.kc_model.specs.Custody.{same_phase, has_turned, phase_change, phase_changes_by, images_for, measured_images, images_unless, images_by}
 use Rattle.kc_model.proofs.States.Frames.{part-set}
 use Rattle.kc_model.proofs.States.Sizes.{sized-next}
 use Rattle.kc_model.proofs.States.Slots.{slot-past}
 use Rattle.kc_model.proofs.Safe.Measured.{set-here}
 use Rattle.kc_model.proofs.Lawful.Verifies.{slots-trimmed, verify-served}
 use Rattle.kc_model.proofs.Custody.Same.{not-turned}
-use Rattle.kc_custody.specs.Marks.{turning, phase_mark, phase_told, MeasuredBy}
-use Rattle.kc_custody.specs.Rising.{IsRisingFrom}
+use Rattle.kc_custody.specs.Marks.{turning, phase_mark, phase_told, phase_event}
+use Rattle.kc_custody.proofs.Ordered.{IsRisingFrom}
 use Rattle.kc_custody.proofs.Moved.{not-first}
 use Rattle.kc_custody.proofs.Ranges.{filter-range}
 
@@ -124,7 +123,7 @@ measured m w (Some i) is low images =
 ImagesFit : State → State → ℕ → List MeasuredImage → Type 0
 ImagesFit m new v images = has_turned m new v ≡ true → images ≡ images_for (phase_of new v) (measured_images m v)
 
-fit-effect : (m : State) (call : Call) (v : ℕ) (images : List MeasuredImage) → IsLawful m → refusal m call ≡ None → MeasuredBy m call images → turning call ≡ Some v → images ≡ images_for (phase_of (effect m call).1 v) (measured_images m v)
+fit-effect : (m : State) (call : Call) (v : ℕ) (images : List MeasuredImage) → IsLawful m → refusal m call ≡ None → images ≡ images_by m call → turning call ≡ Some v → images ≡ images_for (phase_of (effect m call).1 v) (measured_images m v)
 fit-effect m (RegisterVm w) v images is served none turns =
     let same : w ≡ v = cc in
     subst (λ k. images ≡ images_for (phase_of (effect m (RegisterVm w)).1 k) (measured_images m k)) same
@@ -135,7 +134,7 @@ fit-effect m (RegisterVm w) v images is served none turns =
 fit-effect m (Verify w) v images is served measures turns =
     let same : w ≡ v = cc in
     subst (λ k. images ≡ images_for (phase_of (effect m (Verify w)).1 k) (measured_images m k)) same
-    (measures served ∙ measured m w (first_failing (is_approved m w) (slot_at m w).images) is (verify-served m w served).0 (measured_images m w))
+    (measures ∙ ap (λ refused. images_unless refused (measured_images m w)) served ∙ measured m w (first_failing (is_approved m w) (slot_at m w).images) is (verify-served m w served).0 (measured_images m w))
 fit-effect m (Clear w) v images is served none turns =
     let same : w ≡ v = cc in
     subst (λ k. images ≡ images_for (phase_of (effect m (Clear w)).1 k) (measured_images m k)) same
@@ -145,22 +144,22 @@ fit-effect m (Clear w) v images is served none turns =
     ])
 fit-effect m _ v images is served none turns = cc
 
-fit-unless : (refused : Option Refusal) (m : State) (call : Call) (v : ℕ) (images : List MeasuredImage) → IsLawful m → refusal m call ≡ refused → MeasuredBy m call images → turning call ≡ Some v → ImagesFit m (unless_refused refused m call).1 v images
+fit-unless : (refused : Option Refusal) (m : State) (call : Call) (v : ℕ) (images : List MeasuredImage) → IsLawful m → refusal m call ≡ refused → images ≡ images_by m call → turning call ≡ Some v → ImagesFit m (unless_refused refused m call).1 v images
 unfolding ImagesFit
 fit-unless None m call v images is served measures turns turned = fit-effect m call v images is served measures turns
 fit-unless (Some r) m call v images is refused measures turns turned = let still = not-turned m m v refl in absurd cc
 
-fit : (m : State) (call : Call) (v : ℕ) (images : List MeasuredImage) → IsLawful m → MeasuredBy m call images → turning call ≡ Some v → ImagesFit m (next m call).1 v images
+fit : (m : State) (call : Call) (v : ℕ) (images : List MeasuredImage) → IsLawful m → images ≡ images_by m call → turning call ≡ Some v → ImagesFit m (next m call).1 v images
 unfolding next
 fit m call v images is measures turns = fit-unless (refusal m call) m call v images is refl measures turns
 
 -- one slot that turned is told, and one that did not is not
-one-told : (same : Bool) (told : PhaseChange) (change_of : ℕ → PhaseChange) (v : ℕ) → (not same ≡ true → told ≡ change_of v) → cond same [] (change.Phase told ∷ []) ≡ map change.Phase (map change_of (cond (not same) (v ∷ []) []))
+one-told : (same : Bool) (told : PhaseChange) (change_of : ℕ → PhaseChange) (v : ℕ) → (not same ≡ true → told ≡ change_of v) → cond same [] (phase_event told ∷ []) ≡ map phase_event (map change_of (cond (not same) (v ∷ []) []))
 one-told true told change_of v is = refl
-one-told false told change_of v is = ap (λ t. change.Phase t ∷ []) (is refl)
+one-told false told change_of v is = ap (λ t. phase_event t ∷ []) (is refl)
 
 told-at : (line : ℕ) (m new : State) (images : List MeasuredImage) (at : Option ℕ) → ((v : ℕ) → at ≡ Some v → ImagesFit m new v images)
-    → phase_told new images (option_map (phase_mark line m) at) ≡ map change.Phase (map (phase_change line m new) (filter (has_turned m new) (option_to_list at)))
+    → phase_told new images (option_map (phase_mark line m) at) ≡ map phase_event (map (phase_change line m new) (filter (has_turned m new) (option_to_list at)))
 unfolding ImagesFit
 told-at line m new images None fits = refl
 told-at line m new images (Some v) fits =
@@ -172,12 +171,12 @@ rising-one None = tt
 rising-one (Some v) = (omega arith, tt)
 
 -- what is told of the slot whose phase a call may change is what the call changed of all slots
-pub phases-told : (line : ℕ) (m : State) (call : Call) (images : List MeasuredImage) → IsLawful m → MeasuredBy m call images
-    → phase_told (next m call).1 images (option_map (phase_mark line m) (turning call)) ≡ map change.Phase (phase_changes_by line m (next m call).1)
+pub phases-told : (line : ℕ) (m : State) (call : Call) (images : List MeasuredImage) → IsLawful m → images ≡ images_by m call
+    → phase_told (next m call).1 images (option_map (phase_mark line m) (turning call)) ≡ map phase_event (phase_changes_by line m (next m call).1)
 phases-told line m call images is measures =
     let new = (next m call).1 in
     told-at line m new images (turning call) (λ v turns. fit m call v images is measures turns)
-    ∙ ap (λ vs. map change.Phase (map (phase_change line m new) vs)) (sym (filter-range (has_turned m new) 0 (slot_count m.config) (option_to_list (turning call)) (rising-one (turning call)) (λ v low turned.
+    ∙ ap (λ vs. map phase_event (map (phase_change line m new) vs)) (sym (filter-range (has_turned m new) 0 (slot_count m.config) (option_to_list (turning call)) (rising-one (turning call)) (λ v low turned.
     let at = turned-among m call v is turned in
     let lt = at.0 in
     (omega (arith, lt), at.1))))

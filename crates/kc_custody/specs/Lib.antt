@@ -1,4 +1,3 @@
 pub mod Movable
-pub mod Rising
 pub mod Marks
 pub mod Selected

@@ -1,15 +1,27 @@
 -- What is noted of frames and of a slot before a call, to be compared after it.
-use Rattle.std.specs.Prelude.{ℕ, ◌≡◌, Bool, not, List, [], ◌∷◌, Option, Some, None, if◌then◌else◌}
+use Rattle.std.specs.Prelude.{ℕ, Bool, not, List, [], ◌∷◌, map, Option, Some, None, if◌then◌else◌}
+use Rattle.std.specs.Option.{option_to_list}
 use Rattle.kc_types.specs.declared.call.Call.{Call}
-use Rattle.kc_types.specs.declared.call.Call.TheVariants.{RegisterVm, Verify, Clear}
+use Rattle.kc_types.specs.declared.call.Call.TheVariants.{HostRead, HostWrite, RegisterVm, Verify, Clear}
+use Rattle.kc_types.specs.declared.reply.Reply.{Reply}
+use Rattle.kc_types.specs.declared.reply.Reply.TheVariants as reply
+use Rattle.kc_types.specs.declared.owner.Owner.{Owner}
+use Rattle.kc_types.specs.declared.owner.Owner.TheVariants.{Vm}
 use Rattle.kc_types.specs.declared.custody.FrameChange.{FrameChange}
 use Rattle.kc_types.specs.declared.custody.PhaseChange.{PhaseChange}
 use Rattle.kc_types.specs.declared.custody.MeasuredImage.{MeasuredImage}
-use Rattle.kc_types.specs.declared.custody.Change.{Change}
 use Rattle.kc_types.specs.declared.custody.Change.TheVariants as change
-use Rattle.kc_model.specs.State.{State, slot_at}
-use Rattle.kc_model.specs.Refusals.{refusal}
-use Rattle.kc_model.specs.Custody.{custody_at, same_custody, same_phase, measured_images}
+use Rattle.kc_types.specs.declared.custody.Event.{Event}
+use Rattle.kc_types.specs.declared.custody.Event.TheVariants as event
+use Rattle.kc_model.specs.State.{State, frame_at, slot_at}
+use Rattle.kc_model.specs.Custody.{custody_at, same_custody, same_phase}
+
+-- changes as events
+abbrev pub frame_event : FrameChange → Event
+frame_event told = event.Change (change.Frame told)
+
+abbrev pub phase_event : PhaseChange → Event
+phase_event told = event.Change (change.Phase told)
 
 -- the frame's custody, twice
 abbrev pub mark_of : ℕ → State → ℕ → FrameChange
@@ -34,12 +46,23 @@ abbrev pub phase_mark : ℕ → State → ℕ → PhaseChange
 phase_mark line m v = record { line = line; vm = v; phase = (slot_at m v).phase; images = [] }
 
 -- the mark as a change, where the slot's phase is another afterwards
-abbrev pub phase_told : State → List MeasuredImage → Option PhaseChange → List Change
+abbrev pub phase_told : State → List MeasuredImage → Option PhaseChange → List Event
 phase_told new images None = []
 phase_told new images (Some mark) =
-    if same_phase mark.phase (slot_at new mark.vm).phase then [] else change.Phase (record mark { phase = (slot_at new mark.vm).phase; images = images }) ∷ []
+    if same_phase mark.phase (slot_at new mark.vm).phase then [] else phase_event (record mark { phase = (slot_at new mark.vm).phase; images = images }) ∷ []
 
--- the images that a call measures: of `verify` where it is not refused, the slot's, and else none
-abbrev pub MeasuredBy : State → Call → List MeasuredImage → Type 0
-MeasuredBy m (Verify v) images = refusal m (Verify v) ≡ None → images ≡ measured_images m v
-MeasuredBy m _ images = images ≡ []
+abbrev pub vm_of : Owner → Option ℕ
+vm_of (Vm v) = Some v
+vm_of _ = None
+
+-- the VM whose frame the host reads or writes
+abbrev pub accessed : State → Call → Option ℕ
+accessed m (HostRead f off len) = vm_of (frame_at m f).owner
+accessed m (HostWrite f off bytes) = vm_of (frame_at m f).owner
+accessed m _ = None
+
+-- the host's read or write of this VM's frame, where its reply says that it was served
+abbrev pub access_told : Call → Option ℕ → Reply → List Event
+access_told (HostRead f off len) vm (reply.Data bytes) = map event.Read (option_to_list vm)
+access_told (HostWrite f off bytes) vm reply.Done = map event.Write (option_to_list vm)
+access_told _ vm _ = []

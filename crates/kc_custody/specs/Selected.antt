@@ -1,13 +1,10 @@
 -- The changes of one VM.
-use Rattle.std.specs.Prelude.{ℕ, Bool, false, ◌||◌, ◌==◌, List, filter, Option, Some, None}
-use Rattle.kc_types.specs.declared.owner.Owner.{Owner}
-use Rattle.kc_types.specs.declared.owner.Owner.TheVariants.{Vm}
+use Rattle.std.specs.Prelude.{ℕ, Bool, true, false, ◌||◌, ◌==◌, List, filter, Option, Some, None}
 use Rattle.kc_types.specs.declared.custody.Change.{Change}
 use Rattle.kc_types.specs.declared.custody.Change.TheVariants as change
-
-abbrev pub is_owned_by : ℕ → Owner → Bool
-is_owned_by v (Vm w) = w == v
-is_owned_by v _ = false
+use Rattle.kc_types.specs.declared.custody.Event.{Event}
+use Rattle.kc_types.specs.declared.custody.Event.TheVariants as event
+use Rattle.kc_model.specs.Lives.{is_owned_by}
 
 -- a change of a slot is its VM's, and one of a frame is the VM's that owns it before or after it
 abbrev pub is_for : ℕ → Change → Bool
@@ -18,3 +15,9 @@ is_for v (change.Phase told) = told.vm == v
 abbrev pub selected : Option ℕ → List Change → List Change
 selected None changes = changes
 selected (Some v) changes = filter (is_for v) changes
+
+-- an event that is a change, of one slot where one is named
+abbrev pub is_selected : Option ℕ → Event → Bool
+is_selected None (event.Change told) = true
+is_selected (Some v) (event.Change told) = is_for v told
+is_selected vm _ = false

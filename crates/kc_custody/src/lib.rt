@@ -3,7 +3,6 @@
 
 mod look_ups;
 mod movable;
-mod rising;
 mod selected;
 mod telling;
 

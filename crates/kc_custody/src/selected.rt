@@ -1,8 +1,11 @@
 //! The changes of one VM.
-ghost use Rattle.std.specs.Prelude.{◌≡◌};
-ghost use Rattle.kc_custody.specs.Selected.{is_owned_by, is_for, selected};
+ghost use Rattle.std.specs.Prelude.{◌≡◌, map};
+ghost use Rattle.kc_types.specs.declared.custody.Event.TheVariants as event;
+ghost use Rattle.kc_model.specs.Events.{changes_in};
+ghost use Rattle.kc_model.specs.Lives.{is_owned_by};
+ghost use Rattle.kc_custody.specs.Selected.{is_for, is_selected, selected};
 
-use kc_types::{Change, Owner};
+use kc_types::{Change, Event, Owner};
 
 fn is_owned_by(owner: Owner, vm: u32) -> bool
     ensures { result ≡ is_owned_by vm owner }
@@ -25,11 +28,22 @@ fn is_for(change: &Change, vm: u32) -> bool
     }
 }
 
-/// Leaves the changes of one slot alone, where one is named, in their order.
-pub fn select(changes: &mut Vec<Change>, vm: Option<u32>)
-    ensures { changes.new.items ≡ selected vm changes.old.items }
+/// Whether it is a change, of this slot where one is named.
+fn is_selected(event: &Event, vm: Option<u32>) -> bool
+    ensures { result ≡ is_selected vm event.now }
 {
-    if let Some(vm) = vm {
-        changes.retain(|change| is_for(change, vm));
+    match event {
+        Event::Change(change) => match vm {
+            Some(vm) => is_for(change, vm),
+            None => true,
+        },
+        Event::Read { .. } | Event::Write { .. } => false,
     }
+}
+
+/// Leaves the changes alone, of one slot where one is named, in their order.
+pub fn select(events: &mut Vec<Event>, vm: Option<u32>)
+    ensures { events.new.items ≡ map event.Change (selected vm (changes_in events.old.items)) }
+{
+    events.retain(|event| is_selected(event, vm));
 }

@@ -1,20 +1,19 @@
-//! The changes of a call, and of calls in order.
+//! The events of a call, and of calls in order.
 ghost use Rattle.std.specs.Prelude.{◌≡◌, ◌≤◌, ◌+◌, ◌^◌, ◌++◌, ◌<◌, length, map, filter, vec_len, vec_capacity, IfOk, IfSome, OnOk, OnErr, None, option_map};
 ghost use Rattle.kc_types.specs.declared.call.Call.TheVariants.{Verify};
-ghost use Rattle.kc_types.specs.declared.custody.Change.TheVariants.{Frame as a_frame};
-ghost use Rattle.kc_model.specs.Refusals.{refusal};
 ghost use Rattle.kc_model.specs.Next.{next, state_after};
-ghost use Rattle.kc_model.specs.Custody.{changes_by, custody_from, measured_images};
-ghost use Rattle.kc_custody.specs.Marks.{mark_of, settled, differs, turning, phase_mark, phase_told, MeasuredBy};
+ghost use Rattle.kc_model.specs.Custody.{images_by};
+ghost use Rattle.kc_model.specs.Events.{events_by, events_from};
+ghost use Rattle.kc_custody.specs.Marks.{mark_of, settled, differs, frame_event, turning, phase_mark, phase_told, vm_of, accessed, access_told};
 
 use crate::look_ups::{custody_at, phase_at, same_custody, same_phase};
 use crate::movable::movable;
-use crate::rising::put_in_order;
 use arrayvec::ArrayVec;
 use kc_core::KCore;
+use kc_parts::sort_once;
 use kc_types::{
-    Call, Change, FrameChange, IMAGE_LIMIT, MeasuredImage, MeasuredImages, Memory, PhaseChange,
-    Reply,
+    Call, Change, Event, FrameChange, IMAGE_LIMIT, MeasuredImage, MeasuredImages, Memory, Owner,
+    PhaseChange, Reply,
 };
 use std::alloc::Global;
 
@@ -25,6 +24,15 @@ fn turning(call: &Call) -> Option<u32>
     match call {
         Call::RegisterVm { vm } | Call::Verify { vm } | Call::Clear { vm } => Some(*vm),
         _ => None,
+    }
+}
+
+fn vm_of(owner: Owner) -> Option<u32>
+    ensures { result ≡ vm_of owner }
+{
+    match owner {
+        Owner::Vm(vm) => Some(vm.index() as u32),
+        Owner::Core | Owner::Host | Owner::Free => None,
     }
 }
 
@@ -71,10 +79,39 @@ fn phase_mark(
     }))
 }
 
+/// The VM whose frame the host reads or writes.
+fn accessed(core: &KCore, call: &Call) -> Option<u32>
+    ensures { result ≡ accessed core.now call.now }
+{
+    match call {
+        Call::HostRead { frame, .. } | Call::HostWrite { frame, .. } => vm_of(
+            custody_at(core, *frame).owner,
+        ),
+        _ => None,
+    }
+}
+
+/// Tells of the host's read or write of this VM's frame, where it was served. There is room for it.
+fn tell_access(call: &Call, vm: Option<u32>, reply: &Reply, told: &mut Vec<Event>)
+    requires { vec_len told.old + 1 ≤ vec_capacity told.old }
+    ensures items { told.new.items ≡ told.old.items ++ access_told call.now vm reply.now }
+    ensures len { vec_len told.new ≤ vec_len told.old + 1 }
+    ensures capacity { vec_capacity told.old ≤ vec_capacity told.new }
+{
+    let Some(vm) = vm else {
+        return;
+    };
+    match (call, reply) {
+        (Call::HostRead { .. }, Reply::Data(_)) => told.push(Event::Read { vm }).unwrap(),
+        (Call::HostWrite { .. }, Reply::Done) => told.push(Event::Write { vm }).unwrap(),
+        _ => (),
+    }
+}
+
 /// Tells of each mark whose frame's custody differs now. There is room for all of them.
-fn tell_frames(core: &KCore, marks: &[FrameChange], told: &mut Vec<Change>)
+fn tell_frames(core: &KCore, marks: &[FrameChange], told: &mut Vec<Event>)
     requires { vec_len told.old + length marks.now ≤ vec_capacity told.old }
-    ensures items { told.new.items ≡ told.old.items ++ map a_frame (filter differs (map (settled core.now) marks.now)) }
+    ensures items { told.new.items ≡ told.old.items ++ map frame_event (filter differs (map (settled core.now) marks.now)) }
     ensures len { vec_len told.new ≤ vec_len told.old + length marks.now }
     ensures capacity { vec_capacity told.old ≤ vec_capacity told.new }
 {
@@ -84,7 +121,7 @@ fn tell_frames(core: &KCore, marks: &[FrameChange], told: &mut Vec<Change>)
             ..*mark
         };
         if !same_custody(&change.before, &change.after) {
-            told.push(Change::Frame(change)).unwrap();
+            told.push(Event::Change(Change::Frame(change))).unwrap();
         }
     }
 }
@@ -94,7 +131,7 @@ fn tell_phase(
     core: &KCore,
     mark: Option<PhaseChange>,
     images: ArrayVec<MeasuredImage, IMAGE_LIMIT>,
-    told: &mut Vec<Change>,
+    told: &mut Vec<Event>,
 )
     requires { vec_len told.old + 1 ≤ vec_capacity told.old }
     ensures { told.new.items ≡ told.old.items ++ phase_told core.now images.items mark }
@@ -106,7 +143,7 @@ fn tell_phase(
     if !same_phase(change.phase, phase) {
         change.phase = phase;
         change.images.set(images);
-        told.push(Change::Phase(change)).unwrap();
+        told.push(Event::Change(Change::Phase(change))).unwrap();
     }
 }
 
@@ -116,7 +153,7 @@ fn make(
     call: &Call,
 ) -> Result<(Reply, ArrayVec<MeasuredImage, IMAGE_LIMIT>), Memory>
     ensures reply { IfOk result (λ made. made.0 ≡ (next core.old call.now).0) }
-    ensures images { IfOk result (λ made. MeasuredBy core.old call.now made.1.items) }
+    ensures images { IfOk result (λ made. made.1.items ≡ images_by core.old call.now) }
     ensures state { OnOk result (core.new ≡ (next core.old call.now).1) }
     ensures err { OnErr result (core.new ≡ core.old) }
 {
@@ -129,42 +166,44 @@ fn make(
     }
 }
 
-/// Makes a call, and adds the changes of custody that it makes; the call has this line in its trace. `Memory` where a
-/// growth was refused, and then neither core nor changes are other than before.
+/// Makes a call, and adds its events; the call has this line in its trace. `Memory` where a growth was refused, and then
+/// neither core nor events are other than before.
 pub fn tell_call(
     alloc: Global,
     core: &mut KCore,
     call: &Call,
     line: u32,
-    told: &mut Vec<Change>,
+    told: &mut Vec<Event>,
 ) -> Result<Reply, Memory>
     ensures reply { IfOk result (λ reply. reply ≡ (next core.old call.now).0) }
     ensures state { OnOk result (core.new ≡ (next core.old call.now).1) }
-    ensures told { OnOk result (told.new.items ≡ told.old.items ++ changes_by line core.old core.new) }
+    ensures told { OnOk result (told.new.items ≡ told.old.items ++ events_by line core.old call.now) }
     ensures err { OnErr result ((core.new ≡ core.old) × (told.new.items ≡ told.old.items)) }
 {
     let mut frames = movable(alloc, core, call)?;
-    put_in_order(&mut frames);
+    sort_once(&mut frames);
     let marks = marks_of(alloc, core, line, &frames)?;
     let mark = phase_mark(alloc, core, line, call)?;
-    told.reserve(marks.len() + 1)?;
+    let accessed = accessed(core, call);
+    told.reserve(marks.len() + 2)?;
     let (reply, images) = make(core, call)?;
+    tell_access(call, accessed, &reply, told);
     tell_frames(core, &marks, told);
     tell_phase(core, mark, images, told);
     Ok(reply)
 }
 
-/// Makes some calls in order, of which the first has this line in the trace, and adds their changes of custody. After
-/// `Memory`, where a growth was refused, some calls are done.
+/// Makes some calls in order, of which the first has this line in the trace, and adds their events. After `Memory`, where
+/// a growth was refused, some calls are done.
 pub fn tell_calls(
     alloc: Global,
     core: &mut KCore,
     calls: &[Call],
     first: u32,
-    told: &mut Vec<Change>,
+    told: &mut Vec<Event>,
 ) -> Result<(), Memory>
     requires { first + length calls.now < 2 ^ 32 }
-    ensures told { OnOk result (told.new.items ≡ told.old.items ++ custody_from first core.old calls.now) }
+    ensures told { OnOk result (told.new.items ≡ told.old.items ++ events_from first core.old calls.now) }
     ensures state { OnOk result (core.new ≡ state_after core.old calls.now) }
 {
     for (i, call) in calls.iter().enumerate() {

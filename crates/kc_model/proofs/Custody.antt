@@ -7,5 +7,8 @@ pub mod Phases
 pub mod Active
 pub mod Approved
 pub mod Tells
+pub mod Ordered
+pub mod Bars
 pub mod Runs
+pub mod Events
 pub mod Laws

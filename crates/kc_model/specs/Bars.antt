@@ -1,13 +1,11 @@
 -- Bars: the stretches of lines after whose calls a frame has one custody.
 use Rattle.std.specs.Prelude.{ℕ, ◌≡◌, ◌<◌, ◌≤◌, ◌+◌, Bool, ◌==◌, List, [], ◌∷◌, ◌++◌, map, filter, length, All, if◌then◌else◌}
 use Rattle.std.specs.List.{range_with_len}
-use Rattle.kc_types.specs.Configuration.{Configuration}
 use Rattle.kc_types.specs.declared.call.Call.{Call}
 use Rattle.kc_types.specs.declared.custody.Change.{Change}
 use Rattle.kc_types.specs.declared.custody.Change.TheVariants as change
 use Rattle.kc_types.specs.declared.custody.Bar.{Bar}
 use Rattle.kc_model.specs.State.{State}
-use Rattle.kc_model.specs.Boot.{boot}
 use Rattle.kc_model.specs.Footprints.{state_at}
 use Rattle.kc_model.specs.Custody.{custody, custody_at, first_line}
 

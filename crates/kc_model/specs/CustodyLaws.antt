@@ -1,5 +1,5 @@
 -- What the changes of a trace say of the calls between them.
-use Rattle.std.specs.Prelude.{ℕ, ◌≡◌, ◌<◌, ◌≤◌, ◌+◌, Bool, false, ◌&&◌, ◌==◌, List, length, All, Contains}
+use Rattle.std.specs.Prelude.{ℕ, ◌≡◌, ◌<◌, ◌≤◌, ◌+◌, ◌⊎◌, Bool, false, ◌&&◌, ◌==◌, List, [], ◌∷◌, length, All, Contains}
 use Rattle.std.specs.List.{list_any}
 use Rattle.kc_types.specs.Configuration.{slot_count}
 use Rattle.kc_types.specs.declared.call.Call.{Call}
@@ -128,6 +128,23 @@ IsPhaseTold m calls (change.Phase told) = TellsPhase m calls told
 abbrev pub TellsPhases : State → List Call → Type 0
 TellsPhases m calls = All (IsPhaseTold m calls) (custody m calls)
 
+-- a change is of a frame or a slot that there is, by a call of the trace
+abbrev pub IsWithin : State → List Call → Change → Type 0
+IsWithin m calls (change.Frame told) = (first_line ≤ told.line) × (told.line < first_line + length calls) × (told.frame < m.config.frames)
+IsWithin m calls (change.Phase told) = (first_line ≤ told.line) × (told.line < first_line + length calls) × (told.vm < slot_count m.config)
+
+-- one stands before another by its line, and on one line frames before slots, and both by their numbers
+abbrev pub Precedes : Change → Change → Type 0
+Precedes (change.Frame a) (change.Frame b) = (a.line < b.line) ⊎ ((a.line ≡ b.line) × (a.frame < b.frame))
+Precedes (change.Frame a) (change.Phase b) = a.line ≤ b.line
+Precedes (change.Phase a) (change.Frame b) = a.line < b.line
+Precedes (change.Phase a) (change.Phase b) = (a.line < b.line) ⊎ ((a.line ≡ b.line) × (a.vm < b.vm))
+
+-- each stands before all that come later
+abbrev pub IsInOrder : List Change → Type 0
+IsInOrder [] = Unit {0}
+IsInOrder (told ∷ more) = All (Precedes told) more × IsInOrder more
+
 -- the laws, of every trace from a lawful state
 pub record IsCustody (m : State) (calls : List Call) : Type 0 where
   pub exact : IsExact m calls
@@ -138,3 +155,5 @@ pub record IsCustody (m : State) (calls : List Call) : Type 0 where
   pub exact_for_slots : IsExactForSlots m calls
   pub stays_active : StaysActive m calls
   pub phases : TellsPhases m calls
+  pub within : All (IsWithin m calls) (custody m calls)
+  pub ordered : IsInOrder (custody m calls)

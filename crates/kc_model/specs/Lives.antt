@@ -6,14 +6,13 @@ use Rattle.kc_types.specs.declared.owner.Owner.TheVariants.{Vm}
 use Rattle.kc_types.specs.declared.slot.Phase.{Phase}
 use Rattle.kc_types.specs.declared.slot.Phase.TheVariants.{Empty, Booting, Active, Dead}
 use Rattle.kc_types.specs.declared.custody.MeasuredImage.{MeasuredImage}
-use Rattle.kc_types.specs.declared.custody.Change.{Change}
 use Rattle.kc_types.specs.declared.custody.Change.TheVariants as change
 use Rattle.kc_types.specs.declared.custody.Event.{Event}
 use Rattle.kc_types.specs.declared.custody.Event.TheVariants as event
 use Rattle.kc_types.specs.declared.custody.Sharing.{Sharing}
 use Rattle.kc_types.specs.declared.custody.Life.{Life}
 use Rattle.kc_model.specs.Resources.{is_in}
-use Rattle.kc_model.specs.Custody.{same_phase, images_for}
+use Rattle.kc_model.specs.Custody.{same_phase}
 
 abbrev pub is_owned_by : ℕ → Owner → Bool
 is_owned_by v (Vm w) = w == v

@@ -6,6 +6,7 @@ ghost use Rattle.kc_model.specs.Lawful.{IsLawful};
 ghost use Rattle.kc_model.specs.Safety.{IsSafe};
 ghost use Rattle.kc_model.specs.Blind.{HostIsBlind};
 ghost use Rattle.kc_model.specs.CustodyLaws.{IsCustody};
+ghost use Rattle.kc_model.specs.Bars.{AreBars};
 
 /// Each frame stays in the list of its owner alone; the host is served only at its own frames and at shared ones; a slot
 /// that became active was measured; and the bytes of a private page change only by its VM's own calls.
@@ -26,4 +27,10 @@ pub fn blindness()
 /// images all have approved digests, to the one that tells that it is empty.
 pub fn custody()
     ensures { (m : State) (calls : List Call) → IsLawful m → IsCustody m calls }
+{}
+
+/// The bars of a frame follow one another without gap from a trace's first line to its end, and each tells the custody of its
+/// frame after the call on every line within.
+pub fn bars()
+    ensures { (m : State) (calls : List Call) → IsLawful m → AreBars m calls }
 {}

@@ -14,6 +14,8 @@ mod live_texts;
 #[cfg(test)]
 mod look_ups;
 #[cfg(test)]
+mod pictures;
+#[cfg(test)]
 mod replays;
 #[cfg(test)]
 mod segments;

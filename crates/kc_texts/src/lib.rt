@@ -3,7 +3,7 @@
 #![tactic(auto)]
 
 mod auditing;
-mod changes;
+mod events;
 mod fault;
 mod lines;
 mod mem;

@@ -1,11 +1,18 @@
 -- Text that is appended, piece after piece.
-use Rattle.std.proofs.Common.{ℕ, ◌≡◌, List, ◌++◌, ap, ◌∙◌, append_assoc}
+use Rattle.std.proofs.Common.{ℕ, ◌≡◌, ◌<◌, ◌+◌, List, [], ◌∷◌, ◌++◌, take, length, get_or, sym, ap, ◌∙◌, append_assoc, append-nil}
+use Rattle.std.specs.List.{flat_map}
+use Rattle.std.proofs.lemmas.List.{take_more}
+use Rattle.std.proofs.lemmas.List.Concat.{flat_map-cons}
+use Rattle.std.proofs.lemmas.Grind.{flat_map-append}
 
 -- a piece, and then the rest
 more : (first second last piece rest : List ℕ) → second ≡ first ++ piece → last ≡ second ++ rest → last ≡ first ++ (piece ++ rest)
 more first second last piece rest e h = h ∙ ap (λ xs. xs ++ rest) e ∙ append_assoc first piece rest
 
--- five, seven and eight pieces, one after another
+-- three, five, seven and eight pieces, one after another
+pub three : (t t1 t2 t3 a b c : List ℕ) → t1 ≡ t ++ a → t2 ≡ t1 ++ b → t3 ≡ t2 ++ c → t3 ≡ t ++ (a ++ (b ++ c))
+three t t1 t2 t3 a b c h1 h2 h3 = more t t1 t3 a (b ++ c) h1 (more t1 t2 t3 b c h2 h3)
+
 pub five : (t t1 t2 t3 t4 t5 a b c d e : List ℕ)
     → t1 ≡ t ++ a → t2 ≡ t1 ++ b → t3 ≡ t2 ++ c → t4 ≡ t3 ++ d → t5 ≡ t4 ++ e
     → t5 ≡ t ++ (a ++ (b ++ (c ++ (d ++ e))))
@@ -37,3 +44,13 @@ eight t t1 t2 t3 t4 t5 t6 t7 t8 a b c d e f g h h1 h2 h3 h4 h5 h6 h7 h8 =
     (more t4 t5 t8 e (f ++ (g ++ h)) h5
     (more t5 t6 t8 f (g ++ h) h6
     (more t6 t7 t8 g (h) h7 h8))))))
+
+-- one line more
+pub lines_more : {X : Type 0} (line : X → List ℕ) (front : List ℕ) (n : ℕ) (xs : List X) (x : X) (before after : List ℕ) → n < length xs → x ≡ get_or xs n x
+    → before ≡ front ++ flat_map line (take n xs) → after ≡ before ++ line x → after ≡ front ++ flat_map line (take (n + 1) xs)
+lines_more line front n xs x before after lt is so_far added =
+    more front before after (flat_map line (take n xs)) (line x) so_far added
+    ∙ ap (λ ys. front ++ ys) (ap (λ y. flat_map line (take n xs) ++ line y) is ∙ sym (
+    ap (flat_map line) (take_more xs n x lt)
+    ∙ flat_map-append line (take n xs) (get_or xs n x ∷ [])
+    ∙ ap (λ ys. flat_map line (take n xs) ++ ys) (flat_map-cons line (get_or xs n x) [] ∙ append-nil (line (get_or xs n x)))))

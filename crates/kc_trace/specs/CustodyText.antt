@@ -14,6 +14,8 @@ use Rattle.kc_types.specs.declared.custody.MeasuredImage.{MeasuredImage}
 use Rattle.kc_types.specs.declared.custody.PhaseChange.{PhaseChange}
 use Rattle.kc_types.specs.declared.custody.Change.{Change}
 use Rattle.kc_types.specs.declared.custody.Change.TheVariants as change
+use Rattle.kc_types.specs.declared.custody.Event.{Event}
+use Rattle.kc_types.specs.declared.custody.Event.TheVariants as event
 
 abbrev pub owner_text : Owner → List ℕ
 owner_text Core = codes "\"core\""
@@ -21,9 +23,9 @@ owner_text Host = codes "\"host\""
 owner_text Free = codes "\"free\""
 owner_text (Vm v) = (codes "\"vm" ++ decimal v) ++ codes "\""
 
-abbrev pub gfn_text : Option ℕ → List ℕ
-gfn_text None = codes "null"
-gfn_text (Some g) = decimal g
+abbrev pub number_text : Option ℕ → List ℕ
+number_text None = codes "null"
+number_text (Some n) = decimal n
 
 abbrev pub flag_text : Bool → List ℕ
 flag_text true = codes "true"
@@ -35,7 +37,7 @@ member key number = key ++ decimal number
 
 -- an object with these four keys, in this order
 abbrev pub custody_text : Custody → List ℕ
-custody_text custody = codes "{\"owner\":" ++ (owner_text custody.owner ++ (codes ",\"gfn\":" ++ (gfn_text custody.gfn
+custody_text custody = codes "{\"owner\":" ++ (owner_text custody.owner ++ (codes ",\"gfn\":" ++ (number_text custody.gfn
     ++ (member (codes ",\"share\":") custody.share ++ (codes ",\"present\":" ++ (flag_text custody.present ++ codes "}"))))))
 
 -- the line of a frame's change, with its newline
@@ -71,6 +73,11 @@ abbrev pub change_line : Change → List ℕ
 change_line (change.Frame told) = frame_line told
 change_line (change.Phase told) = phase_line told
 
+-- an event's line: a change's, and none for the host's reads and writes
+abbrev pub event_line : Event → List ℕ
+event_line (event.Change told) = change_line told
+event_line _ = []
+
 -- the first line: the sizes of the core
 abbrev pub header_line : Configuration → List ℕ
 header_line config = member (codes "{\"custody\":1,\"frames\":") config.frames ++ (member (codes ",\"core\":") config.core
@@ -86,13 +93,13 @@ custody_text_of config calls changes = header_line config ++ (flat_map change_li
 
 -- no longer text is made of a custody, an image, four images, and a change
 abbrev pub longest_custody : ℕ
-longest_custody = 80
+longest_custody = 100
 
 abbrev pub longest_image : ℕ
-longest_image = 120
+longest_image = 135
 
 abbrev pub longest_images : ℕ
-longest_images = 500
+longest_images = 550
 
 abbrev pub longest_change : ℕ
 longest_change = 768

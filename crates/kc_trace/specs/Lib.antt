@@ -7,3 +7,4 @@ pub mod ConfigText
 pub mod ConfigValue
 pub mod Faults
 pub mod CustodyText
+pub mod SummaryText

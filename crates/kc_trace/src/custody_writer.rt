@@ -4,7 +4,7 @@ ghost use Rattle.std.specs.List.{flat_map};
 ghost use Rattle.std.specs.Fmt.{decimal};
 ghost use Rattle.kc_types.specs.Limits.{image_limit};
 ghost use Rattle.kc_types.specs.Configuration.{slot_count};
-ghost use Rattle.kc_trace.specs.CustodyText.{owner_text, gfn_text, flag_text, phase_text, custody_text, frame_line, image_text, more_image_text, images_text, phase_line, change_line, header_line, end_line, longest_custody, longest_image, longest_images, longest_change};
+ghost use Rattle.kc_trace.specs.CustodyText.{owner_text, number_text, flag_text, phase_text, custody_text, frame_line, image_text, more_image_text, images_text, phase_line, change_line, header_line, end_line, longest_custody, longest_image, longest_images, longest_change};
 
 use itoa::Buffer;
 use kc_lines::{push_bytes, push_digits};
@@ -16,10 +16,10 @@ use kc_types::{
 pub const LONGEST_CHANGE: usize = 768;
 
 /// Appends some bytes and a number.
-fn push_member(text: &mut Vec<u8>, key: &[u8], number: u32)
-    requires { vec_len text.old + (length key.now + 10) ≤ vec_capacity text.old }
+pub(crate) fn push_member(text: &mut Vec<u8>, key: &[u8], number: usize)
+    requires { vec_len text.old + (length key.now + 20) ≤ vec_capacity text.old }
     ensures items { text.new.items ≡ text.old.items ++ (key.now ++ decimal number) }
-    ensures len { vec_len text.new ≤ vec_len text.old + (length key.now + 10) }
+    ensures len { vec_len text.new ≤ vec_len text.old + (length key.now + 20) }
     ensures capacity { vec_capacity text.old ≤ vec_capacity text.new }
 {
     push_bytes(text, key);
@@ -28,9 +28,9 @@ fn push_member(text: &mut Vec<u8>, key: &[u8], number: u32)
 
 /// Appends an owner's name, as text.
 fn push_owner(text: &mut Vec<u8>, owner: Owner)
-    requires { vec_len text.old + 15 ≤ vec_capacity text.old }
+    requires { vec_len text.old + 25 ≤ vec_capacity text.old }
     ensures items { text.new.items ≡ text.old.items ++ owner_text owner }
-    ensures len { vec_len text.new ≤ vec_len text.old + 15 }
+    ensures len { vec_len text.new ≤ vec_len text.old + 25 }
     ensures capacity { vec_capacity text.old ≤ vec_capacity text.new }
 {
     match owner {
@@ -38,22 +38,35 @@ fn push_owner(text: &mut Vec<u8>, owner: Owner)
         Owner::Host => push_bytes(text, b"\"host\""),
         Owner::Free => push_bytes(text, b"\"free\""),
         Owner::Vm(vm) => {
-            push_member(text, b"\"vm", vm.index() as u32);
+            push_member(text, b"\"vm", vm.index());
             push_bytes(text, b"\"");
         },
     }
 }
 
-/// Appends a guest frame, or `null`.
-fn push_gfn(text: &mut Vec<u8>, gfn: Option<Gfn>)
+/// Appends a number, or `null`.
+pub(crate) fn push_number(text: &mut Vec<u8>, number: Option<u32>)
     requires { vec_len text.old + 10 ≤ vec_capacity text.old }
-    ensures items { text.new.items ≡ text.old.items ++ gfn_text gfn }
+    ensures items { text.new.items ≡ text.old.items ++ number_text number }
+    ensures len { vec_len text.new ≤ vec_len text.old + 10 }
+    ensures capacity { vec_capacity text.old ≤ vec_capacity text.new }
+{
+    match number {
+        Some(number) => push_bytes(text, Buffer::new().format(number).as_bytes()),
+        None => push_bytes(text, b"null"),
+    }
+}
+
+/// Appends a guest frame, or `null`.
+pub(crate) fn push_gfn(text: &mut Vec<u8>, gfn: Option<Gfn>)
+    requires { vec_len text.old + 10 ≤ vec_capacity text.old }
+    ensures items { text.new.items ≡ text.old.items ++ number_text gfn }
     ensures len { vec_len text.new ≤ vec_len text.old + 10 }
     ensures capacity { vec_capacity text.old ≤ vec_capacity text.new }
 {
     match gfn {
-        Some(gfn) => push_bytes(text, Buffer::new().format(gfn.number()).as_bytes()),
-        None => push_bytes(text, b"null"),
+        Some(gfn) => push_number(text, Some(gfn.number())),
+        None => push_number(text, None),
     }
 }
 
@@ -81,7 +94,7 @@ fn push_custody(text: &mut Vec<u8>, custody: &Custody)
     push_owner(text, custody.owner);
     push_bytes(text, b",\"gfn\":");
     push_gfn(text, custody.gfn);
-    push_member(text, b",\"share\":", custody.share);
+    push_member(text, b",\"share\":", custody.share as usize);
     push_bytes(text, b",\"present\":");
     push_flag(text, custody.present);
     push_bytes(text, b"}");
@@ -93,8 +106,8 @@ fn push_frame_change(text: &mut Vec<u8>, change: &FrameChange)
     ensures line { text.new.items ≡ text.old.items ++ frame_line change.now }
     ensures capacity { vec_capacity text.old ≤ vec_capacity text.new }
 {
-    push_member(text, b"{\"line\":", change.line);
-    push_member(text, b",\"frame\":", change.frame);
+    push_member(text, b"{\"line\":", change.line as usize);
+    push_member(text, b",\"frame\":", change.frame as usize);
     push_bytes(text, b",\"from\":");
     push_custody(text, &change.before);
     push_bytes(text, b",\"to\":");
@@ -124,8 +137,8 @@ fn push_image(text: &mut Vec<u8>, image: &MeasuredImage)
     ensures len { vec_len text.new ≤ vec_len text.old + longest_image }
     ensures capacity { vec_capacity text.old ≤ vec_capacity text.new }
 {
-    push_member(text, b"{\"base\":", image.base);
-    push_member(text, b",\"len\":", image.len);
+    push_member(text, b"{\"base\":", image.base as usize);
+    push_member(text, b",\"len\":", image.len as usize);
     push_bytes(text, b",\"sha256\":\"");
     push_digits(text, &image.digest);
     push_bytes(text, b"\"}");
@@ -146,7 +159,7 @@ fn push_more_images(text: &mut Vec<u8>, images: &[MeasuredImage])
 }
 
 /// Appends images as objects with a comma between two, at most 4.
-fn push_images(text: &mut Vec<u8>, images: &[MeasuredImage])
+pub(crate) fn push_images(text: &mut Vec<u8>, images: &[MeasuredImage])
     requires few { length images.now ≤ image_limit }
     requires room { vec_len text.old + longest_images ≤ vec_capacity text.old }
     ensures items { text.new.items ≡ text.old.items ++ images_text images.now }
@@ -165,8 +178,8 @@ fn push_phase_change(text: &mut Vec<u8>, change: &PhaseChange)
     ensures line { text.new.items ≡ text.old.items ++ phase_line change.now }
     ensures capacity { vec_capacity text.old ≤ vec_capacity text.new }
 {
-    push_member(text, b"{\"line\":", change.line);
-    push_member(text, b",\"vm\":", change.vm);
+    push_member(text, b"{\"line\":", change.line as usize);
+    push_member(text, b",\"vm\":", change.vm as usize);
     push_bytes(text, b",\"phase\":");
     push_phase(text, change.phase);
     push_bytes(text, b",\"images\":[");
@@ -192,22 +205,15 @@ pub fn push_custody_header(text: &mut Vec<u8>, config: &Config)
     ensures line { text.new.items ≡ text.old.items ++ header_line config.now }
     ensures capacity { vec_capacity text.old ≤ vec_capacity text.new }
 {
-    push_member(text, b"{\"custody\":1,\"frames\":", config.frames());
-    push_member(text, b",\"core\":", config.core());
-    push_member(text, b",\"host\":", config.host());
-    push_member(text, b",\"slots\":", config.slots());
+    push_member(
+        text,
+        b"{\"custody\":1,\"frames\":",
+        config.frames() as usize,
+    );
+    push_member(text, b",\"core\":", config.core() as usize);
+    push_member(text, b",\"host\":", config.host() as usize);
+    push_member(text, b",\"slots\":", config.slots() as usize);
     push_bytes(text, b"}\n");
-}
-
-/// Appends some bytes and a count.
-fn push_count(text: &mut Vec<u8>, key: &[u8], count: usize)
-    requires { vec_len text.old + (length key.now + 20) ≤ vec_capacity text.old }
-    ensures items { text.new.items ≡ text.old.items ++ (key.now ++ decimal count) }
-    ensures len { vec_len text.new ≤ vec_len text.old + (length key.now + 20) }
-    ensures capacity { vec_capacity text.old ≤ vec_capacity text.new }
-{
-    push_bytes(text, key);
-    push_bytes(text, Buffer::new().format(count).as_bytes());
 }
 
 /// Appends the last line, with its newline: how many calls the trace has, and how many lines of changes the text.
@@ -216,7 +222,7 @@ pub fn push_custody_end(text: &mut Vec<u8>, calls: usize, lines: usize)
     ensures line { text.new.items ≡ text.old.items ++ end_line calls lines }
     ensures capacity { vec_capacity text.old ≤ vec_capacity text.new }
 {
-    push_count(text, b"{\"calls\":", calls);
-    push_count(text, b",\"lines\":", lines);
+    push_member(text, b"{\"calls\":", calls);
+    push_member(text, b",\"lines\":", lines);
     push_bytes(text, b"}\n");
 }

@@ -9,6 +9,7 @@ pub mod laws;
 mod line;
 mod reader;
 mod reply_writer;
+mod summary_writer;
 mod writer;
 
 pub use config_text::{ConfigTextFault, read_config};
@@ -17,4 +18,5 @@ pub use fault::TraceFault;
 pub use line::call_of_line;
 pub use reader::{TraceReader, read_trace};
 pub use reply_writer::{LONGEST_REPLY, push_reply, write_replies};
+pub use summary_writer::summary_text;
 pub use writer::{LONGEST_CALL, push_call, push_header, version_of, write_trace};

@@ -7,7 +7,7 @@ mod explaining;
 
 use crate::explaining::{Reading, explain_open, explain_words};
 use kc_cli::{
-    ArgFault, DEFAULT_CONFIG, Job, Mem, Source, Std, TextFault, audit_text, custody_text,
+    ArgFault, CustodyForm, DEFAULT_CONFIG, Job, Mem, Source, Std, TextFault, audit_text, custody_text,
     dump_text, job_of, live_text, replay_text, tell,
 };
 use kc_explain::{Noted, Shown};
@@ -29,9 +29,12 @@ enum Wanted {
     Dump,
     /// The trace of a live run of it.
     History,
-    /// The changes of custody, of one slot's VM alone where it is named.
-    Custody(Option<u32>),
+    /// What happened to frames and slots, of one slot's VM alone where it is named.
+    Custody(CustodyForm, Option<u32>),
 }
+
+/// What is said where both flags for the form of custody stand among the words, as the command says such things.
+const TWO_FORMS: &str = "error: the argument '--summary' cannot be used with '--svg'\n\nUsage: kcore custody [OPTIONS]\n\nFor more information, try '--help'.\n";
 
 /// What is to be done with the trace on standard input.
 #[derive(Clone, Copy)]
@@ -102,7 +105,9 @@ fn run_in<C: Source, R: Threads + Wait + Sync>(
             order.workers,
             &OpenGate,
         ),
-        Wanted::Custody(vm) => custody_text(threads, alloc, config, trace, &mut out, vm),
+        Wanted::Custody(form, vm) => {
+            custody_text(threads, alloc, config, trace, &mut out, form, vm)
+        },
     }
 }
 
@@ -208,6 +213,16 @@ fn refuse_words(rt: &HostRuntime, error: &Error) -> u8 {
     2
 }
 
+/// What is written of custody, by two flags; nothing where both stand among the words.
+fn form_of(summary: bool, svg: bool) -> Option<CustodyForm> {
+    match (summary, svg) {
+        (false, false) => Some(CustodyForm::Changes),
+        (true, false) => Some(CustodyForm::Summary),
+        (false, true) => Some(CustodyForm::Picture),
+        (true, true) => None,
+    }
+}
+
 fn run_job<R: Threads + Wait + Sync>(rt: &HostRuntime, threads: &R, job: Job<'_>) -> u8 {
     match job {
         Job::Replay {
@@ -240,12 +255,18 @@ fn run_job<R: Threads + Wait + Sync>(rt: &HostRuntime, threads: &R, job: Job<'_>
         Job::Custody {
             config,
             vm,
+            summary,
+            svg,
             explain,
         } => {
+            let Some(form) = form_of(summary, svg) else {
+                let _ = rt.eprint(TWO_FORMS);
+                return 2;
+            };
             let order = Order {
                 config,
                 workers: 1,
-                wanted: Wanted::Custody(vm),
+                wanted: Wanted::Custody(form, vm),
                 explain,
             };
             run_trace(rt, threads, order)

@@ -10,6 +10,7 @@ use Rattle.kc_model.proofs.Custody.Private.{private}
 use Rattle.kc_model.proofs.Custody.Active.{active}
 use Rattle.kc_model.proofs.Custody.Phases.{stays_active}
 use Rattle.kc_model.proofs.Custody.Tells.{tells_frames, tells_phases}
+use Rattle.kc_model.proofs.Custody.Ordered.{within, ordered}
 
 pub custody_is : (m : State) (calls : List Call) → IsLawful m → IsCustody m calls
 custody_is m calls is = record {
@@ -21,4 +22,6 @@ custody_is m calls is = record {
   exact_for_slots = exact_for_slots m calls;
   stays_active = stays_active m calls is;
   phases = tells_phases m calls;
+  within = within m calls;
+  ordered = ordered m calls;
 }

@@ -18,7 +18,7 @@ use Rattle.kc_model.proofs.Footprints.Reaches.{config-at}
 use Rattle.kc_model.proofs.Custody.Approved.{all_approved}
 
 -- what holds of the changes by each call holds of the changes by all
-each-call : (P : Change → Type 0) (n : ℕ) (m : State) (calls : List Call) → ((k : ℕ) → k < length calls → All P (changes_by (n + k) (state_at m calls k) (state_at m calls (suc k)))) → All P (custody_from n m calls)
+pub each-call : (P : Change → Type 0) (n : ℕ) (m : State) (calls : List Call) → ((k : ℕ) → k < length calls → All P (changes_by (n + k) (state_at m calls k) (state_at m calls (suc k)))) → All P (custody_from n m calls)
 each-call P n m [] each = All-nil P
 each-call P n m (call ∷ calls) each =
     let here : n + 0 ≡ n = omega arith in

@@ -1,12 +1,12 @@
 use Rattle.kc_model.proofs.States.Runs.{state_after-more}
-use Rattle.kc_model.proofs.Custody.Runs.{calls-told}
+use Rattle.kc_custody.proofs.Runs.{calls-told}
 use Rattle.kc_custody.proofs.telling.tell_calls.Goals as goal
 
 pub loop-i-preserved : goal.loop-i-preserved
 loop-i-preserved c =
     let step = state_after-more c.args.core.now c.args.calls.now c.loop-i.i c.index-calls-i.result c.loop-i-test.true c.index-calls-i.is in
     record {
-      told = calls-told c.args.first c.args.core.now c.loop-i.core c.tell_call.new.core c.args.calls.now c.loop-i.i c.index-calls-i.result c.args.told.now.items c.loop-i.told.items _ c.loop-i-test.true c.index-calls-i.is
-          c.loop-i.invariant.told c.loop-i.invariant.state c.in_ok-tell_call.ensures.state c.in_ok-tell_call.ensures.told;
+      told = calls-told c.args.first c.args.core.now c.loop-i.core c.args.calls.now c.loop-i.i c.index-calls-i.result c.args.told.now.items c.loop-i.told.items _ c.loop-i-test.true c.index-calls-i.is
+          c.loop-i.invariant.told c.loop-i.invariant.state c.in_ok-tell_call.ensures.told;
       state = rw (step, ← c.loop-i.invariant.state) c.in_ok-tell_call.ensures.state;
     }

@@ -1,7 +1,6 @@
 use Rattle.std.proofs.Common.{◌≡◌, ◌+◌, not, vec_len, sym, ap, ◌∙◌, arith}
-use Rattle.kc_types.specs.declared.custody.Change.TheVariants as change
 use Rattle.kc_model.specs.Custody.{same_custody, custody_at}
-use Rattle.kc_custody.specs.Marks.{settled, differs}
+use Rattle.kc_custody.specs.Marks.{settled, differs, frame_event}
 use Rattle.kc_custody.proofs.Pushed.{settled-more, told-one, told-none}
 use Rattle.kc_custody.proofs.telling.tell_frames.Goals as goal
 use Rattle.kc_custody.proofs.telling.tell_frames.Goals.{then-not-same_custody, else-not-same_custody}
@@ -21,13 +20,13 @@ loop-mark-preserved c =
           let longer : vec_len w.push.new.self ≡ vec_len c.loop-mark.told + 1 = rw w.unwrap.ensures at w.push.ensures.len in
           let kept = w.push.ensures.capacity in
           rw w.told-is record {
-            told = rw next (told-one _ _ _ (change.Frame (settled new mark)) (differs (settled new mark)) (ap not (sym test ∙ w.if-not-same_custody.true)) pushed);
+            told = rw next (told-one _ _ _ (frame_event (settled new mark)) (differs (settled new mark)) (ap not (sym test ∙ w.if-not-same_custody.true)) pushed);
             len = omega (arith, len, longer);
             capacity = omega (arith, capacity, kept);
           }
       | else-not-same_custody w ↦
           rw w.told-is record {
-            told = rw (next, before) (told-none _ _ (change.Frame (settled new mark)) (differs (settled new mark)) (ap not (sym test ∙ w.if-not-same_custody.false)));
+            told = rw (next, before) (told-none _ _ (frame_event (settled new mark)) (differs (settled new mark)) (ap not (sym test ∙ w.if-not-same_custody.false)));
             len = omega (arith, len);
             capacity = capacity;
           }

@@ -1,0 +1,178 @@
+//! What is written of the events of a trace: every change, an object for each life of a VM, or a picture.
+ghost use Rattle.std.specs.Prelude.{◌≡◌, ◌<◌, ◌≤◌, ◌+◌, ◌^◌, ◌++◌, ◌⊎◌, ℕ, List, All, map, length, take, false, is_err, vec_capacity, IfOk, IfErr, OnOk, OnErr};
+ghost use Rattle.std.specs.List.{flat_map};
+ghost use Rattle.std.specs.Io.KnownBytes.{Appends};
+ghost use Rattle.kc_types.specs.Limits.{call_limit};
+ghost use Rattle.kc_model.specs.Events.{changes_in};
+ghost use Rattle.kc_model.specs.Lives.{lives, selected_lives};
+ghost use Rattle.kc_summary.specs.Within.{IsWithin};
+ghost use Rattle.kc_picture.specs.Frames.{IsIn};
+ghost use Rattle.kc_custody.specs.Selected.{selected};
+ghost use Rattle.kc_trace.specs.CustodyText.{event_line, custody_text_of};
+ghost use Rattle.kc_trace.specs.SummaryText.{summary_text_of};
+ghost use Rattle.kc_texts.specs.Lines.{longest_with_newline};
+ghost use Rattle.kc_texts.specs.Outcomes.{TellsSink};
+ghost use Rattle.kc_cli.specs.Custody.{IsAccount};
+
+use kc_custody::select;
+use kc_picture::{bars, picture};
+use kc_summary::{lives, select_lives};
+use kc_texts::{Failed, Sink, TextFault, empty_piece, give_lines, write_whole};
+use kc_trace::{push_custody_end, push_custody_header, summary_text};
+use kc_types::{Config, Event, Memory};
+use std::alloc::Global;
+
+/// The line of a trace's first call: its header is line 1.
+pub(crate) const FIRST_LINE: u32 = 2;
+
+/// What is written of what happened.
+#[derive(Clone, Copy, Debug, PartialEq, Eq)]
+pub enum CustodyForm {
+    /// Every change of a frame or slot, a line each.
+    Changes,
+    /// Each life of a VM, a line each.
+    Summary,
+    /// A picture, SVG 1.1.
+    Picture,
+}
+
+/// What was told of a trace.
+#[derive(Drop)]
+pub(crate) struct Told {
+    /// What the core was started with.
+    pub config: Config,
+    /// How many calls the trace has.
+    pub calls: usize,
+    pub events: Vec<Event>,
+}
+
+/// Gives a sink what stands in the piece, then the lines of some events, and then an end: memory does not grow. After an
+/// `Err` the sink has taken a beginning of it.
+fn give_text<K: Sink>(
+    out: &mut K,
+    piece: Vec<u8>,
+    events: &[Event],
+    end: &[u8],
+) -> Result<(), Failed>
+    requires out { K.failed out.old ≡ false }
+    requires room { longest_with_newline ≤ vec_capacity piece }
+    ensures ok { OnOk result (Appends (K.taken out.old) (K.taken out.new) (piece.items ++ (flat_map event_line events.now ++ end.now))) }
+    ensures begun { OnErr result ((n : ℕ) × Appends (K.taken out.old) (K.taken out.new) (take n (piece.items ++ (flat_map event_line events.now ++ end.now)))) }
+    ensures mark { K.failed out.new ≡ is_err result }
+{
+    give_lines(out, piece, events)?;
+    write_whole(out, end)
+}
+
+/// Gives every change.
+fn give_changes<K: Sink>(
+    alloc: Global,
+    told: Told,
+    vm: Option<u32>,
+    out: &mut K,
+) -> Result<(), TextFault>
+    requires { K.failed out.old ≡ false }
+    ensures ok { OnOk result (Appends (K.taken out.old) (K.taken out.new) (custody_text_of told.config told.calls (selected vm (changes_in told.events.items)))) }
+    ensures sink { TellsSink (K.failed out.new) ((n : ℕ) × Appends (K.taken out.old) (K.taken out.new) (take n (custody_text_of told.config told.calls (selected vm (changes_in told.events.items))))) (out.new ≡ out.old) result }
+    ensures fault { IfErr result (λ fault. (fault ≡ TextFault.Memory) ⊎ (fault ≡ TextFault.Write)) }
+{
+    let Told {
+        config,
+        calls,
+        mut events,
+    } = told;
+    select(&mut events, vm);
+    // All memory that writing takes is there before the first byte is written.
+    let (Ok(mut piece), Ok(mut end)) = (empty_piece(alloc), empty_piece(alloc)) else {
+        return Err(TextFault::Memory);
+    };
+    push_custody_header(&mut piece, &config);
+    push_custody_end(&mut end, calls, events.len());
+    match give_text(out, piece, &events, &end) {
+        Ok(()) => Ok(()),
+        Err(_) => Err(TextFault::Write),
+    }
+}
+
+/// Gives a text that was made whole, or says that memory was refused to it.
+fn give_made<K: Sink>(text: Result<Vec<u8>, Memory>, out: &mut K) -> Result<(), TextFault>
+    requires { K.failed out.old ≡ false }
+    ensures ok { OnOk result (IfOk text (λ text. Appends (K.taken out.old) (K.taken out.new) text.items)) }
+    ensures sink { TellsSink (K.failed out.new) (IfOk text (λ text. (n : ℕ) × Appends (K.taken out.old) (K.taken out.new) (take n text.items))) (out.new ≡ out.old) result }
+    ensures fault { IfErr result (λ fault. (fault ≡ TextFault.Memory) ⊎ (fault ≡ TextFault.Write)) }
+{
+    let Ok(text) = text else {
+        return Err(TextFault::Memory);
+    };
+    match write_whole(out, &text) {
+        Ok(()) => Ok(()),
+        Err(_) => Err(TextFault::Write),
+    }
+}
+
+/// The summary of some events.
+fn summary_of(
+    alloc: Global,
+    config: &Config,
+    calls: usize,
+    events: Vec<Event>,
+    vm: Option<u32>,
+) -> Result<Vec<u8>, Memory>
+    requires { All (IsWithin config.now.frames) events.items }
+    ensures { IfOk result (λ text. text.items ≡ summary_text_of config.now calls (selected_lives vm (lives events.items))) }
+{
+    let mut lives = lives(alloc, config.frames(), events)?;
+    select_lives(&mut lives, vm);
+    summary_text(alloc, config, calls, &lives)
+}
+
+/// The picture of some events.
+fn picture_of(
+    alloc: Global,
+    config: &Config,
+    calls: usize,
+    events: &[Event],
+    vm: Option<u32>,
+) -> Result<Vec<u8>, Memory>
+    requires few { calls ≤ call_limit }
+    requires within { All (IsIn config.now.frames) (changes_in events.now) }
+{
+    let bars = bars(alloc, config, FIRST_LINE + calls as u32, events)?;
+    picture(alloc, config, calls, events, &bars, vm)
+}
+
+/// Gives what was told in this form, of one slot's VM alone where one is named.
+pub(crate) fn give_told<K: Sink>(
+    alloc: Global,
+    told: Told,
+    form: CustodyForm,
+    vm: Option<u32>,
+    out: &mut K,
+) -> Result<(), TextFault>
+    requires out { K.failed out.old ≡ false }
+    requires few { told.calls ≤ call_limit }
+    requires within { All (IsWithin told.config.frames) told.events.items }
+    ensures ok { OnOk result ((text : List ℕ) × IsAccount form vm told.config told.calls told.events.items text × Appends (K.taken out.old) (K.taken out.new) text) }
+    ensures sink { TellsSink (K.failed out.new) ((text : List ℕ) × (n : ℕ) × IsAccount form vm told.config told.calls told.events.items text × Appends (K.taken out.old) (K.taken out.new) (take n text)) (out.new ≡ out.old) result }
+    ensures fault { IfErr result (λ fault. (fault ≡ TextFault.Memory) ⊎ (fault ≡ TextFault.Write)) }
+{
+    match form {
+        CustodyForm::Changes => give_changes(alloc, told, vm, out),
+        CustodyForm::Summary => {
+            let Told {
+                config,
+                calls,
+                events,
+            } = told;
+            give_made(summary_of(alloc, &config, calls, events, vm), out)
+        },
+        CustodyForm::Picture => {
+            let Told {
+                config,
+                calls,
+                events,
+            } = told;
+            give_made(picture_of(alloc, &config, calls, &events, vm), out)
+        },
+    }
+}

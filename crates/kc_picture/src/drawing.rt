@@ -1,0 +1,344 @@
+//! The whole picture: lanes of VMs above, frames below, an axis and a legend.
+use crate::colour::{CORE, Colour, EDGE, FAINT, FREE, HOST, INK, SEVERAL};
+use crate::lane_drawing::{LanePlace, draw_lane};
+use crate::scale::{LEFT, PLOT, Scale, nice};
+use crate::svg::{Area, Style, Svg, WIDTH};
+use crate::vms::{Lane, lanes_of};
+use crate::words::{Counted, Grouped};
+use crate::{cells, exact};
+use kc_types::{Bar, Config, Event, Memory};
+use std::alloc::Global;
+
+/// As many frames as are drawn bar by bar.
+const EXACT_FRAMES: u64 = 64;
+/// As many calls as are drawn bar by bar.
+const EXACT_LINES: u64 = 2_001;
+
+/// Whether each stretch of each frame has a bar of its own.
+fn is_exact(frames: u64, scale: Scale) -> bool {
+    frames <= EXACT_FRAMES && scale.last <= EXACT_LINES
+}
+
+/// The height of a lane among so many.
+fn lane_height(lanes: u64) -> u64 {
+    if lanes <= 6 {
+        3_600
+    } else if lanes <= 20 {
+        2_600
+    } else {
+        1_600
+    }
+}
+
+/// From above to below: where each part of a picture begins.
+#[derive(Clone, Copy)]
+struct Layout {
+    lanes: u64,
+    lane_height: u64,
+    frames: u64,
+    axis: u64,
+    legend: u64,
+    height: u64,
+}
+
+/// The height of all frames.
+fn frames_height(frames: u64, scale: Scale) -> u64 {
+    if is_exact(frames, scale) {
+        frames.saturating_mul(exact::row_height(frames))
+    } else {
+        let rows = cells::rows_of(frames);
+        rows.saturating_mul(cells::row_height(rows))
+    }
+}
+
+fn layout_of(lanes: u64, frames: u64, scale: Scale) -> Layout {
+    let lane_height = lane_height(lanes);
+    let first = if lanes > 0 { 5_800u64 } else { 2_200 };
+    let behind = first.saturating_add(lanes.saturating_mul(lane_height));
+    let below = behind.saturating_add(2_800);
+    let axis = below
+        .saturating_add(frames_height(frames, scale))
+        .saturating_add(400);
+    let legend = axis.saturating_add(4_600);
+    Layout {
+        lanes: first,
+        lane_height,
+        frames: below,
+        axis,
+        legend,
+        height: legend.saturating_add(2_600),
+    }
+}
+
+/// Whether a VM has a lane: each to which something happened, or the one that is named alone.
+fn has_lane(lane: &Lane, slot: u32, vm: Option<u32>) -> bool {
+    let named = match vm {
+        Some(vm) => slot == vm,
+        None => true,
+    };
+    named && lane.is_used()
+}
+
+/// How many lanes there are, of how many VMs, and the most frames of one.
+#[derive(Clone, Copy)]
+struct Extent {
+    used: u64,
+    lanes: u64,
+    top: u64,
+}
+
+fn extent_of(lanes: &[Lane], vm: Option<u32>) -> Extent {
+    let mut extent = Extent {
+        used: 0,
+        lanes: 0,
+        top: 0,
+    };
+    let mut slot = 0u32;
+    for lane in lanes {
+        if lane.is_used() {
+            extent.used = extent.used.saturating_add(1);
+        }
+        if has_lane(lane, slot, vm) {
+            extent.lanes = extent.lanes.saturating_add(1);
+            extent.top = extent.top.max(lane.most());
+        }
+        slot = slot.saturating_add(1);
+    }
+    extent
+}
+
+fn title_of(
+    alloc: Global,
+    frames: u64,
+    calls: usize,
+    used: u64,
+    vm: Option<u32>,
+) -> Result<String, Memory> {
+    let frames = Counted(frames, "frame");
+    let calls = Counted(calls as u64, "call");
+    let vms = Counted(used, "VM");
+    let mut title = format!(in alloc; "Custody of {frames} of 4,096 bytes through {calls}, {vms}")?;
+    if let Some(vm) = vm {
+        write!(title, ": vm {vm} alone")?;
+    }
+    Ok(title)
+}
+
+/// Writes the heading of the lanes, and at the right what their height stands for.
+fn head_lanes(svg: &mut Svg, top: u64, vm: Option<u32>) -> Result<(), Memory> {
+    let heading = match vm {
+        Some(vm) => format!(in svg.alloc();
+            "Frames of vm {vm}, and of them shared with the host (hatched)"
+        )?,
+        None => format!(in svg.alloc();
+            "Frames of each VM, and of them shared with the host (hatched)"
+        )?,
+    };
+    svg.words(&Style::plain(800, 4_600, 12).bold(), &heading)?;
+    let highest = Counted(top, "frame");
+    let words = match vm {
+        Some(_) => format!(in svg.alloc(); "at most {highest}")?,
+        None => format!(in svg.alloc(); "highest lane: {highest}")?,
+    };
+    svg.words(
+        &Style::plain(LEFT + PLOT, 4_600, 10).colour(FAINT).end(),
+        &words,
+    )
+}
+
+fn draw_lanes(
+    svg: &mut Svg,
+    scale: Scale,
+    layout: &Layout,
+    lanes: &[Lane],
+    vm: Option<u32>,
+    top: u64,
+) -> Result<(), Memory> {
+    let height = layout.lane_height;
+    let mut place = LanePlace {
+        base: layout.lanes.saturating_add(height).saturating_sub(400),
+        height: height.saturating_sub(if height > 3_000 { 1_200 } else { 700 }),
+        top,
+        roomy: height > 3_000 && scale.last <= EXACT_LINES,
+    };
+    let mut slot = 0u32;
+    for lane in lanes {
+        if has_lane(lane, slot, vm) {
+            draw_lane(svg, scale, &place, slot, lane)?;
+            place.base = place.base.saturating_add(height);
+        }
+        slot = slot.saturating_add(1);
+    }
+    Ok(())
+}
+
+/// Draws a mark of the axis with its line.
+fn draw_mark(svg: &mut Svg, scale: Scale, axis: u64, line: u32) -> Result<(), Memory> {
+    let x = scale.x(line);
+    let mark = Area {
+        x,
+        y: axis,
+        width: 80,
+        height: 400,
+    };
+    svg.rect(&mark, FAINT)?;
+    let words = format!(in svg.alloc(); "{line}")?;
+    let style = Style::plain(x, axis.saturating_add(1_500), 10).colour(FAINT);
+    svg.words(&style.middle(), &words)
+}
+
+/// Draws the axis: marks at the first line and at round ones.
+fn draw_axis(svg: &mut Svg, scale: Scale, axis: u64) -> Result<(), Memory> {
+    let step = nice(scale.last, 12);
+    draw_mark(svg, scale, axis, 1)?;
+    for i in 1..13u64 {
+        let line = step.saturating_mul(i);
+        if line > 1 && line <= scale.last && line <= 4_000_000_000 {
+            draw_mark(svg, scale, axis, line as u32)?;
+        }
+    }
+    let style = Style::plain(LEFT + PLOT / 2, axis.saturating_add(3_000), 11).colour(FAINT);
+    svg.words(&style.middle(), "line of the trace (its header is line 1)")
+}
+
+/// How a legend shows what its words say.
+#[derive(Clone, Copy, PartialEq, Eq)]
+enum Sample {
+    Plain(Colour),
+    Shared,
+    Vms,
+    Reached,
+    Underlined,
+}
+
+fn draw_sample(svg: &mut Svg, x: u64, y: u64, sample: Sample) -> Result<(), Memory> {
+    let area = Area {
+        x,
+        y,
+        width: 1_400,
+        height: 1_100,
+    };
+    match sample {
+        Sample::Plain(colour) => svg.edged(&area, colour, EDGE),
+        Sample::Shared => {
+            svg.rect(&area, Colour::of_vm(0))?;
+            svg.hatched(&area)
+        },
+        Sample::Vms => draw_hues(svg, x, y),
+        Sample::Reached => {
+            svg.rect(&area, HOST)?;
+            let foot = Area {
+                y: y.saturating_add(850),
+                height: 250,
+                ..area
+            };
+            svg.rect(&foot, INK)
+        },
+        Sample::Underlined => {
+            svg.rect(&area, Colour::of_vm(0).paler(50))?;
+            let foot = Area {
+                y: y.saturating_add(980),
+                height: 120,
+                ..area
+            };
+            svg.rect(&foot, INK)
+        },
+    }
+}
+
+/// The colours of the first slots, side by side.
+fn draw_hues(svg: &mut Svg, x: u64, y: u64) -> Result<(), Memory> {
+    for vm in 0..4u32 {
+        let area = Area {
+            x: x.saturating_add(u64::from(vm) * 350),
+            y,
+            width: 350,
+            height: 1_100,
+        };
+        svg.rect(&area, Colour::of_vm(vm))?;
+    }
+    Ok(())
+}
+
+/// Draws a sample and its words, and says where the next one begins.
+fn draw_entry(svg: &mut Svg, x: u64, y: u64, sample: Sample, words: &str) -> Result<u64, Memory> {
+    draw_sample(svg, x, y, sample)?;
+    svg.words(
+        &Style::plain(x.saturating_add(1_900), y.saturating_add(1_000), 11),
+        words,
+    )?;
+    let width = 590u64.saturating_mul(words.len() as u64);
+    Ok(x.saturating_add(3_800).saturating_add(width))
+}
+
+/// The first entries: whose the colours are.
+fn draw_owners(svg: &mut Svg, y: u64, lanes: u64, vm: Option<u32>) -> Result<u64, Memory> {
+    if let Some(vm) = vm {
+        let x = draw_entry(svg, LEFT, y, Sample::Plain(Colour::of_vm(vm)), "the VM's")?;
+        return draw_entry(svg, x, y, Sample::Plain(FREE), "others'");
+    }
+    let x = draw_entry(svg, LEFT, y, Sample::Plain(CORE), "core")?;
+    let x = draw_entry(svg, x, y, Sample::Plain(HOST), "host")?;
+    let x = draw_entry(svg, x, y, Sample::Plain(FREE), "free")?;
+    if lanes > 0 {
+        return draw_entry(svg, x, y, Sample::Vms, "a VM's: the colour of its lane");
+    }
+    Ok(x)
+}
+
+/// Draws what each colour and mark says.
+fn draw_legend(
+    svg: &mut Svg,
+    y: u64,
+    exact: bool,
+    lanes: u64,
+    vm: Option<u32>,
+) -> Result<(), Memory> {
+    let mut x = draw_owners(svg, y, lanes, vm)?;
+    if !exact && lanes > 0 && vm.is_none() {
+        x = draw_entry(svg, x, y, Sample::Plain(SEVERAL), "several VMs'")?;
+    }
+    if lanes > 0 {
+        x = draw_entry(svg, x, y, Sample::Shared, "shared with the host")?;
+    }
+    if exact {
+        draw_entry(svg, x, y, Sample::Reached, "reached by the host")?;
+    } else if lanes > 0 {
+        draw_entry(svg, x, y, Sample::Underlined, "some of it shared")?;
+    }
+    Ok(())
+}
+
+/// The custody of all frames through a trace of so many calls as one text of SVG 1.1, from its events and their bars; of
+/// one VM's alone where its slot is named. `Memory` where a growth was refused.
+pub fn picture(
+    alloc: Global,
+    config: &Config,
+    calls: usize,
+    events: &[Event],
+    bars: &[Bar],
+    vm: Option<u32>,
+) -> Result<Vec<u8>, Memory> {
+    let frames = u64::from(config.frames());
+    let scale = Scale::of_calls(calls);
+    let lanes = lanes_of(alloc, events)?;
+    let extent = extent_of(&lanes, vm);
+    let layout = layout_of(extent.lanes, frames, scale);
+    let title = title_of(alloc, frames, calls, extent.used, vm)?;
+    let mut svg = Svg::open(alloc, layout.height, &title)?;
+    if extent.lanes > 0 {
+        head_lanes(&mut svg, extent.top, vm)?;
+        draw_lanes(&mut svg, scale, &layout, &lanes, vm, extent.top)?;
+    }
+    let heading = Style::plain(800, layout.frames.saturating_sub(800), 12).bold();
+    svg.words(&heading, "Every frame, by number")?;
+    let exact = is_exact(frames, scale);
+    if exact {
+        exact::draw_frames(&mut svg, scale, layout.frames, frames, bars, vm)?;
+    } else {
+        cells::draw_frames(&mut svg, scale, layout.frames, frames, bars, vm)?;
+    }
+    draw_axis(&mut svg, scale, layout.axis)?;
+    draw_legend(&mut svg, layout.legend, exact, extent.lanes, vm)?;
+    svg.close()
+}

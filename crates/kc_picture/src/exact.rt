@@ -1,0 +1,208 @@
+//! Every frame by its number, a bar a stretch.
+use crate::colour::{Colour, FAINT, FREE, INK, LIFE};
+use crate::rows::bars_by_row;
+use crate::scale::{LEFT, PLOT, Scale};
+use crate::svg::{Area, Style, Svg};
+use crate::titles::bar_title;
+use kc_types::{Bar, Custody, Memory, Owner};
+use std::alloc::Global;
+
+/// The height of a row of few frames, with room for names, and of more.
+pub(crate) fn row_height(frames: u64) -> u64 {
+    if frames <= 16 { 2_200 } else { 1_200 }
+}
+
+/// The words on a bar.
+fn bar_name(alloc: Global, custody: &Custody) -> Result<String, Memory> {
+    let mut name = String::new(alloc);
+    match custody.owner {
+        Owner::Core => name.push_str("core")?,
+        Owner::Host => name.push_str("host")?,
+        Owner::Free => name.push_str("free")?,
+        Owner::Vm(vm) => {
+            let vm = vm.index();
+            write!(name, "vm {vm}")?;
+            if let Some(gfn) = custody.gfn {
+                let gfn = gfn.number();
+                write!(name, " @{gfn}")?;
+            }
+            if custody.share > 0 {
+                name.push_str(" shared")?;
+            }
+        },
+    }
+    Ok(name)
+}
+
+/// Whether two bars of a frame have one name.
+fn same_name(a: &Custody, b: &Custody) -> bool {
+    a.owner == b.owner && a.gfn == b.gfn && (a.share > 0) == (b.share > 0)
+}
+
+fn bar_area(scale: Scale, top: u64, height: u64, bar: &Bar) -> Area {
+    let x = scale.x(bar.from);
+    Area {
+        x,
+        y: top.saturating_add(100),
+        width: scale.x(bar.to).saturating_sub(x),
+        height: height.saturating_sub(200),
+    }
+}
+
+/// Draws a bar, without its name.
+fn draw_bar(svg: &mut Svg, area: &Area, bar: &Bar) -> Result<(), Memory> {
+    let title = bar_title(svg.alloc(), bar)?;
+    svg.begin_titled(&title)?;
+    let colour = Colour::of_owner(bar.custody.owner);
+    if bar.custody.owner == Owner::Free {
+        svg.edged(area, FREE, LIFE)?;
+    } else {
+        svg.rect(area, colour)?;
+    }
+    if bar.custody.share > 0 {
+        svg.hatched(area)?;
+    }
+    if bar.custody.present {
+        let foot = Area {
+            y: area.y.saturating_add(area.height).saturating_sub(250),
+            height: 250,
+            ..*area
+        };
+        svg.rect(&foot, INK)?;
+    }
+    svg.end_group()
+}
+
+/// How wide words of this length are, at most.
+fn width_of(words: &str) -> u64 {
+    620u64.saturating_mul(words.len() as u64)
+}
+
+/// The colour of words on a bar.
+fn colour_of_words(custody: &Custody) -> Colour {
+    if custody.share > 0 {
+        INK
+    } else if custody.owner == Owner::Free {
+        FAINT
+    } else if Colour::of_owner(custody.owner).is_dark() {
+        FREE
+    } else {
+        INK
+    }
+}
+
+/// Writes words on a bar, and says whether there was room for them.
+fn write_on(svg: &mut Svg, area: &Area, custody: &Custody, words: &str) -> Result<bool, Memory> {
+    let width = width_of(words);
+    if area.width < width.saturating_add(600) {
+        return Ok(false);
+    }
+    if custody.share > 0 {
+        let ground = Area {
+            x: area.x.saturating_add(200),
+            y: area.y.saturating_add(300),
+            width: width.saturating_add(300),
+            height: area.height.saturating_sub(600),
+        };
+        svg.rect(&ground, FREE)?;
+    }
+    let base = area.y.saturating_add(area.height).saturating_sub(600);
+    let style = Style::plain(area.x.saturating_add(400), base, 10);
+    svg.words(&style.colour(colour_of_words(custody)), words)?;
+    Ok(true)
+}
+
+/// Writes a bar's name on it, where there is room; of one that is shared at least that it is.
+fn name_bar(svg: &mut Svg, area: &Area, bar: &Bar) -> Result<bool, Memory> {
+    let name = bar_name(svg.alloc(), &bar.custody)?;
+    if write_on(svg, area, &bar.custody, &name)? {
+        return Ok(true);
+    }
+    if bar.custody.share > 0 {
+        return write_on(svg, area, &bar.custody, "shared");
+    }
+    Ok(false)
+}
+
+/// Writes the number of a frame beside its row.
+fn name_frame(svg: &mut Svg, frame: u64, top: u64, height: u64) -> Result<(), Memory> {
+    let roomy = height > 1_400;
+    let name = if roomy {
+        format!(in svg.alloc(); "frame {frame}")?
+    } else {
+        format!(in svg.alloc(); "{frame}")?
+    };
+    let base = top
+        .saturating_add(height)
+        .saturating_sub(if roomy { 600 } else { 250 });
+    let style = if roomy {
+        Style::plain(LEFT - 800, base, 11)
+    } else {
+        Style::plain(LEFT - 800, base, 9).colour(FAINT)
+    };
+    svg.words(&style.end(), &name)
+}
+
+/// The whole row of a frame.
+fn row_area(top: u64, height: u64) -> Area {
+    Area {
+        x: LEFT,
+        y: top.saturating_add(100),
+        width: PLOT,
+        height: height.saturating_sub(200),
+    }
+}
+
+/// Draws the bars of one frame, each with its name unless the one before it has the same.
+fn draw_row(
+    svg: &mut Svg,
+    scale: Scale,
+    top: u64,
+    height: u64,
+    bars: &[Bar],
+    row: &[usize],
+) -> Result<(), Memory> {
+    let mut named: Option<Custody> = None;
+    for i in row {
+        if let Some(bar) = bars.get(*i) {
+            let area = bar_area(scale, top, height, bar);
+            draw_bar(svg, &area, bar)?;
+            let again = match &named {
+                Some(before) => same_name(before, &bar.custody),
+                None => false,
+            };
+            if !again {
+                named = None;
+                if height > 1_400 && name_bar(svg, &area, bar)? {
+                    named = Some(bar.custody);
+                }
+            }
+        }
+    }
+    Ok(())
+}
+
+/// Draws all frames from a height on; where a VM is named its bars alone.
+pub(crate) fn draw_frames(
+    svg: &mut Svg,
+    scale: Scale,
+    top: u64,
+    frames: u64,
+    bars: &[Bar],
+    vm: Option<u32>,
+) -> Result<(), Memory> {
+    let height = row_height(frames);
+    let rows = bars_by_row(svg.alloc(), bars, vm, frames, frames)?;
+    let mut at = top;
+    let mut frame = 0u64;
+    for row in &rows {
+        name_frame(svg, frame, at, height)?;
+        if vm.is_some() {
+            svg.edge(&row_area(at, height), LIFE)?;
+        }
+        draw_row(svg, scale, at, height, bars, row)?;
+        at = at.saturating_add(height);
+        frame = frame.saturating_add(1);
+    }
+    Ok(())
+}

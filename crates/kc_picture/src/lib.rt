@@ -1,0 +1,18 @@
+//! The custody of all frames through a trace as a picture.
+#![tactic(auto)]
+
+mod cells;
+mod colour;
+mod drawing;
+mod exact;
+mod lane_drawing;
+mod rows;
+mod scale;
+mod stretches;
+mod svg;
+mod titles;
+mod vms;
+mod words;
+
+pub use drawing::picture;
+pub use stretches::bars;

@@ -1,0 +1,97 @@
+//! The bars of a trace: the stretches of lines after whose calls a frame has one custody.
+ghost use Rattle.std.specs.Prelude.{◌≡◌, ◌<◌, ◌++◌, All, IfOk, reverse};
+ghost use Rattle.kc_model.specs.Boot.{boot, boot_owner};
+ghost use Rattle.kc_model.specs.Custody.{custody_at};
+ghost use Rattle.kc_model.specs.Events.{changes_in};
+ghost use Rattle.kc_model.specs.Bars.{bars, later_bars};
+ghost use Rattle.kc_picture.specs.Frames.{IsIn, AreNextLines, told_in};
+
+use kc_types::{Bar, Change, Config, Custody, Event, FrameChange, Memory, Owner};
+use std::alloc::Global;
+
+/// Who owns a frame at boot.
+fn boot_owner(config: &Config, frame: u32) -> Owner
+    ensures { result ≡ boot_owner config.now frame }
+{
+    let core = config.core();
+    let host = config.host();
+    if frame < core {
+        Owner::Core
+    } else if frame < core + host {
+        Owner::Host
+    } else {
+        Owner::Free
+    }
+}
+
+/// The bar of a frame from the first line up to this one.
+fn first_bar(config: &Config, frame: u32, to: u32) -> Bar
+    requires { frame < config.now.frames }
+    ensures { result ≡ record { frame = frame; custody = custody_at (boot config.now) frame; from = 1; to = to } }
+{
+    let custody = Custody {
+        owner: boot_owner(config, frame),
+        gfn: None,
+        share: 0,
+        present: false,
+    };
+    Bar {
+        frame,
+        custody,
+        from: 1,
+        to,
+    }
+}
+
+/// The change of a frame that an event tells of, if it tells of one.
+fn told_in(event: &Event) -> Option<FrameChange>
+    ensures { result ≡ told_in event.now }
+{
+    match event {
+        Event::Change(Change::Frame(told)) => Some(*told),
+        Event::Change(Change::Phase(_)) | Event::Read { .. } | Event::Write { .. } => None,
+    }
+}
+
+/// The bars from each change on, the last first, and of each frame the line of its first change.
+fn bars_from_changes(
+    alloc: Global,
+    frames: u32,
+    end: u32,
+    events: &[Event],
+) -> Result<(Vec<Bar>, Vec<u32>), Memory>
+    requires { All (IsIn frames) (changes_in events.now) }
+    ensures bars { IfOk result (λ made. reverse made.0.items ≡ later_bars end (changes_in events.now)) }
+    ensures lines { IfOk result (λ made. AreNextLines frames end (changes_in events.now) made.1.items) }
+{
+    let mut bars = Vec::new(alloc);
+    let mut next = vec![in alloc; end; frames as usize]?;
+    for i in (0..events.len()).rev() {
+        if let Some(told) = told_in(&events[i]) {
+            let frame = told.frame as usize;
+            bars.push(Bar {
+                frame: told.frame,
+                custody: told.after,
+                from: told.line,
+                to: next[frame],
+            })?;
+            next[frame] = told.line;
+        }
+    }
+    Ok((bars, next))
+}
+
+/// The bars of all frames: those from the first line on, and from each change on, up to the line `end`. `Memory` where a
+/// growth was refused.
+pub fn bars(alloc: Global, config: &Config, end: u32, events: &[Event]) -> Result<Vec<Bar>, Memory>
+    // The events of a trace tell of frames that there are.
+    requires { All (IsIn config.now.frames) (changes_in events.now) }
+    ensures { IfOk result (λ made. made.items ≡ bars (boot config.now) end (changes_in events.now)) }
+{
+    let (mut bars, next) = bars_from_changes(alloc, config.frames(), end, events)?;
+    for frame in (0..config.frames()).rev() {
+        bars.push(first_bar(config, frame, next[frame as usize]))?;
+    }
+    bars.reverse();
+    Ok(bars)
+}

@@ -1,0 +1,119 @@
+//! The words that tell of a bar, of a life, and of a mark in it.
+ghost use Rattle.std.specs.Prelude.{◌≡◌, ◌++◌, IfOk, OnOk, codes};
+ghost use Rattle.std.specs.String.{string_bytes};
+ghost use Rattle.kc_picture.specs.Titles.{place_words, owner_words, grant_words, reach_words, custody_words, bar_title, measured_words, cleared_words, stay_title, tick_title};
+
+use crate::vms::{Measured, Stay};
+use kc_types::{Bar, Custody, Gfn, Memory, Owner};
+use std::alloc::Global;
+
+/// Appends the guest frame at which a VM sees a frame, if it does.
+fn push_place(words: &mut String, gfn: Option<Gfn>) -> Result<(), Memory>
+    ensures { OnOk result (string_bytes words.new ≡ string_bytes words.old ++ place_words gfn) }
+{
+    if let Some(gfn) = gfn {
+        let number = gfn.number();
+        write!(words, " at guest frame {number}")?;
+    }
+    Ok(())
+}
+
+/// Appends who owns a frame, and of a VM's at which guest frame.
+fn push_owner(words: &mut String, owner: Owner, gfn: Option<Gfn>) -> Result<(), Memory>
+    ensures { OnOk result (string_bytes words.new ≡ string_bytes words.old ++ owner_words owner gfn) }
+{
+    match owner {
+        Owner::Core => words.push_str("core")?,
+        Owner::Host => words.push_str("host")?,
+        Owner::Free => words.push_str("free")?,
+        Owner::Vm(vm) => {
+            let slot = vm.index();
+            write!(words, "vm {slot}")?;
+            push_place(words, gfn)?;
+        },
+    }
+    Ok(())
+}
+
+/// Appends how often a frame is granted, where it is.
+fn push_grants(words: &mut String, grants: u32) -> Result<(), Memory>
+    ensures { OnOk result (string_bytes words.new ≡ string_bytes words.old ++ grant_words grants) }
+{
+    match grants {
+        0 => {},
+        1 => words.push_str(", 1 grant")?,
+        _ => write!(words, ", {grants} grants")?,
+    }
+    Ok(())
+}
+
+/// Appends that the host reaches a frame, where it does.
+fn push_reach(words: &mut String, reached: bool) -> Result<(), Memory>
+    ensures { OnOk result (string_bytes words.new ≡ string_bytes words.old ++ reach_words reached) }
+{
+    if reached {
+        words.push_str(", reached by the host")?;
+    }
+    Ok(())
+}
+
+fn push_custody(words: &mut String, custody: &Custody) -> Result<(), Memory>
+    ensures { OnOk result (string_bytes words.new ≡ string_bytes words.old ++ custody_words custody.now) }
+{
+    push_owner(words, custody.owner, custody.gfn)?;
+    push_grants(words, custody.share)?;
+    push_reach(words, custody.present)
+}
+
+/// All that a bar tells: "frame 3, lines 17 to 22: vm 0 at guest frame 7, 1 grant, reached by the host".
+pub(crate) fn bar_title(alloc: Global, bar: &Bar) -> Result<String, Memory>
+    ensures { IfOk result (λ title. string_bytes title ≡ bar_title bar.now) }
+{
+    let frame = bar.frame;
+    let from = bar.from;
+    let last = bar.to.saturating_sub(1);
+    let mut title = format!(in alloc; "frame {frame}, lines {from} to {last}: ")?;
+    push_custody(&mut title, &bar.custody)?;
+    Ok(title)
+}
+
+/// Appends how the measuring of a VM's images ended, and at which line.
+fn push_measured(words: &mut String, measured: Measured) -> Result<(), Memory>
+    ensures { OnOk result (string_bytes words.new ≡ string_bytes words.old ++ measured_words measured) }
+{
+    match measured {
+        Measured::Not => words.push_str(", never measured")?,
+        Measured::Active(line) => write!(words, ", measured and active from line {line}")?,
+        Measured::Dead(line) => write!(words, ", measured and dead from line {line}")?,
+    }
+    Ok(())
+}
+
+/// Appends at which line a life ended, if it did.
+fn push_cleared(words: &mut String, cleared: Option<u32>) -> Result<(), Memory>
+    ensures { OnOk result (string_bytes words.new ≡ string_bytes words.old ++ cleared_words cleared) }
+{
+    match cleared {
+        Some(line) => write!(words, ", cleared at line {line}")?,
+        None => words.push_str(", there at the end")?,
+    }
+    Ok(())
+}
+
+/// All that a life tells: "vm 0: registered at line 4, measured and active from line 8, cleared at line 29".
+pub(crate) fn stay_title(alloc: Global, vm: u32, stay: &Stay) -> Result<String, Memory>
+    ensures { IfOk result (λ title. string_bytes title ≡ stay_title vm stay.now) }
+{
+    let registered = stay.registered;
+    let mut title = format!(in alloc; "vm {vm}: registered at line {registered}")?;
+    push_measured(&mut title, stay.measured)?;
+    push_cleared(&mut title, stay.cleared)?;
+    Ok(title)
+}
+
+/// What a mark tells: "vm 0 registered at line 4".
+pub(crate) fn tick_title(alloc: Global, vm: u32, what: &str, line: u32) -> Result<String, Memory>
+    ensures { IfOk result (λ title. string_bytes title ≡ tick_title vm what.now line) }
+{
+    Ok(format!(in alloc; "vm {vm} {what} at line {line}")?)
+}

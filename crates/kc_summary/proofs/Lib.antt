@@ -1,0 +1,5 @@
+pub mod Counts
+pub mod Tallied
+pub mod Distinct
+pub mod Taken
+pub mod Traced

@@ -1,0 +1,5 @@
+pub mod Tally
+pub mod Tallies
+pub mod Ends
+pub mod Within
+pub mod Behind

@@ -1,0 +1,167 @@
+//! Lives of VMs, as JSON Lines (RFC 8259): an object a line.
+ghost use Rattle.std.specs.Prelude.{◌≡◌, ◌≤◌, ◌++◌, length, IfOk, OnOk};
+ghost use Rattle.std.specs.List.{flat_map};
+ghost use Rattle.kc_trace.specs.SummaryText.{turns_text, life_images_text, counts_text, sharing_text, more_sharing_text, sharings_text, shared_text, life_line, summary_header, summary_end, summary_text_of};
+
+use crate::custody_writer::{push_gfn, push_images, push_member, push_number};
+use kc_lines::push_bytes;
+use kc_types::{Config, Life, Memory, Sharing};
+use std::alloc::Global;
+
+/// More bytes than each part of a line has: its turns, its images, its counts, and a stretch in which a frame was shared.
+const LONGEST_PART: usize = 768;
+
+/// Appends the slot of a life and the lines of its turns; `Memory`, here and below, where a growth was refused.
+fn push_turns(text: &mut Vec<u8>, life: &Life) -> Result<(), Memory>
+    ensures { OnOk result (text.new.items ≡ text.old.items ++ turns_text life.now) }
+{
+    text.reserve(LONGEST_PART)?;
+    push_member(text, b"{\"vm\":", life.vm as usize);
+    push_member(text, b",\"registered\":", life.registered as usize);
+    push_bytes(text, b",\"active\":");
+    push_number(text, life.active);
+    push_bytes(text, b",\"dead\":");
+    push_number(text, life.dead);
+    push_bytes(text, b",\"cleared\":");
+    push_number(text, life.cleared);
+    Ok(())
+}
+
+/// Appends the images of a life.
+fn push_life_images(text: &mut Vec<u8>, life: &Life) -> Result<(), Memory>
+    ensures { OnOk result (text.new.items ≡ text.old.items ++ life_images_text life.now) }
+{
+    text.reserve(LONGEST_PART)?;
+    push_bytes(text, b",\"images\":[");
+    push_images(text, life.images.as_slice());
+    push_bytes(text, b"]");
+    Ok(())
+}
+
+/// Appends the counts of a life.
+fn push_counts(text: &mut Vec<u8>, life: &Life) -> Result<(), Memory>
+    ensures { OnOk result (text.new.items ≡ text.old.items ++ counts_text life.now) }
+{
+    text.reserve(LONGEST_PART)?;
+    push_member(text, b",\"frames\":", life.frames);
+    push_member(text, b",\"most\":", life.most);
+    push_member(text, b",\"left\":", life.left);
+    push_member(text, b",\"returned\":", life.returned);
+    push_member(text, b",\"reads\":", life.reads);
+    push_member(text, b",\"writes\":", life.writes);
+    Ok(())
+}
+
+/// Appends a stretch in which a frame was shared, as an object with something before it.
+fn push_sharing(text: &mut Vec<u8>, before: &[u8], sharing: &Sharing) -> Result<(), Memory>
+    requires { length before.now ≤ 1 }
+    ensures { OnOk result (text.new.items ≡ text.old.items ++ (before.now ++ sharing_text sharing.now)) }
+{
+    text.reserve(LONGEST_PART)?;
+    push_bytes(text, before);
+    push_member(text, b"{\"frame\":", sharing.frame as usize);
+    push_bytes(text, b",\"gfn\":");
+    push_gfn(text, sharing.gfn);
+    push_member(text, b",\"from\":", sharing.from as usize);
+    push_bytes(text, b",\"to\":");
+    push_number(text, sharing.to);
+    push_bytes(text, b"}");
+    Ok(())
+}
+
+/// Appends stretches as objects with a comma before each.
+fn push_more_sharings(text: &mut Vec<u8>, sharings: &[Sharing]) -> Result<(), Memory>
+    ensures { OnOk result (text.new.items ≡ text.old.items ++ flat_map more_sharing_text sharings.now) }
+{
+    for sharing in sharings {
+        push_sharing(text, b",", sharing)?;
+    }
+    Ok(())
+}
+
+/// Appends stretches as objects with a comma between two.
+fn push_sharings(text: &mut Vec<u8>, sharings: &[Sharing]) -> Result<(), Memory>
+    ensures { OnOk result (text.new.items ≡ text.old.items ++ sharings_text sharings.now) }
+{
+    if let Some((first, more)) = sharings.split_first() {
+        push_sharing(text, b"", first)?;
+        push_more_sharings(text, more)?;
+    }
+    Ok(())
+}
+
+/// Appends when a VM shared which frames, and ends its line.
+fn push_shared(text: &mut Vec<u8>, life: &Life) -> Result<(), Memory>
+    ensures { OnOk result (text.new.items ≡ text.old.items ++ shared_text life.now) }
+{
+    text.reserve(LONGEST_PART)?;
+    push_bytes(text, b",\"shared\":[");
+    push_sharings(text, life.shared.as_slice())?;
+    text.reserve(LONGEST_PART)?;
+    push_bytes(text, b"]}\n");
+    Ok(())
+}
+
+/// Appends the line of a life, with its newline.
+fn push_life(text: &mut Vec<u8>, life: &Life) -> Result<(), Memory>
+    ensures { OnOk result (text.new.items ≡ text.old.items ++ life_line life.now) }
+{
+    push_turns(text, life)?;
+    push_life_images(text, life)?;
+    push_counts(text, life)?;
+    push_shared(text, life)
+}
+
+/// Appends the lines of some lives.
+fn push_lives(text: &mut Vec<u8>, lives: &[Life]) -> Result<(), Memory>
+    ensures { OnOk result (text.new.items ≡ text.old.items ++ flat_map life_line lives.now) }
+{
+    for life in lives {
+        push_life(text, life)?;
+    }
+    Ok(())
+}
+
+/// Appends the first line: the sizes of the core.
+fn push_summary_header(text: &mut Vec<u8>, config: &Config) -> Result<(), Memory>
+    ensures { OnOk result (text.new.items ≡ text.old.items ++ summary_header config.now) }
+{
+    text.reserve(LONGEST_PART)?;
+    push_member(
+        text,
+        b"{\"summary\":1,\"frames\":",
+        config.frames() as usize,
+    );
+    push_member(text, b",\"core\":", config.core() as usize);
+    push_member(text, b",\"host\":", config.host() as usize);
+    push_member(text, b",\"slots\":", config.slots() as usize);
+    push_bytes(text, b"}\n");
+    Ok(())
+}
+
+/// Appends the last line: how many calls the trace has, and how many lives the text.
+fn push_summary_end(text: &mut Vec<u8>, calls: usize, lives: usize) -> Result<(), Memory>
+    ensures { OnOk result (text.new.items ≡ text.old.items ++ summary_end calls lives) }
+{
+    text.reserve(LONGEST_PART)?;
+    push_member(text, b"{\"calls\":", calls);
+    push_member(text, b",\"lives\":", lives);
+    push_bytes(text, b"}\n");
+    Ok(())
+}
+
+/// The text of the lives that a trace of so many calls tells.
+pub fn summary_text(
+    alloc: Global,
+    config: &Config,
+    calls: usize,
+    lives: &[Life],
+) -> Result<Vec<u8>, Memory>
+    ensures { IfOk result (λ text. text.items ≡ summary_text_of config.now calls lives.now) }
+{
+    let mut text = Vec::new(alloc);
+    push_summary_header(&mut text, config)?;
+    push_lives(&mut text, lives)?;
+    push_summary_end(&mut text, calls, lives.len())?;
+    Ok(text)
+}
