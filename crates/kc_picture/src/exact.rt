@@ -7,7 +7,10 @@ use crate::titles::bar_title;
 use kc_types::{Bar, Custody, Memory, Owner};
 use std::alloc::Global;
 
-/// The height of a row of few frames, with room for names, and of more.
+/// Rows and bars that are higher have larger words.
+const ROOMY: u64 = 1_400;
+
+/// The height of a row of few frames, and of more.
 pub(crate) fn row_height(frames: u64) -> u64 {
     if frames <= 16 { 2_200 } else { 1_200 }
 }
@@ -73,9 +76,34 @@ fn draw_bar(svg: &mut Svg, area: &Area, bar: &Bar) -> Result<(), Memory> {
     svg.end_group()
 }
 
-/// How wide words of this length are, at most.
-fn width_of(words: &str) -> u64 {
-    620u64.saturating_mul(words.len() as u64)
+/// How words on bars look where these are so high.
+#[derive(Clone, Copy)]
+struct Lettering {
+    size: u32,
+    /// The width of a letter, at most.
+    width: u64,
+    /// How far their base line is above the bar's end.
+    base: u64,
+    /// How much of the bar is left free above and below their ground.
+    margin: u64,
+}
+
+fn lettering_of(height: u64) -> Lettering {
+    if height > ROOMY {
+        Lettering {
+            size: 10,
+            width: 620,
+            base: 600,
+            margin: 300,
+        }
+    } else {
+        Lettering {
+            size: 8,
+            width: 500,
+            base: 230,
+            margin: 100,
+        }
+    }
 }
 
 /// The colour of words on a bar.
@@ -93,21 +121,25 @@ fn colour_of_words(custody: &Custody) -> Colour {
 
 /// Writes words on a bar, and says whether there was room for them.
 fn write_on(svg: &mut Svg, area: &Area, custody: &Custody, words: &str) -> Result<bool, Memory> {
-    let width = width_of(words);
+    let lettering = lettering_of(area.height);
+    let width = lettering.width.saturating_mul(words.len() as u64);
     if area.width < width.saturating_add(600) {
         return Ok(false);
     }
     if custody.share > 0 {
         let ground = Area {
             x: area.x.saturating_add(200),
-            y: area.y.saturating_add(300),
+            y: area.y.saturating_add(lettering.margin),
             width: width.saturating_add(300),
-            height: area.height.saturating_sub(600),
+            height: area
+                .height
+                .saturating_sub(lettering.margin.saturating_mul(2)),
         };
         svg.rect(&ground, FREE)?;
     }
-    let base = area.y.saturating_add(area.height).saturating_sub(600);
-    let style = Style::plain(area.x.saturating_add(400), base, 10);
+    let bottom = area.y.saturating_add(area.height);
+    let base = bottom.saturating_sub(lettering.base);
+    let style = Style::plain(area.x.saturating_add(400), base, lettering.size);
     svg.words(&style.colour(colour_of_words(custody)), words)?;
     Ok(true)
 }
@@ -126,7 +158,7 @@ fn name_bar(svg: &mut Svg, area: &Area, bar: &Bar) -> Result<bool, Memory> {
 
 /// Writes the number of a frame beside its row.
 fn name_frame(svg: &mut Svg, frame: u64, top: u64, height: u64) -> Result<(), Memory> {
-    let roomy = height > 1_400;
+    let roomy = height > ROOMY;
     let name = if roomy {
         format!(in svg.alloc(); "frame {frame}")?
     } else {
@@ -173,7 +205,7 @@ fn draw_row(
             };
             if !again {
                 named = None;
-                if height > 1_400 && name_bar(svg, &area, bar)? {
+                if name_bar(svg, &area, bar)? {
                     named = Some(bar.custody);
                 }
             }
