@@ -13,7 +13,7 @@ _kcore() {
         '') words='replay live custody audit help --help --version' ;;
         replay) words='--config --workers --dump --explain --help' ;;
         live) words='--config --workers --explain --help' ;;
-        custody) words='--config --vm --explain --help' ;;
+        custody) words='--config --vm --summary --svg --explain --help' ;;
         audit) words='--all --explain --help' ;;
         help) [ "$COMP_CWORD" -gt 2 ] || words='replay live custody audit help' ;;
     esac
