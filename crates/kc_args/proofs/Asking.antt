@@ -18,7 +18,7 @@ use Rattle.kc_args.specs.declared.job.Job.{Job}
 use Rattle.kc_args.specs.declared.job.ArgFault.{ArgFault}
 use Rattle.kc_args.specs.declared.job.ArgFault.TheVariants.{Memory, Words}
 use Rattle.kc_args.specs.Commands.{kcore}
-use Rattle.kc_args.specs.Jobs.{in_range, Asks, IsJobIn, HasStatus, IsRefusal}
+use Rattle.kc_args.specs.Jobs.{Asks, IsJobIn, HasStatus, IsRefusal}
 
 pub kcore_is_simple : is_simple kcore ≡ true
 unfolding clap_on_literals

@@ -1,5 +1,5 @@
 -- Numbers in rising order.
-use Rattle.std.proofs.Common.{ℕ, suc, ◌≡◌, ◌<◌, ◌≤◌, ◌+◌, ◌||◌, true, List, [], ◌∷◌, length, get_or, refl, ap, ap₂, sym, ◌∙◌, arith}
+use Rattle.std.proofs.Common.{ℕ, suc, ◌≡◌, ◌<◌, ◌≤◌, ◌+◌, ◌||◌, true, List, [], ◌∷◌, length, get_or, refl, ap₂, sym, ◌∙◌, arith}
 use Rattle.kc_model.specs.Resources.{is_in}
 use Rattle.kc_parts.specs.Parts.{IsRising, is_among}
 use Rattle.kc_parts.proofs.Filled.{swapped}

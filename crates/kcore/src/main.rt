@@ -7,8 +7,8 @@ mod explaining;
 
 use crate::explaining::{Reading, explain_open, explain_words};
 use kc_cli::{
-    ArgFault, CustodyForm, DEFAULT_CONFIG, Job, Mem, Source, Std, TextFault, audit_text, custody_text,
-    dump_text, job_of, live_text, replay_text, tell,
+    ArgFault, CustodyForm, DEFAULT_CONFIG, Job, Mem, Source, Std, TextFault, audit_text,
+    custody_text, dump_text, job_of, live_text, replay_text, tell,
 };
 use kc_explain::{Noted, Shown};
 use kc_replay::OpenGate;
@@ -34,7 +34,8 @@ enum Wanted {
 }
 
 /// What is said where both flags for the form of custody stand among the words, as the command says such things.
-const TWO_FORMS: &str = "error: the argument '--summary' cannot be used with '--svg'\n\nUsage: kcore custody [OPTIONS]\n\nFor more information, try '--help'.\n";
+const TWO_FORMS: &str =
+    "error: the argument '--summary' cannot be used with '--svg'\n\nUsage: kcore custody [OPTIONS]\n\nFor more information, try '--help'.\n";
 
 /// What is to be done with the trace on standard input.
 #[derive(Clone, Copy)]

@@ -1,6 +1,6 @@
-use Rattle.std.proofs.Common.{◌++◌, List, map, filter, ap, ◌∙◌}
+use Rattle.std.proofs.Common.{◌++◌, List, map, ap, ◌∙◌}
 use Rattle.kc_types.specs.declared.custody.Event.{Event}
-use Rattle.kc_custody.specs.Marks.{mark_of, accessed, access_told}
+use Rattle.kc_custody.specs.Marks.{mark_of, access_told}
 use Rattle.kc_custody.proofs.Ordered.{rising, held}
 use Rattle.kc_custody.proofs.Calls.{IsMarked, call-told}
 use Rattle.kc_custody.proofs.telling.tell_call.Goals as goal
