@@ -7,7 +7,7 @@ use Rattle.kc_types.specs.declared.reply.Reply.{Reply}
 use Rattle.kc_model.specs.State.{State}
 use Rattle.kc_trace.specs.ConfigText.{config_in}
 use Rattle.kc_trace.specs.ReplyText.{reply_text_of}
-use Rattle.kc_cli.specs.Dumping.{dump_of}
+use Rattle.kc_state.specs.Dumping.{dump_of}
 use Rattle.kc_dump_text.specs.DumpText.{dump_text}
 use Rattle.kc_texts.specs.Reading.{Writes, Begins}
 use Rattle.kc_cli.specs.Engine.{IsReplayed, AreReplayed, IsReplyText, IsStateText}

@@ -1,17 +1,17 @@
 //! The engine that dumps the core that a trace leaves, over any sources and any sink.
 ghost use Rattle.std.specs.Prelude.{◌≡◌, ◌⊎◌, ◌∷◌, [], ℕ, take, false, IfErr, IfOk, OnOk, Err};
 ghost use Rattle.std.specs.Io.KnownBytes.{Appends};
-ghost use Rattle.kc_cli.specs.Dumping.{dump_of};
+ghost use Rattle.kc_state.specs.Dumping.{dump_of};
 ghost use Rattle.kc_dump_text.specs.DumpText.{dump_text as text_of_dump};
 ghost use Rattle.kc_texts.specs.Reading.{Writes, Begins};
 ghost use Rattle.kc_cli.specs.Engine.{IsStateText};
 ghost use Rattle.kc_texts.specs.Outcomes.{seen, TellsSources, TellsTexts, TellsReplay, TellsSink};
 
-use crate::making::dump;
 use crate::replaying::replay_texts;
 use kc_core::KCore;
 use kc_dump_text::write_dump;
 use kc_replay::Outcome;
+use kc_state::dump;
 use kc_texts::{Sink, Source, TextFault, write_whole};
 use kc_types::Memory;
 use std::alloc::Global;

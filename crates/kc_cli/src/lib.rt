@@ -8,7 +8,6 @@ mod dumping;
 mod engine;
 mod history;
 mod live;
-mod making;
 mod replaying;
 
 pub use account::CustodyForm;
@@ -22,4 +21,3 @@ pub use kc_texts::{
     tell, write_whole,
 };
 pub use live::live_text;
-pub use making::dump;

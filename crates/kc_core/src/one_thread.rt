@@ -27,7 +27,7 @@ use crate::verify::{Verified, booted_slot, verify};
 use kc_page::{Page, PageBytes, PageRecord, scrub_all};
 use kc_parts::Parts;
 use kc_types::{
-    Call, Config, Ends, FrameNo, Gfn, Memory, Owner, Phase, Reply, ReplyBuffer, VcpuId,
+    Call, Config, Ends, FrameNo, Gfn, Image, Memory, Owner, Phase, Reply, ReplyBuffer, Vcpu, VcpuId,
 };
 use kc_vms::Vm;
 use std::alloc::Global;
@@ -255,6 +255,23 @@ impl KCore {
     {
         let slot = self.slot(vm)?;
         Gfn::try_new(slot.vcpu(VcpuId::try_new(vcpu)?).fault?)
+    }
+
+    /// A virtual processor, 0 to 7, of a VM slot, 0 to 63; `None` where either does not exist.
+    pub fn vcpu(&self, vm: u32, vcpu: u32) -> Option<Vcpu>
+        ensures exists { IsSome result ↔ ((vm < slot_count self.now.config) × (vcpu < vcpu_limit)) }
+        ensures value { IfSome result (λ there. there ≡ vcpu_at self.now vm vcpu) }
+    {
+        let slot = self.slot(vm)?;
+        Some(slot.vcpu(VcpuId::try_new(vcpu)?))
+    }
+
+    /// The boot images of a VM slot, 0 to 63, by their numbers; `None` for a VM slot that does not exist.
+    pub fn images(&self, vm: u32) -> Option<&[Image]>
+        ensures exists { IsSome result ↔ (vm < slot_count self.now.config) }
+        ensures value { IfSome result (λ images. images.now ≡ (slot_at self.now vm).images) }
+    {
+        Some(self.slot(vm)?.images())
     }
 
     /// The frame at a guest frame, 0 to 262,143, of a VM slot, 0 to 63; `None` where the slot or the guest frame

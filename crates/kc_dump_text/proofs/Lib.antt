@@ -1,5 +1,5 @@
 mod Spelled
-mod Limits
+pub mod Limits
 mod Runs
 pub mod Ordered
 mod DigestWords
@@ -14,4 +14,4 @@ mod LinesRead
 pub mod Ranged
 mod WholeText
 mod Told
-mod Followed
+pub mod Followed

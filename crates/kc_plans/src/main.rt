@@ -6,7 +6,7 @@
 #![tactic(auto)]
 
 use anyhow::{Result, bail};
-use kc_cli::dump;
+use kc_state::dump;
 use kc_core::KCore;
 use kc_dump_text::write_dump;
 use kc_live::{Entry, History, LiveStop, run_trace};

@@ -9,3 +9,4 @@ pub mod Onward
 pub mod Dealing
 pub mod Cutting
 pub mod Moving
+pub mod Chained

@@ -86,14 +86,26 @@ impl Replayer {
             return Err(ReplayFault::BadWorkers);
         }
         match KCore::boot(alloc, config) {
-            Ok(core) => Ok(Replayer {
-                core: Some(core),
-                workers,
-                fed: 0,
-                budget: Budget::new(),
-            }),
+            Ok(core) => Replayer::from_core(core, workers),
             Err(_) => Err(ReplayFault::Memory),
         }
+    }
+
+    /// A replay from a core on, by 1 to 64 workers: `BadWorkers` for any other number of them, and no other fault.
+    pub fn from_core(core: KCore, workers: usize) -> Result<Replayer, ReplayFault>
+        ensures start { IfOk result (λ replayer. replayer ≡ record { state = Some core; fed = 0; workers = workers }) }
+        ensures workers { OnOk result ((0 < workers) × (workers ≤ worker_limit)) }
+        ensures bad_workers { IfErr result (λ fault. (fault ≡ BadWorkers) × ((workers ≡ 0) ⊎ (worker_limit < workers))) }
+    {
+        if workers == 0 || workers > WORKER_LIMIT {
+            return Err(ReplayFault::BadWorkers);
+        }
+        Ok(Replayer {
+            core: Some(core),
+            workers,
+            fed: 0,
+            budget: Budget::new(),
+        })
     }
 
     /// How many calls may still come: 65,536 less those that came.
@@ -191,6 +203,34 @@ pub fn replay<R: Threads + Wait + Sync, G: Gate + Sync>(
     ensures started { result ≡ Err ReplayFault.Start → 1 < workers }
 {
     let mut replayer = Replayer::new(alloc, config, workers)?;
+    let replies = replayer.feed(rt, alloc, calls, gate)?;
+    let core = replayer.finish()?;
+    Ok(Outcome { replies, core })
+}
+
+/// Makes the calls of a volume from a core on, by 1 to 64 workers: the replies, in the order of the volume, and the core
+/// with its page records, lists, tables and bytes are those of one thread that takes the calls in that order.
+/// `BadWorkers` for any other number of workers; `Start` where a worker could not be started, else `Memory` where a
+/// growth was refused, and then all pages are wiped.
+pub fn replay_from<R: Threads + Wait + Sync, G: Gate + Sync>(
+    rt: &R,
+    alloc: Global,
+    core: KCore,
+    calls: &[Call],
+    workers: usize,
+    gate: &G,
+) -> Result<Outcome, ReplayFault>
+    requires { length calls.now ≤ call_limit }
+    ensures blind { IfOk result (λ outcome. ShowsNothing core calls.now outcome.replies.items outcome.core) }
+    ensures safe { OnOk result (IsSafe core calls.now) }
+    ensures replies { IfOk result (λ outcome. outcome.replies.items ≡ replies_from core calls.now) }
+    ensures state { IfOk result (λ outcome. outcome.core ≡ state_after core calls.now) }
+    ensures workers { OnOk result ((0 < workers) × (workers ≤ worker_limit)) }
+    ensures bad_workers { IfErr result (λ fault. (fault ≡ BadWorkers) ↔ ((workers ≡ 0) ⊎ (worker_limit < workers))) }
+    ensures whole { result ≢ Err Broken }
+    ensures started { result ≡ Err ReplayFault.Start → 1 < workers }
+{
+    let mut replayer = Replayer::from_core(core, workers)?;
     let replies = replayer.feed(rt, alloc, calls, gate)?;
     let core = replayer.finish()?;
     Ok(Outcome { replies, core })

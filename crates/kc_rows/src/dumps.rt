@@ -1,7 +1,7 @@
 //! An audit by one thread, where the program has it made by several.
 use crate::support::after;
 use kc_audit::audit;
-use kc_cli::dump;
+use kc_state::dump;
 use std::alloc::Global;
 use std::thread::Threads;
 

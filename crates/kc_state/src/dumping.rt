@@ -2,7 +2,7 @@
 ghost use Rattle.std.specs.Prelude.{◌≡◌, ◌<◌, IfOk};
 ghost use Rattle.kc_types.specs.Configuration.{slot_count};
 ghost use Rattle.kc_model.specs.State.{slot_at};
-ghost use Rattle.kc_cli.specs.Dumping.{digests_of, frame_lines, slot_dump, slot_dumps, dump_of};
+ghost use Rattle.kc_state.specs.Dumping.{digests_of, frame_lines, slot_dump, slot_dumps, dump_of};
 ghost use Rattle.kc_dump.specs.Sound.{IsSound};
 
 use kc_core::KCore;

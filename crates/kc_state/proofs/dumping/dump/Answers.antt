@@ -1,9 +1,9 @@
 use Rattle.std.proofs.Common.{refl, ap, sym, subst, ◌∙◌}
 use Rattle.kc_dump.specs.Sound.{IsSound}
-use Rattle.kc_cli.proofs.Made.{digests-made, slots-made}
-use Rattle.kc_cli.proofs.InRange.{dump-in-range}
-use Rattle.kc_cli.proofs.Drawn.{sound-drawn}
-use Rattle.kc_cli.proofs.making.dump.Goals as goal
+use Rattle.kc_state.proofs.Made.{digests-made, slots-made}
+use Rattle.kc_state.proofs.InRange.{dump-in-range}
+use Rattle.kc_state.proofs.Drawn.{sound-drawn}
+use Rattle.kc_state.proofs.dumping.dump.Goals as goal
 
 pub lines-requires : goal.lines-requires
 lines-requires g c = c.as_slice.ensures.value ∙ digests-made c.args.core.now c.pages.result.now c.in_ok-digests.digests.items c.pages.ensures c.in_ok-digests.ensures

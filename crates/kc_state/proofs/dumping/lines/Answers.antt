@@ -2,9 +2,9 @@ use Rattle.std.proofs.Common.{◌<◌, length, refl, ap, arith}
 use Rattle.kc_model.specs.State.{frame_at}
 use Rattle.kc_model.specs.Links.{link_at}
 use Rattle.kc_page.specs.Page.{IsRecordOf}
-use Rattle.kc_cli.specs.Dumping.{frame_line}
-use Rattle.kc_cli.proofs.Made.{more, line-made, digest-at}
-use Rattle.kc_cli.proofs.making.lines.Goals as goal
+use Rattle.kc_state.specs.Dumping.{frame_line}
+use Rattle.kc_state.proofs.Made.{more, line-made, digest-at}
+use Rattle.kc_state.proofs.dumping.lines.Goals as goal
 
 pub loop-number-preserved : goal.loop-number-preserved
 loop-number-preserved c =

@@ -23,7 +23,7 @@ use Rattle.kc_dump.specs.Dump.{SlotDump, absent_line, line_at, line_owner, line_
 use Rattle.kc_dump.specs.Dump as dumps
 use Rattle.kc_dump.specs.Sound.{IsSoundFrame, IsSoundSlot, IsSound}
 use Rattle.kc_dump.specs.Lists.{HasList}
-use Rattle.kc_cli.specs.Dumping.{frame_line, slot_dump, dump_of}
+use Rattle.kc_state.specs.Dumping.{frame_line, slot_dump, dump_of}
 use Rattle.sha2.specs.Sha256.{sha256}
 use Rattle.kc_model.proofs.States.Owners.{same-is}
 use Rattle.kc_vms.proofs.Rising.{empty-entries}

@@ -21,11 +21,11 @@ use Rattle.sha2.specs.Sha256.{sha256}
 use Rattle.sha2.proofs.Facts256.{length-sha256}
 use Rattle.kc_dump.specs.declared.line.FrameLine.{FrameLine}
 use Rattle.kc_dump.specs.Dump.{SlotDump, empty_dump}
-use Rattle.kc_cli.specs.Dumping.{frame_line, dump_of}
+use Rattle.kc_state.specs.Dumping.{frame_line, dump_of}
 use Rattle.kc_dump.proofs.Sums.{sum-times, sum-ones}
 use Rattle.kc_dump.proofs.Entries.{entry-get, left, right, above, place-entry}
-use Rattle.kc_cli.proofs.Digests.{digest-bytes}
-use Rattle.kc_cli.proofs.Drawn.{long, line-low, slot-low, slots, below, member, at-most}
+use Rattle.kc_state.proofs.Digests.{digest-bytes}
+use Rattle.kc_state.proofs.Drawn.{long, line-low, slot-low, slots, below, member, at-most}
 use Rattle.kc_dump.specs.Ranges.{is_below, are_ends, is_entry, is_owner, is_frame, IsDump}
 
 both : (a b : Bool) → a ≡ true → b ≡ true → (a && b) ≡ true

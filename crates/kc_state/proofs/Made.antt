@@ -15,7 +15,7 @@ use Rattle.sha2.specs.Sha256.{sha256}
 use Rattle.kc_dump.specs.declared.line.FrameLine.{FrameLine}
 use Rattle.kc_dump.specs.Dump.{empty_dump}
 use Rattle.kc_digests.specs.Digests.{digest_of}
-use Rattle.kc_cli.specs.Dumping.{frame_line, digests_of, slot_dump, slot_dumps}
+use Rattle.kc_state.specs.Dumping.{frame_line, digests_of, slot_dump, slot_dumps}
 
 -- one more, by its number
 pub more : {X : Type 0} (f : ℕ → X) (n k : ℕ) (old new : List X) (x : X) → old ≡ map f (range_with_len 0 n) → new ≡ old ++ x ∷ [] → x ≡ f k → k ≡ n → new ≡ map f (range_with_len 0 (n + 1))

@@ -1,0 +1,4 @@
+pub mod Digests
+pub mod Drawn
+pub mod InRange
+mod Made

@@ -1,0 +1,122 @@
+-- Which text is which state's, and why a text is none.
+use Rattle.std.specs.Prelude.{ℕ, ◌≡◌, ◌<◌, ◌≤◌, ◌+◌, ◌^◌, ◌⊎◌, List, [], ◌++◌, length, All, Some, false, None}
+use Rattle.kc_types.specs.Limits.{gfn_limit, vcpu_limit, image_limit}
+use Rattle.kc_model.specs.State.{Vcpu, Image}
+use Rattle.kc_model.specs.Lawful.{IsPage}
+use Rattle.kc_audit.specs.declared.finding.Finding.{Finding}
+use Rattle.kc_dump_text.specs.Grammar.{IsDumpText}
+use Rattle.kc_dump_text.specs.DumpText.{dump_text}
+use Rattle.kc_dump_text.specs.Refused.{IsRefusedDump}
+use Rattle.kc_dump_text.specs.declared.fault.DumpFault.TheVariants as dump
+use Rattle.kc_state.specs.Told.{Told, SlotRest}
+use Rattle.kc_state.specs.Unlawful.{IsUnlawful}
+use Rattle.kc_state.specs.declared.unlawful.Unlawful.{Unlawful}
+use Rattle.kc_state.specs.declared.unlawful.Unlawful.TheVariants as unlawful
+use Rattle.kc_replay.specs.Volumes.{IsDigest}
+use Rattle.kc_state_text.specs.declared.fault.StateFault.{StateFault}
+use Rattle.kc_state_text.specs.declared.fault.StateFault.TheVariants.{NoHeader, BadLine, Missing, Sizes, Found, Slot, Frame, Memory}
+use Rattle.kc_state_text.specs.StateText.{Sizes as SizesOf, Front, state_header, sizes_line, approved_line, slot_line, page_line, front_text, front_of, told_text}
+
+-- which numbers the line of sizes may have
+pub record AreSizes (sizes : SizesOf) : Type 0 where
+  pub slots : sizes.slots < 2 ^ 32
+  pub frames : sizes.frames < 2 ^ 32
+  pub host : sizes.host < 2 ^ 32
+  pub approved : sizes.approved < 2 ^ 32
+
+-- one that is not registered waits for nothing
+pub record IsVcpuWord (vcpu : Vcpu) : Type 0 where
+  pub absent : vcpu.registered ≡ false → vcpu.fault ≡ None
+  pub gfn : (g : ℕ) → vcpu.fault ≡ Some g → g < gfn_limit
+
+pub record AreImageWords (image : Image) : Type 0 where
+  pub base : image.base < 2 ^ 32
+  pub len : image.len < 2 ^ 32
+  pub pages : image.pages < 2 ^ 32
+
+-- what the line of a slot may say
+pub record IsSlotLine (rest : SlotRest) : Type 0 where
+  pub vcpus : length rest.vcpus ≡ vcpu_limit
+  pub each_vcpu : All IsVcpuWord rest.vcpus
+  pub few_images : length rest.images ≤ image_limit
+  pub each_image : All AreImageWords rest.images
+
+-- what the lines before the dump may say
+pub record IsFront (front : Front) : Type 0 where
+  pub sizes : AreSizes front.sizes
+  pub approved : All IsDigest front.approved
+  pub slots : All IsSlotLine front.slots
+  pub pages : All IsPage front.pages
+
+-- there are as many lines as the sizes say
+pub record IsWholeFront (front : Front) : Type 0 where
+  pub approved : length front.approved ≡ front.sizes.approved
+  pub slots : length front.slots ≡ front.sizes.slots
+  pub pages : length front.pages ≡ front.sizes.frames
+
+abbrev pub line_count : Front → ℕ
+line_count front = 2 + length front.approved + length front.slots + length front.pages
+
+-- the text goes on with no such line
+abbrev pub HasNone : {X : Type 0} → (X → Type 0) → (X → List ℕ) → List ℕ → Type 0
+HasNone {X} Is spelled text = (x : X) (more : List ℕ) → Is x → text ≡ spelled x ++ more → ⊥
+
+-- a line of the front is due, and the text goes on with no such line
+abbrev pub LacksLine : Front → List ℕ → Type 0
+LacksLine front text =
+    ((length front.approved < front.sizes.approved) × (front.slots ≡ []) × (front.pages ≡ []) × HasNone IsDigest approved_line text)
+    ⊎ ((length front.approved ≡ front.sizes.approved) × (length front.slots < front.sizes.slots) × (front.pages ≡ []) × HasNone IsSlotLine slot_line text)
+    ⊎ ((length front.approved ≡ front.sizes.approved) × (length front.slots ≡ front.sizes.slots) × (length front.pages < front.sizes.frames) × HasNone IsPage page_line text)
+
+-- the text begins with these lines
+pub record BeginsWith (text : List ℕ) (front : Front) (rest : List ℕ) : Type 0 where
+  pub whole : text ≡ front_text front ++ rest
+  pub front : IsFront front
+
+-- no line of this number, counted from 1 with the header as the first, may stand there before the dump
+abbrev pub StopsBefore : List ℕ → ℕ → Type 0
+StopsBefore text n =
+    ((n ≡ 2) × ((rest : List ℕ) × (text ≡ state_header ++ rest) × HasNone AreSizes sizes_line rest))
+    ⊎ ((front : Front) × (rest : List ℕ) × BeginsWith text front rest × LacksLine front rest × (n ≡ line_count front + 1))
+
+-- what follows the front is no dump, for this reason; lines are counted on
+abbrev pub IsDumpFault : Front → List ℕ → StateFault → Type 0
+IsDumpFault front rest NoHeader = ⊥
+IsDumpFault front rest (BadLine n) =
+    (IsRefusedDump rest dump.NoHeader × (n ≡ line_count front + 1))
+    ⊎ ((k : ℕ) × IsRefusedDump rest (dump.BadLine k) × (n ≡ line_count front + k))
+IsDumpFault front rest (Missing f) = IsRefusedDump rest (dump.Frame f)
+IsDumpFault front rest Sizes = ⊥
+IsDumpFault front rest (Found finding) = ⊥
+IsDumpFault front rest (Slot v) = ⊥
+IsDumpFault front rest (Frame f) = ⊥
+IsDumpFault front rest Memory = ⊥
+
+-- the front is whole, and what follows is no dump
+pub record StopsWithin (text : List ℕ) (fault : StateFault) : Type 0 where
+  pub front : Front
+  pub rest : List ℕ
+  pub begins : BeginsWith text front rest
+  pub whole : IsWholeFront front
+  pub why : IsDumpFault front rest fault
+
+-- the text has this told in it, each line where it may stand
+pub record IsTextOf (text : List ℕ) (t : Told) : Type 0 where
+  pub whole : text ≡ told_text t
+  pub front : IsFront (front_of t.rest)
+  pub dump : IsDumpText (dump_text t.dump) t.dump
+
+-- what the text tells is told of no lawful state
+abbrev pub TellsNone : List ℕ → Unlawful → Type 0
+TellsNone text why = (t : Told) × IsTextOf text t × IsUnlawful t why
+
+-- the text is no lawful state's, and this is the first reason
+abbrev pub IsRefusedState : List ℕ → StateFault → Type 0
+IsRefusedState text NoHeader = (rest : List ℕ) → text ≡ state_header ++ rest → ⊥
+IsRefusedState text (BadLine n) = StopsBefore text n ⊎ StopsWithin text (BadLine n)
+IsRefusedState text (Missing f) = StopsWithin text (Missing f)
+IsRefusedState text Sizes = TellsNone text unlawful.Sizes
+IsRefusedState text (Found finding) = TellsNone text (unlawful.Found finding)
+IsRefusedState text (Slot v) = TellsNone text (unlawful.Slot v)
+IsRefusedState text (Frame f) = TellsNone text (unlawful.Frame f)
+IsRefusedState text Memory = Unit {0}

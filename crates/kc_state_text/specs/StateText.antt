@@ -1,0 +1,76 @@
+-- How a state is spelled: a line each for all that a dump leaves out, and then its dump.
+use Rattle.std.specs.Prelude.{ℕ, Bool, if◌then◌else◌, List, [], ◌∷◌, ◌++◌, length, map, codes, Option, Some, None, ◌==◌}
+use Rattle.std.specs.Fmt.{decimal}
+use Rattle.std.specs.List.{flat_map, list_all}
+use Rattle.hex.specs.Hex.{encode_lower}
+use Rattle.kc_model.specs.State.{State, Vcpu, Image}
+use Rattle.kc_dump_text.specs.DumpText.{line, dump_text}
+use Rattle.kc_state.specs.Told.{Told, Rest, SlotRest, told_of}
+
+-- the first line of each state, with its newline
+abbrev pub state_header : List ℕ
+state_header = codes "kcore-state 1" ++ 10 ∷ []
+
+-- how many slots and frames there are, how many frames were the host's at boot, and how many digests are approved
+pub record Sizes : Type 0 where
+  pub slots : ℕ
+  pub frames : ℕ
+  pub host : ℕ
+  pub approved : ℕ
+
+abbrev pub sizes_line : Sizes → List ℕ
+sizes_line sizes = line (codes "config") (decimal sizes.slots ∷ decimal sizes.frames ∷ decimal sizes.host ∷ decimal sizes.approved ∷ [])
+
+abbrev pub approved_line : List ℕ → List ℕ
+approved_line digest = line (codes "approved") (encode_lower digest ∷ [])
+
+-- a virtual processor: a dash where it is not registered, a dot where it waits for nothing, else the guest frame that it waits for
+abbrev pub fault_word : Option ℕ → List ℕ
+fault_word None = codes "."
+fault_word (Some g) = decimal g
+
+abbrev pub vcpu_word : Vcpu → List ℕ
+vcpu_word vcpu = if vcpu.registered then fault_word vcpu.fault else codes "-"
+
+-- an image: its first guest frame, its length in bytes, its pages so far
+abbrev pub image_words : Image → List (List ℕ)
+image_words image = decimal image.base ∷ decimal image.len ∷ decimal image.pages ∷ []
+
+abbrev pub slot_line : SlotRest → List ℕ
+slot_line rest = line (codes "slot") (map vcpu_word rest.vcpus ++ flat_map image_words rest.images)
+
+abbrev pub is_zero : List ℕ → Bool
+is_zero bytes = list_all (λ b. b == 0) bytes
+
+-- a page: a dash where all its bytes are zero
+abbrev pub page_word : List ℕ → List ℕ
+page_word bytes = if is_zero bytes then codes "-" else encode_lower bytes
+
+abbrev pub page_line : List ℕ → List ℕ
+page_line bytes = line (codes "page") (page_word bytes ∷ [])
+
+-- what the lines before the dump say
+pub record Front : Type 0 where
+  pub sizes : Sizes
+  pub approved : List (List ℕ)
+  pub slots : List SlotRest
+  pub pages : List (List ℕ)
+
+-- these lines: the header, the sizes, a line for each approved digest, each slot and each page
+abbrev pub front_text : Front → List ℕ
+front_text front =
+    state_header ++ (sizes_line front.sizes
+    ++ (flat_map approved_line front.approved ++ (flat_map slot_line front.slots ++ flat_map page_line front.pages)))
+
+abbrev pub sizes_of : Rest → Sizes
+sizes_of rest = record { slots = length rest.slots; frames = length rest.pages; host = rest.host; approved = length rest.approved }
+
+abbrev pub front_of : Rest → Front
+front_of rest = record { sizes = sizes_of rest; approved = rest.approved; slots = rest.slots; pages = rest.pages }
+
+abbrev pub told_text : Told → List ℕ
+told_text t = front_text (front_of t.rest) ++ dump_text t.dump
+
+-- the one spelling of a state
+abbrev pub state_text : State → List ℕ
+state_text m = told_text (told_of m)

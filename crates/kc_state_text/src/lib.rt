@@ -1,0 +1,6 @@
+//! States as text.
+#![tactic(auto)]
+
+mod fault;
+
+pub use fault::StateFault;
