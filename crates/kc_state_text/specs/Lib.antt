@@ -1,2 +1,3 @@
 pub mod StateText
 pub mod Refused
+pub mod Faults

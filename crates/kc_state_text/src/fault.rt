@@ -1,4 +1,7 @@
 //! Why a text is no state's.
+ghost use Rattle.std.specs.Prelude.{◌≡◌, ◌≤◌, length};
+ghost use Rattle.kc_state_text.specs.Faults.{state_fault_words, state_fault_number, state_fault_end};
+
 use kc_audit::Finding;
 
 /// Why a text is no lawful state's. Lines are taken from the front, and the first fault is answered.
@@ -21,4 +24,50 @@ pub enum StateFault {
     Frame(u32),
     /// A growth of memory was refused.
     Memory,
+}
+
+impl StateFault {
+    /// What is wrong; of a line, a slot or a frame what is said before its number, of a finding what is said before its text.
+    pub const fn words(&self) -> &'static str
+        ensures text { result.now ≡ state_fault_words self.now }
+        ensures short { length result.now ≤ 40 }
+    {
+        match self {
+            StateFault::NoHeader => "no state header",
+            StateFault::BadLine(_) => "bad state line ",
+            StateFault::Missing(_) => "dump frame ",
+            StateFault::Sizes => "state of no configuration",
+            StateFault::Found(_) => "state with finding ",
+            StateFault::Slot(_) => "bad slot ",
+            StateFault::Frame(_) => "bad frame ",
+            StateFault::Memory => "out of memory",
+        }
+    }
+
+    /// The number, if it has one.
+    pub const fn number(&self) -> Option<usize>
+        ensures { result ≡ state_fault_number self.now }
+    {
+        match self {
+            StateFault::BadLine(number)
+            | StateFault::Missing(number)
+            | StateFault::Slot(number)
+            | StateFault::Frame(number) => Some(*number as usize),
+            StateFault::NoHeader
+            | StateFault::Sizes
+            | StateFault::Found(_)
+            | StateFault::Memory => None,
+        }
+    }
+
+    /// What is said behind the number.
+    pub const fn end(&self) -> &'static str
+        ensures text { result.now ≡ state_fault_end self.now }
+        ensures short { length result.now ≤ 20 }
+    {
+        match self {
+            StateFault::Missing(_) => " missing or doubled",
+            _ => "",
+        }
+    }
 }

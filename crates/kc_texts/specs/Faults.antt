@@ -7,6 +7,10 @@ use Rattle.kc_trace.specs.declared.fault.TraceFault.TheVariants as traces
 use Rattle.kc_dump_text.specs.Faults.{dump_fault_words, dump_fault_end}
 use Rattle.kc_dump_text.specs.declared.fault.DumpFault.{DumpFault}
 use Rattle.kc_dump_text.specs.declared.fault.DumpFault.TheVariants as dumps
+use Rattle.kc_audit.specs.Report.{finding_text}
+use Rattle.kc_state_text.specs.Faults.{state_fault_words, state_fault_number, state_fault_end}
+use Rattle.kc_state_text.specs.declared.fault.StateFault.{StateFault}
+use Rattle.kc_state_text.specs.declared.fault.StateFault.TheVariants as states
 use Rattle.kc_texts.specs.declared.whole.ReadFault.{ReadFault}
 use Rattle.kc_texts.specs.declared.whole.ReadFault.TheVariants as reads
 use Rattle.kc_texts.specs.declared.stream.StreamFault.{StreamFault}
@@ -35,6 +39,11 @@ abbrev pub dump_fault : DumpFault → TextFault
 dump_fault dumps.Memory = texts.Memory
 dump_fault fault = texts.Dump fault
 
+-- the fault that a fault of a state's text is
+abbrev pub state_fault : StateFault → TextFault
+state_fault states.Memory = texts.Memory
+state_fault fault = texts.State fault
+
 -- 3 where memory, a thread, a source or the sink failed, 2 where the input is refused
 abbrev pub status_of : TextFault → ℕ
 status_of (texts.Config configs.Memory) = 3
@@ -43,6 +52,8 @@ status_of (texts.Trace traces.Memory) = 3
 status_of (texts.Trace fault) = 2
 status_of (texts.Dump dumps.Memory) = 3
 status_of (texts.Dump fault) = 2
+status_of (texts.State states.Memory) = 3
+status_of (texts.State fault) = 2
 status_of texts.Workers = 2
 status_of texts.Memory = 3
 status_of texts.Start = 3
@@ -56,6 +67,7 @@ abbrev pub fault_words : TextFault → List ℕ
 fault_words (texts.Config fault) = config_fault_words fault
 fault_words (texts.Trace fault) = trace_fault_words fault
 fault_words (texts.Dump fault) = dump_fault_words fault
+fault_words (texts.State fault) = state_fault_words fault
 fault_words texts.Workers = codes "bad number of workers"
 fault_words texts.Memory = codes "out of memory"
 fault_words texts.Start = codes "a worker could not be started"
@@ -69,6 +81,7 @@ abbrev pub fault_number : TextFault → Option ℕ
 fault_number (texts.Trace (traces.BadLine number)) = Some number
 fault_number (texts.Dump (dumps.BadLine number)) = Some number
 fault_number (texts.Dump (dumps.Frame frame)) = Some frame
+fault_number (texts.State fault) = state_fault_number fault
 fault_number (texts.BadActor program) = Some program
 fault_number fault = None
 
@@ -79,8 +92,14 @@ numeral_of (Some number) = decimal number
 -- what is said behind the number
 abbrev pub fault_end : TextFault → List ℕ
 fault_end (texts.Dump fault) = dump_fault_end fault
+fault_end (texts.State fault) = state_fault_end fault
 fault_end fault = []
+
+-- what an audit finds first in the dump of a state
+abbrev pub fault_finding : TextFault → List ℕ
+fault_finding (texts.State (states.Found finding)) = finding_text finding
+fault_finding fault = []
 
 -- the whole line, with the line feed
 abbrev pub fault_line : TextFault → List ℕ
-fault_line fault = codes "kcore: " ++ fault_words fault ++ numeral_of (fault_number fault) ++ fault_end fault ++ codes "\n"
+fault_line fault = codes "kcore: " ++ fault_words fault ++ numeral_of (fault_number fault) ++ fault_finding fault ++ fault_end fault ++ codes "\n"

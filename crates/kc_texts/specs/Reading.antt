@@ -9,6 +9,7 @@ use Rattle.kc_trace.specs.Trace.{IsTrace}
 use Rattle.kc_trace.specs.declared.config_text.ConfigTextFault.TheVariants as configs
 use Rattle.kc_trace.specs.declared.fault.TraceFault.{TraceFault}
 use Rattle.kc_trace.specs.declared.fault.TraceFault.TheVariants as traces
+use Rattle.kc_state_text.specs.declared.fault.StateFault.TheVariants as states
 use Rattle.kc_texts.specs.declared.fault.TextFault.{TextFault}
 use Rattle.kc_texts.specs.declared.fault.TextFault.TheVariants as texts
 
@@ -29,7 +30,7 @@ pub record HaveRead (config_source trace_source : Option (List ℕ)) (config : C
 
 -- out of memory is told as that, and never as a fault of a text; no fault is one of a dump
 abbrev pub IsTold : TextFault → Type 0
-IsTold fault = (fault ≢ texts.Config configs.Memory) × (fault ≢ texts.Trace traces.Memory) × ((said : DumpFault) → fault ≢ texts.Dump said)
+IsTold fault = (fault ≢ texts.Config configs.Memory) × (fault ≢ texts.Trace traces.Memory) × (fault ≢ texts.State states.Memory) × ((said : DumpFault) → fault ≢ texts.Dump said)
 
 -- reading ends in a fault of a source, of a text or of memory
 pub record IsReadingFault (fault : TextFault) : Type 0 where

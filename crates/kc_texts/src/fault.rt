@@ -1,10 +1,11 @@
 //! What goes wrong between the sources and the sink.
 ghost use Rattle.std.specs.Prelude.{◌≡◌, ◌≤◌, length};
-ghost use Rattle.kc_texts.specs.Faults.{read_fault, text_fault, config_fault, dump_fault, status_of, fault_words, fault_number, fault_end};
+ghost use Rattle.kc_texts.specs.Faults.{read_fault, text_fault, config_fault, dump_fault, state_fault, status_of, fault_words, fault_number, fault_end};
 
 use crate::stream::StreamFault;
 use crate::whole::ReadFault;
 use kc_dump_text::DumpFault;
+use kc_state_text::StateFault;
 use kc_trace::{ConfigTextFault, TraceFault};
 use std::error::Error;
 use std::fmt;
@@ -18,6 +19,8 @@ pub enum TextFault {
     Trace(TraceFault),
     /// The dump's text is refused.
     Dump(DumpFault),
+    /// The text of the state that the calls start from is refused.
+    State(StateFault),
     /// The number of workers is 0 or above 64.
     Workers,
     /// A growth of memory was refused.
@@ -79,6 +82,17 @@ impl From<DumpFault> for TextFault {
     }
 }
 
+impl From<StateFault> for TextFault {
+    ghost from_gives = { λ fault made. made ≡ state_fault fault };
+
+    fn from(fault: StateFault) -> TextFault {
+        match fault {
+            StateFault::Memory => TextFault::Memory,
+            _ => TextFault::State(fault),
+        }
+    }
+}
+
 impl TextFault {
     /// The exit status: 2 where the input is refused, 3 where memory, a thread, a source or the sink failed.
     pub const fn status(&self) -> u8
@@ -87,10 +101,12 @@ impl TextFault {
         match self {
             TextFault::Config(ConfigTextFault::Memory)
             | TextFault::Trace(TraceFault::Memory)
-            | TextFault::Dump(DumpFault::Memory) => 3,
+            | TextFault::Dump(DumpFault::Memory)
+            | TextFault::State(StateFault::Memory) => 3,
             TextFault::Config(_)
             | TextFault::Trace(_)
             | TextFault::Dump(_)
+            | TextFault::State(_)
             | TextFault::Workers
             | TextFault::BadActor(_) => 2,
             TextFault::Memory
@@ -110,6 +126,7 @@ impl TextFault {
             TextFault::Config(fault) => fault.words(),
             TextFault::Trace(fault) => fault.words(),
             TextFault::Dump(fault) => fault.words(),
+            TextFault::State(fault) => fault.words(),
             TextFault::Workers => "bad number of workers",
             TextFault::Memory => "out of memory",
             TextFault::Start => "a worker could not be started",
@@ -128,6 +145,7 @@ impl TextFault {
             TextFault::Trace(TraceFault::BadLine(number)) => Some(*number as usize),
             TextFault::Dump(DumpFault::BadLine(number)) => Some(*number as usize),
             TextFault::Dump(DumpFault::Frame(frame)) => Some(*frame as usize),
+            TextFault::State(fault) => fault.number(),
             TextFault::BadActor(program) => Some(*program),
             _ => None,
         }
@@ -140,6 +158,7 @@ impl TextFault {
     {
         match self {
             TextFault::Dump(fault) => fault.end(),
+            TextFault::State(fault) => fault.end(),
             _ => "",
         }
     }

@@ -6,11 +6,13 @@ ghost use Rattle.kc_texts.specs.Faults.{status_of, fault_line};
 use crate::TextFault;
 use crate::source::Sink;
 use crate::whole::write_whole;
+use kc_audit::finding_text;
+use kc_state_text::StateFault;
 use arrayvec::ArrayString;
 use itoa::Buffer;
 
 /// The line of a fault, with its line feed.
-fn line(fault: &TextFault) -> ArrayString<96>
+fn line(fault: &TextFault) -> ArrayString<160>
     ensures { result.bytes ≡ fault_line fault.now }
 {
     let mut line = ArrayString::new();
@@ -18,6 +20,9 @@ fn line(fault: &TextFault) -> ArrayString<96>
     line.push_str(fault.words());
     if let Some(number) = fault.number() {
         line.push_str(Buffer::new().format(number));
+    }
+    if let TextFault::State(StateFault::Found(finding)) = fault {
+        line.push_str(finding_text(*finding).as_str());
     }
     line.push_str(fault.end());
     line.push_str("\n");

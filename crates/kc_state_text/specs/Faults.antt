@@ -1,0 +1,30 @@
+-- What is said of a text that is no state's.
+use Rattle.std.specs.Prelude.{ℕ, List, [], codes, Option, Some, None}
+use Rattle.kc_state_text.specs.declared.fault.StateFault.{StateFault}
+use Rattle.kc_state_text.specs.declared.fault.StateFault.TheVariants.{NoHeader, BadLine, Missing, Sizes, Found, Slot, Frame, Memory}
+
+-- why a text is no state's, up to the number of a line, a slot or a frame, or up to what an audit finds
+abbrev pub state_fault_words : StateFault → List ℕ
+state_fault_words NoHeader = codes "no state header"
+state_fault_words (BadLine number) = codes "bad state line "
+state_fault_words (Missing frame) = codes "dump frame "
+state_fault_words Sizes = codes "state of no configuration"
+state_fault_words (Found finding) = codes "state with finding "
+state_fault_words (Slot slot) = codes "bad slot "
+state_fault_words (Frame frame) = codes "bad frame "
+state_fault_words Memory = codes "out of memory"
+
+abbrev pub state_fault_number : StateFault → Option ℕ
+state_fault_number NoHeader = None
+state_fault_number (BadLine number) = Some number
+state_fault_number (Missing frame) = Some frame
+state_fault_number Sizes = None
+state_fault_number (Found finding) = None
+state_fault_number (Slot slot) = Some slot
+state_fault_number (Frame frame) = Some frame
+state_fault_number Memory = None
+
+-- the same behind the number
+abbrev pub state_fault_end : StateFault → List ℕ
+state_fault_end (Missing frame) = codes " missing or doubled"
+state_fault_end fault = []
