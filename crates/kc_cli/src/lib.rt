@@ -1,23 +1,24 @@
-//! The engines that replay a trace, into replies or a dump, and that make its calls live; how a core is dumped; and,
-//! beside them, what the program is asked, reads and writes.
+//! The engines that replay a trace, into replies, a dump or the text of a state, that tell its custody, and that make its
+//! calls live; and, beside them, what the program is asked, reads and writes.
 #![tactic(auto)]
 
 mod account;
 mod custody;
-mod dumping;
 mod engine;
+mod giving;
 mod history;
 mod live;
 mod replaying;
+mod starting;
 
 pub use account::CustodyForm;
 pub use custody::custody_text;
-pub use dumping::dump_text;
-pub use engine::replay_text;
+pub use engine::{ReplayOrder, replay_text, replay_to_text};
+pub use giving::ReplayForm;
 pub use history::replay_history;
 pub use kc_args::{ArgFault, Job, job_of};
 pub use kc_texts::{
-    DEFAULT_CONFIG, Failed, Mem, ReadFault, Sink, Source, Std, TextFault, audit_text, read_whole,
-    tell, write_whole,
+    DEFAULT_CONFIG, Failed, Mem, Origin, ReadFault, Sink, Source, Std, TextFault, audit_text,
+    read_whole, tell, write_whole,
 };
 pub use live::live_text;

@@ -11,9 +11,11 @@ ghost use Rattle.kc_replay.specs.Replayer.{IsFed};
 ghost use Rattle.kc_cli.specs.Engine.{IsReplayed, AreReplayed, IsReplayFault};
 ghost use Rattle.kc_texts.specs.Outcomes.{seen, TellsSources, TellsTexts, TellsReplay};
 
+use crate::starting::read_start;
+use kc_core::KCore;
 use kc_replay::{OpenGate, Outcome, ReplayFault, Replayer};
-use kc_texts::{CallStream, PIECE, Source, TextFault, read_configuration};
-use kc_types::{Call, Config, Reply, WORKER_LIMIT};
+use kc_texts::{CallStream, Origin, PIECE, Source, TextFault};
+use kc_types::{Call, Reply, WORKER_LIMIT};
 use std::alloc::Global;
 use std::sync::Wait;
 use std::thread::Threads;
@@ -111,18 +113,18 @@ fn wipe_left(rt: &(impl Threads + Sync), replayer: Replayer) {
     }
 }
 
-/// Makes the calls of the trace that a source has left, as it is read, by 1 to 64 workers. Where there is no outcome the
-/// core is wiped.
+/// Makes the calls of the trace that a source has left on a core, as it is read, by 1 to 64 workers. Where there is no
+/// outcome the core is wiped.
 fn replay_source<T: Source, R: Threads + Wait + Sync>(
     rt: &R,
     alloc: Global,
-    config: Config,
+    core: KCore,
     trace: &mut T,
     workers: u32,
 ) -> Result<Outcome, TextFault>
     requires workers { (0 < workers) × (workers ≤ worker_limit) }
     requires trace { T.failed trace.old ≡ false }
-    ensures ok { IfOk result (λ outcome. IfSome (T.left trace.old) (λ text. IsReplayed config text outcome.replies.items outcome.core)) }
+    ensures ok { IfOk result (λ outcome. IfSome (T.left trace.old) (λ text. IsReplayed core text outcome.replies.items outcome.core)) }
     ensures ended { OnOk result (IsAtEnd (T.left trace.new)) }
     ensures trace { (fault : TraceFault) → result ≡ Err (TextFault.Trace fault) → IfSome (T.left trace.old) (λ text. IsRefused text fault) × IsAtEnd (T.left trace.new) }
     ensures read { result ≡ Err TextFault.Read → ReadFailed (T.failed trace.new) (T.left trace.old) (T.left trace.new) }
@@ -130,7 +132,7 @@ fn replay_source<T: Source, R: Threads + Wait + Sync>(
     ensures started { result ≡ Err TextFault.Start → 1 < workers }
     ensures fault { IfErr result IsReplayFault }
 {
-    let Ok(replayer) = Replayer::new(alloc, config, workers as usize) else {
+    let Ok(replayer) = Replayer::from_core(core, workers as usize) else {
         return Err(TextFault::Memory);
     };
     let mut replayer = replayer;
@@ -146,26 +148,27 @@ fn replay_source<T: Source, R: Threads + Wait + Sync>(
     }
 }
 
-/// Reads a configuration to its end and a trace as it is replayed by so many workers: the replies and the core. The number
-/// of workers, 1 to 64, is judged before anything is read.
+/// Reads what the calls begin with to its end and a trace as it is replayed by so many workers: the replies and the core.
+/// The number of workers, 1 to 64, is judged before anything is read.
 pub(crate) fn replay_texts<C: Source, T: Source, R: Threads + Wait + Sync>(
     rt: &R,
     alloc: Global,
-    config: &mut C,
+    start: &mut C,
     trace: &mut T,
+    origin: Origin,
     workers: u32,
 ) -> Result<Outcome, TextFault>
-    requires config { C.failed config.old ≡ false }
+    requires start { C.failed start.old ≡ false }
     requires trace { T.failed trace.old ≡ false }
-    ensures ok { IfOk result (λ outcome. AreReplayed (C.left config.old) (T.left trace.old) outcome.replies.items outcome.core) }
-    ensures sources { TellsSources (seen (C.failed config.new) (C.left config.old) (C.left config.new) ∷ seen (T.failed trace.new) (T.left trace.old) (T.left trace.new) ∷ []) result }
-    ensures texts { TellsTexts (seen (C.failed config.new) (C.left config.old) (C.left config.new)) (seen (T.failed trace.new) (T.left trace.old) (T.left trace.new)) (trace.new ≡ trace.old) result }
-    ensures replay { TellsReplay workers (C.left config.old) result }
+    ensures ok { IfOk result (λ outcome. AreReplayed origin (C.left start.old) (T.left trace.old) outcome.replies.items outcome.core) }
+    ensures sources { TellsSources (seen (C.failed start.new) (C.left start.old) (C.left start.new) ∷ seen (T.failed trace.new) (T.left trace.old) (T.left trace.new) ∷ []) result }
+    ensures texts { TellsTexts origin (seen (C.failed start.new) (C.left start.old) (C.left start.new)) (seen (T.failed trace.new) (T.left trace.old) (T.left trace.new)) (trace.new ≡ trace.old) result }
+    ensures replay { TellsReplay workers origin (C.left start.old) result }
     ensures write { result ≢ Err TextFault.Write }
 {
     if workers == 0 || workers as usize > WORKER_LIMIT {
         return Err(TextFault::Workers);
     }
-    let config = read_configuration(alloc, config)?;
-    replay_source(rt, alloc, config, trace, workers)
+    let core = read_start(rt, alloc, start, origin)?;
+    replay_source(rt, alloc, core, trace, workers)
 }

@@ -1,5 +1,5 @@
 //! Numbers of workers that no word asks for, since the words are judged first.
-use kc_cli::{Mem, TextFault, replay_text};
+use kc_cli::{Mem, Origin, ReplayForm, ReplayOrder, TextFault, replay_text};
 use std::alloc::{AllocError, Global};
 use std::sync::Wait;
 use std::test::Fail;
@@ -14,7 +14,12 @@ fn worked(
     let mut config = Mem::with_bytes(Vec::from_slice(alloc, b"[]")?);
     let mut trace = Mem::with_bytes(Vec::from_slice(alloc, b"no trace")?);
     let mut out = Mem::new(alloc);
-    let outcome = replay_text(rt, alloc, &mut config, &mut trace, &mut out, workers);
+    let order = ReplayOrder {
+        origin: Origin::Boot,
+        form: ReplayForm::Replies,
+        workers,
+    };
+    let outcome = replay_text(rt, alloc, &mut config, &mut trace, &mut out, order);
     Ok((outcome, config.position, trace.position))
 }
 

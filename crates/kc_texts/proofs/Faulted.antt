@@ -4,6 +4,7 @@ use Rattle.kc_trace.specs.declared.config_text.ConfigTextFault.{ConfigTextFault}
 use Rattle.kc_trace.specs.declared.fault.TraceFault.TheVariants.{Memory}
 use Rattle.kc_texts.specs.Reading.{IsTold}
 use Rattle.kc_trace.specs.declared.fault.TraceFault.{TraceFault}
+use Rattle.kc_state_text.specs.declared.fault.StateFault.{StateFault}
 use Rattle.kc_texts.specs.declared.stream.StreamFault.{StreamFault}
 use Rattle.kc_texts.specs.declared.stream.StreamFault.TheVariants as streams
 use Rattle.kc_texts.specs.declared.fault.TextFault.TheVariants as texts
@@ -20,7 +21,12 @@ stream_config (streams.Trace other) fault e = cc
 stream_config streams.Memory fault e = cc
 stream_config streams.Read fault e = cc
 
+pub stream_state : (said : StreamFault) (fault : StateFault) → text_fault said ≢ texts.State fault
+stream_state (streams.Trace other) fault e = cc
+stream_state streams.Memory fault e = cc
+stream_state streams.Read fault e = cc
+
 pub stream_told : (said : StreamFault) → said ≢ streams.Trace Memory → IsTold (text_fault said)
-stream_told (streams.Trace other) h = (λ e. cc, λ e. let same : other ≡ Memory = cc in h (ap streams.Trace same), λ d e. cc)
-stream_told streams.Memory h = (λ e. cc, λ e. cc, λ d e. cc)
-stream_told streams.Read h = (λ e. cc, λ e. cc, λ d e. cc)
+stream_told (streams.Trace other) h = (λ e. cc, λ e. let same : other ≡ Memory = cc in h (ap streams.Trace same), λ e. cc, λ d e. cc)
+stream_told streams.Memory h = (λ e. cc, λ e. cc, λ e. cc, λ d e. cc)
+stream_told streams.Read h = (λ e. cc, λ e. cc, λ e. cc, λ d e. cc)

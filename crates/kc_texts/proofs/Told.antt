@@ -1,5 +1,5 @@
 -- What is told of the ends stays so in the last step of an engine.
-use Rattle.std.proofs.Common.{◌≡◌, ◌≢◌, ◌⊎◌, ℕ, Bool, true, List, Option, Some, None, Result, Ok, Err, inl, inr}
+use Rattle.std.proofs.Common.{◌≡◌, ◌≢◌, ◌⊎◌, ℕ, Bool, true, List, Option, Some, None, Result, Ok, Err, inl, inr, refl}
 use Rattle.std.specs.Prelude.{IfErr, IfSome, is_err, OnErr}
 use Rattle.std.specs.Io.KnownBytes.{IsAtEnd}
 use Rattle.kc_trace.specs.declared.config_text.ConfigTextFault.{ConfigTextFault}
@@ -7,7 +7,13 @@ use Rattle.kc_trace.specs.declared.fault.TraceFault.{TraceFault}
 use Rattle.kc_trace.specs.Trace.{IsRefused}
 use Rattle.kc_types.specs.Configuration.{Configuration}
 use Rattle.kc_trace.specs.ConfigText.{config_in}
-use Rattle.kc_texts.specs.Reading.{IsConfigured, IsConfigFault, IsTold}
+use Rattle.kc_model.specs.State.{State}
+use Rattle.kc_model.specs.Boot.{boot}
+use Rattle.kc_state_text.specs.declared.fault.StateFault.{StateFault}
+use Rattle.kc_state_text.specs.Refused.{IsRefusedState}
+use Rattle.kc_texts.specs.declared.origin.Origin.{Origin}
+use Rattle.kc_texts.specs.declared.origin.Origin.TheVariants as origins
+use Rattle.kc_texts.specs.Reading.{BeginsIn, IsBegun, IsStartFault, IsTold}
 use Rattle.kc_texts.specs.Outcomes.{Seen, TellsSources, TellsTexts, TellsReplay, TellsSink}
 use Rattle.kc_texts.specs.declared.fault.TextFault.{TextFault}
 use Rattle.kc_texts.specs.declared.fault.TextFault.TheVariants as texts
@@ -21,31 +27,32 @@ sources_after sources x (Ok y) h fault = record { ended = h.ended; read = λ e. 
 sources_after sources x (Err f) h (inl memory) = record { ended = tt; read = λ e. absurd cc; failed = λ bad. let e = h.failed bad in absurd cc }
 sources_after sources x (Err f) h (inr write) = record { ended = tt; read = λ e. absurd cc; failed = λ bad. let e = h.failed bad in absurd cc }
 
-pub texts_after : {A B : Type 0} (config trace : Seen) (unread : Type 0) (x : A) (last : Result B TextFault) → TellsTexts config trace unread (Ok x) → IfErr last IsLastFault → TellsTexts config trace unread last
-texts_after config trace unread x (Ok y) h fault = record { config_fault = λ f e. absurd cc; trace_fault = λ f e. absurd cc; behind = h.behind; configured = λ f e. absurd cc; told = tt }
-texts_after config trace unread x (Err f) h (inl memory) = record { config_fault = λ g e. absurd cc; trace_fault = λ g e. absurd cc; behind = h.behind; configured = λ g e. absurd cc; told = (λ e. cc, λ e. cc, λ d e. cc) }
-texts_after config trace unread x (Err f) h (inr write) = record { config_fault = λ g e. absurd cc; trace_fault = λ g e. absurd cc; behind = h.behind; configured = λ g e. absurd cc; told = (λ e. cc, λ e. cc, λ d e. cc) }
+pub texts_after : {A B : Type 0} (origin : Origin) (start trace : Seen) (unread : Type 0) (x : A) (last : Result B TextFault) → TellsTexts origin start trace unread (Ok x) → IfErr last IsLastFault → TellsTexts origin start trace unread last
+texts_after origin start trace unread x (Ok y) h fault = record { config_fault = λ f e. absurd cc; state_fault = λ f e. absurd cc; trace_fault = λ f e. absurd cc; behind = h.behind; begun = λ f e. absurd cc; told = tt }
+texts_after origin start trace unread x (Err f) h (inl memory) = record { config_fault = λ g e. absurd cc; state_fault = λ g e. absurd cc; trace_fault = λ g e. absurd cc; behind = h.behind; begun = λ g e. absurd cc; told = (λ e. cc, λ e. cc, λ e. cc, λ d e. cc) }
+texts_after origin start trace unread x (Err f) h (inr write) = record { config_fault = λ g e. absurd cc; state_fault = λ g e. absurd cc; trace_fault = λ g e. absurd cc; behind = h.behind; begun = λ g e. absurd cc; told = (λ e. cc, λ e. cc, λ e. cc, λ d e. cc) }
 
-pub replay_after : {A B : Type 0} (workers : ℕ) (config : Option (List ℕ)) (x : A) (last : Result B TextFault) → TellsReplay workers config (Ok x) → IfErr last IsLastFault → TellsReplay workers config last
-replay_after workers config x (Ok y) h fault = record { judged = (λ e. absurd cc, λ bad. let e = h.judged.1 bad in absurd cc); started = λ e. absurd cc; settled = λ e. cc; actor = λ p e. cc }
-replay_after workers config x (Err f) h (inl memory) = record { judged = (λ e. absurd cc, λ bad. let e = h.judged.1 bad in absurd cc); started = λ e. absurd cc; settled = λ e. cc; actor = λ p e. cc }
-replay_after workers config x (Err f) h (inr write) = record { judged = (λ e. absurd cc, λ bad. let e = h.judged.1 bad in absurd cc); started = λ e. absurd cc; settled = λ e. cc; actor = λ p e. cc }
+pub replay_after : {A B : Type 0} (workers : ℕ) (origin : Origin) (start : Option (List ℕ)) (x : A) (last : Result B TextFault) → TellsReplay workers origin start (Ok x) → IfErr last IsLastFault → TellsReplay workers origin start last
+replay_after workers origin start x (Ok y) h fault = record { judged = (λ e. absurd cc, λ bad. let e = h.judged.1 bad in absurd cc); started = λ e. absurd cc; settled = λ e. cc; actor = λ p e. cc }
+replay_after workers origin start x (Err f) h (inl memory) = record { judged = (λ e. absurd cc, λ bad. let e = h.judged.1 bad in absurd cc); started = λ e. absurd cc; settled = λ e. cc; actor = λ p e. cc }
+replay_after workers origin start x (Err f) h (inr write) = record { judged = (λ e. absurd cc, λ bad. let e = h.judged.1 bad in absurd cc); started = λ e. absurd cc; settled = λ e. cc; actor = λ p e. cc }
 
 -- a fault from which nothing was written
 pub sources_err : {A B : Type 0} (sources : List Seen) (f : TextFault) → TellsSources {A = A} sources (Err f) → TellsSources {A = B} sources (Err f)
 sources_err sources f h = record { ended = tt; read = λ e. h.read (let same : f ≡ texts.Read = cc in cc); failed = λ bad. let e = h.failed bad in let same : f ≡ texts.Read = cc in cc }
 
-pub texts_err : {A B : Type 0} (config trace : Seen) (unread : Type 0) (f : TextFault) → TellsTexts {A = A} config trace unread (Err f) → TellsTexts {A = B} config trace unread (Err f)
-texts_err config trace unread f h = record {
+pub texts_err : {A B : Type 0} (origin : Origin) (start trace : Seen) (unread : Type 0) (f : TextFault) → TellsTexts {A = A} origin start trace unread (Err f) → TellsTexts {A = B} origin start trace unread (Err f)
+texts_err origin start trace unread f h = record {
   config_fault = λ g e. h.config_fault g (let same : f ≡ texts.Config g = cc in cc);
+  state_fault = λ g e. h.state_fault g (let same : f ≡ texts.State g = cc in cc);
   trace_fault = λ g e. h.trace_fault g (let same : f ≡ texts.Trace g = cc in cc);
   behind = h.behind;
-  configured = λ g e. h.configured g (let same : f ≡ texts.Trace g = cc in cc);
+  begun = λ g e. h.begun g (let same : f ≡ texts.Trace g = cc in cc);
   told = h.told;
 }
 
-pub replay_err : {A B : Type 0} (workers : ℕ) (config : Option (List ℕ)) (f : TextFault) → TellsReplay {A = A} workers config (Err f) → TellsReplay {A = B} workers config (Err f)
-replay_err workers config f h = record {
+pub replay_err : {A B : Type 0} (workers : ℕ) (origin : Origin) (start : Option (List ℕ)) (f : TextFault) → TellsReplay {A = A} workers origin start (Err f) → TellsReplay {A = B} workers origin start (Err f)
+replay_err workers origin start f h = record {
   judged = (λ e. h.judged.0 (let same : f ≡ texts.Workers = cc in cc), λ bad. let e = h.judged.1 bad in let same : f ≡ texts.Workers = cc in cc);
   started = λ e. h.started (let same : f ≡ texts.Start = cc in cc);
   settled = λ e. h.settled (let same : f ≡ texts.Unsettled = cc in cc);
@@ -56,28 +63,37 @@ replay_err workers config f h = record {
 pub sink_more : {A : Type 0} (failed : Bool) (begun more untouched : Type 0) (result : Result A TextFault) → (begun → more) → TellsSink failed begun untouched result → TellsSink failed more untouched result
 sink_more failed begun more untouched result step h = record { write = λ e. let one = h.write e in (one.0, step one.1); failed_is = h.failed_is; kept = h.kept }
 
-configured_is : (had : Option (List ℕ)) (config : Configuration) → IfSome had (λ text. config_in text ≡ Ok config) → IsConfigured had
-configured_is None config h = tt
-configured_is (Some text) config h = (config, h)
+-- a source that tells its text tells a start
+pub begun_is : (origin : Origin) (had : Option (List ℕ)) (m : State) → IfSome had (λ text. BeginsIn origin text m) → IsBegun origin had
+begun_is origin None m h = tt
+begun_is origin (Some text) m h = (m, h)
 
--- the configuration was refused
-pub texts_config : {A : Type 0} (config trace : Seen) (unread : Type 0) (f : TextFault) → ((said : ConfigTextFault) → f ≡ texts.Config said → IfSome config.had (λ text. config_in text ≡ Err said) × IsAtEnd config.has) → IsConfigFault f → unread → TellsTexts {A = A} config trace unread (Err f)
-texts_config config trace unread f refused fault none = record {
-  config_fault = λ said e. let is = refused said (let same : f ≡ texts.Config said = cc in same) in (is.0, is.1, none);
+-- that of a configuration is its boot state
+pub boots : (had : Option (List ℕ)) (config : Configuration) → IfSome had (λ text. config_in text ≡ Ok config) → IfSome had (λ text. BeginsIn origins.Boot text (boot config))
+boots None config h = tt
+boots (Some text) config h = (config, h, refl)
+
+-- what the calls begin with was refused
+pub texts_start : {A : Type 0} (origin : Origin) (start trace : Seen) (unread : Type 0) (f : TextFault) → ((said : ConfigTextFault) → f ≡ texts.Config said → IfSome start.had (λ text. config_in text ≡ Err said) × IsAtEnd start.has)
+    → ((said : StateFault) → f ≡ texts.State said → IfSome start.had (λ text. IsRefusedState text said) × IsAtEnd start.has) → IsStartFault f → unread → TellsTexts {A = A} origin start trace unread (Err f)
+texts_start origin start trace unread f config state fault none = record {
+  config_fault = λ said e. let is = config said (let same : f ≡ texts.Config said = cc in same) in (is.0, is.1, none);
+  state_fault = λ said e. let is = state said (let same : f ≡ texts.State said = cc in same) in (is.0, is.1, none);
   trace_fault = λ said e. absurd (fault.trace said (let same : f ≡ texts.Trace said = cc in same));
   behind = inl none;
-  configured = λ said e. absurd (fault.trace said (let same : f ≡ texts.Trace said = cc in same));
+  begun = λ said e. absurd (fault.trace said (let same : f ≡ texts.Trace said = cc in same));
   told = fault.reading.told;
 }
 
--- the trace was refused, behind a configuration
-pub texts_trace : {A : Type 0} (config trace : Seen) (unread : Type 0) (read : Configuration) (f : TextFault) → IfSome config.had (λ text. config_in text ≡ Ok read) → ((said : TraceFault) → f ≡ texts.Trace said → IfSome trace.had (λ text. IsRefused text said) × IsAtEnd trace.has) → ((said : ConfigTextFault) → f ≢ texts.Config said) → IsTold f
-    → TellsTexts {A = A} config trace unread (Err f)
-texts_trace config trace unread read f known refused other told = record {
-  config_fault = λ said e. absurd (other said (let same : f ≡ texts.Config said = cc in same));
+-- the trace was refused, behind a start
+pub texts_trace : {A : Type 0} (origin : Origin) (start trace : Seen) (unread : Type 0) (m : State) (f : TextFault) → IfSome start.had (λ text. BeginsIn origin text m) → ((said : TraceFault) → f ≡ texts.Trace said → IfSome trace.had (λ text. IsRefused text said) × IsAtEnd trace.has)
+    → ((said : ConfigTextFault) → f ≢ texts.Config said) → ((said : StateFault) → f ≢ texts.State said) → IsTold f → TellsTexts {A = A} origin start trace unread (Err f)
+texts_trace origin start trace unread m f known refused config state told = record {
+  config_fault = λ said e. absurd (config said (let same : f ≡ texts.Config said = cc in same));
+  state_fault = λ said e. absurd (state said (let same : f ≡ texts.State said = cc in same));
   trace_fault = λ said e. refused said (let same : f ≡ texts.Trace said = cc in same);
-  behind = inr (configured_is config.had read known);
-  configured = λ said e. configured_is config.had read known;
+  behind = inr (begun_is origin start.had m known);
+  begun = λ said e. begun_is origin start.had m known;
   told = told;
 }
 

@@ -8,7 +8,10 @@ use Rattle.kc_trace.specs.declared.fault.TraceFault.{TraceFault}
 use Rattle.kc_trace.specs.ConfigText.{config_in}
 use Rattle.kc_trace.specs.Trace.{IsRefused}
 use Rattle.kc_texts.specs.Ends.{ReadFailed}
-use Rattle.kc_texts.specs.Reading.{IsConfigured, IsTold}
+use Rattle.kc_state_text.specs.declared.fault.StateFault.{StateFault}
+use Rattle.kc_state_text.specs.Refused.{IsRefusedState}
+use Rattle.kc_texts.specs.declared.origin.Origin.{Origin}
+use Rattle.kc_texts.specs.Reading.{IsBegun, IsTold}
 use Rattle.kc_texts.specs.declared.fault.TextFault.{TextFault}
 use Rattle.kc_texts.specs.declared.fault.TextFault.TheVariants as texts
 
@@ -38,22 +41,23 @@ pub record TellsSources {A : Type 0} (sources : List Seen) (result : Result A Te
   pub read : result ≡ Err texts.Read → HasFailedRead sources
   pub failed : HasFailed sources → result ≡ Err texts.Read
 
--- `unread` says that nothing was read of the trace
-pub record TellsTexts {A : Type 0} (config trace : Seen) (unread : Type 0) (result : Result A TextFault) : Type 0 where
+-- `start` is the source of what the calls begin with, `unread` says that nothing was read of the trace
+pub record TellsTexts {A : Type 0} (origin : Origin) (start trace : Seen) (unread : Type 0) (result : Result A TextFault) : Type 0 where
   -- the fault of a text is that of all the bytes that its source held
-  pub config_fault : (fault : ConfigTextFault) → result ≡ Err (texts.Config fault) → IfSome config.had (λ text. config_in text ≡ Err fault) × IsAtEnd config.has × unread
+  pub config_fault : (fault : ConfigTextFault) → result ≡ Err (texts.Config fault) → IfSome start.had (λ text. config_in text ≡ Err fault) × IsAtEnd start.has × unread
+  pub state_fault : (fault : StateFault) → result ≡ Err (texts.State fault) → IfSome start.had (λ text. IsRefusedState text fault) × IsAtEnd start.has × unread
   pub trace_fault : (fault : TraceFault) → result ≡ Err (texts.Trace fault) → IfSome trace.had (λ text. IsRefused text fault) × IsAtEnd trace.has
-  -- the trace is read and judged only behind a configuration
-  pub behind : unread ⊎ IsConfigured config.had
-  pub configured : (fault : TraceFault) → result ≡ Err (texts.Trace fault) → IsConfigured config.had
+  -- the trace is read and judged only behind a start
+  pub behind : unread ⊎ IsBegun origin start.had
+  pub begun : (fault : TraceFault) → result ≡ Err (texts.Trace fault) → IsBegun origin start.had
   -- out of memory is told as that, and never as a fault of a text; no fault is one of a dump
   pub told : IfErr result IsTold
 
--- what a replay by so many workers may be refused for, behind this configuration
-pub record TellsReplay {A : Type 0} (workers : ℕ) (config : Option (List ℕ)) (result : Result A TextFault) : Type 0 where
+-- what a replay by so many workers may be refused for, behind this start
+pub record TellsReplay {A : Type 0} (workers : ℕ) (origin : Origin) (start : Option (List ℕ)) (result : Result A TextFault) : Type 0 where
   pub judged : IsErrOf result texts.Workers ↔ ((workers ≡ 0) ⊎ (worker_limit < workers))
   -- a worker is started only where there is more than one
-  pub started : result ≡ Err texts.Start → (1 < workers) × IsConfigured config
+  pub started : result ≡ Err texts.Start → (1 < workers) × IsBegun origin start
   -- no fault of a live run comes
   pub settled : result ≢ Err texts.Unsettled
   pub actor : (program : ℕ) → result ≢ Err (texts.BadActor program)

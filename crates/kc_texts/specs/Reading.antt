@@ -3,13 +3,20 @@ use Rattle.std.specs.Prelude.{◌≡◌, ◌≢◌, ℕ, List, take, Option, Som
 use Rattle.std.specs.Io.KnownBytes.{Appends}
 use Rattle.kc_types.specs.Configuration.{Configuration}
 use Rattle.kc_types.specs.declared.call.Call.{Call}
+use Rattle.kc_model.specs.State.{State}
+use Rattle.kc_model.specs.Boot.{boot}
 use Rattle.kc_dump_text.specs.declared.fault.DumpFault.{DumpFault}
 use Rattle.kc_trace.specs.ConfigText.{config_in}
 use Rattle.kc_trace.specs.Trace.{IsTrace}
 use Rattle.kc_trace.specs.declared.config_text.ConfigTextFault.TheVariants as configs
 use Rattle.kc_trace.specs.declared.fault.TraceFault.{TraceFault}
 use Rattle.kc_trace.specs.declared.fault.TraceFault.TheVariants as traces
+use Rattle.kc_state_text.specs.declared.fault.StateFault.{StateFault}
 use Rattle.kc_state_text.specs.declared.fault.StateFault.TheVariants as states
+use Rattle.kc_replay.specs.Volumes.{IsCoreState}
+use Rattle.kc_state_text.specs.StateText.{state_text}
+use Rattle.kc_texts.specs.declared.origin.Origin.{Origin}
+use Rattle.kc_texts.specs.declared.origin.Origin.TheVariants as origins
 use Rattle.kc_texts.specs.declared.fault.TextFault.{TextFault}
 use Rattle.kc_texts.specs.declared.fault.TextFault.TheVariants as texts
 
@@ -17,6 +24,16 @@ use Rattle.kc_texts.specs.declared.fault.TextFault.TheVariants as texts
 abbrev pub IsConfigured : Option (List ℕ) → Type 0
 IsConfigured None = Unit {0}
 IsConfigured (Some text) = (config : Configuration) × (config_in text ≡ Ok config)
+
+-- calls begin in this state: the boot state of the configuration that the text is, or the one whose text it is
+abbrev pub BeginsIn : Origin → List ℕ → State → Type 0
+BeginsIn origins.Boot text m = (config : Configuration) × (config_in text ≡ Ok config) × (m ≡ boot config)
+BeginsIn origins.State text m = IsCoreState m × (text ≡ state_text m)
+
+-- there is a state in which they begin, where the source tells its text
+abbrev pub IsBegun : Origin → Option (List ℕ) → Type 0
+IsBegun origin None = Unit {0}
+IsBegun origin (Some text) = (m : State) × BeginsIn origin text m
 
 -- the configuration and the trace that the texts hold
 pub record AreRead (config_text trace_text : List ℕ) (config : Configuration) (calls : List Call) : Type 0 where
@@ -41,10 +58,15 @@ pub record IsReadingFault (fault : TextFault) : Type 0 where
   pub write : fault ≢ texts.Write
   pub told : IsTold fault
 
--- reading a configuration ends in no fault of a trace
-pub record IsConfigFault (fault : TextFault) : Type 0 where
+-- reading what the calls begin with ends in no fault of a trace
+pub record IsStartFault (fault : TextFault) : Type 0 where
   pub reading : IsReadingFault fault
   pub trace : (said : TraceFault) → fault ≢ texts.Trace said
+
+-- reading a configuration ends in no fault of a state either
+pub record IsConfigFault (fault : TextFault) : Type 0 where
+  pub start : IsStartFault fault
+  pub state : (said : StateFault) → fault ≢ texts.State said
 
 -- the sink took a text of what the sources held, where all of them tell
 abbrev pub Writes : (List ℕ → List ℕ → List ℕ → Type 0) → Option (List ℕ) → Option (List ℕ) → Option (List ℕ) → Option (List ℕ) → Type 0

@@ -9,6 +9,7 @@ ghost use Rattle.kc_texts.specs.Reading.{HaveRead, IsReadingFault, IsConfigFault
 ghost use Rattle.kc_texts.specs.Outcomes.{seen, TellsSources, TellsTexts};
 
 use crate::TextFault;
+use crate::origin::Origin;
 use crate::source::Source;
 use crate::stream::read_calls;
 use crate::whole::read_whole;
@@ -48,7 +49,7 @@ pub fn read_both<C: Source, T: Source>(
     ensures ok { IfOk result (λ read. HaveRead (C.left config.old) (T.left trace.old) read.0 read.1.items) }
     ensures short { IfOk result (λ read. length read.1.items ≤ call_limit) }
     ensures sources { TellsSources (seen (C.failed config.new) (C.left config.old) (C.left config.new) ∷ seen (T.failed trace.new) (T.left trace.old) (T.left trace.new) ∷ []) result }
-    ensures texts { TellsTexts (seen (C.failed config.new) (C.left config.old) (C.left config.new)) (seen (T.failed trace.new) (T.left trace.old) (T.left trace.new)) (trace.new ≡ trace.old) result }
+    ensures texts { TellsTexts Origin.Boot (seen (C.failed config.new) (C.left config.old) (C.left config.new)) (seen (T.failed trace.new) (T.left trace.old) (T.left trace.new)) (trace.new ≡ trace.old) result }
     ensures fault { IfErr result IsReadingFault }
 {
     let config = read_configuration(alloc, config)?;

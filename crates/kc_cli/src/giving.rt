@@ -1,0 +1,143 @@
+//! What is written of a replay: its replies, or the core that it leaves.
+ghost use Rattle.std.specs.Prelude.{◌≡◌, ◌⊎◌, ◌++◌, ℕ, List, take, false, IfErr, IfOk, OnOk};
+ghost use Rattle.std.specs.Io.KnownBytes.{Appends};
+ghost use Rattle.kc_trace.specs.ReplyText.{reply_text_of};
+ghost use Rattle.kc_dump_text.specs.DumpText.{dump_text};
+ghost use Rattle.kc_state.specs.Dumping.{dump_of};
+ghost use Rattle.kc_state_text.specs.StateText.{state_text};
+ghost use Rattle.kc_texts.specs.Outcomes.{TellsSink};
+ghost use Rattle.kc_cli.specs.Engine.{written_text};
+
+use kc_core::KCore;
+use kc_dump_text::write_dump;
+use kc_replay::Outcome;
+use kc_state::dump;
+use kc_state_text::StatePieces;
+use kc_texts::{Failed, Sink, TextFault, empty_piece, give_replies, write_whole};
+use kc_types::{Memory, Reply};
+use std::alloc::Global;
+use std::thread::Threads;
+
+/// What is written of a replay.
+#[derive(Clone, Copy, Debug, PartialEq, Eq)]
+pub enum ReplayForm {
+    /// The replies, a line each.
+    Replies,
+    /// The dump of the core that the trace leaves.
+    Dump,
+    /// The text of the state that it leaves.
+    State,
+}
+
+/// Gives the text of replies.
+fn give_text<K: Sink>(alloc: Global, replies: &[Reply], out: &mut K) -> Result<(), TextFault>
+    requires { K.failed out.old ≡ false }
+    ensures ok { OnOk result (Appends (K.taken out.old) (K.taken out.new) (reply_text_of replies.now)) }
+    ensures sink { TellsSink (K.failed out.new) ((n : ℕ) × Appends (K.taken out.old) (K.taken out.new) (take n (reply_text_of replies.now))) (out.new ≡ out.old) result }
+    ensures fault { IfErr result (λ fault. (fault ≡ TextFault.Memory) ⊎ (fault ≡ TextFault.Write)) }
+{
+    // All memory that writing takes is there before the first byte is written.
+    let Ok(piece) = empty_piece(alloc) else {
+        return Err(TextFault::Memory);
+    };
+    match give_replies(out, piece, replies) {
+        Ok(()) => Ok(()),
+        Err(_) => Err(TextFault::Write),
+    }
+}
+
+/// The text of a core's dump.
+fn text_of(rt: &(impl Threads + Sync), alloc: Global, core: &KCore) -> Result<Vec<u8>, Memory>
+    ensures { IfOk result (λ text. text.items ≡ dump_text (dump_of core.now)) }
+{
+    let dumped = dump(rt, alloc, core)?;
+    write_dump(alloc, &dumped)
+}
+
+/// Gives the text of a core's dump.
+fn give_dump<K: Sink>(
+    rt: &(impl Threads + Sync),
+    alloc: Global,
+    core: &KCore,
+    out: &mut K,
+) -> Result<(), TextFault>
+    requires { K.failed out.old ≡ false }
+    ensures ok { OnOk result (Appends (K.taken out.old) (K.taken out.new) (dump_text (dump_of core.now))) }
+    ensures sink { TellsSink (K.failed out.new) ((n : ℕ) × Appends (K.taken out.old) (K.taken out.new) (take n (dump_text (dump_of core.now)))) (out.new ≡ out.old) result }
+    ensures fault { IfErr result (λ fault. (fault ≡ TextFault.Memory) ⊎ (fault ≡ TextFault.Write)) }
+{
+    let Ok(text) = text_of(rt, alloc, core) else {
+        return Err(TextFault::Memory);
+    };
+    match write_whole(out, &text) {
+        Ok(()) => Ok(()),
+        Err(_) => Err(TextFault::Write),
+    }
+}
+
+/// Gives pieces of a core's text to a sink until none is left. After an `Err` it has taken a beginning of them.
+fn give_pieces<K: Sink>(
+    core: &KCore,
+    mut pieces: StatePieces,
+    mut piece: Vec<u8>,
+    out: &mut K,
+) -> Result<(), Failed>
+    requires { K.failed out.old ≡ false }
+{
+    loop {
+        pieces.fill(core, &mut piece);
+        if piece.is_empty() {
+            return Ok(());
+        }
+        write_whole(out, &piece)?;
+    }
+}
+
+/// Gives the text of a core's state, a piece at a time.
+fn give_state<K: Sink>(
+    rt: &(impl Threads + Sync),
+    alloc: Global,
+    core: &KCore,
+    out: &mut K,
+) -> Result<(), TextFault>
+    requires { K.failed out.old ≡ false }
+    ensures ok { OnOk result (Appends (K.taken out.old) (K.taken out.new) (state_text core.now)) }
+    ensures sink { TellsSink (K.failed out.new) ((n : ℕ) × Appends (K.taken out.old) (K.taken out.new) (take n (state_text core.now))) (out.new ≡ out.old) result }
+    ensures fault { IfErr result (λ fault. (fault ≡ TextFault.Memory) ⊎ (fault ≡ TextFault.Write)) }
+{
+    // All memory that writing takes is there before the first byte is written.
+    let Ok(pieces) = StatePieces::new(rt, alloc, core) else {
+        return Err(TextFault::Memory);
+    };
+    let Ok(piece) = empty_piece(alloc) else {
+        return Err(TextFault::Memory);
+    };
+    match give_pieces(core, pieces, piece, out) {
+        Ok(()) => Ok(()),
+        Err(_) => Err(TextFault::Write),
+    }
+}
+
+/// Gives what is wanted of a replay. Its core is wiped before it goes, whatever the outcome.
+pub(crate) fn give_outcome<K: Sink>(
+    rt: &(impl Threads + Sync),
+    alloc: Global,
+    outcome: Outcome,
+    form: ReplayForm,
+    out: &mut K,
+) -> Result<(), TextFault>
+    requires { K.failed out.old ≡ false }
+    ensures ok { OnOk result (Appends (K.taken out.old) (K.taken out.new) (written_text form outcome.replies.items outcome.core)) }
+    ensures sink { TellsSink (K.failed out.new) ((n : ℕ) × Appends (K.taken out.old) (K.taken out.new) (take n (written_text form outcome.replies.items outcome.core))) (out.new ≡ out.old) result }
+    ensures fault { IfErr result (λ fault. (fault ≡ TextFault.Memory) ⊎ (fault ≡ TextFault.Write)) }
+{
+    let Outcome { replies, core } = outcome;
+    let mut core = core;
+    let given = match form {
+        ReplayForm::Replies => give_text(alloc, &replies, out),
+        ReplayForm::Dump => give_dump(rt, alloc, &core, out),
+        ReplayForm::State => give_state(rt, alloc, &core, out),
+    };
+    core.wipe(rt);
+    given
+}

@@ -1,0 +1,83 @@
+//! The core that the calls of a trace begin with.
+ghost use Rattle.std.specs.Prelude.{◌≡◌, false, true, IfOk, IfErr, IfSome, OnOk, Ok, Err};
+ghost use Rattle.std.specs.Io.KnownBytes.{IsAtEnd};
+ghost use Rattle.kc_model.specs.Boot.{boot};
+ghost use Rattle.kc_trace.specs.ConfigText.{config_in};
+ghost use Rattle.kc_trace.specs.declared.config_text.ConfigTextFault.{ConfigTextFault};
+ghost use Rattle.kc_replay.specs.Volumes.{IsCoreState};
+ghost use Rattle.kc_state_text.specs.Refused.{IsRefusedState};
+ghost use Rattle.kc_state_text.specs.StateText.{state_text};
+ghost use Rattle.kc_state_text.specs.declared.fault.StateFault.{StateFault};
+ghost use Rattle.kc_texts.specs.Ends.{ReadFailed};
+ghost use Rattle.kc_texts.specs.Reading.{BeginsIn, IsConfigFault, IsStartFault};
+
+use kc_core::KCore;
+use kc_state_text::read_state;
+use kc_texts::{Origin, Source, TextFault, read_configuration, read_whole};
+use std::alloc::Global;
+use std::thread::Threads;
+
+/// Reads a configuration to its end: the core in its boot state.
+fn boot_core<C: Source>(alloc: Global, start: &mut C) -> Result<KCore, TextFault>
+    requires { C.failed start.old ≡ false }
+    ensures ok { IfOk result (λ core. IfSome (C.left start.old) (λ text. BeginsIn Origin.Boot text core)) }
+    ensures ended { OnOk result (IsAtEnd (C.left start.new)) }
+    ensures mark { OnOk result (C.failed start.new ≡ false) }
+    ensures config { (fault : ConfigTextFault) → result ≡ Err (TextFault.Config fault) → IfSome (C.left start.old) (λ text. config_in text ≡ Err fault) × IsAtEnd (C.left start.new) }
+    ensures read { result ≡ Err TextFault.Read → ReadFailed (C.failed start.new) (C.left start.old) (C.left start.new) }
+    ensures source { C.failed start.new ≡ true → result ≡ Err TextFault.Read }
+    ensures fault { IfErr result IsConfigFault }
+{
+    let config = read_configuration(alloc, start)?;
+    match KCore::boot(alloc, config) {
+        Ok(core) => Ok(core),
+        Err(_) => Err(TextFault::Memory),
+    }
+}
+
+/// Reads the text of a state to its end: the core in that state. The text's memory is wiped.
+fn read_core<C: Source>(
+    rt: &(impl Threads + Sync),
+    alloc: Global,
+    start: &mut C,
+) -> Result<KCore, TextFault>
+    requires { C.failed start.old ≡ false }
+    ensures ok { IfOk result (λ core. IfSome (C.left start.old) (λ text. BeginsIn Origin.State text core)) }
+    ensures ended { OnOk result (IsAtEnd (C.left start.new)) }
+    ensures mark { OnOk result (C.failed start.new ≡ false) }
+    ensures state { (fault : StateFault) → result ≡ Err (TextFault.State fault) → IfSome (C.left start.old) (λ text. IsRefusedState text fault) × IsAtEnd (C.left start.new) }
+    ensures read { result ≡ Err TextFault.Read → ReadFailed (C.failed start.new) (C.left start.old) (C.left start.new) }
+    ensures source { C.failed start.new ≡ true → result ≡ Err TextFault.Read }
+    ensures fault { IfErr result IsStartFault }
+    ensures config { (fault : ConfigTextFault) → result ≡ Err (TextFault.Config fault) → ⊥ }
+{
+    let mut text = read_whole(alloc, start)?;
+    let core = read_state(rt, alloc, &text);
+    text.fill(0);
+    let core = core?;
+    Ok(core)
+}
+
+/// Reads what the calls begin with to its end: the core in the boot state of a configuration, or in the state that a text
+/// tells. A source that fails, or that has more than 1,073,741,824 bytes, is `Read`.
+pub(crate) fn read_start<C: Source>(
+    rt: &(impl Threads + Sync),
+    alloc: Global,
+    start: &mut C,
+    origin: Origin,
+) -> Result<KCore, TextFault>
+    requires { C.failed start.old ≡ false }
+    ensures ok { IfOk result (λ core. IfSome (C.left start.old) (λ text. BeginsIn origin text core)) }
+    ensures ended { OnOk result (IsAtEnd (C.left start.new)) }
+    ensures mark { OnOk result (C.failed start.new ≡ false) }
+    ensures config { (fault : ConfigTextFault) → result ≡ Err (TextFault.Config fault) → IfSome (C.left start.old) (λ text. config_in text ≡ Err fault) × IsAtEnd (C.left start.new) }
+    ensures state { (fault : StateFault) → result ≡ Err (TextFault.State fault) → IfSome (C.left start.old) (λ text. IsRefusedState text fault) × IsAtEnd (C.left start.new) }
+    ensures read { result ≡ Err TextFault.Read → ReadFailed (C.failed start.new) (C.left start.old) (C.left start.new) }
+    ensures source { C.failed start.new ≡ true → result ≡ Err TextFault.Read }
+    ensures fault { IfErr result IsStartFault }
+{
+    match origin {
+        Origin::Boot => boot_core(alloc, start),
+        Origin::State => read_core(rt, alloc, start),
+    }
+}
