@@ -8,6 +8,13 @@ use Rattle.clap.specs.declared.builder.value_parser.ValueParser.TheVariants.{Sig
 abbrev pub config_rule : Rule
 config_rule = record (new_rule (codes "config")) { long = Some (codes "config"); value_names = 1 }
 
+-- paths of state texts
+abbrev pub from_rule : Rule
+from_rule = record (new_rule (codes "from")) { long = Some (codes "from"); value_names = 1 }
+
+abbrev pub to_rule : Rule
+to_rule = record (new_rule (codes "to")) { long = Some (codes "to"); value_names = 1 }
+
 -- a whole number from 1 to 64
 abbrev pub workers_rule : Rule
 workers_rule = record (new_rule (codes "workers")) { long = Some (codes "workers"); value_names = 1; parser = Some (Signed (pos 1) (pos 64)) }
@@ -15,6 +22,9 @@ workers_rule = record (new_rule (codes "workers")) { long = Some (codes "workers
 -- a flag, which takes no value
 abbrev pub dump_rule : Rule
 dump_rule = record (new_rule (codes "dump")) { long = Some (codes "dump"); action = Some SetTrue }
+
+abbrev pub state_rule : Rule
+state_rule = record (new_rule (codes "state")) { long = Some (codes "state"); action = Some SetTrue }
 
 -- a whole number from 0 to 63
 abbrev pub vm_rule : Rule
@@ -35,7 +45,7 @@ abbrev pub explain_rule : Rule
 explain_rule = record (new_rule (codes "explain")) { long = Some (codes "explain"); action = Some SetTrue }
 
 abbrev pub replay : App
-replay = with_rule (with_rule (with_rule (with_rule (new_app (codes "replay")) config_rule) workers_rule) dump_rule) explain_rule
+replay = with_rule (with_rule (with_rule (with_rule (with_rule (with_rule (with_rule (new_app (codes "replay")) config_rule) from_rule) to_rule) workers_rule) dump_rule) state_rule) explain_rule
 
 abbrev pub live : App
 live = with_rule (with_rule (with_rule (new_app (codes "live")) config_rule) workers_rule) explain_rule

@@ -32,13 +32,18 @@ vm_in rows = option_map (λ text. slot_in rows) (first_of (codes "vm") rows)
 abbrev pub HasOptions : List Row → Option (Bor Text) → ℕ → Type 0
 HasOptions rows config workers = (option_map (λ s. s.now) config ≡ first_of (codes "config") rows) × (workers ≡ workers_in rows)
 
+-- the path behind this option is that of the rows
+abbrev pub HasPath : Text → List Row → Option (Bor Text) → Type 0
+HasPath option rows path = option_map (λ s. s.now) path ≡ first_of option rows
+
 -- the flag stands among the words
 abbrev pub IsSet : Text → List Row → Type 0
 IsSet flag rows = first_of flag rows ≡ Some (codes "true")
 
 -- what the subcommand of this name asks for, by the rows of its options: there are `replay`, `live`, `custody` and `audit` alone
 abbrev pub IsJobIn : Text → List Row → Job → Type 0
-IsJobIn name rows (Replay config workers dump explain) = (name ≢ codes "live") × (name ≢ codes "custody") × (name ≢ codes "audit") × HasOptions rows config workers × (IsTrue dump ↔ IsSet (codes "dump") rows) × (IsTrue explain ↔ IsSet (codes "explain") rows)
+IsJobIn name rows (Replay config from to workers dump state explain) = (name ≢ codes "live") × (name ≢ codes "custody") × (name ≢ codes "audit") × HasOptions rows config workers × HasPath (codes "from") rows from × HasPath (codes "to") rows to
+    × (IsTrue dump ↔ IsSet (codes "dump") rows) × (IsTrue state ↔ IsSet (codes "state") rows) × (IsTrue explain ↔ IsSet (codes "explain") rows)
 IsJobIn name rows (Live config workers explain) = (name ≡ codes "live") × HasOptions rows config workers × (IsTrue explain ↔ IsSet (codes "explain") rows)
 IsJobIn name rows (Custody config vm summary svg explain) = (name ≡ codes "custody") × (option_map (λ s. s.now) config ≡ first_of (codes "config") rows) × (vm ≡ vm_in rows)
     × (IsTrue summary ↔ IsSet (codes "summary") rows) × (IsTrue svg ↔ IsSet (codes "svg") rows) × (IsTrue explain ↔ IsSet (codes "explain") rows)
@@ -46,7 +51,7 @@ IsJobIn name rows (Audit all explain) = (name ≡ codes "audit") × (IsTrue all 
 
 -- the same where there may be no subcommand: then it is as if `replay` stood there alone
 abbrev pub Asks : Option (Text × List Row) → Job → Type 0
-Asks None (Replay config workers dump explain) = HasOptions [] config workers × (dump ≡ false) × (explain ≡ false)
+Asks None (Replay config from to workers dump state explain) = HasOptions [] config workers × HasPath (codes "from") [] from × HasPath (codes "to") [] to × (dump ≡ false) × (state ≡ false) × (explain ≡ false)
 Asks None (Live config workers explain) = ⊥
 Asks None (Custody config vm summary svg explain) = ⊥
 Asks None (Audit all explain) = ⊥

@@ -3,7 +3,7 @@ ghost use Rattle.std.specs.Prelude.{◌≡◌, ◌↔◌, IfOk, IfErr, IsTrue, m
 ghost use Rattle.clap.specs.declared.builder.command.Command.TheViews.{out-Command as fields_of};
 ghost use Rattle.clap.specs.Words.{app_of, rule_of, found_of, rows_of, first_of};
 ghost use Rattle.clap.specs.Values.{kind_of};
-ghost use Rattle.kc_args.specs.Commands.{kcore, replay, live, custody, audit, config_rule, workers_rule, dump_rule, vm_rule, summary_rule, svg_rule, all_rule, explain_rule};
+ghost use Rattle.kc_args.specs.Commands.{kcore, replay, live, custody, audit, config_rule, from_rule, to_rule, workers_rule, dump_rule, state_rule, vm_rule, summary_rule, svg_rule, all_rule, explain_rule};
 ghost use Rattle.kc_args.specs.Jobs.{in_range, workers_in, slot_in, vm_in, IsSet, IsJob, IsJobIn, IsRefusal, HasStatus};
 
 use clap::error::ErrorKind;
@@ -13,12 +13,17 @@ use std::alloc::{AllocError, Global};
 /// What the program is asked to do.
 #[derive(Clone, Copy, Debug, PartialEq, Eq)]
 pub enum Job<'a> {
-    /// Replay the trace on standard input, with the configuration in a file where a path is given, by 1 to 64 workers,
-    /// and write the replies, or the dump of the core that it leaves. `explain`, here and below: say more of a fault.
+    /// Replay the trace on standard input, with the configuration in a file where a path is given, or from the state whose
+    /// text is in the file `from`, by 1 to 64 workers, and write the replies, or with `dump` the dump of the core that it
+    /// leaves, or with `state` the text of its state; and compare that text with the file `to` where a path is given.
+    /// `config` and `from` exclude each other, and `dump` and `state`. `explain`, here and below: say more of a fault.
     Replay {
         config: Option<&'a str>,
+        from: Option<&'a str>,
+        to: Option<&'a str>,
         workers: u32,
         dump: bool,
+        state: bool,
         explain: bool,
     },
     /// Run the trace on standard input live, with the configuration in a file where a path is given, and replay the
@@ -77,6 +82,26 @@ fn config_arg<'a>(alloc: Global) -> Arg<'a>
         .help("A JSON text: frames, core, host, leaves and approved")
 }
 
+fn from_arg<'a>(alloc: Global) -> Arg<'a>
+    ensures rule { rule_of result ≡ from_rule }
+    ensures local { result.global ≡ false }
+{
+    Arg::new(alloc, "from")
+        .long("from")
+        .value_name("PATH")
+        .help("Begin in the state of this text, in place of a configuration's boot state")
+}
+
+fn to_arg<'a>(alloc: Global) -> Arg<'a>
+    ensures rule { rule_of result ≡ to_rule }
+    ensures local { result.global ≡ false }
+{
+    Arg::new(alloc, "to")
+        .long("to")
+        .value_name("PATH")
+        .help("Compare the state that the trace leaves with this text; the status is 1 where it is another")
+}
+
 fn workers_arg<'a>(alloc: Global) -> Arg<'a>
     ensures rule { rule_of result ≡ workers_rule }
     ensures local { result.global ≡ false }
@@ -98,6 +123,16 @@ fn dump_arg<'a>(alloc: Global) -> Arg<'a>
         .long("dump")
         .action(ArgAction::SetTrue)
         .help("Write the dump of the core that the trace leaves, in place of the replies")
+}
+
+fn state_arg<'a>(alloc: Global) -> Arg<'a>
+    ensures rule { rule_of result ≡ state_rule }
+    ensures local { result.global ≡ false }
+{
+    Arg::new(alloc, "state")
+        .long("state")
+        .action(ArgAction::SetTrue)
+        .help("Write the text of the state that the trace leaves, with every guest's bytes, in place of the replies")
 }
 
 fn vm_arg<'a>(alloc: Global) -> Arg<'a>
@@ -161,8 +196,11 @@ fn replay_command<'a>(alloc: Global) -> Result<Command<'a>, AllocError>
         )
         .override_usage("kcore replay [OPTIONS]")
         .arg(config_arg(alloc))?
+        .arg(from_arg(alloc))?
+        .arg(to_arg(alloc))?
         .arg(workers_arg(alloc))?
         .arg(dump_arg(alloc))?
+        .arg(state_arg(alloc))?
         .arg(explain_arg(alloc))
 }
 
@@ -330,17 +368,19 @@ fn job_in<'a>(name: &str, found: &ArgMatches<'a>) -> Job<'a>
             explain,
         };
     }
-    let dump = is_set(found, "dump");
     Job::Replay {
         config,
+        from: text_in(found, "from"),
+        to: text_in(found, "to"),
         workers,
-        dump,
+        dump: is_set(found, "dump"),
+        state: is_set(found, "state"),
         explain,
     }
 }
 
 /// What the words, without the program's name, ask for: `replay` or `live`, with or without `--config PATH` and
-/// `--workers N` with a number from 1 to 64, `replay` also with `--dump`; `custody`, with or without `--config PATH` and
+/// `--workers N` with a number from 1 to 64, `replay` also with `--from PATH`, `--to PATH`, `--dump` and `--state`; `custody`, with or without `--config PATH` and
 /// `--vm V` with a number from 0 to 63, `--summary` and `--svg`; `audit`, also with `--all`; each also with
 /// `--explain`; and `replay` for no words at all.
 pub fn job_of<'a>(alloc: Global, words: &'a [&'a str]) -> Result<Job<'a>, ArgFault>
@@ -356,8 +396,11 @@ pub fn job_of<'a>(alloc: Global, words: &'a [&'a str]) -> Result<Job<'a>, ArgFau
         Some((name, found)) => Ok(job_in(name, found)),
         None => Ok(Job::Replay {
             config: None,
+            from: None,
+            to: None,
             workers: 1,
             dump: false,
+            state: false,
             explain: false,
         }),
     }

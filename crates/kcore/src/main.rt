@@ -7,8 +7,8 @@ mod explaining;
 
 use crate::explaining::{Reading, explain_open, explain_words};
 use kc_cli::{
-    ArgFault, CustodyForm, DEFAULT_CONFIG, Job, Mem, Source, Std, TextFault, audit_text,
-    custody_text, dump_text, job_of, live_text, replay_text, tell,
+    ArgFault, CustodyForm, DEFAULT_CONFIG, Job, Mem, Origin, ReplayForm, ReplayOrder, Source, Std,
+    TextFault, audit_text, custody_text, job_of, live_text, replay_text, replay_to_text, tell,
 };
 use kc_explain::{Noted, Shown};
 use kc_replay::OpenGate;
@@ -25,22 +25,28 @@ type Input<'a> = Noted<Shown<'a, Std<Stdin>, HostRuntime>>;
 /// What is written of a trace.
 #[derive(Clone, Copy)]
 enum Wanted {
-    Replies,
-    Dump,
+    /// What is made of a replay.
+    Replay(ReplayForm),
     /// The trace of a live run of it.
     History,
     /// What happened to frames and slots, of one slot's VM alone where it is named.
     Custody(CustodyForm, Option<u32>),
 }
 
-/// What is said where both flags for the form of custody stand among the words, as the command says such things.
+/// What is said where two words stand together that exclude each other, as the command says such things.
 const TWO_FORMS: &str =
     "error: the argument '--summary' cannot be used with '--svg'\n\nUsage: kcore custody [OPTIONS]\n\nFor more information, try '--help'.\n";
+const DUMP_AND_STATE: &str =
+    "error: the argument '--dump' cannot be used with '--state'\n\nUsage: kcore replay [OPTIONS]\n\nFor more information, try '--help'.\n";
+const TWO_STARTS: &str =
+    "error: the argument '--config' cannot be used with '--from'\n\nUsage: kcore replay [OPTIONS]\n\nFor more information, try '--help'.\n";
 
 /// What is to be done with the trace on standard input.
 #[derive(Clone, Copy)]
 struct Order<'a> {
-    config: Option<&'a str>,
+    /// The file of what the calls begin with, if one is named, and what it holds.
+    start: Option<&'a str>,
+    origin: Origin,
     workers: u32,
     wanted: Wanted,
     explain: bool,
@@ -55,6 +61,20 @@ fn fail(rt: &HostRuntime, fault: TextFault) -> u8 {
 /// would have otherwise. Nothing can be read of it, and nothing written. Where it can't be opened, the program does without.
 fn stand_in(rt: &HostRuntime) -> Option<File> {
     File::open(rt, "/").ok()
+}
+
+/// Opens a file, or says why it can't be opened, and answers the exit status.
+fn open(rt: &HostRuntime, path: &str, explain: bool) -> Result<File, u8> {
+    match File::open(rt, path) {
+        Ok(file) => Ok(file),
+        Err(error) => {
+            let status = fail(rt, TextFault::Read);
+            if explain {
+                explain_open(rt, path, &error);
+            }
+            Err(status)
+        },
+    }
 }
 
 /// Standard input, of which is shown how much was read where standard error is a terminal and standard output is none.
@@ -81,80 +101,133 @@ fn input<'a>(rt: &'a HostRuntime, what: &str, explain: bool, is_trace: bool) -> 
     }
 }
 
-/// Runs the trace in a configuration, and writes what is asked for onto standard output.
+/// What comes of an order.
+enum Outcome {
+    Done,
+    /// The state left is not that of the text that it was compared with.
+    Another,
+}
+
+/// Replays the trace, and compares the state left with a file's text where there is one.
+fn replay_in<C: Source, R: Threads + Wait + Sync>(
+    rt: &HostRuntime,
+    threads: &R,
+    start: &mut C,
+    trace: &mut Input<'_>,
+    to: Option<File>,
+    plan: ReplayOrder,
+) -> Result<Outcome, TextFault>
+    requires start { C.failed start.old ≡ false }
+    requires trace { trace.old.inner.inner.failed ≡ false }
+{
+    let alloc = rt.alloc();
+    let mut out = Std::new(rt.stdout());
+    let Some(file) = to else {
+        replay_text(threads, alloc, start, trace, &mut out, plan)?;
+        return Ok(Outcome::Done);
+    };
+    let mut to = Std::new(file);
+    match replay_to_text(threads, alloc, start, trace, &mut to, &mut out, plan)? {
+        true => Ok(Outcome::Done),
+        false => Ok(Outcome::Another),
+    }
+}
+
+/// Runs the trace from where its calls begin, and writes what is asked for onto standard output.
 fn run_in<C: Source, R: Threads + Wait + Sync>(
     rt: &HostRuntime,
     threads: &R,
-    config: &mut C,
+    start: &mut C,
     trace: &mut Input<'_>,
+    to: Option<File>,
     order: Order<'_>,
-) -> Result<(), TextFault>
-    requires config { C.failed config.old ≡ false }
+) -> Result<Outcome, TextFault>
+    requires start { C.failed start.old ≡ false }
     requires trace { trace.old.inner.inner.failed ≡ false }
 {
     let alloc = rt.alloc();
     let mut out = Std::new(rt.stdout());
     match order.wanted {
-        Wanted::Replies => replay_text(threads, alloc, config, trace, &mut out, order.workers),
-        Wanted::Dump => dump_text(threads, alloc, config, trace, &mut out, order.workers),
+        Wanted::Replay(form) => {
+            let plan = ReplayOrder {
+                origin: order.origin,
+                form,
+                workers: order.workers,
+            };
+            return replay_in(rt, threads, start, trace, to, plan);
+        },
         Wanted::History => live_text(
             threads,
             alloc,
-            config,
+            start,
             trace,
             &mut out,
             order.workers,
             &OpenGate,
-        ),
+        )?,
         Wanted::Custody(form, vm) => {
-            custody_text(threads, alloc, config, trace, &mut out, form, vm)
+            custody_text(threads, alloc, start, trace, &mut out, form, vm)?
+        },
+    }
+    Ok(Outcome::Done)
+}
+
+/// The exit status of an outcome; where the state left is another, this is said.
+fn status_of(rt: &HostRuntime, outcome: Outcome) -> u8 {
+    match outcome {
+        Outcome::Done => 0,
+        Outcome::Another => {
+            let _ = rt.eprint("kcore: another state\n");
+            1
         },
     }
 }
 
-/// Runs the trace in the configuration of a file, and answers the exit status.
+/// Runs the trace from what a file holds, and answers the exit status.
 fn run_file<R: Threads + Wait + Sync>(
     rt: &HostRuntime,
     threads: &R,
     path: &str,
+    to: Option<File>,
     order: Order<'_>,
 ) -> u8 {
-    let _standing_in = stand_in(rt);
-    let file = match File::open(rt, path) {
+    let file = match open(rt, path, order.explain) {
         Ok(file) => file,
-        Err(error) => {
-            let status = fail(rt, TextFault::Read);
-            if order.explain {
-                explain_open(rt, path, &error);
-            }
-            return status;
-        },
+        Err(status) => return status,
     };
     let most = if order.explain { 65_536 } else { 0 };
-    let mut config = Noted::with_head(rt.alloc(), Std::new(file), most);
+    let mut start = Noted::with_head(rt.alloc(), Std::new(file), most);
     let mut trace = input(rt, "trace", order.explain, true);
-    let outcome = run_in(rt, threads, &mut config, &mut trace, order);
+    let outcome = run_in(rt, threads, &mut start, &mut trace, to, order);
     trace.inner.wipe();
-    let Err(fault) = outcome else {
-        return 0;
+    let fault = match outcome {
+        Ok(outcome) => return status_of(rt, outcome),
+        Err(fault) => fault,
     };
     let status = fail(rt, fault);
     if order.explain {
-        Reading::of(&config, path, &trace).explain(rt, &fault);
+        Reading::of(&start, path, &trace).explain(rt, &fault);
     }
     status
 }
 
 /// Runs the trace in the configuration where no other is named, and answers the exit status.
-fn run_default<R: Threads + Wait + Sync>(rt: &HostRuntime, threads: &R, order: Order<'_>) -> u8 {
+fn run_default<R: Threads + Wait + Sync>(
+    rt: &HostRuntime,
+    threads: &R,
+    to: Option<File>,
+    order: Order<'_>,
+) -> u8 {
     let Ok(bytes) = Vec::from_slice(rt.alloc(), DEFAULT_CONFIG.as_bytes()) else {
         return fail(rt, TextFault::Memory);
     };
     let mut trace = input(rt, "trace", order.explain, true);
-    let outcome = run_in(rt, threads, &mut Mem::with_bytes(bytes), &mut trace, order);
+    let mut start = Mem::with_bytes(bytes);
+    let outcome = run_in(rt, threads, &mut start, &mut trace, to, order);
     trace.inner.wipe();
-    let Err(fault) = outcome else {
-        return 0;
+    let fault = match outcome {
+        Ok(outcome) => return status_of(rt, outcome),
+        Err(fault) => fault,
     };
     let status = fail(rt, fault);
     if order.explain {
@@ -163,10 +236,24 @@ fn run_default<R: Threads + Wait + Sync>(rt: &HostRuntime, threads: &R, order: O
     status
 }
 
-fn run_trace<R: Threads + Wait + Sync>(rt: &HostRuntime, threads: &R, order: Order<'_>) -> u8 {
-    match order.config {
-        Some(path) => run_file(rt, threads, path, order),
-        None => run_default(rt, threads, order),
+/// Runs the trace, and answers the exit status. With `to` the state left is compared with the text of that file.
+fn run_trace<R: Threads + Wait + Sync>(
+    rt: &HostRuntime,
+    threads: &R,
+    to: Option<&str>,
+    order: Order<'_>,
+) -> u8 {
+    let _standing_in = stand_in(rt);
+    let to = match to {
+        Some(path) => match open(rt, path, order.explain) {
+            Ok(file) => Some(file),
+            Err(status) => return status,
+        },
+        None => None,
+    };
+    match order.start {
+        Some(path) => run_file(rt, threads, path, to, order),
+        None => run_default(rt, threads, to, order),
     }
 }
 
@@ -224,21 +311,59 @@ fn form_of(summary: bool, svg: bool) -> Option<CustodyForm> {
     }
 }
 
+/// What is written of a replay, by two flags; nothing where both stand among the words.
+fn replay_form(dump: bool, state: bool) -> Option<ReplayForm> {
+    match (dump, state) {
+        (false, false) => Some(ReplayForm::Replies),
+        (true, false) => Some(ReplayForm::Dump),
+        (false, true) => Some(ReplayForm::State),
+        (true, true) => None,
+    }
+}
+
+/// The file of what the calls begin with, if one is named, and what it holds; nothing where two are named.
+fn start_of<'a>(
+    config: Option<&'a str>,
+    from: Option<&'a str>,
+) -> Option<(Option<&'a str>, Origin)> {
+    match (config, from) {
+        (Some(_), Some(_)) => None,
+        (None, Some(from)) => Some((Some(from), Origin::State)),
+        (config, None) => Some((config, Origin::Boot)),
+    }
+}
+
+/// Says that two words exclude each other, and answers the exit status.
+fn refuse_both(rt: &HostRuntime, said: &str) -> u8 {
+    let _ = rt.eprint(said);
+    2
+}
+
 fn run_job<R: Threads + Wait + Sync>(rt: &HostRuntime, threads: &R, job: Job<'_>) -> u8 {
     match job {
         Job::Replay {
             config,
+            from,
+            to,
             workers,
             dump,
+            state,
             explain,
         } => {
+            let Some(form) = replay_form(dump, state) else {
+                return refuse_both(rt, DUMP_AND_STATE);
+            };
+            let Some((start, origin)) = start_of(config, from) else {
+                return refuse_both(rt, TWO_STARTS);
+            };
             let order = Order {
-                config,
+                start,
+                origin,
                 workers,
-                wanted: if dump { Wanted::Dump } else { Wanted::Replies },
+                wanted: Wanted::Replay(form),
                 explain,
             };
-            run_trace(rt, threads, order)
+            run_trace(rt, threads, to, order)
         },
         Job::Live {
             config,
@@ -246,12 +371,13 @@ fn run_job<R: Threads + Wait + Sync>(rt: &HostRuntime, threads: &R, job: Job<'_>
             explain,
         } => {
             let order = Order {
-                config,
+                start: config,
+                origin: Origin::Boot,
                 workers,
                 wanted: Wanted::History,
                 explain,
             };
-            run_trace(rt, threads, order)
+            run_trace(rt, threads, None, order)
         },
         Job::Custody {
             config,
@@ -261,16 +387,16 @@ fn run_job<R: Threads + Wait + Sync>(rt: &HostRuntime, threads: &R, job: Job<'_>
             explain,
         } => {
             let Some(form) = form_of(summary, svg) else {
-                let _ = rt.eprint(TWO_FORMS);
-                return 2;
+                return refuse_both(rt, TWO_FORMS);
             };
             let order = Order {
-                config,
+                start: config,
+                origin: Origin::Boot,
                 workers: 1,
                 wanted: Wanted::Custody(form, vm),
                 explain,
             };
-            run_trace(rt, threads, order)
+            run_trace(rt, threads, None, order)
         },
         Job::Audit { all, explain } => audit(rt, threads, all, explain),
     }

@@ -2,11 +2,26 @@ use Rattle.std.proofs.Common.{ap, ap₂, ◌∙◌}
 use Rattle.std.proofs.lemmas.Result.{IfOk-weaker}
 use Rattle.clap.specs.Words.{with_rule}
 use Rattle.clap.specs.Simple.{app_of_fields}
+use Rattle.kc_args.proofs.Local.{stays_local}
 use Rattle.kc_args.proofs.job.replay_command.Goals as goal
 
 pub returns-clause-app : goal.returns-clause-app
 returns-clause-app c =
     let with_config = c.in_ok-arg.ensures.shape c.config_arg.ensures.local ∙ ap₂ with_rule (ap app_of_fields c.override_usage.ensures ∙ ap app_of_fields c.about.ensures ∙ c.new.ensures.app) c.config_arg.ensures.rule in
-    let with_workers = c.in_ok-arg-2.ensures.shape c.workers_arg.ensures.local ∙ ap₂ with_rule with_config c.workers_arg.ensures.rule in
-    let with_dump = c.in_ok-arg-3.ensures.shape c.dump_arg.ensures.local ∙ ap₂ with_rule with_workers c.dump_arg.ensures.rule in
-    IfOk-weaker c.arg-4.result _ _ (λ r h. h.shape c.explain_arg.ensures.local ∙ ap₂ with_rule with_dump c.explain_arg.ensures.rule) c.arg-4.ensures
+    let with_from = c.in_ok-arg-2.ensures.shape c.from_arg.ensures.local ∙ ap₂ with_rule with_config c.from_arg.ensures.rule in
+    let with_to = c.in_ok-arg-3.ensures.shape c.to_arg.ensures.local ∙ ap₂ with_rule with_from c.to_arg.ensures.rule in
+    let with_workers = c.in_ok-arg-4.ensures.shape c.workers_arg.ensures.local ∙ ap₂ with_rule with_to c.workers_arg.ensures.rule in
+    let with_dump = c.in_ok-arg-5.ensures.shape c.dump_arg.ensures.local ∙ ap₂ with_rule with_workers c.dump_arg.ensures.rule in
+    let with_state = c.in_ok-arg-6.ensures.shape c.state_arg.ensures.local ∙ ap₂ with_rule with_dump c.state_arg.ensures.rule in
+    IfOk-weaker c.arg-7.result _ _ (λ r h. h.shape c.explain_arg.ensures.local ∙ ap₂ with_rule with_state c.explain_arg.ensures.rule) c.arg-7.ensures
+
+pub returns-clause-local : goal.returns-clause-local
+returns-clause-local c =
+    let start = ap (λ f. f.has_globals) c.override_usage.ensures ∙ ap (λ f. f.has_globals) c.about.ensures ∙ c.new.ensures.local in
+    let one = stays_local _ _ _ c.in_ok-arg.ensures start c.config_arg.ensures.local in
+    let two = stays_local _ _ _ c.in_ok-arg-2.ensures one c.from_arg.ensures.local in
+    let three = stays_local _ _ _ c.in_ok-arg-3.ensures two c.to_arg.ensures.local in
+    let four = stays_local _ _ _ c.in_ok-arg-4.ensures three c.workers_arg.ensures.local in
+    let five = stays_local _ _ _ c.in_ok-arg-5.ensures four c.dump_arg.ensures.local in
+    let six = stays_local _ _ _ c.in_ok-arg-6.ensures five c.state_arg.ensures.local in
+    IfOk-weaker c.arg-7.result _ _ (λ r h. stays_local _ _ _ h six c.explain_arg.ensures.local) c.arg-7.ensures
