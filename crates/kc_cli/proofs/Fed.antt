@@ -3,9 +3,7 @@ use Rattle.std.proofs.Common.{◌≡◌, ◌++◌, ◌∷◌, ◌∙◌, ℕ, ze
 use Rattle.std.specs.Prelude.{IsSome, IfSome}
 use Rattle.kc_types.specs.declared.call.Call.{Call}
 use Rattle.kc_types.specs.declared.reply.Reply.{Reply}
-use Rattle.kc_types.specs.Configuration.{Configuration}
 use Rattle.kc_model.specs.State.{State}
-use Rattle.kc_model.specs.Boot.{boot}
 use Rattle.kc_model.specs.Lawful.{IsLawful}
 use Rattle.kc_model.proofs.Safe.Safe.{safe}
 use Rattle.kc_trace.specs.Trace.{IsTrace}
@@ -49,16 +47,16 @@ pub calls_known : (first : Option (List ℕ)) (a b : Replaying) (calls : List Ca
 calls_known None a b calls given traced fed = tt
 calls_known (Some text) a b calls given traced fed = (calls, traced, fed)
 
-pub replayed : (first : Option (List ℕ)) (config : Configuration) (a b : Replaying) (given : List Reply) (core : State) → IsLawful (boot config) → a.state ≡ Some (boot config) → b.state ≡ Some core
-    → IfSome first (λ text. (calls : List Call) × IsTrace text calls × IsFed a b calls given) → IfSome first (λ text. IsReplayed config text given core)
-replayed None config a b given core is from to h = tt
-replayed (Some text) config a b given core is from to h =
+pub replayed : (first : Option (List ℕ)) (start : State) (a b : Replaying) (given : List Reply) (core : State) → IsLawful start → a.state ≡ Some start → b.state ≡ Some core
+    → IfSome first (λ text. (calls : List Call) × IsTrace text calls × IsFed a b calls given) → IfSome first (λ text. IsReplayed start text given core)
+replayed None start a b given core is from to h = tt
+replayed (Some text) start a b given core is from to h =
     let fed = h.2 in
-    let start : fed.start ≡ boot config = some_is fed.start (boot config) (sym fed.from ∙ from) in
+    let same : fed.start ≡ start = some_is fed.start start (sym fed.from ∙ from) in
     record {
       calls = h.0;
       traced = h.1;
-      given = fed.given ∙ ap (λ (m : State). replies_from m h.0) start;
-      left = some_is core (state_after (boot config) h.0) (sym to ∙ fed.state ∙ ap (λ (m : State). Some (state_after m h.0)) start);
-      safe = safe (boot config) h.0 is;
+      given = fed.given ∙ ap (λ (m : State). replies_from m h.0) same;
+      left = some_is core (state_after start h.0) (sym to ∙ fed.state ∙ ap (λ (m : State). Some (state_after m h.0)) same);
+      safe = safe start h.0 is;
     }

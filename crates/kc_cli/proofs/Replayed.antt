@@ -1,46 +1,40 @@
 -- What was replayed is what the sink takes of it.
-use Rattle.std.proofs.Common.{◌≡◌, ℕ, List, Option, Some, None, Ok, take, ap}
-use Rattle.std.specs.Prelude.{IfSome}
+use Rattle.std.proofs.Common.{◌≡◌, ℕ, Bool, List, Option, Some, None, take, ap, ap₂, sym, ◌∙◌}
+use Rattle.std.specs.Prelude.{IfSome, IsTrue, ◌↔◌}
 use Rattle.std.specs.Io.KnownBytes.{Appends}
-use Rattle.kc_types.specs.Configuration.{Configuration}
 use Rattle.kc_types.specs.declared.reply.Reply.{Reply}
 use Rattle.kc_model.specs.State.{State}
-use Rattle.kc_trace.specs.ConfigText.{config_in}
-use Rattle.kc_trace.specs.ReplyText.{reply_text_of}
-use Rattle.kc_state.specs.Dumping.{dump_of}
-use Rattle.kc_dump_text.specs.DumpText.{dump_text}
-use Rattle.kc_texts.specs.Reading.{Writes, Begins}
-use Rattle.kc_cli.specs.Engine.{IsReplayed, AreReplayed, IsReplyText, IsStateText}
+use Rattle.kc_state_text.specs.StateText.{state_text}
+use Rattle.kc_texts.specs.declared.origin.Origin.{Origin}
+use Rattle.kc_texts.specs.Reading.{BeginsIn, Writes, Begins}
+use Rattle.kc_cli.specs.declared.giving.ReplayForm.{ReplayForm}
+use Rattle.kc_cli.specs.Engine.{IsReplayed, AreReplayed, IsReplayText, IsLeftText, written_text}
 
-pub are_replayed : (config_left trace_left : Option (List ℕ)) (config : Configuration) (replies : List Reply) (core : State) → IfSome config_left (λ text. config_in text ≡ Ok config) → IfSome trace_left (λ text. IsReplayed config text replies core) → AreReplayed config_left trace_left replies core
-are_replayed None trace_left config replies core c t = tt
-are_replayed (Some text) None config replies core c t = tt
-are_replayed (Some text) (Some trace) config replies core c t = (config, c, t)
+pub are_replayed : (origin : Origin) (start_left trace_left : Option (List ℕ)) (start : State) (replies : List Reply) (core : State) → IfSome start_left (λ text. BeginsIn origin text start) → IfSome trace_left (λ text. IsReplayed start text replies core) → AreReplayed origin start_left trace_left replies core
+are_replayed origin None trace_left start replies core s t = tt
+are_replayed origin (Some text) None start replies core s t = tt
+are_replayed origin (Some text) (Some trace) start replies core s t = (start, s, t)
 
-pub gives_replies : (config trace old new : Option (List ℕ)) (replies : List Reply) (core : State) → AreReplayed config trace replies core → Appends old new (reply_text_of replies) → Writes IsReplyText config trace old new
-gives_replies None trace old new replies core h taken = tt
-gives_replies (Some config) None old new replies core h taken = tt
-gives_replies (Some config) (Some trace) old new replies core h taken =
+pub gives : (origin : Origin) (form : ReplayForm) (start trace old new : Option (List ℕ)) (replies : List Reply) (core : State) → AreReplayed origin start trace replies core → Appends old new (written_text form replies core) → Writes (IsReplayText origin form) start trace old new
+gives origin form None trace old new replies core h taken = tt
+gives origin form (Some start) None old new replies core h taken = tt
+gives origin form (Some start) (Some trace) old new replies core h taken =
     let r = h.2 in
-    (reply_text_of replies, (h.0, r.calls, record { configured = h.1; traced = r.traced }, r.safe, ap reply_text_of r.given), taken)
+    (written_text form replies core, (h.0, r.calls, h.1, r.traced, r.safe, ap₂ (written_text form) r.given r.left), taken)
 
-pub begins_replies : (config trace old new : Option (List ℕ)) (replies : List Reply) (core : State) → AreReplayed config trace replies core → ((n : ℕ) × Appends old new (take n (reply_text_of replies))) → Begins IsReplyText config trace old new
-begins_replies None trace old new replies core h taken = tt
-begins_replies (Some config) None old new replies core h taken = tt
-begins_replies (Some config) (Some trace) old new replies core h taken =
+pub begins : (origin : Origin) (form : ReplayForm) (start trace old new : Option (List ℕ)) (replies : List Reply) (core : State) → AreReplayed origin start trace replies core → ((n : ℕ) × Appends old new (take n (written_text form replies core))) → Begins (IsReplayText origin form) start trace old new
+begins origin form None trace old new replies core h taken = tt
+begins origin form (Some start) None old new replies core h taken = tt
+begins origin form (Some start) (Some trace) old new replies core h taken =
     let r = h.2 in
-    (reply_text_of replies, taken.0, (h.0, r.calls, record { configured = h.1; traced = r.traced }, r.safe, ap reply_text_of r.given), taken.1)
+    (written_text form replies core, taken.0, (h.0, r.calls, h.1, r.traced, r.safe, ap₂ (written_text form) r.given r.left), taken.1)
 
-pub gives_state : (config trace old new : Option (List ℕ)) (replies : List Reply) (core : State) → AreReplayed config trace replies core → Appends old new (dump_text (dump_of core)) → Writes IsStateText config trace old new
-gives_state None trace old new replies core h taken = tt
-gives_state (Some config) None old new replies core h taken = tt
-gives_state (Some config) (Some trace) old new replies core h taken =
+-- what was compared with the core's text was compared with that of the state that one thread leaves
+pub left_text : (origin : Origin) (start trace to : Option (List ℕ)) (same : Bool) (replies : List Reply) (core : State) → AreReplayed origin start trace replies core → IfSome to (λ text. IsTrue same ↔ (text ≡ state_text core)) → IsLeftText origin start trace to same
+left_text origin None trace to same replies core h is = tt
+left_text origin (Some start) None to same replies core h is = tt
+left_text origin (Some start) (Some trace) None same replies core h is = tt
+left_text origin (Some start) (Some trace) (Some text) same replies core h is =
     let r = h.2 in
-    (dump_text (dump_of core), (h.0, r.calls, record { configured = h.1; traced = r.traced }, r.safe, ap (λ (m : State). dump_text (dump_of m)) r.left), taken)
-
-pub begins_state : (config trace old new : Option (List ℕ)) (replies : List Reply) (core : State) → AreReplayed config trace replies core → ((n : ℕ) × Appends old new (take n (dump_text (dump_of core)))) → Begins IsStateText config trace old new
-begins_state None trace old new replies core h taken = tt
-begins_state (Some config) None old new replies core h taken = tt
-begins_state (Some config) (Some trace) old new replies core h taken =
-    let r = h.2 in
-    (dump_text (dump_of core), taken.0, (h.0, r.calls, record { configured = h.1; traced = r.traced }, r.safe, ap (λ (m : State). dump_text (dump_of m)) r.left), taken.1)
+    let left = ap state_text r.left in
+    (h.0, r.calls, h.1, r.traced, (λ yes. is.0 yes ∙ left, λ e. is.1 (e ∙ sym left)))

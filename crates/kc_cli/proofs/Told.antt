@@ -1,5 +1,5 @@
 -- What is told of calls that come after others, and what the sink takes of it.
-use Rattle.std.proofs.Common.{ℕ, ◌≡◌, ◌+◌, ◌++◌, List, [], ◌∷◌, length, take, map, refl, ap, ap₂, sym, ◌∙◌, Option, Some, None, Ok, arith, inl, inr, append_assoc}
+use Rattle.std.proofs.Common.{ℕ, ◌≡◌, ◌+◌, ◌++◌, List, [], ◌∷◌, length, take, map, refl, ap, ap₂, sym, ◌∙◌, Option, Some, None, subst, arith, inl, inr, append_assoc}
 use Rattle.std.proofs.lemmas.Bool.{cases_lt}
 use Rattle.std.proofs.lemmas.List.{take_all, length-map}
 use Rattle.std.proofs.Math.Seq.{take-append-add, take-append-le}
@@ -13,7 +13,6 @@ use Rattle.kc_types.specs.declared.custody.Change.{Change}
 use Rattle.kc_types.specs.declared.custody.Event.{Event}
 use Rattle.kc_types.specs.declared.custody.Event.TheVariants as event
 use Rattle.kc_model.specs.State.{State}
-use Rattle.kc_model.specs.Boot.{boot}
 use Rattle.kc_model.specs.Lawful.{IsLawful}
 use Rattle.kc_model.specs.Next.{next, state_after}
 use Rattle.kc_model.specs.Custody.{first_line}
@@ -24,9 +23,9 @@ use Rattle.kc_model.proofs.Custody.Bars.{bars_are}
 use Rattle.kc_model.proofs.Custody.Laws.{custody_is}
 use Rattle.kc_model.proofs.States.Runs.{state_after-append}
 use Rattle.kc_model.proofs.States.Sizes.{sized-next}
-use Rattle.kc_trace.specs.ConfigText.{config_in}
 use Rattle.kc_trace.specs.CustodyText.{change_line, event_line, header_line, end_line, custody_text_of}
-use Rattle.kc_texts.specs.Reading.{Writes, Begins}
+use Rattle.kc_texts.specs.declared.origin.Origin.{Origin}
+use Rattle.kc_texts.specs.Reading.{BeginsIn, Writes, Begins}
 use Rattle.kc_cli.specs.declared.account.CustodyForm.{CustodyForm}
 use Rattle.kc_cli.specs.Custody.{AreEventsOf, IsCustodyTold, IsAccount, IsCustodyText}
 
@@ -47,17 +46,17 @@ pub config_after : (m : State) (calls : List Call) → (state_after m calls).con
 config_after m [] = refl
 config_after m (call ∷ calls) = config_after (next m call).1 calls ∙ (sized-next m call).config
 
-pub is_told : (source : Option (List ℕ)) (config : Configuration) (told : List Event) (count : ℕ) → IsLawful (boot config) → AreEventsOf (boot config) source count told → IsCustodyTold config source count told
-is_told source config told count is h = record {
+pub is_told : (source : Option (List ℕ)) (m : State) (told : List Event) (count : ℕ) → IsLawful m → AreEventsOf m source count told → IsCustodyTold m source count told
+is_told source m told count is h = record {
   calls = h.calls;
   traced = h.traced;
   counted = h.counted;
   few = h.few;
   exact = h.exact;
-  changes = ap changes_in h.exact ∙ changes-of-events (boot config) h.calls;
-  safe = safe (boot config) h.calls is;
-  laws = custody_is (boot config) h.calls is;
-  bars = bars_are (boot config) h.calls is;
+  changes = ap changes_in h.exact ∙ changes-of-events m h.calls;
+  safe = safe m h.calls is;
+  laws = custody_is m h.calls is;
+  bars = bars_are m h.calls is;
 }
 
 -- what is given of the changes among events
@@ -67,18 +66,24 @@ changes_given config calls changes told given piece end same are head tail =
     ap₂ (λ (first : List ℕ) (all : List Event). first ++ (flat_map event_line all ++ end)) head (same ∙ are)
     ∙ ap₂ (λ (lines last : List ℕ). header_line config ++ (lines ++ last)) (flat-changes event_line change_line (λ c. refl) changes) (tail ∙ ap (end_line calls) (ap length are ∙ length-map changes event.Change))
 
--- what was written is made of what was told of both texts
-pub gives_custody : (form : CustodyForm) (vm : Option ℕ) (config trace old new : Option (List ℕ)) (machine : Configuration) (count : ℕ) (told : List Event) → IfSome config (λ text. config_in text ≡ Ok machine) → IsCustodyTold machine trace count told
-    → ((text : List ℕ) × IsAccount form vm machine count told text × Appends old new text) → Writes (IsCustodyText form vm) config trace old new
-gives_custody form vm None trace old new machine count told read h given = tt
-gives_custody form vm (Some config) None old new machine count told read h given = tt
-gives_custody form vm (Some config) (Some trace) old new machine count told read h given = (given.0, (machine, count, told, read, h, given.1), given.2)
+-- what was told of a start and a trace
+abbrev pub WasTold : Origin → Option (List ℕ) → Option (List ℕ) → Configuration → ℕ → List Event → Type 0
+WasTold origin start trace config count told = (m : State) × IfSome start (λ text. BeginsIn origin text m) × (config ≡ m.config) × IsCustodyTold m trace count told
 
-pub begins_custody : (form : CustodyForm) (vm : Option ℕ) (config trace old new : Option (List ℕ)) (machine : Configuration) (count : ℕ) (told : List Event) → IfSome config (λ text. config_in text ≡ Ok machine) → IsCustodyTold machine trace count told
-    → ((text : List ℕ) × (n : ℕ) × IsAccount form vm machine count told text × Appends old new (take n text)) → Begins (IsCustodyText form vm) config trace old new
-begins_custody form vm None trace old new machine count told read h given = tt
-begins_custody form vm (Some config) None old new machine count told read h given = tt
-begins_custody form vm (Some config) (Some trace) old new machine count told read h given = (given.0, given.1, (machine, count, told, read, h, given.2), given.3)
+-- what was written is made of what was told of both texts
+pub gives_custody : (origin : Origin) (form : CustodyForm) (vm : Option ℕ) (start trace old new : Option (List ℕ)) (config : Configuration) (count : ℕ) (told : List Event) → WasTold origin start trace config count told
+    → ((text : List ℕ) × IsAccount form vm config count told text × Appends old new text) → Writes (IsCustodyText origin form vm) start trace old new
+gives_custody origin form vm None trace old new config count told h given = tt
+gives_custody origin form vm (Some start) None old new config count told h given = tt
+gives_custody origin form vm (Some start) (Some trace) old new config count told h given =
+    (given.0, (h.0, count, told, h.1, h.3, subst (λ c. IsAccount form vm c count told given.0) h.2 given.1), given.2)
+
+pub begins_custody : (origin : Origin) (form : CustodyForm) (vm : Option ℕ) (start trace old new : Option (List ℕ)) (config : Configuration) (count : ℕ) (told : List Event) → WasTold origin start trace config count told
+    → ((text : List ℕ) × (n : ℕ) × IsAccount form vm config count told text × Appends old new (take n text)) → Begins (IsCustodyText origin form vm) start trace old new
+begins_custody origin form vm None trace old new config count told h given = tt
+begins_custody origin form vm (Some start) None old new config count told h given = tt
+begins_custody origin form vm (Some start) (Some trace) old new config count told h given =
+    (given.0, given.1, (h.0, count, told, h.1, h.3, subst (λ c. IsAccount form vm c count told given.0) h.2 given.2), given.3)
 
 cut_first : (xs ys : List ℕ) (n : ℕ) → (m : ℕ) × (take n xs ≡ take m (xs ++ ys))
 cut_first xs ys n =

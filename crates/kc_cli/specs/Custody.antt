@@ -1,11 +1,10 @@
 -- What the engine of custody writes of what its sources held.
-use Rattle.std.specs.Prelude.{◌≡◌, ◌≤◌, ℕ, List, length, Option, Some, IfSome, Ok}
+use Rattle.std.specs.Prelude.{◌≡◌, ◌≤◌, ℕ, List, length, Option, Some, IfSome}
 use Rattle.kc_types.specs.Limits.{call_limit}
 use Rattle.kc_types.specs.Configuration.{Configuration}
 use Rattle.kc_types.specs.declared.call.Call.{Call}
 use Rattle.kc_types.specs.declared.custody.Event.{Event}
 use Rattle.kc_model.specs.State.{State}
-use Rattle.kc_model.specs.Boot.{boot}
 use Rattle.kc_model.specs.Safety.{IsSafe}
 use Rattle.kc_model.specs.Custody.{custody}
 use Rattle.kc_model.specs.CustodyLaws.{IsCustody}
@@ -13,10 +12,11 @@ use Rattle.kc_model.specs.Events.{events, changes_in}
 use Rattle.kc_model.specs.Lives.{lives, selected_lives}
 use Rattle.kc_model.specs.Bars.{AreBars}
 use Rattle.kc_custody.specs.Selected.{selected}
-use Rattle.kc_trace.specs.ConfigText.{config_in}
 use Rattle.kc_trace.specs.Trace.{IsTrace}
 use Rattle.kc_trace.specs.CustodyText.{custody_text_of}
 use Rattle.kc_trace.specs.SummaryText.{summary_text_of}
+use Rattle.kc_texts.specs.declared.origin.Origin.{Origin}
+use Rattle.kc_texts.specs.Reading.{BeginsIn}
 use Rattle.kc_cli.specs.declared.account.CustodyForm.{CustodyForm}
 use Rattle.kc_cli.specs.declared.account.CustodyForm.TheVariants.{Changes, Summary, Picture}
 
@@ -28,17 +28,17 @@ pub record AreEventsOf (m : State) (source : Option (List ℕ)) (count : ℕ) (t
   pub few : length calls ≤ call_limit
   pub exact : told ≡ events m calls
 
--- the same from the boot state of a configuration: the changes among them are the custody of the calls, and what every trace keeps holds of these, and what their custody and its bars say
-pub record IsCustodyTold (config : Configuration) (source : Option (List ℕ)) (count : ℕ) (told : List Event) : Type 0 where
+-- the same of a lawful state: the changes among them are the custody of the calls, and what every trace keeps holds of these, and what their custody and its bars say
+pub record IsCustodyTold (m : State) (source : Option (List ℕ)) (count : ℕ) (told : List Event) : Type 0 where
   pub calls : List Call
   pub traced : IfSome source (λ text. IsTrace text calls)
   pub counted : count ≡ length calls
   pub few : length calls ≤ call_limit
-  pub exact : told ≡ events (boot config) calls
-  pub changes : changes_in told ≡ custody (boot config) calls
-  pub safe : IsSafe (boot config) calls
-  pub laws : IsCustody (boot config) calls
-  pub bars : AreBars (boot config) calls
+  pub exact : told ≡ events m calls
+  pub changes : changes_in told ≡ custody m calls
+  pub safe : IsSafe m calls
+  pub laws : IsCustody m calls
+  pub bars : AreBars m calls
 
 -- the text is that of the changes of all frames and slots, or of one slot's VM; that of the lives of all VMs, or of one slot's; or a picture, of whose bytes nothing is said
 abbrev pub IsAccount : CustodyForm → Option ℕ → Configuration → ℕ → List Event → List ℕ → Type 0
@@ -46,7 +46,7 @@ IsAccount Changes vm config count told text = text ≡ custody_text_of config co
 IsAccount Summary vm config count told text = text ≡ summary_text_of config count (selected_lives vm (lives told))
 IsAccount Picture vm config count told text = Unit {0}
 
--- the text is made of the events of the trace in the configuration
-abbrev pub IsCustodyText : CustodyForm → Option ℕ → List ℕ → List ℕ → List ℕ → Type 0
-IsCustodyText form vm config_text trace_text text =
-    (config : Configuration) × (count : ℕ) × (told : List Event) × (config_in config_text ≡ Ok config) × IsCustodyTold config (Some trace_text) count told × IsAccount form vm config count told text
+-- the text is made of the events of the trace from the state on that the first text tells
+abbrev pub IsCustodyText : Origin → CustodyForm → Option ℕ → List ℕ → List ℕ → List ℕ → Type 0
+IsCustodyText origin form vm start_text trace_text text =
+    (m : State) × (count : ℕ) × (told : List Event) × BeginsIn origin start_text m × IsCustodyTold m (Some trace_text) count told × IsAccount form vm m.config count told text

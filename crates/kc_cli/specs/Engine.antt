@@ -56,6 +56,8 @@ IsReplayText origin form start_text trace_text text =
 
 -- whether the last text is that of the state that this thread leaves
 abbrev pub IsLeftText : Origin → Option (List ℕ) → Option (List ℕ) → Option (List ℕ) → Bool → Type 0
+IsLeftText origin None trace to same = Unit {0}
+IsLeftText origin (Some start_text) None to same = Unit {0}
+IsLeftText origin (Some start_text) (Some trace_text) None same = Unit {0}
 IsLeftText origin (Some start_text) (Some trace_text) (Some text) same =
     (start : State) × (calls : List Call) × BeginsIn origin start_text start × IsTrace trace_text calls × (IsTrue same ↔ (text ≡ state_text (state_after start calls)))
-IsLeftText origin _ _ _ same = Unit {0}

@@ -1,12 +1,13 @@
 //! The engine that tells what happened to each frame and slot, over any sources and any sink.
-ghost use Rattle.std.specs.Prelude.{◌≡◌, ◌≢◌, ◌<◌, ◌≤◌, ◌+◌, ◌^◌, ◌∷◌, [], ℕ, List, All, length, take, false, true, IfOk, IfErr, IfSome, OnOk, Ok, Err};
+ghost use Rattle.std.specs.Prelude.{◌≡◌, ◌≢◌, ◌<◌, ◌≤◌, ◌+◌, ◌^◌, ◌∷◌, [], ℕ, List, All, length, take, false, true, IfOk, IfErr, IfSome, OnOk, Err};
 ghost use Rattle.std.specs.Io.KnownBytes.{Appends, IsAtEnd};
 ghost use Rattle.kc_types.specs.Limits.{call_limit};
 ghost use Rattle.kc_trace.specs.declared.fault.TraceFault.{TraceFault};
-ghost use Rattle.kc_trace.specs.ConfigText.{config_in};
 ghost use Rattle.kc_trace.specs.Trace.{IsRefused};
 ghost use Rattle.kc_texts.specs.Ends.{ReadFailed};
-ghost use Rattle.kc_texts.specs.Reading.{Writes, Begins};
+ghost use Rattle.kc_model.specs.Lawful.{IsLawful};
+ghost use Rattle.kc_model.specs.State.{State};
+ghost use Rattle.kc_texts.specs.Reading.{BeginsIn, Writes, Begins};
 ghost use Rattle.kc_texts.specs.Outcomes.{seen, TellsSources, TellsTexts, TellsReplay, TellsSink};
 ghost use Rattle.kc_cli.specs.Engine.{IsReplayFault};
 ghost use Rattle.kc_cli.specs.Custody.{AreEventsOf, IsCustodyTold, IsCustodyText};
@@ -14,8 +15,9 @@ ghost use Rattle.kc_cli.specs.Custody.{AreEventsOf, IsCustodyTold, IsCustodyText
 use crate::account::{CustodyForm, FIRST_LINE, Told, give_told};
 use kc_core::KCore;
 use kc_custody::tell_calls;
-use kc_texts::{CallStream, PIECE, Sink, Source, TextFault, read_configuration};
-use kc_types::{Config, Event};
+use crate::starting::read_start;
+use kc_texts::{CallStream, Origin, PIECE, Sink, Source, TextFault};
+use kc_types::Event;
 use std::alloc::Global;
 use std::thread::Threads;
 
@@ -55,17 +57,18 @@ fn tell_source<T: Source>(
     }
 }
 
-/// Makes the calls of the trace that a source has left, as it is read, on a core of this configuration: their events. The core
-/// is wiped before it goes, whatever the outcome.
+/// Makes the calls of the trace that a source has left, as it is read, on a core: their events. The core is wiped before it
+/// goes, whatever the outcome.
 fn told_source<T: Source>(
     rt: &(impl Threads + Sync),
     alloc: Global,
-    config: Config,
+    core: KCore,
     trace: &mut T,
 ) -> Result<Told, TextFault>
+    requires lawful { IsLawful core }
     requires trace { T.failed trace.old ≡ false }
-    ensures config { IfOk result (λ told. told.config ≡ config) }
-    ensures ok { IfOk result (λ told. IsCustodyTold config (T.left trace.old) told.calls told.events.items) }
+    ensures config { IfOk result (λ told. told.config ≡ core.config) }
+    ensures ok { IfOk result (λ told. IsCustodyTold core (T.left trace.old) told.calls told.events.items) }
     ensures ended { OnOk result (IsAtEnd (T.left trace.new)) }
     ensures trace { (fault : TraceFault) → result ≡ Err (TextFault.Trace fault) → IfSome (T.left trace.old) (λ text. IsRefused text fault) × IsAtEnd (T.left trace.new) }
     ensures read { result ≡ Err TextFault.Read → ReadFailed (T.failed trace.new) (T.left trace.old) (T.left trace.new) }
@@ -73,9 +76,7 @@ fn told_source<T: Source>(
     ensures started { result ≢ Err TextFault.Start }
     ensures fault { IfErr result IsReplayFault }
 {
-    let Ok(mut core) = KCore::boot(alloc, config) else {
-        return Err(TextFault::Memory);
-    };
+    let mut core = core;
     let outcome = tell_source(alloc, &mut core, trace);
     core.wipe(rt);
     let (config, _parts) = core.into_parts();
@@ -89,28 +90,40 @@ fn told_source<T: Source>(
     }
 }
 
-/// Reads a configuration to its end and a trace as its calls are made: their events.
+/// Reads what the calls begin with to its end and a trace as its calls are made: their events.
 fn told_texts<C: Source, T: Source>(
     rt: &(impl Threads + Sync),
     alloc: Global,
-    config: &mut C,
+    start: &mut C,
     trace: &mut T,
+    origin: Origin,
 ) -> Result<Told, TextFault>
-    requires config { C.failed config.old ≡ false }
+    requires start { C.failed start.old ≡ false }
     requires trace { T.failed trace.old ≡ false }
-    ensures config { IfOk result (λ told. IfSome (C.left config.old) (λ text. config_in text ≡ Ok told.config)) }
-    ensures ok { IfOk result (λ told. IsCustodyTold told.config (T.left trace.old) told.calls told.events.items) }
-    ensures sources { TellsSources (seen (C.failed config.new) (C.left config.old) (C.left config.new) ∷ seen (T.failed trace.new) (T.left trace.old) (T.left trace.new) ∷ []) result }
-    ensures texts { TellsTexts (seen (C.failed config.new) (C.left config.old) (C.left config.new)) (seen (T.failed trace.new) (T.left trace.old) (T.left trace.new)) (trace.new ≡ trace.old) result }
-    ensures replay { TellsReplay 1 (C.left config.old) result }
+    ensures ok { IfOk result (λ told. (m : State) × IfSome (C.left start.old) (λ text. BeginsIn origin text m) × (told.config ≡ m.config) × IsCustodyTold m (T.left trace.old) told.calls told.events.items) }
+    ensures sources { TellsSources (seen (C.failed start.new) (C.left start.old) (C.left start.new) ∷ seen (T.failed trace.new) (T.left trace.old) (T.left trace.new) ∷ []) result }
+    ensures texts { TellsTexts origin (seen (C.failed start.new) (C.left start.old) (C.left start.new)) (seen (T.failed trace.new) (T.left trace.old) (T.left trace.new)) (trace.new ≡ trace.old) result }
+    ensures replay { TellsReplay 1 origin (C.left start.old) result }
     ensures write { result ≢ Err TextFault.Write }
 {
-    let config = read_configuration(alloc, config)?;
-    told_source(rt, alloc, config, trace)
+    let core = read_start(rt, alloc, start, origin)?;
+    told_source(rt, alloc, core, trace)
 }
 
-/// Reads a configuration and a trace, each to its end, makes the trace's calls on one thread as they are read, and writes what
-/// happened to each frame and slot, in this form; of one slot's VM alone, where one is named, 0 to 63.
+/// How what happened is told.
+#[derive(Clone, Copy, Debug, PartialEq, Eq)]
+pub struct CustodyOrder {
+    /// What the calls begin with.
+    pub origin: Origin,
+    /// What is written.
+    pub form: CustodyForm,
+    /// The slot whose VM alone is told of, 0 to 63, where one is named.
+    pub vm: Option<u32>,
+}
+
+/// Reads what the calls begin with and a trace, each to its end, makes the trace's calls on one thread as they are read, and
+/// writes what happened to each frame and slot. A summary has the lives that begin in the trace. A picture shows each frame
+/// from its owner at boot on, whatever the calls begin with.
 ///
 /// Nothing is written but after the whole trace was read and answered. A source that fails, or that has more than
 /// 1,073,741,824 bytes, is `Read`, also where its bytes so far are refused already. Out of memory comes before a fault of
@@ -118,23 +131,22 @@ fn told_texts<C: Source, T: Source>(
 pub fn custody_text<C: Source, T: Source, K: Sink>(
     rt: &(impl Threads + Sync),
     alloc: Global,
-    config: &mut C,
+    start: &mut C,
     trace: &mut T,
     out: &mut K,
-    form: CustodyForm,
-    vm: Option<u32>,
+    order: CustodyOrder,
 ) -> Result<(), TextFault>
-    requires config { C.failed config.old ≡ false }
+    requires start { C.failed start.old ≡ false }
     requires trace { T.failed trace.old ≡ false }
     requires out { K.failed out.old ≡ false }
 
     // What is written is made of the events of the trace.
-    ensures ok { OnOk result (Writes (IsCustodyText form vm) (C.left config.old) (T.left trace.old) (K.taken out.old) (K.taken out.new)) }
-    ensures sources { TellsSources (seen (C.failed config.new) (C.left config.old) (C.left config.new) ∷ seen (T.failed trace.new) (T.left trace.old) (T.left trace.new) ∷ []) result }
-    ensures texts { TellsTexts (seen (C.failed config.new) (C.left config.old) (C.left config.new)) (seen (T.failed trace.new) (T.left trace.old) (T.left trace.new)) (trace.new ≡ trace.old) result }
-    ensures replay { TellsReplay 1 (C.left config.old) result }
-    ensures sink { TellsSink (K.failed out.new) (Begins (IsCustodyText form vm) (C.left config.old) (T.left trace.old) (K.taken out.old) (K.taken out.new)) (out.new ≡ out.old) result }
+    ensures ok { OnOk result (Writes (IsCustodyText order.origin order.form order.vm) (C.left start.old) (T.left trace.old) (K.taken out.old) (K.taken out.new)) }
+    ensures sources { TellsSources (seen (C.failed start.new) (C.left start.old) (C.left start.new) ∷ seen (T.failed trace.new) (T.left trace.old) (T.left trace.new) ∷ []) result }
+    ensures texts { TellsTexts order.origin (seen (C.failed start.new) (C.left start.old) (C.left start.new)) (seen (T.failed trace.new) (T.left trace.old) (T.left trace.new)) (trace.new ≡ trace.old) result }
+    ensures replay { TellsReplay 1 order.origin (C.left start.old) result }
+    ensures sink { TellsSink (K.failed out.new) (Begins (IsCustodyText order.origin order.form order.vm) (C.left start.old) (T.left trace.old) (K.taken out.old) (K.taken out.new)) (out.new ≡ out.old) result }
 {
-    let told = told_texts(rt, alloc, config, trace)?;
-    give_told(alloc, told, form, vm, out)
+    let told = told_texts(rt, alloc, start, trace, order.origin)?;
+    give_told(alloc, told, order.form, order.vm, out)
 }

@@ -12,7 +12,7 @@ mod replaying;
 mod starting;
 
 pub use account::CustodyForm;
-pub use custody::custody_text;
+pub use custody::{CustodyOrder, custody_text};
 pub use engine::{ReplayOrder, replay_text, replay_to_text};
 pub use giving::ReplayForm;
 pub use history::replay_history;

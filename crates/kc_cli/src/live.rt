@@ -15,7 +15,7 @@ ghost use Rattle.kc_cli.specs.Live.{IsLiveFault, CouldRun, IsLiveText, HasBadAct
 use crate::history::replay_history;
 use kc_live::{Entry, History, LiveCause, LiveStop, run_trace};
 use kc_replay::{Gate, OpenGate, Outcome, ReplayFault};
-use kc_texts::{Sink, Source, TextFault, empty_piece, give_trace, read_both};
+use kc_texts::{Origin, Sink, Source, TextFault, empty_piece, give_trace, read_both};
 use kc_trace::TraceFault;
 use kc_types::{Call, Config, Memory, WORKER_LIMIT};
 use std::alloc::Global;
@@ -181,7 +181,7 @@ pub fn live_text<C: Source, T: Source, K: Sink, G: Gate + Sync, R: Threads + Wai
     // What is written is the trace read, which may run, in an order that keeps each actor's.
     ensures ok { OnOk result (Writes IsLiveText (C.left config.old) (T.left trace.old) (K.taken out.old) (K.taken out.new)) }
     ensures sources { TellsSources (seen (C.failed config.new) (C.left config.old) (C.left config.new) ∷ seen (T.failed trace.new) (T.left trace.old) (T.left trace.new) ∷ []) result }
-    ensures texts { TellsTexts (seen (C.failed config.new) (C.left config.old) (C.left config.new)) (seen (T.failed trace.new) (T.left trace.old) (T.left trace.new)) (trace.new ≡ trace.old) result }
+    ensures texts { TellsTexts Origin.Boot (seen (C.failed config.new) (C.left config.old) (C.left config.new)) (seen (T.failed trace.new) (T.left trace.old) (T.left trace.new)) (trace.new ≡ trace.old) result }
     ensures sink { TellsSink (K.failed out.new) (Begins IsLiveText (C.left config.old) (T.left trace.old) (K.taken out.old) (K.taken out.new)) (out.new ≡ out.old) result }
 
     // The run comes only behind both texts, and only of a trace that may run.

@@ -3,6 +3,7 @@ ghost use Rattle.std.specs.Prelude.{◌≡◌, ◌≢◌, ◌+◌, ◌++◌, ◌
 ghost use Rattle.std.specs.Io.KnownBytes.{IsAtEnd};
 ghost use Rattle.kc_types.specs.Limits.{call_limit, worker_limit};
 ghost use Rattle.kc_types.specs.declared.reply.Reply.{Reply};
+ghost use Rattle.kc_model.specs.Lawful.{IsLawful};
 ghost use Rattle.kc_types.specs.declared.call.Call.{Call};
 ghost use Rattle.kc_trace.specs.declared.fault.TraceFault.{TraceFault};
 ghost use Rattle.kc_trace.specs.Trace.{IsTrace, IsRefused};
@@ -122,6 +123,7 @@ fn replay_source<T: Source, R: Threads + Wait + Sync>(
     trace: &mut T,
     workers: u32,
 ) -> Result<Outcome, TextFault>
+    requires lawful { IsLawful core }
     requires workers { (0 < workers) × (workers ≤ worker_limit) }
     requires trace { T.failed trace.old ≡ false }
     ensures ok { IfOk result (λ outcome. IfSome (T.left trace.old) (λ text. IsReplayed core text outcome.replies.items outcome.core)) }

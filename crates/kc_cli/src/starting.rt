@@ -1,12 +1,10 @@
 //! The core that the calls of a trace begin with.
 ghost use Rattle.std.specs.Prelude.{◌≡◌, false, true, IfOk, IfErr, IfSome, OnOk, Ok, Err};
 ghost use Rattle.std.specs.Io.KnownBytes.{IsAtEnd};
-ghost use Rattle.kc_model.specs.Boot.{boot};
+ghost use Rattle.kc_model.specs.Lawful.{IsLawful};
 ghost use Rattle.kc_trace.specs.ConfigText.{config_in};
 ghost use Rattle.kc_trace.specs.declared.config_text.ConfigTextFault.{ConfigTextFault};
-ghost use Rattle.kc_replay.specs.Volumes.{IsCoreState};
 ghost use Rattle.kc_state_text.specs.Refused.{IsRefusedState};
-ghost use Rattle.kc_state_text.specs.StateText.{state_text};
 ghost use Rattle.kc_state_text.specs.declared.fault.StateFault.{StateFault};
 ghost use Rattle.kc_texts.specs.Ends.{ReadFailed};
 ghost use Rattle.kc_texts.specs.Reading.{BeginsIn, IsConfigFault, IsStartFault};
@@ -21,6 +19,7 @@ use std::thread::Threads;
 fn boot_core<C: Source>(alloc: Global, start: &mut C) -> Result<KCore, TextFault>
     requires { C.failed start.old ≡ false }
     ensures ok { IfOk result (λ core. IfSome (C.left start.old) (λ text. BeginsIn Origin.Boot text core)) }
+    ensures lawful { IfOk result IsLawful }
     ensures ended { OnOk result (IsAtEnd (C.left start.new)) }
     ensures mark { OnOk result (C.failed start.new ≡ false) }
     ensures config { (fault : ConfigTextFault) → result ≡ Err (TextFault.Config fault) → IfSome (C.left start.old) (λ text. config_in text ≡ Err fault) × IsAtEnd (C.left start.new) }
@@ -43,6 +42,7 @@ fn read_core<C: Source>(
 ) -> Result<KCore, TextFault>
     requires { C.failed start.old ≡ false }
     ensures ok { IfOk result (λ core. IfSome (C.left start.old) (λ text. BeginsIn Origin.State text core)) }
+    ensures lawful { IfOk result IsLawful }
     ensures ended { OnOk result (IsAtEnd (C.left start.new)) }
     ensures mark { OnOk result (C.failed start.new ≡ false) }
     ensures state { (fault : StateFault) → result ≡ Err (TextFault.State fault) → IfSome (C.left start.old) (λ text. IsRefusedState text fault) × IsAtEnd (C.left start.new) }
@@ -68,6 +68,7 @@ pub(crate) fn read_start<C: Source>(
 ) -> Result<KCore, TextFault>
     requires { C.failed start.old ≡ false }
     ensures ok { IfOk result (λ core. IfSome (C.left start.old) (λ text. BeginsIn origin text core)) }
+    ensures lawful { IfOk result IsLawful }
     ensures ended { OnOk result (IsAtEnd (C.left start.new)) }
     ensures mark { OnOk result (C.failed start.new ≡ false) }
     ensures config { (fault : ConfigTextFault) → result ≡ Err (TextFault.Config fault) → IfSome (C.left start.old) (λ text. config_in text ≡ Err fault) × IsAtEnd (C.left start.new) }

@@ -7,7 +7,7 @@ mod explaining;
 
 use crate::explaining::{Reading, explain_open, explain_words};
 use kc_cli::{
-    ArgFault, CustodyForm, DEFAULT_CONFIG, Job, Mem, Origin, ReplayForm, ReplayOrder, Source, Std,
+    ArgFault, CustodyForm, CustodyOrder, DEFAULT_CONFIG, Job, Mem, Origin, ReplayForm, ReplayOrder, Source, Std,
     TextFault, audit_text, custody_text, job_of, live_text, replay_text, replay_to_text, tell,
 };
 use kc_explain::{Noted, Shown};
@@ -166,7 +166,12 @@ fn run_in<C: Source, R: Threads + Wait + Sync>(
             &OpenGate,
         )?,
         Wanted::Custody(form, vm) => {
-            custody_text(threads, alloc, start, trace, &mut out, form, vm)?
+            let plan = CustodyOrder {
+                origin: order.origin,
+                form,
+                vm,
+            };
+            custody_text(threads, alloc, start, trace, &mut out, plan)?
         },
     }
     Ok(Outcome::Done)

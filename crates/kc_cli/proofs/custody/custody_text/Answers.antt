@@ -1,7 +1,6 @@
 use Rattle.std.proofs.Common.{All, List, sym, subst}
 use Rattle.std.proofs.lemmas.Result.{err_from_is_err_and, on_ok_weaker}
 use Rattle.kc_model.specs.Custody.{first_line}
-use Rattle.kc_model.specs.Boot.{boot}
 use Rattle.kc_summary.specs.Within.{IsWithin}
 use Rattle.kc_summary.proofs.Traced.{events-within}
 use Rattle.kc_texts.proofs.Told.{sources_err, texts_err, sink_more}
@@ -12,13 +11,13 @@ use Rattle.kc_cli.proofs.custody.custody_text.Goals as goal
 pub returns-in_err-told-clause-texts : goal.returns-in_err-told-clause-texts
 returns-in_err-told-clause-texts g c =
     let made = err_from_is_err_and c.from_residual.result c.from_residual.ensures.1 in
-    rw (made.1, made.2) (texts_err _ _ _ c.in_err-told.field-0.0 c.in_err-told.ensures.texts)
+    rw (made.1, made.2) (texts_err _ _ _ _ c.in_err-told.field-0.0 c.in_err-told.ensures.texts)
 
 pub returns-clause-ok : goal.returns-clause-ok
-returns-clause-ok g c = on_ok_weaker c.give_told.result (λ given. gives_custody c.args.form c.args.vm _ _ _ _ _ _ _ c.in_ok-told.ensures.config c.in_ok-told.ensures.ok given) c.give_told.ensures.ok
+returns-clause-ok g c = on_ok_weaker c.give_told.result (λ given. gives_custody _ _ _ _ _ _ _ _ _ _ c.in_ok-told.ensures.ok given) c.give_told.ensures.ok
 
 pub returns-clause-sink : goal.returns-clause-sink
-returns-clause-sink g c = sink_more _ _ _ _ _ (λ begun. begins_custody c.args.form c.args.vm _ _ _ _ _ _ _ c.in_ok-told.ensures.config c.in_ok-told.ensures.ok begun) c.give_told.ensures.sink
+returns-clause-sink g c = sink_more _ _ _ _ _ (λ begun. begins_custody _ _ _ _ _ _ _ _ _ _ c.in_ok-told.ensures.ok begun) c.give_told.ensures.sink
 
 pub returns-in_err-told-clause-sources : goal.returns-in_err-told-clause-sources
 returns-in_err-told-clause-sources g c =
@@ -27,6 +26,6 @@ returns-in_err-told-clause-sources g c =
 
 pub give_told-requires-clause-within : goal.give_told-requires-clause-within
 give_told-requires-clause-within g c =
-    let told = c.in_ok-told.ensures.ok in
-    let config = c.in_ok-told.told.config in
-    subst (λ (events : List Event). All (IsWithin config.frames) events) (sym told.exact) (events-within first_line (boot config) told.calls)
+    let h = c.in_ok-told.ensures.ok in
+    let told = h.3 in
+    rw h.2 (subst (λ (events : List Event). All (IsWithin h.0.config.frames) events) (sym told.exact) (events-within first_line h.0 told.calls))

@@ -13,8 +13,8 @@ returns-in-Err-clause-trace g c = λ said e. let same : c.in-Err.fault ≡ texts
 
 pub returns-in-Ok-outcome-clause-config : goal.returns-in-Ok-outcome-clause-config
 returns-in-Ok-outcome-clause-config g c =
-    ap config_of c.into_parts-config.ensures.state ∙ ap config_of c.wipe.ensures ∙ c.in-Ok-outcome.ensures.config ∙ ap config_of c.in-Ok.ensures.state
+    ap config_of c.into_parts-config.ensures.state ∙ ap config_of c.wipe.ensures ∙ c.in-Ok-outcome.ensures.config
 
 pub returns-in-Ok-outcome-clause-ok : goal.returns-in-Ok-outcome-clause-ok
 returns-in-Ok-outcome-clause-ok g c =
-    is_told (g.T.Source.left c.args.trace.now) c.args.config _ _ c.in-Ok.ensures.lawful (rw c.in-Ok.ensures.state at c.in-Ok-outcome.ensures.ok)
+    is_told (g.T.Source.left c.args.trace.now) c.args.core _ _ c.requires.lawful c.in-Ok-outcome.ensures.ok

@@ -11,7 +11,7 @@ returns-in_err-config-clause-sources g c =
 pub returns-in_err-config-clause-texts : goal.returns-in_err-config-clause-texts
 returns-in_err-config-clause-texts g c =
     let made = err_from_is_err_and c.from_residual.result c.from_residual.ensures.1 in
-    rw (made.1, made.2) (texts_err _ _ _ c.in_err-config.field-0.0 c.in_err-config.ensures.texts)
+    rw (made.1, made.2) (texts_err _ _ _ _ c.in_err-config.field-0.0 c.in_err-config.ensures.texts)
 
 pub returns-clause-sink : goal.returns-clause-sink
 returns-clause-sink g c = sink_more _ _ _ _ _ (λ begun. begins_live _ _ _ _ _ _ _ c.in_ok-config.ensures.ok c.in_ok-made.ensures.sound c.in_ok-made.ensures.made.0 c.in_ok-made.ensures.made.1 begun) c.give_made.ensures.sink

@@ -9,5 +9,5 @@ returns-in-Err-clause-trace g c = λ said e. let same : c.in-Err.fault ≡ texts
 
 pub returns-in-Ok-finish-clause-ok : goal.returns-in-Ok-finish-clause-ok
 returns-in-Ok-finish-clause-ok g c =
-    replayed (g.T.Source.left c.args.trace.now) c.args.config c.in-Ok.replayer c.feed_source.new.replayer c.in-Ok-feed_source.replies.items c.in-Ok-finish.core
-    c.in-Ok.ensures.lawful (ap (λ (r : Replaying). r.state) c.in-Ok.ensures.start) c.in-Ok-finish.ensures.core c.in-Ok-feed_source.ensures.ok
+    replayed (g.T.Source.left c.args.trace.now) c.args.core c.in-Ok.replayer c.feed_source.new.replayer c.in-Ok-feed_source.replies.items c.in-Ok-finish.core
+    c.requires.lawful (ap (λ (r : Replaying). r.state) c.in-Ok.ensures.start) c.in-Ok-finish.ensures.core c.in-Ok-feed_source.ensures.ok

@@ -1,0 +1,19 @@
+-- A state's text that is given a piece at a time.
+use Rattle.std.specs.Prelude.{ℕ, List, ◌++◌, drop, map}
+use Rattle.std.specs.List.{flat_map}
+use Rattle.kc_model.specs.State.{State, Frame}
+use Rattle.kc_state_text.specs.StateText.{page_line}
+
+-- what was not given yet: of the lines before those of the pages, from which page on, and of the dump
+pub record Pieces : Type 0 where
+  pub front : List ℕ
+  pub page : ℕ
+  pub dump : List ℕ
+
+-- the lines of a state's pages from this one on
+abbrev pub page_lines : State → ℕ → List ℕ
+page_lines m page = flat_map page_line (drop page (map (λ (frame : Frame). frame.bytes) m.frames))
+
+-- the text that is still to come
+abbrev pub to_come : State → Pieces → List ℕ
+to_come m pieces = pieces.front ++ (page_lines m pieces.page ++ pieces.dump)

@@ -1,0 +1,179 @@
+//! A state's text, a piece at a time, so that it never lies in memory as a whole.
+ghost use Rattle.std.specs.Prelude.{◌≡◌, ◌<◌, ◌≤◌, ◌+◌, ◌++◌, ◌↔◌, [], length, vec_len, vec_capacity, IsTrue, IfOk};
+ghost use Rattle.kc_state_text.specs.StateText.{state_text};
+ghost use Rattle.kc_state_text.specs.Pieces.{to_come};
+
+use crate::writing::{LONGEST_PAGE_LINE, push_page, write_front};
+use kc_core::KCore;
+use kc_dump_text::write_dump;
+use kc_lines::push_bytes;
+use kc_state::dump;
+use kc_types::Memory;
+use std::alloc::Global;
+use std::marker::Model;
+use std::thread::Threads;
+
+/// Bytes of which the first were given, seen as the others.
+#[derive(Drop)]
+struct Left {
+    bytes: Vec<u8>,
+    given: usize,
+}
+
+impl Model for Left {
+    ghost use Rattle.std.specs.Prelude.{ℕ, ◌≤◌, List, drop, length};
+
+    ghost Value = { List ℕ };
+
+    ghost view = { λ l. drop l.given l.bytes.items };
+
+    ghost invariant = { λ l. l.given ≤ length l.bytes.items };
+}
+
+impl Left {
+    /// None were given.
+    fn all(bytes: Vec<u8>) -> Left
+        ensures { result ≡ bytes.items }
+    {
+        Left { bytes, given: 0 }
+    }
+
+    fn is_empty(&self) -> bool
+        ensures { IsTrue result ↔ (self.now ≡ []) }
+    {
+        self.given == self.bytes.len()
+    }
+
+    /// Gives as many as the piece has room for.
+    fn give(&mut self, piece: &mut Vec<u8>)
+        requires { vec_len piece.old < vec_capacity piece.old }
+        ensures given { piece.new.items ++ self.new ≡ piece.old.items ++ self.old }
+        ensures some { piece.new.items ≡ [] → self.old ≡ [] }
+        ensures capacity { vec_capacity piece.old ≤ vec_capacity piece.new }
+    {
+        let room = piece.capacity() - piece.len();
+        let left = self.bytes.len() - self.given;
+        let count = left.min(room);
+        push_bytes(piece, &self.bytes[self.given..self.given + count]);
+        self.given += count;
+    }
+}
+
+/// The text of a core's state, of which some was given already.
+#[derive(Drop)]
+pub struct StatePieces {
+    front: Left,
+    /// The next page.
+    page: u32,
+    dump: Left,
+}
+
+impl Model for StatePieces {
+    ghost use Rattle.kc_state_text.specs.Pieces.{Pieces};
+
+    ghost Value = { Pieces };
+
+    ghost view = { λ p. record { front = p.front; page = p.page; dump = p.dump } };
+}
+
+impl StatePieces {
+    /// The whole text, of which nothing was given. All memory that it takes is taken here: `Memory` where a growth was
+    /// refused. The pages are hashed by several threads.
+    pub fn new(
+        rt: &(impl Threads + Sync),
+        alloc: Global,
+        core: &KCore,
+    ) -> Result<StatePieces, Memory>
+        ensures { IfOk result (λ pieces. to_come core.now pieces ≡ state_text core.now) }
+    {
+        let front = write_front(alloc, core)?;
+        let dumped = dump(rt, alloc, core)?;
+        let dump = write_dump(alloc, &dumped)?;
+        Ok(StatePieces {
+            front: Left::all(front),
+            page: 0,
+            dump: Left::all(dump),
+        })
+    }
+
+    /// Appends the lines of the next pages, as many as there is room for.
+    fn give_pages(&mut self, core: &KCore, piece: &mut Vec<u8>)
+        requires room { vec_len piece.old + 8198 ≤ vec_capacity piece.old }
+        requires front { self.old.front ≡ [] }
+        requires page { self.old.page < length core.now.frames }
+        ensures given { piece.new.items ++ to_come core.now self.new ≡ piece.old.items ++ to_come core.now self.old }
+        ensures some { 0 < length piece.new.items }
+        ensures capacity { vec_capacity piece.old ≤ vec_capacity piece.new }
+    {
+        let count = core.config().frames();
+        'pages: while self.page < count && LONGEST_PAGE_LINE <= piece.capacity() - piece.len() {
+            push_page(piece, core.bytes(self.page).unwrap());
+            self.page += 1;
+        }
+    }
+
+    /// Gives the next piece of the text, in place of what stands there: as much as the piece has room for, 8,198 bytes or
+    /// more. It is empty only where nothing is left.
+    pub fn fill(&mut self, core: &KCore, piece: &mut Vec<u8>)
+        requires { 8198 ≤ vec_capacity piece.old }
+        ensures given { piece.new.items ++ to_come core.now self.new ≡ to_come core.now self.old }
+        ensures some { piece.new.items ≡ [] → to_come core.now self.old ≡ [] }
+        ensures capacity { 8198 ≤ vec_capacity piece.new }
+    {
+        piece.clear();
+        if !self.front.is_empty() {
+            self.front.give(piece);
+        } else if self.page < core.config().frames() {
+            self.give_pages(core, piece);
+        } else {
+            self.dump.give(piece);
+        }
+    }
+}
+
+/// Forgets what stands in a piece, and zeroes all its memory.
+pub fn wipe_piece(piece: &mut Vec<u8>) {
+    let room = piece.capacity();
+    piece.clear();
+    piece.resize(room, 0).unwrap();
+}
+
+/// How much of a text is compared at once, in bytes.
+const PIECE: usize = 65_536;
+
+/// Whether a text is just these pieces.
+fn is_rest(core: &KCore, pieces: StatePieces, piece: &mut Vec<u8>, text: &[u8]) -> bool
+    requires { 8198 ≤ vec_capacity piece.old }
+    ensures { IsTrue result ↔ (text.now ≡ to_come core.now pieces) }
+{
+    let mut pieces = pieces;
+    let mut rest = text;
+    'pieces: loop {
+        pieces.fill(core, piece);
+        if piece.is_empty() {
+            return rest.is_empty();
+        }
+        let Some(more) = rest.strip_prefix(piece.as_slice()) else {
+            return false;
+        };
+        rest = more;
+    }
+}
+
+/// Whether a text is that of a core's state. It is written piece by piece beside the text, and the memory that held a piece is
+/// wiped. `Memory` where a growth was refused.
+pub fn is_state_text(
+    rt: &(impl Threads + Sync),
+    alloc: Global,
+    core: &KCore,
+    text: &[u8],
+) -> Result<bool, Memory>
+    // No clause can rule out want of memory: a test compares states.
+    ensures { IfOk result (λ same. IsTrue same ↔ (text.now ≡ state_text core.now)) }
+{
+    let pieces = StatePieces::new(rt, alloc, core)?;
+    let mut piece = Vec::with_capacity(alloc, PIECE)?;
+    let same = is_rest(core, pieces, &mut piece, text);
+    wipe_piece(&mut piece);
+    Ok(same)
+}
