@@ -2,5 +2,9 @@
 #![tactic(auto)]
 
 mod dumping;
+mod told;
+mod unlawful;
 
 pub use dumping::dump;
+pub use told::{SlotRest, Told};
+pub use unlawful::Unlawful;

@@ -12,6 +12,14 @@ pub struct SlotRest {
     pub images: ArrayVec<Image, IMAGE_LIMIT>,
 }
 
+impl Model for SlotRest {
+    ghost use Rattle.kc_state.specs.Told as told;
+
+    ghost Value = { told.SlotRest };
+
+    ghost view = { λ s. record { vcpus = s.vcpus.items; images = s.images.items } };
+}
+
 /// A dump and what it leaves out. Where it is dropped its pages are wiped.
 pub struct Told {
     /// How many frames were the host's at boot.
@@ -23,4 +31,21 @@ pub struct Told {
     /// The bytes of each frame's page, by its number.
     pub pages: Vec<PageBytes>,
     pub dump: Dump,
+}
+
+impl Model for Told {
+    ghost use Rattle.kc_state.specs.Told as told;
+
+    ghost Value = { told.Told };
+
+    ghost view = { λ t. record { rest = record { host = t.host; approved = t.approved.items; slots = t.slots.items; pages = t.pages.items }; dump = t.dump } };
+}
+
+impl Drop for Told {
+    fn drop(self) {
+        let Told { host: _, approved: _, slots: _, mut pages, dump: _ } = self;
+        for page in pages.iter_mut() {
+            page.scrub();
+        }
+    }
 }

@@ -1,0 +1,4 @@
+mod Lines
+mod Spelled
+mod Gathered
+mod Followed

@@ -1,28 +1,27 @@
--- What is said of a text that is no state's.
-use Rattle.std.specs.Prelude.{ℕ, List, [], codes, Option, Some, None}
+-- What is said of a text that is no state.
+use Rattle.std.specs.Prelude.{ℕ, ◌+◌, List, [], codes}
 use Rattle.kc_state_text.specs.declared.fault.StateFault.{StateFault}
 use Rattle.kc_state_text.specs.declared.fault.StateFault.TheVariants.{NoHeader, BadLine, Missing, Sizes, Found, Slot, Frame, Memory}
+use Rattle.kc_dump_text.specs.declared.fault.DumpFault.{DumpFault}
+use Rattle.kc_dump_text.specs.declared.fault.DumpFault.TheVariants as dump
 
--- why a text is no state's, up to the number of a line, a slot or a frame, or up to what an audit finds
+-- what is wrong with a state where this is wrong with its dump, which stands behind so many lines
+abbrev pub dump_fault : ℕ → DumpFault → StateFault
+dump_fault before dump.NoHeader = BadLine (before + 1)
+dump_fault before (dump.BadLine n) = BadLine (before + n)
+dump_fault before (dump.Frame f) = Missing f
+dump_fault before dump.Memory = Memory
+
+-- why a text is no state's, up to the number of a line, a frame or a slot; of a finding its own line is said
 abbrev pub state_fault_words : StateFault → List ℕ
 state_fault_words NoHeader = codes "no state header"
 state_fault_words (BadLine number) = codes "bad state line "
 state_fault_words (Missing frame) = codes "dump frame "
 state_fault_words Sizes = codes "state of no configuration"
-state_fault_words (Found finding) = codes "state with finding "
-state_fault_words (Slot slot) = codes "bad slot "
+state_fault_words (Found finding) = []
+state_fault_words (Slot vm) = codes "bad slot "
 state_fault_words (Frame frame) = codes "bad frame "
 state_fault_words Memory = codes "out of memory"
-
-abbrev pub state_fault_number : StateFault → Option ℕ
-state_fault_number NoHeader = None
-state_fault_number (BadLine number) = Some number
-state_fault_number (Missing frame) = Some frame
-state_fault_number Sizes = None
-state_fault_number (Found finding) = None
-state_fault_number (Slot slot) = Some slot
-state_fault_number (Frame frame) = Some frame
-state_fault_number Memory = None
 
 -- the same behind the number
 abbrev pub state_fault_end : StateFault → List ℕ

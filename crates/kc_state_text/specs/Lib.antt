@@ -1,3 +1,7 @@
 pub mod StateText
 pub mod Refused
+pub mod Words
+pub mod Reading
 pub mod Faults
+pub mod Volumes
+pub mod Pieces

@@ -3,7 +3,6 @@ use Rattle.std.specs.Prelude.{ℕ, ◌≡◌, ◌<◌, ◌≤◌, ◌+◌, ◌^�
 use Rattle.kc_types.specs.Limits.{gfn_limit, vcpu_limit, image_limit}
 use Rattle.kc_model.specs.State.{Vcpu, Image}
 use Rattle.kc_model.specs.Lawful.{IsPage}
-use Rattle.kc_audit.specs.declared.finding.Finding.{Finding}
 use Rattle.kc_dump_text.specs.Grammar.{IsDumpText}
 use Rattle.kc_dump_text.specs.DumpText.{dump_text}
 use Rattle.kc_dump_text.specs.Refused.{IsRefusedDump}
@@ -12,13 +11,14 @@ use Rattle.kc_state.specs.Told.{Told, SlotRest}
 use Rattle.kc_state.specs.Unlawful.{IsUnlawful}
 use Rattle.kc_state.specs.declared.unlawful.Unlawful.{Unlawful}
 use Rattle.kc_state.specs.declared.unlawful.Unlawful.TheVariants as unlawful
-use Rattle.kc_replay.specs.Volumes.{IsDigest}
+use Rattle.kc_state_text.specs.Volumes.{IsDigest}
 use Rattle.kc_state_text.specs.declared.fault.StateFault.{StateFault}
 use Rattle.kc_state_text.specs.declared.fault.StateFault.TheVariants.{NoHeader, BadLine, Missing, Sizes, Found, Slot, Frame, Memory}
-use Rattle.kc_state_text.specs.StateText.{Sizes as SizesOf, Front, state_header, sizes_line, approved_line, slot_line, page_line, front_text, front_of, told_text}
+use Rattle.kc_state_text.specs.declared.sizes.Sizes as numbers
+use Rattle.kc_state_text.specs.StateText.{Front, state_header, sizes_line, approved_line, slot_line, page_line, front_text, front_of, told_text}
 
 -- which numbers the line of sizes may have
-pub record AreSizes (sizes : SizesOf) : Type 0 where
+pub record AreSizes (sizes : numbers.Sizes) : Type 0 where
   pub slots : sizes.slots < 2 ^ 32
   pub frames : sizes.frames < 2 ^ 32
   pub host : sizes.host < 2 ^ 32

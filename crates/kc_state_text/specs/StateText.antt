@@ -5,24 +5,25 @@ use Rattle.std.specs.List.{flat_map, list_all}
 use Rattle.hex.specs.Hex.{encode_lower}
 use Rattle.kc_model.specs.State.{State, Vcpu, Image}
 use Rattle.kc_dump_text.specs.DumpText.{line, dump_text}
-use Rattle.kc_state.specs.Told.{Told, Rest, SlotRest, told_of}
+use Rattle.kc_state.specs.Told.{Told, Rest, SlotRest, slot_rest, rest_of, told_of}
+use Rattle.kc_state_text.specs.declared.sizes.Sizes.{Sizes}
 
 -- the first line of each state, with its newline
 abbrev pub state_header : List ℕ
 state_header = codes "kcore-state 1" ++ 10 ∷ []
 
--- how many slots and frames there are, how many frames were the host's at boot, and how many digests are approved
-pub record Sizes : Type 0 where
-  pub slots : ℕ
-  pub frames : ℕ
-  pub host : ℕ
-  pub approved : ℕ
+abbrev pub sizes_words : Sizes → List (List ℕ)
+sizes_words sizes = decimal sizes.slots ∷ decimal sizes.frames ∷ decimal sizes.host ∷ decimal sizes.approved ∷ []
 
+-- how many slots and frames there are, how many frames were the host's at boot, and how many digests are approved
 abbrev pub sizes_line : Sizes → List ℕ
-sizes_line sizes = line (codes "config") (decimal sizes.slots ∷ decimal sizes.frames ∷ decimal sizes.host ∷ decimal sizes.approved ∷ [])
+sizes_line sizes = line (codes "config") (sizes_words sizes)
+
+abbrev pub approved_words : List ℕ → List (List ℕ)
+approved_words digest = encode_lower digest ∷ []
 
 abbrev pub approved_line : List ℕ → List ℕ
-approved_line digest = line (codes "approved") (encode_lower digest ∷ [])
+approved_line digest = line (codes "approved") (approved_words digest)
 
 -- a virtual processor: a dash where it is not registered, a dot where it waits for nothing, else the guest frame that it waits for
 abbrev pub fault_word : Option ℕ → List ℕ
@@ -32,12 +33,24 @@ fault_word (Some g) = decimal g
 abbrev pub vcpu_word : Vcpu → List ℕ
 vcpu_word vcpu = if vcpu.registered then fault_word vcpu.fault else codes "-"
 
+abbrev pub vcpu_words : Vcpu → List (List ℕ)
+vcpu_words vcpu = vcpu_word vcpu ∷ []
+
 -- an image: its first guest frame, its length in bytes, its pages so far
 abbrev pub image_words : Image → List (List ℕ)
 image_words image = decimal image.base ∷ decimal image.len ∷ decimal image.pages ∷ []
 
+abbrev pub vcpus_words : List Vcpu → List (List ℕ)
+vcpus_words vcpus = map vcpu_word vcpus
+
+abbrev pub images_words : List Image → List (List ℕ)
+images_words images = flat_map image_words images
+
+abbrev pub slot_words : SlotRest → List (List ℕ)
+slot_words rest = vcpus_words rest.vcpus ++ images_words rest.images
+
 abbrev pub slot_line : SlotRest → List ℕ
-slot_line rest = line (codes "slot") (map vcpu_word rest.vcpus ++ flat_map image_words rest.images)
+slot_line rest = line (codes "slot") (slot_words rest)
 
 abbrev pub is_zero : List ℕ → Bool
 is_zero bytes = list_all (λ b. b == 0) bytes
@@ -46,8 +59,11 @@ is_zero bytes = list_all (λ b. b == 0) bytes
 abbrev pub page_word : List ℕ → List ℕ
 page_word bytes = if is_zero bytes then codes "-" else encode_lower bytes
 
+abbrev pub page_words : List ℕ → List (List ℕ)
+page_words bytes = page_word bytes ∷ []
+
 abbrev pub page_line : List ℕ → List ℕ
-page_line bytes = line (codes "page") (page_word bytes ∷ [])
+page_line bytes = line (codes "page") (page_words bytes)
 
 -- what the lines before the dump say
 pub record Front : Type 0 where
@@ -74,3 +90,9 @@ told_text t = front_text (front_of t.rest) ++ dump_text t.dump
 -- the one spelling of a state
 abbrev pub state_text : State → List ℕ
 state_text m = told_text (told_of m)
+
+-- the text of a state up to the lines of its pages
+abbrev pub front_begin : State → List ℕ
+front_begin m =
+    state_header ++ (sizes_line (sizes_of (rest_of m))
+    ++ (flat_map approved_line m.config.approved ++ flat_map slot_line (map slot_rest m.slots)))

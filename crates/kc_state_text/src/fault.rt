@@ -1,8 +1,11 @@
 //! Why a text is no state's.
 ghost use Rattle.std.specs.Prelude.{◌≡◌, ◌≤◌, length};
-ghost use Rattle.kc_state_text.specs.Faults.{state_fault_words, state_fault_number, state_fault_end};
+ghost use Rattle.kc_state_text.specs.Faults.{state_fault_words, state_fault_end};
+ghost use Rattle.kc_state_text.specs.declared.fault.StateFault.TheVariants.{Memory};
 
 use kc_audit::Finding;
+use kc_types::Memory as Want;
+use std::alloc::AllocFailed;
 
 /// Why a text is no lawful state's. Lines are taken from the front, and the first fault is answered.
 #[derive(Clone, Copy, Debug, PartialEq, Eq)]
@@ -27,7 +30,8 @@ pub enum StateFault {
 }
 
 impl StateFault {
-    /// What is wrong; of a line, a slot or a frame what is said before its number, of a finding what is said before its text.
+    /// What is wrong; of a line, a frame or a slot, what is said before its number. Nothing where an audit finds something,
+    /// which has a line of its own.
     pub const fn words(&self) -> &'static str
         ensures text { result.now ≡ state_fault_words self.now }
         ensures short { length result.now ≤ 40 }
@@ -37,26 +41,10 @@ impl StateFault {
             StateFault::BadLine(_) => "bad state line ",
             StateFault::Missing(_) => "dump frame ",
             StateFault::Sizes => "state of no configuration",
-            StateFault::Found(_) => "state with finding ",
+            StateFault::Found(_) => "",
             StateFault::Slot(_) => "bad slot ",
             StateFault::Frame(_) => "bad frame ",
             StateFault::Memory => "out of memory",
-        }
-    }
-
-    /// The number, if it has one.
-    pub const fn number(&self) -> Option<usize>
-        ensures { result ≡ state_fault_number self.now }
-    {
-        match self {
-            StateFault::BadLine(number)
-            | StateFault::Missing(number)
-            | StateFault::Slot(number)
-            | StateFault::Frame(number) => Some(*number as usize),
-            StateFault::NoHeader
-            | StateFault::Sizes
-            | StateFault::Found(_)
-            | StateFault::Memory => None,
         }
     }
 
@@ -69,5 +57,21 @@ impl StateFault {
             StateFault::Missing(_) => " missing or doubled",
             _ => "",
         }
+    }
+}
+
+impl From<Want> for StateFault {
+    ghost from_gives = { λ _ fault. fault ≡ Memory };
+
+    fn from(_refused: Want) -> StateFault {
+        StateFault::Memory
+    }
+}
+
+impl<T: Drop> From<AllocFailed<T>> for StateFault {
+    ghost from_gives = { λ _ fault. fault ≡ Memory };
+
+    fn from(_refused: AllocFailed<T>) -> StateFault {
+        StateFault::Memory
     }
 }

@@ -2,5 +2,14 @@
 #![tactic(auto)]
 
 mod fault;
+mod front;
+mod line_reader;
+mod pages;
+mod pieces;
+mod reader;
+mod sizes;
+mod words;
+mod writing;
 
 pub use fault::StateFault;
+pub use pieces::{StatePieces, is_state_text, wipe_piece};

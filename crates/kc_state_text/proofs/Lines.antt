@@ -1,0 +1,83 @@
+-- A line is cut off a text in one way, and its words are cut in one way.
+use Rattle.std.proofs.Common.{ℕ, zero, suc, ◌≡◌, ◌<◌, ◌≤◌, ◌+◌, Bool, true, false, List, [], ◌∷◌, ◌++◌, length, refl, sym, ap, subst, ◌∙◌, append_assoc, arith, length-append, All}
+use Rattle.std.specs.Prelude.{◌==◌, not}
+use Rattle.std.specs.List.{flat_map, list_all, slice_split, join_with_byte}
+use Rattle.std.proofs.lemmas.Bool.{and_parts, and_from, eqb-false, not-true}
+use Rattle.std.proofs.lemmas.List.{append-nil}
+use Rattle.std.proofs.lemmas.List.Splits.{join_with_byte-slice_split}
+use Rattle.kc_lines.specs.Lines.{IsOneLine}
+use Rattle.kc_lines.proofs.Words.{is_space, is_word, split_join, join_is_one_line}
+use Rattle.kc_dump_text.specs.DumpText.{spaced, line}
+use Rattle.kc_state_text.specs.Words.{words_in}
+use Rattle.kc_state_text.specs.Reading.{LacksFirst, LacksWhole, BeginsAs, IsWhole, behind}
+use Rattle.kc_state_text.specs.Refused.{HasNone}
+
+newline-in : (y : ℕ) (b : List ℕ) → IsOneLine (y ∷ b) → y ≡ 10 → ⊥
+newline-in y b h e = eqb-false y 10 (not-true (y == 10) (and_parts (not (y == 10)) (list_all (λ b. not (b == 10)) b) h).0) e
+
+rest-one : (y : ℕ) (b : List ℕ) → IsOneLine (y ∷ b) → IsOneLine b
+rest-one y b h = (and_parts (not (y == 10)) (list_all (λ b. not (b == 10)) b) h).1
+
+-- a text has one first line, and one rest
+pub cut-same : (a b c d : List ℕ) → IsOneLine a → IsOneLine b → a ++ 10 ∷ c ≡ b ++ 10 ∷ d → (a ≡ b) × (c ≡ d)
+cut-same [] [] c d h g e = (refl, cc)
+cut-same [] (y ∷ b) c d h g e = absurd (newline-in y b g (let z : y ≡ 10 = cc in z))
+cut-same (x ∷ a) [] c d h g e = absurd (newline-in x a h (let z : x ≡ 10 = cc in z))
+cut-same (x ∷ a) (y ∷ b) c d h g e =
+    let head : x ≡ y = cc in
+    let tail : a ++ 10 ∷ c ≡ b ++ 10 ∷ d = cc in
+    let rest = cut-same a b c d (rest-one x a h) (rest-one y b g) tail in
+    (ap (λ z. z ∷ a) head ∙ ap (λ l. y ∷ l) rest.0, rest.1)
+
+-- a line with no newline in it has none
+no-newline : (a c l : List ℕ) → IsOneLine l → l ≡ a ++ 10 ∷ c → ⊥
+no-newline [] c [] h e = absurd cc
+no-newline [] c (y ∷ l) h e = newline-in y l h (let z : y ≡ 10 = cc in z)
+no-newline (x ∷ a) c [] h e = absurd cc
+no-newline (x ∷ a) c (y ∷ l) h e = no-newline a c l (rest-one y l h) (let z : l ≡ a ++ 10 ∷ c = cc in z)
+
+joined-spaced : (name : List ℕ) (words : List (List ℕ)) → join_with_byte 32 (name ∷ words) ≡ name ++ spaced words
+joined-spaced name [] = sym (append-nil name)
+joined-spaced name (word ∷ words) = ap (λ (l : List ℕ). name ++ 32 ∷ l) (joined-spaced word words)
+
+line-joined : (name : List ℕ) (words : List (List ℕ)) (more : List ℕ) → line name words ++ more ≡ join_with_byte 32 (name ∷ words) ++ 10 ∷ more
+line-joined name words more =
+    ap (λ (l : List ℕ). l ++ more) (sym (append_assoc name (spaced words) (10 ∷ [])) ∙ ap (λ (l : List ℕ). l ++ 10 ∷ []) (sym (joined-spaced name words)))
+    ∙ append_assoc (join_with_byte 32 (name ∷ words)) (10 ∷ []) more
+
+abbrev pub AreWords : List (List ℕ) → Type 0
+AreWords words = list_all is_word words ≡ true
+
+-- a line of words is cut into them
+pub line-cut : (name : List ℕ) (words : List (List ℕ)) (more l rest : List ℕ) → AreWords (name ∷ words) → IsOneLine l → l ++ 10 ∷ rest ≡ line name words ++ more → (words_in l ≡ name ∷ words) × (rest ≡ more)
+line-cut name words more l rest are one e =
+    let both = cut-same l (join_with_byte 32 (name ∷ words)) rest more one (join_is_one_line name words are) (e ∙ line-joined name words more) in
+    (ap (slice_split is_space) both.0 ∙ split_join name words are, both.1)
+
+-- what is cut into these words is their line
+pub line-made : (name : List ℕ) (words : List (List ℕ)) (l rest : List ℕ) → words_in l ≡ name ∷ words → l ++ 10 ∷ rest ≡ line name words ++ rest
+line-made name words l rest e =
+    ap (λ (l : List ℕ). l ++ 10 ∷ rest) (sym (join_with_byte-slice_split 32 l) ∙ ap (join_with_byte 32) e) ∙ sym (line-joined name words rest)
+
+-- two lines of words are the same words
+pub line-same : (name other : List ℕ) (a b : List (List ℕ)) (c d : List ℕ) → AreWords (name ∷ a) → AreWords (other ∷ b) → line name a ++ c ≡ line other b ++ d → (name ∷ a ≡ other ∷ b) × (c ≡ d)
+line-same name other a b c d h g e =
+    let both = cut-same (join_with_byte 32 (name ∷ a)) (join_with_byte 32 (other ∷ b)) c d (join_is_one_line name a h) (join_is_one_line other b g)
+        (sym (line-joined name a c) ∙ e ∙ line-joined other b d) in
+    (sym (split_join name a h) ∙ ap (slice_split is_space) both.0 ∙ split_join other b g, both.1)
+
+-- a line is some bytes
+pub line-long : (name : List ℕ) (words : List (List ℕ)) → 0 < length (line name words)
+line-long name words = let a = length-append name (spaced words ++ 10 ∷ []) in let b = length-append (spaced words) (10 ∷ []) in omega (arith, a, b)
+
+module _ {X : Type 0} (Is : X → Type 0) (name : List ℕ) (spelled : X → List (List ℕ)) (words : (x : X) → Is x → AreWords (name ∷ spelled x)) where
+  -- a text of one line with no end begins with no line
+  pub none-no-end : (text : List ℕ) → IsOneLine text → HasNone Is (λ x. line name (spelled x)) text
+  none-no-end text one x more is e = no-newline (join_with_byte 32 (name ∷ spelled x)) more text one (e ∙ line-joined name (spelled x) more)
+
+  -- nor does one whose first line has other words
+  pub none-unread : (text l rest : List ℕ) → IsOneLine l → text ≡ l ++ 10 ∷ rest → LacksWhole Is (behind name spelled) (words_in l) → HasNone Is (λ x. line name (spelled x)) text
+  none-unread text l rest one cut lacks x more is e = lacks x is (line-cut name (spelled x) more l rest (words x is) one (sym cut ∙ e)).0
+
+  pub begins : (text l rest : List ℕ) (x : X) → text ≡ l ++ 10 ∷ rest → IsWhole Is (behind name spelled) (words_in l) x → BeginsAs Is (λ x. line name (spelled x)) text x rest
+  begins text l rest x cut whole = record { is = whole.is; whole = cut ∙ line-made name (spelled x) l rest whole.whole }

@@ -1,0 +1,87 @@
+-- What words, or lines, begin with, and how far some lines were read.
+use Rattle.std.specs.Prelude.{ℕ, ◌≡◌, ◌<◌, ◌≤◌, ◌+◌, ◌^◌, List, [], ◌∷◌, ◌++◌, length, All}
+use Rattle.std.specs.Fmt.{decimal}
+use Rattle.std.specs.List.{flat_map}
+use Rattle.kc_types.specs.Limits.{vcpu_limit, image_limit}
+use Rattle.kc_model.specs.State.{Vcpu, Image}
+use Rattle.kc_state_text.specs.declared.fault.StateFault.{StateFault}
+use Rattle.kc_state_text.specs.declared.fault.StateFault.TheVariants.{NoHeader, BadLine, Missing, Sizes, Found, Slot, Frame, Memory}
+use Rattle.kc_state_text.specs.StateText.{state_header}
+use Rattle.kc_state_text.specs.Refused.{IsVcpuWord, AreImageWords, HasNone, StopsBefore}
+
+abbrev pub IsNumber : ℕ → Type 0
+IsNumber n = n < 2 ^ 32
+
+abbrev pub number_words : ℕ → List (List ℕ)
+number_words n = decimal n ∷ []
+
+-- the name, and then the words
+abbrev pub behind : {X : Type 0} → List ℕ → (X → List (List ℕ)) → X → List (List ℕ)
+behind name spelled x = name ∷ spelled x
+
+-- the list begins with no such thing
+abbrev pub LacksFirst : {X A : Type 0} → (X → Type 0) → (X → List A) → List A → Type 0
+LacksFirst {X} {A} Is spelled list = (x : X) (more : List A) → Is x → list ≡ spelled x ++ more → ⊥
+
+-- the list is no such thing
+abbrev pub LacksWhole : {X A : Type 0} → (X → Type 0) → (X → List A) → List A → Type 0
+LacksWhole {X} {A} Is spelled list = (x : X) → Is x → list ≡ spelled x → ⊥
+
+-- the list begins with this thing, and then comes the rest
+pub record BeginsAs {X A : Type 0} (Is : X → Type 0) (spelled : X → List A) (list : List A) (x : X) (rest : List A) : Type 0 where
+  pub is : Is x
+  pub whole : list ≡ spelled x ++ rest
+
+-- the list is this thing
+pub record IsWhole {X A : Type 0} (Is : X → Type 0) (spelled : X → List A) (list : List A) (x : X) : Type 0 where
+  pub is : Is x
+  pub whole : list ≡ spelled x
+
+-- one more thing, and the list is it
+abbrev pub IsOneMore : {X A : Type 0} → (X → Type 0) → (X → List A) → List A → List X → List X → Type 0
+IsOneMore {X} Is spelled list xs ys = (x : X) × IsWhole Is spelled list x × (ys ≡ xs ++ x ∷ [])
+
+pub record AreVcpus (vcpus : List Vcpu) : Type 0 where
+  pub eight : length vcpus ≡ vcpu_limit
+  pub each : All IsVcpuWord vcpus
+
+pub record AreImages (images : List Image) : Type 0 where
+  pub few : length images ≤ image_limit
+  pub each : All AreImageWords images
+
+-- the text begins with the lines of so many things, and then comes the rest
+pub record AreRead {X : Type 0} (Is : X → Type 0) (spelled : X → List ℕ) (count : ℕ) (text : List ℕ) (xs : List X) (rest : List ℕ) : Type 0 where
+  pub many : length xs ≡ count
+  pub each : All Is xs
+  pub whole : text ≡ flat_map spelled xs ++ rest
+
+-- behind fewer lines the text goes on with none
+pub record Lacks {X : Type 0} (Is : X → Type 0) (spelled : X → List ℕ) (first count : ℕ) (text : List ℕ) (n : ℕ) : Type 0 where
+  pub xs : List X
+  pub rest : List ℕ
+  pub read : AreRead Is spelled (length xs) text xs rest
+  pub few : length xs < count
+  pub none : HasNone Is spelled rest
+  pub number : n ≡ first + length xs
+
+-- reading so many lines, of which the first has this number, stops for this reason
+abbrev pub StopsAmong : {X : Type 0} → (X → Type 0) → (X → List ℕ) → ℕ → ℕ → List ℕ → StateFault → Type 0
+StopsAmong Is spelled first count text NoHeader = ⊥
+StopsAmong Is spelled first count text (BadLine n) = Lacks Is spelled first count text n
+StopsAmong Is spelled first count text (Missing f) = ⊥
+StopsAmong Is spelled first count text Sizes = ⊥
+StopsAmong Is spelled first count text (Found finding) = ⊥
+StopsAmong Is spelled first count text (Slot v) = ⊥
+StopsAmong Is spelled first count text (Frame f) = ⊥
+StopsAmong Is spelled first count text Memory = Unit {0}
+
+-- reading the lines before the dump stops for this reason
+abbrev pub IsFrontFault : List ℕ → StateFault → Type 0
+IsFrontFault text NoHeader = (rest : List ℕ) → text ≡ state_header ++ rest → ⊥
+IsFrontFault text (BadLine n) = StopsBefore text n
+IsFrontFault text (Missing f) = ⊥
+IsFrontFault text Sizes = ⊥
+IsFrontFault text (Found finding) = ⊥
+IsFrontFault text (Slot v) = ⊥
+IsFrontFault text (Frame f) = ⊥
+IsFrontFault text Memory = Unit {0}

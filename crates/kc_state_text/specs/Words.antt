@@ -1,0 +1,26 @@
+-- The words of a line.
+use Rattle.std.specs.Prelude.{ℕ, ◌==◌, nat_lt, Bool, true, false, List, [], length, codes, Option, Some, None, option_map, option_and_then, if◌then◌else◌}
+use Rattle.std.specs.List.{slice_split}
+use Rattle.std.specs.Str.{bytes_eq}
+use Rattle.kc_types.specs.Limits.{gfn_limit}
+use Rattle.kc_model.specs.State.{Vcpu, absent_vcpu}
+use Rattle.kc_lines.specs.Words.{number_in}
+use Rattle.kc_dump_text.specs.Words.{below_of}
+
+abbrev pub words_in : List ℕ → List (List ℕ)
+words_in line = slice_split (λ b. b == 32) line
+
+-- none behind the last word
+abbrev pub words_left : Bool → List ℕ → List (List ℕ)
+words_left is_end line = if is_end then [] else words_in line
+
+-- one that is registered
+abbrev pub waiting : Option ℕ → Vcpu
+waiting fault = record { registered = true; fault = fault }
+
+-- a virtual processor's word
+unfoldable pub vcpu_in : List ℕ → Option Vcpu
+vcpu_in word =
+    if bytes_eq word (codes "-") then Some (record { registered = false; fault = None })
+    else if bytes_eq word (codes ".") then Some (waiting None)
+    else option_map (λ g. waiting (Some g)) (below_of gfn_limit word)

@@ -1,0 +1,186 @@
+//! The lines before the dump.
+ghost use Rattle.std.specs.Prelude.{ℕ, List, ◌≡◌, ◌≤◌, ◌<◌, ◌+◌, ◌^◌, ◌++◌, length, codes, MatchOption, MatchResult};
+ghost use Rattle.kc_types.specs.Limits.{byte_limit};
+ghost use Rattle.kc_model.specs.Lawful.{IsPage};
+ghost use Rattle.kc_state_text.specs.Volumes.{IsDigest};
+ghost use Rattle.kc_state_text.specs.StateText.{state_header, sizes_line, approved_line, slot_line, page_line};
+ghost use Rattle.kc_state_text.specs.Refused.{AreSizes, IsSlotLine, HasNone, BeginsWith, IsWholeFront};
+ghost use Rattle.kc_state_text.specs.Reading.{BeginsAs, AreRead, StopsAmong, IsFrontFault};
+
+use crate::fault::StateFault;
+use crate::line_reader::{read_approved, read_sizes, read_slot};
+use crate::pages::{Buffer, Pages};
+use crate::sizes::Sizes;
+use kc_lines::split_line;
+use kc_state::SlotRest;
+use std::alloc::Global;
+use std::marker::Model;
+
+/// What the lines before the dump say.
+#[derive(Drop)]
+pub struct Front {
+    pub sizes: Sizes,
+    pub approved: Vec<[u8; 32]>,
+    pub slots: Vec<SlotRest>,
+    pub pages: Pages,
+}
+
+impl Model for Front {
+    ghost use Rattle.kc_state_text.specs.StateText as text;
+
+    ghost Value = { text.Front };
+
+    ghost view = { λ f. record { sizes = f.sizes; approved = f.approved.items; slots = f.slots.items; pages = f.pages } };
+}
+
+impl Front {
+    ghost use Rattle.kc_state_text.specs.Refused.{line_count};
+
+    /// How many lines these are.
+    pub fn line_count(&self) -> u32
+        requires { line_count self.now < 2 ^ 32 }
+        ensures { result ≡ line_count self.now }
+    {
+        2 + self.approved.len() as u32 + self.slots.len() as u32 + self.pages.len() as u32
+    }
+}
+
+/// What stands behind the header, if the text begins with it.
+fn behind_header(text: &[u8]) -> Option<&[u8]>
+    ensures { MatchOption result ((rest : List ℕ) → text.now ≡ state_header ++ rest → ⊥) (λ rest. text.now ≡ state_header ++ rest.now) }
+{
+    if text.len() < 14 {
+        return None;
+    }
+    let (head, rest) = text.split_at(14);
+    if head == b"kcore-state 1\n".as_slice() {
+        Some(rest)
+    } else {
+        None
+    }
+}
+
+/// The sizes, if the text begins with their line, and what stands behind it.
+fn sizes_at(text: &[u8]) -> Option<(Sizes, &[u8])>
+    ensures { MatchOption result (HasNone AreSizes sizes_line text.now) (λ cut. BeginsAs AreSizes sizes_line text.now cut.0 cut.1.now) }
+{
+    let (line, rest) = split_line(text)?;
+    Some((read_sizes(line)?, rest))
+}
+
+/// An approved digest, if the text begins with the line of one, and what stands behind it.
+fn approved_at(text: &[u8]) -> Option<([u8; 32], &[u8])>
+    ensures { MatchOption result (HasNone IsDigest approved_line text.now) (λ cut. BeginsAs IsDigest approved_line text.now cut.0 cut.1.now) }
+{
+    let (line, rest) = split_line(text)?;
+    Some((read_approved(line)?, rest))
+}
+
+/// A slot, if the text begins with the line of one, and what stands behind it.
+fn slot_at(text: &[u8]) -> Option<(SlotRest, &[u8])>
+    ensures { MatchOption result (HasNone IsSlotLine slot_line text.now) (λ cut. BeginsAs IsSlotLine slot_line text.now cut.0 cut.1.now) }
+{
+    let (line, rest) = split_line(text)?;
+    Some((read_slot(line)?, rest))
+}
+
+/// So many approved digests, the first on the line of this number, and what stands behind them.
+fn read_all_approved<'a>(
+    alloc: Global,
+    text: &'a [u8],
+    first: u32,
+    count: u32,
+) -> Result<(Vec<[u8; 32]>, &'a [u8]), StateFault>
+    requires { first + length text.now < 2 ^ 32 }
+    ensures { MatchResult result
+        (λ read. AreRead IsDigest approved_line count text.now read.0.items read.1.now)
+        (λ fault. StopsAmong IsDigest approved_line first count text.now fault) }
+{
+    let mut digests = Vec::new(alloc);
+    let mut rest = text;
+    for number in 0..count {
+        let Some((digest, more)) = approved_at(rest) else {
+            return Err(StateFault::BadLine(first + number));
+        };
+        digests.push(digest)?;
+        rest = more;
+    }
+    Ok((digests, rest))
+}
+
+/// So many slots, the first on the line of this number, and what stands behind them.
+fn read_all_slots<'a>(
+    alloc: Global,
+    text: &'a [u8],
+    first: u32,
+    count: u32,
+) -> Result<(Vec<SlotRest>, &'a [u8]), StateFault>
+    requires { first + length text.now < 2 ^ 32 }
+    ensures { MatchResult result
+        (λ read. AreRead IsSlotLine slot_line count text.now read.0.items read.1.now)
+        (λ fault. StopsAmong IsSlotLine slot_line first count text.now fault) }
+{
+    let mut slots = Vec::new(alloc);
+    let mut rest = text;
+    for number in 0..count {
+        let Some((slot, more)) = slot_at(rest) else {
+            return Err(StateFault::BadLine(first + number));
+        };
+        slots.push(slot)?;
+        rest = more;
+    }
+    Ok((slots, rest))
+}
+
+/// The bytes of so many pages, the first on the line of this number, and what stands behind them.
+fn read_all_pages<'a>(
+    alloc: Global,
+    text: &'a [u8],
+    first: u32,
+    count: u32,
+) -> Result<(Pages, &'a [u8]), StateFault>
+    requires { first + length text.now < 2 ^ 32 }
+    ensures { MatchResult result
+        (λ read. AreRead IsPage page_line count text.now read.0 read.1.now)
+        (λ fault. StopsAmong IsPage page_line first count text.now fault) }
+{
+    let mut pages = Pages::new(alloc);
+    let mut buffer = Buffer::new(alloc)?;
+    let mut rest = text;
+    for number in 0..count {
+        let Some(more) = pages.read(alloc, rest, &mut buffer)? else {
+            return Err(StateFault::BadLine(first + number));
+        };
+        rest = more;
+    }
+    Ok((pages, rest))
+}
+
+/// All lines before the dump, and what stands behind them.
+pub fn read_front(alloc: Global, text: &[u8]) -> Result<(Front, &[u8]), StateFault>
+    requires { length text.now ≤ byte_limit }
+    ensures { MatchResult result
+        (λ read. BeginsWith text.now read.0 read.1.now × IsWholeFront read.0)
+        (λ fault. IsFrontFault text.now fault) }
+{
+    let Some(rest) = behind_header(text) else {
+        return Err(StateFault::NoHeader);
+    };
+    let Some((sizes, rest)) = sizes_at(rest) else {
+        return Err(StateFault::BadLine(2));
+    };
+    let (approved, rest) = read_all_approved(alloc, rest, 3, sizes.approved)?;
+    let first = 3 + sizes.approved;
+    let (slots, rest) = read_all_slots(alloc, rest, first, sizes.slots)?;
+    let first = first + sizes.slots;
+    let (pages, rest) = read_all_pages(alloc, rest, first, sizes.frames)?;
+    Ok((
+        Front {
+            sizes,
+            approved,
+            slots,
+            pages,
+        },
+        rest,
+    ))
+}

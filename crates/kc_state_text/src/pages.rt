@@ -1,0 +1,155 @@
+//! The bytes of pages that are read.
+ghost use Rattle.std.specs.Prelude.{ℕ, List, ◌≡◌, ◌≤◌, ◌*◌, ◌++◌, ◌∷◌, [], length, true, false, IsTrue, IfOk, MatchOption};
+ghost use Rattle.kc_types.specs.Limits.{page_size};
+ghost use Rattle.kc_model.specs.State.{zero_page};
+ghost use Rattle.kc_model.specs.Lawful.{IsPage};
+ghost use Rattle.kc_state_text.specs.StateText.{is_zero, page_word, page_line};
+ghost use Rattle.kc_state_text.specs.Reading.{LacksWhole, IsWhole, BeginsAs, IsOneMore};
+ghost use Rattle.kc_state_text.specs.Refused.{HasNone};
+
+use crate::line_reader::page_word;
+use kc_lines::{decode_into, split_line};
+use kc_page::PageBytes;
+use kc_types::{Memory, PAGE_SIZE};
+use std::alloc::Global;
+use std::marker::Model;
+
+pub fn is_zero(bytes: &[u8]) -> bool
+    ensures { result ≡ is_zero bytes.now }
+{
+    bytes.iter().all(|byte| *byte == 0)
+}
+
+/// Memory for the bytes of a page, seen as them. Where it is dropped it is zeroed.
+pub struct Buffer {
+    bytes: Vec<u8>,
+}
+
+impl Model for Buffer {
+    ghost use Rattle.std.specs.Prelude.{ℕ, List, ◌≡◌, vec_len};
+    ghost use Rattle.kc_types.specs.Limits.{page_size};
+
+    ghost Value = { List ℕ };
+
+    ghost view = { λ b. b.bytes.items };
+
+    ghost invariant = { λ b. vec_len b.bytes ≡ page_size };
+}
+
+impl Buffer {
+    /// All zero.
+    pub fn new(alloc: Global) -> Result<Buffer, Memory>
+    {
+        Ok(Buffer {
+            bytes: vec![in alloc; 0u8; PAGE_SIZE as usize]?,
+        })
+    }
+}
+
+impl Drop for Buffer {
+    fn drop(self) {
+        let Buffer { mut bytes } = self;
+        bytes.fill(0);
+    }
+}
+
+/// Lets a zero page have the bytes that a word is, and says whether it is the word of a page.
+fn fill_page(word: &[u8], page: &mut PageBytes, buffer: &mut Buffer) -> bool
+    requires { page.old ≡ zero_page }
+    ensures spelled { IsTrue result → IsWhole IsPage page_word word.now page.new }
+    ensures refused { result ≡ false → LacksWhole IsPage page_word word.now }
+    ensures kept { result ≡ false → page.new ≡ zero_page }
+{
+    if word == b"-".as_slice() {
+        return true;
+    }
+    if word.len() != 2 * PAGE_SIZE as usize {
+        return false;
+    }
+    let bytes = buffer.bytes.as_mut_slice();
+    if !decode_into(word, bytes) || is_zero(bytes) {
+        return false;
+    }
+    page.write(0, bytes);
+    true
+}
+
+/// The bytes of pages, by their numbers. Where they are dropped they are zeroed.
+pub struct Pages {
+    pages: Vec<PageBytes>,
+}
+
+impl Model for Pages {
+    ghost use Rattle.std.specs.Prelude.{ℕ, List};
+
+    ghost Value = { List (List ℕ) };
+
+    ghost view = { λ p. p.pages.items };
+}
+
+impl Pages {
+    /// None yet.
+    pub fn new(alloc: Global) -> Pages
+        ensures { result ≡ [] }
+    {
+        Pages {
+            pages: Vec::new(alloc),
+        }
+    }
+
+    /// One more page, if a word is that of one.
+    fn add(&mut self, alloc: Global, word: &[u8], buffer: &mut Buffer) -> Result<bool, Memory>
+        ensures spelled { IfOk result (λ valid. IsTrue valid → IsOneMore IsPage page_word word.now self.old self.new) }
+        ensures refused { IfOk result (λ valid. valid ≡ false → LacksWhole IsPage page_word word.now) }
+    {
+        self.pages.reserve(1)?;
+        let mut page = PageBytes::zeroed(alloc)?;
+        if !fill_page(word, &mut page, buffer) {
+            return Ok(false);
+        }
+        self.pages.push(page).unwrap();
+        Ok(true)
+    }
+
+    /// One more page, if the text begins with the line of one, and what stands behind it.
+    pub fn read<'a>(&mut self, alloc: Global, text: &'a [u8], buffer: &mut Buffer) -> Result<Option<&'a [u8]>, Memory>
+        ensures { IfOk result (λ found. MatchOption found
+            (HasNone IsPage page_line text.now)
+            (λ rest. (bytes : List ℕ) × BeginsAs IsPage page_line text.now bytes rest.now × (self.new ≡ self.old ++ bytes ∷ []))) }
+    {
+        let Some((line, rest)) = split_line(text) else {
+            return Ok(None);
+        };
+        let Some(word) = page_word(line) else {
+            return Ok(None);
+        };
+        if self.add(alloc, word, buffer)? {
+            Ok(Some(rest))
+        } else {
+            Ok(None)
+        }
+    }
+
+    pub fn len(&self) -> usize
+        ensures { result ≡ length self.now }
+    {
+        self.pages.len()
+    }
+
+    /// The pages.
+    pub fn into_vec(self) -> Vec<PageBytes>
+        ensures { result.items ≡ self }
+    {
+        let Pages { pages } = self;
+        pages
+    }
+}
+
+impl Drop for Pages {
+    fn drop(self) {
+        let Pages { mut pages } = self;
+        for page in pages.iter_mut() {
+            page.scrub();
+        }
+    }
+}
