@@ -51,7 +51,7 @@ abbrev pub live : App
 live = with_rule (with_rule (with_rule (new_app (codes "live")) config_rule) workers_rule) explain_rule
 
 abbrev pub custody : App
-custody = with_rule (with_rule (with_rule (with_rule (with_rule (new_app (codes "custody")) config_rule) vm_rule) summary_rule) svg_rule) explain_rule
+custody = with_rule (with_rule (with_rule (with_rule (with_rule (with_rule (new_app (codes "custody")) config_rule) from_rule) vm_rule) summary_rule) svg_rule) explain_rule
 
 abbrev pub audit : App
 audit = with_rule (with_rule (new_app (codes "audit")) all_rule) explain_rule

@@ -28,13 +28,13 @@ slot_in rows = option_map_or byte_or_zero (one_of (codes "vm") rows) 0
 abbrev pub vm_in : List Row → Option ℕ
 vm_in rows = option_map (λ text. slot_in rows) (first_of (codes "vm") rows)
 
--- the path of the configuration, and the number of workers, are those of the rows
-abbrev pub HasOptions : List Row → Option (Bor Text) → ℕ → Type 0
-HasOptions rows config workers = (option_map (λ s. s.now) config ≡ first_of (codes "config") rows) × (workers ≡ workers_in rows)
-
 -- the path behind this option is that of the rows
 abbrev pub HasPath : Text → List Row → Option (Bor Text) → Type 0
 HasPath option rows path = option_map (λ s. s.now) path ≡ first_of option rows
+
+-- the path of the configuration, and the number of workers, are those of the rows
+abbrev pub HasOptions : List Row → Option (Bor Text) → ℕ → Type 0
+HasOptions rows config workers = HasPath (codes "config") rows config × (workers ≡ workers_in rows)
 
 -- the flag stands among the words
 abbrev pub IsSet : Text → List Row → Type 0
@@ -45,7 +45,7 @@ abbrev pub IsJobIn : Text → List Row → Job → Type 0
 IsJobIn name rows (Replay config from to workers dump state explain) = (name ≢ codes "live") × (name ≢ codes "custody") × (name ≢ codes "audit") × HasOptions rows config workers × HasPath (codes "from") rows from × HasPath (codes "to") rows to
     × (IsTrue dump ↔ IsSet (codes "dump") rows) × (IsTrue state ↔ IsSet (codes "state") rows) × (IsTrue explain ↔ IsSet (codes "explain") rows)
 IsJobIn name rows (Live config workers explain) = (name ≡ codes "live") × HasOptions rows config workers × (IsTrue explain ↔ IsSet (codes "explain") rows)
-IsJobIn name rows (Custody config vm summary svg explain) = (name ≡ codes "custody") × (option_map (λ s. s.now) config ≡ first_of (codes "config") rows) × (vm ≡ vm_in rows)
+IsJobIn name rows (Custody config from vm summary svg explain) = (name ≡ codes "custody") × HasPath (codes "config") rows config × HasPath (codes "from") rows from × (vm ≡ vm_in rows)
     × (IsTrue summary ↔ IsSet (codes "summary") rows) × (IsTrue svg ↔ IsSet (codes "svg") rows) × (IsTrue explain ↔ IsSet (codes "explain") rows)
 IsJobIn name rows (Audit all explain) = (name ≡ codes "audit") × (IsTrue all ↔ IsSet (codes "all") rows) × (IsTrue explain ↔ IsSet (codes "explain") rows)
 
@@ -53,7 +53,7 @@ IsJobIn name rows (Audit all explain) = (name ≡ codes "audit") × (IsTrue all 
 abbrev pub Asks : Option (Text × List Row) → Job → Type 0
 Asks None (Replay config from to workers dump state explain) = HasOptions [] config workers × HasPath (codes "from") [] from × HasPath (codes "to") [] to × (dump ≡ false) × (state ≡ false) × (explain ≡ false)
 Asks None (Live config workers explain) = ⊥
-Asks None (Custody config vm summary svg explain) = ⊥
+Asks None (Custody config from vm summary svg explain) = ⊥
 Asks None (Audit all explain) = ⊥
 Asks (Some found) job = IsJobIn found.0 found.1 job
 

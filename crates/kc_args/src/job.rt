@@ -33,11 +33,13 @@ pub enum Job<'a> {
         workers: u32,
         explain: bool,
     },
-    /// Make the calls of the trace on standard input, with the configuration in a file where a path is given, and write what
-    /// happened to each frame and slot, of one slot's VM alone where a slot is given: every change, or with `summary` an
-    /// object for each life of a VM, or with `svg` a picture. `summary` and `svg` exclude each other.
+    /// Make the calls of the trace on standard input, with the configuration in a file where a path is given, or from the state
+    /// whose text is in the file `from`, and write what happened to each frame and slot, of one slot's VM alone where a slot is
+    /// given: every change, or with `summary` an object for each life of a VM, or with `svg` a picture. `config` and `from`
+    /// exclude each other, and so do `summary`, `svg` and `from`.
     Custody {
         config: Option<&'a str>,
+        from: Option<&'a str>,
         vm: Option<u32>,
         summary: bool,
         svg: bool,
@@ -226,6 +228,7 @@ fn custody_command<'a>(alloc: Global) -> Result<Command<'a>, AllocError>
         .about("Write what happened to each frame and VM: every change, with the line of its call")
         .override_usage("kcore custody [OPTIONS]")
         .arg(config_arg(alloc))?
+        .arg(from_arg(alloc))?
         .arg(vm_arg(alloc))?
         .arg(summary_arg(alloc))?
         .arg(svg_arg(alloc))?
@@ -354,6 +357,7 @@ fn job_in<'a>(name: &str, found: &ArgMatches<'a>) -> Job<'a>
     if is_named(name, "custody") {
         return Job::Custody {
             config,
+            from: text_in(found, "from"),
             vm: vm_in(found),
             summary: is_set(found, "summary"),
             svg: is_set(found, "svg"),

@@ -33,13 +33,6 @@ enum Wanted {
     Custody(CustodyForm, Option<u32>),
 }
 
-/// What is said where two words stand together that exclude each other, as the command says such things.
-const TWO_FORMS: &str =
-    "error: the argument '--summary' cannot be used with '--svg'\n\nUsage: kcore custody [OPTIONS]\n\nFor more information, try '--help'.\n";
-const DUMP_AND_STATE: &str =
-    "error: the argument '--dump' cannot be used with '--state'\n\nUsage: kcore replay [OPTIONS]\n\nFor more information, try '--help'.\n";
-const TWO_STARTS: &str =
-    "error: the argument '--config' cannot be used with '--from'\n\nUsage: kcore replay [OPTIONS]\n\nFor more information, try '--help'.\n";
 
 /// What is to be done with the trace on standard input.
 #[derive(Clone, Copy)]
@@ -338,9 +331,12 @@ fn start_of<'a>(
     }
 }
 
-/// Says that two words exclude each other, and answers the exit status.
-fn refuse_both(rt: &HostRuntime, said: &str) -> u8 {
-    let _ = rt.eprint(said);
+/// Says of a subcommand that two of its words exclude each other, as the command says such things, and answers the exit
+/// status.
+fn refuse_both(rt: &HostRuntime, command: &str, one: &str, other: &str) -> u8 {
+    let _ = eprintln!(rt;
+        "error: the argument '{one}' cannot be used with '{other}'\n\nUsage: kcore {command} [OPTIONS]\n\nFor more information, try '--help'."
+    );
     2
 }
 
@@ -356,10 +352,10 @@ fn run_job<R: Threads + Wait + Sync>(rt: &HostRuntime, threads: &R, job: Job<'_>
             explain,
         } => {
             let Some(form) = replay_form(dump, state) else {
-                return refuse_both(rt, DUMP_AND_STATE);
+                return refuse_both(rt, "replay", "--dump", "--state");
             };
             let Some((start, origin)) = start_of(config, from) else {
-                return refuse_both(rt, TWO_STARTS);
+                return refuse_both(rt, "replay", "--config", "--from");
             };
             let order = Order {
                 start,
@@ -386,17 +382,26 @@ fn run_job<R: Threads + Wait + Sync>(rt: &HostRuntime, threads: &R, job: Job<'_>
         },
         Job::Custody {
             config,
+            from,
             vm,
             summary,
             svg,
             explain,
         } => {
             let Some(form) = form_of(summary, svg) else {
-                return refuse_both(rt, TWO_FORMS);
+                return refuse_both(rt, "custody", "--summary", "--svg");
             };
+            let Some((start, origin)) = start_of(config, from) else {
+                return refuse_both(rt, "custody", "--config", "--from");
+            };
+            // What came before the state that calls begin in is told by its text no more.
+            if origin == Origin::State && form != CustodyForm::Changes {
+                let flag = if summary { "--summary" } else { "--svg" };
+                return refuse_both(rt, "custody", "--from", flag);
+            }
             let order = Order {
-                start: config,
-                origin: Origin::Boot,
+                start,
+                origin,
                 workers: 1,
                 wanted: Wanted::Custody(form, vm),
                 explain,
