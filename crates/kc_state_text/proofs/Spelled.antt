@@ -1,10 +1,10 @@
 -- What each line spells: it is some words, and no other thing has the same.
-use Rattle.std.proofs.Common.{ℕ, zero, suc, ◌≡◌, ◌<◌, ◌≤◌, ◌+◌, ◌^◌, inl, inr, Bool, true, false, cond, List, [], ◌∷◌, ◌++◌, length, map, Option, Some, None, All, refl, sym, ap, subst, ◌∙◌, arith, length-append}
+use Rattle.std.proofs.Common.{ℕ, zero, suc, ◌≡◌, ◌<◌, ◌≤◌, ◌+◌, ◌^◌, inl, inr, Bool, true, false, cond, List, [], ◌∷◌, ◌++◌, length, map, get_or, Option, Some, None, All, refl, sym, ap, subst, ◌∙◌, arith, length-append}
 use Rattle.std.specs.Prelude.{◌==◌, ◌&&◌, not, nat_lt, codes, option_map, option_and_then}
 use Rattle.std.specs.List.{flat_map, list_all}
 use Rattle.std.specs.Fmt.{decimal}
 use Rattle.std.specs.Str.{bytes_eq}
-use Rattle.std.proofs.lemmas.Bool.{and_parts, and_from, eqb-true}
+use Rattle.std.proofs.lemmas.Bool.{and_parts, and_from, eqb-true, ltb-true}
 use Rattle.std.proofs.lemmas.List.{length-map}
 use Rattle.hex.specs.Hex.{encode_lower}
 use Rattle.kc_types.specs.Bytes.{IsData}
@@ -18,7 +18,7 @@ use Rattle.kc_lines.proofs.Digits.{data_of-encode_lower}
 use Rattle.kc_dump_text.specs.Words.{below_of, under, digest_in}
 use Rattle.kc_dump_text.proofs.ReadWords.{map_some, then_some, name_is, number-from, under-from, under-to, digest-to, digest-from}
 use Rattle.kc_state.specs.Told.{SlotRest}
-use Rattle.kc_state_text.specs.Volumes.{IsDigest}
+use Rattle.kc_replay.specs.Volumes.{IsDigest}
 use Rattle.kc_state_text.specs.declared.sizes.Sizes.{Sizes}
 use Rattle.kc_state_text.specs.Words.{vcpu_in, waiting}
 use Rattle.kc_state_text.specs.StateText.{sizes_words, approved_words, fault_word, vcpu_word, image_words, vcpus_words, images_words, slot_words, is_zero, page_word, page_words}
@@ -61,7 +61,7 @@ some-same x y e = cc
 decimal-same : (a b : ℕ) → a < 2 ^ 32 → b < 2 ^ 32 → decimal a ≡ decimal b → a ≡ b
 decimal-same a b x y e = some-same a b (sym (number_of-decimal a x) ∙ ap number_in e ∙ number_of-decimal b y)
 
-digits-same : (a b : List ℕ) → IsData a → IsData b → encode_lower a ≡ encode_lower b → a ≡ b
+pub digits-same : (a b : List ℕ) → IsData a → IsData b → encode_lower a ≡ encode_lower b → a ≡ b
 digits-same a b x y e = some-same a b (sym (data_of-encode_lower a x) ∙ ap data_of e ∙ data_of-encode_lower b y)
 
 no-number-dash : number_in (codes "-") ≡ None
@@ -120,7 +120,7 @@ fault-same (Some g) None x y e = (let no : Some g ≡ None = sym (number_of-deci
 fault-same (Some g) (Some h) x y e = ap Some (decimal-same g h (x g refl) (y h refl) e)
 
 not-dash : (a : Option ℕ) → ((g : ℕ) → a ≡ Some g → g < 2 ^ 32) → fault_word a ≡ codes "-" → ⊥
-not-dash None x e = absurd cc
+not-dash None x e = let no : 46 ≡ 45 = ap (λ w. get_or w 0 0) e in omega (arith, no)
 not-dash (Some g) x e = let no : Some g ≡ None = sym (number_of-decimal g (x g refl)) ∙ ap number_in e ∙ no-number-dash in cc
 
 vcpu-same : (a b : Vcpu) → IsVcpuWord a → IsVcpuWord b → vcpu_word a ≡ vcpu_word b → a ≡ b
@@ -170,7 +170,11 @@ vcpu-to vcpu is = by_test vcpu.registered refl
     by_test false p = λ i. Some (record { registered = sym p i; fault = sym (is.absent p) i })
 
 under-below : (n m : ℕ) → under gfn_limit n ≡ Some m → m < gfn_limit
-under-below n m e = omega (arith)
+under-below n m e =
+    elim (chosen (nat_lt n gfn_limit) (Some n) None (Some m) e) [
+      | inl h ↦ let low = ltb-true n gfn_limit h.0 in let same : n ≡ m = some-same n m h.1 in omega (arith, low, same)
+      | inr h ↦ absurd cc
+    ]
 
 -- and no other word is
 pub vcpu-from : (word : List ℕ) (vcpu : Vcpu) → vcpu_in word ≡ Some vcpu → IsVcpuWord vcpu × (word ≡ vcpu_word vcpu)

@@ -3,5 +3,4 @@ pub mod Refused
 pub mod Words
 pub mod Reading
 pub mod Faults
-pub mod Volumes
 pub mod Pieces

@@ -17,3 +17,7 @@ page_lines m page = flat_map page_line (drop page (map (λ (frame : Frame). fram
 -- the text that is still to come
 abbrev pub to_come : State → Pieces → List ℕ
 to_come m pieces = pieces.front ++ (page_lines m pieces.page ++ pieces.dump)
+
+-- the bytes of the longest line of a page, with its newline
+abbrev pub longest_page_line : ℕ
+longest_page_line = 8198

@@ -11,7 +11,7 @@ use Rattle.kc_state.specs.Told.{Told, SlotRest}
 use Rattle.kc_state.specs.Unlawful.{IsUnlawful}
 use Rattle.kc_state.specs.declared.unlawful.Unlawful.{Unlawful}
 use Rattle.kc_state.specs.declared.unlawful.Unlawful.TheVariants as unlawful
-use Rattle.kc_state_text.specs.Volumes.{IsDigest}
+use Rattle.kc_replay.specs.Volumes.{IsDigest}
 use Rattle.kc_state_text.specs.declared.fault.StateFault.{StateFault}
 use Rattle.kc_state_text.specs.declared.fault.StateFault.TheVariants.{NoHeader, BadLine, Missing, Sizes, Found, Slot, Frame, Memory}
 use Rattle.kc_state_text.specs.declared.sizes.Sizes as numbers
@@ -69,9 +69,9 @@ LacksLine front text =
     ⊎ ((length front.approved ≡ front.sizes.approved) × (length front.slots ≡ front.sizes.slots) × (length front.pages < front.sizes.frames) × HasNone IsPage page_line text)
 
 -- the text begins with these lines
-pub record BeginsWith (text : List ℕ) (front : Front) (rest : List ℕ) : Type 0 where
-  pub whole : text ≡ front_text front ++ rest
-  pub front : IsFront front
+pub record BeginsWith (text : List ℕ) (said : Front) (rest : List ℕ) : Type 0 where
+  pub whole : text ≡ front_text said ++ rest
+  pub front : IsFront said
 
 -- no line of this number, counted from 1 with the header as the first, may stand there before the dump
 abbrev pub StopsBefore : List ℕ → ℕ → Type 0

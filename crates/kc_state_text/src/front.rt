@@ -2,7 +2,7 @@
 ghost use Rattle.std.specs.Prelude.{ℕ, List, ◌≡◌, ◌≤◌, ◌<◌, ◌+◌, ◌^◌, ◌++◌, length, codes, MatchOption, MatchResult};
 ghost use Rattle.kc_types.specs.Limits.{byte_limit};
 ghost use Rattle.kc_model.specs.Lawful.{IsPage};
-ghost use Rattle.kc_state_text.specs.Volumes.{IsDigest};
+ghost use Rattle.kc_replay.specs.Volumes.{IsDigest};
 ghost use Rattle.kc_state_text.specs.StateText.{state_header, sizes_line, approved_line, slot_line, page_line};
 ghost use Rattle.kc_state_text.specs.Refused.{AreSizes, IsSlotLine, HasNone, BeginsWith, IsWholeFront};
 ghost use Rattle.kc_state_text.specs.Reading.{BeginsAs, AreRead, StopsAmong, IsFrontFault};
@@ -99,11 +99,12 @@ fn read_all_approved<'a>(
     let mut digests = Vec::new(alloc);
     let mut rest = text;
     for number in 0..count {
-        let Some((digest, more)) = approved_at(rest) else {
+        let Some(cut) = approved_at(rest) else {
             return Err(StateFault::BadLine(first + number));
         };
+        let digest = cut.0;
         digests.push(digest)?;
-        rest = more;
+        rest = cut.1;
     }
     Ok((digests, rest))
 }

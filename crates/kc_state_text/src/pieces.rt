@@ -1,7 +1,7 @@
 //! A state's text, a piece at a time, so that it never lies in memory as a whole.
 ghost use Rattle.std.specs.Prelude.{◌≡◌, ◌<◌, ◌≤◌, ◌+◌, ◌++◌, ◌↔◌, [], length, vec_len, vec_capacity, IsTrue, IfOk};
 ghost use Rattle.kc_state_text.specs.StateText.{state_text};
-ghost use Rattle.kc_state_text.specs.Pieces.{to_come};
+ghost use Rattle.kc_state_text.specs.Pieces.{longest_page_line, to_come};
 
 use crate::writing::{LONGEST_PAGE_LINE, push_page, write_front};
 use kc_core::KCore;
@@ -38,10 +38,17 @@ impl Left {
         Left { bytes, given: 0 }
     }
 
+    /// The others.
+    fn rest(&self) -> &[u8]
+        ensures { result.now ≡ self.now }
+    {
+        &self.bytes[self.given..]
+    }
+
     fn is_empty(&self) -> bool
         ensures { IsTrue result ↔ (self.now ≡ []) }
     {
-        self.given == self.bytes.len()
+        self.rest().is_empty()
     }
 
     /// Gives as many as the piece has room for.
@@ -96,29 +103,32 @@ impl StatePieces {
         })
     }
 
-    /// Appends the lines of the next pages, as many as there is room for.
+    /// Appends the lines of the next pages, one at least, as many as there is room for.
     fn give_pages(&mut self, core: &KCore, piece: &mut Vec<u8>)
-        requires room { vec_len piece.old + 8198 ≤ vec_capacity piece.old }
+        requires room { vec_len piece.old + longest_page_line ≤ vec_capacity piece.old }
         requires front { self.old.front ≡ [] }
-        requires page { self.old.page < length core.now.frames }
+        requires page { self.old.page < core.now.config.frames }
         ensures given { piece.new.items ++ to_come core.now self.new ≡ piece.old.items ++ to_come core.now self.old }
         ensures some { 0 < length piece.new.items }
         ensures capacity { vec_capacity piece.old ≤ vec_capacity piece.new }
     {
         let count = core.config().frames();
-        'pages: while self.page < count && LONGEST_PAGE_LINE <= piece.capacity() - piece.len() {
+        'pages: loop {
             push_page(piece, core.bytes(self.page).unwrap());
             self.page += 1;
+            if self.page == count || piece.capacity() - piece.len() < LONGEST_PAGE_LINE {
+                return;
+            }
         }
     }
 
     /// Gives the next piece of the text, in place of what stands there: as much as the piece has room for, 8,198 bytes or
     /// more. It is empty only where nothing is left.
     pub fn fill(&mut self, core: &KCore, piece: &mut Vec<u8>)
-        requires { 8198 ≤ vec_capacity piece.old }
+        requires { longest_page_line ≤ vec_capacity piece.old }
         ensures given { piece.new.items ++ to_come core.now self.new ≡ to_come core.now self.old }
         ensures some { piece.new.items ≡ [] → to_come core.now self.old ≡ [] }
-        ensures capacity { 8198 ≤ vec_capacity piece.new }
+        ensures capacity { longest_page_line ≤ vec_capacity piece.new }
     {
         piece.clear();
         if !self.front.is_empty() {
@@ -143,7 +153,7 @@ const PIECE: usize = 65_536;
 
 /// Whether a text is just these pieces.
 fn is_rest(core: &KCore, pieces: StatePieces, piece: &mut Vec<u8>, text: &[u8]) -> bool
-    requires { 8198 ≤ vec_capacity piece.old }
+    requires { longest_page_line ≤ vec_capacity piece.old }
     ensures { IsTrue result ↔ (text.now ≡ to_come core.now pieces) }
 {
     let mut pieces = pieces;

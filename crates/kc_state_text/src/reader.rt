@@ -15,7 +15,7 @@ use std::alloc::Global;
 
 /// What is wrong with a state where this is wrong with its dump, which stands behind so many lines.
 fn dump_fault(fault: DumpFault, before: u32) -> StateFault
-    requires some { 0 < before }
+    requires few { before < 2 ^ 31 }
     requires counted { (n : ℕ) → fault ≡ BadLine n → before + n < 2 ^ 32 }
     ensures { result ≡ dump_fault before fault }
 {

@@ -8,6 +8,7 @@ ghost use Rattle.kc_state.specs.Told.{slot_rest, rest_of};
 ghost use Rattle.kc_state_text.specs.StateText.{state_header, sizes_of, sizes_line, approved_line, vcpu_words, vcpus_words, image_words, images_words, slot_line, is_zero, page_line, front_begin};
 
 use crate::pages::is_zero;
+use crate::sizes::Sizes;
 use kc_core::KCore;
 use kc_lines::{push_bytes, push_digits, push_number};
 use kc_page::PageBytes;
@@ -134,19 +135,30 @@ fn push_approved(text: &mut Vec<u8>, digests: &[[u8; 32]]) -> Result<(), Memory>
     Ok(())
 }
 
-/// Appends the header and the line of sizes.
-fn push_sizes(text: &mut Vec<u8>, core: &KCore) -> Result<(), Memory>
-    ensures { OnOk result (text.new.items ≡ text.old.items ++ (state_header ++ sizes_line (sizes_of (rest_of core.now)))) }
+/// The sizes of a core's state.
+fn sizes_of(core: &KCore) -> Sizes
+    ensures { result ≡ sizes_of (rest_of core.now) }
 {
     let config = core.config();
     let host = config.host();
-    let approved = config.approved().len() as u32;
+    Sizes {
+        slots: config.slots(),
+        frames: config.frames(),
+        host,
+        approved: config.approved().len() as u32,
+    }
+}
+
+/// Appends the header and the line of sizes.
+fn push_sizes(text: &mut Vec<u8>, sizes: Sizes) -> Result<(), Memory>
+    ensures { OnOk result (text.new.items ≡ text.old.items ++ (state_header ++ sizes_line sizes)) }
+{
     text.reserve(65)?;
     push_bytes(text, b"kcore-state 1\nconfig");
-    push_number(text, config.slots());
-    push_number(text, config.frames());
-    push_number(text, host);
-    push_number(text, approved);
+    push_number(text, sizes.slots);
+    push_number(text, sizes.frames);
+    push_number(text, sizes.host);
+    push_number(text, sizes.approved);
     push_bytes(text, b"\n");
     Ok(())
 }
@@ -157,7 +169,7 @@ pub fn write_front(alloc: Global, core: &KCore) -> Result<Vec<u8>, Memory>
     ensures { IfOk result (λ text. text.items ≡ front_begin core.now) }
 {
     let mut text = Vec::new(alloc);
-    push_sizes(&mut text, core)?;
+    push_sizes(&mut text, sizes_of(core))?;
     push_approved(&mut text, core.config().approved())?;
     push_slots(&mut text, core)?;
     Ok(text)

@@ -1,0 +1,74 @@
+-- The word of a page.
+use Rattle.std.proofs.Common.{ℕ, zero, suc, ◌≡◌, ◌<◌, ◌≤◌, ◌+◌, ◌*◌, Bool, true, false, List, [], ◌∷◌, ◌++◌, length, take, drop, replicate, get_or, All, Option, Some, None, refl, sym, ap, subst, ◌∙◌, arith}
+use Rattle.std.specs.Prelude.{codes}
+use Rattle.std.specs.List.{list_all}
+use Rattle.std.specs.Str.{bytes_eq}
+use Rattle.std.proofs.lemmas.List.{append-nil, drop_all}
+use Rattle.hex.specs.Hex.{encode_lower, lower_digits}
+use Rattle.hex.proofs.HexLemmas.{length-encode_with}
+use Rattle.kc_model.specs.State.{zero_page, overwritten}
+use Rattle.kc_model.specs.Bytes.{as_bytes}
+use Rattle.kc_model.specs.Lawful.{IsPage}
+use Rattle.kc_model.proofs.States.Pages.{as_bytes-same}
+use Rattle.kc_model.proofs.States.ZeroPage.{zero_page-replicate, length-zero_page, zero_page-is}
+use Rattle.kc_lines.specs.Words.{is_lower_digit, data_of}
+use Rattle.kc_lines.proofs.Digits.{data_of-encode_lower, no_digits}
+use Rattle.kc_dump_text.proofs.ReadWords.{name_is}
+use Rattle.kc_state_text.specs.StateText.{is_zero, page_word}
+use Rattle.kc_state_text.specs.Reading.{LacksWhole, IsWhole}
+use Rattle.kc_state_text.proofs.Spelled.{tail-of, data-page, page-undashed, digits-same}
+
+zeros-blank : (n : ℕ) → is_zero (replicate n 0) ≡ true
+zeros-blank zero = refl
+zeros-blank (suc n) = zeros-blank n
+
+pub zero-blank : (bytes : List ℕ) → bytes ≡ zero_page → is_zero bytes ≡ true
+zero-blank bytes e = ap is_zero (e ∙ zero_page-replicate) ∙ zeros-blank 4096
+
+blank-word : (bytes : List ℕ) → is_zero bytes ≡ true → page_word bytes ≡ codes "-"
+blank-word bytes e = rw e refl
+
+digits-word : (bytes : List ℕ) → is_zero bytes ≡ false → page_word bytes ≡ encode_lower bytes
+digits-word bytes e = rw e refl
+
+-- a dash is a page of zeros
+pub blank-page : (word page : List ℕ) → bytes_eq word (codes "-") ≡ true → page ≡ zero_page → IsWhole IsPage page_word word page
+blank-page word page dash e = record { is = subst IsPage (sym e) zero_page-is; whole = name_is word (codes "-") dash ∙ sym (blank-word page (zero-blank page e)) }
+
+-- other words are of 8,192 digits
+pub long-refused : (word : List ℕ) → bytes_eq word (codes "-") ≡ false → (length word ≡ 8192 → ⊥) → LacksWhole IsPage page_word word
+long-refused word other short bytes is e =
+    let spelled = page-undashed bytes word is other e in
+    let size = ap length spelled.0 ∙ length-encode_with lower_digits bytes in
+    let whole = is.whole in
+    short (omega (arith, size, whole))
+
+pub digits-refused : (word : List ℕ) → bytes_eq word (codes "-") ≡ false → list_all is_lower_digit word ≡ false → LacksWhole IsPage page_word word
+digits-refused word other bad bytes is e =
+    let spelled = page-undashed bytes word is other e in
+    let no : None ≡ Some bytes = sym (no_digits word bad) ∙ ap data_of spelled.0 ∙ data_of-encode_lower bytes (data-page bytes is) in
+    absurd cc
+
+-- zeros are not spelled by digits
+pub zeros-refused : (word digits : List ℕ) → bytes_eq word (codes "-") ≡ false → word ≡ encode_lower digits → IsPage digits → is_zero digits ≡ true → LacksWhole IsPage page_word word
+zeros-refused word digits other made page blank bytes is e =
+    let spelled = page-undashed bytes word is other e in
+    let same = digits-same digits bytes (data-page digits page) (data-page bytes is) (sym made ∙ spelled.0) in
+    let no : true ≡ false = sym blank ∙ ap is_zero same ∙ spelled.1 in
+    absurd cc
+
+bytes-low : (bytes : List ℕ) → All (λ b. b < 256) bytes → (k : ℕ) → get_or bytes k 0 < 256
+bytes-low [] all k = omega arith
+bytes-low (b ∷ bytes) all zero = all 0 0 (omega arith)
+bytes-low (b ∷ bytes) all (suc k) = bytes-low bytes (tail-of (λ b. b < 256) b bytes all) k
+
+written-whole : (digits : List ℕ) → IsPage digits → overwritten zero_page 0 digits ≡ digits
+written-whole digits page =
+    let whole = page.whole in
+    let long = length-zero_page in
+    ap (λ (l : List ℕ). l ++ drop (length digits) zero_page) (as_bytes-same digits (bytes-low digits page.each_byte)) ∙ ap (λ (l : List ℕ). digits ++ l) (drop_all (length digits) zero_page (omega (arith, whole, long))) ∙ append-nil digits
+
+pub written-page : (word digits page : List ℕ) → word ≡ encode_lower digits → IsPage digits → is_zero digits ≡ false → page ≡ overwritten zero_page 0 digits → IsWhole IsPage page_word word page
+written-page word digits page made is some e =
+    let same = e ∙ written-whole digits is in
+    record { is = subst IsPage (sym same) is; whole = made ∙ sym (digits-word digits some) ∙ ap page_word (sym same) }

@@ -1,0 +1,115 @@
+-- Words that are taken one after another.
+use Rattle.std.proofs.Common.{ℕ, ◌≡◌, ◌<◌, ◌≤◌, ◌^◌, inl, inr, Bool, true, false, List, [], ◌∷◌, ◌++◌, length, Option, Some, None, refl, sym, ap, subst, ◌∙◌, arith}
+use Rattle.std.specs.Prelude.{◌==◌, MatchOption}
+use Rattle.std.proofs.lemmas.Bool.{eqb-true}
+use Rattle.hex.specs.Hex.{lower_digits}
+use Rattle.hex.proofs.HexLemmas.{length-encode_with}
+use Rattle.std.specs.Fmt.{decimal}
+use Rattle.std.proofs.lemmas.List.Splits.{length-slice_split}
+use Rattle.hex.specs.Hex.{encode_lower}
+use Rattle.kc_model.specs.State.{Vcpu, Image}
+use Rattle.kc_lines.specs.Words.{number_in, data_of}
+use Rattle.kc_lines.proofs.Words.{is_space, chosen}
+use Rattle.kc_lines.proofs.Numbers.{number_of-decimal, number_is_decimal}
+use Rattle.kc_dump_text.specs.Words.{digest_in}
+use Rattle.kc_dump_text.proofs.ReadWords.{digest-from}
+use Rattle.kc_lines.proofs.Digits.{data_is_spelled}
+use Rattle.kc_replay.specs.Volumes.{IsDigest}
+use Rattle.kc_state_text.specs.declared.sizes.Sizes.{Sizes}
+use Rattle.kc_state_text.specs.Words.{words_in, words_left, vcpu_in}
+use Rattle.kc_state_text.specs.StateText.{sizes_words, approved_words, vcpu_word, vcpu_words, image_words}
+use Rattle.kc_state_text.specs.Refused.{AreSizes, IsVcpuWord, AreImageWords}
+use Rattle.kc_state_text.specs.Reading.{IsNumber, number_words, behind, LacksFirst, LacksWhole, BeginsAs, IsWhole}
+use Rattle.kc_state_text.proofs.Spelled.{vcpu-to, vcpu-from, approved-to}
+
+pub words-some : (is_end : Bool) (line : List ℕ) → is_end ≡ false → words_left is_end line ≡ [] → ⊥
+words-some true line p e = absurd cc
+words-some false line p e = let l = length-slice_split is_space line in let none = ap length e in omega (arith, l, none)
+
+first-same : {X : Type 0} (x y : X) (xs ys : List X) → x ∷ xs ≡ y ∷ ys → x ≡ y
+first-same x y xs ys e = cc
+
+rest-same : {X : Type 0} (x y : X) (xs ys : List X) → x ∷ xs ≡ y ∷ ys → xs ≡ ys
+rest-same x y xs ys e = cc
+
+none-some : {X : Type 0} (x : X) → None ≡ Some x → ⊥
+none-some x e = cc
+
+-- a number
+pub number-read : (found : Option ℕ) (words : List (List ℕ)) (word : List ℕ) (rest : List (List ℕ)) → words ≡ word ∷ rest → found ≡ number_in word
+    → MatchOption found (LacksFirst IsNumber number_words words) (λ n. words ≡ decimal n ∷ rest)
+number-read None words word rest e f = λ n more is g.
+    none-some n (f ∙ ap number_in (first-same word (decimal n) rest more (sym e ∙ g)) ∙ number_of-decimal n is)
+number-read (Some n) words word rest e f = e ∙ ap (λ (w : List ℕ). w ∷ rest) (number_is_decimal word n (sym f)).0
+
+-- a virtual processor
+pub vcpu-read : (found : Option Vcpu) (words : List (List ℕ)) (word : List ℕ) (rest : List (List ℕ)) → words ≡ word ∷ rest → found ≡ vcpu_in word
+    → MatchOption found (LacksFirst IsVcpuWord vcpu_words words) (λ vcpu. BeginsAs IsVcpuWord vcpu_words words vcpu rest)
+vcpu-read None words word rest e f = λ vcpu more is g.
+    none-some vcpu (f ∙ ap vcpu_in (first-same word (vcpu_word vcpu) rest more (sym e ∙ g)) ∙ vcpu-to vcpu is)
+vcpu-read (Some vcpu) words word rest e f = let from = vcpu-from word vcpu (sym f) in record { is = from.0; whole = e ∙ ap (λ (w : List ℕ). w ∷ rest) from.1 }
+
+is-digest : (word digest : List ℕ) → digest_in word ≡ Some digest → IsDigest digest
+unfolding digest_in
+is-digest word digest e =
+    elim (chosen (length word == 64) (data_of word) None (Some digest) e) [
+      | inl h ↦
+          let d = data_is_spelled word digest h.1 in
+          let long = eqb-true (length word) 64 h.0 in
+          let size = ap length d.0 ∙ length-encode_with lower_digits digest in
+          record { long = omega (arith, long, size); each = d.1.each_byte }
+      | inr h ↦ absurd cc
+    ]
+
+-- ---- the sizes
+
+module _ (name : List ℕ) (words : List (List ℕ)) where
+  sizes-behind : (first : List (List ℕ)) (s : Sizes) → words ≡ name ∷ first → words ≡ behind name sizes_words s → first ≡ sizes_words s
+  sizes-behind first s e g = rest-same name name first (sizes_words s) (sym e ∙ g)
+
+  pub no-slots : (first : List (List ℕ)) → words ≡ name ∷ first → LacksFirst IsNumber number_words first → LacksWhole AreSizes (behind name sizes_words) words
+  no-slots first e lacks s is g = lacks s.slots (decimal s.frames ∷ decimal s.host ∷ decimal s.approved ∷ []) is.slots (sizes-behind first s e g)
+
+  pub no-frames : (a : ℕ) (first second : List (List ℕ)) → words ≡ name ∷ first → first ≡ decimal a ∷ second → LacksFirst IsNumber number_words second → LacksWhole AreSizes (behind name sizes_words) words
+  no-frames a first second e f lacks s is g = lacks s.frames (decimal s.host ∷ decimal s.approved ∷ []) is.frames (rest-same (decimal a) (decimal s.slots) second _ (sym f ∙ sizes-behind first s e g))
+
+  pub no-host : (a b : ℕ) (first second third : List (List ℕ)) → words ≡ name ∷ first → first ≡ decimal a ∷ second → second ≡ decimal b ∷ third → LacksFirst IsNumber number_words third
+      → LacksWhole AreSizes (behind name sizes_words) words
+  no-host a b first second third e f h lacks s is g =
+      lacks s.host (decimal s.approved ∷ []) is.host
+      (rest-same (decimal b) (decimal s.frames) third _ (sym h ∙ rest-same (decimal a) (decimal s.slots) second _ (sym f ∙ sizes-behind first s e g)))
+
+  pub no-approved : (a b c : ℕ) (first second third fourth : List (List ℕ)) → words ≡ name ∷ first → first ≡ decimal a ∷ second → second ≡ decimal b ∷ third → third ≡ decimal c ∷ fourth
+      → LacksFirst IsNumber number_words fourth → LacksWhole AreSizes (behind name sizes_words) words
+  no-approved a b c first second third fourth e f h k lacks s is g =
+      lacks s.approved [] is.approved
+      (rest-same (decimal c) (decimal s.host) fourth _ (sym k ∙ rest-same (decimal b) (decimal s.frames) third _ (sym h ∙ rest-same (decimal a) (decimal s.slots) second _ (sym f ∙ sizes-behind first s e g))))
+
+  pub no-end : (a b c d : ℕ) (first second third fourth fifth : List (List ℕ)) → words ≡ name ∷ first → first ≡ decimal a ∷ second → second ≡ decimal b ∷ third → third ≡ decimal c ∷ fourth → fourth ≡ decimal d ∷ fifth
+      → (fifth ≡ [] → ⊥) → LacksWhole AreSizes (behind name sizes_words) words
+  no-end a b c d first second third fourth fifth e f h k m more s is g =
+      more (rest-same (decimal d) (decimal s.approved) fifth [] (sym m
+      ∙ rest-same (decimal c) (decimal s.host) fourth _ (sym k ∙ rest-same (decimal b) (decimal s.frames) third _ (sym h ∙ rest-same (decimal a) (decimal s.slots) second _ (sym f ∙ sizes-behind first s e g)))))
+
+  pub sizes-read : (s : Sizes) (first second third fourth fifth : List (List ℕ)) → AreSizes s → words ≡ name ∷ first → first ≡ decimal s.slots ∷ second → second ≡ decimal s.frames ∷ third → third ≡ decimal s.host ∷ fourth → fourth ≡ decimal s.approved ∷ fifth
+      → fifth ≡ [] → IsWhole AreSizes (behind name sizes_words) words s
+  sizes-read s first second third fourth fifth is e f h k m n = record {
+    is = is;
+    whole = e ∙ ap (λ (ws : List (List ℕ)). name ∷ ws) (f ∙ ap (λ (ws : List (List ℕ)). decimal s.slots ∷ ws) (h ∙ ap (λ (ws : List (List ℕ)). decimal s.frames ∷ ws) (k
+        ∙ ap (λ (ws : List (List ℕ)). decimal s.host ∷ ws) (m ∙ ap (λ (ws : List (List ℕ)). decimal s.approved ∷ ws) n))));
+  }
+
+  -- ---- an approved digest
+
+  pub no-digest-word : (word : List ℕ) (first rest : List (List ℕ)) → words ≡ name ∷ first → first ≡ word ∷ rest → digest_in word ≡ None → LacksWhole IsDigest (behind name approved_words) words
+  no-digest-word word first rest e f none digest is g =
+      none-some digest (sym none ∙ ap digest_in (first-same word (encode_lower digest) rest [] (sym f ∙ rest-same name name first _ (sym e ∙ g))) ∙ approved-to digest is)
+
+  pub no-digest-end : (word : List ℕ) (first rest : List (List ℕ)) → words ≡ name ∷ first → first ≡ word ∷ rest → (rest ≡ [] → ⊥) → LacksWhole IsDigest (behind name approved_words) words
+  no-digest-end word first rest e f more digest is g = more (rest-same word (encode_lower digest) rest [] (sym f ∙ rest-same name name first _ (sym e ∙ g)))
+
+  pub digest-is-read : (digest word : List ℕ) (first rest : List (List ℕ)) → words ≡ name ∷ first → first ≡ word ∷ rest → rest ≡ [] → digest_in word ≡ Some digest → IsWhole IsDigest (behind name approved_words) words digest
+  digest-is-read digest word first rest e f n some = record {
+    is = is-digest word digest some;
+    whole = e ∙ ap (λ (ws : List (List ℕ)). name ∷ ws) (f ∙ (λ i. digest-from word digest some i ∷ n i));
+  }

@@ -1,0 +1,16 @@
+use Rattle.std.proofs.Common.{◌≡◌, ◌≤◌, ◌<◌, ◌+◌, ◌-◌, ◌++◌, []}
+use Rattle.std.specs.Prelude.{vec_len, vec_capacity}
+use Rattle.kc_state_text.specs.Pieces.{longest_page_line, to_come}
+use Rattle.kc_state_text.proofs.pieces.StatePieces.give_pages.Given as goal
+
+abbrev pub invariant-pages : goal.invariant-pages
+invariant-pages l = record {
+  given : l.piece.items ++ to_come l.core l.self ≡ l.initial.piece.items ++ to_come l.core l.initial.self;
+  room : vec_len l.piece + longest_page_line ≤ vec_capacity l.piece;
+  capacity : vec_capacity l.initial.piece ≤ vec_capacity l.piece;
+  front : l.self.front ≡ [];
+  page : l.self.page < l.core.config.frames;
+}
+
+abbrev pub decreases-pages : goal.decreases-pages
+decreases-pages l = l.core.config.frames - l.self.page
