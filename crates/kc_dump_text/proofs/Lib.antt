@@ -2,9 +2,9 @@ mod Spelled
 pub mod Limits
 mod Runs
 pub mod Ordered
-mod DigestWords
+pub mod DigestWords
 mod LongLines
-mod ReadWords
+pub mod ReadWords
 pub mod ReadLines
 mod Gathered
 mod Bytes

@@ -12,7 +12,7 @@ use Rattle.kc_dump_text.specs.DumpText.{spell, dump_header, dump_text}
 use Rattle.kc_dump_text.specs.Grammar.{IsDumpText}
 use Rattle.kc_dump_text.specs.Refused.{IsRefusedDump, DumpStopsFor}
 use Rattle.kc_dump_text.proofs.ReadLines.{bare, spell-bare}
-use Rattle.kc_replay.specs.Volumes.{IsDigest}
+use Rattle.kc_state_text.specs.Volumes.{IsDigest}
 use Rattle.kc_state.specs.Told.{Told, SlotRest}
 use Rattle.kc_state_text.specs.declared.sizes.Sizes as numbers
 use Rattle.kc_state_text.specs.declared.fault.StateFault.{StateFault}
@@ -40,6 +40,14 @@ module _ (text r0 r1 : List ℕ) (sizes : numbers.Sizes) (header : text ≡ stat
     front = record { sizes = size.is; approved = x.each; slots = y.each; pages = z.each };
   }
 
+  behind-sizes : length r1 ≤ length text
+  behind-sizes =
+      let a = ap length header in
+      let b = length-append state_header r0 in
+      let c = ap length size.whole in
+      let d = length-append (sizes_line sizes) r1 in
+      omega (arith, a, b, c, d)
+
   approved-lack : (n : ℕ) → Lacks IsDigest approved_line 3 sizes.approved r1 n → StopsBefore text n
   approved-lack n l = inr (
     said sizes l.xs [] [],
@@ -60,6 +68,9 @@ module _ (text r0 r1 : List ℕ) (sizes : numbers.Sizes) (header : text ≡ stat
   approved-stop Memory w = w
 
   module _ (r2 : List ℕ) (digests : List (List ℕ)) (x : AreRead IsDigest approved_line sizes.approved r1 digests r2) where
+    pub approved-room : sizes.approved + length r2 ≤ length text
+    approved-room = let a = lines-fit IsDigest (codes "approved") approved_words sizes.approved r1 digests r2 x in let b = behind-sizes in omega (arith, a, b)
+
     slots-lack : (n : ℕ) → Lacks IsSlotLine slot_line (3 + sizes.approved) sizes.slots r2 n → StopsBefore text n
     slots-lack n l = inr (
       said sizes digests l.xs [],
@@ -80,6 +91,9 @@ module _ (text r0 r1 : List ℕ) (sizes : numbers.Sizes) (header : text ≡ stat
     slots-stop Memory w = w
 
     module _ (r3 : List ℕ) (slots : List SlotRest) (y : AreRead IsSlotLine slot_line sizes.slots r2 slots r3) where
+      pub slots-room : sizes.approved + sizes.slots + length r3 ≤ length text
+      slots-room = let a = lines-fit IsSlotLine (codes "slot") slot_words sizes.slots r2 slots r3 y in let b = approved-room in omega (arith, a, b)
+
       pages-lack : (n : ℕ) → Lacks IsPage page_line (3 + sizes.approved + sizes.slots) sizes.frames r3 n → StopsBefore text n
       pages-lack n l = inr (
         said sizes digests slots l.xs,

@@ -5,10 +5,10 @@ use Rattle.std.proofs.lemmas.List.{append-nil, length-map, map-append}
 use Rattle.std.proofs.lemmas.Grind.{flat_map-append}
 use Rattle.kc_types.specs.Limits.{vcpu_limit, image_limit}
 use Rattle.kc_model.specs.State.{Vcpu, Image}
-use Rattle.kc_state_text.specs.StateText.{vcpu_word, vcpu_words, image_words, vcpus_words, images_words}
-use Rattle.kc_state_text.specs.Refused.{IsVcpuWord, AreImageWords}
-use Rattle.kc_state_text.specs.Reading.{LacksFirst, LacksWhole, BeginsAs, IsWhole, AreVcpus, AreImages}
-use Rattle.kc_state_text.proofs.Spelled.{head-of, tail-of}
+use Rattle.kc_state_text.specs.StateText.{vcpu_word, vcpu_words, image_words, vcpus_words, images_words, slot_words}
+use Rattle.kc_state_text.specs.Refused.{IsVcpuWord, AreImageWords, IsSlotLine}
+use Rattle.kc_state_text.specs.Reading.{LacksFirst, LacksWhole, BeginsAs, IsWhole, behind, AreVcpus, AreImages}
+use Rattle.kc_state_text.proofs.Spelled.{head-of, tail-of, append-same, rest-same}
 
 pub all-more : {X : Type 0} (P : X → Type 0) (xs : List X) (x : X) → All P xs → P x → All P (xs ++ x ∷ [])
 all-more P [] x all is zero d lt = is
@@ -96,3 +96,26 @@ images-many images words rest all some full e others are is = let r = goes-on im
     by_rest : (left : List Image) → length others ≡ length images + length left → rest ≡ flat_map image_words left ++ [] → ⊥
     by_rest [] long whole = some whole
     by_rest (x ∷ xs) long whole = let few = are.few in omega (arith, few, full, long)
+
+-- ---- slots
+
+-- the words behind 8 virtual processors are no images
+pub no-images : (name : List ℕ) (words first second : List (List ℕ)) (vcpus : List Vcpu) → words ≡ name ∷ first → BeginsAs AreVcpus vcpus_words first vcpus second → LacksWhole AreImages images_words second
+    → LacksWhole IsSlotLine (behind name slot_words) words
+no-images name words first second vcpus e begins lacks slot is g =
+    let same : vcpus_words vcpus ++ second ≡ vcpus_words slot.vcpus ++ images_words slot.images = sym begins.whole ∙ rest-same name name first (slot_words slot) (sym e ∙ g) in
+    let long = length-map vcpus vcpu_word in
+    let other = length-map slot.vcpus vcpu_word in
+    let eight = begins.is.eight in
+    let there = is.vcpus in
+    lacks slot.images (record { few = is.few_images; each = is.each_image }) (append-same (vcpus_words vcpus) (vcpus_words slot.vcpus) second (images_words slot.images) (omega (arith, long, other, eight, there)) same).1
+
+pub no-vcpus : (name : List ℕ) (words first : List (List ℕ)) → words ≡ name ∷ first → LacksFirst AreVcpus vcpus_words first → LacksWhole IsSlotLine (behind name slot_words) words
+no-vcpus name words first e lacks slot is g = lacks slot.vcpus (images_words slot.images) (record { eight = is.vcpus; each = is.each_vcpu }) (rest-same name name first (slot_words slot) (sym e ∙ g))
+
+pub slot-read : (name : List ℕ) (words first second : List (List ℕ)) (vcpus : List Vcpu) (images : List Image) → words ≡ name ∷ first → BeginsAs AreVcpus vcpus_words first vcpus second → IsWhole AreImages images_words second images
+    → IsWhole IsSlotLine (behind name slot_words) words (record { vcpus = vcpus; images = images })
+slot-read name words first second vcpus images e begins whole = record {
+  is = record { vcpus = begins.is.eight; each_vcpu = begins.is.each; few_images = whole.is.few; each_image = whole.is.each };
+  whole = e ∙ ap (λ (ws : List (List ℕ)). name ∷ ws) (begins.whole ∙ ap (λ (ws : List (List ℕ)). vcpus_words vcpus ++ ws) whole.whole);
+}

@@ -5,4 +5,6 @@ mod Followed
 mod Taken
 mod Fronts
 mod PageWords
+mod Chained
+pub mod Appended
 pub mod ToCome

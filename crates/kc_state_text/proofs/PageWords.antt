@@ -14,9 +14,11 @@ use Rattle.kc_model.proofs.States.ZeroPage.{zero_page-replicate, length-zero_pag
 use Rattle.kc_lines.specs.Words.{is_lower_digit, data_of}
 use Rattle.kc_lines.proofs.Digits.{data_of-encode_lower, no_digits}
 use Rattle.kc_dump_text.proofs.ReadWords.{name_is}
-use Rattle.kc_state_text.specs.StateText.{is_zero, page_word}
-use Rattle.kc_state_text.specs.Reading.{LacksWhole, IsWhole}
-use Rattle.kc_state_text.proofs.Spelled.{tail-of, data-page, page-undashed, digits-same}
+use Rattle.kc_state_text.specs.StateText.{is_zero, page_word, page_words, page_line}
+use Rattle.kc_state_text.specs.Words.{words_in}
+use Rattle.kc_state_text.proofs.Lines.{begins}
+use Rattle.kc_state_text.specs.Reading.{LacksWhole, IsWhole, BeginsAs, behind, AreDigits}
+use Rattle.kc_state_text.proofs.Spelled.{tail-of, page-are-words, data-page, page-undashed, digits-same}
 
 zeros-blank : (n : ℕ) → is_zero (replicate n 0) ≡ true
 zeros-blank zero = refl
@@ -50,8 +52,8 @@ digits-refused word other bad bytes is e =
     absurd cc
 
 -- zeros are not spelled by digits
-pub zeros-refused : (word digits : List ℕ) → bytes_eq word (codes "-") ≡ false → word ≡ encode_lower digits → IsPage digits → is_zero digits ≡ true → LacksWhole IsPage page_word word
-zeros-refused word digits other made page blank bytes is e =
+pub zeros-refused : (word digits : List ℕ) → word ≡ encode_lower digits → IsPage digits → is_zero digits ≡ true → bytes_eq word (codes "-") ≡ false → LacksWhole IsPage page_word word
+zeros-refused word digits made page blank other bytes is e =
     let spelled = page-undashed bytes word is other e in
     let same = digits-same digits bytes (data-page digits page) (data-page bytes is) (sym made ∙ spelled.0) in
     let no : true ≡ false = sym blank ∙ ap is_zero same ∙ spelled.1 in
@@ -66,9 +68,17 @@ written-whole : (digits : List ℕ) → IsPage digits → overwritten zero_page 
 written-whole digits page =
     let whole = page.whole in
     let long = length-zero_page in
-    ap (λ (l : List ℕ). l ++ drop (length digits) zero_page) (as_bytes-same digits (bytes-low digits page.each_byte)) ∙ ap (λ (l : List ℕ). digits ++ l) (drop_all (length digits) zero_page (omega (arith, whole, long))) ∙ append-nil digits
+    ap (λ (l : List ℕ). l ++ drop (0 + length digits) zero_page) (as_bytes-same digits (bytes-low digits page.each_byte)) ∙ ap (λ (l : List ℕ). digits ++ l) (drop_all (0 + length digits) zero_page (omega (arith, whole, long))) ∙ append-nil digits
 
-pub written-page : (word digits page : List ℕ) → word ≡ encode_lower digits → IsPage digits → is_zero digits ≡ false → page ≡ overwritten zero_page 0 digits → IsWhole IsPage page_word word page
-written-page word digits page made is some e =
-    let same = e ∙ written-whole digits is in
-    record { is = subst IsPage (sym same) is; whole = made ∙ sym (digits-word digits some) ∙ ap page_word (sym same) }
+pub written-page : (word digits page : List ℕ) → AreDigits word digits → page ≡ overwritten zero_page 0 digits → IsWhole IsPage page_word word page
+written-page word digits page are e =
+    let same = e ∙ written-whole digits are.page in
+    record { is = subst IsPage (sym same) are.page; whole = are.whole ∙ sym (digits-word digits are.some) ∙ ap page_word (sym same) }
+
+-- a line with another word is no page's
+pub other-word : (name line word : List ℕ) → words_in line ≡ name ∷ word ∷ [] → LacksWhole IsPage page_word word → LacksWhole IsPage (behind name page_words) (words_in line)
+other-word name line word e lacks bytes is g = lacks bytes is (let both : name ∷ word ∷ [] ≡ name ∷ page_word bytes ∷ [] = sym e ∙ g in ap (λ (ws : List (List ℕ)). get_or ws 1 []) both)
+
+pub begins-page : (text line rest word bytes : List ℕ) → text ≡ line ++ 10 ∷ rest → words_in line ≡ codes "page" ∷ word ∷ [] → IsWhole IsPage page_word word bytes → BeginsAs IsPage page_line text bytes rest
+begins-page text line rest word bytes cut e whole =
+    begins IsPage (codes "page") page_words page-are-words text line rest bytes cut (record { is = whole.is; whole = e ∙ ap (λ (w : List ℕ). codes "page" ∷ w ∷ []) whole.whole })

@@ -18,7 +18,7 @@ use Rattle.kc_lines.proofs.Digits.{data_of-encode_lower}
 use Rattle.kc_dump_text.specs.Words.{below_of, under, digest_in}
 use Rattle.kc_dump_text.proofs.ReadWords.{map_some, then_some, name_is, number-from, under-from, under-to, digest-to, digest-from}
 use Rattle.kc_state.specs.Told.{SlotRest}
-use Rattle.kc_replay.specs.Volumes.{IsDigest}
+use Rattle.kc_state_text.specs.Volumes.{IsDigest}
 use Rattle.kc_state_text.specs.declared.sizes.Sizes.{Sizes}
 use Rattle.kc_state_text.specs.Words.{vcpu_in, waiting}
 use Rattle.kc_state_text.specs.StateText.{sizes_words, approved_words, fault_word, vcpu_word, image_words, vcpus_words, images_words, slot_words, is_zero, page_word, page_words}
@@ -43,7 +43,7 @@ map-same spelled P one (x ∷ xs) (y ∷ ys) a b e =
     ap (λ z. z ∷ xs) (one x y (head-of P x xs a) (head-of P y ys b) first) ∙ ap (λ l. y ∷ l) (map-same spelled P one xs ys (tail-of P x xs a) (tail-of P y ys b) rest)
 
 -- two lists behind two others of one length
-append-same : {X : Type 0} (xs ys cs ds : List X) → length xs ≡ length ys → xs ++ cs ≡ ys ++ ds → (xs ≡ ys) × (cs ≡ ds)
+pub append-same : {X : Type 0} (xs ys cs ds : List X) → length xs ≡ length ys → xs ++ cs ≡ ys ++ ds → (xs ≡ ys) × (cs ≡ ds)
 append-same [] [] cs ds long e = (refl, e)
 append-same [] (y ∷ ys) cs ds long e = absurd (omega (arith, long))
 append-same (x ∷ xs) [] cs ds long e = absurd (omega (arith, long))
@@ -52,6 +52,9 @@ append-same (x ∷ xs) (y ∷ ys) cs ds long e =
     let more : xs ++ cs ≡ ys ++ ds = cc in
     let rest = append-same xs ys cs ds (omega (arith, long)) more in
     (ap (λ z. z ∷ xs) first ∙ ap (λ l. y ∷ l) rest.0, rest.1)
+
+pub rest-same : {X : Type 0} (x y : X) (xs ys : List X) → x ∷ xs ≡ y ∷ ys → xs ≡ ys
+rest-same x y xs ys e = cc
 
 some-same : {X : Type 0} (x y : X) → Some x ≡ Some y → x ≡ y
 some-same x y e = cc

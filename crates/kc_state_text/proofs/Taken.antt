@@ -14,13 +14,13 @@ use Rattle.kc_lines.proofs.Numbers.{number_of-decimal, number_is_decimal}
 use Rattle.kc_dump_text.specs.Words.{digest_in}
 use Rattle.kc_dump_text.proofs.ReadWords.{digest-from}
 use Rattle.kc_lines.proofs.Digits.{data_is_spelled}
-use Rattle.kc_replay.specs.Volumes.{IsDigest}
+use Rattle.kc_state_text.specs.Volumes.{IsDigest}
 use Rattle.kc_state_text.specs.declared.sizes.Sizes.{Sizes}
 use Rattle.kc_state_text.specs.Words.{words_in, words_left, vcpu_in}
 use Rattle.kc_state_text.specs.StateText.{sizes_words, approved_words, vcpu_word, vcpu_words, image_words}
 use Rattle.kc_state_text.specs.Refused.{AreSizes, IsVcpuWord, AreImageWords}
 use Rattle.kc_state_text.specs.Reading.{IsNumber, number_words, behind, LacksFirst, LacksWhole, BeginsAs, IsWhole}
-use Rattle.kc_state_text.proofs.Spelled.{vcpu-to, vcpu-from, approved-to}
+use Rattle.kc_state_text.proofs.Spelled.{vcpu-to, vcpu-from, approved-to, rest-same}
 
 pub words-some : (is_end : Bool) (line : List ℕ) → is_end ≡ false → words_left is_end line ≡ [] → ⊥
 words-some true line p e = absurd cc
@@ -28,9 +28,6 @@ words-some false line p e = let l = length-slice_split is_space line in let none
 
 first-same : {X : Type 0} (x y : X) (xs ys : List X) → x ∷ xs ≡ y ∷ ys → x ≡ y
 first-same x y xs ys e = cc
-
-rest-same : {X : Type 0} (x y : X) (xs ys : List X) → x ∷ xs ≡ y ∷ ys → xs ≡ ys
-rest-same x y xs ys e = cc
 
 none-some : {X : Type 0} (x : X) → None ≡ Some x → ⊥
 none-some x e = cc

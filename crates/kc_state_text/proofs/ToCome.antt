@@ -1,7 +1,8 @@
 -- What was given of a state's text and what is still to come are the whole of it.
-use Rattle.std.proofs.Common.{ℕ, ◌≡◌, ◌<◌, ◌≤◌, ◌+◌, List, [], ◌∷◌, ◌++◌, length, drop, map, get_or, refl, sym, ap, ◌∙◌, append_assoc, length-append, arith}
+use Rattle.std.proofs.Common.{ℕ, ◌≡◌, ◌<◌, ◌≤◌, ◌+◌, Bor, Option, Some, IfSome, List, [], ◌∷◌, ◌++◌, length, drop, map, get_or, refl, sym, ap, ◌∙◌, append_assoc, length-append, arith}
 use Rattle.std.specs.List.{flat_map}
-use Rattle.std.proofs.lemmas.List.{drop_more, drop_all, length-drop, length-map}
+use Rattle.std.specs.Prelude.{◌↔◌}
+use Rattle.std.proofs.lemmas.List.{drop_more, drop_all, length-map, append_cancel_left}
 use Rattle.std.proofs.Math.ListN.{get_or-map}
 use Rattle.kc_types.specs.declared.owner.Owner.TheVariants.{Core}
 use Rattle.kc_model.specs.State.{State, Frame, frame_at, untouched, zero_page}
@@ -32,5 +33,11 @@ page_given m old new start before after low front front' page dump given pushed 
     let left : to_come m new ≡ rest = rw (front', page, dump) refl in
     rw (left, pushed) (append_assoc before line rest ∙ ap (λ (l : List ℕ). before ++ l) (sym come) ∙ given)
 
-pub nothing_left : (given : ℕ) (bytes : List ℕ) → given ≤ length bytes → drop given bytes ≡ [] → given ≡ length bytes
-nothing_left given bytes low none = let long = length-drop given bytes in let zero = ap length none in omega (arith, low, long, zero)
+-- what was given of a page
+pub bytes_there : (m : State) (f : ℕ) (there : Option (Bor (List ℕ))) (bytes : Bor (List ℕ)) → IfSome there (λ b. b.now ≡ (frame_at m f).bytes) → there ≡ Some bytes → bytes.now ≡ (frame_at m f).bytes
+bytes_there m f there bytes is some = rw some at is
+
+-- a text of which a piece is taken away is what is still to come just where it was so before
+pub rest_after : (rest more piece left next : List ℕ) (Same : Type 0) → rest ≡ piece ++ more → piece ++ next ≡ left → (rest ≡ left) ↔ Same → (more ≡ next) ↔ Same
+rest_after rest more piece left next Same cut given is =
+    (λ e. is.0 (cut ∙ ap (λ (l : List ℕ). piece ++ l) e ∙ given), λ same. append_cancel_left piece more next (sym cut ∙ is.1 same ∙ sym given))

@@ -1,12 +1,14 @@
 -- What words, or lines, begin with, and how far some lines were read.
-use Rattle.std.specs.Prelude.{ℕ, ◌≡◌, ◌<◌, ◌≤◌, ◌+◌, ◌^◌, List, [], ◌∷◌, ◌++◌, length, All}
+use Rattle.std.specs.Prelude.{ℕ, ◌≡◌, ◌<◌, ◌≤◌, ◌+◌, ◌^◌, false, List, [], ◌∷◌, ◌++◌, length, All}
 use Rattle.std.specs.Fmt.{decimal}
 use Rattle.std.specs.List.{flat_map}
+use Rattle.hex.specs.Hex.{encode_lower}
 use Rattle.kc_types.specs.Limits.{vcpu_limit, image_limit}
 use Rattle.kc_model.specs.State.{Vcpu, Image}
+use Rattle.kc_model.specs.Lawful.{IsPage}
 use Rattle.kc_state_text.specs.declared.fault.StateFault.{StateFault}
 use Rattle.kc_state_text.specs.declared.fault.StateFault.TheVariants.{NoHeader, BadLine, Missing, Sizes, Found, Slot, Frame, Memory}
-use Rattle.kc_state_text.specs.StateText.{state_header}
+use Rattle.kc_state_text.specs.StateText.{state_header, is_zero}
 use Rattle.kc_state_text.specs.Refused.{IsVcpuWord, AreImageWords, HasNone, StopsBefore}
 
 abbrev pub IsNumber : ℕ → Type 0
@@ -40,6 +42,12 @@ pub record IsWhole {X A : Type 0} (Is : X → Type 0) (spelled : X → List A) (
 -- one more thing, and the list is it
 abbrev pub IsOneMore : {X A : Type 0} → (X → Type 0) → (X → List A) → List A → List X → List X → Type 0
 IsOneMore {X} Is spelled list xs ys = (x : X) × IsWhole Is spelled list x × (ys ≡ xs ++ x ∷ [])
+
+-- the word is these bytes, of a page that is not zero
+pub record AreDigits (word bytes : List ℕ) : Type 0 where
+  pub page : IsPage bytes
+  pub some : is_zero bytes ≡ false
+  pub whole : word ≡ encode_lower bytes
 
 pub record AreVcpus (vcpus : List Vcpu) : Type 0 where
   pub eight : length vcpus ≡ vcpu_limit

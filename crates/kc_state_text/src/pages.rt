@@ -1,10 +1,11 @@
 //! The bytes of pages that are read.
-ghost use Rattle.std.specs.Prelude.{ℕ, List, ◌≡◌, ◌≤◌, ◌*◌, ◌++◌, ◌∷◌, [], length, true, false, IsTrue, IfOk, MatchOption};
+ghost use Rattle.std.specs.Prelude.{ℕ, List, ◌≡◌, ◌≤◌, ◌*◌, ◌++◌, ◌∷◌, [], length, codes, true, false, IsTrue, IfOk, MatchOption};
+ghost use Rattle.std.specs.Str.{bytes_eq};
 ghost use Rattle.kc_types.specs.Limits.{page_size};
 ghost use Rattle.kc_model.specs.State.{zero_page};
 ghost use Rattle.kc_model.specs.Lawful.{IsPage};
 ghost use Rattle.kc_state_text.specs.StateText.{is_zero, page_word, page_line};
-ghost use Rattle.kc_state_text.specs.Reading.{LacksWhole, IsWhole, BeginsAs, IsOneMore};
+ghost use Rattle.kc_state_text.specs.Reading.{LacksWhole, IsWhole, BeginsAs, IsOneMore, AreDigits};
 ghost use Rattle.kc_state_text.specs.Refused.{HasNone};
 
 use crate::line_reader::page_word;
@@ -53,21 +54,32 @@ impl Drop for Buffer {
     }
 }
 
+/// The bytes that a word of digits is, if they are those of a page and not all zero.
+fn decode_page(word: &[u8], bytes: &mut [u8]) -> bool
+    requires { length bytes.old ≡ page_size }
+    ensures spelled { IsTrue result → AreDigits word.now bytes.new }
+    ensures refused { result ≡ false → bytes_eq word.now (codes "-") ≡ false → LacksWhole IsPage page_word word.now }
+{
+    if word.len() != 2 * PAGE_SIZE as usize {
+        return false;
+    }
+    if !decode_into(word, bytes) {
+        return false;
+    }
+    !is_zero(bytes)
+}
+
 /// Lets a zero page have the bytes that a word is, and says whether it is the word of a page.
 fn fill_page(word: &[u8], page: &mut PageBytes, buffer: &mut Buffer) -> bool
     requires { page.old ≡ zero_page }
     ensures spelled { IsTrue result → IsWhole IsPage page_word word.now page.new }
     ensures refused { result ≡ false → LacksWhole IsPage page_word word.now }
-    ensures kept { result ≡ false → page.new ≡ zero_page }
 {
     if word == b"-".as_slice() {
         return true;
     }
-    if word.len() != 2 * PAGE_SIZE as usize {
-        return false;
-    }
     let bytes = buffer.bytes.as_mut_slice();
-    if !decode_into(word, bytes) || is_zero(bytes) {
+    if !decode_page(word, bytes) {
         return false;
     }
     page.write(0, bytes);
@@ -97,7 +109,7 @@ impl Pages {
         }
     }
 
-    /// One more page, if a word is that of one.
+    /// One more page, if a word is that of one. What is dropped else is zero.
     fn add(&mut self, alloc: Global, word: &[u8], buffer: &mut Buffer) -> Result<bool, Memory>
         ensures spelled { IfOk result (λ valid. IsTrue valid → IsOneMore IsPage page_word word.now self.old self.new) }
         ensures refused { IfOk result (λ valid. valid ≡ false → LacksWhole IsPage page_word word.now) }

@@ -1,5 +1,5 @@
 //! A state's text, a piece at a time, so that it never lies in memory as a whole.
-ghost use Rattle.std.specs.Prelude.{◌≡◌, ◌<◌, ◌≤◌, ◌+◌, ◌++◌, ◌↔◌, [], length, vec_len, vec_capacity, IsTrue, IfOk};
+ghost use Rattle.std.specs.Prelude.{ℕ, List, MatchOption, ◌≡◌, ◌<◌, ◌≤◌, ◌+◌, ◌++◌, ◌↔◌, [], length, vec_len, vec_capacity, IsTrue, IfOk};
 ghost use Rattle.kc_state_text.specs.StateText.{state_text};
 ghost use Rattle.kc_state_text.specs.Pieces.{longest_page_line, to_come};
 
@@ -151,6 +151,21 @@ pub fn wipe_piece(piece: &mut Vec<u8>) {
 /// How much of a text is compared at once, in bytes.
 const PIECE: usize = 65_536;
 
+/// What stands behind some bytes, if the text begins with them.
+fn behind<'a>(text: &'a [u8], bytes: &[u8]) -> Option<&'a [u8]>
+    ensures { MatchOption result ((rest : List ℕ) → text.now ≡ bytes.now ++ rest → ⊥) (λ rest. text.now ≡ bytes.now ++ rest.now) }
+{
+    if text.len() < bytes.len() {
+        return None;
+    }
+    let (head, rest) = text.split_at(bytes.len());
+    if head == bytes {
+        Some(rest)
+    } else {
+        None
+    }
+}
+
 /// Whether a text is just these pieces.
 fn is_rest(core: &KCore, pieces: StatePieces, piece: &mut Vec<u8>, text: &[u8]) -> bool
     requires { longest_page_line ≤ vec_capacity piece.old }
@@ -163,7 +178,7 @@ fn is_rest(core: &KCore, pieces: StatePieces, piece: &mut Vec<u8>, text: &[u8]) 
         if piece.is_empty() {
             return rest.is_empty();
         }
-        let Some(more) = rest.strip_prefix(piece.as_slice()) else {
+        let Some(more) = behind(rest, piece.as_slice()) else {
             return false;
         };
         rest = more;

@@ -1,4 +1,4 @@
-use Rattle.std.proofs.Common.{◌≡◌, ◌≤◌, ◌++◌, ◌×◌, List, ℕ, length}
+use Rattle.std.proofs.Common.{◌≡◌, ◌≤◌, length}
 use Rattle.std.specs.Prelude.{vec_capacity, ◌↔◌}
 use Rattle.kc_state_text.specs.Pieces.{longest_page_line, to_come}
 use Rattle.kc_state_text.proofs.pieces.is_rest.Given as goal

@@ -5,12 +5,12 @@ use Rattle.kc_state_text.proofs.pieces.StatePieces.give_pages.Given as goal
 
 abbrev pub invariant-pages : goal.invariant-pages
 invariant-pages l = record {
-  given : l.piece.items ++ to_come l.core l.self ≡ l.initial.piece.items ++ to_come l.core l.initial.self;
+  given : l.piece.items ++ to_come l.core (record { front = l.self-inside.front; page = l.self-inside.page; dump = l.self-inside.dump }) ≡ l.initial.piece.items ++ to_come l.core (record { front = l.initial.self-inside.front; page = l.initial.self-inside.page; dump = l.initial.self-inside.dump });
   room : vec_len l.piece + longest_page_line ≤ vec_capacity l.piece;
   capacity : vec_capacity l.initial.piece ≤ vec_capacity l.piece;
-  front : l.self.front ≡ [];
-  page : l.self.page < l.core.config.frames;
+  front : l.self-inside.front ≡ [];
+  page : l.self-inside.page < l.core.config.frames;
 }
 
 abbrev pub decreases-pages : goal.decreases-pages
-decreases-pages l = l.core.config.frames - l.self.page
+decreases-pages l = l.core.config.frames - l.self-inside.page

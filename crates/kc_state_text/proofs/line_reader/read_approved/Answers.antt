@@ -1,0 +1,14 @@
+use Rattle.std.proofs.Common.{sym, ◌∙◌}
+use Rattle.std.specs.Prelude.{codes}
+use Rattle.kc_state_text.specs.Words.{words_in}
+use Rattle.kc_state_text.proofs.Taken.{no-digest-word, no-digest-end, digest-is-read}
+use Rattle.kc_state_text.proofs.line_reader.read_approved.Goals as goal
+
+pub returns-in_err-digest : goal.returns-in_err-digest
+returns-in_err-digest c =
+    rw c.from_residual-in_err-digest.ensures
+    (no-digest-word (codes "approved") (words_in c.args.line.now) c.in_ok-next.field-0.now c.name.new.self c.next.new.self (sym c.new-words.ensures ∙ c.in_ok-name.ensures) c.in_ok-next.ensures (sym c.in_err-digest.ensures))
+
+pub returns : goal.returns
+returns c = digest-is-read (codes "approved") (words_in c.args.line.now) c.in_ok-digest.digest c.in_ok-next.field-0.now c.name.new.self c.next.new.self (sym c.new-words.ensures ∙ c.in_ok-name.ensures) c.in_ok-next.ensures c.in_ok-end.ensures
+    (sym c.in_ok-digest.ensures)
