@@ -19,5 +19,5 @@ pub use auditing::audit;
 pub use finding::Finding;
 pub use kc_digests::frame_digests;
 pub use kc_dump::{Dump, FrameLine, SlotDump};
-pub use line::written;
+pub use line::{finding_text, written};
 pub use parallel::audit_parallel;

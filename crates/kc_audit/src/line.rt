@@ -54,6 +54,15 @@ fn push_finding(line: &mut ArrayString<160>, finding: Finding)
     }
 }
 
+/// The text of a finding: its kind, and then the slot, guest frame or frame.
+pub fn finding_text(finding: Finding) -> ArrayString<160>
+    ensures { result.bytes ≡ finding_text finding }
+{
+    let mut text = ArrayString::new();
+    push_finding(&mut text, finding);
+    text
+}
+
 /// Appends the text of the first finding, if there is one.
 fn push_first(line: &mut ArrayString<160>, found: &[Finding])
     requires { array_string_len line.old + 56 ≤ 160 }
