@@ -1,5 +1,5 @@
 -- What is said of a text that is no state.
-use Rattle.std.specs.Prelude.{ℕ, ◌+◌, List, [], codes}
+use Rattle.std.specs.Prelude.{ℕ, ◌+◌, List, [], codes, Option, Some, None}
 use Rattle.kc_state_text.specs.declared.fault.StateFault.{StateFault}
 use Rattle.kc_state_text.specs.declared.fault.StateFault.TheVariants.{NoHeader, BadLine, Missing, Sizes, Found, Slot, Frame, Memory}
 use Rattle.kc_dump_text.specs.declared.fault.DumpFault.{DumpFault}
@@ -12,16 +12,27 @@ dump_fault before (dump.BadLine n) = BadLine (before + n)
 dump_fault before (dump.Frame f) = Missing f
 dump_fault before dump.Memory = Memory
 
--- why a text is no state's, up to the number of a line, a frame or a slot; of a finding its own line is said
+-- why a text is no state's, up to the number of a line, a frame or a slot; of a finding its text follows
 abbrev pub state_fault_words : StateFault → List ℕ
 state_fault_words NoHeader = codes "no state header"
 state_fault_words (BadLine number) = codes "bad state line "
 state_fault_words (Missing frame) = codes "dump frame "
 state_fault_words Sizes = codes "state of no configuration"
-state_fault_words (Found finding) = []
+state_fault_words (Found finding) = codes "state with finding "
 state_fault_words (Slot vm) = codes "bad slot "
 state_fault_words (Frame frame) = codes "bad frame "
 state_fault_words Memory = codes "out of memory"
+
+-- the number of a line, a frame or a slot
+abbrev pub state_fault_number : StateFault → Option ℕ
+state_fault_number NoHeader = None
+state_fault_number (BadLine number) = Some number
+state_fault_number (Missing frame) = Some frame
+state_fault_number Sizes = None
+state_fault_number (Found finding) = None
+state_fault_number (Slot vm) = Some vm
+state_fault_number (Frame frame) = Some frame
+state_fault_number Memory = None
 
 -- the same behind the number
 abbrev pub state_fault_end : StateFault → List ℕ

@@ -1,6 +1,6 @@
 //! Why a text is no state's.
 ghost use Rattle.std.specs.Prelude.{◌≡◌, ◌≤◌, length};
-ghost use Rattle.kc_state_text.specs.Faults.{state_fault_words, state_fault_end};
+ghost use Rattle.kc_state_text.specs.Faults.{state_fault_words, state_fault_number, state_fault_end};
 ghost use Rattle.kc_state_text.specs.declared.fault.StateFault.TheVariants.{Memory};
 
 use kc_audit::Finding;
@@ -30,8 +30,8 @@ pub enum StateFault {
 }
 
 impl StateFault {
-    /// What is wrong; of a line, a frame or a slot, what is said before its number. Nothing where an audit finds something,
-    /// which has a line of its own.
+    /// What is wrong; of a line, a frame or a slot, what is said before its number, and of what an audit finds, before its
+    /// text.
     pub const fn words(&self) -> &'static str
         ensures text { result.now ≡ state_fault_words self.now }
         ensures short { length result.now ≤ 40 }
@@ -41,10 +41,23 @@ impl StateFault {
             StateFault::BadLine(_) => "bad state line ",
             StateFault::Missing(_) => "dump frame ",
             StateFault::Sizes => "state of no configuration",
-            StateFault::Found(_) => "",
+            StateFault::Found(_) => "state with finding ",
             StateFault::Slot(_) => "bad slot ",
             StateFault::Frame(_) => "bad frame ",
             StateFault::Memory => "out of memory",
+        }
+    }
+
+    /// The number, if it has one.
+    pub const fn number(&self) -> Option<usize>
+        ensures { result ≡ state_fault_number self.now }
+    {
+        match self {
+            StateFault::BadLine(number)
+            | StateFault::Missing(number)
+            | StateFault::Slot(number)
+            | StateFault::Frame(number) => Some(*number as usize),
+            _ => None,
         }
     }
 
