@@ -1,5 +1,4 @@
 //! The whole picture: lanes of VMs above, frames below, an axis and a legend.
-use crate::cells::grid_of;
 use crate::colour::{CORE, Colour, EDGE, FAINT, FREE, HOST, SEVERAL};
 use crate::lane_drawing::{LanePlace, draw_lane};
 use crate::scale::{LEFT, PLOT, Scale, nice};
@@ -315,7 +314,7 @@ pub fn picture(
     let extent = extent_of(&lanes, vm);
     // Whether each stretch of each frame has a bar of its own.
     let exact = frames <= EXACT_FRAMES && scale.last <= EXACT_LINES;
-    let grid = grid_of(frames, scale.last);
+    let grid = cells::grid_of(frames, scale.last);
     let frames_height = if exact {
         frames.saturating_mul(exact::row_height(frames))
     } else {
