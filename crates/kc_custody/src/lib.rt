@@ -1,4 +1,5 @@
-//! What happened to each frame and slot: every change of custody that a call makes.
+//! What happened to each frame and slot: every change of custody that a call makes, and each read and write of the host that
+//! it was served of a VM's frame.
 #![tactic(auto)]
 
 mod look_ups;

@@ -1,106 +1,46 @@
 //! The colours of a picture. Those of VMs are Okabe and Ito's, which the colour-blind tell apart.
-use kc_types::Owner;
-use std::fmt;
+use kc_types::{Memory, Owner};
 
+/// Red, green and blue.
 #[derive(Clone, Copy, PartialEq, Eq)]
-pub(crate) struct Colour {
-    red: u8,
-    green: u8,
-    blue: u8,
-}
+pub(crate) struct Colour(u8, u8, u8);
 
-/// Of slots 0 to 7; in this order neighbours differ in lightness too.
-const HUES: [Colour; 8] = [
-    Colour {
-        red: 0x00,
-        green: 0x72,
-        blue: 0xb2,
-    },
-    Colour {
-        red: 0xe6,
-        green: 0x9f,
-        blue: 0x00,
-    },
-    Colour {
-        red: 0x00,
-        green: 0x9e,
-        blue: 0x73,
-    },
-    Colour {
-        red: 0xcc,
-        green: 0x79,
-        blue: 0xa7,
-    },
-    Colour {
-        red: 0x56,
-        green: 0xb4,
-        blue: 0xe9,
-    },
-    Colour {
-        red: 0xd5,
-        green: 0x5e,
-        blue: 0x00,
-    },
-    Colour {
-        red: 0xf0,
-        green: 0xe4,
-        blue: 0x42,
-    },
-    Colour {
-        red: 0x88,
-        green: 0x22,
-        blue: 0x55,
-    },
+/// Of slots 0 to 15; in this order neighbours differ in lightness too, and the second eight are the first, darker.
+const HUES: [Colour; 16] = [
+    Colour(0x00, 0x72, 0xb2),
+    Colour(0xe6, 0x9f, 0x00),
+    Colour(0x00, 0x9e, 0x73),
+    Colour(0xcc, 0x79, 0xa7),
+    Colour(0x56, 0xb4, 0xe9),
+    Colour(0xd5, 0x5e, 0x00),
+    Colour(0xf0, 0xe4, 0x42),
+    Colour(0x88, 0x22, 0x55),
+    Colour(0x00, 0x44, 0x6a),
+    Colour(0x8a, 0x5f, 0x00),
+    Colour(0x00, 0x5e, 0x45),
+    Colour(0x7a, 0x48, 0x64),
+    Colour(0x33, 0x6c, 0x8b),
+    Colour(0x7f, 0x38, 0x00),
+    Colour(0x90, 0x88, 0x27),
+    Colour(0x51, 0x14, 0x33),
 ];
 
 /// What the core owns.
-pub(crate) const CORE: Colour = Colour {
-    red: 0x3a,
-    green: 0x3a,
-    blue: 0x3a,
-};
+pub(crate) const CORE: Colour = Colour(0x3a, 0x3a, 0x3a);
 /// What the host owns.
-pub(crate) const HOST: Colour = Colour {
-    red: 0xdc,
-    green: 0xdc,
-    blue: 0xdc,
-};
+pub(crate) const HOST: Colour = Colour(0xdc, 0xdc, 0xdc);
 /// What nobody owns.
-pub(crate) const FREE: Colour = Colour {
-    red: 0xff,
-    green: 0xff,
-    blue: 0xff,
-};
+pub(crate) const FREE: Colour = Colour(0xff, 0xff, 0xff);
 /// Where no VM had more than half of what VMs had.
-pub(crate) const SEVERAL: Colour = Colour {
-    red: 0x7d,
-    green: 0x6b,
-    blue: 0x91,
-};
+pub(crate) const SEVERAL: Colour = Colour(0x7d, 0x6b, 0x91);
 /// Words and marks.
-pub(crate) const INK: Colour = Colour {
-    red: 0x22,
-    green: 0x22,
-    blue: 0x22,
-};
+pub(crate) const INK: Colour = Colour(0x22, 0x22, 0x22);
 /// Lesser words.
-pub(crate) const FAINT: Colour = Colour {
-    red: 0x66,
-    green: 0x66,
-    blue: 0x66,
-};
+pub(crate) const FAINT: Colour = Colour(0x66, 0x66, 0x66);
 /// Edges and base lines.
-pub(crate) const EDGE: Colour = Colour {
-    red: 0x99,
-    green: 0x99,
-    blue: 0x99,
-};
+pub(crate) const EDGE: Colour = Colour(0x99, 0x99, 0x99);
 /// The stretch of a life.
-pub(crate) const LIFE: Colour = Colour {
-    red: 0xf0,
-    green: 0xf0,
-    blue: 0xf0,
-};
+pub(crate) const LIFE: Colour = Colour(0xf0, 0xf0, 0xf0);
 
 /// A part after some of the way to white, 0 to 100 of 100.
 fn nearer_white(part: u8, percent: u32) -> u8 {
@@ -110,21 +50,13 @@ fn nearer_white(part: u8, percent: u32) -> u8 {
     lighter.min(255) as u8
 }
 
-/// A part after some of the way to black, 0 to 100 of 100.
-fn nearer_black(part: u8, percent: u32) -> u8 {
-    let kept = 100u32.saturating_sub(percent);
-    let darker = u32::from(part).saturating_mul(kept) / 100;
-    darker.min(255) as u8
-}
-
 impl Colour {
-    /// The colour of the VM in a slot: 8 to 15 are darker, and from 16 on the colours come again.
+    /// The colour of the VM in a slot; from 16 on the colours come again.
     pub fn of_vm(vm: u32) -> Colour {
-        let hue = match HUES.get((vm % 8) as usize) {
+        match HUES.get((vm % 16) as usize) {
             Some(hue) => *hue,
             None => INK,
-        };
-        if vm / 8 % 2 == 1 { hue.darker(40) } else { hue }
+        }
     }
 
     pub fn of_owner(owner: Owner) -> Colour {
@@ -138,36 +70,23 @@ impl Colour {
 
     /// So much of the way to white, 0 to 100 of 100.
     pub fn paler(self, percent: u32) -> Colour {
-        Colour {
-            red: nearer_white(self.red, percent),
-            green: nearer_white(self.green, percent),
-            blue: nearer_white(self.blue, percent),
-        }
-    }
-
-    /// So much of the way to black, 0 to 100 of 100.
-    pub fn darker(self, percent: u32) -> Colour {
-        Colour {
-            red: nearer_black(self.red, percent),
-            green: nearer_black(self.green, percent),
-            blue: nearer_black(self.blue, percent),
-        }
+        Colour(
+            nearer_white(self.0, percent),
+            nearer_white(self.1, percent),
+            nearer_white(self.2, percent),
+        )
     }
 
     /// Whether white words are read on it better than dark ones.
     pub fn is_dark(self) -> bool {
-        let light = 299 * u32::from(self.red)
-            + 587 * u32::from(self.green)
-            + 114 * u32::from(self.blue);
+        let light = 299 * u32::from(self.0) + 587 * u32::from(self.1) + 114 * u32::from(self.2);
         light < 130_000
     }
-}
 
-impl fmt::Display for Colour {
-    fn fmt<W: fmt::Write>(&self, f: &mut fmt::Formatter<W>) -> fmt::Result {
-        let red = self.red;
-        let green = self.green;
-        let blue = self.blue;
-        write!(f, "#{red:02x}{green:02x}{blue:02x}")
+    /// Appends it as `#0072b2`.
+    pub fn push(self, text: &mut String) -> Result<(), Memory> {
+        let number = 65_536 * u32::from(self.0) + 256 * u32::from(self.1) + u32::from(self.2);
+        write!(text, "#{number:06x}")?;
+        Ok(())
     }
 }

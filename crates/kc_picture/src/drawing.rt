@@ -1,10 +1,10 @@
 //! The whole picture: lanes of VMs above, frames below, an axis and a legend.
-use crate::colour::{CORE, Colour, EDGE, FAINT, FREE, HOST, INK, SEVERAL};
+use crate::colour::{CORE, Colour, EDGE, FAINT, FREE, HOST, SEVERAL};
 use crate::lane_drawing::{LanePlace, draw_lane};
 use crate::scale::{LEFT, PLOT, Scale, nice};
-use crate::svg::{Area, Style, Svg, WIDTH};
+use crate::svg::{Anchor, Area, HEADING, PLAIN, REMARK, Style, Svg};
 use crate::vms::{Lane, lanes_of};
-use crate::words::{Counted, Grouped};
+use crate::words::{push_count, push_number};
 use crate::{cells, exact};
 use kc_types::{Bar, Config, Event, Memory};
 use std::alloc::Global;
@@ -13,11 +13,6 @@ use std::alloc::Global;
 const EXACT_FRAMES: u64 = 64;
 /// As many calls as are drawn bar by bar.
 const EXACT_LINES: u64 = 2_001;
-
-/// Whether each stretch of each frame has a bar of its own.
-fn is_exact(frames: u64, scale: Scale) -> bool {
-    frames <= EXACT_FRAMES && scale.last <= EXACT_LINES
-}
 
 /// The height of a lane among so many.
 fn lane_height(lanes: u64) -> u64 {
@@ -30,7 +25,7 @@ fn lane_height(lanes: u64) -> u64 {
     }
 }
 
-/// From above to below: where each part of a picture begins.
+/// Where each part of a picture begins, from above to below.
 #[derive(Clone, Copy)]
 struct Layout {
     lanes: u64,
@@ -41,24 +36,13 @@ struct Layout {
     height: u64,
 }
 
-/// The height of all frames.
-fn frames_height(frames: u64, scale: Scale) -> u64 {
-    if is_exact(frames, scale) {
-        frames.saturating_mul(exact::row_height(frames))
-    } else {
-        let rows = cells::rows_of(frames);
-        rows.saturating_mul(cells::row_height(rows))
-    }
-}
-
-fn layout_of(lanes: u64, frames: u64, scale: Scale) -> Layout {
+/// The parts of a picture with so many lanes, whose frames are so high.
+fn layout_of(lanes: u64, frames_height: u64) -> Layout {
     let lane_height = lane_height(lanes);
     let first = if lanes > 0 { 5_800u64 } else { 2_200 };
     let behind = first.saturating_add(lanes.saturating_mul(lane_height));
     let below = behind.saturating_add(2_800);
-    let axis = below
-        .saturating_add(frames_height(frames, scale))
-        .saturating_add(400);
+    let axis = below.saturating_add(frames_height).saturating_add(400);
     let legend = axis.saturating_add(4_600);
     Layout {
         lanes: first,
@@ -114,36 +98,43 @@ fn title_of(
     used: u64,
     vm: Option<u32>,
 ) -> Result<String, Memory> {
-    let frames = Counted(frames, "frame");
-    let calls = Counted(calls as u64, "call");
-    let vms = Counted(used, "VM");
-    let mut title = format!(in alloc; "Custody of {frames} of 4,096 bytes through {calls}, {vms}")?;
+    let mut title = String::new(alloc);
+    title.push_str("Custody of ")?;
+    push_count(&mut title, frames, "frame")?;
+    title.push_str(" of 4,096 bytes through ")?;
+    push_count(&mut title, calls as u64, "call")?;
+    title.push_str(", ")?;
+    push_count(&mut title, used, "VM")?;
     if let Some(vm) = vm {
-        write!(title, ": vm {vm} alone")?;
+        push_number(&mut title, ": vm ", u64::from(vm))?;
+        title.push_str(" alone")?;
     }
     Ok(title)
 }
 
+/// What is written above the lanes.
+fn heading_of(alloc: Global, vm: Option<u32>) -> Result<String, Memory> {
+    let mut heading = String::new(alloc);
+    match vm {
+        Some(vm) => push_number(&mut heading, "Frames of vm ", u64::from(vm))?,
+        None => heading.push_str("Frames of each VM")?,
+    }
+    heading.push_str(", and of them shared with the host (hatched)")?;
+    Ok(heading)
+}
+
 /// Writes the heading of the lanes, and at the right what their height stands for.
 fn head_lanes(svg: &mut Svg, top: u64, vm: Option<u32>) -> Result<(), Memory> {
-    let heading = match vm {
-        Some(vm) => format!(in svg.alloc();
-            "Frames of vm {vm}, and of them shared with the host (hatched)"
-        )?,
-        None => format!(in svg.alloc();
-            "Frames of each VM, and of them shared with the host (hatched)"
-        )?,
-    };
-    svg.words(&Style::plain(800, 4_600, 12).bold(), &heading)?;
-    let highest = Counted(top, "frame");
-    let words = match vm {
-        Some(_) => format!(in svg.alloc(); "at most {highest}")?,
-        None => format!(in svg.alloc(); "highest lane: {highest}")?,
-    };
-    svg.words(
-        &Style::plain(LEFT + PLOT, 4_600, 10).colour(FAINT).end(),
-        &words,
-    )
+    let heading = heading_of(svg.alloc(), vm)?;
+    svg.words(800, 4_600, &HEADING, &heading)?;
+    let mut highest = String::new(svg.alloc());
+    highest.push_str(if vm.is_some() {
+        "at most "
+    } else {
+        "highest lane: "
+    })?;
+    push_count(&mut highest, top, "frame")?;
+    svg.words(LEFT + PLOT, 4_600, &REMARK, &highest)
 }
 
 fn draw_lanes(
@@ -156,18 +147,19 @@ fn draw_lanes(
 ) -> Result<(), Memory> {
     let height = layout.lane_height;
     let mut place = LanePlace {
+        scale,
+        vm: 0,
         base: layout.lanes.saturating_add(height).saturating_sub(400),
         height: height.saturating_sub(if height > 3_000 { 1_200 } else { 700 }),
         top,
         roomy: height > 3_000 && scale.last <= EXACT_LINES,
     };
-    let mut slot = 0u32;
     for lane in lanes {
-        if has_lane(lane, slot, vm) {
-            draw_lane(svg, scale, &place, slot, lane)?;
+        if has_lane(lane, place.vm, vm) {
+            draw_lane(svg, &place, lane)?;
             place.base = place.base.saturating_add(height);
         }
-        slot = slot.saturating_add(1);
+        place.vm = place.vm.saturating_add(1);
     }
     Ok(())
 }
@@ -182,9 +174,11 @@ fn draw_mark(svg: &mut Svg, scale: Scale, axis: u64, line: u32) -> Result<(), Me
         height: 400,
     };
     svg.rect(&mark, FAINT)?;
-    let words = format!(in svg.alloc(); "{line}")?;
-    let style = Style::plain(x, axis.saturating_add(1_500), 10).colour(FAINT);
-    svg.words(&style.middle(), &words)
+    let style = Style {
+        anchor: Anchor::Middle,
+        ..REMARK
+    };
+    svg.numbered(x, axis.saturating_add(1_500), &style, "", u64::from(line))
 }
 
 /// Draws the axis: marks at the first line and at round ones.
@@ -197,18 +191,23 @@ fn draw_axis(svg: &mut Svg, scale: Scale, axis: u64) -> Result<(), Memory> {
             draw_mark(svg, scale, axis, line as u32)?;
         }
     }
-    let style = Style::plain(LEFT + PLOT / 2, axis.saturating_add(3_000), 11).colour(FAINT);
-    svg.words(&style.middle(), "line of the trace (its header is line 1)")
+    let style = Style {
+        size: 1_100,
+        anchor: Anchor::Middle,
+        ..REMARK
+    };
+    let words = "line of the trace (its header is line 1)";
+    svg.words(LEFT + PLOT / 2, axis.saturating_add(3_000), &style, words)
 }
 
 /// How a legend shows what its words say.
-#[derive(Clone, Copy, PartialEq, Eq)]
+#[derive(Clone, Copy)]
 enum Sample {
     Plain(Colour),
     Shared,
     Vms,
-    Reached,
-    Underlined,
+    /// With a foot of this height.
+    Footed(Colour, u64),
 }
 
 fn draw_sample(svg: &mut Svg, x: u64, y: u64, sample: Sample) -> Result<(), Memory> {
@@ -225,23 +224,9 @@ fn draw_sample(svg: &mut Svg, x: u64, y: u64, sample: Sample) -> Result<(), Memo
             svg.hatched(&area)
         },
         Sample::Vms => draw_hues(svg, x, y),
-        Sample::Reached => {
-            svg.rect(&area, HOST)?;
-            let foot = Area {
-                y: y.saturating_add(850),
-                height: 250,
-                ..area
-            };
-            svg.rect(&foot, INK)
-        },
-        Sample::Underlined => {
-            svg.rect(&area, Colour::of_vm(0).paler(50))?;
-            let foot = Area {
-                y: y.saturating_add(980),
-                height: 120,
-                ..area
-            };
-            svg.rect(&foot, INK)
+        Sample::Footed(colour, height) => {
+            svg.rect(&area, colour)?;
+            svg.foot(&area, height)
         },
     }
 }
@@ -263,10 +248,12 @@ fn draw_hues(svg: &mut Svg, x: u64, y: u64) -> Result<(), Memory> {
 /// Draws a sample and its words, and says where the next one begins.
 fn draw_entry(svg: &mut Svg, x: u64, y: u64, sample: Sample, words: &str) -> Result<u64, Memory> {
     draw_sample(svg, x, y, sample)?;
-    svg.words(
-        &Style::plain(x.saturating_add(1_900), y.saturating_add(1_000), 11),
-        words,
-    )?;
+    let style = Style {
+        size: 1_100,
+        ..PLAIN
+    };
+    let (left, base) = (x.saturating_add(1_900), y.saturating_add(1_000));
+    svg.words(left, base, &style, words)?;
     let width = 590u64.saturating_mul(words.len() as u64);
     Ok(x.saturating_add(3_800).saturating_add(width))
 }
@@ -302,9 +289,11 @@ fn draw_legend(
         x = draw_entry(svg, x, y, Sample::Shared, "shared with the host")?;
     }
     if exact {
-        draw_entry(svg, x, y, Sample::Reached, "reached by the host")?;
+        let sample = Sample::Footed(HOST, 250);
+        draw_entry(svg, x, y, sample, "reached by the host")?;
     } else if lanes > 0 {
-        draw_entry(svg, x, y, Sample::Underlined, "some of it shared")?;
+        let sample = Sample::Footed(Colour::of_vm(0).paler(50), 120);
+        draw_entry(svg, x, y, sample, "some of it shared")?;
     }
     Ok(())
 }
@@ -323,20 +312,27 @@ pub fn picture(
     let scale = Scale::of_calls(calls);
     let lanes = lanes_of(alloc, events)?;
     let extent = extent_of(&lanes, vm);
-    let layout = layout_of(extent.lanes, frames, scale);
+    // Whether each stretch of each frame has a bar of its own.
+    let exact = frames <= EXACT_FRAMES && scale.last <= EXACT_LINES;
+    let grid = cells::grid_of(frames, scale.last);
+    let frames_height = if exact {
+        frames.saturating_mul(exact::row_height(frames))
+    } else {
+        grid.rows.saturating_mul(grid.height)
+    };
+    let layout = layout_of(extent.lanes, frames_height);
     let title = title_of(alloc, frames, calls, extent.used, vm)?;
     let mut svg = Svg::open(alloc, layout.height, &title)?;
     if extent.lanes > 0 {
         head_lanes(&mut svg, extent.top, vm)?;
         draw_lanes(&mut svg, scale, &layout, &lanes, vm, extent.top)?;
     }
-    let heading = Style::plain(800, layout.frames.saturating_sub(800), 12).bold();
-    svg.words(&heading, "Every frame, by number")?;
-    let exact = is_exact(frames, scale);
+    let base = layout.frames.saturating_sub(800);
+    svg.words(800, base, &HEADING, "Every frame, by number")?;
     if exact {
         exact::draw_frames(&mut svg, scale, layout.frames, frames, bars, vm)?;
     } else {
-        cells::draw_frames(&mut svg, scale, layout.frames, frames, bars, vm)?;
+        cells::draw_frames(&mut svg, &grid, layout.frames, bars, vm)?;
     }
     draw_axis(&mut svg, scale, layout.axis)?;
     draw_legend(&mut svg, layout.legend, exact, extent.lanes, vm)?;

@@ -1,9 +1,10 @@
 //! Every frame by its number, a bar a stretch.
 use crate::colour::{Colour, FAINT, FREE, INK, LIFE};
 use crate::rows::bars_by_row;
-use crate::scale::{LEFT, PLOT, Scale};
-use crate::svg::{Area, Style, Svg};
+use crate::scale::{LEFT, Scale};
+use crate::svg::{Anchor, Area, PLAIN, REMARK, Style, Svg};
 use crate::titles::bar_title;
+use crate::words::push_number;
 use kc_types::{Bar, Custody, Memory, Owner};
 use std::alloc::Global;
 
@@ -15,26 +16,29 @@ pub(crate) fn row_height(frames: u64) -> u64 {
     if frames <= 16 { 2_200 } else { 1_200 }
 }
 
-/// The words on a bar.
-fn bar_name(alloc: Global, custody: &Custody) -> Result<String, Memory> {
-    let mut name = String::new(alloc);
+/// Appends where a VM sees a frame, and that it shares it.
+fn push_place(name: &mut String, custody: &Custody) -> Result<(), Memory> {
+    if let Some(gfn) = custody.gfn {
+        push_number(name, " @", u64::from(gfn.number()))?;
+    }
+    if custody.share > 0 {
+        name.push_str(" shared")?;
+    }
+    Ok(())
+}
+
+/// Appends the words on a bar.
+fn push_name(name: &mut String, custody: &Custody) -> Result<(), Memory> {
     match custody.owner {
         Owner::Core => name.push_str("core")?,
         Owner::Host => name.push_str("host")?,
         Owner::Free => name.push_str("free")?,
         Owner::Vm(vm) => {
-            let vm = vm.index();
-            write!(name, "vm {vm}")?;
-            if let Some(gfn) = custody.gfn {
-                let gfn = gfn.number();
-                write!(name, " @{gfn}")?;
-            }
-            if custody.share > 0 {
-                name.push_str(" shared")?;
-            }
+            push_number(name, "vm ", vm.index() as u64)?;
+            push_place(name, custody)?;
         },
     }
-    Ok(name)
+    Ok(())
 }
 
 /// Whether two bars of a frame have one name.
@@ -42,12 +46,13 @@ fn same_name(a: &Custody, b: &Custody) -> bool {
     a.owner == b.owner && a.gfn == b.gfn && (a.share > 0) == (b.share > 0)
 }
 
-fn bar_area(scale: Scale, top: u64, height: u64, bar: &Bar) -> Area {
-    let x = scale.x(bar.from);
+/// The part of a row from a line up to another.
+fn area_of(scale: Scale, top: u64, height: u64, from: u32, to: u32) -> Area {
+    let x = scale.x(from);
     Area {
         x,
         y: top.saturating_add(100),
-        width: scale.x(bar.to).saturating_sub(x),
+        width: scale.x(to).saturating_sub(x),
         height: height.saturating_sub(200),
     }
 }
@@ -66,12 +71,7 @@ fn draw_bar(svg: &mut Svg, area: &Area, bar: &Bar) -> Result<(), Memory> {
         svg.hatched(area)?;
     }
     if bar.custody.present {
-        let foot = Area {
-            y: area.y.saturating_add(area.height).saturating_sub(250),
-            height: 250,
-            ..*area
-        };
-        svg.rect(&foot, INK)?;
+        svg.foot(area, 250)?;
     }
     svg.end_group()
 }
@@ -79,7 +79,7 @@ fn draw_bar(svg: &mut Svg, area: &Area, bar: &Bar) -> Result<(), Memory> {
 /// How words on bars look where these are so high.
 #[derive(Clone, Copy)]
 struct Lettering {
-    size: u32,
+    size: u64,
     /// The width of a letter, at most.
     width: u64,
     /// How far their base line is above the bar's end.
@@ -91,14 +91,14 @@ struct Lettering {
 fn lettering_of(height: u64) -> Lettering {
     if height > ROOMY {
         Lettering {
-            size: 10,
+            size: 1_000,
             width: 620,
             base: 600,
             margin: 300,
         }
     } else {
         Lettering {
-            size: 8,
+            size: 800,
             width: 500,
             base: 230,
             margin: 100,
@@ -139,14 +139,19 @@ fn write_on(svg: &mut Svg, area: &Area, custody: &Custody, words: &str) -> Resul
     }
     let bottom = area.y.saturating_add(area.height);
     let base = bottom.saturating_sub(lettering.base);
-    let style = Style::plain(area.x.saturating_add(400), base, lettering.size);
-    svg.words(&style.colour(colour_of_words(custody)), words)?;
+    let style = Style {
+        size: lettering.size,
+        colour: colour_of_words(custody),
+        ..PLAIN
+    };
+    svg.words(area.x.saturating_add(400), base, &style, words)?;
     Ok(true)
 }
 
 /// Writes a bar's name on it, where there is room; of one that is shared at least that it is.
 fn name_bar(svg: &mut Svg, area: &Area, bar: &Bar) -> Result<bool, Memory> {
-    let name = bar_name(svg.alloc(), &bar.custody)?;
+    let mut name = String::new(svg.alloc());
+    push_name(&mut name, &bar.custody)?;
     if write_on(svg, area, &bar.custody, &name)? {
         return Ok(true);
     }
@@ -158,30 +163,26 @@ fn name_bar(svg: &mut Svg, area: &Area, bar: &Bar) -> Result<bool, Memory> {
 
 /// Writes the number of a frame beside its row.
 fn name_frame(svg: &mut Svg, frame: u64, top: u64, height: u64) -> Result<(), Memory> {
-    let roomy = height > ROOMY;
-    let name = if roomy {
-        format!(in svg.alloc(); "frame {frame}")?
+    let bottom = top.saturating_add(height);
+    if height > ROOMY {
+        let style = Style {
+            size: 1_100,
+            anchor: Anchor::End,
+            ..PLAIN
+        };
+        svg.numbered(
+            LEFT - 800,
+            bottom.saturating_sub(600),
+            &style,
+            "frame ",
+            frame,
+        )
     } else {
-        format!(in svg.alloc(); "{frame}")?
-    };
-    let base = top
-        .saturating_add(height)
-        .saturating_sub(if roomy { 600 } else { 250 });
-    let style = if roomy {
-        Style::plain(LEFT - 800, base, 11)
-    } else {
-        Style::plain(LEFT - 800, base, 9).colour(FAINT)
-    };
-    svg.words(&style.end(), &name)
-}
-
-/// The whole row of a frame.
-fn row_area(top: u64, height: u64) -> Area {
-    Area {
-        x: LEFT,
-        y: top.saturating_add(100),
-        width: PLOT,
-        height: height.saturating_sub(200),
+        let style = Style {
+            size: 900,
+            ..REMARK
+        };
+        svg.numbered(LEFT - 800, bottom.saturating_sub(250), &style, "", frame)
     }
 }
 
@@ -197,7 +198,7 @@ fn draw_row(
     let mut named: Option<Custody> = None;
     for i in row {
         if let Some(bar) = bars.get(*i) {
-            let area = bar_area(scale, top, height, bar);
+            let area = area_of(scale, top, height, bar.from, bar.to);
             draw_bar(svg, &area, bar)?;
             let again = match &named {
                 Some(before) => same_name(before, &bar.custody),
@@ -230,7 +231,7 @@ pub(crate) fn draw_frames(
     for row in &rows {
         name_frame(svg, frame, at, height)?;
         if vm.is_some() {
-            svg.edge(&row_area(at, height), LIFE)?;
+            svg.edge(&area_of(scale, at, height, 1, scale.end()), LIFE)?;
         }
         draw_row(svg, scale, at, height, bars, row)?;
         at = at.saturating_add(height);

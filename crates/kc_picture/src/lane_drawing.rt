@@ -1,16 +1,18 @@
 //! The lane of a VM: its frames over time, of them those that it shares, and when it was there.
 use crate::colour::{Colour, EDGE, FAINT, INK, LIFE};
 use crate::scale::{LEFT, PLOT, Scale};
-use crate::svg::{Area, Style, Svg};
+use crate::svg::{Anchor, Area, HEADING, PLAIN, Style, Svg};
 use crate::titles::{stay_title, tick_title};
 use crate::vms::{Lane, Measured, Stay, Step};
-use crate::words::Points;
+use crate::words::{push_length, push_number};
 use kc_types::Memory;
 use std::alloc::Global;
 
-/// Where a lane lies, and what its height stands for.
+/// Whose a lane is, where it lies, and what its height stands for.
 #[derive(Clone, Copy)]
 pub(crate) struct LanePlace {
+    pub scale: Scale,
+    pub vm: u32,
     /// Its base line.
     pub base: u64,
     /// How high the most frames are.
@@ -47,32 +49,31 @@ struct Outline {
 
 /// Adds a stretch; where its number is 0 the outline comes down to the base line and breaks off.
 fn add_run(outline: &mut Outline, place: &LanePlace, run: &Run) -> Result<(), Memory> {
-    let base = Points(place.base);
     if run.number == 0 {
-        return come_down(outline, base);
+        return come_down(outline, place.base);
     }
     if !outline.above {
-        let from = Points(run.from);
-        write!(outline.path, "M{from} {base}")?;
+        push_length(&mut outline.path, "M", run.from)?;
+        push_length(&mut outline.path, " ", place.base)?;
         outline.above = true;
     }
     let high = place.height.saturating_mul(run.number) / place.top.max(1);
-    let top = Points(place.base.saturating_sub(high.max(LOWEST)));
-    let to = Points(run.to);
-    write!(outline.path, "V{top}H{to}")?;
-    Ok(())
+    let top = place.base.saturating_sub(high.max(LOWEST));
+    push_length(&mut outline.path, "V", top)?;
+    push_length(&mut outline.path, "H", run.to)
 }
 
-fn come_down(outline: &mut Outline, base: Points) -> Result<(), Memory> {
+fn come_down(outline: &mut Outline, base: u64) -> Result<(), Memory> {
     if outline.above {
-        write!(outline.path, "V{base}Z")?;
+        push_length(&mut outline.path, "V", base)?;
+        outline.path.push_str("Z")?;
         outline.above = false;
     }
     Ok(())
 }
 
 /// Which number of a step is drawn.
-#[derive(Clone, Copy, PartialEq, Eq)]
+#[derive(Clone, Copy)]
 enum Which {
     All,
     Shared,
@@ -96,7 +97,6 @@ fn end_of(steps: &[Step], i: usize, end: u32) -> u32 {
 /// The outline of a number over time.
 fn outline_of(
     alloc: Global,
-    scale: Scale,
     place: &LanePlace,
     steps: &[Step],
     which: Which,
@@ -110,6 +110,7 @@ fn outline_of(
         to: LEFT,
         number: 0,
     };
+    let scale = place.scale;
     for (i, step) in steps.iter().enumerate() {
         let to_line = end_of(steps, i, scale.end());
         if to_line > step.line {
@@ -127,103 +128,64 @@ fn outline_of(
         }
     }
     add_run(&mut outline, place, &run)?;
-    come_down(&mut outline, Points(place.base))?;
+    come_down(&mut outline, place.base)?;
     let Outline { path, above: _ } = outline;
     Ok(path)
 }
 
-/// A thin mark with a title.
+/// The mark of a line, over a lane's height, with a title.
 fn tick(
     svg: &mut Svg,
-    area: &Area,
+    place: &LanePlace,
     colour: Colour,
-    vm: u32,
     what: &str,
     line: u32,
 ) -> Result<(), Memory> {
-    let title = tick_title(svg.alloc(), vm, what, line)?;
+    let title = tick_title(svg.alloc(), place.vm, what, line)?;
     svg.begin_titled(&title)?;
-    svg.rect(area, colour)?;
-    svg.end_group()
-}
-
-/// Where a mark of a line lies in a lane.
-fn tick_area(scale: Scale, place: &LanePlace, line: u32) -> Area {
-    Area {
-        x: scale.x(line).saturating_sub(50),
+    let area = Area {
+        x: place.scale.x(line).saturating_sub(50),
         y: place.base.saturating_sub(place.height),
         width: 100,
         height: place.height,
-    }
+    };
+    svg.rect(&area, colour)?;
+    svg.end_group()
 }
 
 /// The marks of a stay.
-fn draw_ticks(
-    svg: &mut Svg,
-    scale: Scale,
-    place: &LanePlace,
-    vm: u32,
-    stay: &Stay,
-) -> Result<(), Memory> {
-    let area = tick_area(scale, place, stay.registered);
-    tick(svg, &area, EDGE, vm, "registered", stay.registered)?;
+fn draw_ticks(svg: &mut Svg, place: &LanePlace, stay: &Stay) -> Result<(), Memory> {
+    tick(svg, place, EDGE, "registered", stay.registered)?;
     match stay.measured {
         Measured::Not => {},
         Measured::Active(line) => {
-            let area = tick_area(scale, place, line);
-            tick(svg, &area, INK, vm, "measured and active", line)?;
-            name_measured(svg, scale, place, line, "active")?;
+            tick(svg, place, INK, "measured and active", line)?;
+            name_measured(svg, place, line, "active")?;
         },
         Measured::Dead(line) => {
-            let area = tick_area(scale, place, line);
-            tick(svg, &area, INK, vm, "measured and dead", line)?;
-            name_measured(svg, scale, place, line, "dead")?;
+            tick(svg, place, INK, "measured and dead", line)?;
+            name_measured(svg, place, line, "dead")?;
         },
     }
-    if let Some(line) = stay.cleared {
-        let area = tick_area(scale, place, line);
-        tick(svg, &area, INK, vm, "cleared", line)?;
+    match stay.cleared {
+        Some(line) => tick(svg, place, INK, "cleared", line),
+        None => Ok(()),
     }
-    Ok(())
 }
 
 /// Names the mark of measuring, where there is room.
-fn name_measured(
-    svg: &mut Svg,
-    scale: Scale,
-    place: &LanePlace,
-    line: u32,
-    name: &str,
-) -> Result<(), Memory> {
+fn name_measured(svg: &mut Svg, place: &LanePlace, line: u32, name: &str) -> Result<(), Memory> {
     if place.roomy {
-        let x = scale.x(line).saturating_add(200);
+        let x = place.scale.x(line).saturating_add(200);
         let y = place.base.saturating_sub(place.height).saturating_sub(100);
-        svg.words(&Style::plain(x, y, 9).colour(FAINT), name)?;
+        let style = Style {
+            size: 900,
+            colour: FAINT,
+            ..PLAIN
+        };
+        svg.words(x, y, &style, name)?;
     }
     Ok(())
-}
-
-/// The stretch of some stays, one after another.
-fn draw_stretch(
-    svg: &mut Svg,
-    scale: Scale,
-    place: &LanePlace,
-    from: u32,
-    to: u32,
-    title: &str,
-) -> Result<(), Memory> {
-    let x = scale.x(from);
-    svg.begin_titled(title)?;
-    svg.rect(
-        &Area {
-            x,
-            y: place.base.saturating_sub(place.height),
-            width: scale.x(to).saturating_sub(x),
-            height: place.height,
-        },
-        LIFE,
-    )?;
-    svg.end_group()
 }
 
 /// Stays that are drawn as one, by lines of the trace.
@@ -283,54 +245,52 @@ fn group_title(alloc: Global, vm: u32, group: &Group) -> Result<String, Memory> 
     if group.count == 1 {
         stay_title(alloc, vm, &group.stay)
     } else {
-        let count = group.count;
-        let from = group.stay.registered;
-        let to = group.to;
-        Ok(format!(in alloc; "vm {vm}: {count} lives between lines {from} and {to}")?)
+        let mut title = String::new(alloc);
+        push_number(&mut title, "vm ", u64::from(vm))?;
+        push_number(&mut title, ": ", group.count)?;
+        push_number(
+            &mut title,
+            " lives between lines ",
+            u64::from(group.stay.registered),
+        )?;
+        push_number(&mut title, " and ", u64::from(group.to))?;
+        Ok(title)
     }
 }
 
-fn draw_groups(
-    svg: &mut Svg,
-    scale: Scale,
-    place: &LanePlace,
-    vm: u32,
-    groups: &[Group],
-) -> Result<(), Memory> {
+/// The stretch of each group, with a title.
+fn draw_groups(svg: &mut Svg, place: &LanePlace, groups: &[Group]) -> Result<(), Memory> {
     for group in groups {
-        let title = group_title(svg.alloc(), vm, group)?;
-        draw_stretch(svg, scale, place, group.stay.registered, group.to, &title)?;
+        let title = group_title(svg.alloc(), place.vm, group)?;
+        svg.begin_titled(&title)?;
+        let x = place.scale.x(group.stay.registered);
+        let area = Area {
+            x,
+            y: place.base.saturating_sub(place.height),
+            width: place.scale.x(group.to).saturating_sub(x),
+            height: place.height,
+        };
+        svg.rect(&area, LIFE)?;
+        svg.end_group()?;
     }
     Ok(())
 }
 
-fn draw_group_ticks(
-    svg: &mut Svg,
-    scale: Scale,
-    place: &LanePlace,
-    vm: u32,
-    groups: &[Group],
-) -> Result<(), Memory> {
+fn draw_group_ticks(svg: &mut Svg, place: &LanePlace, groups: &[Group]) -> Result<(), Memory> {
     for group in groups {
         if group.count == 1 {
-            draw_ticks(svg, scale, place, vm, &group.stay)?;
+            draw_ticks(svg, place, &group.stay)?;
         }
     }
     Ok(())
 }
 
-fn draw_numbers(
-    svg: &mut Svg,
-    scale: Scale,
-    place: &LanePlace,
-    vm: u32,
-    steps: &[Step],
-) -> Result<(), Memory> {
-    let all = outline_of(svg.alloc(), scale, place, steps, Which::All)?;
+fn draw_numbers(svg: &mut Svg, place: &LanePlace, steps: &[Step]) -> Result<(), Memory> {
+    let all = outline_of(svg.alloc(), place, steps, Which::All)?;
     if !all.is_empty() {
-        svg.path(&all, Colour::of_vm(vm))?;
+        svg.path(&all, Colour::of_vm(place.vm))?;
     }
-    let shared = outline_of(svg.alloc(), scale, place, steps, Which::Shared)?;
+    let shared = outline_of(svg.alloc(), place, steps, Which::Shared)?;
     if !shared.is_empty() {
         svg.hatched_path(&shared)?;
     }
@@ -338,16 +298,13 @@ fn draw_numbers(
 }
 
 /// Draws the lane of a VM, with its name.
-pub(crate) fn draw_lane(
-    svg: &mut Svg,
-    scale: Scale,
-    place: &LanePlace,
-    vm: u32,
-    lane: &Lane,
-) -> Result<(), Memory> {
-    let name = format!(in svg.alloc(); "vm {vm}")?;
-    let style = Style::plain(LEFT - 800, place.base.saturating_sub(100), 12);
-    svg.words(&style.bold().end(), &name)?;
+pub(crate) fn draw_lane(svg: &mut Svg, place: &LanePlace, lane: &Lane) -> Result<(), Memory> {
+    let style = Style {
+        anchor: Anchor::End,
+        ..HEADING
+    };
+    let base = place.base.saturating_sub(100);
+    svg.numbered(LEFT - 800, base, &style, "vm ", u64::from(place.vm))?;
     let base = Area {
         x: LEFT,
         y: place.base,
@@ -355,8 +312,8 @@ pub(crate) fn draw_lane(
         height: 80,
     };
     svg.rect(&base, EDGE)?;
-    let groups = groups_of(svg.alloc(), scale, &lane.stays)?;
-    draw_groups(svg, scale, place, vm, &groups)?;
-    draw_numbers(svg, scale, place, vm, &lane.steps)?;
-    draw_group_ticks(svg, scale, place, vm, &groups)
+    let groups = groups_of(svg.alloc(), place.scale, &lane.stays)?;
+    draw_groups(svg, place, &groups)?;
+    draw_numbers(svg, place, &lane.steps)?;
+    draw_group_ticks(svg, place, &groups)
 }

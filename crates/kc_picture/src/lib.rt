@@ -9,6 +9,7 @@ mod lane_drawing;
 mod rows;
 mod scale;
 mod stretches;
+mod sums;
 mod svg;
 mod titles;
 mod vms;

@@ -7,10 +7,12 @@ pub(crate) fn row_of(frame: u64, rows: u64, frames: u64) -> u64 {
     frame.saturating_mul(rows) / frames.max(1)
 }
 
-/// The first frame of a row.
-pub(crate) fn first_of_row(row: u64, rows: u64, frames: u64) -> u64 {
+/// How many frames are in a row.
+pub(crate) fn frames_of_row(row: u64, rows: u64, frames: u64) -> u64 {
     let rows = rows.max(1);
-    row.saturating_mul(frames).saturating_add(rows - 1) / rows
+    let first = row.saturating_mul(frames).div_ceil(rows);
+    let behind = row.saturating_add(1).saturating_mul(frames).div_ceil(rows);
+    behind.saturating_sub(first)
 }
 
 /// Whether a bar is drawn: all are, or where a VM is named its bars alone.

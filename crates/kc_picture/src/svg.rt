@@ -1,11 +1,15 @@
 //! A picture as a text of SVG 1.1. Lengths are in hundredths of a point, from the left and from above.
-use crate::colour::{Colour, FREE, INK};
-use crate::words::Points;
+use crate::colour::{Colour, FAINT, FREE, INK};
+use crate::words::{push_length, push_number};
 use kc_types::Memory;
 use std::alloc::Global;
 
 /// The width of a picture.
 pub(crate) const WIDTH: u64 = 120_000;
+
+/// Slanted stripes, on what lies below them and on white.
+const STRIPES: &str =
+    "<defs>\n<pattern id=\"shared\" width=\"5\" height=\"5\" patternUnits=\"userSpaceOnUse\" patternTransform=\"rotate(45)\"><rect width=\"5\" height=\"5\" fill=\"none\"/><rect width=\"2\" height=\"5\" fill=\"#111111\"/></pattern>\n<pattern id=\"white\" width=\"5\" height=\"5\" patternUnits=\"userSpaceOnUse\" patternTransform=\"rotate(45)\"><rect width=\"5\" height=\"5\" fill=\"#ffffff\"/><rect width=\"2\" height=\"5\" fill=\"#111111\"/></pattern>\n</defs>\n";
 
 #[derive(Clone, Copy)]
 pub(crate) struct Area {
@@ -23,52 +27,43 @@ pub(crate) enum Anchor {
     End,
 }
 
-/// Where words stand and how they look.
+/// How words look.
 #[derive(Clone, Copy)]
 pub(crate) struct Style {
-    pub x: u64,
-    /// Their base line.
-    pub y: u64,
-    pub size: u32,
+    pub size: u64,
     pub anchor: Anchor,
     pub colour: Colour,
     pub bold: bool,
 }
 
-impl Style {
-    pub fn plain(x: u64, y: u64, size: u32) -> Style {
-        Style {
-            x,
-            y,
-            size,
-            anchor: Anchor::Start,
-            colour: INK,
-            bold: false,
-        }
-    }
-
-    pub fn bold(self) -> Style {
-        Style { bold: true, ..self }
-    }
-
-    pub fn colour(self, colour: Colour) -> Style {
-        Style { colour, ..self }
-    }
-
-    pub fn middle(self) -> Style {
-        Style {
-            anchor: Anchor::Middle,
-            ..self
-        }
-    }
-
-    pub fn end(self) -> Style {
-        Style {
-            anchor: Anchor::End,
-            ..self
-        }
-    }
-}
+/// What most words are like.
+pub(crate) const PLAIN: Style = Style {
+    size: 1_000,
+    anchor: Anchor::Start,
+    colour: INK,
+    bold: false,
+};
+/// A title of the whole picture.
+const TITLE: Style = Style {
+    size: 1_500,
+    anchor: Anchor::Start,
+    colour: INK,
+    bold: true,
+};
+/// A heading of a part.
+pub(crate) const HEADING: Style = Style {
+    size: 1_200,
+    anchor: Anchor::Start,
+    colour: INK,
+    bold: true,
+};
+/// A remark at the right end, or a number at the left of what it numbers.
+pub(crate) const REMARK: Style = Style {
+    size: 1_000,
+    anchor: Anchor::End,
+    colour: FAINT,
+    bold: false,
+};
 
 /// The text so far.
 #[derive(Drop)]
@@ -84,32 +79,23 @@ impl Svg {
             alloc,
             text: String::new(alloc),
         };
-        let width = Points(WIDTH);
-        let height = Points(height);
-        write!(
-            svg.text,
-            "<svg xmlns=\"http://www.w3.org/2000/svg\" version=\"1.1\" width=\"{width}\" height=\"{height}\" viewBox=\"0 0 {width} {height}\" font-family=\"DejaVu Sans, Verdana, Arial, sans-serif\">\n"
+        svg.put_length(
+            "<svg xmlns=\"http://www.w3.org/2000/svg\" version=\"1.1\" width=\"",
+            WIDTH,
         )?;
-        write!(svg.text, "<title>{title}</title>\n")?;
-        svg.text.push_str("<defs>\n")?;
-        svg.pattern("shared", "none")?;
-        svg.pattern("white", "#ffffff")?;
-        svg.text.push_str("</defs>\n")?;
-        write!(
-            svg.text,
-            "<rect width=\"{width}\" height=\"{height}\" fill=\"{FREE}\"/>\n"
-        )?;
-        svg.words(&Style::plain(800, 2_200, 15).bold(), title)?;
+        svg.put_length("\" height=\"", height)?;
+        svg.put_length("\" viewBox=\"0 0 ", WIDTH)?;
+        svg.put_length(" ", height)?;
+        svg.put("\" font-family=\"DejaVu Sans, Verdana, Arial, sans-serif\">\n<title>")?;
+        svg.put(title)?;
+        svg.put("</title>\n")?;
+        svg.put(STRIPES)?;
+        svg.put_length("<rect width=\"", WIDTH)?;
+        svg.put_length("\" height=\"", height)?;
+        svg.put_colour("\" fill=\"", FREE)?;
+        svg.put("\"/>\n")?;
+        svg.words(800, 2_200, &TITLE, title)?;
         Ok(svg)
-    }
-
-    /// Slanted stripes of this name on a ground.
-    fn pattern(&mut self, name: &str, ground: &str) -> Result<(), Memory> {
-        write!(
-            self.text,
-            "<pattern id=\"{name}\" width=\"5\" height=\"5\" patternUnits=\"userSpaceOnUse\" patternTransform=\"rotate(45)\"><rect width=\"5\" height=\"5\" fill=\"{ground}\"/><rect width=\"2\" height=\"5\" fill=\"#111111\"/></pattern>\n"
-        )?;
-        Ok(())
     }
 
     /// Where its memory comes from.
@@ -118,140 +104,163 @@ impl Svg {
     }
 
     /// The whole text.
-    pub fn close(self) -> Result<Vec<u8>, Memory> {
-        let mut svg = self;
-        svg.text.push_str("</svg>\n")?;
-        let Svg { alloc: _, text } = svg;
+    pub fn close(mut self) -> Result<Vec<u8>, Memory> {
+        self.put("</svg>\n")?;
+        let Svg { alloc: _, text } = self;
         Ok(text.into_bytes())
+    }
+
+    fn put(&mut self, words: &str) -> Result<(), Memory> {
+        self.text.push_str(words)?;
+        Ok(())
+    }
+
+    fn put_length(&mut self, words: &str, length: u64) -> Result<(), Memory> {
+        push_length(&mut self.text, words, length)
+    }
+
+    fn put_colour(&mut self, words: &str, colour: Colour) -> Result<(), Memory> {
+        self.put(words)?;
+        colour.push(&mut self.text)
     }
 
     /// What follows up to the group's end has this title.
     pub fn begin_titled(&mut self, title: &str) -> Result<(), Memory> {
-        write!(self.text, "<g><title>{title}</title>")?;
-        Ok(())
-    }
-
-    pub fn end_group(&mut self) -> Result<(), Memory> {
-        self.text.push_str("</g>\n")?;
-        Ok(())
+        self.put("<g><title>")?;
+        self.put(title)?;
+        self.put("</title>")
     }
 
     /// What follows up to the group's end are lines of this width.
     pub fn begin_lines(&mut self, width: u64) -> Result<(), Memory> {
-        let width = Points(width);
-        write!(
-            self.text,
-            "<g fill=\"none\" stroke-width=\"{width}\" shape-rendering=\"crispEdges\">\n"
-        )?;
-        Ok(())
+        self.put_length("<g fill=\"none\" stroke-width=\"", width)?;
+        self.put("\" shape-rendering=\"crispEdges\">\n")
+    }
+
+    pub fn end_group(&mut self) -> Result<(), Memory> {
+        self.put("</g>\n")
     }
 
     /// A line to the right.
     pub fn line(&mut self, x: u64, y: u64, width: u64, colour: Colour) -> Result<(), Memory> {
-        let x = Points(x);
-        let y = Points(y);
-        let width = Points(width);
-        write!(
-            self.text,
-            "<path d=\"M{x} {y}h{width}\" stroke=\"{colour}\"/>\n"
-        )?;
-        Ok(())
+        self.put_length("<path d=\"M", x)?;
+        self.put_length(" ", y)?;
+        self.put_length("h", width)?;
+        self.put_colour("\" stroke=\"", colour)?;
+        self.put("\"/>\n")
     }
 
     fn begin_rect(&mut self, area: &Area) -> Result<(), Memory> {
-        let x = Points(area.x);
-        let y = Points(area.y);
-        let width = Points(area.width);
-        let height = Points(area.height);
-        write!(
-            self.text,
-            "<rect x=\"{x}\" y=\"{y}\" width=\"{width}\" height=\"{height}\""
-        )?;
-        Ok(())
+        self.put_length("<rect x=\"", area.x)?;
+        self.put_length("\" y=\"", area.y)?;
+        self.put_length("\" width=\"", area.width)?;
+        self.put_length("\" height=\"", area.height)
     }
 
     pub fn rect(&mut self, area: &Area, fill: Colour) -> Result<(), Memory> {
         self.begin_rect(area)?;
-        write!(self.text, " fill=\"{fill}\"/>\n")?;
-        Ok(())
+        self.put_colour("\" fill=\"", fill)?;
+        self.put("\"/>\n")
     }
 
     /// A rectangle with an edge.
     pub fn edged(&mut self, area: &Area, fill: Colour, edge: Colour) -> Result<(), Memory> {
         self.begin_rect(area)?;
-        write!(
-            self.text,
-            " fill=\"{fill}\" stroke=\"{edge}\" stroke-width=\"0.6\"/>\n"
-        )?;
-        Ok(())
+        self.put_colour("\" fill=\"", fill)?;
+        self.put_colour("\" stroke=\"", edge)?;
+        self.put("\" stroke-width=\"0.6\"/>\n")
     }
 
     /// An edge alone.
     pub fn edge(&mut self, area: &Area, edge: Colour) -> Result<(), Memory> {
         self.begin_rect(area)?;
-        write!(
-            self.text,
-            " fill=\"none\" stroke=\"{edge}\" stroke-width=\"0.6\"/>\n"
-        )?;
-        Ok(())
+        self.put_colour("\" fill=\"none\" stroke=\"", edge)?;
+        self.put("\" stroke-width=\"0.6\"/>\n")
     }
 
     /// A rectangle made paler and hatched.
     pub fn hatched(&mut self, area: &Area) -> Result<(), Memory> {
         self.begin_rect(area)?;
-        write!(self.text, " fill=\"{FREE}\" fill-opacity=\"0.55\"/>\n")?;
+        self.put_colour("\" fill=\"", FREE)?;
+        self.put("\" fill-opacity=\"0.55\"/>\n")?;
         self.begin_rect(area)?;
-        write!(
-            self.text,
-            " fill=\"url(#shared)\" stroke=\"{INK}\" stroke-width=\"0.8\"/>\n"
-        )?;
-        Ok(())
+        self.put_colour("\" fill=\"url(#shared)\" stroke=\"", INK)?;
+        self.put("\" stroke-width=\"0.8\"/>\n")
+    }
+
+    /// A foot of this height in a rectangle.
+    pub fn foot(&mut self, area: &Area, height: u64) -> Result<(), Memory> {
+        let top = area.y.saturating_add(area.height).saturating_sub(height);
+        let foot = Area {
+            y: top,
+            height,
+            ..*area
+        };
+        self.rect(&foot, INK)
     }
 
     /// A path's inside, with a thin edge.
     pub fn path(&mut self, steps: &str, fill: Colour) -> Result<(), Memory> {
-        write!(
-            self.text,
-            "<path d=\"{steps}\" fill=\"{fill}\" stroke=\"{INK}\" stroke-width=\"0.4\"/>\n"
-        )?;
-        Ok(())
+        self.put("<path d=\"")?;
+        self.put(steps)?;
+        self.put_colour("\" fill=\"", fill)?;
+        self.put_colour("\" stroke=\"", INK)?;
+        self.put("\" stroke-width=\"0.4\"/>\n")
     }
 
     /// A path's inside, white and hatched.
     pub fn hatched_path(&mut self, steps: &str) -> Result<(), Memory> {
-        write!(
-            self.text,
-            "<path d=\"{steps}\" fill=\"url(#white)\" stroke=\"{INK}\" stroke-width=\"0.6\"/>\n"
-        )?;
-        Ok(())
+        self.put("<path d=\"")?;
+        self.put(steps)?;
+        self.put_colour("\" fill=\"url(#white)\" stroke=\"", INK)?;
+        self.put("\" stroke-width=\"0.6\"/>\n")
     }
 
     /// Lines of this width along a path.
     pub fn lines(&mut self, steps: &str, width: u64) -> Result<(), Memory> {
-        let width = Points(width);
-        write!(
-            self.text,
-            "<path d=\"{steps}\" stroke=\"{INK}\" stroke-width=\"{width}\"/>\n"
-        )?;
-        Ok(())
+        self.put("<path d=\"")?;
+        self.put(steps)?;
+        self.put_colour("\" stroke=\"", INK)?;
+        self.put_length("\" stroke-width=\"", width)?;
+        self.put("\"/>\n")
     }
 
-    /// Words of plain ASCII, without marks that SVG reads.
-    pub fn words(&mut self, style: &Style, words: &str) -> Result<(), Memory> {
-        let x = Points(style.x);
-        let y = Points(style.y);
-        let size = style.size;
-        let colour = style.colour;
-        let anchor = match style.anchor {
-            Anchor::Start => "start",
-            Anchor::Middle => "middle",
-            Anchor::End => "end",
-        };
-        let weight = if style.bold { "bold" } else { "normal" };
-        write!(
-            self.text,
-            "<text x=\"{x}\" y=\"{y}\" font-size=\"{size}\" text-anchor=\"{anchor}\" font-weight=\"{weight}\" fill=\"{colour}\">{words}</text>\n"
-        )?;
-        Ok(())
+    fn begin_words(&mut self, x: u64, y: u64, style: &Style) -> Result<(), Memory> {
+        self.put_length("<text x=\"", x)?;
+        self.put_length("\" y=\"", y)?;
+        self.put_length("\" font-size=\"", style.size)?;
+        self.put(match style.anchor {
+            Anchor::Start => "\" text-anchor=\"start",
+            Anchor::Middle => "\" text-anchor=\"middle",
+            Anchor::End => "\" text-anchor=\"end",
+        })?;
+        self.put(if style.bold {
+            "\" font-weight=\"bold"
+        } else {
+            "\" font-weight=\"normal"
+        })?;
+        self.put_colour("\" fill=\"", style.colour)?;
+        self.put("\">")
+    }
+
+    /// Words of plain ASCII, without marks that SVG reads, on a base line.
+    pub fn words(&mut self, x: u64, y: u64, style: &Style, words: &str) -> Result<(), Memory> {
+        self.begin_words(x, y, style)?;
+        self.put(words)?;
+        self.put("</text>\n")
+    }
+
+    /// Such words and a number behind them.
+    pub fn numbered(
+        &mut self,
+        x: u64,
+        y: u64,
+        style: &Style,
+        words: &str,
+        number: u64,
+    ) -> Result<(), Memory> {
+        self.begin_words(x, y, style)?;
+        push_number(&mut self.text, words, number)?;
+        self.put("</text>\n")
     }
 }

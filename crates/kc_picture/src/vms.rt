@@ -1,7 +1,6 @@
 //! What happened to each VM: how many frames it had, line by line, and when it was there.
-use kc_types::{
-    Change, Custody, Event, FrameChange, Memory, Owner, Phase, PhaseChange, SLOT_LIMIT,
-};
+use crate::sums::{ONE_FEWER, ONE_MORE};
+use kc_types::{Change, Custody, Event, Memory, Owner, Phase, SLOT_LIMIT};
 use std::alloc::Global;
 
 /// How many frames a VM has from a line on, and how many of them it shares.
@@ -13,7 +12,7 @@ pub(crate) struct Step {
 }
 
 /// How the measuring of a VM's images ended.
-#[derive(Clone, Copy, PartialEq, Eq)]
+#[derive(Clone, Copy)]
 pub(crate) enum Measured {
     Not,
     /// Approved, by the call on this line.
@@ -63,7 +62,10 @@ impl Lane {
         most
     }
 
-    fn note(&mut self, line: u32) -> Result<(), Memory> {
+    /// From a line on it has so many frames more, and shares so many more.
+    fn count(&mut self, line: u32, frames: u64, shared: u64) -> Result<(), Memory> {
+        self.frames = self.frames.wrapping_add(frames);
+        self.shared = self.shared.wrapping_add(shared);
         self.steps.push(Step {
             line,
             frames: self.frames,
@@ -72,22 +74,7 @@ impl Lane {
         Ok(())
     }
 
-    fn lose(&mut self, line: u32, custody: &Custody) -> Result<(), Memory> {
-        self.frames = self.frames.saturating_sub(1);
-        if custody.share > 0 {
-            self.shared = self.shared.saturating_sub(1);
-        }
-        self.note(line)
-    }
-
-    fn gain(&mut self, line: u32, custody: &Custody) -> Result<(), Memory> {
-        self.frames = self.frames.saturating_add(1);
-        if custody.share > 0 {
-            self.shared = self.shared.saturating_add(1);
-        }
-        self.note(line)
-    }
-
+    /// From a line on its slot is in another phase.
     fn turn(&mut self, line: u32, phase: Phase) -> Result<(), Memory> {
         if phase == Phase::Booting {
             self.stays.push(Stay {
@@ -107,34 +94,16 @@ impl Lane {
     }
 }
 
-fn lose(lanes: &mut Vec<Lane>, line: u32, custody: &Custody) -> Result<(), Memory> {
-    if let Owner::Vm(vm) = custody.owner {
-        if let Some(lane) = lanes.get_mut(vm.index()) {
-            return lane.lose(line, custody);
-        }
+/// From a line on the owner of such a frame has so many of them more, where that is a VM.
+fn count(lanes: &mut Vec<Lane>, line: u32, custody: &Custody, frames: u64) -> Result<(), Memory> {
+    let Owner::Vm(vm) = custody.owner else {
+        return Ok(());
+    };
+    let shared = if custody.share > 0 { frames } else { 0 };
+    match lanes.get_mut(vm.index()) {
+        Some(lane) => lane.count(line, frames, shared),
+        None => Ok(()),
     }
-    Ok(())
-}
-
-fn gain(lanes: &mut Vec<Lane>, line: u32, custody: &Custody) -> Result<(), Memory> {
-    if let Owner::Vm(vm) = custody.owner {
-        if let Some(lane) = lanes.get_mut(vm.index()) {
-            return lane.gain(line, custody);
-        }
-    }
-    Ok(())
-}
-
-fn note_frame(lanes: &mut Vec<Lane>, told: &FrameChange) -> Result<(), Memory> {
-    lose(lanes, told.line, &told.before)?;
-    gain(lanes, told.line, &told.after)
-}
-
-fn note_phase(lanes: &mut Vec<Lane>, told: &PhaseChange) -> Result<(), Memory> {
-    if let Some(lane) = lanes.get_mut(told.vm as usize) {
-        return lane.turn(told.line, told.phase);
-    }
-    Ok(())
 }
 
 /// What happened to the VM in each slot, by slots.
@@ -145,8 +114,15 @@ pub(crate) fn lanes_of(alloc: Global, events: &[Event]) -> Result<Vec<Lane>, Mem
     }
     for event in events {
         match event {
-            Event::Change(Change::Frame(told)) => note_frame(&mut lanes, told)?,
-            Event::Change(Change::Phase(told)) => note_phase(&mut lanes, told)?,
+            Event::Change(Change::Frame(told)) => {
+                count(&mut lanes, told.line, &told.before, ONE_FEWER)?;
+                count(&mut lanes, told.line, &told.after, ONE_MORE)?;
+            },
+            Event::Change(Change::Phase(told)) => {
+                if let Some(lane) = lanes.get_mut(told.vm as usize) {
+                    lane.turn(told.line, told.phase)?;
+                }
+            },
             Event::Read { .. } | Event::Write { .. } => {},
         }
     }

@@ -1,57 +1,60 @@
 //! Numbers as a picture's texts spell them.
-use std::fmt;
+ghost use Rattle.std.specs.Prelude.{◌≡◌, ◌++◌, OnOk};
+ghost use Rattle.std.specs.Fmt.{decimal};
+ghost use Rattle.std.specs.String.{string_bytes};
 
-/// A length in hundredths of a point, spelt in points: 8650 as 86.5.
-#[derive(Clone, Copy)]
-pub(crate) struct Points(pub u64);
+use kc_types::Memory;
 
-impl fmt::Display for Points {
-    fn fmt<W: fmt::Write>(&self, f: &mut fmt::Formatter<W>) -> fmt::Result {
-        let whole = self.0 / 100;
-        let rest = self.0 % 100;
-        if rest == 0 {
-            write!(f, "{whole}")
-        } else if rest % 10 == 0 {
-            let tenths = rest / 10;
-            write!(f, "{whole}.{tenths}")
-        } else {
-            write!(f, "{whole}.{rest:02}")
-        }
-    }
+/// Appends some words and a number.
+pub(crate) fn push_number(text: &mut String, words: &str, number: u64) -> Result<(), Memory>
+    ensures { OnOk result (string_bytes text.new ≡ string_bytes text.old ++ (words.now ++ decimal number)) }
+{
+    write!(text, "{words}{number}")?;
+    Ok(())
 }
 
-/// A number with a comma between thousands: 65,536.
-#[derive(Clone, Copy)]
-pub(crate) struct Grouped(pub u64);
-
-impl fmt::Display for Grouped {
-    fn fmt<W: fmt::Write>(&self, f: &mut fmt::Formatter<W>) -> fmt::Result {
-        let thousands = self.0 / 1_000;
-        let ones = self.0 % 1_000;
-        if thousands == 0 {
-            write!(f, "{ones}")
-        } else if thousands < 1_000 {
-            write!(f, "{thousands},{ones:03}")
-        } else {
-            let millions = thousands / 1_000;
-            let thousands = thousands % 1_000;
-            write!(f, "{millions},{thousands:03},{ones:03}")
-        }
+/// Appends some words and a length in hundredths of a point, which is spelt in points: 8650 as 86.5.
+pub(crate) fn push_length(text: &mut String, words: &str, length: u64) -> Result<(), Memory> {
+    push_number(text, words, length / 100)?;
+    let rest = length % 100;
+    if rest > 0 {
+        push_number(text, ".", rest / 10)?;
     }
+    if rest % 10 > 0 {
+        push_number(text, "", rest % 10)?;
+    }
+    Ok(())
 }
 
-/// So many of what has this name: 1 call, 2 calls.
-#[derive(Clone, Copy)]
-pub(crate) struct Counted<'a>(pub u64, pub &'a str);
+/// Appends a comma, and the last three digits of a number.
+fn push_last_three(text: &mut String, number: u64) -> Result<(), Memory> {
+    push_number(text, ",", number / 100 % 10)?;
+    push_number(text, "", number / 10 % 10)?;
+    push_number(text, "", number % 10)
+}
 
-impl fmt::Display for Counted<'_> {
-    fn fmt<W: fmt::Write>(&self, f: &mut fmt::Formatter<W>) -> fmt::Result {
-        let count = Grouped(self.0);
-        let name = self.1;
-        if self.0 == 1 {
-            write!(f, "{count} {name}")
-        } else {
-            write!(f, "{count} {name}s")
-        }
+/// Appends a number with a comma between thousands: 65,536.
+fn push_grouped(text: &mut String, number: u64) -> Result<(), Memory> {
+    let thousands = number / 1_000;
+    if number < 1_000 {
+        return push_number(text, "", number);
     }
+    if number < 1_000_000 {
+        push_number(text, "", thousands)?;
+    } else {
+        push_number(text, "", thousands / 1_000)?;
+        push_last_three(text, thousands)?;
+    }
+    push_last_three(text, number)
+}
+
+/// Appends so many of what has this name: 1 call, 65,536 calls.
+pub(crate) fn push_count(text: &mut String, count: u64, name: &str) -> Result<(), Memory> {
+    push_grouped(text, count)?;
+    text.push_str(" ")?;
+    text.push_str(name)?;
+    if count != 1 {
+        text.push_str("s")?;
+    }
+    Ok(())
 }

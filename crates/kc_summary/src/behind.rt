@@ -10,7 +10,7 @@ use kc_types::{Change, Event, Life, Memory};
 use std::alloc::Global;
 
 /// What the events behind a place in a trace tell.
-#[derive(Debug, Drop)]
+#[derive(Drop)]
 pub(crate) struct Behind {
     tallies: Tallies,
     ends: Ends,

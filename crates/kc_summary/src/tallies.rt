@@ -15,7 +15,7 @@ use std::alloc::Global;
 use std::marker::Model;
 
 /// A tally of each slot.
-#[derive(Debug, Drop)]
+#[derive(Drop)]
 pub(crate) struct Tallies {
     slots: Vec<Tally>,
 }

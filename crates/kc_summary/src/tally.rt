@@ -10,7 +10,7 @@ use std::marker::Model;
 use std::mem;
 
 /// What events tell of a slot up to its life's end, gathered from the last of them to the first.
-#[derive(Debug, Drop)]
+#[derive(Drop)]
 pub(crate) struct Tally {
     active: Option<u32>,
     dead: Option<u32>,
