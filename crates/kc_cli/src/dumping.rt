@@ -10,6 +10,7 @@ ghost use Rattle.kc_texts.specs.Outcomes.{seen, TellsSources, TellsTexts, TellsR
 use crate::making::dump;
 use crate::replaying::replay_texts;
 use kc_core::KCore;
+use kc_digests::Lanes;
 use kc_dump_text::write_dump;
 use kc_replay::Outcome;
 use kc_texts::{Sink, Source, TextFault, write_whole};
@@ -19,11 +20,16 @@ use std::sync::Wait;
 use std::thread::Threads;
 
 /// The text of a core's dump. The core is wiped before it goes, whatever the outcome.
-fn text_of(rt: &(impl Threads + Sync), alloc: Global, core: KCore) -> Result<Vec<u8>, Memory>
+fn text_of(
+    rt: &(impl Threads + Sync),
+    alloc: Global,
+    core: KCore,
+    lanes: Lanes,
+) -> Result<Vec<u8>, Memory>
     ensures { IfOk result (λ text. text.items ≡ text_of_dump (dump_of core)) }
 {
     let mut core = core;
-    let dumped = dump(rt, alloc, &core);
+    let dumped = dump(rt, alloc, &core, lanes);
     core.wipe(rt);
     let dumped = dumped?;
     write_dump(alloc, &dumped)
@@ -35,6 +41,7 @@ fn give_dump<K: Sink>(
     alloc: Global,
     outcome: Outcome,
     out: &mut K,
+    lanes: Lanes,
 ) -> Result<(), TextFault>
     requires { K.failed out.old ≡ false }
     ensures ok { OnOk result (Appends (K.taken out.old) (K.taken out.new) (text_of_dump (dump_of outcome.core))) }
@@ -42,7 +49,7 @@ fn give_dump<K: Sink>(
     ensures fault { IfErr result (λ fault. (fault ≡ TextFault.Memory) ⊎ (fault ≡ TextFault.Write)) }
 {
     let Outcome { core, .. } = outcome;
-    let Ok(text) = text_of(rt, alloc, core) else {
+    let Ok(text) = text_of(rt, alloc, core, lanes) else {
         return Err(TextFault::Memory);
     };
     match write_whole(out, &text) {
@@ -52,8 +59,8 @@ fn give_dump<K: Sink>(
 }
 
 /// Reads a configuration and a trace, each to its end, makes the trace's calls by 1 to 64 workers as they are read, at most
-/// 4,096 in a segment, and writes the dump of the core that they leave. The number of workers is judged before anything is
-/// read.
+/// 4,096 in a segment, and writes the dump of the core that they leave. Its pages are hashed by several threads, of so many
+/// at once. The number of workers is judged before anything is read.
 ///
 /// Nothing is written but after the whole trace was read and answered, and its dump made. A source that fails, or that has more
 /// than 1,073,741,824 bytes, is `Read`, also where its bytes so far are refused already. Want of memory or a worker that
@@ -65,6 +72,7 @@ pub fn dump_text<C: Source, T: Source, K: Sink, R: Threads + Wait + Sync>(
     trace: &mut T,
     out: &mut K,
     workers: u32,
+    lanes: Lanes,
 ) -> Result<(), TextFault>
     requires config { C.failed config.old ≡ false }
     requires trace { T.failed trace.old ≡ false }
@@ -78,5 +86,5 @@ pub fn dump_text<C: Source, T: Source, K: Sink, R: Threads + Wait + Sync>(
     ensures sink { TellsSink (K.failed out.new) (Begins IsStateText (C.left config.old) (T.left trace.old) (K.taken out.old) (K.taken out.new)) (out.new ≡ out.old) result }
 {
     let outcome = replay_texts(rt, alloc, config, trace, workers)?;
-    give_dump(rt, alloc, outcome, out)
+    give_dump(rt, alloc, outcome, out, lanes)
 }

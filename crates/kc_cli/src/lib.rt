@@ -17,6 +17,7 @@ pub use dumping::dump_text;
 pub use engine::replay_text;
 pub use history::replay_history;
 pub use kc_args::{ArgFault, Job, job_of};
+pub use kc_digests::Lanes;
 pub use kc_texts::{
     DEFAULT_CONFIG, Failed, Mem, ReadFault, Sink, Source, Std, TextFault, audit_text, read_whole,
     tell, write_whole,

@@ -7,7 +7,7 @@ mod explaining;
 
 use crate::explaining::{Reading, explain_open, explain_words};
 use kc_cli::{
-    ArgFault, CustodyForm, DEFAULT_CONFIG, Job, Mem, Source, Std, TextFault, audit_text,
+    ArgFault, CustodyForm, DEFAULT_CONFIG, Job, Lanes, Mem, Source, Std, TextFault, audit_text,
     custody_text, dump_text, job_of, live_text, replay_text, tell,
 };
 use kc_explain::{Noted, Shown};
@@ -26,7 +26,8 @@ type Input<'a> = Noted<Shown<'a, Std<Stdin>, HostRuntime>>;
 #[derive(Clone, Copy)]
 enum Wanted {
     Replies,
-    Dump,
+    /// A dump, whose pages are hashed so many at once.
+    Dump(Lanes),
     /// The trace of a live run of it.
     History,
     /// What happened to frames and slots, of one slot's VM alone where it is named.
@@ -96,7 +97,15 @@ fn run_in<C: Source, R: Threads + Wait + Sync>(
     let mut out = Std::new(rt.stdout());
     match order.wanted {
         Wanted::Replies => replay_text(threads, alloc, config, trace, &mut out, order.workers),
-        Wanted::Dump => dump_text(threads, alloc, config, trace, &mut out, order.workers),
+        Wanted::Dump(lanes) => dump_text(
+            threads,
+            alloc,
+            config,
+            trace,
+            &mut out,
+            order.workers,
+            lanes,
+        ),
         Wanted::History => live_text(
             threads,
             alloc,
@@ -224,7 +233,22 @@ fn form_of(summary: bool, svg: bool) -> Option<CustodyForm> {
     }
 }
 
-fn run_job<R: Threads + Wait + Sync>(rt: &HostRuntime, threads: &R, job: Job<'_>) -> u8 {
+/// How many pages are hashed at once, by the program's own name, since code cannot ask what it is built for: that for newer
+/// processors (x86-64-v3) is dist/'s `kcore-x86_64-v3-linux` or an installed `kcore-v3`. By another name it is only slower.
+fn lanes_of(name: &str) -> Lanes {
+    if name.ends_with("-v3-linux") || name.ends_with("-v3") {
+        Lanes::Eight
+    } else {
+        Lanes::Four
+    }
+}
+
+fn run_job<R: Threads + Wait + Sync>(
+    rt: &HostRuntime,
+    threads: &R,
+    job: Job<'_>,
+    lanes: Lanes,
+) -> u8 {
     match job {
         Job::Replay {
             config,
@@ -235,7 +259,11 @@ fn run_job<R: Threads + Wait + Sync>(rt: &HostRuntime, threads: &R, job: Job<'_>
             let order = Order {
                 config,
                 workers,
-                wanted: if dump { Wanted::Dump } else { Wanted::Replies },
+                wanted: if dump {
+                    Wanted::Dump(lanes)
+                } else {
+                    Wanted::Replies
+                },
                 explain,
             };
             run_trace(rt, threads, order)
@@ -281,7 +309,7 @@ fn run<R: Threads + Wait + Sync>(rt: &HostRuntime, threads: &R) -> u8 {
         Ok(arguments) => arguments,
         Err(error) => return refuse_words(rt, &error),
     };
-    let Ok(words) = arguments.skip(1).collect::<Vec<String>>(rt.alloc()) else {
+    let Ok(words) = arguments.collect::<Vec<String>>(rt.alloc()) else {
         return fail(rt, TextFault::Memory);
     };
     let Ok(words) = words
@@ -291,9 +319,13 @@ fn run<R: Threads + Wait + Sync>(rt: &HostRuntime, threads: &R) -> u8 {
     else {
         return fail(rt, TextFault::Memory);
     };
-    match job_of(rt.alloc(), words.as_slice()) {
-        Ok(job) => run_job(rt, threads, job),
-        Err(fault) => refuse(rt, words.as_slice(), fault),
+    let (lanes, words) = match words.as_slice().split_first() {
+        Some((name, words)) => (lanes_of(name), words),
+        None => (Lanes::Four, words.as_slice()),
+    };
+    match job_of(rt.alloc(), words) {
+        Ok(job) => run_job(rt, threads, job, lanes),
+        Err(fault) => refuse(rt, words, fault),
     }
 }
 
