@@ -1,13 +1,14 @@
 -- Facts of the lanes of a vector.
-use Rattle.std.proofs.Common.{◌≡◌, ℕ, zero, suc, ◌<◌, ◌≤◌, ◌+◌, ◌-◌, ◌*◌, ◌/◌, ◌%◌, ◌^◌, ◌∙◌, List, [], ◌∷◌, length, drop, get_or, replicate, set, slice_index, bit_or, arith, inl, inr, refl, sym, ap, ap₂, subst, get_or-drop, get_or-take}
+use Rattle.std.proofs.Common.{◌≡◌, ℕ, zero, suc, ◌<◌, ◌≤◌, ◌+◌, ◌-◌, ◌*◌, ◌/◌, ◌%◌, ◌^◌, ◌∙◌, List, [], ◌∷◌, length, drop, get_or, replicate, set, slice_index, bit_or, arith, inl, inr, refl, sym, ap, ap₂, subst, take, length-take-le, get_or-drop, get_or-take}
 use Rattle.std.proofs.lemmas.Bool.{cases_lt}
 use Rattle.std.proofs.lemmas.Simd.{get_or-replicate, get_or-zip2, length-replicate, length-zip2}
+use Rattle.std.specs.Borrow.{Bor}
 use Rattle.std.specs.Int.{w32, rotate_right}
 use Rattle.std.specs.Simd.Lanes.{zip2}
 use Rattle.std.specs.Prelude.{slice_set}
 use Rattle.std.proofs.lemmas.List.{get_or-map, get_or-set_other, get_or-set_same, map-set}
 use Rattle.sha2.specs.Sha256.{word_at}
-use Rattle.kc_digests.specs.Lanes.{block, lane}
+use Rattle.kc_digests.specs.Lanes.{block, lane, part_of}
 
 -- what holds of each of four
 pub below_four : (P : ℕ → Type 0) → P 0 → P 1 → P 2 → P 3 → (j : ℕ) → j < 4 → P j
@@ -68,3 +69,10 @@ slice_index-lane word w k j none low = get_or-map (λ x. word x j) w k none 0 lo
 -- a vector written at k writes each lane
 pub lane-set : {V : Type 0} (word : V → ℕ → ℕ) (w : List V) (k : ℕ) (x : V) (j : ℕ) → lane word j (slice_set w k x) ≡ slice_set (lane word j w) k (word x j)
 lane-set word w k x j = map-set (λ y. word y j) w k x
+
+-- the same message in each place
+pub part_of-repeated : (message : Bor (List ℕ)) (n most j : ℕ) → j < n → n ≤ most → part_of j (take n (replicate most message)) ≡ message.now
+part_of-repeated message n most j low fits =
+    let long = length-replicate most message in
+    get_or-map (λ part. part.now) (take n (replicate most message)) j message [] (omega (arith, length-take-le n (replicate most message) (omega (arith, long, fits))))
+    ∙ ap (λ part. part.now) (get_or-take n (replicate most message) j message low ∙ get_or-replicate most j message message (omega (arith, low, fits)))

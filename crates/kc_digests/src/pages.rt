@@ -80,13 +80,22 @@ fn are_zero(pages: &[Page]) -> bool
 fn bytes_of(pages: &[Page]) -> [&[u8]; MOST_LANES]
     requires { length pages.now ≤ 8 }
     ensures bytes { map (λ page. page.now) (take (length pages.now) result) ≡ map (λ page. page.bytes) pages.now }
-    ensures whole { All (λ page. length page.now ≡ page_size) result }
+    ensures whole { All (λ page. length page.now ≡ page_size) (take (length pages.now) result) }
 {
     let mut bytes = [&ZERO_PAGE[..]; MOST_LANES];
     'pages: for i in 0..pages.len() {
         bytes[i] = pages[i].bytes.as_slice();
     }
     bytes
+}
+
+/// Writes one digest in each place.
+fn fill(out: &mut [[u8; 32]], digest: [u8; 32])
+    ensures { out.new ≡ replicate (length out.old) digest }
+{
+    'places: for i in 0..out.len() {
+        out[i] = digest;
+    }
 }
 
 /// Writes the digests of as many pages as there are lanes, in order, where that of a page of zero bytes is known, so that
@@ -98,9 +107,9 @@ fn digest_pages<V: Vector>(pages: &[Page], zero: [u8; 32], out: &mut [[u8; 32]])
     ensures { out.new ≡ map digest_of pages.now }
 {
     if are_zero(pages) {
-        out.fill(zero);
+        fill(out, zero);
     } else {
-        hash_pages::<V>(&bytes_of(pages)[..V::LANES], out);
+        hash_pages::<V>(&bytes_of(pages)[..pages.len()], out);
     }
 }
 
@@ -110,10 +119,11 @@ fn write_by<V: Vector>(pages: &[Page], out: &mut [[u8; 32]])
     ensures { out.new ≡ map digest_of pages.now }
 {
     let zero = zero_digest();
+    let lanes = V::LANES;
     let mut at = 0;
-    'turns: while pages.len() - at >= V::LANES {
-        digest_pages::<V>(&pages[at..at + V::LANES], zero, &mut out[at..at + V::LANES]);
-        at += V::LANES;
+    'turns: while pages.len() - at >= lanes {
+        digest_pages::<V>(&pages[at..at + lanes], zero, &mut out[at..at + lanes]);
+        at += lanes;
     }
     'rest: for i in at..pages.len() {
         out[i] = Sha256::digest(pages[i].bytes.as_slice());

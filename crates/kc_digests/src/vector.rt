@@ -1,5 +1,6 @@
 //! Vectors of words, with one lane for each message: of four lanes and of eight.
-ghost use Rattle.std.specs.Prelude.{◌≡◌, ℕ, ◌+◌, ◌-◌, ◌/◌, ◌^◌, ◌<◌, ◌≤◌, All, bit_and, bit_xor, length, slice_index};
+ghost use Rattle.std.specs.Prelude.{◌≡◌, ℕ, ◌+◌, ◌-◌, ◌*◌, ◌/◌, ◌^◌, ◌<◌, ◌≤◌, All, bit_and, bit_xor, length, slice_index};
+ghost use Rattle.std.specs.Mem.{type_size};
 ghost use Rattle.std.specs.Int.{w32, bit_not, rotate_right};
 ghost use Rattle.sha2.specs.Sha256.{add32, word_at};
 ghost use Rattle.kc_digests.specs.Lanes.{part_of};
@@ -59,6 +60,8 @@ pub(crate) trait Vector: Copy {
     ghost some: { 0 < LANES };
 
     ghost few: { LANES ≤ 8 };
+
+    ghost small: { 16 * type_size Self.row < 2 ^ 63 };
 }
 
 fn load_word(block: &[u8], at: usize) -> u32
@@ -127,6 +130,8 @@ impl Vector for u32x4 {
     ghost some = { Prim.search rules };
 
     ghost few = { Prim.search rules };
+
+    ghost small = { Prim.search rules };
 }
 
 impl Vector for u32x8 {
@@ -192,4 +197,6 @@ impl Vector for u32x8 {
     ghost some = { Prim.search rules };
 
     ghost few = { Prim.search rules };
+
+    ghost small = { Prim.search rules };
 }
