@@ -1,5 +1,5 @@
 -- Facts of the lanes of a vector.
-use Rattle.std.proofs.Common.{◌≡◌, ℕ, zero, suc, ◌<◌, ◌≤◌, ◌+◌, ◌-◌, ◌*◌, ◌/◌, ◌%◌, ◌^◌, ◌∙◌, List, [], ◌∷◌, length, drop, get_or, replicate, set, slice_index, bit_or, arith, inl, inr, refl, sym, ap, ap₂, subst, take, length-take-le, get_or-drop, get_or-take}
+use Rattle.std.proofs.Common.{◌≡◌, ℕ, zero, suc, ◌<◌, ◌≤◌, ◌+◌, ◌-◌, ◌*◌, ◌/◌, ◌%◌, ◌^◌, ◌∙◌, List, [], length, drop, get_or, replicate, set, slice_index, bit_or, arith, inl, inr, refl, sym, ap, ap₂, subst, take, length-take-le, get_or-drop, get_or-take}
 use Rattle.std.proofs.lemmas.Bool.{cases_lt}
 use Rattle.std.proofs.lemmas.Simd.{get_or-replicate, get_or-zip2, length-replicate, length-zip2}
 use Rattle.std.specs.Borrow.{Bor}

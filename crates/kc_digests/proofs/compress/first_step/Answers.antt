@@ -1,4 +1,4 @@
-use Rattle.std.proofs.Common.{◌∙◌, arith, length, refl, sym}
+use Rattle.std.proofs.Common.{◌∙◌, arith, refl, sym}
 use Rattle.std.proofs.lemmas.List.{length-map}
 use Rattle.sha2.proofs.Schedule256.{rounds_first}
 use Rattle.kc_digests.specs.Lanes.{lane, state_lane}

@@ -1,4 +1,4 @@
-use Rattle.std.proofs.Common.{◌≡◌, ◌*◌, ◌∙◌, ℕ, ap, sym, arith, slice_index}
+use Rattle.std.proofs.Common.{◌≡◌, ◌*◌, ◌∙◌, ap, sym, arith, slice_index}
 use Rattle.std.proofs.lemmas.List.{length-map, length-set}
 use Rattle.sha2.specs.Sha256.{word_at}
 use Rattle.kc_digests.specs.Lanes.{block, lane, part_of}

@@ -1,4 +1,3 @@
-use denote.Bor.{Bor}
 use Rattle.std.proofs.Common.{◌≡◌, length, take, map}
 use Rattle.std.specs.List.{All}
 use Rattle.kc_digests.proofs.pages.bytes_of.Given as goal

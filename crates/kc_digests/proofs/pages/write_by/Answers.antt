@@ -1,4 +1,4 @@
-use Rattle.std.proofs.Common.{◌≡◌, ◌+◌, ◌-◌, ◌++◌, ◌∙◌, ℕ, length, map, take, drop, ap, ap₂, arith, refl, rules, sym}
+use Rattle.std.proofs.Common.{◌≡◌, ◌+◌, ◌-◌, ◌++◌, ◌∙◌, ℕ, length, map, take, drop, ap, ap₂, arith, rules, sym}
 use Rattle.std.proofs.lemmas.List.{length-drop, length-map, length-take-le}
 use Rattle.std.proofs.lemmas.Slice.{overwrites, take-put_mid}
 use Rattle.kc_digests.specs.Digests.{digest_of}
