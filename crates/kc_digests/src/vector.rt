@@ -11,7 +11,7 @@ use std::simd::{u32x4, u32x8};
 /// The most lanes of a vector.
 pub(crate) const MOST_LANES: usize = 8;
 
-/// A word of each message.
+/// A vector that has a word of each message.
 pub(crate) trait Vector: Copy {
     /// The word of a message.
     ghost word: { Self → ℕ → ℕ };
@@ -59,8 +59,10 @@ pub(crate) trait Vector: Copy {
 
     ghost some: { 0 < LANES };
 
+    /// MOST_LANES.
     ghost few: { LANES ≤ 8 };
 
+    /// The words of a block fit in memory.
     ghost small: { 16 * type_size Self.row < 2 ^ 63 };
 }
 
