@@ -175,5 +175,6 @@ def place(crate, path, function):
         files = sorted((crate / "src").glob("**/*.rt"))
         path = next((it.relative_to(crate) for it in files if declares.search(it.read_text())), path)
     modules = [it for it in pathlib.PurePath(path).with_suffix("").parts[1:] if it not in ("lib", "main", "mod")]
-    names = [f"{owner[3]}{owner[1] or ''}{owner[2] or ''}"] if owner else []
+    # Of a name like u32x4, rattle's has a capital.
+    names = [f"{owner[3][0].upper()}{owner[3][1:]}{owner[1] or ''}{owner[2] or ''}"] if owner else []
     return (*modules, *names, function.name)

@@ -7,7 +7,7 @@ use Rattle.kc_model.specs.State.{State}
 use Rattle.kc_state_text.specs.StateText.{state_text}
 use Rattle.kc_texts.specs.declared.origin.Origin.{Origin}
 use Rattle.kc_texts.specs.Reading.{BeginsIn, Writes, Begins}
-use Rattle.kc_cli.specs.declared.giving.ReplayForm.{ReplayForm}
+use Rattle.kc_cli.specs.declared.order.ReplayForm.{ReplayForm}
 use Rattle.kc_cli.specs.Engine.{IsReplayed, AreReplayed, IsReplayText, IsLeftText, written_text}
 
 pub are_replayed : (origin : Origin) (start_left trace_left : Option (List ℕ)) (start : State) (replies : List Reply) (core : State) → IfSome start_left (λ text. BeginsIn origin text start) → IfSome trace_left (λ text. IsReplayed start text replies core) → AreReplayed origin start_left trace_left replies core

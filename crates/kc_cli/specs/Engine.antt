@@ -14,8 +14,8 @@ use Rattle.kc_state_text.specs.StateText.{state_text}
 use Rattle.kc_state_text.specs.declared.fault.StateFault.{StateFault}
 use Rattle.kc_texts.specs.declared.origin.Origin.{Origin}
 use Rattle.kc_texts.specs.Reading.{BeginsIn, IsTold}
-use Rattle.kc_cli.specs.declared.giving.ReplayForm.{ReplayForm}
-use Rattle.kc_cli.specs.declared.giving.ReplayForm.TheVariants as forms
+use Rattle.kc_cli.specs.declared.order.ReplayForm.{ReplayForm}
+use Rattle.kc_cli.specs.declared.order.ReplayForm.TheVariants as forms
 use Rattle.kc_texts.specs.declared.fault.TextFault.{TextFault}
 use Rattle.kc_texts.specs.declared.fault.TextFault.TheVariants as texts
 

@@ -14,6 +14,7 @@ ghost use Rattle.kc_cli.specs.Custody.{AreEventsOf, IsCustodyTold, IsCustodyText
 
 use crate::account::{CustodyForm, FIRST_LINE, Told, give_told};
 use kc_core::KCore;
+use kc_digests::Lanes;
 use kc_custody::tell_calls;
 use crate::starting::read_start;
 use kc_texts::{CallStream, Origin, PIECE, Sink, Source, TextFault};
@@ -96,25 +97,27 @@ fn told_texts<C: Source, T: Source>(
     alloc: Global,
     start: &mut C,
     trace: &mut T,
-    origin: Origin,
+    order: CustodyOrder,
 ) -> Result<Told, TextFault>
     requires start { C.failed start.old ≡ false }
     requires trace { T.failed trace.old ≡ false }
-    ensures ok { IfOk result (λ told. (m : State) × IfSome (C.left start.old) (λ text. BeginsIn origin text m) × (told.config ≡ m.config) × IsCustodyTold m (T.left trace.old) told.calls told.events.items) }
+    ensures ok { IfOk result (λ told. (m : State) × IfSome (C.left start.old) (λ text. BeginsIn order.origin text m) × (told.config ≡ m.config) × IsCustodyTold m (T.left trace.old) told.calls told.events.items) }
     ensures sources { TellsSources (seen (C.failed start.new) (C.left start.old) (C.left start.new) ∷ seen (T.failed trace.new) (T.left trace.old) (T.left trace.new) ∷ []) result }
-    ensures texts { TellsTexts origin (seen (C.failed start.new) (C.left start.old) (C.left start.new)) (seen (T.failed trace.new) (T.left trace.old) (T.left trace.new)) (trace.new ≡ trace.old) result }
-    ensures replay { TellsReplay 1 origin (C.left start.old) result }
+    ensures texts { TellsTexts order.origin (seen (C.failed start.new) (C.left start.old) (C.left start.new)) (seen (T.failed trace.new) (T.left trace.old) (T.left trace.new)) (trace.new ≡ trace.old) result }
+    ensures replay { TellsReplay 1 order.origin (C.left start.old) result }
     ensures write { result ≢ Err TextFault.Write }
 {
-    let core = read_start(rt, alloc, start, origin)?;
+    let core = read_start(rt, alloc, start, order.origin, order.lanes)?;
     told_source(rt, alloc, core, trace)
 }
 
 /// How what happened is told.
-#[derive(Clone, Copy, Debug, PartialEq, Eq)]
+#[derive(Clone, Copy)]
 pub struct CustodyOrder {
     /// What the calls begin with.
     pub origin: Origin,
+    /// How many pages are hashed at once.
+    pub lanes: Lanes,
     /// What is written.
     pub form: CustodyForm,
     /// The slot whose VM alone is told of, 0 to 63, where one is named.
@@ -147,6 +150,6 @@ pub fn custody_text<C: Source, T: Source, K: Sink>(
     ensures replay { TellsReplay 1 order.origin (C.left start.old) result }
     ensures sink { TellsSink (K.failed out.new) (Begins (IsCustodyText order.origin order.form order.vm) (C.left start.old) (T.left trace.old) (K.taken out.old) (K.taken out.new)) (out.new ≡ out.old) result }
 {
-    let told = told_texts(rt, alloc, start, trace, order.origin)?;
+    let told = told_texts(rt, alloc, start, trace, order)?;
     give_told(alloc, told, order.form, order.vm, out)
 }

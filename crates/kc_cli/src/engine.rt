@@ -7,26 +7,17 @@ ghost use Rattle.kc_texts.specs.Reading.{Writes, Begins};
 ghost use Rattle.kc_cli.specs.Engine.{IsReplayText, IsLeftText};
 ghost use Rattle.kc_texts.specs.Outcomes.{seen, TellsSources, TellsTexts, TellsReplay, TellsSink};
 
-use crate::giving::{ReplayForm, give_outcome};
+use crate::giving::give_outcome;
+use crate::order::ReplayOrder;
 use crate::replaying::replay_texts;
 use kc_core::KCore;
+use kc_digests::Lanes;
 use kc_replay::Outcome;
 use kc_state_text::is_state_text;
-use kc_texts::{Origin, Sink, Source, TextFault, read_whole};
+use kc_texts::{Sink, Source, TextFault, read_whole};
 use std::alloc::Global;
 use std::sync::Wait;
 use std::thread::Threads;
-
-/// How a trace is replayed.
-#[derive(Clone, Copy, Debug, PartialEq, Eq)]
-pub struct ReplayOrder {
-    /// What the calls begin with.
-    pub origin: Origin,
-    /// What is written.
-    pub form: ReplayForm,
-    /// How many workers may make the calls, 1 to 64.
-    pub workers: u32,
-}
 
 /// Reads what the calls begin with and a trace, each to its end, has 1 to 64 workers make the trace's calls as they are read,
 /// at most 4,096 in a segment, and writes what is wanted: the reply text, the dump of the core that the trace leaves, or the
@@ -54,8 +45,8 @@ pub fn replay_text<C: Source, T: Source, K: Sink, R: Threads + Wait + Sync>(
     ensures replay { TellsReplay order.workers order.origin (C.left start.old) result }
     ensures sink { TellsSink (K.failed out.new) (Begins (IsReplayText order.origin order.form) (C.left start.old) (T.left trace.old) (K.taken out.old) (K.taken out.new)) (out.new ≡ out.old) result }
 {
-    let outcome = replay_texts(rt, alloc, start, trace, order.origin, order.workers)?;
-    give_outcome(rt, alloc, outcome, order.form, out)
+    let outcome = replay_texts(rt, alloc, start, trace, order)?;
+    give_outcome(rt, alloc, outcome, order, out)
 }
 
 /// Whether what a source has left is the text of a core's state. The text's memory is wiped.
@@ -64,6 +55,7 @@ fn is_left<S: Source>(
     alloc: Global,
     core: &KCore,
     to: &mut S,
+    lanes: Lanes,
 ) -> Result<bool, TextFault>
     requires { S.failed to.old ≡ false }
     ensures ok { IfOk result (λ same. IfSome (S.left to.old) (λ text. IsTrue same ↔ (text ≡ state_text core.now))) }
@@ -73,7 +65,7 @@ fn is_left<S: Source>(
     ensures fault { IfErr result (λ fault. (fault ≡ TextFault.Memory) ⊎ (fault ≡ TextFault.Read)) }
 {
     let mut text = read_whole(alloc, to)?;
-    let same = is_state_text(rt, alloc, core, &text);
+    let same = is_state_text(rt, alloc, core, &text, lanes);
     text.fill(0);
     match same {
         Ok(same) => Ok(same),
@@ -105,8 +97,8 @@ pub fn replay_to_text<C: Source, T: Source, S: Source, K: Sink, R: Threads + Wai
     ensures replay { TellsReplay order.workers order.origin (C.left start.old) result }
     ensures sink { TellsSink (K.failed out.new) (Begins (IsReplayText order.origin order.form) (C.left start.old) (T.left trace.old) (K.taken out.old) (K.taken out.new)) (out.new ≡ out.old) result }
 {
-    let outcome = replay_texts(rt, alloc, start, trace, order.origin, order.workers)?;
-    let same = match is_left(rt, alloc, &outcome.core, to) {
+    let outcome = replay_texts(rt, alloc, start, trace, order)?;
+    let same = match is_left(rt, alloc, &outcome.core, to, order.lanes) {
         Ok(same) => same,
         Err(fault) => {
             let mut core = outcome.core;
@@ -114,6 +106,6 @@ pub fn replay_to_text<C: Source, T: Source, S: Source, K: Sink, R: Threads + Wai
             return Err(fault);
         },
     };
-    give_outcome(rt, alloc, outcome, order.form, out)?;
+    give_outcome(rt, alloc, outcome, order, out)?;
     Ok(same)
 }

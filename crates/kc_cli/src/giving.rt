@@ -8,7 +8,9 @@ ghost use Rattle.kc_state_text.specs.StateText.{state_text};
 ghost use Rattle.kc_texts.specs.Outcomes.{TellsSink};
 ghost use Rattle.kc_cli.specs.Engine.{written_text};
 
+use crate::order::{ReplayForm, ReplayOrder};
 use kc_core::KCore;
+use kc_digests::Lanes;
 use kc_dump_text::write_dump;
 use kc_replay::Outcome;
 use kc_state::dump;
@@ -17,17 +19,6 @@ use kc_texts::{Failed, Sink, TextFault, empty_piece, give_replies, write_whole};
 use kc_types::{Memory, Reply};
 use std::alloc::Global;
 use std::thread::Threads;
-
-/// What is written of a replay.
-#[derive(Clone, Copy, Debug, PartialEq, Eq)]
-pub enum ReplayForm {
-    /// The replies, a line each.
-    Replies,
-    /// The dump of the core that the trace leaves.
-    Dump,
-    /// The text of the state that it leaves.
-    State,
-}
 
 /// Gives the text of replies.
 fn give_text<K: Sink>(alloc: Global, replies: &[Reply], out: &mut K) -> Result<(), TextFault>
@@ -47,10 +38,15 @@ fn give_text<K: Sink>(alloc: Global, replies: &[Reply], out: &mut K) -> Result<(
 }
 
 /// The text of a core's dump.
-fn text_of(rt: &(impl Threads + Sync), alloc: Global, core: &KCore) -> Result<Vec<u8>, Memory>
+fn text_of(
+    rt: &(impl Threads + Sync),
+    alloc: Global,
+    core: &KCore,
+    lanes: Lanes,
+) -> Result<Vec<u8>, Memory>
     ensures { IfOk result (λ text. text.items ≡ dump_text (dump_of core.now)) }
 {
-    let dumped = dump(rt, alloc, core)?;
+    let dumped = dump(rt, alloc, core, lanes)?;
     write_dump(alloc, &dumped)
 }
 
@@ -59,6 +55,7 @@ fn give_dump<K: Sink>(
     rt: &(impl Threads + Sync),
     alloc: Global,
     core: &KCore,
+    lanes: Lanes,
     out: &mut K,
 ) -> Result<(), TextFault>
     requires { K.failed out.old ≡ false }
@@ -66,7 +63,7 @@ fn give_dump<K: Sink>(
     ensures sink { TellsSink (K.failed out.new) ((n : ℕ) × Appends (K.taken out.old) (K.taken out.new) (take n (dump_text (dump_of core.now)))) (out.new ≡ out.old) result }
     ensures fault { IfErr result (λ fault. (fault ≡ TextFault.Memory) ⊎ (fault ≡ TextFault.Write)) }
 {
-    let Ok(text) = text_of(rt, alloc, core) else {
+    let Ok(text) = text_of(rt, alloc, core, lanes) else {
         return Err(TextFault::Memory);
     };
     match write_whole(out, &text) {
@@ -98,6 +95,7 @@ fn give_state<K: Sink>(
     rt: &(impl Threads + Sync),
     alloc: Global,
     core: &KCore,
+    lanes: Lanes,
     out: &mut K,
 ) -> Result<(), TextFault>
     requires { K.failed out.old ≡ false }
@@ -106,7 +104,7 @@ fn give_state<K: Sink>(
     ensures fault { IfErr result (λ fault. (fault ≡ TextFault.Memory) ⊎ (fault ≡ TextFault.Write)) }
 {
     // All memory that writing takes is there before the first byte is written.
-    let Ok(pieces) = StatePieces::new(rt, alloc, core) else {
+    let Ok(pieces) = StatePieces::new(rt, alloc, core, lanes) else {
         return Err(TextFault::Memory);
     };
     let Ok(piece) = empty_piece(alloc) else {
@@ -123,20 +121,20 @@ pub(crate) fn give_outcome<K: Sink>(
     rt: &(impl Threads + Sync),
     alloc: Global,
     outcome: Outcome,
-    form: ReplayForm,
+    order: ReplayOrder,
     out: &mut K,
 ) -> Result<(), TextFault>
     requires { K.failed out.old ≡ false }
-    ensures ok { OnOk result (Appends (K.taken out.old) (K.taken out.new) (written_text form outcome.replies.items outcome.core)) }
-    ensures sink { TellsSink (K.failed out.new) ((n : ℕ) × Appends (K.taken out.old) (K.taken out.new) (take n (written_text form outcome.replies.items outcome.core))) (out.new ≡ out.old) result }
+    ensures ok { OnOk result (Appends (K.taken out.old) (K.taken out.new) (written_text order.form outcome.replies.items outcome.core)) }
+    ensures sink { TellsSink (K.failed out.new) ((n : ℕ) × Appends (K.taken out.old) (K.taken out.new) (take n (written_text order.form outcome.replies.items outcome.core))) (out.new ≡ out.old) result }
     ensures fault { IfErr result (λ fault. (fault ≡ TextFault.Memory) ⊎ (fault ≡ TextFault.Write)) }
 {
     let Outcome { replies, core } = outcome;
     let mut core = core;
-    let given = match form {
+    let given = match order.form {
         ReplayForm::Replies => give_text(alloc, &replies, out),
-        ReplayForm::Dump => give_dump(rt, alloc, &core, out),
-        ReplayForm::State => give_state(rt, alloc, &core, out),
+        ReplayForm::Dump => give_dump(rt, alloc, &core, order.lanes, out),
+        ReplayForm::State => give_state(rt, alloc, &core, order.lanes, out),
     };
     core.wipe(rt);
     given

@@ -8,17 +8,19 @@ mod engine;
 mod giving;
 mod history;
 mod live;
+mod order;
 mod replaying;
 mod starting;
 
 pub use account::CustodyForm;
 pub use custody::{CustodyOrder, custody_text};
-pub use engine::{ReplayOrder, replay_text, replay_to_text};
-pub use giving::ReplayForm;
+pub use engine::{replay_text, replay_to_text};
 pub use history::replay_history;
 pub use kc_args::{ArgFault, Job, job_of};
+pub use kc_digests::Lanes;
 pub use kc_texts::{
     DEFAULT_CONFIG, Failed, Mem, Origin, ReadFault, Sink, Source, Std, TextFault, audit_text,
     read_whole, tell, write_whole,
 };
 pub use live::live_text;
+pub use order::{ReplayForm, ReplayOrder};

@@ -12,10 +12,11 @@ ghost use Rattle.kc_replay.specs.Replayer.{IsFed};
 ghost use Rattle.kc_cli.specs.Engine.{IsReplayed, AreReplayed, IsReplayFault};
 ghost use Rattle.kc_texts.specs.Outcomes.{seen, TellsSources, TellsTexts, TellsReplay};
 
+use crate::order::ReplayOrder;
 use crate::starting::read_start;
 use kc_core::KCore;
 use kc_replay::{OpenGate, Outcome, ReplayFault, Replayer};
-use kc_texts::{CallStream, Origin, PIECE, Source, TextFault};
+use kc_texts::{CallStream, PIECE, Source, TextFault};
 use kc_types::{Call, Reply, WORKER_LIMIT};
 use std::alloc::Global;
 use std::sync::Wait;
@@ -157,20 +158,19 @@ pub(crate) fn replay_texts<C: Source, T: Source, R: Threads + Wait + Sync>(
     alloc: Global,
     start: &mut C,
     trace: &mut T,
-    origin: Origin,
-    workers: u32,
+    order: ReplayOrder,
 ) -> Result<Outcome, TextFault>
     requires start { C.failed start.old ≡ false }
     requires trace { T.failed trace.old ≡ false }
-    ensures ok { IfOk result (λ outcome. AreReplayed origin (C.left start.old) (T.left trace.old) outcome.replies.items outcome.core) }
+    ensures ok { IfOk result (λ outcome. AreReplayed order.origin (C.left start.old) (T.left trace.old) outcome.replies.items outcome.core) }
     ensures sources { TellsSources (seen (C.failed start.new) (C.left start.old) (C.left start.new) ∷ seen (T.failed trace.new) (T.left trace.old) (T.left trace.new) ∷ []) result }
-    ensures texts { TellsTexts origin (seen (C.failed start.new) (C.left start.old) (C.left start.new)) (seen (T.failed trace.new) (T.left trace.old) (T.left trace.new)) (trace.new ≡ trace.old) result }
-    ensures replay { TellsReplay workers origin (C.left start.old) result }
+    ensures texts { TellsTexts order.origin (seen (C.failed start.new) (C.left start.old) (C.left start.new)) (seen (T.failed trace.new) (T.left trace.old) (T.left trace.new)) (trace.new ≡ trace.old) result }
+    ensures replay { TellsReplay order.workers order.origin (C.left start.old) result }
     ensures write { result ≢ Err TextFault.Write }
 {
-    if workers == 0 || workers as usize > WORKER_LIMIT {
+    if order.workers == 0 || order.workers as usize > WORKER_LIMIT {
         return Err(TextFault::Workers);
     }
-    let core = read_start(rt, alloc, start, origin)?;
-    replay_source(rt, alloc, core, trace, workers)
+    let core = read_start(rt, alloc, start, order.origin, order.lanes)?;
+    replay_source(rt, alloc, core, trace, order.workers)
 }

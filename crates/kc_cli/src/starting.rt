@@ -10,6 +10,7 @@ ghost use Rattle.kc_texts.specs.Ends.{ReadFailed};
 ghost use Rattle.kc_texts.specs.Reading.{BeginsIn, IsConfigFault, IsStartFault};
 
 use kc_core::KCore;
+use kc_digests::Lanes;
 use kc_state_text::read_state;
 use kc_texts::{Origin, Source, TextFault, read_configuration, read_whole};
 use std::alloc::Global;
@@ -39,6 +40,7 @@ fn read_core<C: Source>(
     rt: &(impl Threads + Sync),
     alloc: Global,
     start: &mut C,
+    lanes: Lanes,
 ) -> Result<KCore, TextFault>
     requires { C.failed start.old ≡ false }
     ensures ok { IfOk result (λ core. IfSome (C.left start.old) (λ text. BeginsIn Origin.State text core)) }
@@ -52,7 +54,7 @@ fn read_core<C: Source>(
     ensures config { (fault : ConfigTextFault) → result ≡ Err (TextFault.Config fault) → ⊥ }
 {
     let mut text = read_whole(alloc, start)?;
-    let core = read_state(rt, alloc, &text);
+    let core = read_state(rt, alloc, &text, lanes);
     text.fill(0);
     let core = core?;
     Ok(core)
@@ -65,6 +67,7 @@ pub(crate) fn read_start<C: Source>(
     alloc: Global,
     start: &mut C,
     origin: Origin,
+    lanes: Lanes,
 ) -> Result<KCore, TextFault>
     requires { C.failed start.old ≡ false }
     ensures ok { IfOk result (λ core. IfSome (C.left start.old) (λ text. BeginsIn origin text core)) }
@@ -79,6 +82,6 @@ pub(crate) fn read_start<C: Source>(
 {
     match origin {
         Origin::Boot => boot_core(alloc, start),
-        Origin::State => read_core(rt, alloc, start),
+        Origin::State => read_core(rt, alloc, start, lanes),
     }
 }

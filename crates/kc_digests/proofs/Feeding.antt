@@ -1,5 +1,5 @@
 -- The hash value of a message that is fed in whole blocks, and ended by its last bytes and its padding.
-use Rattle.std.proofs.Common.{◌≡◌, ℕ, zero, suc, ◌+◌, ◌-◌, ◌*◌, ◌/◌, ◌%◌, ◌^◌, ◌<◌, ◌≤◌, List, ◌++◌, ◌∷◌, length, get_or, map, take, drop, replicate, set, refl, sym, ap, ap₂, ◌∙◌, arith, append_assoc, length-append, length-drop}
+use Rattle.std.proofs.Common.{◌≡◌, ℕ, zero, suc, ◌+◌, ◌-◌, ◌*◌, ◌/◌, ◌%◌, ◌^◌, ◌<◌, ◌≤◌, List, ◌++◌, ◌∷◌, length, get_or, map, take, drop, replicate, set, slice_index, refl, sym, ap, ap₂, ◌∙◌, arith, append_assoc, length-append, length-drop}
 use Rattle.std.proofs.lemmas.List.{drop-drop, drop_at, drop-replicate, length-replicate, set_at, take-append-drop, take-replicate, take_rest}
 use Rattle.std.proofs.lemmas.Slice.{take-put_mid}
 use Rattle.std.proofs.Math.ListN as list
@@ -36,7 +36,7 @@ hash_after_more ini m p (suc k) whole =
 
 -- whole blocks more are fed
 pub fed-more : (measure next : MeasureFour) (j : ℕ) (m p : List ℕ) → length p % 64 ≡ 0 → next.len ≡ (measure.len + length p) % 2 ^ 64
-    → state_lane j next.state ≡ hash_after (state_lane j measure.state) p (length p / 64) → LaneWasFed measure j m → LaneWasFed next j (m ++ p)
+    → state_lane slice_index j next.state ≡ hash_after (state_lane slice_index j measure.state) p (length p / 64) → LaneWasFed measure j m → LaneWasFed next j (m ++ p)
 fed-more measure next j m p whole count hash fed =
     let len = length-append m p in
     let before = fed.whole in
@@ -82,7 +82,7 @@ last-blocks tail front bytes len end n k same is to at short =
 
 -- the digest of a message whose last part and padding were fed
 pub digest-ended : (measure : MeasureFour) (j : ℕ) (m part last : List ℕ) (whole len : ℕ) → last ≡ drop whole part ++ padding len → len ≡ length (m ++ part) % 2 ^ 64
-    → LaneWasFed measure j ((m ++ take whole part) ++ last) → digest_bytes (state_lane j measure.state) 8 ≡ sha256 (m ++ part)
+    → LaneWasFed measure j ((m ++ take whole part) ++ last) → digest_bytes (state_lane slice_index j measure.state) 8 ≡ sha256 (m ++ part)
 unfolding sha256
 digest-ended measure j m part last whole len ends is fed =
     let message : (m ++ take whole part) ++ drop whole part ≡ m ++ part =
@@ -111,3 +111,18 @@ ended-part part blocks n whole end len ended to short same =
     let tail = take_rest part whole in
     let left : length (drop whole part) ≡ n - whole = length-drop whole part ∙ ap (λ (k : ℕ). k - whole) same in
     rw (to, ← left) (rw tail at ended (left ∙ short))
+
+-- the digest of a page, whose blocks and then its padding were fed
+pub page-digest : (page last : List ℕ) → length page ≡ 4096 → take 64 last ≡ padding 4096
+    → digest_bytes (hash_after (hash_after initial_hash_256 page 64) last 1) 8 ≡ sha256 page
+unfolding sha256 hash_after
+page-digest page last same ends =
+    let whole : length page % 64 ≡ 0 = omega (arith, same) in
+    let blocks : length page / 64 ≡ 64 = omega (arith, same) in
+    let padded : padding 4096 ≡ padding (length page) = ap padding (sym same) in
+    let both = length-append page (padding (length page)) in
+    let count : length page / 64 + 1 ≡ length (page ++ padding (length page)) / 64 = omega (arith, both, same, ap length (sym padded)) in
+    ap (λ (h : List ℕ). digest_bytes h 8) (
+    ap₂ compress (ap (hash_after initial_hash_256 page) (sym blocks)) ends
+    ∙ hash_after_more initial_hash_256 page (padding 4096) 1 whole
+    ∙ ap₂ (λ (p : List ℕ) (n : ℕ). hash_after initial_hash_256 (page ++ p) n) padded count)

@@ -1,4 +1,4 @@
-//! SHA-256 (FIPS 180-4) four at a time: the digests of pages, by several threads, and of four messages of one length.
+//! SHA-256 (FIPS 180-4) of several at a time: the digests of pages, by several threads, and of four messages of one length.
 #![tactic(auto)]
 
 mod compress;
@@ -6,7 +6,8 @@ mod constants;
 mod measure;
 mod pages;
 mod state;
+mod vector;
 mod words;
 
 pub use measure::MeasureFour;
-pub use pages::{frame_digests, zero_digest};
+pub use pages::{Lanes, frame_digests, zero_digest};

@@ -1,19 +1,22 @@
 //! The digests of many pages.
-ghost use Rattle.std.specs.Prelude.{◌≡◌, ◌↔◌, ◌+◌, ◌≤◌, All, IfOk, IsTrue, length, map, slice_range};
+ghost use Rattle.std.specs.Prelude.{◌≡◌, ◌↔◌, ◌+◌, ◌<◌, ◌≤◌, All, IfOk, IsTrue, length, map, replicate, slice_range, take};
 ghost use Rattle.sha2.specs.Sha256.{sha256};
 ghost use Rattle.kc_types.specs.Limits.{page_size};
 ghost use Rattle.kc_model.specs.State.{zero_page};
 ghost use Rattle.kc_digests.specs.Digests.{digest_of};
 
-use crate::measure::MeasureFour;
+use crate::measure::{BLOCK, lane_digest, last_blocks, run_blocks};
+use crate::state::initial;
+use crate::vector::{MOST_LANES, Vector};
 use kc_page::Page;
 use kc_types::{Memory, PAGE_SIZE};
 use rayon::prelude::par_chunks_mut_for_each;
 use sha2::{Digest, Sha256};
 use std::alloc::Global;
+use std::simd::{u32x4, u32x8};
 use std::thread::Threads;
 
-/// A multiple of four, so that only the last chunk has pages that are hashed one by one; some 300 microseconds of
+/// A multiple of eight, so that only the last chunk has pages that are hashed one by one; some 300 microseconds of
 /// work for a thread.
 const PAGES_A_CHUNK: usize = 64;
 
@@ -35,57 +38,116 @@ pub fn zero_digest() -> [u8; 32]
     Sha256::digest(&ZERO_PAGE)
 }
 
-/// The digests of four pages of 4,096 bytes, in order.
-fn hash_four(pages: [&[u8]; 4]) -> [[u8; 32]; 4]
-    requires { All (λ page. length page.now ≡ page_size) pages }
-    ensures { result ≡ map (λ page. sha256 page.now) pages.entry }
-{
-    MeasureFour::new().finish(pages, PAGE_SIZE as usize)
+/// How many pages are hashed side by side. Their digests are the same.
+#[derive(Clone, Copy)]
+pub enum Lanes {
+    /// For vectors of 128 bits, which every processor of x86-64 has.
+    Four,
+    /// For vectors of 256 bits: faster where the program is built for processors that have them, and slower where it is not.
+    Eight,
 }
 
-/// The same where the digest of a page of zero bytes is known, so that four of these, as free pages are, cost no
-/// hashing.
-fn digest_four(pages: [&[u8]; 4], zero: [u8; 32]) -> [[u8; 32]; 4]
-    requires pages { All (λ page. length page.now ≡ page_size) pages }
-    requires zero { zero ≡ sha256 zero_page }
-    ensures { result ≡ map (λ page. sha256 page.now) pages.entry }
+/// Writes the digests of pages of 4,096 bytes, a lane for each, in order.
+fn hash_pages<V: Vector>(pages: &[&[u8]], out: &mut [[u8; 32]])
+    requires count { length pages.now ≡ V.LANES }
+    requires whole { All (λ page. length page.now ≡ page_size) pages.now }
+    requires room { length out.old ≡ V.LANES }
+    ensures { out.new ≡ map (λ page. sha256 page.now) pages.now }
 {
-    let [first, second, third, fourth] = pages;
-    if is_zero(first) && is_zero(second) && is_zero(third) && is_zero(fourth) {
-        [zero; 4]
-    } else {
-        hash_four(pages)
+    let end = last_blocks(&[], PAGE_SIZE as u64);
+    let ends = [&end[..]; MOST_LANES];
+    let mut state = initial::<V>();
+    run_blocks(&mut state, pages, PAGE_SIZE as usize / BLOCK);
+    run_blocks(&mut state, &ends[..V::LANES], 1);
+    'lanes: for lane in 0..V::LANES {
+        out[lane] = lane_digest(&state, lane);
     }
 }
 
-/// Writes the digest of each page, in order.
-fn write_digests(pages: &[Page], out: &mut [[u8; 32]])
+/// Whether all bytes of all pages are zero.
+fn are_zero(pages: &[Page]) -> bool
+    ensures { IsTrue result → map digest_of pages.now ≡ replicate (length pages.now) (sha256 zero_page) }
+{
+    'pages: for i in 0..pages.len() {
+        if !is_zero(pages[i].bytes.as_slice()) {
+            return false;
+        }
+    }
+    true
+}
+
+/// The bytes of each page, and behind them pages of zero bytes.
+fn bytes_of(pages: &[Page]) -> [&[u8]; MOST_LANES]
+    requires { length pages.now ≤ 8 }
+    ensures bytes { map (λ page. page.now) (take (length pages.now) result) ≡ map (λ page. page.bytes) pages.now }
+    ensures whole { All (λ page. length page.now ≡ page_size) (take (length pages.now) result) }
+{
+    let mut bytes = [&ZERO_PAGE[..]; MOST_LANES];
+    'pages: for i in 0..pages.len() {
+        bytes[i] = pages[i].bytes.as_slice();
+    }
+    bytes
+}
+
+/// Writes one digest in each place.
+fn fill(out: &mut [[u8; 32]], digest: [u8; 32])
+    ensures { out.new ≡ replicate (length out.old) digest }
+{
+    'places: for i in 0..out.len() {
+        out[i] = digest;
+    }
+}
+
+/// Writes the digests of as many pages as there are lanes, in order, where that of a page of zero bytes is known, so that
+/// pages that are all zero, as free ones are, cost no hashing.
+fn digest_pages<V: Vector>(pages: &[Page], zero: [u8; 32], out: &mut [[u8; 32]])
+    requires count { length pages.now ≡ V.LANES }
+    requires zero { zero ≡ sha256 zero_page }
+    requires room { length out.old ≡ V.LANES }
+    ensures { out.new ≡ map digest_of pages.now }
+{
+    if are_zero(pages) {
+        fill(out, zero);
+    } else {
+        hash_pages::<V>(&bytes_of(pages)[..pages.len()], out);
+    }
+}
+
+/// Writes the digest of each page, in order, of as many as there are lanes at once.
+fn write_by<V: Vector>(pages: &[Page], out: &mut [[u8; 32]])
     requires { length out.old ≡ length pages.now }
     ensures { out.new ≡ map digest_of pages.now }
 {
     let zero = zero_digest();
-    let fours = pages.len() / 4;
-    'fours: for i in 0..fours {
-        let at = 4 * i;
-        let four = [
-            pages[at].bytes.as_slice(),
-            pages[at + 1].bytes.as_slice(),
-            pages[at + 2].bytes.as_slice(),
-            pages[at + 3].bytes.as_slice(),
-        ];
-        out[at..at + 4].copy_from_slice(&digest_four(four, zero));
+    let lanes = V::LANES;
+    let mut at = 0;
+    'turns: while pages.len() - at >= lanes {
+        digest_pages::<V>(&pages[at..at + lanes], zero, &mut out[at..at + lanes]);
+        at += lanes;
     }
-    'rest: for i in 4 * fours..pages.len() {
+    'rest: for i in at..pages.len() {
         out[i] = Sha256::digest(pages[i].bytes.as_slice());
     }
 }
 
-/// The SHA-256 digest (FIPS 180-4) of each page, in order, by several threads. `Memory` where a growth was refused;
-/// where no thread can be started, this one does all.
+/// Writes the digest of each page, in order.
+fn write_digests(pages: &[Page], out: &mut [[u8; 32]], lanes: Lanes)
+    requires { length out.old ≡ length pages.now }
+    ensures { out.new ≡ map digest_of pages.now }
+{
+    match lanes {
+        Lanes::Four => write_by::<u32x4>(pages, out),
+        Lanes::Eight => write_by::<u32x8>(pages, out),
+    }
+}
+
+/// The SHA-256 digest (FIPS 180-4) of each page, in order, by several threads, of so many at once. `Memory` where a
+/// growth was refused; where no thread can be started, this one does all.
 pub fn frame_digests(
     rt: &(impl Threads + Sync),
     alloc: Global,
     pages: &[Page],
+    lanes: Lanes,
 ) -> Result<Vec<[u8; 32]>, Memory>
     // No clause can rule out want of memory: a test hashes pages.
     ensures { IfOk result (λ digests. digests.items ≡ map digest_of pages.now) }
@@ -98,7 +160,7 @@ pub fn frame_digests(
         |start: usize, out: &mut [[u8; 32]]|
             requires { start + length out.now ≤ length pages.now }
             ensures { out.exit.now ≡ map digest_of (slice_range pages.entry.now start (start + length out.entry.now)) }
-        { write_digests(&pages[start..start + out.len()], out) },
+        { write_digests(&pages[start..start + out.len()], out, lanes) },
     );
     Ok(digests)
 }

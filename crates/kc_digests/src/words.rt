@@ -1,129 +1,79 @@
-//! The functions of SHA-256 on words (FIPS 180-4, 4.1.2), on four words at once.
-ghost use Rattle.std.specs.Prelude.{◌≡◌, ℕ, ◌+◌, ◌-◌, ◌/◌, ◌^◌, ◌<◌, bit_and, bit_xor, slice_index};
-ghost use Rattle.std.specs.Int.{w32, bit_not, rotate_right};
-ghost use Rattle.sha2.specs.Sha256.{add32, big_sigma0, big_sigma1, ch, maj, round, small_sigma0, small_sigma1};
+//! The functions of SHA-256 on words (FIPS 180-4, 4.1.2), on a word of each message at once.
+ghost use Rattle.std.specs.Prelude.{◌≡◌, ℕ, ◌<◌};
+ghost use Rattle.sha2.specs.Sha256.{big_sigma0, big_sigma1, ch, maj, round, small_sigma0, small_sigma1};
 ghost use Rattle.kc_digests.specs.Lanes.{state_lane};
 
 use crate::state::State;
-use std::simd::u32x4;
+use crate::vector::Vector;
 
 #[inline(always)]
-pub(crate) fn add(x: u32x4, y: u32x4) -> u32x4
-    ensures { (j : ℕ) → j < 4 → slice_index result j ≡ add32 (slice_index x j) (slice_index y j) }
+fn big_sigma0<V: Vector>(x: V) -> V
+    ensures { (j : ℕ) → j < V.LANES → V.word result j ≡ big_sigma0 (V.word x j) }
 {
-    x + y
+    x.rotate_right(2)
+        .xor(x.rotate_right(13))
+        .xor(x.rotate_right(22))
 }
 
 #[inline(always)]
-fn xor(x: u32x4, y: u32x4) -> u32x4
-    ensures { (j : ℕ) → j < 4 → slice_index result j ≡ bit_xor (slice_index x j) (slice_index y j) }
+fn big_sigma1<V: Vector>(x: V) -> V
+    ensures { (j : ℕ) → j < V.LANES → V.word result j ≡ big_sigma1 (V.word x j) }
 {
-    x ^ y
+    x.rotate_right(6)
+        .xor(x.rotate_right(11))
+        .xor(x.rotate_right(25))
 }
 
 #[inline(always)]
-fn and(x: u32x4, y: u32x4) -> u32x4
-    ensures { (j : ℕ) → j < 4 → slice_index result j ≡ bit_and (slice_index x j) (slice_index y j) }
+pub(crate) fn small_sigma0<V: Vector>(x: V) -> V
+    ensures { (j : ℕ) → j < V.LANES → V.word result j ≡ small_sigma0 (V.word x j) }
 {
-    x & y
+    x.rotate_right(7)
+        .xor(x.rotate_right(18))
+        .xor(x.shift_right(3))
 }
 
 #[inline(always)]
-fn not(x: u32x4) -> u32x4
-    ensures { (j : ℕ) → j < 4 → slice_index result j ≡ bit_not w32 (slice_index x j) }
+pub(crate) fn small_sigma1<V: Vector>(x: V) -> V
+    ensures { (j : ℕ) → j < V.LANES → V.word result j ≡ small_sigma1 (V.word x j) }
 {
-    !x
+    x.rotate_right(17)
+        .xor(x.rotate_right(19))
+        .xor(x.shift_right(10))
 }
 
 #[inline(always)]
-fn shift_right(x: u32x4, count: u32) -> u32x4
-    requires { count < 32 }
-    ensures { (j : ℕ) → j < 4 → slice_index result j ≡ slice_index x j / 2 ^ count }
+fn ch<V: Vector>(x: V, y: V, z: V) -> V
+    ensures { (j : ℕ) → j < V.LANES → V.word result j ≡ ch (V.word x j) (V.word y j) (V.word z j) }
 {
-    x >> u32x4::splat(count)
-}
-
-#[inline(always)]
-fn rotate_right(x: u32x4, count: u32) -> u32x4
-    requires { (0 < count) × (count < 32) }
-    ensures { (j : ℕ) → j < 4 → slice_index result j ≡ rotate_right w32 (slice_index x j) count }
-{
-    (x >> u32x4::splat(count)) | (x << u32x4::splat(32 - count))
-}
-
-#[inline(always)]
-fn big_sigma0(x: u32x4) -> u32x4
-    ensures { (j : ℕ) → j < 4 → slice_index result j ≡ big_sigma0 (slice_index x j) }
-{
-    xor(
-        xor(rotate_right(x, 2), rotate_right(x, 13)),
-        rotate_right(x, 22),
-    )
-}
-
-#[inline(always)]
-fn big_sigma1(x: u32x4) -> u32x4
-    ensures { (j : ℕ) → j < 4 → slice_index result j ≡ big_sigma1 (slice_index x j) }
-{
-    xor(
-        xor(rotate_right(x, 6), rotate_right(x, 11)),
-        rotate_right(x, 25),
-    )
-}
-
-#[inline(always)]
-pub(crate) fn small_sigma0(x: u32x4) -> u32x4
-    ensures { (j : ℕ) → j < 4 → slice_index result j ≡ small_sigma0 (slice_index x j) }
-{
-    xor(
-        xor(rotate_right(x, 7), rotate_right(x, 18)),
-        shift_right(x, 3),
-    )
-}
-
-#[inline(always)]
-pub(crate) fn small_sigma1(x: u32x4) -> u32x4
-    ensures { (j : ℕ) → j < 4 → slice_index result j ≡ small_sigma1 (slice_index x j) }
-{
-    xor(
-        xor(rotate_right(x, 17), rotate_right(x, 19)),
-        shift_right(x, 10),
-    )
-}
-
-#[inline(always)]
-fn ch(x: u32x4, y: u32x4, z: u32x4) -> u32x4
-    ensures { (j : ℕ) → j < 4 → slice_index result j ≡ ch (slice_index x j) (slice_index y j) (slice_index z j) }
-{
-    xor(and(x, y), and(not(x), z))
+    x.and(y).xor(x.not().and(z))
 }
 
 /// One round's `x ^ y` is the next round's `y ^ z`, so it is computed once.
 #[inline(always)]
-fn maj(x: u32x4, y: u32x4, z: u32x4) -> u32x4
-    ensures { (j : ℕ) → j < 4 → slice_index result j ≡ maj (slice_index x j) (slice_index y j) (slice_index z j) }
+fn maj<V: Vector>(x: V, y: V, z: V) -> V
+    ensures { (j : ℕ) → j < V.LANES → V.word result j ≡ maj (V.word x j) (V.word y j) (V.word z j) }
 {
-    xor(y, and(xor(x, y), xor(y, z)))
+    y.xor(x.xor(y).and(y.xor(z)))
 }
 
 #[inline(always)]
-pub(crate) fn round(v: State, k: u32, word: u32x4) -> State
-    ensures { (j : ℕ) → j < 4 → state_lane j result ≡ round (state_lane j v) k (slice_index word j) }
+pub(crate) fn round<V: Vector>(v: State<V>, k: u32, word: V) -> State<V>
+    ensures { (j : ℕ) → j < V.LANES → state_lane V.word j result ≡ round (state_lane V.word j v) k (V.word word j) }
 {
-    let temp1 = add(
-        add(
-            add(add(v.h, big_sigma1(v.e)), ch(v.e, v.f, v.g)),
-            u32x4::splat(k),
-        ),
-        word,
-    );
-    let temp2 = add(big_sigma0(v.a), maj(v.a, v.b, v.c));
+    let temp1 = v
+        .h
+        .add(big_sigma1(v.e))
+        .add(ch(v.e, v.f, v.g))
+        .add(V::splat(k))
+        .add(word);
+    let temp2 = big_sigma0(v.a).add(maj(v.a, v.b, v.c));
     State {
-        a: add(temp1, temp2),
+        a: temp1.add(temp2),
         b: v.a,
         c: v.b,
         d: v.c,
-        e: add(v.d, temp1),
+        e: v.d.add(temp1),
         f: v.e,
         g: v.f,
         h: v.g,

@@ -6,6 +6,7 @@
 #![tactic(auto)]
 
 use anyhow::{Result, bail};
+use kc_digests::Lanes;
 use kc_state::dump;
 use kc_core::KCore;
 use kc_dump_text::write_dump;
@@ -108,7 +109,7 @@ fn print_replay<R: Threads + Wait + Sync>(
     }
     let Outcome { replies, core } = replay(threads, alloc, config, calls, workers, &MeetingPlace)?;
     let text = if dumps {
-        let dumped = dump(threads, alloc, &core)?;
+        let dumped = dump(threads, alloc, &core, Lanes::Four)?;
         write_dump(alloc, &dumped)?
     } else {
         write_replies(alloc, replies.as_slice())?

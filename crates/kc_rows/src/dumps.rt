@@ -1,6 +1,7 @@
 //! An audit by one thread, where the program has it made by several.
 use crate::support::after;
 use kc_audit::audit;
+use kc_digests::Lanes;
 use kc_state::dump;
 use std::alloc::Global;
 use std::thread::Threads;
@@ -12,7 +13,7 @@ const BOOTS: &str =
 /// How much is found in what these calls leave.
 fn found_after<R: Threads + Sync>(rt: &R, alloc: Global, lines: &str) -> Option<usize> {
     let core = after(alloc, lines)?;
-    let dumped = dump(rt, alloc, &core).ok()?;
+    let dumped = dump(rt, alloc, &core, Lanes::Eight).ok()?;
     let found = audit(alloc, &dumped).ok()?;
     Some(found.len())
 }

@@ -1,5 +1,5 @@
 //! Numbers of workers that no word asks for, since the words are judged first.
-use kc_cli::{Mem, Origin, ReplayForm, ReplayOrder, TextFault, replay_text};
+use kc_cli::{Lanes, Mem, Origin, ReplayForm, ReplayOrder, TextFault, replay_text};
 use std::alloc::{AllocError, Global};
 use std::sync::Wait;
 use std::test::Fail;
@@ -18,6 +18,7 @@ fn worked(
         origin: Origin::Boot,
         form: ReplayForm::Replies,
         workers,
+        lanes: Lanes::Four,
     };
     let outcome = replay_text(rt, alloc, &mut config, &mut trace, &mut out, order);
     Ok((outcome, config.position, trace.position))

@@ -6,7 +6,7 @@ ghost use Rattle.kc_state.specs.Dumping.{digests_of, frame_lines, slot_dump, slo
 ghost use Rattle.kc_dump.specs.Sound.{IsSound};
 
 use kc_core::KCore;
-use kc_digests::frame_digests;
+use kc_digests::{Lanes, frame_digests};
 use kc_dump::{Dump, FrameLine, SlotDump};
 use kc_types::Memory;
 use std::alloc::Global;
@@ -57,13 +57,18 @@ fn slots(alloc: Global, core: &KCore) -> Result<Vec<SlotDump>, Memory>
 }
 
 /// A dump of a core, in time that grows with its frames, its mapped guest frames and its leaves. The pages are hashed
-/// by several threads. `Memory` where a growth was refused.
-pub fn dump(rt: &(impl Threads + Sync), alloc: Global, core: &KCore) -> Result<Dump, Memory>
+/// by several threads, of so many at once. `Memory` where a growth was refused.
+pub fn dump(
+    rt: &(impl Threads + Sync),
+    alloc: Global,
+    core: &KCore,
+    lanes: Lanes,
+) -> Result<Dump, Memory>
     // No clause can rule out want of memory: a test dumps a core.
     ensures dump { IfOk result (λ dump. dump ≡ dump_of core.now) }
     ensures sound { IfOk result IsSound }
 {
-    let digests = frame_digests(rt, alloc, core.pages())?;
+    let digests = frame_digests(rt, alloc, core.pages(), lanes)?;
     let frames = lines(alloc, core, digests.as_slice())?;
     let slots = slots(alloc, core)?;
     let config = core.config();

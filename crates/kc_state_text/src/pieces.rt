@@ -5,6 +5,7 @@ ghost use Rattle.kc_state_text.specs.Pieces.{longest_page_line, to_come};
 
 use crate::writing::{LONGEST_PAGE_LINE, push_page, write_front};
 use kc_core::KCore;
+use kc_digests::Lanes;
 use kc_dump_text::write_dump;
 use kc_lines::push_bytes;
 use kc_state::dump;
@@ -85,16 +86,17 @@ impl Model for StatePieces {
 
 impl StatePieces {
     /// The whole text, of which nothing was given. All memory that it takes is taken here: `Memory` where a growth was
-    /// refused. The pages are hashed by several threads.
+    /// refused. The pages are hashed by several threads, of so many at once.
     pub fn new(
         rt: &(impl Threads + Sync),
         alloc: Global,
         core: &KCore,
+        lanes: Lanes,
     ) -> Result<StatePieces, Memory>
         ensures { IfOk result (λ pieces. to_come core.now pieces ≡ state_text core.now) }
     {
         let front = write_front(alloc, core)?;
-        let dumped = dump(rt, alloc, core)?;
+        let dumped = dump(rt, alloc, core, lanes)?;
         let dump = write_dump(alloc, &dumped)?;
         Ok(StatePieces {
             front: Left::all(front),
@@ -192,11 +194,12 @@ pub fn is_state_text(
     alloc: Global,
     core: &KCore,
     text: &[u8],
+    lanes: Lanes,
 ) -> Result<bool, Memory>
     // No clause can rule out want of memory: a test compares states.
     ensures { IfOk result (λ same. IsTrue same ↔ (text.now ≡ state_text core.now)) }
 {
-    let pieces = StatePieces::new(rt, alloc, core)?;
+    let pieces = StatePieces::new(rt, alloc, core, lanes)?;
     let mut piece = Vec::with_capacity(alloc, PIECE)?;
     let same = is_rest(core, pieces, &mut piece, text);
     wipe_piece(&mut piece);

@@ -7,8 +7,9 @@ mod explaining;
 
 use crate::explaining::{Reading, explain_open, explain_words};
 use kc_cli::{
-    ArgFault, CustodyForm, CustodyOrder, DEFAULT_CONFIG, Job, Mem, Origin, ReplayForm, ReplayOrder, Source, Std,
-    TextFault, audit_text, custody_text, job_of, live_text, replay_text, replay_to_text, tell,
+    ArgFault, CustodyForm, CustodyOrder, DEFAULT_CONFIG, Job, Lanes, Mem, Origin, ReplayForm,
+    ReplayOrder, Source, Std, TextFault, audit_text, custody_text, job_of, live_text, replay_text,
+    replay_to_text, tell,
 };
 use kc_explain::{Noted, Shown};
 use kc_replay::OpenGate;
@@ -41,6 +42,8 @@ struct Order<'a> {
     start: Option<&'a str>,
     origin: Origin,
     workers: u32,
+    /// How many pages are hashed at once.
+    lanes: Lanes,
     wanted: Wanted,
     explain: bool,
 }
@@ -146,6 +149,7 @@ fn run_in<C: Source, R: Threads + Wait + Sync>(
                 origin: order.origin,
                 form,
                 workers: order.workers,
+                lanes: order.lanes,
             };
             return replay_in(rt, threads, start, trace, to, plan);
         },
@@ -161,6 +165,7 @@ fn run_in<C: Source, R: Threads + Wait + Sync>(
         Wanted::Custody(form, vm) => {
             let plan = CustodyOrder {
                 origin: order.origin,
+                lanes: order.lanes,
                 form,
                 vm,
             };
@@ -340,7 +345,22 @@ fn refuse_both(rt: &HostRuntime, command: &str, one: &str, other: &str) -> u8 {
     2
 }
 
-fn run_job<R: Threads + Wait + Sync>(rt: &HostRuntime, threads: &R, job: Job<'_>) -> u8 {
+/// How many pages are hashed at once, by the program's own name, since code cannot ask what it is built for: that for newer
+/// processors (x86-64-v3) is dist/'s `kcore-x86_64-v3-linux` or an installed `kcore-v3`. By another name it is only slower.
+fn lanes_of(name: &str) -> Lanes {
+    if name.ends_with("-v3-linux") || name.ends_with("-v3") {
+        Lanes::Eight
+    } else {
+        Lanes::Four
+    }
+}
+
+fn run_job<R: Threads + Wait + Sync>(
+    rt: &HostRuntime,
+    threads: &R,
+    job: Job<'_>,
+    lanes: Lanes,
+) -> u8 {
     match job {
         Job::Replay {
             config,
@@ -361,6 +381,7 @@ fn run_job<R: Threads + Wait + Sync>(rt: &HostRuntime, threads: &R, job: Job<'_>
                 start,
                 origin,
                 workers,
+                lanes,
                 wanted: Wanted::Replay(form),
                 explain,
             };
@@ -375,6 +396,7 @@ fn run_job<R: Threads + Wait + Sync>(rt: &HostRuntime, threads: &R, job: Job<'_>
                 start: config,
                 origin: Origin::Boot,
                 workers,
+                lanes,
                 wanted: Wanted::History,
                 explain,
             };
@@ -403,6 +425,7 @@ fn run_job<R: Threads + Wait + Sync>(rt: &HostRuntime, threads: &R, job: Job<'_>
                 start,
                 origin,
                 workers: 1,
+                lanes,
                 wanted: Wanted::Custody(form, vm),
                 explain,
             };
@@ -417,7 +440,7 @@ fn run<R: Threads + Wait + Sync>(rt: &HostRuntime, threads: &R) -> u8 {
         Ok(arguments) => arguments,
         Err(error) => return refuse_words(rt, &error),
     };
-    let Ok(words) = arguments.skip(1).collect::<Vec<String>>(rt.alloc()) else {
+    let Ok(words) = arguments.collect::<Vec<String>>(rt.alloc()) else {
         return fail(rt, TextFault::Memory);
     };
     let Ok(words) = words
@@ -427,9 +450,13 @@ fn run<R: Threads + Wait + Sync>(rt: &HostRuntime, threads: &R) -> u8 {
     else {
         return fail(rt, TextFault::Memory);
     };
-    match job_of(rt.alloc(), words.as_slice()) {
-        Ok(job) => run_job(rt, threads, job),
-        Err(fault) => refuse(rt, words.as_slice(), fault),
+    let (lanes, words) = match words.as_slice().split_first() {
+        Some((name, words)) => (lanes_of(name), words),
+        None => (Lanes::Four, words.as_slice()),
+    };
+    match job_of(rt.alloc(), words) {
+        Ok(job) => run_job(rt, threads, job, lanes),
+        Err(fault) => refuse(rt, words, fault),
     }
 }
 

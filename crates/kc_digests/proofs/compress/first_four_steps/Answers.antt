@@ -3,7 +3,7 @@ use Rattle.sha2.specs.Sha256.{rounds, schedule}
 use Rattle.kc_digests.proofs.compress.first_four_steps.Goals as goal
 
 pub returns : goal.returns
-returns c = λ j low b h window held.
+returns g c = λ j low b h window held.
     let after = rounds h (schedule b 48) in
     let s1 = c.first_step-v.ensures j low b h window held in
     let s2 = c.first_step-v-2.ensures j low b h window s1 in

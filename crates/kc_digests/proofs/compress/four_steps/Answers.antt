@@ -3,7 +3,7 @@ use Rattle.sha2.proofs.Schedule256.{IsRoundsAt_at}
 use Rattle.kc_digests.proofs.compress.four_steps.Goals as goal
 
 pub returns : goal.returns
-returns c = λ j low b h held.
+returns g c = λ j low b h held.
     let s1 = c.step-v.ensures j low b h held in
     let s2 = c.step-v-2.ensures j low b h s1 in
     let s3 = c.step-v-3.ensures j low b h (IsRoundsAt_at b h _ _ _ _ (omega arith) s2) in

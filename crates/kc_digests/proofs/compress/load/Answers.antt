@@ -1,30 +1,26 @@
-use Rattle.std.proofs.Common.{◌≡◌, ◌<◌, ℕ, List, [], ◌∷◌, inl, inr, ap, ◌*◌, ◌∙◌, arith, slice_index}
-use Rattle.std.proofs.lemmas.List.{get_or-set_same, get_or-set_other, length-map, length-set}
-use Rattle.std.proofs.lemmas.Bool.{cases_lt}
+use Rattle.std.proofs.Common.{◌≡◌, ◌*◌, ◌∙◌, ap, sym, arith, slice_index}
+use Rattle.std.proofs.lemmas.List.{length-map, length-set}
 use Rattle.sha2.specs.Sha256.{word_at}
-use Rattle.kc_digests.specs.Lanes.{of_four}
-use Rattle.kc_digests.proofs.LaneLemmas.{below_four, slice_index-lane}
+use Rattle.kc_digests.specs.Lanes.{block, lane, part_of}
+use Rattle.kc_digests.proofs.LaneLemmas.{lane-set, word_at-block, written-next}
 use Rattle.kc_digests.proofs.compress.load.Goals as goal
 
-pub load-preserved : goal.load-preserved
-load-preserved c =
-    let w = c.load.w in
-    let i = c.load.i in
-    let x : List ℕ = c.load_word.result ∷ c.load_word-in-load.result ∷ c.load_word-in-load-2.result ∷ c.load_word-in-load-3.result ∷ [] in
-    let block : ℕ → List ℕ = of_four c.args.first.now c.args.second.now c.args.third.now c.args.fourth.now in
-    let here : (j : ℕ) → j < 4 → slice_index x j ≡ word_at (block j) (4 * i) =
-    below_four _ c.load_word.ensures c.load_word-in-load.ensures c.load_word-in-load-2.ensures c.load_word-in-load-3.ensures in (
-      length-set w i x ∙ c.load.invariant.0,
-      λ j k low lt. elim (cases_lt k i) [
-        | inl a ↦ ap (λ (v : List ℕ). slice_index v j) (get_or-set_other w i k x [] (omega arith)) ∙ c.load.invariant.1 j k low a
-        | inr b ↦
-            let e : i ≡ k = omega arith in
-            rw (← e) (ap (λ (v : List ℕ). slice_index v j) (get_or-set_same w i x [] (omega arith)) ∙ here j low)
-      ],
+pub load-requires-clause-room : goal.load-requires-clause-room
+load-requires-clause-room g c = λ j none low. omega (arith, c.requires.room j none low)
+
+pub words-preserved : goal.words-preserved
+words-preserved g c =
+    let w = c.words.w in
+    let i = c.words.i in
+    let word = g.V.Vector.word in (
+      length-set w i _ ∙ c.words.invariant.0,
+      λ k lt j low.
+          let bytes = part_of j c.args.parts.now in
+          ap (λ lane. slice_index lane k) (lane-set word w i _ j)
+          ∙ written-next (λ k number. number ≡ word_at (block c.args.at bytes) (4 * k)) (lane word j w) i _ 0 (omega (arith, length-map w (λ x. word x j)))
+          (λ k before. c.words.invariant.1 k before j low)
+          (c.load.ensures j low ∙ sym (word_at-block bytes c.args.at (4 * i) (omega arith))) k lt,
     )
 
 pub returns : goal.returns
-returns c = λ j low. (
-  length-map c.load.w _ ∙ c.load.invariant.0,
-  λ k lt. slice_index-lane c.load.w k j ∙ c.load.invariant.1 j k low (omega arith),
-)
+returns g c = λ j low. (length-map c.words.w _ ∙ c.words.invariant.0, λ k lt. c.words.invariant.1 k (omega arith) j low)

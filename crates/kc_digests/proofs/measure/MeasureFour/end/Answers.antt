@@ -1,4 +1,4 @@
-use Rattle.std.proofs.Common.{◌≡◌, ℕ, ◌+◌, ◌-◌, ◌*◌, ◌/◌, ◌%◌, ◌^◌, ◌∙◌, ◌++◌, List, length, take, drop, subst, refl, arith, length-append}
+use Rattle.std.proofs.Common.{◌≡◌, ℕ, ◌+◌, ◌-◌, ◌*◌, ◌/◌, ◌%◌, ◌^◌, ◌∙◌, ◌++◌, List, length, take, drop, subst, refl, arith, length-append, slice_index}
 use Rattle.std.proofs.lemmas.List.{length-take-le}
 use Rattle.sha2.specs.Sha256.{digest_bytes, padding}
 use Rattle.kc_digests.specs.Lanes.{of_four, state_lane}
@@ -36,6 +36,6 @@ returns c = λ j low fed was.
     (ended-part fourth _ _ whole end len c.last_blocks-4.ensures c.end_len-end.ensures short c.requires.fourth)
     j low in
     let digests : ℕ → List ℕ = of_four c.lane_digest.result c.lane_digest-2.result c.lane_digest-3.result c.lane_digest-4.result in
-    below_four (λ i. digests i ≡ digest_bytes (state_lane i c.feed-2.new.self.state) 8)
+    below_four (λ i. digests i ≡ digest_bytes (state_lane slice_index i c.feed-2.new.self.state) 8)
     c.lane_digest.ensures c.lane_digest-2.ensures c.lane_digest-3.ensures c.lane_digest-4.ensures j low
     ∙ digest-ended c.feed-2.new.self j fed part (ended j) whole len ends is (c.feed-2.ensures j low _ begun)

@@ -1,0 +1,27 @@
+//! How a trace is replayed.
+use kc_digests::Lanes;
+use kc_texts::Origin;
+
+/// What is written of a replay.
+#[derive(Clone, Copy, Debug, PartialEq, Eq)]
+pub enum ReplayForm {
+    /// The replies, a line each.
+    Replies,
+    /// The dump of the core that the trace leaves.
+    Dump,
+    /// The text of the state that it leaves.
+    State,
+}
+
+/// How a trace is replayed.
+#[derive(Clone, Copy)]
+pub struct ReplayOrder {
+    /// What the calls begin with.
+    pub origin: Origin,
+    /// What is written.
+    pub form: ReplayForm,
+    /// How many workers may make the calls, 1 to 64.
+    pub workers: u32,
+    /// How many pages are hashed at once.
+    pub lanes: Lanes,
+}

@@ -1,5 +1,0 @@
-use Rattle.kc_digests.proofs.LaneLemmas.{shifts_rotate}
-use Rattle.kc_digests.proofs.words.rotate_right.Goals as goal
-
-pub returns : goal.returns
-returns c = shifts_rotate c.args.count c.requires.0 c.requires.1 c.args.x c.fits-x.0
