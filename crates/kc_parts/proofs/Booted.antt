@@ -1,15 +1,17 @@
 -- The parts that a core starts with are those of the boot state, linked.
-use Rattle.std.proofs.Common.{ℕ, zero, suc, ◌≡◌, ◌<◌, ◌≤◌, ◌+◌, ◌-◌, ◌⊎◌, inl, inr, Bool, true, false, cond, nat_eq, nat_lt, nat_le, ◌&&◌, List, [], get_or, map, replicate, Option, Some, None, is_some, refl, sym, ap, ◌∙◌, arith}
+use Rattle.std.proofs.Common.{ℕ, zero, suc, ◌≡◌, ◌<◌, ◌≤◌, ◌+◌, ◌-◌, ◌⊎◌, inl, inr, Bool, true, false, cond, nat_eq, nat_lt, nat_le, ◌&&◌, List, [], length, map, replicate, Option, Some, None, is_some, Result, Ok, Err, IfOk, OnOk, refl, sym, ap, ◌∙◌, arith}
 use Rattle.std.specs.List.{range_with_len}
 use Rattle.std.specs.Option.{option_map}
 use Rattle.std.proofs.lemmas.Bool.{cases_lt, lt-ltb, ltb-true, ne_eqb}
 use Rattle.std.proofs.lemmas.Grind.{common_steps}
-use Rattle.std.proofs.lemmas.List.{get_or_past, length-replicate}
-use Rattle.std.proofs.lemmas.List.FromFn.{length-map-range_with_len, get_or-map-range_with_len, get_or-range_with_len, length-range_with_len}
+use Rattle.std.proofs.lemmas.List.{length-replicate}
+use Rattle.std.proofs.lemmas.List.FromFn.{length-map-range_with_len, get_or-map-range_with_len, length-range_with_len}
 use Rattle.std.proofs.lemmas.Option.{slice_get-get_or, same_Some}
-use Rattle.kc_types.specs.Limits.{frame_limit}
+use Rattle.kc_types.specs.Limits.{frame_limit, slot_limit}
 use Rattle.kc_model.proofs.States.Configurations.{few-frames}
-use Rattle.kc_types.specs.Configuration.{Configuration, IsConfiguration, slot_count}
+use Rattle.kc_types.specs.Configuration.{Configuration, IsConfiguration, slot_count, slots_of}
+use Rattle.kc_types.specs.declared.version.Version.{Version}
+use Rattle.kc_types.specs.declared.version.Version.TheVariants.{One, Two}
 use Rattle.kc_types.specs.declared.link.Ends.{Ends}
 use Rattle.kc_types.specs.declared.link.Link.{Link}
 use Rattle.kc_types.specs.declared.owner.Owner.{Owner}
@@ -23,11 +25,27 @@ use Rattle.kc_vms.specs.Vm.{VmSlot, empty_vm}
 use Rattle.kc_links.specs.Chain.{Links, NamesNeighbours, first_or, last_or, unlinked}
 use Rattle.kc_links.specs.Ending.{Chain, listed, IsList}
 use Rattle.kc_links.proofs.Chains.{chain-listed, chain-is_list}
-use Rattle.kc_parts.specs.Parts.{Held, HeldSlots, IsHeld, page_at, vm_at, links_of, ends_at}
+use Rattle.kc_parts.specs.Parts.{Held, page_at, vm_at, links_of, ends_at}
 use Rattle.kc_parts.specs.States.{frame_in, slot_in, state_of, owner_at, IsLinked}
-use Rattle.kc_parts.specs.Booting.{first_free, boot_prev, boot_next, boot_page, boot_ends, boot_slots, IsWhole}
-use Rattle.kc_parts.proofs.Blanks.{blanks-filled}
-use Rattle.kc_parts.proofs.Boots.{page-whole, page-past, rising-range, cell-whole, cell-past}
+use Rattle.kc_parts.specs.Booting.{first_free, boot_prev, boot_next, boot_page, boot_ends, boot_slots, parts_of, IsWhole}
+use Rattle.kc_parts.proofs.Boots.{page-whole, page-past, cell-whole, cell-past}
+
+-- there are at most 64 slots
+pub few-slots : (config : Configuration) → slot_count config ≤ slot_limit
+unfolding slot_count
+few-slots config = by_version config.version
+  where
+    by_version : (version : Version) → slots_of version ≤ slot_limit
+    by_version One = omega arith
+    by_version Two = omega arith
+
+pub ok-then : {X E : Type 0} (r : Result X E) (P Q : X → Type 0) → ((x : X) → P x → Q x) → IfOk r P → IfOk r Q
+ok-then (Ok x) P Q f is = f x is
+ok-then (Err e) P Q f is = tt
+
+pub ok-on : {X E P : Type 0} (r : Result X E) → P → OnOk r P
+ok-on (Ok x) p = p
+ok-on (Err e) p = tt
 
 abbrev by_zero : {X : Type 0} → ℕ → X → X → X
 by_zero zero a b = a
@@ -257,20 +275,22 @@ module _ (config : Configuration) (is : IsConfiguration config) where
           ]
 
   -- what is made part by part
-  pub made : (numbers : List ℕ) (filled : List Bool) (pages : List Page) (vms : HeldSlots) (free : Option Ends)
-      → numbers ≡ range_with_len 0 config.frames → filled ≡ replicate config.frames true → pages ≡ map (boot_page config) (range_with_len 0 config.frames)
-      → vms ≡ boot_slots config → free ≡ Some (boot_ends config)
-      → record { numbers = numbers; filled = filled; pages = pages; vms = vms; free = free } ≡ booted
-  made numbers filled pages vms free n h p v f i = record { numbers = n i; filled = h i; pages = p i; vms = v i; free = f i }
+  pub made : (parts : Held) (pages : List Page) (vms : List (Option VmSlot)) (free : Ends)
+      → parts ≡ parts_of pages vms free → pages ≡ map (boot_page config) (range_with_len 0 config.frames) → vms ≡ replicate (slot_count config) (Some (empty_vm config.leaves)) → free ≡ boot_ends config
+      → parts ≡ booted
+  made parts pages vms free is p v f = is ∙ (λ i. parts_of (p i) (v i) (f i)) ∙ same
+    where
+      frames : length (map (boot_page config) (range_with_len 0 config.frames)) ≡ config.frames
+      frames = length-map-range_with_len (boot_page config) 0 config.frames
 
-  pub is_held-boot : IsHeld (range_with_len 0 config.frames) (replicate config.frames true) (map (boot_page config) (range_with_len 0 config.frames))
-  is_held-boot = record {
-    rising = rising-range config.frames;
-    frames = λ i. let few = few-frames config is in elim (cases_lt i config.frames) [
-      | inl low ↦ let a = get_or-range_with_len 0 config.frames i 0 low in omega (arith, low, few, a)
-      | inr past ↦ let count = length-range_with_len 0 config.frames in let a : get_or (range_with_len 0 config.frames) i 0 ≡ 0 = get_or_past (range_with_len 0 config.frames) i 0 (omega (arith, past, count)) in omega (arith, a)
-    ];
-    flags = length-replicate config.frames true ∙ sym (length-range_with_len 0 config.frames);
-    pages = length-map-range_with_len (boot_page config) 0 config.frames ∙ sym (length-range_with_len 0 config.frames);
-    blanks = blanks-filled config.frames (map (boot_page config) (range_with_len 0 config.frames));
-  }
+      slots : length (replicate (slot_count config) (Some (empty_vm config.leaves))) ≡ slot_count config
+      slots = length-replicate (slot_count config) (Some (empty_vm config.leaves))
+
+      same : parts_of (map (boot_page config) (range_with_len 0 config.frames)) (replicate (slot_count config) (Some (empty_vm config.leaves))) (boot_ends config) ≡ booted
+      same i = record {
+        numbers = range_with_len 0 (frames i);
+        filled = replicate (frames i) true;
+        pages = map (boot_page config) (range_with_len 0 config.frames);
+        vms = record { numbers = range_with_len 0 (slots i); slots = replicate (slot_count config) (Some (empty_vm config.leaves)) };
+        free = Some (boot_ends config);
+      }

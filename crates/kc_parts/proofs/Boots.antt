@@ -1,8 +1,8 @@
 -- The parts of the boot state, one after another and all together.
-use Rattle.std.proofs.Common.{ℕ, zero, suc, ◌≡◌, ◌<◌, ◌≤◌, ◌+◌, true, false, cond, eq-eqb, [], ◌∷◌, ◌++◌, length, map, replicate, Option, None, refl, sym, ap, ◌∙◌, arith}
+use Rattle.std.proofs.Common.{ℕ, zero, suc, ◌≡◌, ◌<◌, ◌≤◌, ◌+◌, true, false, cond, eq-eqb, [], ◌∷◌, ◌++◌, List, length, get_or, map, replicate, Option, None, refl, sym, ap, ◌∙◌, arith}
 use Rattle.std.specs.List.{range_with_len, slice_get}
 use Rattle.std.proofs.lemmas.Bool.{ne_eqb}
-use Rattle.std.proofs.lemmas.List.{map-id, length-replicate}
+use Rattle.std.proofs.lemmas.List.{map-id}
 use Rattle.std.proofs.lemmas.List.FromFn.{map-range_with_len_more, get_or-range_with_len, length-range_with_len}
 use Rattle.std.proofs.lemmas.Option.{slice_get_past}
 use Rattle.kc_vms.specs.Vm.{VmSlot}
@@ -70,6 +70,19 @@ pub cell-past : {X : Type 0} (a n k : ℕ) (c : Option X) → a + n ≤ k → ce
 cell-past a zero k c le = refl
 cell-past a (suc n) k c le = rw (ne_eqb k a (λ same. omega (arith, le, same))) (cell-past (a + 1) n k c (omega (arith, le)))
 
--- a place for each number, with the same in each
-pub held-boot : (n : ℕ) (c : Option VmSlot) → AreHeldSlots (range_with_len 0 n) (replicate n c)
-held-boot n c = record { rising = rising-range n; places = length-replicate n c ∙ sym (length-range_with_len 0 n) }
+cell-range-at : {X : Type 0} (a n k : ℕ) (cs : List (Option X)) → length cs ≡ n → cell_in (range_with_len a n) cs (a + k) ≡ get_or cs k None
+cell-range-at a zero k [] e = refl
+cell-range-at a zero k (c ∷ cs) e = absurd (omega (arith, e))
+cell-range-at a (suc n) k [] e = absurd (omega (arith, e))
+cell-range-at a (suc n) zero (c ∷ cs) e = rw (eq-eqb (a + 0) a (omega arith)) refl
+cell-range-at a (suc n) (suc k) (c ∷ cs) e =
+    let s : a + suc k ≡ (a + 1) + k = omega arith in
+    rw (ne_eqb (a + suc k) a (λ same. omega (arith, same))) (ap (cell_in (range_with_len (a + 1) n) cs) s ∙ cell-range-at (a + 1) n k cs (omega (arith, e)))
+
+-- what stands at a number where all have places
+pub cell-at : {X : Type 0} (cs : List (Option X)) (k : ℕ) → cell_in (range_with_len 0 (length cs)) cs k ≡ get_or cs k None
+cell-at cs k = let e : k ≡ 0 + k = omega arith in ap (cell_in (range_with_len 0 (length cs)) cs) e ∙ cell-range-at 0 (length cs) k cs refl
+
+-- a place for each number
+pub held-whole : (cs : List (Option VmSlot)) → AreHeldSlots (range_with_len 0 (length cs)) cs
+held-whole cs = record { rising = rising-range (length cs); places = sym (length-range_with_len 0 (length cs)) }

@@ -1,12 +1,12 @@
 -- The parts of the boot state.
-use Rattle.std.specs.Prelude.{ℕ, ◌≡◌, ◌<◌, ◌+◌, ◌-◌, nat_lt, false, true, cond, replicate, Option, Some, None, is_some}
+use Rattle.std.specs.Prelude.{ℕ, ◌≡◌, ◌<◌, ◌+◌, ◌-◌, nat_lt, false, true, cond, List, length, replicate, Option, Some, None, is_some}
 use Rattle.std.specs.List.{range_with_len}
 use Rattle.kc_types.specs.Configuration.{Configuration, slot_count}
 use Rattle.kc_types.specs.declared.link.Ends.{Ends}
 use Rattle.kc_model.specs.State.{zero_page}
 use Rattle.kc_model.specs.Boot.{boot_owner}
 use Rattle.kc_page.specs.declared.page.Page.{Page}
-use Rattle.kc_vms.specs.Vm.{empty_vm}
+use Rattle.kc_vms.specs.Vm.{VmSlot, empty_vm}
 use Rattle.kc_parts.specs.Parts.{Held, HeldSlots, page_at, vm_at}
 
 -- the first frame that is free at boot
@@ -31,6 +31,20 @@ boot_ends config = record {
   head = cond (nat_lt (first_free config) config.frames) (Some (first_free config)) None;
   tail = cond (nat_lt (first_free config) config.frames) (Some (config.frames - 1)) None;
   count = config.frames - first_free config;
+}
+
+-- the slots in the places of their numbers
+abbrev pub slots_of : List (Option VmSlot) → HeldSlots
+slots_of vms = record { numbers = range_with_len 0 (length vms); slots = vms }
+
+-- pages and slots in the places of their numbers, and the ends of the free list
+abbrev pub parts_of : List Page → List (Option VmSlot) → Ends → Held
+parts_of pages vms free = record {
+  numbers = range_with_len 0 (length pages);
+  filled = replicate (length pages) true;
+  pages = pages;
+  vms = slots_of vms;
+  free = Some free;
 }
 
 -- every slot of the configuration, empty, in the place of its number

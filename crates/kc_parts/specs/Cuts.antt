@@ -1,5 +1,5 @@
 -- Parts taken out of parts, and parts put back.
-use Rattle.std.specs.Prelude.{ℕ, ◌≡◌, ◌<◌, ◌==◌, Bool, true, false, cond, List, length, get_or, Option, Some, None, IsSome}
+use Rattle.std.specs.Prelude.{ℕ, ◌≡◌, ◌<◌, Bool, true, cond, List, length, get_or, Option, Some, None, IsSome}
 use Rattle.std.specs.Option.{option_map}
 use Rattle.kc_types.specs.declared.link.Ends.{Ends}
 use Rattle.kc_types.specs.declared.resource.Resource.TheVariants as resource

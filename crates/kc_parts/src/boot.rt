@@ -1,7 +1,7 @@
 //! The parts that a core starts with.
 ghost use Rattle.std.specs.Prelude.{◌≡◌, ◌<◌, ◌+◌, map, replicate, Some, true, IfOk};
 ghost use Rattle.std.specs.List.{range_with_len};
-ghost use Rattle.kc_types.specs.Configuration.{slot_count};
+ghost use Rattle.kc_types.specs.Configuration.{IsConfiguration, slot_count};
 ghost use Rattle.kc_model.specs.Boot.{boot_owner};
 ghost use Rattle.kc_vms.specs.Vm.{empty_vm};
 ghost use Rattle.kc_parts.specs.Booting.{boot_prev, boot_next, boot_page, boot_ends};
@@ -109,7 +109,8 @@ pub fn boot_vms(alloc: Global, config: &Config) -> Result<Vec<Option<Vm>>, Memor
 
 /// The ends of the free list at boot.
 pub fn boot_ends(config: &Config) -> Ends
-    ensures { result ≡ boot_ends config.now }
+    ensures value { result ≡ boot_ends config.now }
+    ensures kept { IsConfiguration config.now }
 {
     let first = config.core() + config.host();
     let frames = config.frames();

@@ -1,14 +1,16 @@
 //! Pages, slots and the ends of the free list, taken out and put back.
-ghost use Rattle.std.specs.Prelude.{◌≡◌, ◌↔◌, ℕ, ◌<◌, IsTrue, is_some, length, get_or, slice_get, IsSome, IfOk, OnOk, OnErr, Option, Some, None, map, cond, true, false, replicate};
+ghost use Rattle.std.specs.Prelude.{◌≡◌, ◌↔◌, ℕ, ◌<◌, ◌≤◌, IsTrue, is_some, length, get_or, slice_get, IsSome, IfOk, OnOk, OnErr, Option, Some, None, map, cond, true, false, replicate};
 ghost use Rattle.std.specs.List.{range_with_len};
 ghost use Rattle.std.specs.Option.{option_copied, option_copied_mut};
 ghost use Rattle.std.specs.Borrow.{sem};
+ghost use Rattle.kc_types.specs.Limits.{frame_limit, slot_limit};
 ghost use Rattle.kc_page.specs.Page.{scrubbed_page};
 ghost use Rattle.kc_parts.specs.Parts.{IsRising};
+ghost use Rattle.kc_parts.specs.Booting.{slots_of};
 
 use crate::PlaceCounts;
 use crate::blank::Blank;
-use crate::boot::{all_filled, all_numbers, boot_ends, boot_pages};
+use crate::boot::{all_filled, all_numbers, boot_ends, boot_pages, boot_vms};
 use crate::place::place_of;
 use crate::slots::VmSlots;
 use crate::wanted::{wanted_frames, wanted_slots, wants_free};
@@ -18,6 +20,22 @@ use kc_vms::Vm;
 use std::alloc::Global;
 use std::marker::Model;
 use std::mem::{replace, swap};
+
+/// The numbers of as many frames, which are all here, and these slots in the places of their numbers.
+fn all_places(
+    alloc: Global,
+    frames: u32,
+    vms: Vec<Option<Vm>>,
+) -> Result<(Vec<u32>, Vec<bool>, VmSlots), Memory>
+    requires { length vms.items ≤ slot_limit }
+    ensures numbers { IfOk result (λ places. places.0.items ≡ range_with_len 0 frames) }
+    ensures filled { IfOk result (λ places. places.1.items ≡ replicate frames true) }
+    ensures slots { IfOk result (λ places. places.2 ≡ slots_of vms.items) }
+{
+    let numbers = all_numbers(alloc, frames)?;
+    let filled = all_filled(alloc, frames)?;
+    Ok((numbers, filled, VmSlots::whole(alloc, vms)?))
+}
 
 /// A store of pages, VM slots and the ends of the free list. Each page and each slot has a place of its own, by rising
 /// number, which stays when it is taken out, with a blank page in it: so putting it back takes no memory.
@@ -51,7 +69,7 @@ impl Parts {
     ghost use Rattle.kc_model.specs.Boot.{boot};
     ghost use Rattle.kc_parts.specs.Parts.{IsHeld, blank_page, place_in, page_at, held_slot, vm_at};
     ghost use Rattle.kc_parts.specs.States.{state_of, IsLinked};
-    ghost use Rattle.kc_parts.specs.Booting.{IsWhole};
+    ghost use Rattle.kc_parts.specs.Booting.{IsWhole, parts_of};
     ghost use Rattle.kc_parts.specs.Lending.{LendsPage, LendsPageHere, LendsVm, LendsVmHere, LendsFree, LendsPages};
     ghost use Rattle.kc_model.specs.Resources.{is_wanted};
     ghost use Rattle.kc_parts.specs.Cuts.{AreHere, IsSplit, AreSlotsFor, FitsInto, IsJoin, IsFull, held_at};
@@ -68,14 +86,38 @@ impl Parts {
         ensures slots { IfOk result (λ parts. parts.vms.numbers ≡ range_with_len 0 (slot_count config.now)) }
         ensures config { OnOk result (IsConfiguration config.now) }
     {
-        Ok(Parts {
-            numbers: all_numbers(alloc, config.frames())?,
-            filled: all_filled(alloc, config.frames())?,
-            pages: boot_pages(alloc, config)?,
-            blanks: Vec::new(alloc),
-            vms: VmSlots::boot(alloc, config)?,
-            free: Some(boot_ends(config)),
-        })
+        let pages = boot_pages(alloc, config)?;
+        let vms = boot_vms(alloc, config)?;
+        Parts::whole(alloc, pages, vms, boot_ends(config))
+    }
+
+    /// Pages and slots, each in the place of its number, and the ends of the free list. `Memory` where a growth was
+    /// refused, and then the pages are wiped.
+    pub fn whole(
+        alloc: Global,
+        mut pages: Vec<Page>,
+        vms: Vec<Option<Vm>>,
+        free: Ends,
+    ) -> Result<Parts, Memory>
+        requires frames { length pages.items ≤ frame_limit }
+        requires slots { length vms.items ≤ slot_limit }
+        // No clause can rule out want of memory: a test boots parts.
+        ensures { IfOk result (λ parts. parts ≡ parts_of pages.items vms.items free) }
+    {
+        match all_places(alloc, pages.len() as u32, vms) {
+            Ok((numbers, filled, vms)) => Ok(Parts {
+                numbers,
+                filled,
+                pages,
+                blanks: Vec::new(alloc),
+                vms,
+                free: Some(free),
+            }),
+            Err(refused) => {
+                scrub_each(pages.as_mut_slice());
+                Err(refused)
+            },
+        }
     }
 
     /// The place where a frame's page is, and the number of pages where it is not here.

@@ -1,17 +1,18 @@
 //! VM slots in places, and how they move from place to place.
-ghost use Rattle.std.specs.Prelude.{◌≡◌, ℕ, [], ◌∷◌, length, replicate, slice_index_or, IfOk, Some, None};
+ghost use Rattle.std.specs.Prelude.{◌≡◌, ◌≤◌, ℕ, [], ◌∷◌, length, replicate, slice_index_or, IfOk, Some, None};
 ghost use Rattle.std.specs.Option.{option_copied, option_copied_mut};
 ghost use Rattle.std.specs.Borrow.{sem};
+ghost use Rattle.kc_types.specs.Limits.{slot_limit};
 ghost use Rattle.kc_vms.specs.Vm.{VmSlot};
 ghost use Rattle.kc_parts.specs.Parts.{IsRising, HasPlace, place_of, held_slot};
-ghost use Rattle.kc_parts.specs.Booting.{boot_slots};
+ghost use Rattle.kc_parts.specs.Booting.{slots_of};
 ghost use Rattle.kc_parts.specs.Lending.{LendsSlot};
 ghost use Rattle.kc_parts.specs.Cuts.{either};
 ghost use Rattle.kc_parts.specs.Moves.{IsEmptySlot, IsSlotWrite, AreMoved};
 
-use crate::boot::{all_numbers, boot_vms};
+use crate::boot::all_numbers;
 use crate::place::place_of;
-use kc_types::{Config, Memory, VmId};
+use kc_types::{Memory, VmId};
 use kc_vms::Vm;
 use std::alloc::Global;
 use std::marker::Model;
@@ -40,13 +41,14 @@ impl Model for VmSlots {
 }
 
 impl VmSlots {
-    /// All slots of the configuration, empty, each in the place of its number.
-    pub(crate) fn boot(alloc: Global, config: &Config) -> Result<VmSlots, Memory>
-        ensures { IfOk result (λ slots. slots ≡ boot_slots config.now) }
+    /// These slots, each in the place of its number.
+    pub(crate) fn whole(alloc: Global, slots: Vec<Option<Vm>>) -> Result<VmSlots, Memory>
+        requires { length slots.items ≤ slot_limit }
+        ensures { IfOk result (λ made. made ≡ slots_of slots.items) }
     {
         Ok(VmSlots {
-            numbers: all_numbers(alloc, config.slots())?,
-            slots: boot_vms(alloc, config)?,
+            numbers: all_numbers(alloc, slots.len() as u32)?,
+            slots,
         })
     }
 

@@ -9,4 +9,3 @@ pub mod Onward
 pub mod Dealing
 pub mod Cutting
 pub mod Moving
-pub mod Chained

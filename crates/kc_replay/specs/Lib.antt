@@ -2,4 +2,3 @@ pub mod Wave
 pub mod Working
 pub mod Replayer
 pub mod Moving
-pub mod Volumes

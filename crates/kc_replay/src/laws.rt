@@ -1,12 +1,11 @@
 //! What holds of segments and of parts, by the definitions.
-ghost use Rattle.std.specs.Prelude.{◌≡◌, ℕ, List};
+ghost use Rattle.std.specs.Prelude.{◌≡◌, List};
 ghost use Rattle.std.specs.List.{flat_map};
 ghost use Rattle.kc_types.specs.declared.call.Call.{Call};
 ghost use Rattle.kc_model.specs.State.{State};
 ghost use Rattle.kc_model.specs.Next.{replies_from, state_after};
 ghost use Rattle.kc_replay.specs.Moving.{IsMoving};
 ghost use Rattle.kc_replay.specs.Replayer.{replies_to_each, state_after_each};
-ghost use Rattle.kc_replay.specs.Volumes.{IsCoreState, Volume, TellsApart, AreReplayedFrom, all_calls, all_replies, last_text};
 
 /// Taking the segments of a trace in turn is taking the trace, however it is cut.
 pub fn cutting()
@@ -19,10 +18,4 @@ pub fn cutting()
 /// by `Parts::put_back` has again what `KCore::from_parts` asks, and its state is the one after those calls.
 pub fn moving()
     ensures { IsMoving }
-{}
-
-/// Volumes that are replayed each by itself, from what the one before it leaves, are one run of one thread.
-pub fn chaining()
-    ensures replies { (spelled : State → List ℕ) → TellsApart spelled → (m : State) (volumes : List Volume) → IsCoreState m → AreReplayedFrom spelled (spelled m) volumes → all_replies volumes ≡ replies_from m (all_calls volumes) }
-    ensures state { (spelled : State → List ℕ) → TellsApart spelled → (m : State) (volumes : List Volume) → IsCoreState m → AreReplayedFrom spelled (spelled m) volumes → last_text (spelled m) volumes ≡ spelled (state_after m (all_calls volumes)) }
 {}

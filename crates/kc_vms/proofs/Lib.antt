@@ -6,3 +6,5 @@ pub mod Rising
 pub mod Emptied
 pub mod Kept
 pub mod Rows
+mod Judged
+mod Filled

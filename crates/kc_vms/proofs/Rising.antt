@@ -1,12 +1,13 @@
 -- The entries of the map that a look-up function is, by rising guest frame.
-use Rattle.std.proofs.Common.{ℕ, zero, suc, ◌≡◌, ◌<◌, ◌≤◌, ◌+◌, ◌*◌, ◌/◌, ◌%◌, get_or, List, [], ◌∷◌, ◌++◌, length, Option, Some, None, refl, sym, ap, ◌∙◌, arith}
-use Rattle.std.proofs.lemmas.List.{append-nil}
+use Rattle.std.proofs.Common.{ℕ, zero, suc, ◌≡◌, ◌<◌, ◌≤◌, ◌+◌, ◌*◌, ◌/◌, ◌%◌, get_or, List, [], ◌∷◌, ◌++◌, length, take, Option, Some, None, refl, sym, ap, subst, ◌∙◌, arith}
+use Rattle.std.proofs.lemmas.List.{append-nil, take_more}
 use Rattle.std.specs.declared.cmp.Ordering.{Ordering}
 use Rattle.std.specs.declared.cmp.Ordering.TheVariants.{Less, Equal, Greater}
 use Rattle.std.specs.Ordering.{nat_cmp}
 use Rattle.std.specs.Cmp.{nat_cmp_total, ranked}
 use Rattle.std.specs.FinMap.{FinMap, entries, empty, insert, entries-insert, len-entries, len-empty}
 use Rattle.std.specs.FinMap.Entries as entry
+use Rattle.kc_vms.proofs.Maps.{keys-other}
 use Rattle.kc_vms.specs.TablePool.{Pool, entry_at}
 use Rattle.kc_vms.specs.Levels.{put, map_of, look_up, mapped_by}
 
@@ -16,7 +17,7 @@ entry_of None g = []
 entry_of (Some f) g = (g, f) ∷ []
 
 -- all guest frames are below this one
-AreLow : ℕ → List (ℕ × ℕ) → Type 0
+pub AreLow : ℕ → List (ℕ × ℕ) → Type 0
 AreLow n [] = Unit {0}
 AreLow n (e ∷ es) = (e.0 < n) × AreLow n es
 
@@ -47,7 +48,7 @@ no-length (x ∷ xs) e = absurd (omega (arith, e))
 pub empty-entries : entries (empty {X = ℕ} {R = nat_cmp}) ≡ []
 empty-entries = no-length (entries (empty {X = ℕ} {R = nat_cmp})) (sym (len-entries (empty {X = ℕ} {R = nat_cmp})) ∙ len-empty nat_cmp ℕ)
 
-insert-last : (m : FinMap nat_cmp ℕ) (n f : ℕ) → AreLow n (entries m) → entries (insert m n f) ≡ entries m ++ (n, f) ∷ []
+pub insert-last : (m : FinMap nat_cmp ℕ) (n f : ℕ) → AreLow n (entries m) → entries (insert m n f) ≡ entries m ++ (n, f) ∷ []
 insert-last m n f low = entries-insert nat_cmp_total m n f ∙ put-last n f (entries m) low
 
 put-entries : (v : Option ℕ) (m : FinMap nat_cmp ℕ) (n : ℕ) → AreLow n (entries m) → entries (put v n m) ≡ entries m ++ entry_of v n
@@ -62,6 +63,22 @@ map_of-low : (look : ℕ → Option ℕ) (n : ℕ) → AreLow n (entries (map_of
 unfolding map_of AreLow
 map_of-low look zero = rw empty-entries tt
 map_of-low look (suc n) = put-low (look n) (map_of look n) n (map_of-low look n)
+
+-- the entries before a place are below it
+pub before-low : (es : List (ℕ × ℕ)) (i : ℕ) → ((n : ℕ) → suc n < length es → (get_or es n (0, 0)).0 < (get_or es (suc n) (0, 0)).0) → i < length es → AreLow (get_or es i (0, 0)).0 (take i es)
+unfolding AreLow
+before-low es zero rising low = tt
+before-low es (suc i) rising low =
+    let e = get_or es i (0, 0) in
+    let less = rising i low in
+    let before = low-push e.0 e.1 (take i es) (before-low es i rising (omega (arith, low))) in
+    let taken : take (suc i) es ≡ take i es ++ e ∷ [] = ap (λ n. take n es) (let n : suc i ≡ i + 1 = omega arith in n) ∙ take_more es i (0, 0) (omega (arith, low)) in
+    subst (AreLow (get_or es (suc i) (0, 0)).0) (sym taken) (low-more (suc e.0) (get_or es (suc i) (0, 0)).0 (take i es ++ e ∷ []) (omega (arith, less)) before)
+
+pub find-low : (n : ℕ) (es : List (ℕ × ℕ)) → AreLow n es → entry.find nat_cmp n es ≡ None
+unfolding AreLow
+find-low n [] low = refl
+find-low n (e ∷ es) low = rw (keys-other n e.0 (λ same. let l = low.0 in omega (arith, same, l))) (find-low n es low.1)
 
 -- the entries with one guest frame more
 pub entries-more : (look : ℕ → Option ℕ) (n : ℕ) → entries (map_of look (suc n)) ≡ entries (map_of look n) ++ entry_of (look n) n

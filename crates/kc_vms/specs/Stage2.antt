@@ -1,10 +1,11 @@
 -- A VM's table as a value: the map, the root slots that have leaves, and how many leaves there can be.
-use Rattle.std.specs.Prelude.{ℕ, ◌/◌, ◌==◌, Bool, ◌||◌, List, [], ◌∷◌, ◌++◌, length, nat_lt, if◌then◌else◌, refl}
+use Rattle.std.specs.Prelude.{ℕ, suc, ◌≡◌, ◌<◌, ◌≤◌, ◌/◌, ◌==◌, Bool, true, ◌||◌, List, [], ◌∷◌, ◌++◌, length, slice_index_or, All, nat_lt, if◌then◌else◌, refl}
 use Rattle.std.specs.Ordering.{nat_cmp}
 use Rattle.std.specs.Coded.{Coded, code_by, coded×, coded_list, coded_ℕ}
 use Rattle.std.specs.List.{list_any}
 use Rattle.std.specs.FinMap as map
 use Rattle.kc_types.specs.Limits.{leaf_entries}
+use Rattle.kc_model.specs.Lawful.{times_in}
 
 pub record Table : Type 0 where
   pub mapped : map.FinMap nat_cmp ℕ
@@ -35,3 +36,11 @@ with_root_slot leaves slot = if has_slot leaves slot then leaves else leaves ++ 
 
 abbrev pub with_mapping : Table → ℕ → ℕ → Table
 with_mapping t g f = record t { mapped = map.insert t.mapped g f; leaves = with_root_slot t.leaves (g / leaf_entries) }
+
+-- there is a table of so many leaves at most with these root slots, each once, and these entries, each of which has a leaf, by rising guest frame
+pub record AreMappings (capacity : ℕ) (roots : List ℕ) (entries : List (ℕ × ℕ)) : Type 0 where
+  pub few : length roots ≤ capacity
+  pub low : All (λ root. root < leaf_entries) roots
+  pub once : (root : ℕ) → times_in roots root ≤ 1
+  pub rooted : (n : ℕ) → n < length entries → has_leaf_of roots (slice_index_or entries n (0, 0)).0 ≡ true
+  pub rising : (n : ℕ) → suc n < length entries → (slice_index_or entries n (0, 0)).0 < (slice_index_or entries (suc n) (0, 0)).0

@@ -4,6 +4,7 @@
 
 mod approved;
 mod entries;
+mod judging;
 mod leaf;
 mod levels;
 mod measure;
@@ -13,6 +14,7 @@ mod table;
 mod vm;
 
 pub use approved::Approved;
+pub use judging::is_slot;
 pub use measure::Measure;
 pub use pages::pages_of;
 pub use table::{MapFault, Stage2};

@@ -1,9 +1,9 @@
 //! The two levels, seen as a finite map.
-ghost use Rattle.std.specs.Prelude.{◌≡◌, ◌/◌, ◌≤◌, IfOk, OnOk, OnErr};
+ghost use Rattle.std.specs.Prelude.{◌≡◌, ◌/◌, ◌<◌, ◌≤◌, ◌∷◌, ◌++◌, [], false, length, IfOk, OnOk, OnErr};
 ghost use Rattle.std.specs.FinMap as finite;
-ghost use Rattle.kc_types.specs.Limits.{leaf_limit};
+ghost use Rattle.kc_types.specs.Limits.{leaf_entries, leaf_limit};
 ghost use Rattle.kc_types.specs.Refusals.{Answers};
-ghost use Rattle.kc_vms.specs.Stage2.{Table, new_table, with_mapping, fits};
+ghost use Rattle.kc_vms.specs.Stage2.{Table, AreMappings, new_table, with_mapping, fits, has_slot};
 ghost use Rattle.kc_vms.specs.Faults.{map_fault};
 
 use crate::entries::entries_of;
@@ -49,6 +49,60 @@ impl Stage2 {
         Ok(Stage2 {
             levels: Levels::try_new(alloc, leaves)?,
         })
+    }
+
+    /// A table with room for this many leaves, in which these root slots, below 512, have taken leaves in this order, and
+    /// these guest frames, rising, are mapped; `Memory` where a growth was refused.
+    pub fn with_entries(
+        alloc: Global,
+        leaves: u8,
+        roots: &[u32],
+        entries: &[(Gfn, FrameNo)],
+    ) -> Result<Stage2, Memory>
+        requires room { leaves ≤ leaf_limit }
+        requires mappings { AreMappings leaves roots.now entries.now }
+        ensures leaves { IfOk result (λ table. table.leaves ≡ roots.now) }
+        ensures entries { IfOk result (λ table. finite.entries table.mapped ≡ entries.now) }
+        ensures capacity { IfOk result (λ table. table.capacity ≡ leaves) }
+    {
+        let mut table = Stage2::try_new(alloc, leaves)?;
+        table.take_leaves(roots);
+        table.map_all(entries);
+        Ok(table)
+    }
+
+    /// A root slot that has no leaf takes one.
+    fn take_leaf(&mut self, root: u32)
+        requires low { root < leaf_entries }
+        requires none { has_slot self.old.leaves root ≡ false }
+        requires room { length self.old.leaves < self.old.capacity }
+        ensures { self.new ≡ record self.old { leaves = self.old.leaves ++ root ∷ [] } }
+    {
+        let _leaf = self.levels.leaf_for(root as usize);
+    }
+
+    /// Root slots take leaves, in this order.
+    fn take_leaves(&mut self, roots: &[u32])
+        requires none { self.old.leaves ≡ [] }
+        requires roots { AreMappings self.old.capacity roots.now [] }
+        ensures { self.new ≡ record self.old { leaves = roots.now } }
+    {
+        for root in roots {
+            self.take_leaf(*root);
+        }
+    }
+
+    /// Maps these guest frames, whose root slots have leaves, in an empty table.
+    fn map_all(&mut self, entries: &[(Gfn, FrameNo)])
+        requires empty { self.old.mapped ≡ finite.empty }
+        requires mappings { AreMappings self.old.capacity self.old.leaves entries.now }
+        ensures entries { finite.entries self.new.mapped ≡ entries.now }
+        ensures leaves { self.new.leaves ≡ self.old.leaves }
+        ensures capacity { self.new.capacity ≡ self.old.capacity }
+    {
+        for entry in entries {
+            self.map(entry.0, entry.1).unwrap();
+        }
     }
 
     /// The frame at a guest frame.

@@ -6,7 +6,7 @@ ghost use Rattle.kc_types.specs.Limits.{gfn_limit, image_size_limit, leaf_limit}
 ghost use Rattle.kc_types.specs.Refusals.{Answers};
 ghost use Rattle.kc_model.specs.State.{no_vcpus};
 ghost use Rattle.kc_model.specs.Refusals.{pages_of, first_of_these, overlaps};
-ghost use Rattle.kc_vms.specs.Vm.{IsVm, empty_vm, slot_table};
+ghost use Rattle.kc_vms.specs.Vm.{IsVm, IsSlot, empty_vm, slot_table};
 ghost use Rattle.kc_model.specs.Slot.{vcpu_of, next_gfn_of, in_phase, with_vcpu, awaiting, with_image, with_image_page};
 ghost use Rattle.kc_vms.specs.Refusals.{no_vm_in, not_booting_in, register_refusal, add_vcpu_refusal, add_image_refusal, next_page_refusal};
 
@@ -59,6 +59,27 @@ impl Vm {
             list: Ends::empty(),
             table: Stage2::try_new(alloc, leaves)?,
         })
+    }
+
+    /// A slot in this phase, with these virtual processors and these boot images, the ends of the list of its frames, and
+    /// its table.
+    pub fn with(
+        phase: Phase,
+        vcpus: ArrayVec<Vcpu, VCPU_LIMIT>,
+        images: ArrayVec<Image, IMAGE_LIMIT>,
+        list: Ends,
+        table: Stage2,
+    ) -> Vm
+        requires { IsSlot phase vcpus.items images.items }
+        ensures { result ≡ record { slot = record { phase = phase; vcpus = vcpus.items; images = images.items; frames = list; mapped = table.mapped; leaves = table.leaves }; capacity = table.capacity } }
+    {
+        Vm {
+            phase,
+            vcpus,
+            images,
+            list,
+            table,
+        }
     }
 
     /// The phase.
@@ -273,7 +294,7 @@ fn overlaps(base: u32, len: u32, image: &Image) -> bool
 }
 
 /// Whether an image of `len` bytes at guest frame `base` has a guest frame of one of these images.
-fn overlaps_any(base: u32, len: u32, images: &[Image]) -> bool
+pub(crate) fn overlaps_any(base: u32, len: u32, images: &[Image]) -> bool
     ensures { result ≡ list_any (overlaps base len) images.now }
 {
     images.iter().any(|image| overlaps(base, len, image))

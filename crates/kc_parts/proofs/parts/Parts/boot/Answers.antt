@@ -1,32 +1,47 @@
-use Rattle.std.proofs.Common.{Some, sym, ap, ◌∙◌, subst}
+use Rattle.std.proofs.Common.{List, Option, Some, length, sym, ap, ◌∙◌, subst, arith}
+use Rattle.std.proofs.lemmas.List.{length-replicate}
+use Rattle.std.proofs.lemmas.List.FromFn.{length-map-range_with_len}
+use Rattle.kc_types.specs.Configuration.{slot_count}
+use Rattle.kc_model.proofs.States.Configurations.{few-frames}
+use Rattle.kc_page.specs.declared.page.Page.{Page}
+use Rattle.kc_vms.specs.Vm.{VmSlot, empty_vm}
 use Rattle.kc_parts.specs.States.{state_of, IsLinked}
-use Rattle.kc_parts.specs.Booting.{IsWhole}
+use Rattle.kc_parts.specs.Booting.{boot_page, IsWhole}
 use Rattle.kc_parts.proofs.Full.{full_from_whole}
-use Rattle.kc_parts.proofs.Booted.{made, is_held-boot, linked-boot, whole-boot, state-boot}
+use Rattle.kc_parts.proofs.Booted.{few-slots, made, linked-boot, whole-boot, state-boot, ok-then, ok-on}
 use Rattle.kc_parts.proofs.parts.Parts.boot.Goals as goal
 
-pub invariant_of-result : goal.invariant_of-result
-invariant_of-result c =
+pub whole-requires-clause-frames : goal.whole-requires-clause-frames
+whole-requires-clause-frames c =
     let config = c.args.config.now in
-    rw (c.in_ok-all_numbers.ensures, c.in_ok-all_filled.ensures, c.in_ok-boot_pages.ensures, c.frames.ensures.value, c.frames-2.ensures.value) (is_held-boot config c.frames.ensures.kept)
+    let few = few-frames config c.boot_ends.ensures.kept in
+    let long = ap (λ (ps : List Page). length ps) c.in_ok-pages.ensures ∙ length-map-range_with_len (boot_page config) 0 config.frames in
+    omega (arith, few, long)
+
+pub whole-requires-clause-slots : goal.whole-requires-clause-slots
+whole-requires-clause-slots c =
+    let config = c.args.config.now in
+    let few = few-slots config in
+    let long = ap (λ (vs : List (Option VmSlot)). length vs) c.in_ok-vms.ensures ∙ length-replicate (slot_count config) (Some (empty_vm config.leaves)) in
+    omega (arith, few, long)
 
 pub returns-clause-state : goal.returns-clause-state
 returns-clause-state c =
     let config = c.args.config.now in
-    ap (state_of config) (made config c.frames.ensures.kept _ _ _ _ _ (rw (← c.frames.ensures.value) c.in_ok-all_numbers.ensures) (rw (← c.frames-2.ensures.value) c.in_ok-all_filled.ensures) c.in_ok-boot_pages.ensures c.in_ok-boot.ensures (ap Some c.boot_ends.ensures))
-    ∙ state-boot config c.frames.ensures.kept
+    ok-then c.whole.result _ _ (λ parts is. ap (state_of config) (made config c.boot_ends.ensures.kept parts _ _ _ is c.in_ok-pages.ensures c.in_ok-vms.ensures c.boot_ends.ensures.value) ∙ state-boot config c.boot_ends.ensures.kept) c.whole.ensures
 
 pub returns-clause-linked : goal.returns-clause-linked
 returns-clause-linked c =
     let config = c.args.config.now in
-    subst (IsLinked config) (sym (made config c.frames.ensures.kept _ _ _ _ _ (rw (← c.frames.ensures.value) c.in_ok-all_numbers.ensures) (rw (← c.frames-2.ensures.value) c.in_ok-all_filled.ensures) c.in_ok-boot_pages.ensures c.in_ok-boot.ensures (ap Some c.boot_ends.ensures)))
-    (linked-boot config c.frames.ensures.kept)
+    ok-then c.whole.result _ _ (λ parts is. subst (IsLinked config) (sym (made config c.boot_ends.ensures.kept parts _ _ _ is c.in_ok-pages.ensures c.in_ok-vms.ensures c.boot_ends.ensures.value)) (linked-boot config c.boot_ends.ensures.kept)) c.whole.ensures
 
 pub returns-clause-whole : goal.returns-clause-whole
 returns-clause-whole c =
     let config = c.args.config.now in
-    subst (IsWhole config) (sym (made config c.frames.ensures.kept _ _ _ _ _ (rw (← c.frames.ensures.value) c.in_ok-all_numbers.ensures) (rw (← c.frames-2.ensures.value) c.in_ok-all_filled.ensures) c.in_ok-boot_pages.ensures c.in_ok-boot.ensures (ap Some c.boot_ends.ensures)))
-    (whole-boot config c.frames.ensures.kept)
+    ok-then c.whole.result _ _ (λ parts is. subst (IsWhole config) (sym (made config c.boot_ends.ensures.kept parts _ _ _ is c.in_ok-pages.ensures c.in_ok-vms.ensures c.boot_ends.ensures.value)) (whole-boot config c.boot_ends.ensures.kept)) c.whole.ensures
 
 pub returns-clause-full : goal.returns-clause-full
-returns-clause-full c = full_from_whole c.args.config.now _ (returns-clause-whole c)
+returns-clause-full c = ok-then c.whole.result _ _ (λ parts whole. full_from_whole c.args.config.now parts whole) (returns-clause-whole c)
+
+pub returns-clause-config : goal.returns-clause-config
+returns-clause-config c = ok-on c.whole.result c.boot_ends.ensures.kept
