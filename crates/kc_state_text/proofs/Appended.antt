@@ -1,5 +1,5 @@
 -- Lines that are appended one after another.
-use Rattle.std.proofs.Common.{ℕ, ◌≡◌, ◌<◌, ◌≤◌, ◌+◌, List, [], ◌∷◌, ◌++◌, length, take, map, Result, Ok, Err, refl, sym, ap, ◌∙◌, append_assoc, arith}
+use Rattle.std.proofs.Common.{ℕ, ◌≡◌, ◌≤◌, List, [], ◌∷◌, ◌++◌, length, take, map, Result, Ok, Err, refl, sym, ap, ◌∙◌, append_assoc}
 use Rattle.std.specs.Prelude.{codes, OnOk}
 use Rattle.std.specs.Fmt.{decimal}
 use Rattle.std.specs.List.{flat_map}
@@ -36,9 +36,9 @@ slot-written rest start a b c d is-a is-b is-c is-d =
     let v = flat_map (λ (vcpu : Vcpu). spaced (vcpu_words vcpu)) rest.vcpus in
     let i = flat_map (λ (image : Image). spaced (image_words image)) rest.images in
     let words : spaced (slot_words rest) ≡ v ++ i =
-        spaced-append (vcpus_words rest.vcpus) (images_words rest.images)
-        ∙ ap (λ (l : List ℕ). l ++ spaced (images_words rest.images)) (ap spaced (mapped rest.vcpus) ∙ spaced-flat vcpu_words rest.vcpus)
-        ∙ ap (λ (l : List ℕ). v ++ l) (spaced-flat image_words rest.images) in
+    spaced-append (vcpus_words rest.vcpus) (images_words rest.images)
+    ∙ ap (λ (l : List ℕ). l ++ spaced (images_words rest.images)) (ap spaced (mapped rest.vcpus) ∙ spaced-flat vcpu_words rest.vcpus)
+    ∙ ap (λ (l : List ℕ). v ++ l) (spaced-flat image_words rest.images) in
     is-d ∙ ap (λ (l : List ℕ). l ++ 10 ∷ []) (is-c ∙ ap (λ (l : List ℕ). l ++ i) (is-b ∙ ap (λ (l : List ℕ). l ++ v) is-a))
     ∙ regrouped-slot start (codes "slot") v i (10 ∷ [])
     ∙ ap (λ (l : List ℕ). start ++ (codes "slot" ++ (l ++ 10 ∷ []))) (sym words)

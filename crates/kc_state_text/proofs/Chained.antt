@@ -1,13 +1,12 @@
 -- Volumes that are replayed each by itself are the whole.
-use Rattle.std.proofs.Common.{ℕ, ◌≡◌, ◌≤◌, List, [], ◌∷◌, ◌++◌, length, All, refl, ap, sym, ◌∙◌}
+use Rattle.std.proofs.Common.{ℕ, ◌≡◌, List, [], ◌∷◌, ◌++◌, refl, ap, sym, ◌∙◌}
 use Rattle.kc_types.specs.declared.call.Call.{Call}
-use Rattle.kc_types.specs.Configuration.{Configuration}
 use Rattle.kc_model.specs.State.{State}
 use Rattle.kc_model.specs.Next.{next, replies_from, state_after}
 use Rattle.kc_model.proofs.Lawful.Keeps.{lawful-next}
 use Rattle.kc_model.proofs.States.Sizes.{sized-next}
 use Rattle.kc_model.proofs.States.Runs.{replies_from-append, state_after-append}
-use Rattle.kc_state_text.specs.Volumes.{IsDigest, IsCoreState, TellsApart, Volume, IsReplayedFrom, AreReplayedFrom, all_calls, all_replies, last_text}
+use Rattle.kc_state_text.specs.Volumes.{IsCoreState, TellsApart, Volume, AreReplayedFrom, all_calls, all_replies, last_text}
 
 told-next : (m : State) (call : Call) → IsCoreState m → IsCoreState (next m call).1
 told-next m call is = record { lawful = lawful-next m call is.lawful; digests = rw (sized-next m call).config is.digests }

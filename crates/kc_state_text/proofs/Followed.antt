@@ -1,5 +1,5 @@
 -- Lines of one kind after one another.
-use Rattle.std.proofs.Common.{ℕ, zero, suc, ◌≡◌, ◌<◌, ◌≤◌, ◌+◌, List, [], ◌∷◌, ◌++◌, length, All, refl, sym, ap, subst, ◌∙◌, append_assoc, arith, length-append}
+use Rattle.std.proofs.Common.{ℕ, ◌≡◌, ◌<◌, ◌≤◌, ◌+◌, List, [], ◌∷◌, ◌++◌, length, All, refl, sym, ap, ◌∙◌, append_assoc, arith, length-append}
 use Rattle.std.specs.List.{flat_map}
 use Rattle.std.proofs.lemmas.List.{append-nil}
 use Rattle.std.proofs.lemmas.Grind.{flat_map-append}
@@ -8,7 +8,7 @@ use Rattle.kc_state_text.specs.Refused.{HasNone}
 use Rattle.kc_state_text.specs.Reading.{BeginsAs, AreRead, Lacks}
 use Rattle.kc_state_text.proofs.Lines.{AreWords, line-same, line-long}
 use Rattle.kc_state_text.proofs.Spelled.{head-of, tail-of}
-use Rattle.kc_state_text.proofs.Gathered.{all-more, IsRest, left-of}
+use Rattle.kc_state_text.proofs.Gathered.{all-more, left-of}
 
 -- none yet
 pub none-read : {X : Type 0} (Is : X → Type 0) (spelled : X → List ℕ) (text : List ℕ) → AreRead Is spelled 0 text [] text
@@ -65,7 +65,7 @@ module _ {X : Type 0} (Is : X → Type 0) (name : List ℕ) (spelled : X → Lis
     lines-same (x ∷ xs) [] c d a b long e = absurd (omega (arith, long))
     lines-same (x ∷ xs) (y ∷ ys) c d a b long e =
         let first = first-same x y (flat_map (λ x. line name (spelled x)) xs ++ c) (flat_map (λ x. line name (spelled x)) ys ++ d) (head-of Is x xs a) (head-of Is y ys b)
-            (sym (append_assoc (line name (spelled x)) (flat_map (λ x. line name (spelled x)) xs) c) ∙ e ∙ append_assoc (line name (spelled y)) (flat_map (λ x. line name (spelled x)) ys) d) in
+        (sym (append_assoc (line name (spelled x)) (flat_map (λ x. line name (spelled x)) xs) c) ∙ e ∙ append_assoc (line name (spelled y)) (flat_map (λ x. line name (spelled x)) ys) d) in
         let rest = lines-same xs ys c d (tail-of Is x xs a) (tail-of Is y ys b) (omega (arith, long)) first.1 in
         (ap (λ z. z ∷ xs) first.0 ∙ ap (λ l. y ∷ l) rest.0, rest.1)
 

@@ -1,8 +1,7 @@
 -- The lines before the dump, read one kind after another.
-use Rattle.std.proofs.Common.{ℕ, ◌≡◌, ◌<◌, ◌≤◌, ◌+◌, ◌^◌, inl, inr, List, [], ◌∷◌, ◌++◌, length, All, refl, sym, ap, subst, ◌∙◌, append_assoc, arith, length-append}
+use Rattle.std.proofs.Common.{ℕ, ◌≡◌, ◌≤◌, ◌+◌, inl, inr, List, [], ◌∷◌, ◌++◌, length, refl, sym, ap, subst, ◌∙◌, append_assoc, arith, length-append}
 use Rattle.std.specs.Prelude.{codes}
 use Rattle.std.specs.List.{flat_map}
-use Rattle.kc_types.specs.Limits.{byte_limit}
 use Rattle.kc_model.specs.Lawful.{IsPage}
 use Rattle.kc_dump.specs.Dump.{Dumped}
 use Rattle.kc_dump_text.specs.declared.dump_line.DumpLine.{DumpLine}
@@ -10,15 +9,15 @@ use Rattle.kc_dump_text.specs.declared.fault.DumpFault.{DumpFault}
 use Rattle.kc_dump_text.specs.declared.fault.DumpFault.TheVariants as dump
 use Rattle.kc_dump_text.specs.DumpText.{spell, dump_header, dump_text}
 use Rattle.kc_dump_text.specs.Grammar.{IsDumpText}
-use Rattle.kc_dump_text.specs.Refused.{IsRefusedDump, DumpStopsFor}
+use Rattle.kc_dump_text.specs.Refused.{IsRefusedDump}
 use Rattle.kc_dump_text.proofs.ReadLines.{bare, spell-bare}
 use Rattle.kc_state_text.specs.Volumes.{IsDigest}
 use Rattle.kc_state.specs.Told.{Told, SlotRest}
 use Rattle.kc_state_text.specs.declared.sizes.Sizes as numbers
 use Rattle.kc_state_text.specs.declared.fault.StateFault.{StateFault}
 use Rattle.kc_state_text.specs.declared.fault.StateFault.TheVariants.{NoHeader, BadLine, Missing, Sizes, Found, Slot, Frame, Memory}
-use Rattle.kc_state_text.specs.StateText.{Front, state_header, sizes_words, sizes_line, approved_words, approved_line, slot_words, slot_line, page_words, page_line, front_text, front_of, told_text}
-use Rattle.kc_state_text.specs.Refused.{AreSizes, IsSlotLine, IsFront, IsWholeFront, BeginsWith, HasNone, StopsBefore, StopsWithin, IsDumpFault, IsTextOf, IsRefusedState, line_count}
+use Rattle.kc_state_text.specs.StateText.{Front, state_header, sizes_words, sizes_line, approved_words, approved_line, slot_words, slot_line, page_words, page_line, front_text, front_of}
+use Rattle.kc_state_text.specs.Refused.{AreSizes, IsSlotLine, IsFront, IsWholeFront, BeginsWith, StopsBefore, IsTextOf, IsRefusedState, line_count}
 use Rattle.kc_state_text.specs.Reading.{BeginsAs, AreRead, Lacks, StopsAmong, IsFrontFault}
 use Rattle.kc_state_text.specs.Faults.{dump_fault}
 use Rattle.kc_state_text.proofs.Lines.{line-long}

@@ -1,5 +1,5 @@
 -- Some things of a line's words were taken, one after another.
-use Rattle.std.proofs.Common.{ℕ, zero, suc, ◌≡◌, ◌<◌, ◌≤◌, ◌+◌, List, [], ◌∷◌, ◌++◌, length, map, All, refl, sym, ap, subst, ◌∙◌, append_assoc, arith, length-append}
+use Rattle.std.proofs.Common.{ℕ, zero, suc, ◌≡◌, ◌<◌, ◌≤◌, ◌+◌, List, [], ◌∷◌, ◌++◌, length, All, refl, sym, ap, ◌∙◌, append_assoc, arith}
 use Rattle.std.specs.List.{flat_map}
 use Rattle.std.proofs.lemmas.List.{append-nil, length-map, map-append}
 use Rattle.std.proofs.lemmas.Grind.{flat_map-append}
@@ -30,7 +30,7 @@ module _ {X A : Type 0} (Is : X → Type 0) (spelled : X → List A) (one : (x y
   left-of (x ∷ xs) [] left more a b le e = absurd (omega (arith, le))
   left-of (x ∷ xs) (y ∷ ys) left more a b le e =
       let behind = one x y (flat_map spelled xs ++ left) (flat_map spelled ys ++ more) (head-of Is x xs a) (head-of Is y ys b)
-          (sym (append_assoc (spelled x) (flat_map spelled xs) left) ∙ e ∙ append_assoc (spelled y) (flat_map spelled ys) more) in
+      (sym (append_assoc (spelled x) (flat_map spelled xs) left) ∙ e ∙ append_assoc (spelled y) (flat_map spelled ys) more) in
       let r = left-of xs ys left more (tail-of Is x xs a) (tail-of Is y ys b) (omega (arith, le)) behind in
       record { rest = r.rest; each = r.each; long = (let l = r.long in omega (arith, l)); whole = r.whole }
 
@@ -54,7 +54,7 @@ pub vcpus-lack : (vcpus : List Vcpu) (words rest : List (List ℕ)) → All IsVc
 vcpus-lack vcpus words rest all few e lacks others more are is =
     let eight = are.eight in
     let r = left-of IsVcpuWord vcpu_words one-word vcpus others rest more all are.each (omega (arith, few, eight))
-        (ap (λ (ws : List (List ℕ)). ws ++ rest) (sym (mapped vcpus)) ∙ sym e ∙ is ∙ ap (λ (ws : List (List ℕ)). ws ++ more) (mapped others)) in
+    (ap (λ (ws : List (List ℕ)). ws ++ rest) (sym (mapped vcpus)) ∙ sym e ∙ is ∙ ap (λ (ws : List (List ℕ)). ws ++ more) (mapped others)) in
     by_rest r.rest r.each r.whole (let l = r.long in omega (arith, l, few, eight))
   where
     by_rest : (left : List Vcpu) → All IsVcpuWord left → rest ≡ flat_map vcpu_words left ++ more → 0 < length left → ⊥

@@ -7,4 +7,7 @@ mod Fronts
 mod PageWords
 mod Chained
 pub mod Appended
+mod OneText
+mod OneRun
+mod Refusals
 pub mod ToCome

@@ -1,15 +1,15 @@
 -- A line is cut off a text in one way, and its words are cut in one way.
-use Rattle.std.proofs.Common.{ℕ, zero, suc, ◌≡◌, ◌<◌, ◌≤◌, ◌+◌, Bool, true, false, List, [], ◌∷◌, ◌++◌, length, refl, sym, ap, subst, ◌∙◌, append_assoc, arith, length-append, All}
+use Rattle.std.proofs.Common.{ℕ, ◌≡◌, ◌<◌, true, List, [], ◌∷◌, ◌++◌, length, refl, sym, ap, ◌∙◌, append_assoc, arith, length-append}
 use Rattle.std.specs.Prelude.{◌==◌, not}
-use Rattle.std.specs.List.{flat_map, list_all, slice_split, join_with_byte}
-use Rattle.std.proofs.lemmas.Bool.{and_parts, and_from, eqb-false, not-true}
+use Rattle.std.specs.List.{list_all, slice_split, join_with_byte}
+use Rattle.std.proofs.lemmas.Bool.{and_parts, eqb-false, not-true}
 use Rattle.std.proofs.lemmas.List.{append-nil}
 use Rattle.std.proofs.lemmas.List.Splits.{join_with_byte-slice_split}
 use Rattle.kc_lines.specs.Lines.{IsOneLine}
 use Rattle.kc_lines.proofs.Words.{is_space, is_word, split_join, join_is_one_line}
 use Rattle.kc_dump_text.specs.DumpText.{spaced, line}
 use Rattle.kc_state_text.specs.Words.{words_in}
-use Rattle.kc_state_text.specs.Reading.{LacksFirst, LacksWhole, BeginsAs, IsWhole, behind}
+use Rattle.kc_state_text.specs.Reading.{LacksWhole, BeginsAs, IsWhole, behind}
 use Rattle.kc_state_text.specs.Refused.{HasNone}
 
 newline-in : (y : ℕ) (b : List ℕ) → IsOneLine (y ∷ b) → y ≡ 10 → ⊥
@@ -63,7 +63,7 @@ line-made name words l rest e =
 pub line-same : (name other : List ℕ) (a b : List (List ℕ)) (c d : List ℕ) → AreWords (name ∷ a) → AreWords (other ∷ b) → line name a ++ c ≡ line other b ++ d → (name ∷ a ≡ other ∷ b) × (c ≡ d)
 line-same name other a b c d h g e =
     let both = cut-same (join_with_byte 32 (name ∷ a)) (join_with_byte 32 (other ∷ b)) c d (join_is_one_line name a h) (join_is_one_line other b g)
-        (sym (line-joined name a c) ∙ e ∙ line-joined other b d) in
+    (sym (line-joined name a c) ∙ e ∙ line-joined other b d) in
     (sym (split_join name a h) ∙ ap (slice_split is_space) both.0 ∙ split_join other b g, both.1)
 
 -- a line is some bytes

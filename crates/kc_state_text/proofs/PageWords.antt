@@ -1,5 +1,5 @@
 -- The word of a page.
-use Rattle.std.proofs.Common.{ℕ, zero, suc, ◌≡◌, ◌<◌, ◌≤◌, ◌+◌, ◌*◌, Bool, true, false, List, [], ◌∷◌, ◌++◌, length, take, drop, replicate, get_or, All, Option, Some, None, refl, sym, ap, subst, ◌∙◌, arith}
+use Rattle.std.proofs.Common.{ℕ, zero, suc, ◌≡◌, ◌<◌, ◌+◌, true, false, List, [], ◌∷◌, ◌++◌, length, drop, replicate, get_or, All, Some, None, refl, sym, ap, subst, ◌∙◌, arith}
 use Rattle.std.specs.Prelude.{codes}
 use Rattle.std.specs.List.{list_all}
 use Rattle.std.specs.Str.{bytes_eq}
@@ -7,7 +7,6 @@ use Rattle.std.proofs.lemmas.List.{append-nil, drop_all}
 use Rattle.hex.specs.Hex.{encode_lower, lower_digits}
 use Rattle.hex.proofs.HexLemmas.{length-encode_with}
 use Rattle.kc_model.specs.State.{zero_page, overwritten}
-use Rattle.kc_model.specs.Bytes.{as_bytes}
 use Rattle.kc_model.specs.Lawful.{IsPage}
 use Rattle.kc_model.proofs.States.Pages.{as_bytes-same}
 use Rattle.kc_model.proofs.States.ZeroPage.{zero_page-replicate, length-zero_page, zero_page-is}

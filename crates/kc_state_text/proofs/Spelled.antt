@@ -1,6 +1,6 @@
 -- What each line spells: it is some words, and no other thing has the same.
-use Rattle.std.proofs.Common.{ℕ, zero, suc, ◌≡◌, ◌<◌, ◌≤◌, ◌+◌, ◌^◌, inl, inr, Bool, true, false, cond, List, [], ◌∷◌, ◌++◌, length, map, get_or, Option, Some, None, All, refl, sym, ap, subst, ◌∙◌, arith, length-append}
-use Rattle.std.specs.Prelude.{◌==◌, ◌&&◌, not, nat_lt, codes, option_map, option_and_then}
+use Rattle.std.proofs.Common.{ℕ, suc, ◌≡◌, ◌<◌, ◌^◌, inl, inr, Bool, true, false, cond, List, [], ◌∷◌, ◌++◌, length, map, get_or, Option, Some, None, All, refl, sym, ap, subst, ◌∙◌, arith}
+use Rattle.std.specs.Prelude.{◌==◌, nat_lt, codes, option_map}
 use Rattle.std.specs.List.{flat_map, list_all}
 use Rattle.std.specs.Fmt.{decimal}
 use Rattle.std.specs.Str.{bytes_eq}
@@ -16,12 +16,12 @@ use Rattle.kc_lines.proofs.Words.{is_word, chosen, decimal_is_word, encoded_is_w
 use Rattle.kc_lines.proofs.Numbers.{number_of-decimal}
 use Rattle.kc_lines.proofs.Digits.{data_of-encode_lower}
 use Rattle.kc_dump_text.specs.Words.{below_of, under, digest_in}
-use Rattle.kc_dump_text.proofs.ReadWords.{map_some, then_some, name_is, number-from, under-from, under-to, digest-to, digest-from}
+use Rattle.kc_dump_text.proofs.ReadWords.{map_some, then_some, name_is, number-from, under-from, under-to, digest-to}
 use Rattle.kc_state.specs.Told.{SlotRest}
 use Rattle.kc_state_text.specs.Volumes.{IsDigest}
 use Rattle.kc_state_text.specs.declared.sizes.Sizes.{Sizes}
 use Rattle.kc_state_text.specs.Words.{vcpu_in, waiting}
-use Rattle.kc_state_text.specs.StateText.{sizes_words, approved_words, fault_word, vcpu_word, image_words, vcpus_words, images_words, slot_words, is_zero, page_word, page_words}
+use Rattle.kc_state_text.specs.StateText.{sizes_words, approved_words, fault_word, vcpu_word, image_words, slot_words, is_zero, page_word, page_words}
 use Rattle.kc_state_text.specs.Refused.{AreSizes, IsVcpuWord, AreImageWords, IsSlotLine}
 use Rattle.kc_state_text.proofs.Lines.{AreWords}
 
@@ -230,7 +230,7 @@ slot-are-words slot is = all-append is_word (map vcpu_word slot.vcpus) (flat_map
 pub slot-same : (a b : SlotRest) → IsSlotLine a → IsSlotLine b → slot_words a ≡ slot_words b → a ≡ b
 slot-same a b x y e =
     let both = append-same (map vcpu_word a.vcpus) (map vcpu_word b.vcpus) (flat_map image_words a.images) (flat_map image_words b.images)
-        (length-map a.vcpus vcpu_word ∙ x.vcpus ∙ sym y.vcpus ∙ sym (length-map b.vcpus vcpu_word)) e in
+    (length-map a.vcpus vcpu_word ∙ x.vcpus ∙ sym y.vcpus ∙ sym (length-map b.vcpus vcpu_word)) e in
     λ i. record { vcpus = map-same vcpu_word IsVcpuWord vcpu-same a.vcpus b.vcpus x.each_vcpu y.each_vcpu both.0 i; images = images-same a.images b.images x.each_image y.each_image both.1 i }
 
 -- ---- pages

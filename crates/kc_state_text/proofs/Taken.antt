@@ -1,5 +1,5 @@
 -- Words that are taken one after another.
-use Rattle.std.proofs.Common.{ℕ, ◌≡◌, ◌<◌, ◌≤◌, ◌^◌, inl, inr, Bool, true, false, List, [], ◌∷◌, ◌++◌, length, Option, Some, None, refl, sym, ap, subst, ◌∙◌, arith}
+use Rattle.std.proofs.Common.{ℕ, ◌≡◌, inl, inr, Bool, true, false, List, [], ◌∷◌, length, Option, Some, None, sym, ap, ◌∙◌, arith}
 use Rattle.std.specs.Prelude.{◌==◌, MatchOption}
 use Rattle.std.proofs.lemmas.Bool.{eqb-true}
 use Rattle.hex.specs.Hex.{lower_digits}
@@ -7,7 +7,7 @@ use Rattle.hex.proofs.HexLemmas.{length-encode_with}
 use Rattle.std.specs.Fmt.{decimal}
 use Rattle.std.proofs.lemmas.List.Splits.{length-slice_split}
 use Rattle.hex.specs.Hex.{encode_lower}
-use Rattle.kc_model.specs.State.{Vcpu, Image}
+use Rattle.kc_model.specs.State.{Vcpu}
 use Rattle.kc_lines.specs.Words.{number_in, data_of}
 use Rattle.kc_lines.proofs.Words.{is_space, chosen}
 use Rattle.kc_lines.proofs.Numbers.{number_of-decimal, number_is_decimal}
@@ -16,9 +16,9 @@ use Rattle.kc_dump_text.proofs.ReadWords.{digest-from}
 use Rattle.kc_lines.proofs.Digits.{data_is_spelled}
 use Rattle.kc_state_text.specs.Volumes.{IsDigest}
 use Rattle.kc_state_text.specs.declared.sizes.Sizes.{Sizes}
-use Rattle.kc_state_text.specs.Words.{words_in, words_left, vcpu_in}
-use Rattle.kc_state_text.specs.StateText.{sizes_words, approved_words, vcpu_word, vcpu_words, image_words}
-use Rattle.kc_state_text.specs.Refused.{AreSizes, IsVcpuWord, AreImageWords}
+use Rattle.kc_state_text.specs.Words.{words_left, vcpu_in}
+use Rattle.kc_state_text.specs.StateText.{sizes_words, approved_words, vcpu_word, vcpu_words}
+use Rattle.kc_state_text.specs.Refused.{AreSizes, IsVcpuWord}
 use Rattle.kc_state_text.specs.Reading.{IsNumber, number_words, behind, LacksFirst, LacksWhole, BeginsAs, IsWhole}
 use Rattle.kc_state_text.proofs.Spelled.{vcpu-to, vcpu-from, approved-to, rest-same}
 

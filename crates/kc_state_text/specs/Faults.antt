@@ -2,6 +2,8 @@
 use Rattle.std.specs.Prelude.{ℕ, ◌+◌, List, [], codes, Option, Some, None}
 use Rattle.kc_state_text.specs.declared.fault.StateFault.{StateFault}
 use Rattle.kc_state_text.specs.declared.fault.StateFault.TheVariants.{NoHeader, BadLine, Missing, Sizes, Found, Slot, Frame, Memory}
+use Rattle.kc_state.specs.declared.unlawful.Unlawful.{Unlawful}
+use Rattle.kc_state.specs.declared.unlawful.Unlawful.TheVariants as unlawful
 use Rattle.kc_dump_text.specs.declared.fault.DumpFault.{DumpFault}
 use Rattle.kc_dump_text.specs.declared.fault.DumpFault.TheVariants as dump
 
@@ -11,6 +13,14 @@ dump_fault before dump.NoHeader = BadLine (before + 1)
 dump_fault before (dump.BadLine n) = BadLine (before + n)
 dump_fault before (dump.Frame f) = Missing f
 dump_fault before dump.Memory = Memory
+
+-- what is wrong with the text of what is told of no lawful state for this reason
+abbrev pub unlawful_fault : Unlawful → StateFault
+unlawful_fault unlawful.Sizes = Sizes
+unlawful_fault (unlawful.Found finding) = Found finding
+unlawful_fault (unlawful.Slot v) = Slot v
+unlawful_fault (unlawful.Frame f) = Frame f
+unlawful_fault unlawful.Memory = Memory
 
 -- why a text is no state's, up to the number of a line, a frame or a slot; of a finding its text follows
 abbrev pub state_fault_words : StateFault → List ℕ

@@ -1,10 +1,9 @@
 -- The words of a line.
-use Rattle.std.specs.Prelude.{ℕ, ◌==◌, nat_lt, Bool, true, false, List, [], length, codes, Option, Some, None, option_map, option_and_then, if◌then◌else◌}
+use Rattle.std.specs.Prelude.{ℕ, ◌==◌, Bool, true, false, List, [], codes, Option, Some, None, option_map, if◌then◌else◌}
 use Rattle.std.specs.List.{slice_split}
 use Rattle.std.specs.Str.{bytes_eq}
 use Rattle.kc_types.specs.Limits.{gfn_limit}
-use Rattle.kc_model.specs.State.{Vcpu, absent_vcpu}
-use Rattle.kc_lines.specs.Words.{number_in}
+use Rattle.kc_model.specs.State.{Vcpu}
 use Rattle.kc_dump_text.specs.Words.{below_of}
 
 abbrev pub words_in : List ℕ → List (List ℕ)

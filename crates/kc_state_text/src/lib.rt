@@ -3,6 +3,7 @@
 
 mod fault;
 mod front;
+pub mod laws;
 mod line_reader;
 mod pages;
 mod pieces;
@@ -13,3 +14,4 @@ mod writing;
 
 pub use fault::StateFault;
 pub use pieces::{StatePieces, is_state_text, wipe_piece};
+pub use reader::read_state;

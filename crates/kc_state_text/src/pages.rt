@@ -39,8 +39,7 @@ impl Model for Buffer {
 
 impl Buffer {
     /// All zero.
-    pub fn new(alloc: Global) -> Result<Buffer, Memory>
-    {
+    pub fn new(alloc: Global) -> Result<Buffer, Memory> {
         Ok(Buffer {
             bytes: vec![in alloc; 0u8; PAGE_SIZE as usize]?,
         })
@@ -124,7 +123,12 @@ impl Pages {
     }
 
     /// One more page, if the text begins with the line of one, and what stands behind it.
-    pub fn read<'a>(&mut self, alloc: Global, text: &'a [u8], buffer: &mut Buffer) -> Result<Option<&'a [u8]>, Memory>
+    pub fn read<'a>(
+        &mut self,
+        alloc: Global,
+        text: &'a [u8],
+        buffer: &mut Buffer,
+    ) -> Result<Option<&'a [u8]>, Memory>
         ensures { IfOk result (λ found. MatchOption found
             (HasNone IsPage page_line text.now)
             (λ rest. (bytes : List ℕ) × BeginsAs IsPage page_line text.now bytes rest.now × (self.new ≡ self.old ++ bytes ∷ []))) }

@@ -1,17 +1,21 @@
 //! Reading a state.
-ghost use Rattle.std.specs.Prelude.{ℕ, ◌≡◌, ◌≤◌, ◌<◌, ◌+◌, ◌^◌, length, MatchResult};
+ghost use Rattle.std.specs.Prelude.{ℕ, ◌≡◌, ◌≤◌, ◌<◌, ◌+◌, ◌^◌, length, IfOk, IfErr, MatchResult};
 ghost use Rattle.kc_types.specs.Limits.{byte_limit};
 ghost use Rattle.kc_dump_text.specs.declared.fault.DumpFault.TheVariants.{BadLine};
-ghost use Rattle.kc_state_text.specs.StateText.{front_of};
-ghost use Rattle.kc_state_text.specs.Refused.{line_count, IsTextOf, IsRefusedState};
-ghost use Rattle.kc_state_text.specs.Faults.{dump_fault};
+ghost use Rattle.kc_state_text.specs.StateText.{state_text};
+ghost use Rattle.kc_state_text.specs.Refused.{IsTextOf, IsRefusedState};
+ghost use Rattle.kc_state_text.specs.Faults.{dump_fault, unlawful_fault};
+ghost use Rattle.kc_state_text.specs.Volumes.{IsCoreState};
 
 use crate::fault::StateFault;
 use crate::front::{Front, read_front};
+use kc_core::KCore;
+use kc_digests::Lanes;
 use kc_dump::Dump;
 use kc_dump_text::{DumpFault, read_dump};
-use kc_state::Told;
+use kc_state::{Told, Unlawful, core_of};
 use std::alloc::Global;
+use std::thread::Threads;
 
 /// What is wrong with a state where this is wrong with its dump, which stands behind so many lines.
 fn dump_fault(fault: DumpFault, before: u32) -> StateFault
@@ -35,7 +39,12 @@ fn told_of(front: Front, dump: Dump) -> Told
     ensures pages { result.rest.pages ≡ front.pages }
     ensures dump { result.dump ≡ dump }
 {
-    let Front { sizes, approved, slots, pages } = front;
+    let Front {
+        sizes,
+        approved,
+        slots,
+        pages,
+    } = front;
     Told {
         host: sizes.host,
         approved,
@@ -55,5 +64,43 @@ fn read_told(alloc: Global, text: &[u8]) -> Result<Told, StateFault>
     match read_dump(alloc, rest) {
         Ok(dump) => Ok(told_of(front, dump)),
         Err(fault) => Err(dump_fault(fault, before)),
+    }
+}
+
+/// What is wrong with the text of what is told of no lawful state.
+fn unlawful_fault(why: Unlawful) -> StateFault
+    ensures { result ≡ unlawful_fault why }
+{
+    match why {
+        Unlawful::Sizes => StateFault::Sizes,
+        Unlawful::Found(finding) => StateFault::Found(finding),
+        Unlawful::Slot(vm) => StateFault::Slot(vm),
+        Unlawful::Frame(frame) => StateFault::Frame(frame),
+        Unlawful::Memory => StateFault::Memory,
+    }
+}
+
+/// The core whose state's text this is, of at most 1,073,741,824 bytes. Memory is the only fault that says nothing of the
+/// text. The pages are hashed by several threads, of so many at
+/// once, and compared with their digests. What was read is wiped where it is refused.
+pub fn read_state(
+    rt: &(impl Threads + Sync),
+    alloc: Global,
+    text: &[u8],
+    lanes: Lanes,
+) -> Result<KCore, StateFault>
+    requires { length text.now ≤ byte_limit }
+    // What is read is the state's one text, and what is refused is no lawful state's, for its first fault.
+    ensures state { IfOk result (λ core. text.now ≡ state_text core) }
+    ensures core { IfOk result IsCoreState }
+    ensures refused { IfErr result (IsRefusedState text.now) }
+{
+    let told = read_told(alloc, text)?;
+    match core_of(rt, alloc, told, lanes) {
+        Ok(core) => {
+            let _config = core.config();
+            Ok(core)
+        }
+        Err(why) => Err(unlawful_fault(why)),
     }
 }

@@ -27,18 +27,18 @@ returns-in_err-slots c =
     let made = err_from_is_err_and c.from_residual-in_err-slots.result c.from_residual-in_err-slots.ensures.1 in
     rw (made.1, made.2)
     (slots-stop c.args.text.now c.in-Some.rest.now c.in-Some-sizes_at.rest.now c.in-Some-sizes_at.sizes c.in-Some.ensures c.in-Some-sizes_at.ensures c.in_ok-approved.rest.now c.in_ok-approved.approved.items c.in_ok-approved.ensures
-        c.in_err-slots.field-0.0 c.in_err-slots.ensures)
+    c.in_err-slots.field-0.0 c.in_err-slots.ensures)
 
 pub overflow_add-first-2 : goal.overflow_add-first-2
 overflow_add-first-2 c =
     let room = slots-room c.args.text.now c.in-Some.rest.now c.in-Some-sizes_at.rest.now c.in-Some-sizes_at.sizes c.in-Some.ensures c.in-Some-sizes_at.ensures c.in_ok-approved.rest.now c.in_ok-approved.approved.items c.in_ok-approved.ensures
-        c.in_ok-slots.rest.now c.in_ok-slots.slots.items c.in_ok-slots.ensures in
+    c.in_ok-slots.rest.now c.in_ok-slots.slots.items c.in_ok-slots.ensures in
     omega (arith, room, c.requires)
 
 pub read_all_pages-requires : goal.read_all_pages-requires
 read_all_pages-requires c =
     let room = slots-room c.args.text.now c.in-Some.rest.now c.in-Some-sizes_at.rest.now c.in-Some-sizes_at.sizes c.in-Some.ensures c.in-Some-sizes_at.ensures c.in_ok-approved.rest.now c.in_ok-approved.approved.items c.in_ok-approved.ensures
-        c.in_ok-slots.rest.now c.in_ok-slots.slots.items c.in_ok-slots.ensures in
+    c.in_ok-slots.rest.now c.in_ok-slots.slots.items c.in_ok-slots.ensures in
     omega (arith, room, c.requires)
 
 pub returns-in_err-pages : goal.returns-in_err-pages
@@ -46,7 +46,7 @@ returns-in_err-pages c =
     let made = err_from_is_err_and c.from_residual-in_err-pages.result c.from_residual-in_err-pages.ensures.1 in
     rw (made.1, made.2)
     (pages-stop c.args.text.now c.in-Some.rest.now c.in-Some-sizes_at.rest.now c.in-Some-sizes_at.sizes c.in-Some.ensures c.in-Some-sizes_at.ensures c.in_ok-approved.rest.now c.in_ok-approved.approved.items c.in_ok-approved.ensures
-        c.in_ok-slots.rest.now c.in_ok-slots.slots.items c.in_ok-slots.ensures c.in_err-pages.field-0.0 c.in_err-pages.ensures)
+    c.in_ok-slots.rest.now c.in_ok-slots.slots.items c.in_ok-slots.ensures c.in_err-pages.field-0.0 c.in_err-pages.ensures)
 
 pub returns : goal.returns
 returns c =

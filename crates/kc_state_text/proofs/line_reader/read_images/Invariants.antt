@@ -9,7 +9,7 @@ abbrev pub invariant-loop-words : goal.invariant-loop-words
 invariant-loop-words l = record {
   spelled : l.initial.words ≡ images_words l.images.items ++ l.words;
   each : All AreImageWords l.images.items;
-  few : length l.images.items ≤ image_limit
+  few : length l.images.items ≤ image_limit;
 }
 
 abbrev pub decreases-loop-words : goal.decreases-loop-words

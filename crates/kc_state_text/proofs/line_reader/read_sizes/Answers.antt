@@ -13,10 +13,10 @@ pub returns-in_err-host : goal.returns-in_err-host
 returns-in_err-host c =
     rw c.from_residual-in_err-host.ensures
     (no-host (codes "config") (words_in c.args.line.now) c.in_ok-slots.slots c.in_ok-frames.frames c.name.new.self c.number.new.self c.number-2.new.self (sym c.new-words.ensures ∙ c.in_ok-name.ensures) c.in_ok-slots.ensures c.in_ok-frames.ensures
-        c.in_err-host.ensures)
+    c.in_err-host.ensures)
 
 pub returns-in_err-approved : goal.returns-in_err-approved
 returns-in_err-approved c =
     rw c.from_residual-in_err-approved.ensures
     (no-approved (codes "config") (words_in c.args.line.now) c.in_ok-slots.slots c.in_ok-frames.frames c.in_ok-host.host c.name.new.self c.number.new.self c.number-2.new.self c.number-3.new.self (sym c.new-words.ensures ∙ c.in_ok-name.ensures)
-        c.in_ok-slots.ensures c.in_ok-frames.ensures c.in_ok-host.ensures c.in_err-approved.ensures)
+    c.in_ok-slots.ensures c.in_ok-frames.ensures c.in_ok-host.ensures c.in_err-approved.ensures)

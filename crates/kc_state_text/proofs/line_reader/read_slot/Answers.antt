@@ -1,7 +1,7 @@
 use Rattle.std.proofs.Common.{sym, ◌∙◌}
 use Rattle.std.specs.Prelude.{codes}
 use Rattle.kc_state_text.specs.Words.{words_in}
-use Rattle.kc_state_text.proofs.Gathered.{no-images, slot-read}
+use Rattle.kc_state_text.proofs.Gathered.{no-images}
 use Rattle.kc_state_text.proofs.line_reader.read_slot.Goals as goal
 
 pub returns-in_err-images : goal.returns-in_err-images

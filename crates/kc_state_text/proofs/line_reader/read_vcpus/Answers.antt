@@ -1,5 +1,5 @@
-use Rattle.std.proofs.Common.{◌∙◌, ap, arith}
-use Rattle.kc_state_text.proofs.Gathered.{vcpus-lack, vcpus-more, all-more}
+use Rattle.std.proofs.Common.{arith}
+use Rattle.kc_state_text.proofs.Gathered.{vcpus-lack}
 use Rattle.kc_state_text.proofs.line_reader.read_vcpus.Goals as goal
 
 pub returns-in_err-read_vcpu : goal.returns-in_err-read_vcpu

@@ -8,5 +8,5 @@ abbrev pub invariant-loop-number : goal.invariant-loop-number
 invariant-loop-number l = record {
   spelled : l.initial.words ≡ vcpus_words l.vcpus.items ++ l.words;
   each : All IsVcpuWord l.vcpus.items;
-  many : length l.vcpus.items ≡ l._number
+  many : length l.vcpus.items ≡ l._number;
 }

@@ -12,5 +12,5 @@ returns c =
     let slot = slot_at c.args.core.now c.args.vm in
     let images : c.unwrap.result.now ≡ slot.images = rw c.unwrap.ensures at c.images.ensures.value in
     on-map c.push_short-2.result (slot-written (slot_rest slot) c.args.text.now.items c.push_short.new.text.items c.push_vcpus.new.text.items c.push_images.new.text.items c.push_short-2.new.text.items
-        c.in_ok-push_short.ensures c.in_ok-push_vcpus.ensures
-        (c.in_ok-push_images.ensures ∙ ap (λ (is : List Image). c.push_vcpus.new.text.items ++ flat_map (λ (image : Image). spaced (image_words image)) is) images)) c.push_short-2.ensures
+    c.in_ok-push_short.ensures c.in_ok-push_vcpus.ensures
+    (c.in_ok-push_images.ensures ∙ ap (λ (is : List Image). c.push_vcpus.new.text.items ++ flat_map (λ (image : Image). spaced (image_words image)) is) images)) c.push_short-2.ensures

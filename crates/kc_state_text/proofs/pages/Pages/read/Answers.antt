@@ -1,7 +1,7 @@
 use Rattle.std.specs.Prelude.{codes}
 use Rattle.kc_model.specs.Lawful.{IsPage}
 use Rattle.kc_state_text.specs.StateText.{page_word, page_words}
-use Rattle.kc_state_text.proofs.Lines.{none-unread, begins}
+use Rattle.kc_state_text.proofs.Lines.{none-unread}
 use Rattle.kc_state_text.proofs.Spelled.{page-are-words}
 use Rattle.kc_state_text.proofs.PageWords.{other-word, begins-page}
 use Rattle.kc_state_text.proofs.pages.Pages.read.Goals as goal
