@@ -1,7 +1,7 @@
 -- What is told of calls that come after others, and what the sink takes of it.
 use Rattle.std.proofs.Common.{ℕ, ◌≡◌, ◌+◌, ◌++◌, List, [], ◌∷◌, length, take, map, refl, ap, ap₂, sym, ◌∙◌, Option, Some, None, subst, arith, inl, inr, append_assoc}
 use Rattle.std.proofs.lemmas.Bool.{cases_lt}
-use Rattle.std.proofs.lemmas.List.{take_all, length-map}
+use Rattle.std.proofs.lemmas.List.{take_all, length-map, append-nil}
 use Rattle.std.proofs.Math.Seq.{take-append-add, take-append-le}
 use Rattle.std.proofs.KnownBytes.{Appends-trans}
 use Rattle.std.specs.Prelude.{IfSome}
@@ -105,3 +105,20 @@ first_cut old new front lines rest cut =
 pub second_cut : (old mid new : Option (List ℕ)) (front lines rest : List ℕ) → Appends old mid (front ++ lines) → ((n : ℕ) × Appends mid new (take n rest)) → (m : ℕ) × Appends old new (take m (front ++ (lines ++ rest)))
 second_cut old mid new front lines rest one cut =
     (length (front ++ lines) + cut.0, rw (sym (take-append-add (front ++ lines) rest cut.0), append_assoc front lines rest) at (Appends-trans old mid new (front ++ lines) (take cut.0 rest) one cut.1))
+
+-- one piece more was given of what is to come
+pub piece_given : (old mid new : Option (List ℕ)) (bytes piece come left whole : List ℕ) → Appends old mid bytes → Appends mid new piece → piece ++ left ≡ come → bytes ++ come ≡ whole → Appends old new (bytes ++ piece) × ((bytes ++ piece) ++ left ≡ whole)
+piece_given old mid new bytes piece come left whole one more next all =
+    (Appends-trans old mid new bytes piece one more, append_assoc bytes piece left ∙ ap (λ (l : List ℕ). bytes ++ l) next ∙ all)
+
+-- the piece was cut short
+pub piece_cut : (old mid new : Option (List ℕ)) (bytes piece come left whole : List ℕ) → Appends old mid bytes → ((n : ℕ) × Appends mid new (take n piece)) → piece ++ left ≡ come → bytes ++ come ≡ whole → (m : ℕ) × Appends old new (take m whole)
+piece_cut old mid new bytes piece come left whole one cut next all =
+    let begins = cut_first piece left cut.0 in
+    let same : bytes ++ take cut.0 piece ≡ take (length bytes + begins.0) whole =
+        ap (λ (l : List ℕ). bytes ++ l) (begins.1 ∙ ap (take begins.0) next) ∙ sym (take-append-add bytes come begins.0) ∙ ap (take (length bytes + begins.0)) all in
+    (length bytes + begins.0, rw same at (Appends-trans old mid new bytes (take cut.0 piece) one cut.1))
+
+-- nothing was left
+pub all_given : (old new : Option (List ℕ)) (bytes come whole : List ℕ) → Appends old new bytes → come ≡ [] → bytes ++ come ≡ whole → Appends old new whole
+all_given old new bytes come whole one none all = rw (sym (append-nil bytes) ∙ ap (λ (l : List ℕ). bytes ++ l) (sym none) ∙ all) at one

@@ -1,10 +1,11 @@
 //! What is written of a replay: its replies, or the core that it leaves.
-ghost use Rattle.std.specs.Prelude.{◌≡◌, ◌⊎◌, ◌++◌, ℕ, List, take, false, IfErr, IfOk, OnOk};
+ghost use Rattle.std.specs.Prelude.{◌≡◌, ◌≤◌, ◌⊎◌, ℕ, take, false, is_err, vec_capacity, IfErr, IfOk, OnOk, OnErr};
 ghost use Rattle.std.specs.Io.KnownBytes.{Appends};
 ghost use Rattle.kc_trace.specs.ReplyText.{reply_text_of};
 ghost use Rattle.kc_dump_text.specs.DumpText.{dump_text};
 ghost use Rattle.kc_state.specs.Dumping.{dump_of};
 ghost use Rattle.kc_state_text.specs.StateText.{state_text};
+ghost use Rattle.kc_state_text.specs.Pieces.{longest_page_line, to_come};
 ghost use Rattle.kc_texts.specs.Outcomes.{TellsSink};
 ghost use Rattle.kc_cli.specs.Engine.{written_text};
 
@@ -14,7 +15,7 @@ use kc_digests::Lanes;
 use kc_dump_text::write_dump;
 use kc_replay::Outcome;
 use kc_state::dump;
-use kc_state_text::StatePieces;
+use kc_state_text::{StatePieces, wipe_piece};
 use kc_texts::{Failed, Sink, TextFault, empty_piece, give_replies, write_whole};
 use kc_types::{Memory, Reply};
 use std::alloc::Global;
@@ -72,25 +73,30 @@ fn give_dump<K: Sink>(
     }
 }
 
-/// Gives pieces of a core's text to a sink until none is left. After an `Err` it has taken a beginning of them.
+/// Gives what is left of a core's text to a sink, a piece at a time. After an `Err` it has taken a beginning of it.
 fn give_pieces<K: Sink>(
     core: &KCore,
-    mut pieces: StatePieces,
-    mut piece: Vec<u8>,
+    pieces: StatePieces,
+    piece: &mut Vec<u8>,
     out: &mut K,
 ) -> Result<(), Failed>
-    requires { K.failed out.old ≡ false }
+    requires room { longest_page_line ≤ vec_capacity piece.old }
+    requires out { K.failed out.old ≡ false }
+    ensures ok { OnOk result (Appends (K.taken out.old) (K.taken out.new) (to_come core.now pieces)) }
+    ensures begun { OnErr result ((n : ℕ) × Appends (K.taken out.old) (K.taken out.new) (take n (to_come core.now pieces))) }
+    ensures mark { K.failed out.new ≡ is_err result }
 {
-    loop {
-        pieces.fill(core, &mut piece);
+    let mut pieces = pieces;
+    'pieces: loop {
+        pieces.fill(core, piece);
         if piece.is_empty() {
             return Ok(());
         }
-        write_whole(out, &piece)?;
+        write_whole(out, piece)?;
     }
 }
 
-/// Gives the text of a core's state, a piece at a time.
+/// Gives the text of a core's state, a piece at a time. The memory of a piece is wiped.
 fn give_state<K: Sink>(
     rt: &(impl Threads + Sync),
     alloc: Global,
@@ -107,10 +113,12 @@ fn give_state<K: Sink>(
     let Ok(pieces) = StatePieces::new(rt, alloc, core, lanes) else {
         return Err(TextFault::Memory);
     };
-    let Ok(piece) = empty_piece(alloc) else {
+    let Ok(mut piece) = empty_piece(alloc) else {
         return Err(TextFault::Memory);
     };
-    match give_pieces(core, pieces, piece, out) {
+    let given = give_pieces(core, pieces, &mut piece, out);
+    wipe_piece(&mut piece);
+    match given {
         Ok(()) => Ok(()),
         Err(_) => Err(TextFault::Write),
     }
