@@ -3,6 +3,10 @@ use Rattle.std.specs.Prelude.{ℕ, List}
 use Rattle.sha2.specs.Sha256.{sha256}
 use Rattle.kc_page.specs.declared.page.Page.{Page}
 
+-- the SHA-256 of a page whose bytes `bytes` tells
+abbrev pub digest_by : {P : Type 0} → (P → List ℕ) → P → List ℕ
+digest_by bytes page = sha256 (bytes page)
+
 -- the SHA-256 of the page's bytes
 abbrev pub digest_of : Page → List ℕ
 digest_of page = sha256 page.bytes

@@ -1,6 +1,7 @@
 //! SHA-256 (FIPS 180-4) of several at a time: the digests of pages, by several threads, and of four messages of one length.
 #![tactic(auto)]
 
+mod bytes;
 mod compress;
 mod constants;
 mod measure;
@@ -10,4 +11,4 @@ mod vector;
 mod words;
 
 pub use measure::MeasureFour;
-pub use pages::{Lanes, frame_digests, zero_digest};
+pub use pages::{Lanes, bytes_digests, frame_digests, zero_digest};

@@ -3,12 +3,13 @@ ghost use Rattle.std.specs.Prelude.{◌≡◌, ◌↔◌, ◌+◌, ◌<◌, ◌�
 ghost use Rattle.sha2.specs.Sha256.{sha256};
 ghost use Rattle.kc_types.specs.Limits.{page_size};
 ghost use Rattle.kc_model.specs.State.{zero_page};
-ghost use Rattle.kc_digests.specs.Digests.{digest_of};
+ghost use Rattle.kc_digests.specs.Digests.{digest_by, digest_of};
 
+use crate::bytes::Bytes;
 use crate::measure::{BLOCK, lane_digest, last_blocks, run_blocks};
 use crate::state::initial;
 use crate::vector::{MOST_LANES, Vector};
-use kc_page::Page;
+use kc_page::{Page, PageBytes};
 use kc_types::{Memory, PAGE_SIZE};
 use rayon::prelude::par_chunks_mut_for_each;
 use sha2::{Digest, Sha256};
@@ -65,11 +66,11 @@ fn hash_pages<V: Vector>(pages: &[&[u8]], out: &mut [[u8; 32]])
 }
 
 /// Whether all bytes of all pages are zero.
-fn are_zero(pages: &[Page]) -> bool
-    ensures { IsTrue result → map digest_of pages.now ≡ replicate (length pages.now) (sha256 zero_page) }
+fn are_zero<P: Bytes>(pages: &[P]) -> bool
+    ensures { IsTrue result → map (digest_by P.bytes) pages.now ≡ replicate (length pages.now) (sha256 zero_page) }
 {
     'pages: for i in 0..pages.len() {
-        if !is_zero(pages[i].bytes.as_slice()) {
+        if !is_zero(pages[i].bytes().as_slice()) {
             return false;
         }
     }
@@ -77,14 +78,14 @@ fn are_zero(pages: &[Page]) -> bool
 }
 
 /// The bytes of each page, and behind them pages of zero bytes.
-fn bytes_of(pages: &[Page]) -> [&[u8]; MOST_LANES]
+fn bytes_of<P: Bytes>(pages: &[P]) -> [&[u8]; MOST_LANES]
     requires { length pages.now ≤ 8 }
-    ensures bytes { map (λ page. page.now) (take (length pages.now) result) ≡ map (λ page. page.bytes) pages.now }
+    ensures bytes { map (λ page. page.now) (take (length pages.now) result) ≡ map P.bytes pages.now }
     ensures whole { All (λ page. length page.now ≡ page_size) (take (length pages.now) result) }
 {
     let mut bytes = [&ZERO_PAGE[..]; MOST_LANES];
     'pages: for i in 0..pages.len() {
-        bytes[i] = pages[i].bytes.as_slice();
+        bytes[i] = pages[i].bytes().as_slice();
     }
     bytes
 }
@@ -100,11 +101,11 @@ fn fill(out: &mut [[u8; 32]], digest: [u8; 32])
 
 /// Writes the digests of as many pages as there are lanes, in order, where that of a page of zero bytes is known, so that
 /// pages that are all zero, as free ones are, cost no hashing.
-fn digest_pages<V: Vector>(pages: &[Page], zero: [u8; 32], out: &mut [[u8; 32]])
+fn digest_pages<V: Vector, P: Bytes>(pages: &[P], zero: [u8; 32], out: &mut [[u8; 32]])
     requires count { length pages.now ≡ V.LANES }
     requires zero { zero ≡ sha256 zero_page }
     requires room { length out.old ≡ V.LANES }
-    ensures { out.new ≡ map digest_of pages.now }
+    ensures { out.new ≡ map (digest_by P.bytes) pages.now }
 {
     if are_zero(pages) {
         fill(out, zero);
@@ -114,31 +115,53 @@ fn digest_pages<V: Vector>(pages: &[Page], zero: [u8; 32], out: &mut [[u8; 32]])
 }
 
 /// Writes the digest of each page, in order, of as many as there are lanes at once.
-fn write_by<V: Vector>(pages: &[Page], out: &mut [[u8; 32]])
+fn write_by<V: Vector, P: Bytes>(pages: &[P], out: &mut [[u8; 32]])
     requires { length out.old ≡ length pages.now }
-    ensures { out.new ≡ map digest_of pages.now }
+    ensures { out.new ≡ map (digest_by P.bytes) pages.now }
 {
     let zero = zero_digest();
     let lanes = V::LANES;
     let mut at = 0;
     'turns: while pages.len() - at >= lanes {
-        digest_pages::<V>(&pages[at..at + lanes], zero, &mut out[at..at + lanes]);
+        digest_pages::<V, P>(&pages[at..at + lanes], zero, &mut out[at..at + lanes]);
         at += lanes;
     }
     'rest: for i in at..pages.len() {
-        out[i] = Sha256::digest(pages[i].bytes.as_slice());
+        out[i] = Sha256::digest(pages[i].bytes().as_slice());
     }
 }
 
 /// Writes the digest of each page, in order.
-fn write_digests(pages: &[Page], out: &mut [[u8; 32]], lanes: Lanes)
+fn write_digests<P: Bytes>(pages: &[P], out: &mut [[u8; 32]], lanes: Lanes)
     requires { length out.old ≡ length pages.now }
-    ensures { out.new ≡ map digest_of pages.now }
+    ensures { out.new ≡ map (digest_by P.bytes) pages.now }
 {
     match lanes {
-        Lanes::Four => write_by::<u32x4>(pages, out),
-        Lanes::Eight => write_by::<u32x8>(pages, out),
+        Lanes::Four => write_by::<u32x4, P>(pages, out),
+        Lanes::Eight => write_by::<u32x8, P>(pages, out),
     }
+}
+
+/// The digest of each page, in order, by several threads.
+fn digests<P: Bytes + Sync>(
+    rt: &(impl Threads + Sync),
+    alloc: Global,
+    pages: &[P],
+    lanes: Lanes,
+) -> Result<Vec<[u8; 32]>, Memory>
+    ensures { IfOk result (λ digests. digests.items ≡ map (digest_by P.bytes) pages.now) }
+{
+    let mut digests = vec![in alloc; [0u8; 32]; pages.len()]?;
+    par_chunks_mut_for_each(
+        rt,
+        digests.as_mut_slice(),
+        PAGES_A_CHUNK,
+        |start: usize, out: &mut [[u8; 32]]|
+            requires { start + length out.now ≤ length pages.now }
+            ensures { out.exit.now ≡ map (digest_by P.bytes) (slice_range pages.entry.now start (start + length out.entry.now)) }
+        { write_digests(&pages[start..start + out.len()], out, lanes) },
+    );
+    Ok(digests)
 }
 
 /// The SHA-256 digest (FIPS 180-4) of each page, in order, by several threads, of so many at once. `Memory` where a
@@ -152,15 +175,18 @@ pub fn frame_digests(
     // No clause can rule out want of memory: a test hashes pages.
     ensures { IfOk result (λ digests. digests.items ≡ map digest_of pages.now) }
 {
-    let mut digests = vec![in alloc; [0u8; 32]; pages.len()]?;
-    par_chunks_mut_for_each(
-        rt,
-        digests.as_mut_slice(),
-        PAGES_A_CHUNK,
-        |start: usize, out: &mut [[u8; 32]]|
-            requires { start + length out.now ≤ length pages.now }
-            ensures { out.exit.now ≡ map digest_of (slice_range pages.entry.now start (start + length out.entry.now)) }
-        { write_digests(&pages[start..start + out.len()], out, lanes) },
-    );
-    Ok(digests)
+    digests(rt, alloc, pages, lanes)
+}
+
+/// What `frame_digests` answers, of pages without records.
+pub fn bytes_digests(
+    rt: &(impl Threads + Sync),
+    alloc: Global,
+    pages: &[PageBytes],
+    lanes: Lanes,
+) -> Result<Vec<[u8; 32]>, Memory>
+    // No clause can rule out want of memory: a test hashes pages.
+    ensures { IfOk result (λ digests. digests.items ≡ map sha256 pages.now) }
+{
+    digests(rt, alloc, pages, lanes)
 }

@@ -14,4 +14,4 @@ returns-else-are_zero g c =
     c.hash_pages.ensures
     ∙ sym (map-map sha256 (λ page. page.now) _)
     ∙ ap (map sha256) c.bytes_of.ensures.bytes
-    ∙ map-map sha256 (λ page. page.bytes) c.args.pages.now
+    ∙ map-map sha256 g.P.Bytes.bytes c.args.pages.now
