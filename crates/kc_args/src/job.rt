@@ -88,20 +88,18 @@ fn from_arg<'a>(alloc: Global) -> Arg<'a>
     ensures rule { rule_of result ≡ from_rule }
     ensures local { result.global ≡ false }
 {
-    Arg::new(alloc, "from")
-        .long("from")
-        .value_name("PATH")
-        .help("Begin in the state of this text, in place of a configuration's boot state")
+    Arg::new(alloc, "from").long("from").value_name("PATH").help(
+        "Begin in the state of this text, in place of a configuration's boot state",
+    )
 }
 
 fn to_arg<'a>(alloc: Global) -> Arg<'a>
     ensures rule { rule_of result ≡ to_rule }
     ensures local { result.global ≡ false }
 {
-    Arg::new(alloc, "to")
-        .long("to")
-        .value_name("PATH")
-        .help("Compare the state that the trace leaves with this text; the status is 1 where it is another")
+    Arg::new(alloc, "to").long("to").value_name("PATH").help(
+        "Compare the state that the trace leaves with this text; the status is 1 where it is another",
+    )
 }
 
 fn workers_arg<'a>(alloc: Global) -> Arg<'a>
@@ -134,7 +132,9 @@ fn state_arg<'a>(alloc: Global) -> Arg<'a>
     Arg::new(alloc, "state")
         .long("state")
         .action(ArgAction::SetTrue)
-        .help("Write the text of the state that the trace leaves, with every guest's bytes, in place of the replies")
+        .help(
+            "Write the text of the state that the trace leaves, with every guest's bytes, in place of the replies",
+        )
 }
 
 fn vm_arg<'a>(alloc: Global) -> Arg<'a>

@@ -116,7 +116,7 @@ pub piece_cut : (old mid new : Option (List ℕ)) (bytes piece come left whole :
 piece_cut old mid new bytes piece come left whole one cut next all =
     let begins = cut_first piece left cut.0 in
     let same : bytes ++ take cut.0 piece ≡ take (length bytes + begins.0) whole =
-        ap (λ (l : List ℕ). bytes ++ l) (begins.1 ∙ ap (take begins.0) next) ∙ sym (take-append-add bytes come begins.0) ∙ ap (take (length bytes + begins.0)) all in
+    ap (λ (l : List ℕ). bytes ++ l) (begins.1 ∙ ap (take begins.0) next) ∙ sym (take-append-add bytes come begins.0) ∙ ap (take (length bytes + begins.0)) all in
     (length bytes + begins.0, rw same at (Appends-trans old mid new bytes (take cut.0 piece) one cut.1))
 
 -- nothing was left

@@ -13,10 +13,10 @@ ghost use Rattle.kc_cli.specs.Engine.{IsReplayFault};
 ghost use Rattle.kc_cli.specs.Custody.{AreEventsOf, IsCustodyTold, IsCustodyText};
 
 use crate::account::{CustodyForm, FIRST_LINE, Told, give_told};
-use kc_core::KCore;
-use kc_digests::Lanes;
-use kc_custody::tell_calls;
 use crate::starting::read_start;
+use kc_core::KCore;
+use kc_custody::tell_calls;
+use kc_digests::Lanes;
 use kc_texts::{CallStream, Origin, PIECE, Sink, Source, TextFault};
 use kc_types::Event;
 use std::alloc::Global;

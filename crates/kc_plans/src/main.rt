@@ -6,12 +6,12 @@
 #![tactic(auto)]
 
 use anyhow::{Result, bail};
-use kc_digests::Lanes;
-use kc_state::dump;
 use kc_core::KCore;
+use kc_digests::Lanes;
 use kc_dump_text::write_dump;
 use kc_live::{Entry, History, LiveStop, run_trace};
 use kc_replay::{Gate, OpenGate, Outcome, Plan, footprints, replay};
+use kc_state::dump;
 use kc_trace::{read_config, read_trace, write_replies, write_trace};
 use kc_types::{Call, Config, Resource};
 use std::io::Write;

@@ -1,8 +1,8 @@
 //! What is told of a state.
+use arrayvec::ArrayVec;
 use kc_dump::Dump;
 use kc_page::PageBytes;
 use kc_types::{IMAGE_LIMIT, Image, VCPU_LIMIT, Vcpu};
-use arrayvec::ArrayVec;
 use std::marker::Model;
 
 /// What a dump leaves out of a slot: its 8 virtual processors, registered or not, and its boot images, at most 4.
@@ -43,7 +43,13 @@ impl Model for Told {
 
 impl Drop for Told {
     fn drop(self) {
-        let Told { host: _, approved: _, slots: _, mut pages, dump: _ } = self;
+        let Told {
+            host: _,
+            approved: _,
+            slots: _,
+            mut pages,
+            dump: _,
+        } = self;
         for page in pages.iter_mut() {
             page.scrub();
         }

@@ -161,11 +161,7 @@ fn behind<'a>(text: &'a [u8], bytes: &[u8]) -> Option<&'a [u8]>
         return None;
     }
     let (head, rest) = text.split_at(bytes.len());
-    if head == bytes {
-        Some(rest)
-    } else {
-        None
-    }
+    if head == bytes { Some(rest) } else { None }
 }
 
 /// Whether a text is just these pieces.

@@ -6,10 +6,10 @@ ghost use Rattle.kc_texts.specs.Faults.{status_of, fault_line};
 use crate::TextFault;
 use crate::source::Sink;
 use crate::whole::write_whole;
-use kc_audit::finding_text;
-use kc_state_text::StateFault;
 use arrayvec::ArrayString;
 use itoa::Buffer;
+use kc_audit::finding_text;
+use kc_state_text::StateFault;
 
 /// The line of a fault, with its line feed.
 fn line(fault: &TextFault) -> ArrayString<160>

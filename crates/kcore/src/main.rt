@@ -34,7 +34,6 @@ enum Wanted {
     Custody(CustodyForm, Option<u32>),
 }
 
-
 /// What is to be done with the trace on standard input.
 #[derive(Clone, Copy)]
 struct Order<'a> {
