@@ -2,3 +2,10 @@ pub mod Digests
 pub mod Drawn
 pub mod InRange
 mod Made
+pub mod OneState
+mod Mapped
+mod Mappings
+mod Shows
+mod Shown
+mod Assembled
+mod Refused

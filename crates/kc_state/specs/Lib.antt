@@ -1,3 +1,4 @@
 pub mod Dumping
 pub mod Told
 pub mod Unlawful
+pub mod Making

@@ -34,24 +34,30 @@ pub record IsFrameOf (d : Dumped) (line : FrameLine) (bytes : List ℕ) : Type 0
   pub zeroed : line.owner ≡ Free → bytes ≡ zero_page
   pub sharer : (v : ℕ) → line.owner ≡ Vm v → 0 < line.share → (slot_dump_at d v).phase ≡ Active
 
-abbrev pub rest_at : Told → ℕ → SlotRest
-rest_at t v = slice_index_or t.rest.slots v (record { vcpus = no_vcpus; images = [] })
+abbrev pub slot_rest_at : List SlotRest → ℕ → SlotRest
+slot_rest_at rests v = slice_index_or rests v (record { vcpus = no_vcpus; images = [] })
 
-abbrev pub page_at : Told → ℕ → List ℕ
-page_at t f = slice_index_or t.rest.pages f zero_page
+abbrev pub page_of : List (List ℕ) → ℕ → List ℕ
+page_of pages f = slice_index_or pages f zero_page
+
+-- a lawful state may have the slots, or the frames, before this one
+abbrev pub AreSlotsOf : Dumped → List SlotRest → ℕ → Type 0
+AreSlotsOf d rests n = (v : ℕ) → v < n → IsSlotOf (slot_dump_at d v) (slot_rest_at rests v)
+
+abbrev pub AreFramesOf : Dumped → List (List ℕ) → ℕ → Type 0
+AreFramesOf d pages n = (f : ℕ) → f < n → IsFrameOf d (line_at d.frames f) (page_of pages f)
 
 abbrev pub IsSlotTold : Told → ℕ → Type 0
-IsSlotTold t v = IsSlotOf (slot_dump_at t.dump v) (rest_at t v)
+IsSlotTold t v = IsSlotOf (slot_dump_at t.dump v) (slot_rest_at t.rest.slots v)
 
 abbrev pub IsFrameTold : Told → ℕ → Type 0
-IsFrameTold t f = IsFrameOf t.dump (line_at t.dump.frames f) (page_at t f)
+IsFrameTold t f = IsFrameOf t.dump (line_at t.dump.frames f) (page_of t.rest.pages f)
 
--- the slots, and the frames, before this one are those of a lawful state
 abbrev pub AreSlotsTold : Told → ℕ → Type 0
-AreSlotsTold t n = (v : ℕ) → v < n → IsSlotTold t v
+AreSlotsTold t n = AreSlotsOf t.dump t.rest.slots n
 
 abbrev pub AreFramesTold : Told → ℕ → Type 0
-AreFramesTold t n = (f : ℕ) → f < n → IsFrameTold t f
+AreFramesTold t n = AreFramesOf t.dump t.rest.pages n
 
 -- of no lawful state all of this is told, and this is the first reason: its sizes, what an audit of the dump finds first, the first slot, the first frame
 abbrev pub IsUnlawful : Told → Unlawful → Type 0

@@ -13,11 +13,11 @@ pub struct SlotRest {
 }
 
 impl Model for SlotRest {
-    ghost use Rattle.kc_state.specs.Told as told;
+    ghost use Rattle.kc_state.specs.Told.{SlotRest as Value_of_rest};
 
-    ghost Value = { told.SlotRest };
+    ghost Value = { Value_of_rest };
 
-    ghost view = { λ s. record { vcpus = s.vcpus.items; images = s.images.items } };
+    ghost view = { λ r. record { vcpus = r.vcpus.items; images = r.images.items } };
 }
 
 /// A dump and what it leaves out. Where it is dropped its pages are wiped.
@@ -34,11 +34,36 @@ pub struct Told {
 }
 
 impl Model for Told {
-    ghost use Rattle.kc_state.specs.Told as told;
+    ghost use Rattle.kc_state.specs.Told.{Told as Value_of_told};
 
-    ghost Value = { told.Told };
+    ghost Value = { Value_of_told };
 
     ghost view = { λ t. record { rest = record { host = t.host; approved = t.approved.items; slots = t.slots.items; pages = t.pages.items }; dump = t.dump } };
+}
+
+impl Told {
+    ghost use Rattle.std.specs.Prelude.{◌≡◌};
+
+    /// The bytes of the pages, which it wipes no more, and the dump.
+    pub(crate) fn into_parts(self) -> (Vec<PageBytes>, Dump)
+        ensures pages { result.0.items ≡ self.rest.pages }
+        ensures dump { result.1 ≡ self.dump }
+    {
+        let Told {
+            host: _,
+            approved: _,
+            slots: _,
+            pages,
+            dump,
+        } = self;
+        (pages, dump)
+    }
+}
+
+fn scrub_each(pages: &mut [PageBytes]) {
+    for page in pages.iter_mut() {
+        page.scrub();
+    }
 }
 
 impl Drop for Told {
@@ -50,8 +75,6 @@ impl Drop for Told {
             mut pages,
             dump: _,
         } = self;
-        for page in pages.iter_mut() {
-            page.scrub();
-        }
+        scrub_each(pages.as_mut_slice());
     }
 }

@@ -1,0 +1,125 @@
+//! The core of which something is told.
+ghost use Rattle.std.specs.Prelude.{◌≡◌, ◌≤◌, ◌<◌, [], length, map, vec_capacity, IfOk, IfErr};
+ghost use Rattle.std.specs.List.{range_with_len};
+ghost use Rattle.kc_types.specs.Limits.{leaf_limit};
+ghost use Rattle.kc_vms.specs.Stage2.{AreMappings};
+ghost use Rattle.kc_vms.specs.Vm.{IsSlot};
+ghost use Rattle.kc_dump.specs.Dump.{line_at};
+ghost use Rattle.kc_dump.specs.Sound.{IsSound};
+ghost use Rattle.kc_state.specs.Told.{config_of, told_of};
+ghost use Rattle.kc_state.specs.Unlawful.{IsSized, IsUnlawful, AreSlotsOf, page_of};
+ghost use Rattle.kc_state.specs.Making.{IsJudged, IsVmTold, AreVmsTold, page_told};
+
+use crate::judging::{judge, sized};
+use crate::told::{SlotRest, Told};
+use crate::unlawful::Unlawful;
+use arrayvec::ArrayVec;
+use kc_core::KCore;
+use kc_digests::Lanes;
+use kc_dump::{Dump, FrameLine, SlotDump};
+use kc_page::{Page, PageBytes, PageRecord};
+use kc_parts::Parts;
+use kc_types::{Config, Memory};
+use kc_vms::{Stage2, Vm};
+use std::alloc::Global;
+use std::thread::Threads;
+
+/// A slot that may be so.
+fn make_slot(alloc: Global, leaves: u32, slot: &SlotDump, rest: &SlotRest) -> Result<Vm, Memory>
+    requires room { leaves ≤ leaf_limit }
+    requires kept { IsSlot slot.now.phase rest.now.vcpus rest.now.images }
+    requires mappings { AreMappings leaves slot.now.leaves slot.now.entries }
+    ensures { IfOk result (IsVmTold leaves slot.now rest.now) }
+{
+    let table = Stage2::with_entries(alloc, leaves as u8, slot.leaves(), slot.entries())?;
+    let mut vcpus = ArrayVec::new();
+    vcpus.try_extend_from_slice(rest.vcpus.as_slice()).unwrap();
+    let mut images = ArrayVec::new();
+    images.try_extend_from_slice(rest.images.as_slice()).unwrap();
+    Ok(Vm::with(slot.phase(), vcpus, images, *slot.list(), table))
+}
+
+/// All slots.
+fn make_slots(alloc: Global, dump: &Dump, rests: &[SlotRest]) -> Result<Vec<Option<Vm>>, Memory>
+    requires count { length rests.now ≡ length dump.now.slots }
+    requires sound { IsSound dump.now }
+    requires slots { AreSlotsOf dump.now rests.now (length dump.now.slots) }
+    ensures count { IfOk result (λ vms. length vms.items ≡ length dump.now.slots) }
+    ensures each { IfOk result (λ vms. AreVmsTold dump.now rests.now vms.items (length dump.now.slots)) }
+{
+    let mut vms = Vec::with_capacity(alloc, dump.slots().len())?;
+    for vm in 0..dump.slots().len() {
+        let made = make_slot(alloc, dump.leaves(), &dump.slots()[vm], &rests[vm])?;
+        vms.push(Some(made))?;
+    }
+    Ok(vms)
+}
+
+/// The page of these bytes, with the record that the dump shows.
+fn make_page(line: &FrameLine, bytes: PageBytes) -> Page
+    ensures { result ≡ page_told line.now bytes }
+{
+    let meta = PageRecord {
+        owner: line.owner,
+        share: line.share,
+        gfn: line.gfn,
+        present: line.present,
+        prev: line.prev,
+        next: line.next,
+    };
+    Page { meta, bytes }
+}
+
+/// All pages, in a vector that has room for them.
+fn make_pages(lines: &[FrameLine], bytes: Vec<PageBytes>, mut pages: Vec<Page>) -> Vec<Page>
+    requires count { length bytes.items ≡ length lines.now }
+    requires none { pages.items ≡ [] }
+    requires room { length lines.now ≤ vec_capacity pages }
+    ensures { result.items ≡ map (λ f. page_told (line_at lines.now f) (page_of bytes.items f)) (range_with_len 0 (length lines.now)) }
+{
+    let mut rest = bytes.into_iter();
+    for line in lines {
+        let page = make_page(line, rest.next().unwrap());
+        pages.push(page).unwrap();
+    }
+    pages
+}
+
+/// The core of what was judged. Where a growth of memory is refused, all pages are wiped.
+fn make_core(alloc: Global, config: Config, told: Told) -> Result<KCore, Memory>
+    requires config { config ≡ config_of told }
+    requires sized { IsSized told }
+    requires judged { IsJudged told }
+    ensures { IfOk result (λ core. told_of core ≡ told) }
+{
+    let vms = make_slots(alloc, &told.dump, told.slots.as_slice())?;
+    let room = Vec::with_capacity(alloc, told.pages.len())?;
+    let (pages, dump) = told.into_parts();
+    let pages = make_pages(dump.frames(), pages, room);
+    let parts = Parts::whole(alloc, pages, vms, *dump.free())?;
+    Ok(KCore::from_parts(alloc, config, parts))
+}
+
+/// The core of which this is told, exactly; else the first reason for which there is none. Pages that make no core are
+/// wiped. The dump is audited, and the pages are hashed, by several threads, of so many pages at once.
+pub fn core_of(
+    rt: &(impl Threads + Sync),
+    alloc: Global,
+    told: Told,
+    lanes: Lanes,
+) -> Result<KCore, Unlawful>
+    ensures told { IfOk result (λ core. told_of core ≡ told) }
+    ensures unlawful { IfErr result (IsUnlawful told) }
+{
+    let config = match sized(&told) {
+        Ok(config) => config,
+        Err(why) => return Err(why),
+    };
+    if let Err(why) = judge(rt, alloc, &told, lanes) {
+        return Err(why);
+    }
+    match make_core(alloc, config, told) {
+        Ok(core) => Ok(core),
+        Err(_) => Err(Unlawful::Memory),
+    }
+}
