@@ -73,6 +73,10 @@ pub boots : (had : Option (List ℕ)) (config : Configuration) → IfSome had (�
 boots None config h = tt
 boots (Some text) config h = (config, h, refl)
 
+-- both were read
+pub texts_ok : {A : Type 0} (origin : Origin) (start trace : Seen) (unread : Type 0) (m : State) (x : A) → IfSome start.had (λ text. BeginsIn origin text m) → TellsTexts origin start trace unread (Ok x)
+texts_ok origin start trace unread m x known = record { config_fault = λ f e. absurd cc; state_fault = λ f e. absurd cc; trace_fault = λ f e. absurd cc; behind = inr (begun_is origin start.had m known); begun = λ f e. absurd cc; told = tt }
+
 -- what the calls begin with was refused
 pub texts_start : {A : Type 0} (origin : Origin) (start trace : Seen) (unread : Type 0) (f : TextFault) → ((said : ConfigTextFault) → f ≡ texts.Config said → IfSome start.had (λ text. config_in text ≡ Err said) × IsAtEnd start.has)
     → ((said : StateFault) → f ≡ texts.State said → IfSome start.had (λ text. IsRefusedState text said) × IsAtEnd start.has) → IsStartFault f → unread → TellsTexts {A = A} origin start trace unread (Err f)
