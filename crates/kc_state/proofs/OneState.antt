@@ -33,8 +33,8 @@ module _ (m : State) (is : IsLawful m) where
   list-told : (owner : Owner) (fs : List ℕ) → (owner ≡ Core → ⊥) → list_of m owner ≡ fs → ListsOnce m owner fs → listed (line_links (dump_of m).frames) (ends_of fs) ≡ fs
   list-told owner fs other is-list lists = chain-listed (line_links (dump_of m).frames) (ends_of fs) fs
       (chain-each (line_links (dump_of m).frames) fs (at-most m is owner fs lists) (λ f some.
-          let mine = member m is owner fs lists f some in
-          links-low f (below m is f (λ core. other (sym mine ∙ core))) ∙ ap (λ l. Some (link_in l f)) (ap (list_of m) mine ∙ is-list)))
+      let mine = member m is owner fs lists f some in
+      links-low f (below m is f (λ core. other (sym mine ∙ core))) ∙ ap (λ l. Some (link_in l f)) (ap (list_of m) mine ∙ is-list)))
 
   pub free-told : listed (line_links (dump_of m).frames) (dump_of m).free ≡ m.free
   free-told = list-told Free m.free (λ e. cc) refl is.free

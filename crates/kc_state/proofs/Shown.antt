@@ -143,7 +143,6 @@ module _ (config : Configuration) (d : Dumped) (h : Held) (is : IsConfiguration 
           by_test true = refl
           by_test false = refl
 
-
   frame-is : (f : ℕ) (page : Page) → f < config.frames → page_at h f ≡ Some page → frame_at m f ≡ frame_of page
   frame-is f page low at = frame-seen config h f low ∙ ap frame_in at
 

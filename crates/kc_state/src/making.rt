@@ -35,7 +35,9 @@ fn make_slot(alloc: Global, leaves: u32, slot: &SlotDump, rest: &SlotRest) -> Re
     let mut vcpus = ArrayVec::new();
     vcpus.try_extend_from_slice(rest.vcpus.as_slice()).unwrap();
     let mut images = ArrayVec::new();
-    images.try_extend_from_slice(rest.images.as_slice()).unwrap();
+    images
+        .try_extend_from_slice(rest.images.as_slice())
+        .unwrap();
     Ok(Vm::with(slot.phase(), vcpus, images, *slot.list(), table))
 }
 
