@@ -106,6 +106,10 @@ pub second_cut : (old mid new : Option (List ℕ)) (front lines rest : List ℕ)
 second_cut old mid new front lines rest one cut =
     (length (front ++ lines) + cut.0, rw (sym (take-append-add (front ++ lines) rest cut.0), append_assoc front lines rest) at (Appends-trans old mid new (front ++ lines) (take cut.0 rest) one cut.1))
 
+pub nothing_given : (old : Option (List ℕ)) → Appends old old []
+nothing_given None = tt
+nothing_given (Some xs) = sym (append-nil xs)
+
 -- one piece more was given of what is to come
 pub piece_given : (old mid new : Option (List ℕ)) (bytes piece come left whole : List ℕ) → Appends old mid bytes → Appends mid new piece → piece ++ left ≡ come → bytes ++ come ≡ whole → Appends old new (bytes ++ piece) × ((bytes ++ piece) ++ left ≡ whole)
 piece_given old mid new bytes piece come left whole one more next all =
