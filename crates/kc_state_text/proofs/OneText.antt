@@ -1,10 +1,10 @@
 -- A text is told of one state at most, and what is refused is no state's.
-use Rattle.std.proofs.Common.{ℕ, ◌≡◌, ◌<◌, ◌≤◌, ◌^◌, inl, inr, List, [], ◌∷◌, ◌++◌, length, map, get_or, Option, Some, None, All, true, false, refl, sym, ap, subst, ◌∙◌, append_assoc, arith, length-append}
+use Rattle.std.proofs.Common.{ℕ, ◌≡◌, ◌≤◌, inl, inr, List, [], ◌∷◌, ◌++◌, length, map, get_or, Option, Some, None, All, true, false, refl, sym, ap, subst, ◌∙◌, append_assoc, arith, length-append}
 use Rattle.std.specs.Prelude.{codes}
 use Rattle.std.specs.List.{flat_map}
 use Rattle.std.proofs.lemmas.List.{length-map, get_or_default}
 use Rattle.std.proofs.lemmas.List.Elements.{All-map}
-use Rattle.kc_types.specs.Limits.{byte_limit}
+use Rattle.kc_types.specs.Limits.{byte_limit, slot_limit}
 use Rattle.kc_types.specs.Configuration.{Configuration, slot_count}
 use Rattle.kc_types.specs.declared.owner.Owner.TheVariants.{Core}
 use Rattle.kc_model.proofs.States.Configurations.{few-frames}
@@ -134,9 +134,9 @@ module _ (m : State) (is : IsCoreState m) where
   abbrev state-front : Front
   state-front = front_of (rest_of m)
 
-  few-of : (config : Configuration) → slot_count config < 2 ^ 32
+  few-of : (config : Configuration) → slot_count config ≤ slot_limit
   unfolding slot_count
-  few-of config = let few = few-slots config.version in omega (arith, few)
+  few-of config = few-slots config.version
 
   front-is : IsFront state-front
   front-is = record {
@@ -144,7 +144,7 @@ module _ (m : State) (is : IsCoreState m) where
       slots = (let a = length-map m.slots slot_rest in let b = is.lawful.slots in let c = few-of m.config in omega (arith, a, b, c));
       frames = (let a = length-map m.frames (λ (frame : Frame). frame.bytes) in let b = is.lawful.frames in let c = few-frames m.config is.lawful.config in omega (arith, a, b, c));
       host = (let a = few-frames m.config is.lawful.config in let b = is.lawful.config.within in omega (arith, a, b));
-      approved = (let a = is.lawful.config.few_digests in omega (arith, a));
+      approved = is.lawful.config.few_digests;
     };
     approved = is.digests;
     slots = slots-fit;

@@ -1,5 +1,5 @@
 -- What each line spells: it is some words, and no other thing has the same.
-use Rattle.std.proofs.Common.{ℕ, suc, ◌≡◌, ◌<◌, ◌^◌, inl, inr, Bool, true, false, cond, List, [], ◌∷◌, ◌++◌, length, map, get_or, Option, Some, None, All, refl, sym, ap, subst, ◌∙◌, arith}
+use Rattle.std.proofs.Common.{ℕ, suc, ◌≡◌, ◌<◌, ◌≤◌, ◌^◌, inl, inr, Bool, true, false, cond, List, [], ◌∷◌, ◌++◌, length, map, get_or, Option, Some, None, All, refl, sym, ap, subst, ◌∙◌, arith}
 use Rattle.std.specs.Prelude.{◌==◌, nat_lt, codes, option_map}
 use Rattle.std.specs.List.{flat_map, list_all}
 use Rattle.std.specs.Fmt.{decimal}
@@ -8,7 +8,7 @@ use Rattle.std.proofs.lemmas.Bool.{and_parts, and_from, eqb-true, ltb-true}
 use Rattle.std.proofs.lemmas.List.{length-map}
 use Rattle.hex.specs.Hex.{encode_lower}
 use Rattle.kc_types.specs.Bytes.{IsData}
-use Rattle.kc_types.specs.Limits.{gfn_limit}
+use Rattle.kc_types.specs.Limits.{frame_limit, slot_limit, gfn_limit, digest_limit}
 use Rattle.kc_model.specs.State.{Vcpu, Image}
 use Rattle.kc_model.specs.Lawful.{IsPage}
 use Rattle.kc_lines.specs.Words.{number_in, data_of}
@@ -61,8 +61,11 @@ some-same x y e = cc
 
 -- ---- words
 
-decimal-same : (a b : ℕ) → a < 2 ^ 32 → b < 2 ^ 32 → decimal a ≡ decimal b → a ≡ b
+pub decimal-same : (a b : ℕ) → a < 2 ^ 32 → b < 2 ^ 32 → decimal a ≡ decimal b → a ≡ b
 decimal-same a b x y e = some-same a b (sym (number_of-decimal a x) ∙ ap number_in e ∙ number_of-decimal b y)
+
+few-same : (most : ℕ) → most < 2 ^ 32 → (a b : ℕ) → a ≤ most → b ≤ most → decimal a ≡ decimal b → a ≡ b
+few-same most low a b x y e = decimal-same a b (omega (arith, low, x)) (omega (arith, low, y)) e
 
 pub digits-same : (a b : List ℕ) → IsData a → IsData b → encode_lower a ≡ encode_lower b → a ≡ b
 digits-same a b x y e = some-same a b (sym (data_of-encode_lower a x) ∙ ap data_of e ∙ data_of-encode_lower b y)
@@ -82,7 +85,9 @@ no-data-dash = refl
 -- ---- the sizes
 
 pub sizes-are-words : (sizes : Sizes) → AreSizes sizes → AreWords (codes "config" ∷ sizes_words sizes)
-sizes-are-words sizes is = rw (decimal_is_word sizes.slots is.slots, decimal_is_word sizes.frames is.frames, decimal_is_word sizes.host is.host, decimal_is_word sizes.approved is.approved) refl
+sizes-are-words sizes is =
+    let slots = is.slots in let frames = is.frames in let host = is.host in let approved = is.approved in
+    rw (decimal_is_word sizes.slots (omega (arith, slots)), decimal_is_word sizes.frames (omega (arith, frames)), decimal_is_word sizes.host (omega (arith, host)), decimal_is_word sizes.approved (omega (arith, approved))) refl
 
 pub sizes-same : (a b : Sizes) → AreSizes a → AreSizes b → sizes_words a ≡ sizes_words b → a ≡ b
 sizes-same a b x y e =
@@ -91,10 +96,10 @@ sizes-same a b x y e =
     let host : decimal a.host ≡ decimal b.host = cc in
     let approved : decimal a.approved ≡ decimal b.approved = cc in
     λ i. record {
-      slots = decimal-same a.slots b.slots x.slots y.slots slots i;
-      frames = decimal-same a.frames b.frames x.frames y.frames frames i;
-      host = decimal-same a.host b.host x.host y.host host i;
-      approved = decimal-same a.approved b.approved x.approved y.approved approved i;
+      slots = few-same slot_limit (omega arith) a.slots b.slots x.slots y.slots slots i;
+      frames = few-same frame_limit (omega arith) a.frames b.frames x.frames y.frames frames i;
+      host = few-same frame_limit (omega arith) a.host b.host x.host y.host host i;
+      approved = few-same digest_limit (omega arith) a.approved b.approved x.approved y.approved approved i;
     }
 
 -- ---- approved digests

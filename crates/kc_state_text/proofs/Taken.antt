@@ -1,5 +1,5 @@
 -- Words that are taken one after another.
-use Rattle.std.proofs.Common.{ℕ, ◌≡◌, inl, inr, Bool, true, false, List, [], ◌∷◌, length, Option, Some, None, sym, ap, ◌∙◌, arith}
+use Rattle.std.proofs.Common.{ℕ, ◌≡◌, ◌<◌, ◌^◌, inl, inr, Bool, true, false, List, [], ◌∷◌, length, Option, Some, None, sym, ap, ◌∙◌, arith}
 use Rattle.std.specs.Prelude.{◌==◌, MatchOption}
 use Rattle.std.proofs.lemmas.Bool.{eqb-true}
 use Rattle.hex.specs.Hex.{lower_digits}
@@ -7,6 +7,7 @@ use Rattle.hex.proofs.HexLemmas.{length-encode_with}
 use Rattle.std.specs.Fmt.{decimal}
 use Rattle.std.proofs.lemmas.List.Splits.{length-slice_split}
 use Rattle.hex.specs.Hex.{encode_lower}
+use Rattle.kc_types.specs.Limits.{frame_limit, slot_limit, digest_limit}
 use Rattle.kc_model.specs.State.{Vcpu}
 use Rattle.kc_lines.specs.Words.{number_in, data_of}
 use Rattle.kc_lines.proofs.Words.{is_space, chosen}
@@ -19,8 +20,8 @@ use Rattle.kc_state_text.specs.declared.sizes.Sizes.{Sizes}
 use Rattle.kc_state_text.specs.Words.{words_left, vcpu_in}
 use Rattle.kc_state_text.specs.StateText.{sizes_words, approved_words, vcpu_word, vcpu_words}
 use Rattle.kc_state_text.specs.Refused.{AreSizes, IsVcpuWord}
-use Rattle.kc_state_text.specs.Reading.{IsNumber, number_words, behind, LacksFirst, LacksWhole, BeginsAs, IsWhole}
-use Rattle.kc_state_text.proofs.Spelled.{vcpu-to, vcpu-from, approved-to, rest-same}
+use Rattle.kc_state_text.specs.Reading.{IsNumber, IsAtMost, number_words, behind, LacksFirst, LacksWhole, BeginsAs, IsWhole}
+use Rattle.kc_state_text.proofs.Spelled.{decimal-same, vcpu-to, vcpu-from, approved-to, rest-same}
 
 pub words-some : (is_end : Bool) (line : List ℕ) → is_end ≡ false → words_left is_end line ≡ [] → ⊥
 words-some true line p e = absurd cc
@@ -38,6 +39,11 @@ pub number-read : (found : Option ℕ) (words : List (List ℕ)) (word : List �
 number-read None words word rest e f = λ n more is g.
     none-some n (f ∙ ap number_in (first-same word (decimal n) rest more (sym e ∙ g)) ∙ number_of-decimal n is)
 number-read (Some n) words word rest e f = e ∙ ap (λ (w : List ℕ). w ∷ rest) (number_is_decimal word n (sym f)).0
+
+-- a number past the most
+pub number-past : (most a : ℕ) → most < a → a < 2 ^ 32 → (words rest : List (List ℕ)) → words ≡ decimal a ∷ rest → LacksFirst (IsAtMost most) number_words words
+number-past most a past low words rest e n more is g =
+    let same = decimal-same a n low (omega (arith, past, low, is)) (first-same (decimal a) (decimal n) rest more (sym e ∙ g)) in omega (arith, past, is, same)
 
 -- a virtual processor
 pub vcpu-read : (found : Option Vcpu) (words : List (List ℕ)) (word : List ℕ) (rest : List (List ℕ)) → words ≡ word ∷ rest → found ≡ vcpu_in word
@@ -64,20 +70,20 @@ module _ (name : List ℕ) (words : List (List ℕ)) where
   sizes-behind : (first : List (List ℕ)) (s : Sizes) → words ≡ name ∷ first → words ≡ behind name sizes_words s → first ≡ sizes_words s
   sizes-behind first s e g = rest-same name name first (sizes_words s) (sym e ∙ g)
 
-  pub no-slots : (first : List (List ℕ)) → words ≡ name ∷ first → LacksFirst IsNumber number_words first → LacksWhole AreSizes (behind name sizes_words) words
+  pub no-slots : (first : List (List ℕ)) → words ≡ name ∷ first → LacksFirst (IsAtMost slot_limit) number_words first → LacksWhole AreSizes (behind name sizes_words) words
   no-slots first e lacks s is g = lacks s.slots (decimal s.frames ∷ decimal s.host ∷ decimal s.approved ∷ []) is.slots (sizes-behind first s e g)
 
-  pub no-frames : (a : ℕ) (first second : List (List ℕ)) → words ≡ name ∷ first → first ≡ decimal a ∷ second → LacksFirst IsNumber number_words second → LacksWhole AreSizes (behind name sizes_words) words
+  pub no-frames : (a : ℕ) (first second : List (List ℕ)) → words ≡ name ∷ first → first ≡ decimal a ∷ second → LacksFirst (IsAtMost frame_limit) number_words second → LacksWhole AreSizes (behind name sizes_words) words
   no-frames a first second e f lacks s is g = lacks s.frames (decimal s.host ∷ decimal s.approved ∷ []) is.frames (rest-same (decimal a) (decimal s.slots) second _ (sym f ∙ sizes-behind first s e g))
 
-  pub no-host : (a b : ℕ) (first second third : List (List ℕ)) → words ≡ name ∷ first → first ≡ decimal a ∷ second → second ≡ decimal b ∷ third → LacksFirst IsNumber number_words third
+  pub no-host : (a b : ℕ) (first second third : List (List ℕ)) → words ≡ name ∷ first → first ≡ decimal a ∷ second → second ≡ decimal b ∷ third → LacksFirst (IsAtMost frame_limit) number_words third
       → LacksWhole AreSizes (behind name sizes_words) words
   no-host a b first second third e f h lacks s is g =
       lacks s.host (decimal s.approved ∷ []) is.host
       (rest-same (decimal b) (decimal s.frames) third _ (sym h ∙ rest-same (decimal a) (decimal s.slots) second _ (sym f ∙ sizes-behind first s e g)))
 
   pub no-approved : (a b c : ℕ) (first second third fourth : List (List ℕ)) → words ≡ name ∷ first → first ≡ decimal a ∷ second → second ≡ decimal b ∷ third → third ≡ decimal c ∷ fourth
-      → LacksFirst IsNumber number_words fourth → LacksWhole AreSizes (behind name sizes_words) words
+      → LacksFirst (IsAtMost digest_limit) number_words fourth → LacksWhole AreSizes (behind name sizes_words) words
   no-approved a b c first second third fourth e f h k lacks s is g =
       lacks s.approved [] is.approved
       (rest-same (decimal c) (decimal s.host) fourth _ (sym k ∙ rest-same (decimal b) (decimal s.frames) third _ (sym h ∙ rest-same (decimal a) (decimal s.slots) second _ (sym f ∙ sizes-behind first s e g))))

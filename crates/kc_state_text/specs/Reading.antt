@@ -14,6 +14,10 @@ use Rattle.kc_state_text.specs.Refused.{IsVcpuWord, AreImageWords, HasNone, Stop
 abbrev pub IsNumber : ℕ → Type 0
 IsNumber n = n < 2 ^ 32
 
+-- none past this
+abbrev pub IsAtMost : ℕ → ℕ → Type 0
+IsAtMost most n = n ≤ most
+
 abbrev pub number_words : ℕ → List (List ℕ)
 number_words n = decimal n ∷ []
 

@@ -1,6 +1,6 @@
 -- Which text is which state's, and why a text is none.
 use Rattle.std.specs.Prelude.{ℕ, ◌≡◌, ◌<◌, ◌≤◌, ◌+◌, ◌^◌, ◌⊎◌, List, [], ◌++◌, length, All, Some, false, None}
-use Rattle.kc_types.specs.Limits.{gfn_limit, vcpu_limit, image_limit}
+use Rattle.kc_types.specs.Limits.{frame_limit, slot_limit, gfn_limit, vcpu_limit, image_limit, digest_limit}
 use Rattle.kc_model.specs.State.{Vcpu, Image}
 use Rattle.kc_model.specs.Lawful.{IsPage}
 use Rattle.kc_dump_text.specs.Grammar.{IsDumpText}
@@ -17,12 +17,12 @@ use Rattle.kc_state_text.specs.declared.fault.StateFault.TheVariants.{NoHeader, 
 use Rattle.kc_state_text.specs.declared.sizes.Sizes as numbers
 use Rattle.kc_state_text.specs.StateText.{Front, state_header, sizes_line, approved_line, slot_line, page_line, front_text, front_of, told_text}
 
--- which numbers the line of sizes may have
+-- which numbers the line of sizes may have: none that is past the limits of every configuration
 pub record AreSizes (sizes : numbers.Sizes) : Type 0 where
-  pub slots : sizes.slots < 2 ^ 32
-  pub frames : sizes.frames < 2 ^ 32
-  pub host : sizes.host < 2 ^ 32
-  pub approved : sizes.approved < 2 ^ 32
+  pub slots : sizes.slots ≤ slot_limit
+  pub frames : sizes.frames ≤ frame_limit
+  pub host : sizes.host ≤ frame_limit
+  pub approved : sizes.approved ≤ digest_limit
 
 -- one that is not registered waits for nothing
 pub record IsVcpuWord (vcpu : Vcpu) : Type 0 where

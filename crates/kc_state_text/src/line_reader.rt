@@ -13,9 +13,11 @@ use crate::words::Words;
 use arrayvec::ArrayVec;
 use kc_lines::{decode_into, read_number};
 use kc_state::SlotRest;
-use kc_types::{GFN_LIMIT, IMAGE_LIMIT, Image, VCPU_LIMIT, Vcpu};
+use kc_types::{
+    DIGEST_LIMIT, FRAME_LIMIT, GFN_LIMIT, IMAGE_LIMIT, Image, SLOT_LIMIT, VCPU_LIMIT, Vcpu,
+};
 
-/// The line of sizes.
+/// The line of sizes, each one that a configuration may have.
 pub fn read_sizes(line: &[u8]) -> Option<Sizes>
     ensures { MatchOption result
         (LacksWhole AreSizes (behind (codes "config") sizes_words) (words_in line.now))
@@ -23,10 +25,10 @@ pub fn read_sizes(line: &[u8]) -> Option<Sizes>
 {
     let mut words = Words::new(line);
     words.name(b"config")?;
-    let slots = words.number()?;
-    let frames = words.number()?;
-    let host = words.number()?;
-    let approved = words.number()?;
+    let slots = words.number_to(SLOT_LIMIT)?;
+    let frames = words.number_to(FRAME_LIMIT)?;
+    let host = words.number_to(FRAME_LIMIT)?;
+    let approved = words.number_to(DIGEST_LIMIT as u32)?;
     words.end()?;
     Some(Sizes {
         slots,

@@ -1,7 +1,7 @@
 //! The words of a line, taken one after another.
 ghost use Rattle.std.specs.Prelude.{◌≡◌, ◌∷◌, [], ◌<◌, ◌^◌, List, ℕ, MatchOption, IsTrue, false};
 ghost use Rattle.std.specs.Fmt.{decimal};
-ghost use Rattle.kc_state_text.specs.Reading.{IsNumber, number_words, LacksFirst};
+ghost use Rattle.kc_state_text.specs.Reading.{IsNumber, IsAtMost, number_words, LacksFirst, BeginsAs};
 
 use kc_lines::{read_number, split_word};
 use std::marker::Model;
@@ -74,6 +74,14 @@ impl<'a> Words<'a> {
         ensures { MatchOption result (LacksFirst IsNumber number_words self.old) (λ n. self.old ≡ decimal n ∷ self.new) }
     {
         read_number(self.next()?)
+    }
+
+    /// The next word as a number that is at most this.
+    pub fn number_to(&mut self, most: u32) -> Option<u32>
+        ensures { MatchOption result (LacksFirst (IsAtMost most) number_words self.old) (λ n. BeginsAs (IsAtMost most) number_words self.old n self.new) }
+    {
+        let number = self.number()?;
+        if number <= most { Some(number) } else { None }
     }
 
     /// Nothing, if there is no word left.
