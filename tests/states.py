@@ -1,0 +1,277 @@
+"""The text of a state, written out once more in another language: how one is written, and why a text is none.
+
+What is written is asked of a core of tests/fuzz. What is wrong with a text is the first that applies, as kcore says it."""
+import hashlib
+import re
+
+PAGE, GUEST_FRAMES, IMAGE_BYTES, LEAF, SHARES = 4096, 262144, 1048576, 512, 100
+VCPUS, IMAGES, LEAVES, DIGESTS = 8, 4, 64, 64
+SLOTS, FRAMES = {1: 16, 2: 64}, {1: 8192, 2: 65536}
+ZEROS = hashlib.sha256(bytes(PAGE)).hexdigest()
+DIGEST, DIGITS = re.compile("[0-9a-f]{64}"), re.compile("[0-9a-f]{%d}" % (2 * PAGE))
+NUMERAL = re.compile("0|[1-9][0-9]{0,9}")
+PHASES, OWNERS = ("empty", "booting", "active", "dead"), ("core", "host", "free")
+
+
+class Faulty(Exception):
+    """Why a text is no state's, as it is said behind 'kcore: '."""
+
+
+def state_text(core):
+    """The text of the state that a core is in."""
+    config, lines = core.config, ["kcore-state 1"]
+    lines.append("config %d %d %d %d" % (len(core.slots), len(core.frames), config["host"], len(config["approved"])))
+    lines += ["approved " + digest for digest in config["approved"]]
+    for slot in core.slots:
+        waits = [slot.vcpus.get(c, "-") for c in range(VCPUS)]
+        words = ["." if gfn is None else str(gfn) for gfn in waits] + [str(number) for image in slot.images for number in image]
+        lines.append(" ".join(["slot"] + words))
+    lines += ["page " + (frame.page.hex() if any(frame.page) else "-") for frame in core.frames]
+    return "\n".join(lines) + "\n" + core.dump()
+
+
+def number_of(word, limit=2 ** 32):
+    """The number below a limit that a word is, or None."""
+    return int(word) if NUMERAL.fullmatch(word) and int(word) < limit else None
+
+
+def numbers_of(words, limit=2 ** 32):
+    """The numbers that all of these words are, or None."""
+    numbers = [number_of(word, limit) for word in words]
+    return None if None in numbers else numbers
+
+
+# Lines. Each takes the words behind the line's name, and gives what they say, or None where no line says so.
+
+
+def sizes_of(words):
+    return numbers_of(words) if len(words) == 4 else None
+
+
+def digest_of(words):
+    return words[0] if len(words) == 1 and DIGEST.fullmatch(words[0]) else None
+
+
+def slot_of(words):
+    """The virtual processors of a slot and its images."""
+    waits, numbers = words[:VCPUS], numbers_of(words[VCPUS:])
+    if len(waits) < VCPUS or numbers is None or len(numbers) % 3 or len(numbers) > 3 * IMAGES:
+        return None
+    if any(word not in ("-", ".") and number_of(word, GUEST_FRAMES) is None for word in waits):
+        return None
+    return waits, [tuple(numbers[at:at + 3]) for at in range(0, len(numbers), 3)]
+
+
+def page_of(words):
+    if words == ["-"]:
+        return bytes(PAGE)
+    page = bytes.fromhex(words[0]) if len(words) == 1 and DIGITS.fullmatch(words[0]) else b""
+    return page if any(page) else None
+
+
+class Lines:
+    """The lines of a text from the front on; behind the last newline there is none."""
+
+    def __init__(self, text):
+        *self.lines, self.rest = text.split("\n")
+        self.taken = 0
+
+    def words(self):
+        """The words of the next line, or None."""
+        return self.lines[self.taken].split(" ") if self.taken < len(self.lines) else None
+
+    def is_at_end(self):
+        return self.taken == len(self.lines) and not self.rest
+
+    def bad(self):
+        return Faulty("bad state line %d" % (self.taken + 1))
+
+    def take(self, name, read):
+        """What the next line says, which has to be of this name."""
+        words = self.words()
+        said = read(words[1:]) if words and words[0] == name else None
+        if said is None:
+            raise self.bad()
+        self.taken += 1
+        return said
+
+
+class Told:
+    """What a text tells: the lines before its dump, and the dump."""
+
+    def __init__(self, text):
+        lines = Lines(text)
+        if not text.startswith("kcore-state 1\n"):
+            raise Faulty("no state header")
+        lines.taken = 1
+        slots, frames, self.host, approved = lines.take("config", sizes_of)
+        self.approved = [lines.take("approved", digest_of) for _ in range(approved)]
+        self.rests = [lines.take("slot", slot_of) for _ in range(slots)]
+        self.pages = [lines.take("page", page_of) for _ in range(frames)]
+        self.version = lines.take("kcore-dump", lambda words: {"1": 1, "2": 2}.get(words[0]) if len(words) == 1 else None)
+        self.size, self.core, self.leaves = lines.take("size", self.size_of)
+        self.free = lines.take("free", self.ends_of)
+        self.vms = [lines.take("vm", lambda words, v=v: self.vm_of(v, words)) for v in range(SLOTS[self.version])]
+        self.roots, self.entries = ([[] for _ in self.vms] for _ in range(2))
+        self.take_leaves(lines)
+        self.take_entries(lines)
+        self.lines = [self.take_frame(lines, f) for f in range(self.size)]
+        if not lines.is_at_end():
+            raise lines.bad()
+
+    def size_of(self, words):
+        numbers = numbers_of(words) if len(words) == 3 else None
+        is_well = numbers and 0 < numbers[0] <= FRAMES[self.version] and numbers[1] <= numbers[0] and 0 < numbers[2] <= LEAVES
+        return numbers if is_well else None
+
+    def frame_or_dash(self, word):
+        """Nothing where there is none, in a list of its own; None where the word says neither."""
+        if word == "-":
+            return [None]
+        number = number_of(word, self.size)
+        return None if number is None else [number]
+
+    def ends_of(self, words):
+        ends = [self.frame_or_dash(word) for word in words[:2]]
+        count = number_of(words[2], self.size + 1) if len(words) == 3 else None
+        return None if count is None or None in ends else (ends[0][0], ends[1][0], count)
+
+    def vm_of(self, v, words):
+        ends = self.ends_of(words[2:])
+        return (words[1], ends) if len(words) == 5 and words[0] == str(v) and words[1] in PHASES and ends else None
+
+    def take_leaves(self, lines):
+        """Root slots, of each slot numbered on from 0."""
+        at, count = 0, 0
+        while lines.words() and lines.words()[0] == "leaf":
+            words = numbers_of(lines.words()[1:])
+            if not words or len(words) != 3 or words[0] >= len(self.vms) or words[2] >= LEAF:
+                raise lines.bad()
+            if not (words[:2] == [at, count] or (words[0] > at and words[1] == 0)):
+                raise lines.bad()
+            at, count = words[0], words[1] + 1
+            self.roots[at].append(words[2])
+            lines.taken += 1
+
+    def take_entries(self, lines):
+        """Mapped guest frames, rising."""
+        least = (0, 0)
+        while lines.words() and lines.words()[0] == "entry":
+            words = numbers_of(lines.words()[1:])
+            if not words or len(words) != 3 or words[0] >= len(self.vms) or words[1] >= GUEST_FRAMES or words[2] >= self.size:
+                raise lines.bad()
+            if tuple(words[:2]) < least:
+                raise lines.bad()
+            least = (words[0], words[1] + 1)
+            self.entries[words[0]].append((words[1], words[2]))
+            lines.taken += 1
+
+    def frame_of(self, words):
+        """The number of a frame, and what its line says."""
+        if len(words) != 8 or number_of(words[0], self.size) is None or words[4] not in ("0", "1") or digest_of(words[7:]) is None:
+            return None
+        owner = words[1] if words[1] in OWNERS else number_of(words[1], len(self.vms))
+        share, before, behind = number_of(words[2], SHARES + 1), self.frame_or_dash(words[5]), self.frame_or_dash(words[6])
+        gfn = [None] if words[3] == "-" else [number_of(words[3], GUEST_FRAMES)]
+        if owner is None or share is None or before is None or behind is None or (gfn[0] is None and words[3] != "-"):
+            return None
+        return int(words[0]), (owner, share, gfn[0], words[4] == "1", before[0], behind[0], words[7])
+
+    def take_frame(self, lines, f):
+        """The line of this frame; that of another, or no more text, is told as that."""
+        words = lines.words()
+        said = self.frame_of(words[1:]) if words and words[0] == "frame" else None
+        if lines.is_at_end() or (said and said[0] != f):
+            raise Faulty("dump frame %d missing or doubled" % f)
+        if said is None:
+            raise lines.bad()
+        lines.taken += 1
+        return said[1]
+
+
+# What is judged, once all lines are read.
+
+
+def judge_sizes(told):
+    is_configuration = told.core + told.host <= told.size and len(told.approved) <= DIGESTS
+    if not is_configuration or len(told.pages) != told.size or len(told.rests) != len(told.vms):
+        raise Faulty("state of no configuration")
+
+
+def is_list(told, owner, ends):
+    """Whether ends and links spell a sequence of all the owner's frames, forwards and backwards."""
+    left, before, f = {f for f, line in enumerate(told.lines) if line[0] == owner}, None, ends[0]
+    if len(left) != ends[2]:
+        return False
+    while f in left and told.lines[f][4] == before:
+        left.remove(f)
+        before, f = f, told.lines[f][5]
+    return not left and f is None and before == ends[1]
+
+
+def findings(told):
+    """What an audit finds, the first first."""
+    lines, frames = told.lines, range(told.size)
+    yield from ("core-owner %d" % f for f in frames if (lines[f][0] == "core") != (f < told.core))
+    yield from ("linked %d" % f for f in frames if lines[f][0] in ("core", "host") and lines[f][4:6] != (None, None))
+    lists = [("free", "free", told.free)] + [(str(v), v, ends) for v, (_, ends) in enumerate(told.vms)]
+    yield from ("chain " + name for name, owner, ends in lists if not is_list(told, owner, ends))
+    for v, entries in enumerate(told.entries):
+        yield from ("entry %d %d" % (v, g) for g, f in entries if (lines[f][0], lines[f][2]) != (v, g))
+    tables = [set(entries) for entries in told.entries]
+    is_vm = lambda f: lines[f][0] not in OWNERS
+    is_mapped = lambda f: is_vm(f) and (lines[f][2], f) in tables[lines[f][0]]
+    yield from ("gfn %d" % f for f in frames if (not is_mapped(f) if is_vm(f) else lines[f][2] is not None))
+    yield from ("share %d" % f for f in frames if lines[f][1] and not is_vm(f))
+    yield from ("present %d" % f for f in frames if lines[f][3] and lines[f][0] != "host" and not lines[f][1])
+    for v, roots in enumerate(told.roots):
+        if len(roots) > told.leaves or len(set(roots)) < len(roots) or any(g // LEAF not in roots for g, _ in told.entries[v]):
+            yield "leaves %d" % v
+    for v, (phase, ends) in enumerate(told.vms):
+        if phase == "empty" and (ends != (None, None, 0) or told.roots[v] or told.entries[v]):
+            yield "empty %d" % v
+    yield from ("bytes %d" % f for f in frames if lines[f][0] == "free" and lines[f][6] != ZEROS)
+
+
+def is_slot(told, v):
+    """Whether a lawful state may have this slot."""
+    phase, (waits, images) = told.vms[v][0], told.rests[v]
+    if phase == "empty":
+        return waits == ["-"] * VCPUS and not images
+    if phase != "active" and any(word not in ("-", ".") for word in waits):
+        return False
+    spans = []
+    for base, length, pages in images:
+        most = (length + PAGE - 1) // PAGE
+        if not 0 < length <= IMAGE_BYTES or base + most > GUEST_FRAMES or pages > most:
+            return False
+        if any(base < end and start < base + most for start, end in spans):
+            return False
+        spans.append((base, base + most))
+    held = {g for base, _, pages in images for g in range(base, base + pages)}
+    return phase != "booting" or held == {g for g, _ in told.entries[v]}
+
+
+def is_frame(told, f):
+    """Whether a lawful state may have this frame."""
+    owner, share, *_, digest = told.lines[f]
+    is_shared_in_order = owner in OWNERS or not share or told.vms[owner][0] == "active"
+    return digest == hashlib.sha256(told.pages[f]).hexdigest() and (owner != "free" or not any(told.pages[f])) and is_shared_in_order
+
+
+def fault_of(text):
+    """Why a text is no state's, or None where it is one's."""
+    try:
+        told = Told(text)
+        judge_sizes(told)
+        for finding in findings(told):
+            raise Faulty("state with finding " + finding)
+        for v in range(len(told.vms)):
+            if not is_slot(told, v):
+                raise Faulty("bad slot %d" % v)
+        for f in range(told.size):
+            if not is_frame(told, f):
+                raise Faulty("bad frame %d" % f)
+    except Faulty as fault:
+        return str(fault)
+    return None

@@ -1,0 +1,186 @@
+"""Volumes for tests/fuzz: a trace that is cut at any places, each piece replayed by itself, in any order, from the text of
+the state before it to that of the state behind it; and such texts damaged."""
+import hashlib
+import re
+
+from states import PAGE, fault_of, state_text
+
+WORKERS = (1, 2, 64)
+# How often a trace is cut: seldom often, since each volume takes a run. One of a large core is cut once.
+CUTS, LARGE = [1] * 8 + [2] * 5 + [3] * 3 + [5, 8, 13, 20], 1024
+ANOTHER = "kcore: another state\n"
+# What may take the place of a digit, and of a word.
+SIGNS, WORDS = "0123456789abcdefA-. \r", ["-", ".", "0", "1", "7", "16", "64", "262143", "262144", "4294967295", "4294967296", "active", "booting", "host", "free"]
+
+
+class Volume:
+    """Some calls in order with their replies, and the texts of the states before and behind them, as the rules have them."""
+
+    def __init__(self, core, lines, before):
+        self.lines, self.before = lines, before
+        self.replies = "".join(core.answer(line) + "\n" for line in lines)
+        self.dump, self.behind = core.dump(), state_text(core)
+
+
+def volumes_of(rng, core, lines):
+    """The volumes of a trace that begins in a core, some of them perhaps without calls."""
+    count = 1 if len(core.frames) > LARGE else rng.choice(CUTS)
+    places = sorted(rng.randrange(len(lines) + 1) for _ in range(count))
+    volumes, text = [], state_text(core)
+    for first, last in zip([0] + places, places + [len(lines)]):
+        volumes.append(Volume(core, lines[first:last], text))
+        text = volumes[-1].behind
+    return volumes
+
+
+# Damages.
+
+
+def one_of_four(rng, items, other):
+    """Some items with one of them changed, dropped, doubled or swapped with another."""
+    items, at = list(items), rng.randrange(len(items))
+    way = rng.choice(["change", "change", "drop", "double", "swap", "swap with the next"])
+    if way == "change":
+        items[at] = other(items[at])
+    elif way == "drop":
+        del items[at]
+    elif way == "double":
+        items.insert(at, items[at])
+    else:
+        to = rng.randrange(len(items)) if way == "swap" else (at + 1) % len(items)
+        items[at], items[to] = items[to], items[at]
+    return items
+
+
+def sections_of(text):
+    """The lines of a text, each with its newline, those behind one another of one name together."""
+    sections = []
+    for line in re.findall("[^\n]*\n", text):
+        name = line.split(" ")[0]
+        if not sections or sections[-1][0].split(" ")[0] != name:
+            sections.append([])
+        sections[-1].append(line)
+    return sections
+
+
+def other_word(rng, place, words, section):
+    """A word for one of a line's: one near to it, one from its place in another line of the section, of the line, or any."""
+    lines = [line[:-1].split(" ") for line in section]
+    some = [line[place] for line in rng.sample(lines, min(4, len(lines))) if place < len(line)]
+    some += [str(max(0, int(words[place]) + step)) for step in (-1, 1)] if re.fullmatch("[0-9]{1,9}", words[place]) else []
+    return rng.choice(some * 2 + [rng.choice(words), rng.choice(WORDS), "0" + words[place]])
+
+
+def damaged_line(rng, section, at):
+    if rng.random() < 0.3:
+        return "".join(one_of_four(rng, section[at], lambda sign: rng.choice(SIGNS)))
+    words = section[at][:-1].split(" ")
+    if rng.random() < 0.5:
+        place = rng.randrange(len(words))
+        words[place] = other_word(rng, place, words, section)
+    else:
+        words = one_of_four(rng, words, lambda word: rng.choice(WORDS))
+    return " ".join(words) + "\n"
+
+
+def with_another_byte(rng, text):
+    """The text with a byte of a page changed and the page's digest mended, so that it may be another state's."""
+    sections = {section[0].split(" ")[0].rstrip(): section for section in sections_of(text)}
+    f = rng.randrange(len(sections["page"]))
+    before, (*words, digest) = sections["page"][f], sections["frame"][f].split(" ")
+    page = bytearray(PAGE) if before == "page -\n" else bytearray.fromhex(before[5:])
+    page[rng.choice([0, 2, PAGE - 1, rng.randrange(PAGE)])] = rng.choice([0, 1, rng.randrange(256)])
+    pages = [*sections["page"][:f], "page %s\n" % (page.hex() if any(page) else "-"), *sections["page"][f + 1:]]
+    line = " ".join([*words, hashlib.sha256(page).hexdigest()]) + "\n"
+    return text.replace("".join(sections["page"]), "".join(pages)).replace(" ".join([*words, digest]), line)
+
+
+def once_damaged(rng, text):
+    way, sections = rng.choice(["line", "line", "line", "lines", "sections", "byte", "end"]), sections_of(text)
+    if way == "byte":
+        return with_another_byte(rng, text)
+    if way == "end":
+        return text[:rng.randrange(len(text))]
+    if way == "sections":
+        sections = one_of_four(rng, sections, lambda section: rng.choice(sections))
+    else:
+        at = rng.randrange(len(sections))
+        if way == "lines":
+            sections[at] = one_of_four(rng, sections[at], lambda line: rng.choice(rng.choice(sections)))
+        else:
+            line = rng.randrange(len(sections[at]))
+            sections[at][line] = damaged_line(rng, sections[at], line)
+    return "".join(line for section in sections for line in section)
+
+
+def damaged(rng, text):
+    """The text with one digit, word, line or section changed, dropped, doubled or swapped, or cut off; another text."""
+    other = text
+    while other == text:
+        other = once_damaged(rng, text)
+    return other
+
+
+# What the program makes of volumes.
+
+
+class Program:
+    """The program on the traces of one configuration, with files for what it reads beside them."""
+
+    def __init__(self, run, trace_of, config, path):
+        self.run, self.trace_of, self.config, self.path = run, trace_of, config, path
+
+    def file(self, end, text):
+        with open(self.path + end, "w", newline="") as out:
+            out.write(text)
+        return self.path + end
+
+    def replay(self, lines, *words):
+        return self.run(["replay", *words], self.trace_of(self.config, lines))
+
+
+def volume_differs(rng, program, volume):
+    """What differs in a volume that is replayed by itself, or None."""
+    form, wanted = rng.choice([([], volume.replies), ([], volume.replies), (["--state"], volume.behind), (["--dump"], volume.dump)])
+    workers = rng.choice(WORKERS)
+    words = [*form, "--from", program.file(".from", volume.before), "--to", program.file(".to", volume.behind), "--workers", str(workers)]
+    if program.replay(volume.lines, *words) != (0, wanted, ""):
+        return "with %d workers and %s" % (workers, form[0] if form else "its replies")
+    return None
+
+
+def end_differs(rng, program, volume):
+    """What differs where a volume is compared with another text than that of the state it leaves, or None."""
+    other = volume.before if volume.before != volume.behind and rng.random() < 0.3 else damaged(rng, volume.behind)
+    words = ["--from", program.file(".from", volume.before), "--to", program.file(".to", other)]
+    return None if program.replay(volume.lines, *words) == (1, volume.replies, ANOTHER) else "compared with another text"
+
+
+def damage_differs(rng, program, volume):
+    """What differs where a text is damaged, or None: it is refused for what is wrong with it, or is another state's own."""
+    text = damaged(rng, volume.before)
+    fault, words = fault_of(text), ["--state", "--from", program.file(".from", text)]
+    if fault is None:
+        return None if program.replay([], *words) == (0, text, "") else "begun with another state's text"
+    return None if program.replay(volume.lines, *words) == (2, "", "kcore: %s\n" % fault) else "begun with a damaged text (%s)" % fault
+
+
+def difference(rng, program, core, lines):
+    """What differs in a trace that begins in a core and is cut into volumes, or None."""
+    volumes = volumes_of(rng, core, lines)
+    told = "of volume %d of %d (" + ", ".join("%d calls" % len(it.lines) for it in volumes) + "), %s"
+    words = ["--config", program.path, "--state", "--workers", str(rng.choice(WORKERS))]
+    if program.replay(lines, *words) != (0, volumes[-1].behind, ""):
+        return "the text of the state"
+    order = list(enumerate(volumes, 1))
+    rng.shuffle(order)
+    for number, volume in order:
+        differs = volume_differs(rng, program, volume)
+        if differs:
+            return told % (number, len(volumes), differs)
+    for look in (end_differs, damage_differs, damage_differs):
+        number, volume = rng.choice(order)
+        differs = look(rng, program, volume)
+        if differs:
+            return told % (number, len(volumes), differs)
+    return None
