@@ -7,7 +7,8 @@ import re
 PAGE, GUEST_FRAMES, IMAGE_BYTES, LEAF, SHARES = 4096, 262144, 1048576, 512, 100
 VCPUS, IMAGES, LEAVES, DIGESTS = 8, 4, 64, 64
 SLOTS, FRAMES = {1: 16, 2: 64}, {1: 8192, 2: 65536}
-ZEROS = hashlib.sha256(bytes(PAGE)).hexdigest()
+ZERO_PAGE = bytes(PAGE)
+ZEROS = hashlib.sha256(ZERO_PAGE).hexdigest()
 DIGEST, DIGITS = re.compile("[0-9a-f]{64}"), re.compile("[0-9a-f]{%d}" % (2 * PAGE))
 NUMERAL = re.compile("0|[1-9][0-9]{0,9}")
 PHASES, OWNERS = ("empty", "booting", "active", "dead"), ("core", "host", "free")
@@ -26,7 +27,7 @@ def state_text(core):
         waits = [slot.vcpus.get(c, "-") for c in range(VCPUS)]
         words = ["." if gfn is None else str(gfn) for gfn in waits] + [str(number) for image in slot.images for number in image]
         lines.append(" ".join(["slot"] + words))
-    lines += ["page " + (frame.page.hex() if any(frame.page) else "-") for frame in core.frames]
+    lines += ["page " + ("-" if frame.page == ZERO_PAGE else frame.page.hex()) for frame in core.frames]
     return "\n".join(lines) + "\n" + core.dump()
 
 
@@ -64,9 +65,9 @@ def slot_of(words):
 
 def page_of(words):
     if words == ["-"]:
-        return bytes(PAGE)
-    page = bytes.fromhex(words[0]) if len(words) == 1 and DIGITS.fullmatch(words[0]) else b""
-    return page if any(page) else None
+        return ZERO_PAGE
+    page = bytes.fromhex(words[0]) if len(words) == 1 and DIGITS.fullmatch(words[0]) else ZERO_PAGE
+    return None if page == ZERO_PAGE else page
 
 
 class Lines:
@@ -252,11 +253,15 @@ def is_slot(told, v):
     return phase != "booting" or held == {g for g, _ in told.entries[v]}
 
 
+def digest_of_page(page):
+    return ZEROS if page == ZERO_PAGE else hashlib.sha256(page).hexdigest()
+
+
 def is_frame(told, f):
     """Whether a lawful state may have this frame."""
     owner, share, *_, digest = told.lines[f]
     is_shared_in_order = owner in OWNERS or not share or told.vms[owner][0] == "active"
-    return digest == hashlib.sha256(told.pages[f]).hexdigest() and (owner != "free" or not any(told.pages[f])) and is_shared_in_order
+    return digest == digest_of_page(told.pages[f]) and (owner != "free" or told.pages[f] == ZERO_PAGE) and is_shared_in_order
 
 
 def fault_of(text):

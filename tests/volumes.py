@@ -7,7 +7,7 @@ from states import PAGE, fault_of, state_text
 
 WORKERS = (1, 2, 64)
 # How often a trace is cut: seldom often, since each volume takes a run. One of a large core is cut once.
-CUTS, LARGE = [1] * 8 + [2] * 5 + [3] * 3 + [5, 8, 13, 20], 1024
+CUTS, LARGE = [1] * 14 + [2] * 4 + [7, 20], 1024
 ANOTHER = "kcore: another state\n"
 # What may take the place of a digit, and of a word.
 SIGNS, WORDS = "0123456789abcdefA-. \r", ["-", ".", "0", "1", "7", "16", "64", "262143", "262144", "4294967295", "4294967296", "active", "booting", "host", "free"]
@@ -19,7 +19,8 @@ class Volume:
     def __init__(self, core, lines, before):
         self.lines, self.before = lines, before
         self.replies = "".join(core.answer(line) + "\n" for line in lines)
-        self.dump, self.behind = core.dump(), state_text(core)
+        self.behind = state_text(core)
+        self.dump = self.behind[self.behind.index("kcore-dump "):]
 
 
 def volumes_of(rng, core, lines):
@@ -178,7 +179,7 @@ def difference(rng, program, core, lines):
         differs = volume_differs(rng, program, volume)
         if differs:
             return told % (number, len(volumes), differs)
-    for look in (end_differs, damage_differs, damage_differs):
+    for look in [damage_differs] + rng.sample([end_differs, damage_differs], 1):
         number, volume = rng.choice(order)
         differs = look(rng, program, volume)
         if differs:
