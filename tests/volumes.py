@@ -14,22 +14,26 @@ SIGNS, WORDS = "0123456789abcdefA-. \r", ["-", ".", "0", "1", "7", "16", "64", "
 
 
 class Volume:
-    """Some calls in order with their replies, and the texts of the states before and behind them, as the rules have them."""
+    """Some calls in order with their replies and what custody tells of them, and the texts of the states before and behind
+    them, as the rules have them."""
 
-    def __init__(self, core, lines, before):
+    def __init__(self, core, lines, told, before):
         self.lines, self.before = lines, before
         self.replies = "".join(core.answer(line) + "\n" for line in lines)
+        self.custody = core.custody_text(len(lines), told)
         self.behind = state_text(core)
         self.dump = self.behind[self.behind.index("kcore-dump "):]
 
 
-def volumes_of(rng, core, lines):
+def volumes_of(rng, core, lines, told):
     """The volumes of a trace that begins in a core, some of them perhaps without calls."""
     count = 1 if len(core.frames) > LARGE else rng.choice(CUTS)
     places = sorted(rng.randrange(len(lines) + 1) for _ in range(count))
     volumes, text = [], state_text(core)
     for first, last in zip([0] + places, places + [len(lines)]):
-        volumes.append(Volume(core, lines[first:last], text))
+        # The first call of a trace is on line 2.
+        own = [(vms, {**line, "line": line["line"] - first}) for vms, line in told if first <= line["line"] - 2 < last]
+        volumes.append(Volume(core, lines[first:last], own, text))
         text = volumes[-1].behind
     return volumes
 
@@ -136,52 +140,55 @@ class Program:
             out.write(text)
         return self.path + end
 
-    def replay(self, lines, *words):
-        return self.run(["replay", *words], self.trace_of(self.config, lines))
+    def ran(self, lines, *words):
+        return self.run(words, self.trace_of(self.config, lines))
 
 
 def volume_differs(rng, program, volume):
     """What differs in a volume that is replayed by itself, or None."""
+    start = ["--from", program.file(".from", volume.before)]
+    if rng.random() < 0.15:
+        return None if program.ran(volume.lines, "custody", *start) == (0, volume.custody, "") else "its custody"
     form, wanted = rng.choice([([], volume.replies), ([], volume.replies), (["--state"], volume.behind), (["--dump"], volume.dump)])
-    workers = rng.choice(WORKERS)
-    words = [*form, "--from", program.file(".from", volume.before), "--to", program.file(".to", volume.behind), "--workers", str(workers)]
-    if program.replay(volume.lines, *words) != (0, wanted, ""):
-        return "with %d workers and %s" % (workers, form[0] if form else "its replies")
+    words, workers = [*start, "--to", program.file(".to", volume.behind)], str(rng.choice(WORKERS))
+    if program.ran(volume.lines, "replay", *form, *words, "--workers", workers) != (0, wanted, ""):
+        return "%s with %s workers" % (form[0] if form else "its replies", workers)
     return None
 
 
 def end_differs(rng, program, volume):
     """What differs where a volume is compared with another text than that of the state it leaves, or None."""
     other = volume.before if volume.before != volume.behind and rng.random() < 0.3 else damaged(rng, volume.behind)
-    words = ["--from", program.file(".from", volume.before), "--to", program.file(".to", other)]
-    return None if program.replay(volume.lines, *words) == (1, volume.replies, ANOTHER) else "compared with another text"
+    words = ["replay", "--from", program.file(".from", volume.before), "--to", program.file(".to", other)]
+    return None if program.ran(volume.lines, *words) == (1, volume.replies, ANOTHER) else "compared with another text"
 
 
 def damage_differs(rng, program, volume):
     """What differs where a text is damaged, or None: it is refused for what is wrong with it, or is another state's own."""
     text = damaged(rng, volume.before)
-    fault, words = fault_of(text), ["--state", "--from", program.file(".from", text)]
+    fault, start = fault_of(text), ["--from", program.file(".from", text)]
     if fault is None:
-        return None if program.replay([], *words) == (0, text, "") else "begun with another state's text"
-    return None if program.replay(volume.lines, *words) == (2, "", "kcore: %s\n" % fault) else "begun with a damaged text (%s)" % fault
+        return None if program.ran([], "replay", "--state", *start) == (0, text, "") else "begun with another state's text"
+    words = rng.choice([["replay"], ["replay", "--state"], ["replay", "--workers", "64"], ["custody"]])
+    return None if program.ran(volume.lines, *words, *start) == (2, "", "kcore: %s\n" % fault) else "begun with a damaged text (%s)" % fault
 
 
-def difference(rng, program, core, lines):
-    """What differs in a trace that begins in a core and is cut into volumes, or None."""
-    volumes = volumes_of(rng, core, lines)
-    told = "of volume %d of %d (" + ", ".join("%d calls" % len(it.lines) for it in volumes) + "), %s"
-    words = ["--config", program.path, "--state", "--workers", str(rng.choice(WORKERS))]
-    if program.replay(lines, *words) != (0, volumes[-1].behind, ""):
+def difference(rng, program, core, lines, told):
+    """What differs in a trace, of which custody tells this, that begins in a core and is cut into volumes, or None."""
+    volumes = volumes_of(rng, core, lines, told)
+    of_volume = "volume %d of %d (of " + ", ".join(str(len(it.lines)) for it in volumes) + " calls): %s"
+    words = ["replay", "--config", program.path, "--state", "--workers", str(rng.choice(WORKERS))]
+    if program.ran(lines, *words) != (0, volumes[-1].behind, ""):
         return "the text of the state"
     order = list(enumerate(volumes, 1))
     rng.shuffle(order)
     for number, volume in order:
         differs = volume_differs(rng, program, volume)
         if differs:
-            return told % (number, len(volumes), differs)
+            return of_volume % (number, len(volumes), differs)
     for look in [damage_differs] + rng.sample([end_differs, damage_differs], 1):
         number, volume = rng.choice(order)
         differs = look(rng, program, volume)
         if differs:
-            return told % (number, len(volumes), differs)
+            return of_volume % (number, len(volumes), differs)
     return None
