@@ -4,16 +4,16 @@ _kcore() {
     [ "$COMP_CWORD" -le 1 ] || command=${COMP_WORDS[1]}
     COMPREPLY=()
     case $before in
-        --config) mapfile -t COMPREPLY < <(compgen -f -- "$word"); compopt -o filenames 2> /dev/null; return ;;
+        --config | --from | --to) mapfile -t COMPREPLY < <(compgen -f -- "$word"); compopt -o filenames 2> /dev/null; return ;;
         --vm) mapfile -t COMPREPLY < <(compgen -W "$(seq 0 63)" -- "$word"); return ;;
         --workers) mapfile -t COMPREPLY < <(compgen -W "$(seq 64)" -- "$word"); return ;;
     esac
     local words=
     case $command in
         '') words='replay live custody audit help --help --version' ;;
-        replay) words='--config --workers --dump --explain --help' ;;
+        replay) words='--config --from --to --workers --dump --state --explain --help' ;;
         live) words='--config --workers --explain --help' ;;
-        custody) words='--config --vm --summary --svg --explain --help' ;;
+        custody) words='--config --from --vm --summary --svg --explain --help' ;;
         audit) words='--all --explain --help' ;;
         help) [ "$COMP_CWORD" -gt 2 ] || words='replay live custody audit help' ;;
     esac
