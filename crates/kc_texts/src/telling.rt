@@ -1,7 +1,8 @@
 //! The line and the exit status of a fault.
-ghost use Rattle.std.specs.Prelude.{◌≡◌, ℕ, take, false};
+ghost use Rattle.std.specs.Prelude.{◌≡◌, ◌≤◌, ◌++◌, ℕ, take, false};
+ghost use Rattle.arrayvec.specs.ArrayString.{array_string_len};
 ghost use Rattle.std.specs.Io.KnownBytes.{Appends};
-ghost use Rattle.kc_texts.specs.Faults.{status_of, fault_line};
+ghost use Rattle.kc_texts.specs.Faults.{status_of, fault_number, numeral_of, fault_finding, fault_line};
 
 use crate::TextFault;
 use crate::source::Sink;
@@ -11,19 +12,29 @@ use itoa::Buffer;
 use kc_audit::finding_text;
 use kc_state_text::StateFault;
 
+/// What stands behind a fault's words: a number, what an audit finds, or nothing.
+fn detail(fault: &TextFault) -> ArrayString<160>
+    ensures bytes { result.bytes ≡ numeral_of (fault_number fault.now) ++ fault_finding fault.now }
+    ensures short { array_string_len result ≤ 160 }
+{
+    if let TextFault::State(StateFault::Found(finding)) = fault {
+        return finding_text(*finding);
+    }
+    let mut text = ArrayString::new();
+    if let Some(number) = fault.number() {
+        text.push_str(Buffer::new().format(number));
+    }
+    text
+}
+
 /// The line of a fault, with its line feed.
-fn line(fault: &TextFault) -> ArrayString<160>
+fn line(fault: &TextFault) -> ArrayString<256>
     ensures { result.bytes ≡ fault_line fault.now }
 {
     let mut line = ArrayString::new();
     line.push_str("kcore: ");
     line.push_str(fault.words());
-    if let Some(number) = fault.number() {
-        line.push_str(Buffer::new().format(number));
-    }
-    if let TextFault::State(StateFault::Found(finding)) = fault {
-        line.push_str(finding_text(*finding).as_str());
-    }
+    line.push_str(detail(fault).as_str());
     line.push_str(fault.end());
     line.push_str("\n");
     line
