@@ -85,9 +85,8 @@ fn read_into<S: Source>(alloc: Global, source: &mut S, text: &mut Vec<u8>) -> Re
         if used == text.len() && grow(alloc, text).is_err() {
             return Err(ReadFault::Memory);
         }
-        let n = match source.read(&mut text[used..]) {
-            Ok(n) => n,
-            Err(Failed) => return Err(ReadFault::Read),
+        let Ok(n) = source.read(&mut text[used..]) else {
+            return Err(ReadFault::Read);
         };
         if n == 0 {
             text.truncate(used);
