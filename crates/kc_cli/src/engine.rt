@@ -14,7 +14,7 @@ use kc_core::KCore;
 use kc_digests::Lanes;
 use kc_replay::Outcome;
 use kc_state_text::is_state_text;
-use kc_texts::{Sink, Source, TextFault, read_whole};
+use kc_texts::{Sink, Source, TextFault, read_secret};
 use std::alloc::Global;
 use std::sync::Wait;
 use std::thread::Threads;
@@ -64,7 +64,7 @@ fn is_left<S: Source>(
     ensures source { S.failed to.new ≡ true → result ≡ Err TextFault.Read }
     ensures fault { IfErr result (λ fault. (fault ≡ TextFault.Memory) ⊎ (fault ≡ TextFault.Read)) }
 {
-    let mut text = read_whole(alloc, to)?;
+    let mut text = read_secret(alloc, to)?;
     let same = is_state_text(rt, alloc, core, &text, lanes);
     text.fill(0);
     match same {

@@ -12,7 +12,7 @@ ghost use Rattle.kc_texts.specs.Reading.{BeginsIn, IsConfigFault, IsStartFault};
 use kc_core::KCore;
 use kc_digests::Lanes;
 use kc_state_text::read_state;
-use kc_texts::{Origin, Source, TextFault, read_configuration, read_whole};
+use kc_texts::{Origin, Source, TextFault, read_configuration, read_secret};
 use std::alloc::Global;
 use std::thread::Threads;
 
@@ -53,7 +53,7 @@ fn read_core<C: Source>(
     ensures fault { IfErr result IsStartFault }
     ensures config { (fault : ConfigTextFault) → result ≡ Err (TextFault.Config fault) → ⊥ }
 {
-    let mut text = read_whole(alloc, start)?;
+    let mut text = read_secret(alloc, start)?;
     let core = read_state(rt, alloc, &text, lanes);
     text.fill(0);
     let core = core?;

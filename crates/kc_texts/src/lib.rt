@@ -31,4 +31,4 @@ pub use standard::Std;
 pub use stream::{CallStream, Part, StreamFault, read_calls};
 pub use telling::tell;
 pub use traces::give_trace;
-pub use whole::{ReadFault, read_whole, write_whole};
+pub use whole::{ReadFault, read_secret, read_whole, write_whole};

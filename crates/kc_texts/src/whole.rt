@@ -1,11 +1,11 @@
 //! All that a source has, and all that a sink is given.
-ghost use Rattle.std.specs.Prelude.{◌≡◌, ◌≤◌, false, ℕ, length, take, is_err, IfOk, OnOk, OnErr};
+ghost use Rattle.std.specs.Prelude.{◌≡◌, ◌<◌, ◌≤◌, false, ℕ, length, take, is_err, IfOk, OnOk, OnErr};
 ghost use Rattle.std.specs.Io.KnownBytes.{Consumes, Appends, IsAtEnd};
 ghost use Rattle.kc_texts.specs.Ends.{ReadFailed};
 ghost use Rattle.kc_types.specs.Limits.{byte_limit};
 
 use crate::{Failed, Sink, Source};
-use kc_types::BYTE_LIMIT;
+use kc_types::{BYTE_LIMIT, Memory};
 use std::alloc::Global;
 use thiserror::Error;
 
@@ -46,6 +46,77 @@ pub fn read_whole<S: Source>(alloc: Global, source: &mut S) -> Result<Vec<u8>, R
         }
         if all.extend_from_slice(&buffer[..n]).is_err() {
             return Err(ReadFault::Memory);
+        }
+    }
+}
+
+/// How many bytes are made room for at first.
+const PIECE: usize = 65_536;
+
+/// Puts bytes that begin with those of a text in its place: twice as many, at least 65,536 and at most 65,536 more than
+/// are ever read. The old ones are zeroed. An `Err` leaves the text as it was.
+fn grow(alloc: Global, text: &mut Vec<u8>) -> Result<(), Memory>
+    requires { length text.old.items ≤ byte_limit }
+    ensures kept { (n : ℕ) → n ≤ length text.old.items → take n text.new.items ≡ take n text.old.items }
+    ensures more { OnOk result (length text.old.items < length text.new.items) }
+{
+    let len = text.len();
+    let room = (2 * len).max(PIECE).min(BYTE_LIMIT + PIECE);
+    let mut longer = Vec::with_capacity(alloc, room)?;
+    longer.extend_from_slice(text).unwrap();
+    longer.resize(room, 0).unwrap();
+    text.fill(0);
+    *text = longer;
+    Ok(())
+}
+
+/// Reads what a source has left into a text. After an `Err` there may be bytes of it anywhere in the text.
+fn read_into<S: Source>(alloc: Global, source: &mut S, text: &mut Vec<u8>) -> Result<(), ReadFault>
+    requires { S.failed source.old ≡ false }
+    ensures ok { OnOk result (Consumes (S.left source.old) (S.left source.new) text.new.items) }
+    ensures few { OnOk result (length text.new.items ≤ byte_limit) }
+    ensures ended { OnOk result (IsAtEnd (S.left source.new)) }
+    ensures mark { OnOk result (S.failed source.new ≡ false) }
+    ensures memory { result ≡ Err ReadFault.Memory → S.failed source.new ≡ false }
+    ensures read { result ≡ Err ReadFault.Read → ReadFailed (S.failed source.new) (S.left source.old) (S.left source.new) }
+{
+    let mut used = 0;
+    loop {
+        if used == text.len() && grow(alloc, text).is_err() {
+            return Err(ReadFault::Memory);
+        }
+        let Ok(n) = source.read(&mut text[used..]) else {
+            return Err(ReadFault::Read);
+        };
+        if n == 0 {
+            text.truncate(used);
+            return Ok(());
+        }
+        if n > BYTE_LIMIT - used {
+            return Err(ReadFault::Read);
+        }
+        used += n;
+    }
+}
+
+/// What `read_whole` does, for bytes that are a secret: they stand nowhere but in the answer, for all other memory that they
+/// came through is zeroed, and after an `Err` the whole of it.
+pub fn read_secret<S: Source>(alloc: Global, source: &mut S) -> Result<Vec<u8>, ReadFault>
+    requires { S.failed source.old ≡ false }
+    ensures ok { IfOk result (λ all. Consumes (S.left source.old) (S.left source.new) all.items) }
+    ensures few { IfOk result (λ all. length all.items ≤ byte_limit) }
+    ensures ended { OnOk result (IsAtEnd (S.left source.new)) }
+    ensures mark { OnOk result (S.failed source.new ≡ false) }
+    // A read that failed is never reported as want of memory.
+    ensures memory { result ≡ Err ReadFault.Memory → S.failed source.new ≡ false }
+    ensures read { result ≡ Err ReadFault.Read → ReadFailed (S.failed source.new) (S.left source.old) (S.left source.new) }
+{
+    let mut text = Vec::new(alloc);
+    match read_into(alloc, source, &mut text) {
+        Ok(()) => Ok(text),
+        Err(fault) => {
+            text.fill(0);
+            Err(fault)
         }
     }
 }
