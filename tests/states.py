@@ -2,6 +2,7 @@
 
 What is written is asked of a core of tests/fuzz. What is wrong with a text is the first that applies, as kcore says it."""
 import hashlib
+import operator
 import re
 
 PAGE, GUEST_FRAMES, IMAGE_BYTES, LEAF, SHARES = 4096, 262144, 1048576, 512, 100
@@ -46,7 +47,10 @@ def numbers_of(words, limit=2 ** 32):
 
 
 def sizes_of(words):
-    return numbers_of(words) if len(words) == 4 else None
+    """How many slots, frames, frames of the host's at boot and approved digests there are: as many as any configuration has."""
+    numbers = numbers_of(words) if len(words) == 4 else None
+    limits = SLOTS[2], FRAMES[2], FRAMES[2], DIGESTS
+    return numbers if numbers and all(map(operator.le, numbers, limits)) else None
 
 
 def digest_of(words):
@@ -194,7 +198,7 @@ class Told:
 
 
 def judge_sizes(told):
-    is_configuration = told.core + told.host <= told.size and len(told.approved) <= DIGESTS
+    is_configuration = told.core + told.host <= told.size
     if not is_configuration or len(told.pages) != told.size or len(told.rests) != len(told.vms):
         raise Faulty("state of no configuration")
 
