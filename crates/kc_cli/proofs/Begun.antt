@@ -1,5 +1,6 @@
 -- A beginning of a live run's text is given.
-use Rattle.std.proofs.Common.{ℕ, List, Option, Some, None, take, refl}
+use Rattle.std.proofs.Common.{ℕ, ◌≡◌, ◌≤◌, List, length, Option, Some, None, Err, take, refl, arith}
+use Rattle.std.specs.Prelude.{IfSome, ◌≢◌}
 use Rattle.std.specs.Io.KnownBytes.{Appends}
 use Rattle.kc_types.specs.Configuration.{Configuration}
 use Rattle.kc_types.specs.declared.call.Call.{Call}
@@ -8,7 +9,15 @@ use Rattle.kc_model.specs.Safety.{IsSafe}
 use Rattle.kc_live.specs.Cuts.{KeepsOrders, MayRun}
 use Rattle.kc_trace.specs.Spelling.{trace_of}
 use Rattle.kc_texts.specs.Reading.{HaveRead, Begins}
-use Rattle.kc_cli.specs.Live.{IsLiveText}
+use Rattle.kc_types.specs.Limits.{call_limit}
+use Rattle.kc_trace.specs.ConfigText.{config_in}
+use Rattle.std.proofs.Common.{Ok}
+use Rattle.kc_texts.specs.Outcomes.{Seen, TellsTexts}
+use Rattle.kc_texts.specs.declared.origin.Origin.TheVariants as origins
+use Rattle.kc_texts.specs.declared.fault.TextFault.{TextFault}
+use Rattle.kc_texts.proofs.Told.{boots, texts_trace}
+use Rattle.kc_trace.specs.declared.fault.TraceFault.TheVariants as traces
+use Rattle.kc_cli.specs.Live.{IsLiveText, IsLiveFault}
 
 pub begins_live : (config_source trace_source old new : Option (List ℕ)) (config : Configuration) (calls made : List Call) → HaveRead config_source trace_source config calls → MayRun config calls → KeepsOrders made calls → IsSafe (boot config) made
     → ((n : ℕ) × Appends old new (take n (trace_of made))) → Begins IsLiveText config_source trace_source old new
@@ -16,3 +25,10 @@ begins_live None trace old new config calls made read may keeps is cut = tt
 begins_live (Some config_text) None old new config calls made read may keeps is cut = tt
 begins_live (Some config_text) (Some trace_text) old new config calls made read may keeps is cut =
     (trace_of made, cut.0, (config, calls, record { configured = read.configured; traced = read.traced }, may, (made, keeps, is, refl)), cut.1)
+
+-- no text is refused for what a live run of few calls is refused for
+pub live_refused : {A : Type 0} (start trace : Seen) (unread : Type 0) (config : Configuration) (calls : List Call) (f : TextFault) → IfSome start.had (λ text. config_in text ≡ Ok config) → length calls ≤ call_limit → IsLiveFault config calls f → TellsTexts {A = A} origins.Boot start trace unread (Err f)
+live_refused start trace unread config calls f known few is =
+    texts_trace origins.Boot start trace unread (boot config) f (boots start.had config known)
+    (λ said same. absurd (let many = (is.trace said same).1 in omega (arith, few, many))) is.config is.state
+    (is.config _, λ same. (let many = (is.trace traces.Memory same).1 in omega (arith, few, many)), is.state _, is.dump)

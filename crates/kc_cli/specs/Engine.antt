@@ -12,12 +12,18 @@ use Rattle.kc_trace.specs.ReplyText.{reply_text_of}
 use Rattle.kc_trace.specs.declared.config_text.ConfigTextFault.{ConfigTextFault}
 use Rattle.kc_state_text.specs.StateText.{state_text}
 use Rattle.kc_state_text.specs.declared.fault.StateFault.{StateFault}
+use Rattle.kc_state_text.specs.declared.fault.StateFault.TheVariants as states
 use Rattle.kc_texts.specs.declared.origin.Origin.{Origin}
 use Rattle.kc_texts.specs.Reading.{BeginsIn, IsTold}
 use Rattle.kc_cli.specs.declared.order.ReplayForm.{ReplayForm}
 use Rattle.kc_cli.specs.declared.order.ReplayForm.TheVariants as forms
 use Rattle.kc_texts.specs.declared.fault.TextFault.{TextFault}
 use Rattle.kc_texts.specs.declared.fault.TextFault.TheVariants as texts
+
+-- the state's text is refused, or memory, and out of memory is never told as a fault of the text
+abbrev pub IsStateFault : TextFault → Type 0
+IsStateFault (texts.State fault) = fault ≢ states.Memory
+IsStateFault fault = fault ≡ texts.Memory
 
 -- replaying a trace as it is read ends in a fault of its source, of its text, of memory or of a worker
 pub record IsReplayFault (fault : TextFault) : Type 0 where

@@ -9,6 +9,7 @@ use Rattle.kc_model.specs.Boot.{boot}
 use Rattle.kc_model.specs.Safety.{IsSafe}
 use Rattle.kc_live.specs.Cuts.{KeepsOrders, MayRun, StopsTrace}
 use Rattle.kc_dump_text.specs.declared.fault.DumpFault.{DumpFault}
+use Rattle.kc_state_text.specs.declared.fault.StateFault.{StateFault}
 use Rattle.kc_trace.specs.declared.config_text.ConfigTextFault.{ConfigTextFault}
 use Rattle.kc_trace.specs.declared.fault.TraceFault.{TraceFault}
 use Rattle.kc_trace.specs.declared.fault.TraceFault.TheVariants as traces
@@ -46,6 +47,7 @@ pub record IsLiveFault (machine : Configuration) (calls : List Call) (fault : Te
   pub write : fault ≢ texts.Write
   pub config : (said : ConfigTextFault) → fault ≢ texts.Config said
   pub dump : (said : DumpFault) → fault ≢ texts.Dump said
+  pub state : (said : StateFault) → fault ≢ texts.State said
   pub trace : (said : TraceFault) → fault ≡ texts.Trace said → (said ≡ traces.TooManyCalls) × (call_limit < length calls)
   pub actor : (program : ℕ) → fault ≡ texts.BadActor program → StopsTrace machine calls (causes.BadActor program)
   pub started : fault ≡ texts.Start → MayRun machine calls

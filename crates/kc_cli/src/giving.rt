@@ -124,6 +124,27 @@ fn give_state<K: Sink>(
     }
 }
 
+/// Gives what is wanted of replies and of the core behind them.
+fn give_wanted<K: Sink>(
+    rt: &(impl Threads + Sync),
+    alloc: Global,
+    replies: &[Reply],
+    core: &KCore,
+    order: ReplayOrder,
+    out: &mut K,
+) -> Result<(), TextFault>
+    requires { K.failed out.old ≡ false }
+    ensures ok { OnOk result (Appends (K.taken out.old) (K.taken out.new) (written_text order.form replies.now core.now)) }
+    ensures sink { TellsSink (K.failed out.new) ((n : ℕ) × Appends (K.taken out.old) (K.taken out.new) (take n (written_text order.form replies.now core.now))) (out.new ≡ out.old) result }
+    ensures fault { IfErr result (λ fault. (fault ≡ TextFault.Memory) ⊎ (fault ≡ TextFault.Write)) }
+{
+    match order.form {
+        ReplayForm::Replies => give_text(alloc, replies, out),
+        ReplayForm::Dump => give_dump(rt, alloc, core, order.lanes, out),
+        ReplayForm::State => give_state(rt, alloc, core, order.lanes, out),
+    }
+}
+
 /// Gives what is wanted of a replay. Its core is wiped before it goes, whatever the outcome.
 pub(crate) fn give_outcome<K: Sink>(
     rt: &(impl Threads + Sync),
@@ -139,11 +160,7 @@ pub(crate) fn give_outcome<K: Sink>(
 {
     let Outcome { replies, core } = outcome;
     let mut core = core;
-    let given = match order.form {
-        ReplayForm::Replies => give_text(alloc, &replies, out),
-        ReplayForm::Dump => give_dump(rt, alloc, &core, order.lanes, out),
-        ReplayForm::State => give_state(rt, alloc, &core, order.lanes, out),
-    };
+    let given = give_wanted(rt, alloc, &replies, &core, order, out);
     core.wipe(rt);
     given
 }

@@ -1,6 +1,7 @@
 //! The core that the calls of a trace begin with.
-ghost use Rattle.std.specs.Prelude.{◌≡◌, false, true, IfOk, IfErr, IfSome, OnOk, Ok, Err};
+ghost use Rattle.std.specs.Prelude.{◌≡◌, ◌≤◌, false, true, length, IfOk, IfErr, IfSome, OnOk, Ok, Err};
 ghost use Rattle.std.specs.Io.KnownBytes.{IsAtEnd};
+ghost use Rattle.kc_types.specs.Limits.{byte_limit};
 ghost use Rattle.kc_model.specs.Lawful.{IsLawful};
 ghost use Rattle.kc_trace.specs.ConfigText.{config_in};
 ghost use Rattle.kc_trace.specs.declared.config_text.ConfigTextFault.{ConfigTextFault};
@@ -8,6 +9,7 @@ ghost use Rattle.kc_state_text.specs.Refused.{IsRefusedState};
 ghost use Rattle.kc_state_text.specs.declared.fault.StateFault.{StateFault};
 ghost use Rattle.kc_texts.specs.Ends.{ReadFailed};
 ghost use Rattle.kc_texts.specs.Reading.{BeginsIn, IsConfigFault, IsStartFault};
+ghost use Rattle.kc_cli.specs.Engine.{IsStateFault};
 
 use kc_core::KCore;
 use kc_digests::Lanes;
@@ -35,6 +37,23 @@ fn boot_core<C: Source>(alloc: Global, start: &mut C) -> Result<KCore, TextFault
     }
 }
 
+/// The core in the state of a text.
+fn core_in(
+    rt: &(impl Threads + Sync),
+    alloc: Global,
+    text: &[u8],
+    lanes: Lanes,
+) -> Result<KCore, TextFault>
+    requires { length text.now ≤ byte_limit }
+    ensures ok { IfOk result (λ core. BeginsIn Origin.State text.now core) }
+    ensures lawful { IfOk result IsLawful }
+    ensures state { (fault : StateFault) → result ≡ Err (TextFault.State fault) → IsRefusedState text.now fault }
+    ensures fault { IfErr result IsStateFault }
+{
+    let core = read_state(rt, alloc, text, lanes)?;
+    Ok(core)
+}
+
 /// Reads the text of a state to its end: the core in that state. The text's memory is wiped.
 fn read_core<C: Source>(
     rt: &(impl Threads + Sync),
@@ -54,10 +73,9 @@ fn read_core<C: Source>(
     ensures config { (fault : ConfigTextFault) → result ≡ Err (TextFault.Config fault) → ⊥ }
 {
     let mut text = read_secret(alloc, start)?;
-    let core = read_state(rt, alloc, &text, lanes);
+    let core = core_in(rt, alloc, &text, lanes);
     text.fill(0);
-    let core = core?;
-    Ok(core)
+    core
 }
 
 /// Reads what the calls begin with to its end: the core in the boot state of a configuration, or in the state that a text

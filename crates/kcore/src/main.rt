@@ -435,9 +435,13 @@ fn run_job<R: Threads + Wait + Sync>(
 }
 
 fn run<R: Threads + Wait + Sync>(rt: &HostRuntime, threads: &R) -> u8 {
-    let arguments = match env::args(rt) {
+    let mut arguments = match env::args(rt) {
         Ok(arguments) => arguments,
         Err(error) => return refuse_words(rt, &error),
+    };
+    let lanes = match arguments.next() {
+        Some(name) => lanes_of(name.as_str()),
+        None => Lanes::Four,
     };
     let Ok(words) = arguments.collect::<Vec<String>>(rt.alloc()) else {
         return fail(rt, TextFault::Memory);
@@ -449,13 +453,9 @@ fn run<R: Threads + Wait + Sync>(rt: &HostRuntime, threads: &R) -> u8 {
     else {
         return fail(rt, TextFault::Memory);
     };
-    let (lanes, words) = match words.as_slice().split_first() {
-        Some((name, words)) => (lanes_of(name), words),
-        None => (Lanes::Four, words.as_slice()),
-    };
-    match job_of(rt.alloc(), words) {
+    match job_of(rt.alloc(), words.as_slice()) {
         Ok(job) => run_job(rt, threads, job, lanes),
-        Err(fault) => refuse(rt, words, fault),
+        Err(fault) => refuse(rt, words.as_slice(), fault),
     }
 }
 

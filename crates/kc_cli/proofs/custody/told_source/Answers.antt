@@ -11,10 +11,10 @@ config_of m = m.config
 pub returns-in-Err-clause-trace : goal.returns-in-Err-clause-trace
 returns-in-Err-clause-trace g c = λ said e. let same : c.in-Err.fault ≡ texts.Trace said = cc in c.in-Err.ensures.trace said (ap Err same)
 
-pub returns-in-Ok-outcome-clause-config : goal.returns-in-Ok-outcome-clause-config
-returns-in-Ok-outcome-clause-config g c =
-    ap config_of c.into_parts-config.ensures.state ∙ ap config_of c.wipe.ensures ∙ c.in-Ok-outcome.ensures.config
+pub returns-in-Ok-clause-config : goal.returns-in-Ok-clause-config
+returns-in-Ok-clause-config g c =
+    ap config_of c.into_parts-config.ensures.state ∙ ap config_of c.wipe.ensures ∙ c.in-Ok.ensures.config
 
-pub returns-in-Ok-outcome-clause-ok : goal.returns-in-Ok-outcome-clause-ok
-returns-in-Ok-outcome-clause-ok g c =
-    is_told (g.T.Source.left c.args.trace.now) c.args.core _ _ c.requires.lawful c.in-Ok-outcome.ensures.ok
+pub returns-in-Ok-clause-ok : goal.returns-in-Ok-clause-ok
+returns-in-Ok-clause-ok g c =
+    is_told (g.T.Source.left c.args.trace.now) c.args.core _ _ c.requires.lawful c.in-Ok.ensures.ok

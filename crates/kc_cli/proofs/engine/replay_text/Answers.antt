@@ -1,5 +1,5 @@
 use Rattle.std.proofs.lemmas.Result.{err_from_is_err_and}
-use Rattle.kc_texts.proofs.Told.{texts_err, sink_more}
+use Rattle.kc_texts.proofs.Told.{sources_err, texts_err, sink_more}
 use Rattle.kc_cli.proofs.Replayed.{begins}
 use Rattle.kc_cli.proofs.engine.replay_text.Goals as goal
 
@@ -10,3 +10,8 @@ returns-in_err-outcome-clause-texts g c =
 
 pub returns-clause-sink : goal.returns-clause-sink
 returns-clause-sink g c = sink_more _ _ _ _ _ (λ begun. begins _ _ _ _ _ _ _ _ c.in_ok-outcome.ensures.ok begun) c.give_outcome.ensures.sink
+
+pub returns-in_err-outcome-clause-sources : goal.returns-in_err-outcome-clause-sources
+returns-in_err-outcome-clause-sources g c =
+    let made = err_from_is_err_and c.from_residual.result c.from_residual.ensures.1 in
+    rw (made.1, made.2) (sources_err _ c.in_err-outcome.field-0.0 c.in_err-outcome.ensures.sources)

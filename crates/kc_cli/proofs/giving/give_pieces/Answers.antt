@@ -1,4 +1,4 @@
-use Rattle.std.proofs.Common.{◌≡◌, ◌++◌, ◌∙◌, [], Result, Ok, Err, refl, sym, ap}
+use Rattle.std.proofs.Common.{◌≡◌, ◌++◌, ◌∙◌, [], Result, Ok, Err, refl, rules}
 use Rattle.std.specs.Prelude.{OnErr}
 use Rattle.kc_state_text.specs.Pieces.{to_come}
 use Rattle.kc_cli.proofs.Told.{nothing_given, piece_given, piece_cut, all_given}
@@ -25,4 +25,5 @@ returns-in_err-write_whole-clause-begun g c =
 pub returns-then-is_empty-clause-ok : goal.returns-then-is_empty-clause-ok
 returns-then-is_empty-clause-ok g c =
     let before = c.pieces.invariant.given in
-    all_given _ _ before.0 _ _ before.1 (c.fill.ensures.some (c.if-is_empty.ensures)) before.2
+    let none : c.fill.new.piece.items ≡ [] = search rules in
+    all_given _ _ before.0 _ _ before.1 (c.fill.ensures.some none) before.2
