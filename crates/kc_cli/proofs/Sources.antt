@@ -8,7 +8,7 @@ use Rattle.kc_texts.specs.declared.fault.TextFault.TheVariants as texts
 one_more : (start trace last : Seen) → HasFailedRead (start ∷ trace ∷ []) → HasFailedRead (start ∷ trace ∷ last ∷ [])
 one_more start trace last (inl is) = inl is
 one_more start trace last (inr (inl is)) = inr (inl is)
-one_more start trace last (inr (inr no)) = absurd no
+one_more start trace last (inr (inr never)) = absurd never
 
 -- a fault that came before anything was read of the third
 pub sources_with : {A B : Type 0} (start trace last : Seen) (f : TextFault) → TellsSources {A = A} (start ∷ trace ∷ []) (Err f) → last.failed ≡ false → TellsSources {A = B} (start ∷ trace ∷ last ∷ []) (Err f)
@@ -18,7 +18,7 @@ sources_with {A} {B} start trace last f h whole = record { ended = tt; read = λ
     by_source (inl bad) = let e = h.failed (inl bad) in let same : f ≡ texts.Read = cc in cc
     by_source (inr (inl bad)) = let e = h.failed (inr (inl bad)) in let same : f ≡ texts.Read = cc in cc
     by_source (inr (inr (inl bad))) = cc
-    by_source (inr (inr (inr no))) = absurd no
+    by_source (inr (inr (inr never))) = absurd never
 
 -- a fault of the third, behind the two
 pub sources_last : {A B : Type 0} (start trace last : Seen) (x : A) (f : TextFault) → TellsSources (start ∷ trace ∷ []) (Ok x) → (f ≡ texts.Read → ReadFailed last.failed last.had last.has) → (last.failed ≡ true → f ≡ texts.Read) → TellsSources {A = B} (start ∷ trace ∷ last ∷ []) (Err f)
@@ -28,4 +28,4 @@ sources_last {A} {B} start trace last x f h read bad = record { ended = tt; read
     by_source (inl is) = let e = h.failed (inl is) in absurd cc
     by_source (inr (inl is)) = let e = h.failed (inr (inl is)) in absurd cc
     by_source (inr (inr (inl is))) = let same = bad is in cc
-    by_source (inr (inr (inr no))) = absurd no
+    by_source (inr (inr (inr never))) = absurd never

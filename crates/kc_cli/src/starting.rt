@@ -30,7 +30,10 @@ fn boot_core<C: Source>(alloc: Global, start: &mut C) -> Result<KCore, TextFault
     ensures source { C.failed start.new ≡ true → result ≡ Err TextFault.Read }
     ensures fault { IfErr result IsConfigFault }
 {
-    let config = read_configuration(alloc, start)?;
+    let config = match read_configuration(alloc, start) {
+        Ok(config) => config,
+        Err(fault) => return Err(fault),
+    };
     match KCore::boot(alloc, config) {
         Ok(core) => Ok(core),
         Err(_) => Err(TextFault::Memory),

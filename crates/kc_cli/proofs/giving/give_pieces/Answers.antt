@@ -1,4 +1,6 @@
-use Rattle.std.proofs.Common.{◌≡◌, ◌++◌, ◌∙◌, [], Result, Ok, Err, refl, rules}
+use Rattle.std.proofs.Common.{◌≡◌, ◌++◌, ◌∙◌, [], Result, Ok, Err, refl, sym, arith}
+use Rattle.std.proofs.lemmas.Bool.{eqb-true}
+use Rattle.std.proofs.lemmas.List.{nil_from_length}
 use Rattle.std.specs.Prelude.{OnErr}
 use Rattle.kc_state_text.specs.Pieces.{to_come}
 use Rattle.kc_cli.proofs.Told.{nothing_given, piece_given, piece_cut, all_given}
@@ -25,5 +27,5 @@ returns-in_err-write_whole-clause-begun g c =
 pub returns-then-is_empty-clause-ok : goal.returns-then-is_empty-clause-ok
 returns-then-is_empty-clause-ok g c =
     let before = c.pieces.invariant.given in
-    let none : c.fill.new.piece.items ≡ [] = search rules in
+    let none = nil_from_length c.fill.new.piece.items (omega (arith, eqb-true _ _ (sym c.is_empty.ensures ∙ c.if-is_empty.true), c.fill.new.piece.ok.0)) in
     all_given _ _ before.0 _ _ before.1 (c.fill.ensures.some none) before.2

@@ -1,7 +1,6 @@
-use Rattle.std.proofs.lemmas.Result.{err_from_is_err_and}
+use Rattle.std.proofs.Common.{◌≡◌, Err, ap}
+use Rattle.kc_texts.specs.declared.fault.TextFault.TheVariants as texts
 use Rattle.kc_cli.proofs.starting.boot_core.Goals as goal
 
-pub returns-in_err-config-clause-config : goal.returns-in_err-config-clause-config
-returns-in_err-config-clause-config g c =
-    let made = err_from_is_err_and c.from_residual.result c.from_residual.ensures.1 in
-    rw (made.1, made.2) c.in_err-config.ensures.config
+pub returns-in-Err-clause-config : goal.returns-in-Err-clause-config
+returns-in-Err-clause-config g c = λ said e. let same : c.in-Err.fault ≡ texts.Config said = cc in c.in-Err.ensures.config said (ap Err same)
