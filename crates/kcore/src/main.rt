@@ -197,7 +197,12 @@ fn run_file<R: Threads + Wait + Sync>(
         Ok(file) => file,
         Err(status) => return status,
     };
-    let most = if order.explain { 65_536 } else { 0 };
+    // (a state's text is a secret, of which nothing is kept)
+    let most = if order.explain && order.origin == Origin::Boot {
+        65_536
+    } else {
+        0
+    };
     let mut start = Noted::with_head(rt.alloc(), Std::new(file), most);
     let mut trace = input(rt, "trace", order.explain, true);
     let outcome = run_in(rt, threads, &mut start, &mut trace, to, order);
