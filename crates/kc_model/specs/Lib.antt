@@ -21,3 +21,4 @@ pub mod CustodyLaws
 pub mod Events
 pub mod Lives
 pub mod Bars
+pub mod Volumes

@@ -6,7 +6,7 @@ use Rattle.kc_model.specs.Next.{next, replies_from, state_after}
 use Rattle.kc_model.proofs.Lawful.Keeps.{lawful-next}
 use Rattle.kc_model.proofs.States.Sizes.{sized-next}
 use Rattle.kc_model.proofs.States.Runs.{replies_from-append, state_after-append}
-use Rattle.kc_state_text.specs.Volumes.{IsCoreState, TellsApart, Volume, AreReplayedFrom, all_calls, all_replies, last_text}
+use Rattle.kc_model.specs.Volumes.{IsCoreState, TellsApart, Volume, AreReplayedFrom, all_calls, all_replies, last_text}
 
 told-next : (m : State) (call : Call) → IsCoreState m → IsCoreState (next m call).1
 told-next m call is = record { lawful = lawful-next m call is.lawful; digests = rw (sized-next m call).config is.digests }

@@ -6,7 +6,7 @@ use Rattle.kc_model.specs.Next.{state_after}
 use Rattle.kc_model.proofs.Lawful.AtBoot.{lawful-boot}
 use Rattle.kc_model.proofs.Safe.Safe.{safe}
 use Rattle.kc_model.proofs.Blind.HostBlind.{shows_nothing, shows_nothing-boot}
-use Rattle.kc_state_text.specs.Volumes.{IsDigest, TellsApart, Volume, AreReplayedFrom, all_calls, all_replies}
+use Rattle.kc_model.specs.Volumes.{IsDigest, TellsApart, Volume, AreReplayedFrom, all_calls, all_replies}
 use Rattle.kc_state_text.specs.StateText.{state_text}
 use Rattle.kc_state_text.specs.Runs.{IsOneRun}
 use Rattle.kc_state_text.proofs.Chained.{chained}

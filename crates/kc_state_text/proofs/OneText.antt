@@ -27,7 +27,7 @@ use Rattle.kc_state.proofs.InRange.{dump-in-range}
 use Rattle.kc_state_text.specs.declared.sizes.Sizes as numbers
 use Rattle.kc_state_text.specs.declared.fault.StateFault.{StateFault}
 use Rattle.kc_state_text.specs.declared.fault.StateFault.TheVariants.{NoHeader, BadLine, Missing, Sizes, Found, Slot as BadSlot, Frame as BadFrame, Memory}
-use Rattle.kc_state_text.specs.Volumes.{IsDigest, IsCoreState}
+use Rattle.kc_model.specs.Volumes.{IsDigest, IsCoreState}
 use Rattle.kc_state_text.specs.StateText.{Front, state_header, sizes_words, sizes_line, approved_words, approved_line, slot_words, slot_line, page_words, page_line, front_text, front_of, state_text}
 use Rattle.kc_state_text.specs.Refused.{AreSizes, IsVcpuWord, IsSlotLine, IsFront, IsWholeFront, LacksLine, StopsBefore, StopsWithin, IsDumpFault, IsTextOf, TellsNone, IsRefusedState}
 use Rattle.kc_state_text.proofs.Spelled.{sizes-are-words, sizes-same, approved-are-words, approved-same, slot-are-words, slot-same, page-are-words, page-same}

@@ -6,7 +6,7 @@ use Rattle.kc_state.specs.Told.{Told, told_of}
 use Rattle.kc_state.specs.Unlawful.{IsUnlawful}
 use Rattle.kc_state.specs.declared.unlawful.Unlawful.{Unlawful}
 use Rattle.kc_state.specs.declared.unlawful.Unlawful.TheVariants.{Sizes, Found, Slot, Frame, Memory}
-use Rattle.kc_state_text.specs.Volumes.{IsDigest, IsCoreState}
+use Rattle.kc_model.specs.Volumes.{IsDigest, IsCoreState}
 use Rattle.kc_state_text.specs.Faults.{unlawful_fault}
 use Rattle.kc_state_text.specs.Refused.{IsTextOf, IsRefusedState}
 

@@ -18,7 +18,7 @@ use Rattle.kc_lines.proofs.Digits.{data_of-encode_lower}
 use Rattle.kc_dump_text.specs.Words.{below_of, under, digest_in}
 use Rattle.kc_dump_text.proofs.ReadWords.{map_some, then_some, name_is, number-from, under-from, under-to, digest-to}
 use Rattle.kc_state.specs.Told.{SlotRest}
-use Rattle.kc_state_text.specs.Volumes.{IsDigest}
+use Rattle.kc_model.specs.Volumes.{IsDigest}
 use Rattle.kc_state_text.specs.declared.sizes.Sizes.{Sizes}
 use Rattle.kc_state_text.specs.Words.{vcpu_in, waiting}
 use Rattle.kc_state_text.specs.StateText.{sizes_words, approved_words, fault_word, vcpu_word, image_words, slot_words, is_zero, page_word, page_words}

@@ -15,7 +15,7 @@ use Rattle.kc_lines.proofs.Numbers.{number_of-decimal, number_is_decimal}
 use Rattle.kc_dump_text.specs.Words.{digest_in}
 use Rattle.kc_dump_text.proofs.ReadWords.{digest-from}
 use Rattle.kc_lines.proofs.Digits.{data_is_spelled}
-use Rattle.kc_state_text.specs.Volumes.{IsDigest}
+use Rattle.kc_model.specs.Volumes.{IsDigest}
 use Rattle.kc_state_text.specs.declared.sizes.Sizes.{Sizes}
 use Rattle.kc_state_text.specs.Words.{words_left, vcpu_in}
 use Rattle.kc_state_text.specs.StateText.{sizes_words, approved_words, vcpu_word, vcpu_words}

@@ -3,6 +3,5 @@ pub mod Refused
 pub mod Words
 pub mod Reading
 pub mod Faults
-pub mod Volumes
 pub mod Runs
 pub mod Pieces

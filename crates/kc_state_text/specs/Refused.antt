@@ -11,7 +11,7 @@ use Rattle.kc_state.specs.Told.{Told, SlotRest}
 use Rattle.kc_state.specs.Unlawful.{IsUnlawful}
 use Rattle.kc_state.specs.declared.unlawful.Unlawful.{Unlawful}
 use Rattle.kc_state.specs.declared.unlawful.Unlawful.TheVariants as unlawful
-use Rattle.kc_state_text.specs.Volumes.{IsDigest}
+use Rattle.kc_model.specs.Volumes.{IsDigest}
 use Rattle.kc_state_text.specs.declared.fault.StateFault.{StateFault}
 use Rattle.kc_state_text.specs.declared.fault.StateFault.TheVariants.{NoHeader, BadLine, Missing, Sizes, Found, Slot, Frame, Memory}
 use Rattle.kc_state_text.specs.declared.sizes.Sizes as numbers

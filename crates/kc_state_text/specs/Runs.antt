@@ -5,7 +5,7 @@ use Rattle.kc_model.specs.Boot.{boot}
 use Rattle.kc_model.specs.Next.{replies_from, state_after}
 use Rattle.kc_model.specs.Safety.{IsSafe}
 use Rattle.kc_model.specs.Blind.{ShowsNothingFromBoot}
-use Rattle.kc_state_text.specs.Volumes.{Volume, all_calls, all_replies, last_text}
+use Rattle.kc_model.specs.Volumes.{Volume, all_calls, all_replies, last_text}
 use Rattle.kc_state_text.specs.StateText.{state_text}
 
 -- the replies joined are those of one thread from boot over all calls joined, the last text is that of the state that it leaves, and all that holds of every trace from boot holds of the whole

@@ -2,7 +2,7 @@
 ghost use Rattle.std.specs.Prelude.{ℕ, List, ◌≡◌, ◌≤◌, ◌<◌, ◌+◌, ◌^◌, ◌++◌, length, codes, MatchOption, MatchResult};
 ghost use Rattle.kc_types.specs.Limits.{byte_limit};
 ghost use Rattle.kc_model.specs.Lawful.{IsPage};
-ghost use Rattle.kc_state_text.specs.Volumes.{IsDigest};
+ghost use Rattle.kc_model.specs.Volumes.{IsDigest};
 ghost use Rattle.kc_state_text.specs.StateText.{state_header, sizes_line, approved_line, slot_line, page_line};
 ghost use Rattle.kc_state_text.specs.Refused.{AreSizes, IsSlotLine, HasNone, BeginsWith, IsWholeFront};
 ghost use Rattle.kc_state_text.specs.Reading.{BeginsAs, AreRead, StopsAmong, IsFrontFault};

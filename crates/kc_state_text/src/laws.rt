@@ -6,7 +6,7 @@ ghost use Rattle.kc_model.specs.Boot.{boot};
 ghost use Rattle.kc_model.specs.State.{State};
 ghost use Rattle.kc_state_text.specs.declared.fault.StateFault.{StateFault as Fault};
 ghost use Rattle.kc_state_text.specs.declared.fault.StateFault.TheVariants.{Memory};
-ghost use Rattle.kc_state_text.specs.Volumes.{IsDigest, IsCoreState, Volume, AreReplayedFrom};
+ghost use Rattle.kc_model.specs.Volumes.{IsDigest, IsCoreState, Volume, AreReplayedFrom};
 ghost use Rattle.kc_state_text.specs.StateText.{state_text};
 ghost use Rattle.kc_state_text.specs.Refused.{IsRefusedState};
 ghost use Rattle.kc_state_text.specs.Runs.{IsOneRun};

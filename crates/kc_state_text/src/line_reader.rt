@@ -2,7 +2,7 @@
 ghost use Rattle.std.specs.Prelude.{ℕ, List, ◌≡◌, ◌∷◌, [], codes, MatchOption};
 ghost use Rattle.kc_model.specs.State.{Vcpu};
 ghost use Rattle.kc_dump_text.specs.Words.{digest_in};
-ghost use Rattle.kc_state_text.specs.Volumes.{IsDigest};
+ghost use Rattle.kc_model.specs.Volumes.{IsDigest};
 ghost use Rattle.kc_state_text.specs.Words.{words_in, vcpu_in};
 ghost use Rattle.kc_state_text.specs.StateText.{sizes_words, approved_words, vcpu_words, image_words, vcpus_words, images_words, slot_words};
 ghost use Rattle.kc_state_text.specs.Reading.{LacksFirst, LacksWhole, BeginsAs, IsWhole, behind, AreVcpus, AreImages};

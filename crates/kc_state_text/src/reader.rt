@@ -5,7 +5,7 @@ ghost use Rattle.kc_dump_text.specs.declared.fault.DumpFault.TheVariants.{BadLin
 ghost use Rattle.kc_state_text.specs.StateText.{state_text};
 ghost use Rattle.kc_state_text.specs.Refused.{IsTextOf, IsRefusedState};
 ghost use Rattle.kc_state_text.specs.Faults.{dump_fault, unlawful_fault};
-ghost use Rattle.kc_state_text.specs.Volumes.{IsCoreState};
+ghost use Rattle.kc_model.specs.Volumes.{IsCoreState};
 
 use crate::fault::StateFault;
 use crate::front::{Front, read_front};

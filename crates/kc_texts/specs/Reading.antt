@@ -13,7 +13,7 @@ use Rattle.kc_trace.specs.declared.fault.TraceFault.{TraceFault}
 use Rattle.kc_trace.specs.declared.fault.TraceFault.TheVariants as traces
 use Rattle.kc_state_text.specs.declared.fault.StateFault.{StateFault}
 use Rattle.kc_state_text.specs.declared.fault.StateFault.TheVariants as states
-use Rattle.kc_state_text.specs.Volumes.{IsCoreState}
+use Rattle.kc_model.specs.Volumes.{IsCoreState}
 use Rattle.kc_state_text.specs.StateText.{state_text}
 use Rattle.kc_texts.specs.declared.origin.Origin.{Origin}
 use Rattle.kc_texts.specs.declared.origin.Origin.TheVariants as origins

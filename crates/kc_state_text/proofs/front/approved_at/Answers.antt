@@ -1,5 +1,5 @@
 use Rattle.std.specs.Prelude.{codes}
-use Rattle.kc_state_text.specs.Volumes.{IsDigest}
+use Rattle.kc_model.specs.Volumes.{IsDigest}
 use Rattle.kc_state_text.specs.StateText.{approved_words}
 use Rattle.kc_state_text.proofs.Lines.{none-unread, begins}
 use Rattle.kc_state_text.proofs.Spelled.{approved-are-words}

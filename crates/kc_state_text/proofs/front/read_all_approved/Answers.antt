@@ -1,6 +1,6 @@
 use Rattle.std.proofs.Common.{arith}
 use Rattle.std.specs.Prelude.{codes}
-use Rattle.kc_state_text.specs.Volumes.{IsDigest}
+use Rattle.kc_model.specs.Volumes.{IsDigest}
 use Rattle.kc_state_text.specs.StateText.{approved_words, approved_line}
 use Rattle.kc_state_text.proofs.Followed.{read-more, lines-fit}
 use Rattle.kc_state_text.proofs.front.read_all_approved.Goals as goal

@@ -1,4 +1,4 @@
-use Rattle.kc_state_text.specs.Volumes.{IsDigest}
+use Rattle.kc_model.specs.Volumes.{IsDigest}
 use Rattle.kc_state_text.specs.StateText.{approved_line}
 use Rattle.kc_state_text.specs.Reading.{AreRead}
 use Rattle.kc_state_text.proofs.front.read_all_approved.Given as goal
