@@ -148,4 +148,8 @@ impl<S: Source + Drop> Source for Noted<S> {
         }
         Ok(count)
     }
+
+    fn size_hint(&self) -> usize {
+        self.inner.size_hint()
+    }
 }

@@ -90,4 +90,8 @@ impl<'a, S: Source + Drop, P: Eprint + Clock> Source for Shown<'a, S, P> {
         self.note(count);
         Ok(count)
     }
+
+    fn size_hint(&self) -> usize {
+        self.inner.size_hint()
+    }
 }

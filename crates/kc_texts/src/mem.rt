@@ -61,6 +61,10 @@ impl Source for Mem {
         self.position += n;
         Ok(n)
     }
+
+    fn size_hint(&self) -> usize {
+        self.bytes.len().saturating_sub(self.position)
+    }
 }
 
 impl Sink for Mem {

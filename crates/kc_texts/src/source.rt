@@ -24,6 +24,9 @@ pub trait Source {
         ensures bytes { ReadConsumes (left self.old) (left self.new) result buffer.new }
         ensures bound { IfOk result (λ n. n ≤ length buffer.new) }
         ensures mark { failed self.new ≡ is_err result };
+
+    /// About how many bytes are left, by which room for them is made at once; 0 where that is not known. Nothing rests on it.
+    fn size_hint(&self) -> usize;
 }
 
 /// What bytes go to. After the first `Failed` it is not written again.

@@ -10,6 +10,8 @@ pub struct Std<E: Drop> {
     pub inner: E,
     /// Whether a read or a write has failed.
     pub failed: bool,
+    /// About how many bytes the reader had at first, 0 where that is not known.
+    size: usize,
 }
 
 impl<E: Drop> Std<E> {
@@ -18,9 +20,18 @@ impl<E: Drop> Std<E> {
         ensures inner { result.inner ≡ inner }
         ensures mark { result.failed ≡ false }
     {
+        Std::with_size(inner, 0)
+    }
+
+    /// A source over a reader of about so many bytes.
+    pub fn with_size(inner: E, size: usize) -> Std<E>
+        ensures inner { result.inner ≡ inner }
+        ensures mark { result.failed ≡ false }
+    {
         Std {
             inner,
             failed: false,
+            size,
         }
     }
 }
@@ -43,6 +54,10 @@ impl<R: Read + Drop> Source for Std<R> {
         }
         self.failed = true;
         Err(Failed)
+    }
+
+    fn size_hint(&self) -> usize {
+        self.size
     }
 }
 

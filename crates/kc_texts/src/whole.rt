@@ -50,18 +50,22 @@ pub fn read_whole<S: Source>(alloc: Global, source: &mut S) -> Result<Vec<u8>, R
     }
 }
 
-/// How many bytes are made room for at first.
+/// How many bytes are made room for at first, where no more are awaited.
 const PIECE: usize = 65_536;
 
-/// Puts bytes that begin with those of a text in its place: twice as many, at least 65,536 and at most 65,536 more than
-/// are ever read. The old ones are zeroed. An `Err` leaves the text as it was.
-fn grow(alloc: Global, text: &mut Vec<u8>) -> Result<(), Memory>
+/// Puts bytes that begin with those of a text in its place: twice as many, at least 65,536 and one more than are awaited, and
+/// at most 65,536 more than are ever read. The old ones are zeroed. An `Err` leaves the text as it was.
+fn grow(alloc: Global, text: &mut Vec<u8>, awaited: usize) -> Result<(), Memory>
     requires { length text.old.items ≤ byte_limit }
     ensures kept { (n : ℕ) → n ≤ length text.old.items → take n text.new.items ≡ take n text.old.items }
     ensures more { OnOk result (length text.old.items < length text.new.items) }
 {
     let len = text.len();
-    let room = (2 * len).max(PIECE).min(BYTE_LIMIT + PIECE);
+    // (one more, so that the end is seen without another growth)
+    let room = (2 * len)
+        .max(PIECE)
+        .max(awaited.saturating_add(1))
+        .min(BYTE_LIMIT + PIECE);
     let mut longer = Vec::with_capacity(alloc, room)?;
     longer.extend_from_slice(text).unwrap();
     longer.resize(room, 0).unwrap();
@@ -80,9 +84,10 @@ fn read_into<S: Source>(alloc: Global, source: &mut S, text: &mut Vec<u8>) -> Re
     ensures memory { result ≡ Err ReadFault.Memory → S.failed source.new ≡ false }
     ensures read { result ≡ Err ReadFault.Read → ReadFailed (S.failed source.new) (S.left source.old) (S.left source.new) }
 {
+    let awaited = source.size_hint();
     let mut used = 0;
     loop {
-        if used == text.len() && grow(alloc, text).is_err() {
+        if used == text.len() && grow(alloc, text, awaited).is_err() {
             return Err(ReadFault::Memory);
         }
         let Ok(n) = source.read(&mut text[used..]) else {

@@ -10,14 +10,19 @@ use std::io::{Error, ErrorKind, Read};
 
 const TOO_LONG: &str = "it has more than 1073741824 bytes";
 
-/// What was read where a fault came: the configuration of a file, and standard input.
+/// A file that a word names, as the engines read it.
+#[derive(Drop)]
+pub struct Named<'a> {
+    pub path: &'a str,
+    pub source: Noted<Std<File>>,
+}
+
+/// What was read where a fault came: the file that the calls begin with, that which the state left is compared with, and
+/// standard input.
 #[derive(Drop)]
 pub struct Reading<'a> {
-    path: Option<&'a str>,
-    config: &'a [u8],
-    config_total: u64,
-    /// Why the file could not be read, where that is so.
-    unread: Option<&'static str>,
+    start: Option<&'a Named<'a>>,
+    to: Option<&'a Named<'a>>,
     head: &'a [u8],
     line: &'a [u8],
     total: u64,
@@ -40,14 +45,14 @@ pub fn explain_open(rt: &HostRuntime, path: &str, error: &Error) {
 }
 
 /// Why a file could not be read, where that is so. A read that failed fails once more.
-fn unread_file(config: &Noted<Std<File>>) -> Option<&'static str> {
-    if config.total() > BYTE_LIMIT as u64 {
+fn unread_file(source: &Noted<Std<File>>) -> Option<&'static str> {
+    if source.total() > BYTE_LIMIT as u64 {
         return Some(TOO_LONG);
     }
-    if !config.inner.failed {
+    if !source.inner.failed {
         return None;
     }
-    let mut file = &config.inner.inner;
+    let mut file = &source.inner.inner;
     let mut byte = [0u8; 1];
     match Read::read(&mut file, &mut byte) {
         Ok(_) => Some("reading it failed"),
@@ -70,6 +75,14 @@ fn unread_input(rt: &HostRuntime, total: u64) -> &'static str {
     }
 }
 
+/// Says which key is wrong, or where the text is no JSON, of a configuration that is kept whole.
+fn explain_keys(rt: &HostRuntime, config: &Noted<Std<File>>) {
+    let text = config.head();
+    if config.total() == text.len() as u64 {
+        explain_config(rt.alloc(), rt, text);
+    }
+}
+
 /// Says that traces come by standard input, where `--explain` is among wrong words and one of them names a file in reach.
 pub fn explain_words(rt: &HostRuntime, words: &[&str]) {
     if !words.iter().any(|word| *word == "--explain") {
@@ -86,26 +99,15 @@ pub fn explain_words(rt: &HostRuntime, words: &[&str]) {
 }
 
 impl<'a> Reading<'a> {
-    /// Both, of which the file has this path.
-    pub fn of(config: &'a Noted<Std<File>>, path: &'a str, input: &'a Input<'_>) -> Reading<'a> {
+    /// The files, where words name them, and standard input.
+    pub fn of(
+        start: Option<&'a Named<'a>>,
+        to: Option<&'a Named<'a>>,
+        input: &'a Input<'_>,
+    ) -> Reading<'a> {
         Reading {
-            path: Some(path),
-            config: config.head(),
-            config_total: config.total(),
-            unread: unread_file(config),
-            head: input.head(),
-            line: input.line(),
-            total: input.total(),
-        }
-    }
-
-    /// Standard input alone.
-    pub fn of_input(input: &'a Input<'_>) -> Reading<'a> {
-        Reading {
-            path: None,
-            config: &[],
-            config_total: 0,
-            unread: None,
+            start,
+            to,
             head: input.head(),
             line: input.line(),
             total: input.total(),
@@ -145,7 +147,8 @@ impl<'a> Reading<'a> {
     }
 
     fn explain_config(&self, rt: &HostRuntime, fault: &ConfigTextFault) {
-        let path = self.path.unwrap_or("the configuration");
+        let Some(start) = self.start else { return };
+        let path = start.path;
         match fault {
             ConfigTextFault::Config(ConfigFault::Frames) => {
                 let _ = eprintln!(rt;
@@ -162,28 +165,27 @@ impl<'a> Reading<'a> {
                 let _ = eprintln!(rt; "  {path}: approved has at most 64 entries");
             },
             ConfigTextFault::NotJson => {
-                let look = look_of(self.config);
+                let look = look_of(start.source.head());
                 let _ = eprintln!(rt; "  {path}: {look}");
-                self.explain_keys(rt);
+                explain_keys(rt, &start.source);
             },
-            ConfigTextFault::BadShape => self.explain_keys(rt),
+            ConfigTextFault::BadShape => explain_keys(rt, &start.source),
             ConfigTextFault::Memory => {},
         }
     }
 
-    /// Says which key is wrong, or where the text is no JSON, of a configuration that is kept whole.
-    fn explain_keys(&self, rt: &HostRuntime) {
-        if self.config_total == self.config.len() as u64 {
-            explain_config(rt.alloc(), rt, self.config);
-        }
-    }
-
-    /// Of the file, where reading that failed, else of standard input.
+    /// Of the file whose reading failed, else of standard input.
     fn explain_read(&self, rt: &HostRuntime) {
-        let (name, why) = match (self.path, self.unread) {
-            (Some(path), Some(why)) => (path, why),
-            _ => ("standard input", unread_input(rt, self.total)),
-        };
-        let _ = eprintln!(rt; "  {name}: {why}");
+        for file in [self.start, self.to] {
+            if let Some(file) = file {
+                if let Some(why) = unread_file(&file.source) {
+                    let path = file.path;
+                    let _ = eprintln!(rt; "  {path}: {why}");
+                    return;
+                }
+            }
+        }
+        let why = unread_input(rt, self.total);
+        let _ = eprintln!(rt; "  standard input: {why}");
     }
 }

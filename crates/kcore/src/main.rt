@@ -1,11 +1,11 @@
 //! The program: words, files and standard streams around the text engines.
 #![tactic(auto)]
 
-ghost use Rattle.std.specs.Prelude.{◌≡◌, false};
+ghost use Rattle.std.specs.Prelude.{◌≡◌, false, IfSome};
 
 mod explaining;
 
-use crate::explaining::{Reading, explain_open, explain_words};
+use crate::explaining::{Named, Reading, explain_open, explain_words};
 use kc_cli::{
     ArgFault, CustodyForm, CustodyOrder, DEFAULT_CONFIG, Job, Lanes, Mem, Origin, ReplayForm,
     ReplayOrder, Source, Std, TextFault, audit_text, custody_text, job_of, live_text, replay_text,
@@ -14,7 +14,7 @@ use kc_cli::{
 use kc_explain::{Noted, Shown};
 use kc_replay::OpenGate;
 use std::env;
-use std::fs::File;
+use std::fs::{File, OpenFile};
 use std::io::{Error, ErrorKind, IsTerminal, Stdin};
 use std::process::ExitCode;
 use std::sync::Wait;
@@ -72,6 +72,17 @@ fn open(rt: &HostRuntime, path: &str, explain: bool) -> Result<File, u8> {
     }
 }
 
+/// A file, of whose first bytes so many are kept. Room for a secret of its size is made at once.
+fn noted(rt: &HostRuntime, file: File, most: usize) -> Noted<Std<File>>
+    ensures { result.inner.failed ≡ false }
+{
+    let size = match file.metadata() {
+        Ok(metadata) => metadata.len() as usize,
+        Err(_) => 0,
+    };
+    Noted::with_head(rt.alloc(), Std::with_size(file, size), most)
+}
+
 /// Standard input, of which is shown how much was read where standard error is a terminal and standard output is none.
 /// Where it is a terminal itself, that it is awaited.
 fn input<'a>(rt: &'a HostRuntime, what: &str, explain: bool, is_trace: bool) -> Input<'a>
@@ -109,20 +120,21 @@ fn replay_in<C: Source, R: Threads + Wait + Sync>(
     threads: &R,
     start: &mut C,
     trace: &mut Input<'_>,
-    to: Option<File>,
+    to: &mut Option<Named<'_>>,
     plan: ReplayOrder,
 ) -> Result<Outcome, TextFault>
     requires start { C.failed start.old ≡ false }
     requires trace { trace.old.inner.inner.failed ≡ false }
+    requires to { IfSome to.old (λ named. named.source.inner.failed ≡ false) }
 {
     let alloc = rt.alloc();
     let mut out = Std::new(rt.stdout());
-    let Some(file) = to else {
+    let Some(named) = to else {
         replay_text(threads, alloc, start, trace, &mut out, plan)?;
         return Ok(Outcome::Done);
     };
-    let mut to = Std::new(file);
-    match replay_to_text(threads, alloc, start, trace, &mut to, &mut out, plan)? {
+    let to = &mut named.source;
+    match replay_to_text(threads, alloc, start, trace, to, &mut out, plan)? {
         true => Ok(Outcome::Done),
         false => Ok(Outcome::Another),
     }
@@ -134,11 +146,12 @@ fn run_in<C: Source, R: Threads + Wait + Sync>(
     threads: &R,
     start: &mut C,
     trace: &mut Input<'_>,
-    to: Option<File>,
+    to: &mut Option<Named<'_>>,
     order: Order<'_>,
 ) -> Result<Outcome, TextFault>
     requires start { C.failed start.old ≡ false }
     requires trace { trace.old.inner.inner.failed ≡ false }
+    requires to { IfSome to.old (λ named. named.source.inner.failed ≡ false) }
 {
     let alloc = rt.alloc();
     let mut out = Std::new(rt.stdout());
@@ -190,9 +203,11 @@ fn run_file<R: Threads + Wait + Sync>(
     rt: &HostRuntime,
     threads: &R,
     path: &str,
-    to: Option<File>,
+    mut to: Option<Named<'_>>,
     order: Order<'_>,
-) -> u8 {
+) -> u8
+    requires { IfSome to (λ named. named.source.inner.failed ≡ false) }
+{
     let file = match open(rt, path, order.explain) {
         Ok(file) => file,
         Err(status) => return status,
@@ -203,9 +218,12 @@ fn run_file<R: Threads + Wait + Sync>(
     } else {
         0
     };
-    let mut start = Noted::with_head(rt.alloc(), Std::new(file), most);
+    let mut start = Named {
+        path,
+        source: noted(rt, file, most),
+    };
     let mut trace = input(rt, "trace", order.explain, true);
-    let outcome = run_in(rt, threads, &mut start, &mut trace, to, order);
+    let outcome = run_in(rt, threads, &mut start.source, &mut trace, &mut to, order);
     trace.inner.wipe();
     let fault = match outcome {
         Ok(outcome) => return status_of(rt, outcome),
@@ -213,7 +231,7 @@ fn run_file<R: Threads + Wait + Sync>(
     };
     let status = fail(rt, fault);
     if order.explain {
-        Reading::of(&start, path, &trace).explain(rt, &fault);
+        Reading::of(Some(&start), to.as_ref(), &trace).explain(rt, &fault);
     }
     status
 }
@@ -222,15 +240,17 @@ fn run_file<R: Threads + Wait + Sync>(
 fn run_default<R: Threads + Wait + Sync>(
     rt: &HostRuntime,
     threads: &R,
-    to: Option<File>,
+    mut to: Option<Named<'_>>,
     order: Order<'_>,
-) -> u8 {
+) -> u8
+    requires { IfSome to (λ named. named.source.inner.failed ≡ false) }
+{
     let Ok(bytes) = Vec::from_slice(rt.alloc(), DEFAULT_CONFIG.as_bytes()) else {
         return fail(rt, TextFault::Memory);
     };
     let mut trace = input(rt, "trace", order.explain, true);
     let mut start = Mem::with_bytes(bytes);
-    let outcome = run_in(rt, threads, &mut start, &mut trace, to, order);
+    let outcome = run_in(rt, threads, &mut start, &mut trace, &mut to, order);
     trace.inner.wipe();
     let fault = match outcome {
         Ok(outcome) => return status_of(rt, outcome),
@@ -238,7 +258,7 @@ fn run_default<R: Threads + Wait + Sync>(
     };
     let status = fail(rt, fault);
     if order.explain {
-        Reading::of_input(&trace).explain(rt, &fault);
+        Reading::of(None, to.as_ref(), &trace).explain(rt, &fault);
     }
     status
 }
@@ -253,7 +273,10 @@ fn run_trace<R: Threads + Wait + Sync>(
     let _standing_in = stand_in(rt);
     let to = match to {
         Some(path) => match open(rt, path, order.explain) {
-            Ok(file) => Some(file),
+            Ok(file) => Some(Named {
+                path,
+                source: noted(rt, file, 0),
+            }),
             Err(status) => return status,
         },
         None => None,
@@ -276,7 +299,7 @@ fn audit(rt: &HostRuntime, threads: &(impl Threads + Sync), all: bool, explain: 
     };
     let status = fail(rt, fault);
     if explain {
-        Reading::of_input(&dump).explain(rt, &fault);
+        Reading::of(None, None, &dump).explain(rt, &fault);
     }
     status
 }
