@@ -1,17 +1,16 @@
 -- Histories: the calls that were made of one core, in order, with their replies.
 use Rattle.std.specs.Prelude.{◌≡◌, ◌==◌, ◌&&◌, Bool, true, false, List, [], ◌∷◌, if◌then◌else◌}
-use Rattle.kc_types.specs.Configuration.{Configuration}
 use Rattle.kc_types.specs.Actors.{actor}
 use Rattle.kc_types.specs.declared.call.Call.{Call}
 use Rattle.kc_types.specs.declared.call.Actor.{Actor}
 use Rattle.kc_types.specs.declared.call.Actor.TheVariants.{Host, Vcpu}
 use Rattle.kc_types.specs.declared.reply.Reply.{Reply}
-use Rattle.kc_model.specs.Boot.{boot}
+use Rattle.kc_model.specs.State.{State}
 use Rattle.kc_model.specs.Next.{replies_from}
 
--- one thread that makes these calls, from the boot state of the configuration on, gets these replies
-abbrev pub IsLegalHistory : Configuration → List Call → List Reply → Type 0
-IsLegalHistory config calls replies = replies ≡ replies_from (boot config) calls
+-- one thread that makes these calls, from this state on, gets these replies
+abbrev pub IsLegalHistory : State → List Call → List Reply → Type 0
+IsLegalHistory start calls replies = replies ≡ replies_from start calls
 
 abbrev pub same_actor : Actor → Actor → Bool
 same_actor Host Host = true
