@@ -17,7 +17,7 @@
 extern "C" {
 #endif
 
-/* A session: a core, and the trace of the calls that it answered. {0} is a closed one. */
+/* A session: a core, and the volume of the calls that it answered. {0} is a closed one. */
 typedef struct {
     void *session;
     bool is_open;
@@ -31,7 +31,7 @@ enum kcore_status {
     KCORE_NO_ROOM = 4,         /* the buffer is too short */
     KCORE_NO_SUCH_LINE = 5,    /* the trace has fewer lines */
     KCORE_BAD_LINE = 6,        /* the line is no call */
-    KCORE_HISTORY_FULL = 7,    /* the session has answered 65,536 calls */
+    KCORE_HISTORY_FULL = 7,    /* the volume has 65,536 calls */
     KCORE_NOT_JSON = 8,        /* the configuration is not JSON */
     KCORE_BAD_SHAPE = 9,       /* it has other keys, or other kinds of values */
     KCORE_BAD_FRAMES = 10,     /* its frames are refused */
@@ -54,9 +54,13 @@ uint32_t kcore_boot(kcore *core, const uint8_t *config, size_t config_length);
 uint32_t kcore_call(kcore *core, const uint8_t *line, size_t line_length, uint8_t *out, size_t out_length,
                     size_t *used);
 
-/* Tells a line of the session's trace, by its place from 0, with its newline: the header, then a line for each call that
+/* Tells a line of the volume's trace, by its place from 0, with its newline: the header, then a line for each call that
  * was answered. The lines from 0 to KCORE_NO_SUCH_LINE, one behind the other, are the trace. */
 uint32_t kcore_line(kcore *core, size_t number, uint8_t *out, size_t out_length, size_t *used);
+
+/* Begins the next volume, with the core as it is: calls and lines from then on are of the next one, and those of the last
+ * one are gone. After KCORE_MEMORY nothing has changed. */
+uint32_t kcore_turn(kcore *core);
 
 /* Ends a session: zeroes the core's pages, gives the memory back, and closes it. */
 uint32_t kcore_end(kcore *core);

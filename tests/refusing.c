@@ -57,7 +57,14 @@ static int run(unsigned long at) {
         const char *line = n == 0 ? "kcore-trace 2" : n <= CALLS ? calls[n - 1][0] : NULL;
         if (line ? status != KCORE_DONE || !is_line(line, used) : status != KCORE_NO_SUCH_LINE || used) return -6;
     }
-    return kcore_end(&core) == KCORE_DONE && kcore_end(&core) == KCORE_CLOSED ? told : -7;
+    while ((status = kcore_turn(&core)) == KCORE_MEMORY) {
+        told++;
+        if (kcore_line(&core, CALLS + 1, text, sizeof text, &used) == KCORE_DONE) return -7;
+    }
+    if (status != KCORE_DONE) return -8;
+    while ((status = kcore_line(&core, 1, text, sizeof text, &used)) == KCORE_MEMORY) told++;
+    if (status != KCORE_NO_SUCH_LINE) return -9;
+    return kcore_end(&core) == KCORE_DONE && kcore_end(&core) == KCORE_CLOSED ? told : -10;
 }
 
 int main(void) {

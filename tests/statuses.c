@@ -30,6 +30,7 @@ int main(void) {
     kcore core = {0}, other = {0};
     is(ask(&core, "take", sizeof out), KCORE_CLOSED, "a call on a session that was never open");
     is(line(&core, 0, sizeof out), KCORE_CLOSED, "a line of one");
+    is(kcore_turn(&core), KCORE_CLOSED, "the next volume of one");
     is(kcore_end(&core), KCORE_CLOSED, "the end of one");
 
     is(boot(&core, "{"), KCORE_NOT_JSON, "half an object");
@@ -75,6 +76,17 @@ int main(void) {
     is(ask(&core, "nonsense", sizeof out), KCORE_BAD_LINE, "no call, where the history is full");
     is(line(&core, 65536, sizeof out), KCORE_DONE, "the last call");
     is(line(&core, 65537, sizeof out), KCORE_NO_SUCH_LINE, "the line behind it");
+    is(kcore_turn(&core), KCORE_DONE, "the next volume");
+    is(line(&core, 0, sizeof out), KCORE_DONE, "its header");
+    is(used == 14 && memcmp(out, "kcore-trace 2\n", 14) == 0 ? 0 : 1, 0, "which is the same");
+    is(line(&core, 1, sizeof out), KCORE_NO_SUCH_LINE, "a volume in which nothing was answered");
+    is(ask(&core, "take", sizeof out), KCORE_DONE, "its first call");
+    is(used == 8 && memcmp(out, "frame 5\n", 8) == 0 ? 0 : 1, 0, "the frame that was given back");
+    is(kcore_turn(&core), KCORE_DONE, "one more volume, before this one is full");
+    is(ask(&core, "take", sizeof out), KCORE_DONE, "the first call there");
+    is(used == 8 && memcmp(out, "frame 6\n", 8) == 0 ? 0 : 1, 0, "the frame behind it, since the core goes on");
+    is(line(&core, 1, sizeof out), KCORE_DONE, "the only call of this volume");
+    is(line(&core, 2, sizeof out), KCORE_NO_SUCH_LINE, "the line behind that");
     is(kcore_end(&core), KCORE_DONE, "the end");
     is(kcore_end(&core), KCORE_CLOSED, "a second end");
     is(ask(&core, "take", sizeof out), KCORE_CLOSED, "a call behind the end");

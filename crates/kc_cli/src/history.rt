@@ -1,6 +1,7 @@
 //! A history that is replayed.
 ghost use Rattle.std.specs.Prelude.{◌≡◌, ◌≢◌, ◌<◌, ◌≤◌, ◌⊎◌, ◌↔◌, Err, OnOk, IfOk, IfErr};
 ghost use Rattle.kc_types.specs.Limits.{worker_limit};
+ghost use Rattle.kc_model.specs.Boot.{boot};
 ghost use Rattle.kc_live.specs.Book.{IsSafeHistory, calls_of, end_state, replies_of};
 ghost use Rattle.kc_replay.specs.declared.fault.ReplayFault.TheVariants.{BadWorkers, Broken};
 
@@ -23,7 +24,7 @@ fn copied_calls(alloc: Global, entries: &[Entry]) -> Result<Vec<Call>, Memory>
     Ok(calls)
 }
 
-/// Makes the calls of a history once more, on a core of their own with the history's configuration, by 1 to 64
+/// Makes the calls of a history of one volume once more, on a core of their own with the history's configuration, by 1 to 64
 /// workers: the replies and the core are those of the history. The gate is told each call by its place in the history.
 ///
 /// `BadWorkers` for any other number of workers, which is judged first; `Start` where a worker could not be started,
@@ -35,6 +36,7 @@ pub fn replay_history<R: Threads + Wait + Sync, G: Gate + Sync>(
     workers: usize,
     gate: &G,
 ) -> Result<Outcome, ReplayFault>
+    requires { history.now.start ≡ boot history.now.config }
     ensures replies { IfOk result (λ outcome. outcome.replies.items ≡ replies_of history.now.entries) }
     ensures state { IfOk result (λ outcome. outcome.core ≡ end_state history.now) }
     ensures workers { OnOk result ((0 < workers) × (workers ≤ worker_limit)) }

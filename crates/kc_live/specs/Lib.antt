@@ -1,6 +1,5 @@
 pub mod Book
 pub mod Seat
-pub mod Lending
 pub mod Settling
 pub mod Ready
 pub mod Program

@@ -1,9 +1,7 @@
 -- The seats from which actors call.
-use Rattle.std.specs.Prelude.{◌≡◌, List, [], ◌∷◌, ◌++◌, Result, MatchResult}
-use Rattle.std.specs.Borrow.{Bor}
+use Rattle.std.specs.Prelude.{◌≡◌, List, [], ◌∷◌, ◌++◌}
 use Rattle.kc_types.specs.declared.call.Call.{Call}
 use Rattle.kc_types.specs.declared.call.Actor.{Actor}
-use Rattle.kc_live.specs.declared.fault.LiveFault.{LiveFault}
 use Rattle.kc_live.specs.declared.receipt.Receipt.{Receipt}
 
 -- an actor, and the receipts of the calls that it made from here, in order
@@ -21,7 +19,3 @@ gaining seat r = record { actor = seat.actor; receipts = seat.receipts ++ r ∷ 
 -- the seat has one receipt more, which is of this call
 abbrev pub GainsReceipt : SeatView → SeatView → Call → Type 0
 GainsReceipt old new call = (r : Receipt) × (r.call ≡ call) × (new ≡ gaining old r)
-
--- the receipt that is lent is the one that the seat has more, and is of this call; or nothing has changed
-abbrev pub LendsNewest : SeatView → SeatView → Call → Result (Bor Receipt) LiveFault → Type 0
-LendsNewest old new call lent = MatchResult lent (λ r. (r.now.call ≡ call) × (new ≡ gaining old r.now)) (λ _. new ≡ old)

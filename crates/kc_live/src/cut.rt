@@ -1,6 +1,7 @@
 //! A trace that is cut into programs and run.
 ghost use Rattle.std.specs.Prelude.{◌≡◌, ◌↔◌, [], ◌∷◌, is_some, IfSome, IfOk, IfErr, OnOk, MatchOption, IsTrue};
 ghost use Rattle.kc_types.specs.Actors.{actor as actor_made};
+ghost use Rattle.kc_model.specs.Boot.{boot};
 ghost use Rattle.kc_live.specs.Book.{IsSafeHistory, calls_of};
 ghost use Rattle.kc_live.specs.Program.{NoneIs, actors_of};
 ghost use Rattle.kc_live.specs.Plans.{AreActors};
@@ -115,8 +116,9 @@ pub fn run_trace<G: Gate + Sync, R: Threads + Wait + Sync>(
     ensures history { IfErr result (λ stop. FitsHistory stop.cause (is_some stop.history)) }
     ensures left { IfErr result (λ stop. IfSome stop.history (IsLeftOf config calls.items stop.is_settled)) }
 
-    // The history is of the configuration handed in, and has each actor's calls in order.
+    // The history is of the configuration handed in, starts in its boot state, and has each actor's calls in order.
     ensures config { IfOk result (λ history. history.config ≡ config) }
+    ensures start { IfOk result (λ history. history.start ≡ boot config) }
     ensures order { IfOk result (λ history. KeepsOrders (calls_of history.entries) calls.items) }
     ensures safe { IfOk result IsSafeHistory }
 {

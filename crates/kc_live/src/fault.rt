@@ -11,7 +11,7 @@ pub enum LiveFault {
     /// The call's actor is not the seat's.
     #[error("the call is another actor's")]
     NotYours,
-    /// The history has 65,536 calls.
+    /// The volume has 65,536 calls.
     #[error("the history is full")]
     HistoryFull,
     /// A growth of memory was refused.

@@ -16,7 +16,7 @@ mod settling;
 mod stop;
 mod threads;
 
-pub use book::{Book, History};
+pub use book::{Book, History, Volume};
 pub use cut::{programs_of, run_trace};
 pub use fault::LiveFault;
 pub use live_core::LiveCore;

@@ -1,18 +1,18 @@
 //! The core under its one lock.
-ghost use Rattle.std.specs.Prelude.{◌≡◌, ◌≢◌, ◌↔◌, Err, OnOk, OnErr};
+ghost use Rattle.std.specs.Prelude.{◌≡◌, ◌≢◌, ◌↔◌, Err, IfOk, OnOk, OnErr};
 ghost use Rattle.kc_types.specs.Actors.{actor as actor_made};
 ghost use Rattle.kc_live.specs.Book.{IsLegal, IsSafeHistory};
 ghost use Rattle.kc_live.specs.Seat.{GainsReceipt};
 
-use crate::book::{Book, History};
+use crate::book::{Book, History, Volume};
 use crate::fault::LiveFault;
 use crate::seat::Seat;
-use kc_types::{Call, Config, Memory};
+use kc_types::{CALL_LIMIT, Call, Config, Memory};
 use std::alloc::Global;
 use std::sync::{Mutex, Wait};
 
-/// The core and its history under one lock, which many threads share. Whenever the lock is free the history is one
-/// that a single thread could have made, and the core stands at its end.
+/// The core and its history under one lock, which many threads share. Whenever the lock is free the volume that is being
+/// filled is one that a single thread could have made, and the core stands at its end.
 #[derive(Drop)]
 pub struct LiveCore {
     alloc: Global,
@@ -40,7 +40,18 @@ impl LiveCore {
         seat.make(rt, self.alloc, &self.book, call)
     }
 
-    /// Ends the history and hands it out. It waits for nobody.
+    /// Hands out the volume, full or not, and begins the next one with the core as it is; it may wait for the lock, before
+    /// which the room for the next one's calls is made. `Memory` where that growth was refused, and then nothing has changed.
+    // An empty volume is legal too: tests turn volumes over.
+    pub fn turn<R: Wait>(&self, rt: &R) -> Result<Volume, Memory>
+        ensures legal { IfOk result IsLegal }
+        ensures safe { IfOk result IsSafeHistory }
+    {
+        let room = Vec::with_capacity(self.alloc, CALL_LIMIT)?;
+        Ok(self.book.lock(rt).turn(room))
+    }
+
+    /// Ends the history and hands out its last volume and the core. It waits for nobody.
     // A fresh history is legal too: tests settle what is handed out.
     pub fn close(self) -> History
         ensures legal { IsLegal result }

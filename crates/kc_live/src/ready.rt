@@ -49,10 +49,11 @@ impl Ready {
         })
     }
 
-    /// Makes the call of a core, for which no want of memory can come: what the history keeps of it, and the receipt.
-    pub fn make(self, core: &mut KCore, number: u32) -> (Entry, Receipt)
+    /// Makes the call of a core, for which no want of memory can come: what the history keeps of it, and the receipt, with
+    /// this place in this volume.
+    pub fn make(self, core: &mut KCore, volume: u64, number: u32) -> (Entry, Receipt)
         ensures entry { result.0 ≡ entry self (next core.old self).0 }
-        ensures receipt { result.1 ≡ record { number = number; call = self; reply = (next core.old self).0 } }
+        ensures receipt { result.1 ≡ record { volume = volume; number = number; call = self; reply = (next core.old self).0 } }
         ensures state { core.new ≡ (next core.old self).1 }
     {
         let Ready {
@@ -65,6 +66,7 @@ impl Ready {
         let reply = core.answer(&call, buffer);
         let (reply, told) = reply.share(alloc, copy_buffer);
         let receipt = Receipt {
+            volume,
             number,
             call,
             reply: told,

@@ -13,7 +13,9 @@ pub struct Entry {
 /// history is decided by `settle`.
 #[derive(Debug, Drop, PartialEq)]
 pub struct Receipt {
-    /// The place of the call in the history, from 0.
+    /// The number of the volume that the call stands in, from 0.
+    pub volume: u64,
+    /// The place of the call in that volume, from 0.
     pub number: u32,
     pub call: Call,
     pub reply: Reply,

@@ -1,9 +1,10 @@
 //! A whole live run: from programs to a closed history with its receipts.
 ghost use Rattle.std.specs.Prelude.{◌≡◌, ◌↔◌, ◌≤◌, map, true, false, is_some, IfOk, IfErr, OnOk, IfSome, MatchOption, IsTrue};
 ghost use Rattle.kc_types.specs.Limits.{call_limit};
+ghost use Rattle.kc_model.specs.Boot.{boot};
 ghost use Rattle.kc_live.specs.Book.{IsSafeHistory};
 ghost use Rattle.kc_live.specs.Program.{receipt_calls, HasCalls, HasNoOthers};
-ghost use Rattle.kc_live.specs.Settling.{IsSettled};
+ghost use Rattle.kc_live.specs.Settling.{IsSettled, IsAnswer};
 ghost use Rattle.kc_live.specs.Plans.{MayRunTogether};
 ghost use Rattle.kc_live.specs.Stops.{IsCauseOf, IsLate, IsLeftHistory, FitsHistory, run_cause, thread_cause};
 
@@ -111,12 +112,14 @@ fn is_same_config(config: &Config, other: &Config) -> bool
     config == other
 }
 
-/// Whether the rows are those of the history, and this is of the configuration.
+/// Whether the rows are those of the history, and this is of the configuration and has one volume.
 fn is_answer(config: &Config, history: &History, marks: Marks, rows: &[Vec<Receipt>]) -> bool
     requires { marks ≡ call_limit }
-    ensures { IsTrue result ↔ ((history.now.config ≡ config.now) × IsSettled history.now.entries (map (λ v. v.items) rows.now)) }
+    ensures { IsTrue result ↔ IsAnswer config.now history.now (map (λ v. v.items) rows.now) }
 {
-    is_same_config(history.config(), config) && marks.settle(history.entries(), rows)
+    is_same_config(history.config(), config)
+        && history.volume().number() == 0
+        && marks.settle(history.volume(), rows)
 }
 
 /// Runs each program in a thread of its own, and answers the closed history and each program's receipts.
@@ -139,9 +142,10 @@ pub fn run_live<G: Gate + Sync, R: Threads + Wait + Sync>(
     ensures history { IfErr result (λ stop. FitsHistory stop.cause (is_some stop.history)) }
     ensures left { IfErr result (λ stop. IfSome stop.history (IsLeftHistory config programs.items stop.is_settled)) }
 
-    // The history is of the configuration handed in, and the receipts are just those of it.
+    // The history is of the configuration handed in and starts in its boot state, and the receipts are just those of it.
     ensures config { IfOk result (λ r. r.0.config ≡ config) }
-    ensures settled { IfOk result (λ r. IsSettled r.0.entries (map (λ v. v.items) r.1.items)) }
+    ensures start { IfOk result (λ r. r.0.start ≡ boot config) }
+    ensures settled { IfOk result (λ r. IsSettled r.0 (map (λ v. v.items) r.1.items)) }
 
     // What every trace keeps holds of the history.
     ensures safe { IfOk result (λ r. IsSafeHistory r.0) }

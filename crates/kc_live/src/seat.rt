@@ -1,10 +1,9 @@
 //! The seats from which actors call.
-ghost use Rattle.std.specs.Prelude.{◌≡◌, ◌≢◌, ◌↔◌, ◌<◌, ◌-◌, length, slice_get, Err, OnOk, OnErr};
+ghost use Rattle.std.specs.Prelude.{◌≡◌, ◌≢◌, ◌↔◌, Err, OnOk, OnErr};
 ghost use Rattle.kc_types.specs.Actors.{actor as actor_made};
 
 use crate::book::Book;
 use crate::fault::LiveFault;
-use crate::live_core::LiveCore;
 use crate::ready::Ready;
 use crate::receipt::Receipt;
 use kc_types::{Actor, Call, actor_of};
@@ -28,7 +27,7 @@ impl Model for Seat {
 }
 
 impl Seat {
-    ghost use Rattle.kc_live.specs.Seat.{new_seat};
+    ghost use Rattle.kc_live.specs.Seat.{GainsReceipt, new_seat};
 
     /// A seat with no receipts.
     pub fn new(alloc: Global, actor: Actor) -> Seat
@@ -47,40 +46,12 @@ impl Seat {
         self.receipts.as_slice()
     }
 
-    /// The receipt of the newest call.
-    pub fn newest(&self) -> &Receipt
-        requires { 0 < length self.now.receipts }
-        ensures { slice_get self.now.receipts (length self.now.receipts - 1) ≡ Some result.now }
-    {
-        &self.receipts[self.receipts.len() - 1]
-    }
-
     /// Takes the receipts out, in the order of the calls.
     pub fn into_receipts(self) -> Vec<Receipt>
         ensures { result.items ≡ self.receipts }
     {
         let Seat { actor: _, receipts } = self;
         receipts
-    }
-}
-
-impl Seat {
-    ghost use Rattle.std.specs.Borrow.{sem};
-    ghost use Rattle.kc_live.specs.Seat.{LendsNewest, GainsReceipt};
-    ghost use Rattle.kc_live.specs.Lending.{Rests};
-
-    /// Makes one call of the core from this seat, and lends its receipt. The faults are those of `LiveCore::call`.
-    pub fn call<R: Wait>(
-        &mut self,
-        rt: &R,
-        core: &LiveCore,
-        call: Call,
-    ) -> Result<&Receipt, LiveFault>
-        ensures* seat { sem 𝓛 (Rests self.entry (λ now. LendsNewest self.old now call result)) }
-        ensures yours { (result ≡ Err LiveFault.NotYours) ↔ (actor_made call ≢ self.old.actor) }
-    {
-        self.gain(rt, core, call)?;
-        Ok(self.newest())
     }
 
     /// Makes one call of the book under its lock, and keeps its receipt; it may wait for the lock, before which all is made
@@ -103,13 +74,5 @@ impl Seat {
         let ready = Ready::new(alloc, call)?;
         let mut book = book.lock(rt);
         book.record(ready, &mut self.receipts)
-    }
-
-    fn gain<R: Wait>(&mut self, rt: &R, core: &LiveCore, call: Call) -> Result<(), LiveFault>
-        ensures gains { OnOk result (GainsReceipt self.old self.new call) }
-        ensures yours { (result ≡ Err LiveFault.NotYours) ↔ (actor_made call ≢ self.old.actor) }
-        ensures err { OnErr result (self.new ≡ self.old) }
-    {
-        core.call(rt, self, call)
     }
 }

@@ -1,10 +1,10 @@
-//! Whether the receipts of all callers are the history's, each once.
+//! Whether the receipts of all callers are a volume's, each once.
 ghost use Rattle.std.specs.Prelude.{◌≡◌, ◌↔◌, ◌≤◌, length, map, IsTrue, IfOk};
 ghost use Rattle.std.specs.Bool.{OnTrue};
 ghost use Rattle.kc_live.specs.Book.{entry as entry_of};
 ghost use Rattle.kc_live.specs.Settling.{MayComeNext, RowFits, RowsFit, IsSettled, marked};
 
-use crate::book::History;
+use crate::book::Volume;
 use crate::receipt::{Entry, Receipt};
 use kc_types::{Call, Memory, Reply};
 use std::alloc::Global;
@@ -29,14 +29,14 @@ fn is_of(entry: &Entry, receipt: &Receipt) -> bool
     is_same_call(&entry.call, &receipt.call) && is_same_reply(&entry.reply, &receipt.reply)
 }
 
-/// Whether the receipt may come next in its row: its number is not below `least`, no receipt had it before, and it
-/// says what the entry says.
-fn is_next(entries: &[Entry], seen: &[bool], least: u64, receipt: &Receipt) -> bool
-    requires { length seen.now ≡ length entries.now }
-    ensures { IsTrue result ↔ MayComeNext entries.now seen.now least receipt.now }
+/// Whether the receipt may come next in its row: it is of this volume, its number is not below `least`, no receipt had it
+/// before, and it says what the entry says.
+fn is_next(volume: &Volume, seen: &[bool], least: u64, receipt: &Receipt) -> bool
+    requires { length seen.now ≡ length volume.now.entries }
+    ensures { IsTrue result ↔ MayComeNext volume.now seen.now least receipt.now }
 {
     let number = receipt.number as usize;
-    let Some(entry) = entries.get(number) else {
+    let Some(entry) = volume.entries().get(number) else {
         return false;
     };
     if seen[number] {
@@ -45,18 +45,21 @@ fn is_next(entries: &[Entry], seen: &[bool], least: u64, receipt: &Receipt) -> b
     if u64::from(receipt.number) < least {
         return false;
     }
+    if receipt.volume != volume.number() {
+        return false;
+    }
     is_of(entry, receipt)
 }
 
 /// Whether the receipts of a row may come next, in order; it marks them.
-fn mark_row(entries: &[Entry], seen: &mut [bool], row: &[Receipt]) -> bool
-    requires { length seen.old ≡ length entries.now }
-    ensures fits { IsTrue result ↔ RowFits entries.now seen.old 0 row.now }
+fn mark_row(volume: &Volume, seen: &mut [bool], row: &[Receipt]) -> bool
+    requires { length seen.old ≡ length volume.now.entries }
+    ensures fits { IsTrue result ↔ RowFits volume.now seen.old 0 row.now }
     ensures seen { OnTrue result (seen.new ≡ marked seen.old row.now) }
 {
     let mut least = 0;
     for receipt in row {
-        if !is_next(entries, seen, least, receipt) {
+        if !is_next(volume, seen, least, receipt) {
             return false;
         }
         seen[receipt.number as usize] = true;
@@ -66,19 +69,19 @@ fn mark_row(entries: &[Entry], seen: &mut [bool], row: &[Receipt]) -> bool
 }
 
 /// Whether all rows may come next, and leave no entry unmarked.
-fn mark_rows(entries: &[Entry], seen: &mut [bool], rows: &[Vec<Receipt>]) -> bool
-    requires { length seen.old ≡ length entries.now }
-    ensures { IsTrue result ↔ RowsFit entries.now seen.old (map (λ v. v.items) rows.now) }
+fn mark_rows(volume: &Volume, seen: &mut [bool], rows: &[Vec<Receipt>]) -> bool
+    requires { length seen.old ≡ length volume.now.entries }
+    ensures { IsTrue result ↔ RowsFit volume.now seen.old (map (λ v. v.items) rows.now) }
 {
     for row in rows {
-        if !mark_row(entries, seen, row.as_slice()) {
+        if !mark_row(volume, seen, row.as_slice()) {
             return false;
         }
     }
     seen.iter().all(|is_seen| *is_seen)
 }
 
-/// Room in which a history is settled, made before the history is there. Seen as how many calls it has room for.
+/// Room in which a volume is settled, made before the volume is there. Seen as how many calls it has room for.
 #[derive(Debug, Drop)]
 pub struct Marks {
     seen: Vec<bool>,
@@ -95,7 +98,7 @@ impl Model for Marks {
 }
 
 impl Marks {
-    /// Room for a history of this many calls; `Memory` where a growth was refused.
+    /// Room for a volume of this many calls; `Memory` where a growth was refused.
     pub fn with_room(alloc: Global, calls: usize) -> Result<Marks, Memory>
         // No clause can rule out want of memory: tests settle.
         ensures { IfOk result (λ marks. marks ≡ calls) }
@@ -105,24 +108,23 @@ impl Marks {
         Ok(Marks { seen })
     }
 
-    /// Whether the receipts are just those of a history's entries: each entry's number stands in exactly one receipt
-    /// and no other number does, each receipt says what its entry says, and numbers rise in each row. It takes no
-    /// memory.
-    pub fn settle(self, entries: &[Entry], rows: &[Vec<Receipt>]) -> bool
-        requires { length entries.now ≤ self }
-        ensures { IsTrue result ↔ IsSettled entries.now (map (λ v. v.items) rows.now) }
+    /// Whether the receipts are just those of a volume's entries: each entry's number stands in exactly one receipt and no
+    /// other number does, each receipt is of this volume and says what its entry says, and numbers rise in each row. It
+    /// takes no memory.
+    pub fn settle(self, volume: &Volume, rows: &[Vec<Receipt>]) -> bool
+        requires { length volume.now.entries ≤ self }
+        ensures { IsTrue result ↔ IsSettled volume.now (map (λ v. v.items) rows.now) }
     {
         let Marks { mut seen } = self;
-        mark_rows(entries, &mut seen[..entries.len()], rows)
+        mark_rows(volume, &mut seen[..volume.entries().len()], rows)
     }
 }
 
 /// The same as `Marks::settle`, in room made for it; `Memory` where a growth was refused.
-pub fn settle(alloc: Global, history: &History, rows: &[Vec<Receipt>]) -> Result<bool, Memory>
+pub fn settle(alloc: Global, volume: &Volume, rows: &[Vec<Receipt>]) -> Result<bool, Memory>
     // No clause can rule out want of memory: tests settle.
-    ensures { IfOk result (λ yes. IsTrue yes ↔ IsSettled history.now.entries (map (λ v. v.items) rows.now)) }
+    ensures { IfOk result (λ yes. IsTrue yes ↔ IsSettled volume.now (map (λ v. v.items) rows.now)) }
 {
-    let entries = history.entries();
-    let marks = Marks::with_room(alloc, entries.len())?;
-    Ok(marks.settle(entries, rows))
+    let marks = Marks::with_room(alloc, volume.entries().len())?;
+    Ok(marks.settle(volume, rows))
 }

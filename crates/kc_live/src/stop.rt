@@ -12,7 +12,7 @@ pub enum LiveCause {
     Memory,
     /// A thread could not be started.
     Start,
-    /// The receipts are not those of the history, or the history is of another configuration.
+    /// The receipts are not those of the history, or it is of another configuration or has other volumes.
     Unsettled,
     /// The first program whose actor an earlier program has, or is no slot or no virtual processor of the core.
     BadActor(usize),

@@ -1,5 +1,5 @@
 //! A replay, whole or in segments.
-ghost use Rattle.std.specs.Prelude.{◌≡◌, ◌≢◌, ◌+◌, ◌-◌, ◌<◌, ◌≤◌, ◌⊎◌, ◌↔◌, length, Some, None, Err, OnOk, OnErr, IfOk, IfErr, IsErrOf};
+ghost use Rattle.std.specs.Prelude.{◌≡◌, ◌≢◌, ◌+◌, ◌-◌, ◌<◌, ◌≤◌, ◌⊎◌, ◌↔◌, length, option_map, Some, None, Err, OnOk, OnErr, IfOk, IfErr, IsErrOf};
 ghost use Rattle.kc_types.specs.Limits.{call_limit, worker_limit};
 ghost use Rattle.kc_model.specs.State.{State};
 ghost use Rattle.kc_model.specs.Safety.{IsSafe};
@@ -165,6 +165,20 @@ impl Replayer {
                 _ => Err(ReplayFault::Memory),
             },
         }
+    }
+
+    /// The core that the calls so far leave; none where a segment failed.
+    pub fn core(&self) -> Option<&KCore>
+        ensures { option_map (λ core. core.now) result ≡ self.now.state }
+    {
+        self.core.as_ref()
+    }
+
+    /// Begins the next volume with the core as it is: 65,536 calls may come again.
+    pub fn turn(&mut self)
+        ensures { self.new ≡ record self.old { fed = 0 } }
+    {
+        self.fed = 0;
     }
 
     /// The core that all calls leave; `Broken` where a segment failed.

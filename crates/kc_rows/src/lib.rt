@@ -24,4 +24,6 @@ mod telling;
 #[cfg(test)]
 mod traces;
 #[cfg(test)]
+mod volumes;
+#[cfg(test)]
 mod workers;

@@ -1,14 +1,13 @@
-//! Live runs through a gate, which holds their calls and counts them, and calls from seats.
+//! Live runs through a gate, which holds their calls and counts them.
 use crate::gates::Watch;
 use crate::support::{calls_of, small_config};
 use kc_cli::replay_history;
-use kc_live::{History, LiveCore, LiveFault, Program, Receipt, Seat, run_live, settle};
+use kc_live::{History, Program, Receipt, run_live, settle};
 use kc_trace::{LONGEST_CALL, LONGEST_REPLY, push_call, push_reply};
-use kc_types::{Actor, CALL_LIMIT, Call, Reply};
+use kc_types::{Actor, Call, Reply};
 use std::alloc::Global;
 use std::rt::Clock;
 use std::sync::Wait;
-use std::test::Fail;
 use std::thread::Threads;
 
 /// Calls 0 to 9: a VM of two virtual processors boots, and each is supplied with a frame.
@@ -96,7 +95,7 @@ fn is_history(alloc: Global, history: &History, lines: &str) -> bool {
 
 /// Whether these are the receipts of a history.
 fn is_settled(alloc: Global, history: &History, rows: &[Vec<Receipt>]) -> bool {
-    matches!(settle(alloc, history, rows), Ok(true))
+    matches!(settle(alloc, history.volume(), rows), Ok(true))
 }
 
 /// Whether a run whose calls are let in in this order has this history, and the receipts are its own.
@@ -127,26 +126,4 @@ fn is_made_again<R: Threads + Wait + Clock + Sync>(rt: &R, alloc: Global) -> Opt
 #[test]
 fn the_calls_of_a_history_are_made_again(rt: HostRuntime) {
     assert_eq!(rt; is_made_again(&rt, rt.alloc()), Some(true));
-}
-
-/// Makes so many calls of one seat, each of which is refused.
-fn call_often<R: Wait>(rt: &R, core: &LiveCore, seat: &mut Seat, count: usize) -> bool {
-    for _ in 0..count {
-        if core.call(rt, seat, Call::HostFault { frame: 0 }).is_err() {
-            return false;
-        }
-    }
-    true
-}
-
-#[test]
-fn a_seat_has_no_more_than_65_536_calls(rt: HostRuntime) -> Result<(), Fail> {
-    let alloc = rt.alloc();
-    let core = LiveCore::new(alloc, small_config(alloc).ok_or("no configuration")?)?;
-    let mut seat = Seat::new(alloc, Actor::Host);
-    assert!(rt; call_often(&rt, &core, &mut seat, CALL_LIMIT));
-    let once_more = core.call(&rt, &mut seat, Call::HostFault { frame: 0 });
-    assert_eq!(rt; once_more, Err(LiveFault::HistoryFull));
-    assert_eq!(rt; seat.receipts().len(), CALL_LIMIT);
-    Ok(())
 }

@@ -10,19 +10,19 @@ use Rattle.kc_live.specs.Book.{Log, longer, reply_to}
 use Rattle.kc_session.specs.declared.session.AskFault.{AskFault}
 use Rattle.kc_session.specs.declared.session.AskFault.TheVariants.{BadLine, HistoryFull, Memory}
 
--- the line is a call, which the history now has with the reply that the rules give it, and the bytes are that reply's line
+-- the line is a call, which the volume now has with the reply that the rules give it, and the bytes are that reply's line
 pub record IsAnswer (old new : Log) (line bytes : List ℕ) : Type 0 where
   pub call : Call
   pub read : call_of line ≡ Some call
   pub made : new ≡ longer old call (reply_to old call)
   pub told : bytes ≡ reply_line_of (reply_to old call) ++ 10 ∷ []
 
--- why a line is not answered: it is no call, or it is one and the history is full, or memory was short
+-- why a line is not answered: it is no call, or it is one and the volume is full, or memory was short
 abbrev pub IsUnanswered : Log → List ℕ → AskFault → Type 0
 IsUnanswered log line BadLine = call_of line ≡ None
 IsUnanswered log line HistoryFull = (call_of line ≢ None) × (length log.entries ≡ call_limit)
 IsUnanswered log line Memory = Unit {0}
 
--- the trace of a history, line by line: the header under which every call may stand, and the calls
+-- the trace of a volume, line by line: the header under which every call may stand, and the calls
 abbrev pub trace_lines : Log → List (List ℕ)
 trace_lines log = trace_header Two ∷ map (λ entry. line_of entry.call ++ 10 ∷ []) log.entries

@@ -1,14 +1,14 @@
 //! A core that is asked line by line.
-ghost use Rattle.std.specs.Prelude.{◌≡◌, ◌≤◌, length, vec_len, slice_get, option_map, IfOk, IfErr, OnErr};
+ghost use Rattle.std.specs.Prelude.{◌≡◌, ◌≤◌, length, vec_len, slice_get, option_map, IfOk, IfErr, OnOk, OnErr};
 ghost use Rattle.std.specs.List.{concat};
 ghost use Rattle.kc_trace.specs.ReplyText.{longest_reply};
 ghost use Rattle.kc_trace.specs.Trace.{IsTrace};
-ghost use Rattle.kc_live.specs.Book.{new_log, calls_of};
+ghost use Rattle.kc_live.specs.Book.{new_log, next_volume, calls_of};
 ghost use Rattle.kc_session.specs.Session.{IsAnswer, IsUnanswered, trace_lines};
 
-use kc_live::{Book, Ready};
+use kc_live::{Book, Ready, Volume};
 use kc_trace::{LONGEST_CALL, LONGEST_REPLY, call_of_line, push_call, push_header, push_reply};
-use kc_types::{Config, Memory, Version};
+use kc_types::{CALL_LIMIT, Config, Memory, Version};
 use std::alloc::{AllocError, Global};
 use std::marker::Model;
 
@@ -17,7 +17,7 @@ use std::marker::Model;
 pub enum AskFault {
     /// The line is no call.
     BadLine,
-    /// The line is a call, and the history has 65,536 calls.
+    /// The line is a call, and the volume has 65,536 calls.
     HistoryFull,
     /// A growth of memory was refused.
     Memory,
@@ -43,7 +43,7 @@ impl From<AllocError> for AskFault {
     }
 }
 
-/// A core and the history of the calls that it answered, seen as that history.
+/// A core and the volume of the calls that it answered, seen as that volume.
 #[derive(Drop)]
 pub struct Session {
     alloc: Global,
@@ -73,7 +73,7 @@ impl Session {
     }
 
     /// Answers the call that a line is, given without its newline: the line of its reply, with its newline. `BadLine`
-    /// where it is no call, `HistoryFull` where it is one and the history has 65,536 calls, `Memory` where a growth was
+    /// where it is no call, `HistoryFull` where it is one and the volume has 65,536 calls, `Memory` where a growth was
     /// refused, whatever the line is.
     pub fn ask(&mut self, line: &[u8]) -> Result<Vec<u8>, AskFault>
         ensures reply { IfOk result (λ told. IsAnswer self.old self.new line.now told.items) }
@@ -93,7 +93,18 @@ impl Session {
         Ok(told)
     }
 
-    /// How many lines the session's trace has: the header, and a line for each call that was answered. All of them, one
+    /// Hands out the volume, full or not, and begins the next one with the core as it is: the lines from then on are of the
+    /// next one. `Memory` where the room for its calls was refused.
+    pub fn turn(&mut self) -> Result<Volume, Memory>
+        ensures volume { IfOk result (λ volume. volume ≡ self.old) }
+        ensures next { OnOk result (self.new ≡ next_volume self.old) }
+        ensures err { OnErr result (self.new ≡ self.old) }
+    {
+        let room = Vec::with_capacity(self.alloc, CALL_LIMIT)?;
+        Ok(self.book.turn(room))
+    }
+
+    /// How many lines the volume's trace has: the header, and a line for each call that was answered. All of them, one
     /// behind the other, are the trace of these calls.
     pub fn lines(&self) -> usize
         ensures count { result ≡ length (trace_lines self.now) }

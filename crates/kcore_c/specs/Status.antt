@@ -1,11 +1,11 @@
--- What each function says of a session by its status. A session is the history that it has; there is none where it is closed.
+-- What each function says of a session by its status. A session is the volume that it fills; there is none where it is closed.
 use Rattle.std.specs.Prelude.{◌≡◌, ◌≤◌, ◌<◌, ℕ, List, Option, Some, None, Ok, IsSome, length, slice_get}
 use Rattle.kc_types.specs.Configuration.{Configuration}
 use Rattle.kc_types.specs.declared.config.ConfigFault.TheVariants as numbers
 use Rattle.kc_trace.specs.ConfigText.{config_in, ConfigFails}
 use Rattle.kc_trace.specs.ReplyText.{longest_reply}
 use Rattle.kc_trace.specs.declared.config_text.ConfigTextFault.TheVariants as texts
-use Rattle.kc_live.specs.Book.{Log, new_log}
+use Rattle.kc_live.specs.Book.{Log, new_log, next_volume}
 use Rattle.kc_session.specs.Session.{IsAnswer, IsUnanswered, trace_lines}
 use Rattle.kc_session.specs.declared.session.AskFault.TheVariants as asks
 use Rattle.kcore_c.specs.declared.status.Status.{Status}
@@ -61,6 +61,13 @@ LineSays (Some log) number room bytes NoRoom = (line : List ℕ) × (slice_get (
 LineSays (Some log) number room bytes Memory = Unit {0}
 LineSays None number room bytes Closed = Unit {0}
 LineSays _ number room bytes _ = ⊥
+
+-- turning a session over
+abbrev pub TurnSays : Option Log → Option Log → Status → Type 0
+TurnSays (Some old) new Done = new ≡ Some (next_volume old)
+TurnSays (Some old) new Memory = new ≡ Some old
+TurnSays None new Closed = new ≡ None
+TurnSays _ _ _ = ⊥
 
 -- ending a session
 abbrev pub EndSays : Option Log → Status → Type 0

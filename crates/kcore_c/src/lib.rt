@@ -3,7 +3,7 @@
 #![tactic(auto)]
 
 ghost use Rattle.std.specs.Prelude.{◌≡◌, ◌≤◌, None, length, take};
-ghost use Rattle.kcore_c.specs.Status.{IsCode, BootSays, CallSays, LineSays, EndSays};
+ghost use Rattle.kcore_c.specs.Status.{IsCode, BootSays, CallSays, LineSays, TurnSays, EndSays};
 
 mod handle;
 mod session;
@@ -51,8 +51,8 @@ pub extern "C" fn kcore_call(
     session::call(alloc, core, line, out, used).code()
 }
 
-/// Tells a line of the session's trace, by its place from 0, with its newline: the header, then a line for each call
-/// that was answered, so that all lines, one behind the other, are the trace.
+/// Tells a line of the volume's trace, by its place from 0, with its newline: the header, then a line for each call that was
+/// answered, so that all lines, one behind the other, are the trace.
 #[unsafe(no_mangle)]
 pub extern "C" fn kcore_line(
     alloc: Global,
@@ -66,6 +66,14 @@ pub extern "C" fn kcore_line(
     ensures same { core.new.held.session ≡ core.old.held.session }
 {
     session::line(alloc, core, number, out, used).code()
+}
+
+/// Begins the session's next volume, with the core as it is: the lines from then on are of the next one.
+#[unsafe(no_mangle)]
+pub extern "C" fn kcore_turn(alloc: Global, core: &mut Handle) -> u32
+    ensures { IsCode (TurnSays core.old.held.session core.new.held.session) result }
+{
+    session::turn(alloc, core).code()
 }
 
 /// Ends a session: the core's pages are zeroed before their memory goes, and the handle is closed.

@@ -1,7 +1,7 @@
 //! What is done with the session behind a handle.
 ghost use Rattle.std.specs.Prelude.{◌≡◌, ◌≤◌, Some, None, length, take, IfOk, IfErr};
 ghost use Rattle.kc_trace.specs.ConfigText.{config_in, ConfigFails};
-ghost use Rattle.kcore_c.specs.Status.{BootSays, CallSays, LineSays, EndSays, IsBooted};
+ghost use Rattle.kcore_c.specs.Status.{BootSays, CallSays, LineSays, TurnSays, EndSays, IsBooted};
 
 use crate::handle::Handle;
 use crate::status::Status;
@@ -100,6 +100,22 @@ pub fn line(
         }
         Ok(None) => Status::NoSuchLine,
         Err(_) => Status::Memory,
+    }
+}
+
+/// Begins the session's next volume.
+pub fn turn(alloc: Global, core: &mut Handle) -> Status
+    ensures { TurnSays core.old.held.session core.new.held.session result }
+{
+    let Some(session) = core.take(alloc) else {
+        return Status::Closed;
+    };
+    let mut session = session;
+    let turned = session.turn();
+    core.put(session);
+    match turned {
+        Ok(_volume) => Status::Done,
+        Err(_refused) => Status::Memory,
     }
 }
 

@@ -5,4 +5,4 @@ use Rattle.kc_live.proofs.settling.mark_rows.Given as goal
 
 abbrev pub invariant-loop-row : goal.invariant-loop-row
 invariant-loop-row l =
-    RowsFit l.entries l.initial.seen (map (λ v. v.items) l.rows) ↔ RowsFit l.entries l.seen (map (λ v. v.items) (drop l.row-index l.rows))
+    RowsFit l.volume l.initial.seen (map (λ v. v.items) l.rows) ↔ RowsFit l.volume l.seen (map (λ v. v.items) (drop l.row-index l.rows))

@@ -5,6 +5,6 @@ use Rattle.kc_live.proofs.book.Book.step.Goals as goal
 pub invariant_of-self : goal.invariant_of-self
 invariant_of-self c = (
   rw (c.push_reserved.ensures.items, c.make-entry.ensures.entry)
-      (kept_more _ _ c.self.inside.core _ _ _ c.self.invariant.0 (omega arith) refl c.make-entry.ensures.state),
+      (kept_more _ c.self.inside.core _ _ _ c.self.invariant.0 (omega arith) refl c.make-entry.ensures.state),
   rw c.push_reserved.ensures.capacity c.self.invariant.1,
 )

@@ -5,6 +5,6 @@ use Rattle.kc_live.proofs.settling.Marks.settle.Goals as goal
 
 pub returns : goal.returns
 returns c =
-    let few : length c.args.entries.now ≤ vec_len c.self.inside.seen = rw (← c.self.view_is) at c.requires in
-    settled_by c.mark_rows.result _ _ _ _ refl
-    (ap (take (length c.args.entries.now)) (c.deref_mut.ensures.value ∙ c.self.invariant) ∙ take-replicate _ _ false few) c.mark_rows.ensures
+    let few : length c.args.volume.now.entries ≤ vec_len c.self.inside.seen = rw (← c.self.view_is) at c.requires in
+    settled_by c.mark_rows.result _ _ _
+    (ap (take (length c.args.volume.now.entries)) (c.deref_mut.ensures.value ∙ c.self.invariant) ∙ take-replicate _ _ false few) c.mark_rows.ensures

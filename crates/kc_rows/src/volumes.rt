@@ -1,0 +1,204 @@
+//! A core that turns over while its actors call, and a follower that replays the volumes.
+use crate::support::{calls_of, small_config};
+use kc_core::KCore;
+use kc_digests::Lanes;
+use kc_dump_text::write_dump;
+use kc_live::{Entry, LiveCore, LiveFault, Receipt, Seat, Volume, settle};
+use kc_replay::{OpenGate, Replayer};
+use kc_state::dump;
+use kc_types::{Actor, CALL_LIMIT, Call, Reply};
+use std::alloc::Global;
+use std::sync::Wait;
+use std::test::Fail;
+use std::thread::{Threads, join};
+
+/// A VM boots with its guest frame 0 in frame 1.
+const BOOTS: &str =
+    "hfault 1\nhwrite 1 0 616263\nregvm 0\nregvcpu 0 0\nsetboot 0 0 3\nremap 0 0 1\nverify 0\n";
+
+/// What the host makes over and over, and what the guest does, which shares its frame for a while.
+const HOST: &str = "hfault 1\nhwrite 1 0 01\nhread 1 0 2\ntake\ngive 5\n";
+
+const GUEST: &str =
+    "grant 0 0 0\ngwrite 0 0 0 1 02\ngread 0 0 0 0 2\nrevoke 0 0 0\ngwrite 0 0 0 0 03\n";
+
+/// How often each makes them, and how many of its calls come between two turns of the one that turns over.
+const ROUNDS: usize = 200;
+
+const BETWEEN_TURNS: usize = 301;
+
+/// Copies of the calls of some entries.
+fn calls_in(alloc: Global, entries: &[Entry]) -> Option<Vec<Call>> {
+    let mut calls = Vec::new(alloc);
+    for entry in entries {
+        calls.push(entry.call.copy().ok()?).ok()?;
+    }
+    Some(calls)
+}
+
+/// Whether the replies are those of the entries.
+fn are_replies_of(entries: &[Entry], replies: &[Reply]) -> bool {
+    if entries.len() != replies.len() {
+        return false;
+    }
+    for (entry, reply) in entries.iter().zip(replies) {
+        if entry.reply != *reply {
+            return false;
+        }
+    }
+    true
+}
+
+/// Makes some calls from a seat, over and over.
+fn make_calls<R: Wait>(rt: &R, core: &LiveCore, seat: &mut Seat, calls: &[Call]) -> Option<()> {
+    for _ in 0..ROUNDS {
+        for call in calls {
+            core.call(rt, seat, call.copy().ok()?).ok()?;
+        }
+    }
+    Some(())
+}
+
+/// The same, and turns the core over behind so many calls, again and again: the volumes.
+fn make_and_turn<R: Wait>(
+    rt: &R,
+    alloc: Global,
+    core: &LiveCore,
+    seat: &mut Seat,
+    calls: &[Call],
+) -> Option<Vec<Volume>> {
+    let mut volumes = Vec::new(alloc);
+    let mut made = 0usize;
+    for _ in 0..ROUNDS {
+        for call in calls {
+            core.call(rt, seat, call.copy().ok()?).ok()?;
+            made = made.saturating_add(1);
+            if made % BETWEEN_TURNS == 0 {
+                volumes.push(core.turn(rt).ok()?).ok()?;
+            }
+        }
+    }
+    volumes.push(core.turn(rt).ok()?).ok()?;
+    Some(volumes)
+}
+
+/// The receipts of a seat that are of a volume.
+fn of_volume(alloc: Global, receipts: &mut Vec<Receipt>, number: u64) -> Option<Vec<Receipt>> {
+    let mut row = Vec::new(alloc);
+    let mut others = Vec::new(alloc);
+    while let Some(receipt) = receipts.pop() {
+        if receipt.volume == number {
+            row.push(receipt).ok()?;
+        } else {
+            others.push(receipt).ok()?;
+        }
+    }
+    row.reverse();
+    others.reverse();
+    *receipts = others;
+    Some(row)
+}
+
+/// Whether the volumes come one behind the other, and the receipts are theirs, each once.
+fn are_settled(alloc: Global, volumes: &[Volume], seats: [Seat; 2]) -> Option<bool> {
+    let [host, guest] = seats;
+    let mut host = host.into_receipts();
+    let mut guest = guest.into_receipts();
+    for (place, volume) in volumes.iter().enumerate() {
+        if volume.number() != place as u64 {
+            return Some(false);
+        }
+        let mut rows = Vec::new(alloc);
+        rows.push(of_volume(alloc, &mut host, volume.number())?)
+            .ok()?;
+        rows.push(of_volume(alloc, &mut guest, volume.number())?)
+            .ok()?;
+        if !settle(alloc, volume, &rows).ok()? {
+            return Some(false);
+        }
+    }
+    Some(host.is_empty() && guest.is_empty())
+}
+
+/// Whether two workers that replay the volumes one behind the other get their replies; the core that they leave.
+fn followed<R: Threads + Wait + Sync>(
+    rt: &R,
+    alloc: Global,
+    volumes: &[Volume],
+) -> Option<(bool, KCore)> {
+    let mut replayer = Replayer::new(alloc, small_config(alloc)?, 2).ok()?;
+    let mut same = true;
+    for volume in volumes {
+        let calls = calls_in(alloc, volume.entries())?;
+        if calls.len() > replayer.left() {
+            return None;
+        }
+        let replies = replayer.feed(rt, alloc, &calls, &OpenGate).ok()?;
+        same = same && are_replies_of(volume.entries(), &replies);
+        replayer.turn();
+    }
+    Some((same, replayer.finish().ok()?))
+}
+
+/// The dump of a core, as text.
+fn dump_of<R: Threads + Sync>(rt: &R, alloc: Global, core: &KCore) -> Option<Vec<u8>> {
+    let dumped = dump(rt, alloc, core, Lanes::Four).ok()?;
+    write_dump(alloc, &dumped).ok()
+}
+
+/// Host and guest call from a thread each, and the host turns the core over as it goes.
+fn is_followed<R: Threads + Wait + Sync>(rt: &R, alloc: Global) -> Option<bool> {
+    let core = LiveCore::new(alloc, small_config(alloc)?).ok()?;
+    let mut host = Seat::new(alloc, Actor::Host);
+    let mut guest = Seat::new(alloc, Actor::Vcpu(0, 0));
+    for call in calls_of(alloc, BOOTS)? {
+        core.call(rt, &mut host, call).ok()?;
+    }
+    let (of_host, of_guest) = (calls_of(alloc, HOST)?, calls_of(alloc, GUEST)?);
+    let (volumes, made) = join(
+        rt,
+        || make_and_turn(rt, alloc, &core, &mut host, &of_host),
+        || make_calls(rt, &core, &mut guest, &of_guest),
+    );
+    made?;
+    let mut volumes = volumes?;
+    volumes.push(core.turn(rt).ok()?).ok()?;
+    let history = core.close();
+    let (same, left) = followed(rt, alloc, &volumes)?;
+    let is_left = dump_of(rt, alloc, &left)? == dump_of(rt, alloc, history.core())?;
+    Some(
+        same && is_left
+            && are_settled(alloc, &volumes, [host, guest])?
+            && history.entries().is_empty(),
+    )
+}
+
+#[test]
+fn a_core_that_turns_over_is_followed(rt: HostRuntime) {
+    assert_eq!(rt; is_followed(&rt, rt.alloc()), Some(true));
+}
+
+/// Makes so many calls of one seat, each of which is refused.
+fn call_often<R: Wait>(rt: &R, core: &LiveCore, seat: &mut Seat, count: usize) -> bool {
+    for _ in 0..count {
+        if core.call(rt, seat, Call::HostFault { frame: 0 }).is_err() {
+            return false;
+        }
+    }
+    true
+}
+
+#[test]
+fn a_volume_has_no_more_than_65_536_calls(rt: HostRuntime) -> Result<(), Fail> {
+    let alloc = rt.alloc();
+    let core = LiveCore::new(alloc, small_config(alloc).ok_or("no configuration")?)?;
+    let mut seat = Seat::new(alloc, Actor::Host);
+    assert!(rt; call_often(&rt, &core, &mut seat, CALL_LIMIT));
+    let once_more = core.call(&rt, &mut seat, Call::HostFault { frame: 0 });
+    assert_eq!(rt; once_more, Err(LiveFault::HistoryFull));
+    assert_eq!(rt; seat.receipts().len(), CALL_LIMIT);
+    assert_eq!(rt; core.turn(&rt)?.entries().len(), CALL_LIMIT);
+    assert!(rt; call_often(&rt, &core, &mut seat, 1));
+    assert_eq!(rt; core.close().volume().number(), 1u64);
+    Ok(())
+}
