@@ -5,7 +5,7 @@ ghost use Rattle.kc_types.specs.Limits.{call_limit, worker_limit};
 ghost use Rattle.kc_model.specs.Boot.{boot};
 ghost use Rattle.kc_model.specs.Safety.{IsSafe};
 ghost use Rattle.kc_live.specs.Cuts.{KeepsOrders, MayRun};
-ghost use Rattle.kc_live.specs.Book.{calls_of};
+ghost use Rattle.kc_live.specs.Book.{IsMadeFrom, calls_of, volume_in};
 ghost use Rattle.kc_trace.specs.Spelling.{trace_of};
 ghost use Rattle.kc_texts.specs.Reading.{Writes, Begins};
 ghost use Rattle.kc_texts.specs.Outcomes.{seen, TellsSources, TellsTexts, TellsSink};
@@ -13,7 +13,7 @@ ghost use Rattle.kc_cli.specs.Live.{live_fault};
 ghost use Rattle.kc_cli.specs.Live.{IsLiveFault, CouldRun, IsLiveText, HasBadActor};
 
 use crate::history::replay_history;
-use kc_live::{Entry, History, LiveCause, LiveStop, run_trace};
+use kc_live::{Entry, History, LiveCause, LiveStop, Volume, run_trace};
 use kc_replay::{Gate, OpenGate, Outcome, ReplayFault};
 use kc_texts::{Origin, Sink, Source, TextFault, empty_piece, give_trace, read_both};
 use kc_trace::TraceFault;
@@ -56,37 +56,34 @@ fn wiped(rt: &(impl Threads + Sync), stop: LiveStop) -> LiveCause
         history,
         is_settled: _,
     } = stop;
-    match history {
-        Some(history) => {
-            let (_entries, mut core) = history.into_parts();
-            core.wipe(rt);
-        }
-        None => {}
+    if let Some(history) = history {
+        let _volume = volume_of(rt, history);
     }
     cause
 }
 
-/// The entries of a history, whose core is wiped.
-fn entries_of(rt: &(impl Threads + Sync), history: History) -> Vec<Entry>
-    ensures entries { result.items ≡ history.entries }
-    ensures short { length result.items ≤ call_limit }
+/// The volume of a history, whose core is wiped and gone.
+fn volume_of(rt: &(impl Threads + Sync), history: History) -> Volume
+    ensures { result ≡ volume_in history }
 {
-    let (entries, mut core) = history.into_parts();
+    let (volume, mut core) = history.into_parts();
     core.wipe(rt);
-    entries
+    volume
 }
 
-/// Has so many workers replay a history, and wipes the core that they leave.
+/// Has so many workers replay the volume of a history, and wipes the core that they leave.
 fn replay_wiped<R: Threads + Wait + Sync>(
     rt: &R,
     alloc: Global,
-    history: &History,
+    config: Config,
+    volume: &Volume,
     workers: u32,
 ) -> Result<(), LiveCause>
-    requires { (0 < workers) × (workers ≤ worker_limit) }
+    requires made { IsMadeFrom (boot config) volume.now }
+    requires workers { (0 < workers) × (workers ≤ worker_limit) }
     ensures { IfErr result (λ cause. (cause ≡ LiveCause.Memory) ⊎ (cause ≡ LiveCause.Start)) }
 {
-    match replay_history(rt, alloc, history, workers as usize, &OpenGate) {
+    match replay_history(rt, alloc, config, volume, workers as usize, &OpenGate) {
         Ok(outcome) => {
             let Outcome { mut core, .. } = outcome;
             core.wipe(rt);
@@ -97,28 +94,28 @@ fn replay_wiped<R: Threads + Wait + Sync>(
     }
 }
 
-/// The calls of a history, which so many workers replay first. Both cores are wiped.
+/// The calls of the volume of a history, which so many workers replay first. The core that they leave is wiped.
 fn replayed<R: Threads + Wait + Sync>(
     rt: &R,
     alloc: Global,
-    history: History,
+    config: Config,
+    volume: Volume,
     workers: u32,
 ) -> Result<Vec<Call>, LiveCause>
+    requires made { IsMadeFrom (boot config) volume }
     requires workers { (0 < workers) × (workers ≤ worker_limit) }
-    ensures calls { IfOk result (λ calls. calls.items ≡ calls_of history.entries) }
+    ensures calls { IfOk result (λ calls. calls.items ≡ calls_of volume.entries) }
     ensures cause { IfErr result (λ cause. (cause ≡ LiveCause.Memory) ⊎ (cause ≡ LiveCause.Start)) }
 {
-    let outcome = replay_wiped(rt, alloc, &history, workers);
-    let entries = entries_of(rt, history);
-    outcome?;
-    let Ok(calls) = calls_in(alloc, entries) else {
+    replay_wiped(rt, alloc, config, &volume, workers)?;
+    let Ok(calls) = calls_in(alloc, volume.into_entries()) else {
         return Err(LiveCause::Memory);
     };
     Ok(calls)
 }
 
 /// The calls of the history of a live run of some calls, which so many workers replay. The cores are wiped before they
-/// go, whatever the outcome.
+/// go, whatever the outcome, and that of the run before the replay makes its own.
 fn made_live<G: Gate + Sync, R: Threads + Wait + Sync>(
     rt: &R,
     alloc: Global,
@@ -132,11 +129,15 @@ fn made_live<G: Gate + Sync, R: Threads + Wait + Sync>(
     ensures made { IfOk result (λ made. KeepsOrders made.items calls.items × IsSafe (boot config) made.items) }
     ensures fault { IfErr result (IsLiveFault config calls.items) }
 {
+    let Ok(kept) = config.copy() else {
+        return Err(TextFault::Memory);
+    };
     let history = match run_trace(rt, alloc, config, calls, gate) {
         Ok(history) => history,
         Err(stop) => return Err(fault_of(wiped(rt, stop))),
     };
-    match replayed(rt, alloc, history, workers) {
+    let volume = volume_of(rt, history);
+    match replayed(rt, alloc, kept, volume, workers) {
         Ok(made) => Ok(made),
         Err(cause) => Err(fault_of(cause)),
     }

@@ -11,7 +11,7 @@ use Rattle.kc_types.specs.declared.call.Actor.TheVariants.{Host, Vcpu}
 use Rattle.kc_types.specs.Actors.{actor}
 use Rattle.kc_live.specs.declared.receipt.Entry.{Entry}
 use Rattle.kc_live.specs.declared.receipt.Receipt.{Receipt}
-use Rattle.kc_live.specs.Book.{Log, entry}
+use Rattle.kc_live.specs.Book.{VolumeView, entry}
 use Rattle.kc_live.specs.Settling.{times, numbers_of, all_numbers, RisesFrom, RowMatches, RowsMatch, IsSettled}
 use Rattle.kc_live.specs.Program.{receipt_calls, NoneIs, ActorsApart}
 use Rattle.kc_live.specs.Book.{calls_of}
@@ -164,19 +164,19 @@ all_by h before done (a ∷ owners) (row ∷ rows) o1 s1 cross own says apart on
       (λ n lt. (let total = once n lt in let p = times-append n (numbers_of row) (all_numbers rows) in let q = times-append n (numbers_of row) (all_numbers done) in omega arith)),
 )
 
-says_all : (l : Log) (row : List Receipt) → RowMatches l row → SaysAll (slice_get l.entries) row
-says_all l [] m = tt
-says_all l (r ∷ rs) m = (m.0.says, says_all l rs m.1)
+says_all : (v : VolumeView) (row : List Receipt) → RowMatches v row → SaysAll (slice_get v.entries) row
+says_all v [] m = tt
+says_all v (r ∷ rs) m = (m.0.says, says_all v rs m.1)
 
-says_rows : (l : Log) (rows : List (List Receipt)) → RowsMatch l rows → SaysRows (slice_get l.entries) rows
-says_rows l [] m = tt
-says_rows l (row ∷ rows) m = ((m.0.0, says_all l row m.0.1), says_rows l rows m.1)
+says_rows : (v : VolumeView) (rows : List (List Receipt)) → RowsMatch v rows → SaysRows (slice_get v.entries) rows
+says_rows v [] m = tt
+says_rows v (row ∷ rows) m = ((m.0.0, says_all v row m.0.1), says_rows v rows m.1)
 
 no_cross : (owners : List Actor) → Cross [] owners
 no_cross [] = tt
 no_cross (a ∷ owners) = (tt, no_cross owners)
 
 -- in a settled history, whose rows are of different actors, the calls of each actor are those of its row
-pub settled_by_actors : (l : Log) (owners : List Actor) (rows : List (List Receipt)) → IsSettled l rows → OwnedRows owners rows → ActorsApart owners → AllBy l.entries owners rows
-settled_by_actors l owners rows settled own apart =
-    all_by l.entries [] [] owners rows tt tt (no_cross owners) own (says_rows l rows settled.match) apart (λ n lt. (let o = settled.once n lt in omega arith))
+pub settled_by_actors : (v : VolumeView) (owners : List Actor) (rows : List (List Receipt)) → IsSettled v rows → OwnedRows owners rows → ActorsApart owners → AllBy v.entries owners rows
+settled_by_actors v owners rows settled own apart =
+    all_by v.entries [] [] owners rows tt tt (no_cross owners) own (says_rows v rows settled.match) apart (λ n lt. (let o = settled.once n lt in omega arith))

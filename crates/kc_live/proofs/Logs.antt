@@ -1,6 +1,7 @@
 -- A history with one call more, and the volume behind it.
-use Rattle.std.proofs.Common.{◌≡◌, ℕ, ◌≤◌, ◌<◌, List, [], ◌∷◌, ◌++◌, length, refl, ap, ◌∙◌, arith, length-append}
+use Rattle.std.proofs.Common.{◌≡◌, ℕ, ◌≤◌, ◌<◌, List, [], ◌∷◌, ◌++◌, length, refl, ap, sym, subst, ◌∙◌, arith, length-append}
 use Rattle.std.proofs.lemmas.List.{map-append}
+use Rattle.kc_types.specs.Configuration.{Configuration}
 use Rattle.kc_types.specs.declared.call.Call.{Call}
 use Rattle.kc_types.specs.declared.reply.Reply.{Reply}
 use Rattle.kc_types.specs.ReplyBytes.{bytes_in, most_reply_bytes}
@@ -9,50 +10,77 @@ use Rattle.kc_model.specs.Boot.{boot}
 use Rattle.kc_model.specs.Next.{next, state_after}
 use Rattle.kc_model.specs.Lawful.{IsLawful}
 use Rattle.kc_model.proofs.Lawful.Keeps.{lawful-next}
+use Rattle.kc_model.proofs.States.Sizes.{sized-next}
 use Rattle.kc_model.proofs.States.Runs.{replies_from-append, state_after-append}
+use Rattle.kc_model.proofs.Safe.Safe.{safe}
 use Rattle.kc_model.proofs.Refusals.ReplyBytes.{bytes-next}
 use Rattle.kc_live.specs.declared.receipt.Entry.{Entry}
-use Rattle.kc_live.specs.Book.{Log, IsLegal, IsKept, calls_of, entry, longer, next_volume}
+use Rattle.kc_live.specs.Book.{Log, IsMadeFrom, MayStart, IsKept, IsWholeFrom, calls_of, entry, log, longer, new_log, next_volume, reply_to, volume_in}
 
 -- a buffer made for the call has room for its reply
 pub buffer_fits : (m : State) (call : Call) (reply : Reply) (spare : ℕ) → reply ≡ (next m call).0 → most_reply_bytes call ≤ spare → bytes_in reply ≤ spare
 buffer_fits m call reply spare is_reply made = let few = bytes-next m call in rw is_reply (omega arith)
 
--- a history with one call more
-pub kept_more : (l : Log) (m n : State) (call : Call) (reply : Reply)
-    → IsKept l m → length l.entries < 65536 → reply ≡ (next m call).0 → n ≡ (next m call).1 → IsKept (longer l call reply) n
-kept_more l m n call reply kept fits is_reply is_after = record {
-  legal = record {
-    begun = kept.legal.begun;
-    lawful = kept.legal.lawful;
-    replies =
-        map-append (λ (e : Entry). e.reply) l.entries (entry call reply ∷ [])
-        ∙ rw (map-append (λ (e : Entry). e.call) l.entries (entry call reply ∷ []), replies_from-append l.start (calls_of l.entries) (call ∷ []), kept.legal.replies, is_reply, kept.ends) refl;
-  };
-  ends = rw (map-append (λ (e : Entry). e.call) l.entries (entry call reply ∷ []), state_after-append l.start (calls_of l.entries) (call ∷ []), is_after, kept.ends) refl;
-  short = omega (arith, length-append l.entries (entry call reply ∷ []));
-}
+-- a volume with one call more
+pub kept_more : (l : Log) (call : Call) → IsKept l → length l.entries < 65536 → IsKept (longer l call)
+kept_more l call kept fits =
+    let one = entry call (reply_to l call) ∷ [] in
+    let start = kept.legal.start in
+    let calls : calls_of (l.entries ++ one) ≡ calls_of l.entries ++ call ∷ [] = map-append (λ (e : Entry). e.call) l.entries one in
+    record {
+      legal = record {
+        start = start;
+        may = kept.legal.may;
+        made = record {
+          replies =
+              map-append (λ (e : Entry). e.reply) l.entries one
+              ∙ rw (calls, replies_from-append start (calls_of l.entries) (call ∷ []), kept.legal.made.replies, kept.ends) refl;
+          safe = safe start _ kept.legal.may.lawful;
+        };
+      };
+      ends = rw (calls, state_after-append start (calls_of l.entries) (call ∷ []), kept.ends) refl;
+      short = omega (arith, length-append l.entries one);
+    }
 
 lawful_after : (m : State) (calls : List Call) → IsLawful m → IsLawful (state_after m calls)
 lawful_after m [] lawful = lawful
 lawful_after m (call ∷ calls) lawful = lawful_after (next m call).1 calls (lawful-next m call lawful)
 
--- the volume behind a history
-pub kept_next : (l : Log) (m : State) → IsKept l m → IsKept (next_volume l) m
-kept_next l m kept = record {
-  legal = record {
-    begun = record {
-      before = kept.legal.begun.before ++ calls_of l.entries;
-      leads = rw (kept.legal.begun.leads, state_after-append (boot l.config) kept.legal.begun.before (calls_of l.entries)) refl;
-      first = λ none. absurd (omega (arith, none));
-    };
-    lawful = lawful_after l.start (calls_of l.entries) kept.legal.lawful;
-    replies = refl;
-  };
-  ends = kept.ends;
+-- where a volume begins that has no calls yet
+begun : (number : ℕ) (start : State) → MayStart number start → IsKept (log number [] start)
+begun number start may = record {
+  legal = record { start = start; may = may; made = record { replies = refl; safe = safe start [] may.lawful } };
+  ends = refl;
   short = omega arith;
 }
 
--- the first volume starts in the boot state
-pub first_start : (l : Log) → IsLegal l → l.volume ≡ 0 → l.start ≡ boot l.config
-first_start l legal none = legal.begun.leads ∙ ap (state_after (boot l.config)) (legal.begun.first none)
+pub kept_new : (config : Configuration) → IsLawful (boot config) → IsKept (new_log config)
+kept_new config lawful = begun 0 (boot config) (record { lawful = lawful; config = config; before = []; leads = refl; first = λ _. refl })
+
+-- the volume behind a volume
+pub kept_next : (l : Log) → IsKept l → IsKept (next_volume l)
+kept_next l kept =
+    let may = kept.legal.may in
+    begun _ l.state (record {
+      lawful = rw kept.ends (lawful_after kept.legal.start (calls_of l.entries) may.lawful);
+      config = may.config;
+      before = may.before ++ calls_of l.entries;
+      leads = kept.ends ∙ rw (may.leads, state_after-append (boot may.config) may.before (calls_of l.entries)) refl;
+      first = λ none. absurd (omega (arith, none));
+    })
+
+config_after : (m : State) (calls : List Call) → (state_after m calls).config ≡ m.config
+config_after m [] = refl
+config_after m (call ∷ calls) = config_after (next m call).1 calls ∙ (sized-next m call).config
+
+-- a first volume was made from the boot state of the configuration that the core has at its end
+pub whole_from : (l : Log) (config : Configuration) → IsKept l → l.volume ≡ 0 → l.state.config ≡ config → IsWholeFrom config l
+whole_from l config kept none same =
+    let may = kept.legal.may in
+    let boots : kept.legal.start ≡ boot may.config = may.leads ∙ ap (state_after (boot may.config)) (may.first none) in
+    let its : may.config ≡ config = sym (ap (λ (m : State). m.config) kept.ends ∙ (config_after kept.legal.start (calls_of l.entries) ∙ ap (λ (m : State). m.config) boots)) ∙ same in
+    let start : kept.legal.start ≡ boot config = boots ∙ ap boot its in
+    record {
+      made = subst (λ m. IsMadeFrom m (volume_in l)) start kept.legal.made;
+      ends = kept.ends ∙ ap (λ m. state_after m (calls_of l.entries)) start;
+    }

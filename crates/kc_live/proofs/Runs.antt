@@ -10,7 +10,7 @@ use Rattle.kc_live.specs.declared.receipt.Entry.{Entry}
 use Rattle.kc_live.specs.declared.receipt.Receipt.{Receipt}
 use Rattle.kc_live.specs.declared.program.ThreadStop.{ThreadStop}
 use Rattle.kc_live.specs.Program.{ProgramView}
-use Rattle.kc_live.specs.Book.{Log}
+use Rattle.kc_live.specs.Book.{VolumeView}
 use Rattle.kc_live.specs.Settling.{IsSettled}
 use Rattle.kc_live.specs.Program.{receipt_calls, ActorsApart, actors_of, HasCalls, HasBeginnings, HasNoOthers}
 use Rattle.kc_live.specs.Stops.{run_cause}
@@ -83,26 +83,26 @@ calls_in_rows items [] = refl
 calls_in_rows items (row ∷ rows) = ap (λ rest. receipt_calls (items row) ∷ rest) (calls_in_rows items rows)
 
 -- the receipts of a settled history, a row for each program, each row of a beginning of the program's own calls
-module _ {X : Type 0} (items : X → List Receipt) (l : Log) (ps : List ProgramView) (rows : List X) (settled : IsSettled l (map items rows))
+module _ {X : Type 0} (items : X → List Receipt) (v : VolumeView) (ps : List ProgramView) (rows : List X) (settled : IsSettled v (map items rows))
     (begun : AreBeginnings (map (λ row. receipt_calls (items row)) rows) (map (λ p. p.calls) ps)) (own : stranger_from 0 ps ≡ None) (apart : ActorsApart (actors_of ps)) where
   owned : OwnedRows (actors_of ps) (map items rows)
   owned = own_rows 0 ps (map items rows) (rw (calls_in_rows items rows) begun) own
 
-  by_actors : AllBy l.entries (actors_of ps) (map items rows)
-  by_actors = settled_by_actors l (actors_of ps) (map items rows) settled owned apart
+  by_actors : AllBy v.entries (actors_of ps) (map items rows)
+  by_actors = settled_by_actors v (actors_of ps) (map items rows) settled owned apart
 
   -- where a row has all calls of its program, so has the history
-  pub run_calls : map (λ row. receipt_calls (items row)) rows ≡ map (λ p. p.calls) ps → HasCalls l.entries ps
-  run_calls same = has_calls l.entries ps (map items rows) (calls_in_rows items rows ∙ same) by_actors
+  pub run_calls : map (λ row. receipt_calls (items row)) rows ≡ map (λ p. p.calls) ps → HasCalls v.entries ps
+  run_calls same = has_calls v.entries ps (map items rows) (calls_in_rows items rows ∙ same) by_actors
 
-  pub run_begun : HasBeginnings l.entries ps
-  run_begun = has_beginnings l.entries ps (map items rows) (rw (calls_in_rows items rows) begun) by_actors
+  pub run_begun : HasBeginnings v.entries ps
+  run_begun = has_beginnings v.entries ps (map items rows) (rw (calls_in_rows items rows) begun) by_actors
 
   -- an actor that has no program has no calls
-  pub run_others : HasNoOthers l.entries ps
+  pub run_others : HasNoOthers v.entries ps
   run_others a none =
-      let beside : IsSettled l ([] ∷ map items rows) = record { once = settled.once; match = ((tt, tt), settled.match) } in
-      (settled_by_actors l (a ∷ actors_of ps) ([] ∷ map items rows) beside (tt, owned) (none, apart)).0
+      let beside : IsSettled v ([] ∷ map items rows) = record { once = settled.once; match = ((tt, tt), settled.match) } in
+      (settled_by_actors v (a ∷ actors_of ps) ([] ∷ map items rows) beside (tt, owned) (none, apart)).0
 
 -- a run with no cause to stop made all calls, and its receipts are settled
 pub no_cause : (stop : Option ThreadStop) (is_settled : Bool) → run_cause stop is_settled ≡ None → (stop ≡ None) × (is_settled ≡ true)

@@ -13,15 +13,22 @@ use Rattle.kc_model.specs.Histories.{IsLegalHistory}
 use Rattle.kc_live.specs.declared.receipt.Entry.{Entry}
 use Rattle.kc_live.specs.declared.receipt.Receipt.{Receipt}
 
--- a volume of the life of a core: its number, from 0, the state that it starts in, and the calls that were made since
-pub record Log : Type 0 where
-  pub config : Configuration
-  pub volume : ℕ
-  pub start : State
+-- one volume of the life of a core: its number, from 0, and the calls that were made in it, each with its reply
+pub record VolumeView : Type 0 where
+  pub number : ℕ
   pub entries : List Entry
 
-abbrev pub log : Configuration → ℕ → State → List Entry → Log
-log config volume start entries = record { config = config; volume = volume; start = start; entries = entries }
+-- the volume that is being filled, and the state that its calls left
+pub record Log : Type 0 where
+  pub volume : ℕ
+  pub entries : List Entry
+  pub state : State
+
+abbrev pub log : ℕ → List Entry → State → Log
+log volume entries state = record { volume = volume; entries = entries; state = state }
+
+abbrev pub volume_in : Log → VolumeView
+volume_in l = record { number = l.volume; entries = l.entries }
 
 abbrev pub calls_of : List Entry → List Call
 calls_of entries = map (λ e. e.call) entries
@@ -29,49 +36,53 @@ calls_of entries = map (λ e. e.call) entries
 abbrev pub replies_of : List Entry → List Reply
 replies_of entries = map (λ e. e.reply) entries
 
--- the first volume starts in the boot state, and another where the calls of those before it lead
-pub record IsBegun (config : Configuration) (volume : ℕ) (start : State) : Type 0 where
+-- one thread that makes the volume's calls from this state on gets its replies, and what every trace keeps holds of them
+pub record IsMadeFrom (start : State) (v : VolumeView) : Type 0 where
+  pub replies : IsLegalHistory start (calls_of v.entries) (replies_of v.entries)
+  pub safe : IsSafe start (calls_of v.entries)
+
+-- a volume of this number may start here: the first one in the boot state of a configuration, and another where the calls of those before it lead
+pub record MayStart (number : ℕ) (start : State) : Type 0 where
+  pub lawful : IsLawful start
+  pub config : Configuration
   pub before : List Call
   pub leads : start ≡ state_after (boot config) before
-  pub first : volume ≡ 0 → before ≡ []
+  pub first : number ≡ 0 → before ≡ []
 
--- one thread could have made the history, from where it starts on
-pub record IsLegal (l : Log) : Type 0 where
-  pub begun : IsBegun l.config l.volume l.start
-  pub lawful : IsLawful l.start
-  pub replies : IsLegalHistory l.start (calls_of l.entries) (replies_of l.entries)
+-- one thread could have made the volume, from where it may start on
+pub record IsLegal (v : VolumeView) : Type 0 where
+  pub start : State
+  pub may : MayStart v.number start
+  pub made : IsMadeFrom start v
 
--- what every trace keeps holds of its calls
-abbrev pub IsSafeHistory : Log → Type 0
-IsSafeHistory l = IsSafe l.start (calls_of l.entries)
-
--- the state that the calls leave
-abbrev pub end_state : Log → State
-end_state l = state_after l.start (calls_of l.entries)
-
--- the history is legal and not too long, and a core in this state stands at its end
-pub record IsKept (l : Log) (state : State) : Type 0 where
-  pub legal : IsLegal l
-  pub ends : state ≡ end_state l
+-- the volume is legal and not too long, and a core in this state stands at its end
+pub record IsKept (l : Log) : Type 0 where
+  pub legal : IsLegal (volume_in l)
+  pub ends : l.state ≡ state_after legal.start (calls_of l.entries)
   pub short : length l.entries ≤ call_limit
 
+-- all calls were made in the first volume, from the boot state of the configuration on
+pub record IsWholeFrom (config : Configuration) (l : Log) : Type 0 where
+  pub made : IsMadeFrom (boot config) (volume_in l)
+  pub ends : l.state ≡ state_after (boot config) (calls_of l.entries)
+
 abbrev pub new_log : Configuration → Log
-new_log config = log config 0 (boot config) []
+new_log config = log 0 [] (boot config)
 
 abbrev pub entry : Call → Reply → Entry
 entry call reply = record { call = call; reply = reply }
 
--- the log with one call more
-abbrev pub longer : Log → Call → Reply → Log
-longer l call reply = log l.config l.volume l.start (l.entries ++ entry call reply ∷ [])
-
--- the volume behind this one: it starts where this one ends, and has no calls yet (numbers end with those of 64 bits)
-abbrev pub next_volume : Log → Log
-next_volume l = log l.config (min (l.volume + 1) (2 ^ 64 - 1)) (end_state l) []
-
 -- what the next call is answered
 abbrev pub reply_to : Log → Call → Reply
-reply_to l call = (next (end_state l) call).0
+reply_to l call = (next l.state call).0
+
+-- the log with one call more
+abbrev pub longer : Log → Call → Log
+longer l call = log l.volume (l.entries ++ entry call (reply_to l call) ∷ []) (next l.state call).1
+
+-- the log of the volume behind this one: it starts where this one ends, and has no calls yet (numbers end with those of 64 bits)
+abbrev pub next_volume : Log → Log
+next_volume l = log (min (l.volume + 1) (2 ^ 64 - 1)) [] l.state
 
 -- the receipt of the next call: its number is how many calls of the volume came before
 abbrev pub receipt_of : Log → Call → Receipt

@@ -2,7 +2,7 @@
 use Rattle.std.specs.Prelude.{◌≡◌, ℕ, ◌+◌, ◌<◌, ◌≤◌, ◌==◌, Bool, true, false, Some, List, [], ◌∷◌, ◌++◌, length, All, slice_get, slice_index_or, slice_set, if◌then◌else◌}
 use Rattle.kc_types.specs.Configuration.{Configuration}
 use Rattle.kc_live.specs.declared.receipt.Receipt.{Receipt}
-use Rattle.kc_live.specs.Book.{Log, entry}
+use Rattle.kc_live.specs.Book.{Log, VolumeView, entry, volume_in}
 
 -- how often a number stands in a list
 abbrev pub times : ℕ → List ℕ → ℕ
@@ -24,36 +24,36 @@ RisesFrom least [] = Unit {0}
 RisesFrom least (x ∷ xs) = (least ≤ x) × RisesFrom (x + 1) xs
 
 -- the receipt is of this volume, and says what the entry of its number says
-pub record Matches (l : Log) (r : Receipt) : Type 0 where
-  pub volume : r.volume ≡ l.volume
-  pub says : slice_get l.entries r.number ≡ Some (entry r.call r.reply)
+pub record Matches (v : VolumeView) (r : Receipt) : Type 0 where
+  pub volume : r.volume ≡ v.number
+  pub says : slice_get v.entries r.number ≡ Some (entry r.call r.reply)
 
-abbrev pub RowMatches : Log → List Receipt → Type 0
-RowMatches l [] = Unit {0}
-RowMatches l (r ∷ rs) = Matches l r × RowMatches l rs
+abbrev pub RowMatches : VolumeView → List Receipt → Type 0
+RowMatches v [] = Unit {0}
+RowMatches v (r ∷ rs) = Matches v r × RowMatches v rs
 
-abbrev pub RowsMatch : Log → List (List Receipt) → Type 0
-RowsMatch l [] = Unit {0}
-RowsMatch l (row ∷ rows) = (RisesFrom 0 (numbers_of row) × RowMatches l row) × RowsMatch l rows
+abbrev pub RowsMatch : VolumeView → List (List Receipt) → Type 0
+RowsMatch v [] = Unit {0}
+RowsMatch v (row ∷ rows) = (RisesFrom 0 (numbers_of row) × RowMatches v row) × RowsMatch v rows
 
 -- each entry's number stands in exactly one receipt, each receipt is of an entry of the volume and says what it says, and numbers rise in each row
-pub record IsSettled (l : Log) (rows : List (List Receipt)) : Type 0 where
-  pub once : (n : ℕ) → n < length l.entries → times n (all_numbers rows) ≡ 1
-  pub match : RowsMatch l rows
+pub record IsSettled (v : VolumeView) (rows : List (List Receipt)) : Type 0 where
+  pub once : (n : ℕ) → n < length v.entries → times n (all_numbers rows) ≡ 1
+  pub match : RowsMatch v rows
 
--- the history is of the configuration and has one volume, and the receipts are just those of it
+-- the history is of a core of the configuration and has one volume, and the receipts are just those of it
 abbrev pub IsAnswer : Configuration → Log → List (List Receipt) → Type 0
-IsAnswer config l rows = (l.config ≡ config) × (l.volume ≡ 0) × IsSettled l rows
+IsAnswer config l rows = (l.state.config ≡ config) × (l.volume ≡ 0) × IsSettled (volume_in l) rows
 
 -- the receipt may come next: no receipt had its number before, and it is not below the least
-pub record MayComeNext (l : Log) (seen : List Bool) (least : ℕ) (r : Receipt) : Type 0 where
+pub record MayComeNext (v : VolumeView) (seen : List Bool) (least : ℕ) (r : Receipt) : Type 0 where
   pub above : least ≤ r.number
   pub fresh : slice_index_or seen r.number false ≡ false
-  pub match : Matches l r
+  pub match : Matches v r
 
-abbrev pub RowFits : Log → List Bool → ℕ → List Receipt → Type 0
-RowFits l seen least [] = Unit {0}
-RowFits l seen least (r ∷ rs) = MayComeNext l seen least r × RowFits l (slice_set seen r.number true) (r.number + 1) rs
+abbrev pub RowFits : VolumeView → List Bool → ℕ → List Receipt → Type 0
+RowFits v seen least [] = Unit {0}
+RowFits v seen least (r ∷ rs) = MayComeNext v seen least r × RowFits v (slice_set seen r.number true) (r.number + 1) rs
 
 -- the marks after a row
 abbrev pub marked : List Bool → List Receipt → List Bool
@@ -64,6 +64,6 @@ marked seen (r ∷ rs) = marked (slice_set seen r.number true) rs
 abbrev pub AllSeen : List Bool → Type 0
 AllSeen seen = All (λ b. b ≡ true) seen
 
-abbrev pub RowsFit : Log → List Bool → List (List Receipt) → Type 0
-RowsFit l seen [] = AllSeen seen
-RowsFit l seen (row ∷ rows) = RowFits l seen 0 row × RowsFit l (marked seen row) rows
+abbrev pub RowsFit : VolumeView → List Bool → List (List Receipt) → Type 0
+RowsFit v seen [] = AllSeen seen
+RowsFit v seen (row ∷ rows) = RowFits v seen 0 row × RowsFit v (marked seen row) rows

@@ -8,8 +8,7 @@ use Rattle.kc_live.specs.declared.stop.LiveCause.{LiveCause}
 use Rattle.kc_live.specs.declared.stop.LiveCause.TheVariants.{NotYours, HistoryFull, Memory, Start, Unsettled, BadActor}
 use Rattle.kc_live.specs.declared.program.ThreadStop.{ThreadStop}
 use Rattle.kc_live.specs.declared.program.ThreadStop.TheVariants as stops
-use Rattle.kc_model.specs.Boot.{boot}
-use Rattle.kc_live.specs.Book.{Log, IsLegal}
+use Rattle.kc_live.specs.Book.{Log, IsLegal, IsWholeFrom, volume_in}
 use Rattle.kc_live.specs.Program.{ProgramView, HasBeginnings, HasNoOthers}
 use Rattle.kc_live.specs.Plans.{HaveActors, IsFirstBad, stranger_from, count_of, MayRunTogether}
 
@@ -40,11 +39,10 @@ FitsHistory Memory is_there = Unit {0}
 FitsHistory Start is_there = is_there ≡ true
 FitsHistory Unsettled is_there = is_there ≡ true
 
--- the history of a run that gave no answer: it is legal, and where the receipts are settled with it it is of the configuration handed in, starts in its boot state, has of each program's calls a beginning, and no others
+-- the history of a run that gave no answer: it is legal, and where the receipts are settled with it all of it was made from the boot state of the configuration handed in on, it has of each program's calls a beginning, and no others
 pub record IsLeftHistory (machine : Configuration) (ps : List ProgramView) (is_settled : Bool) (left : Log) : Type 0 where
-  pub legal : IsLegal left
-  pub config : is_settled ≡ true → left.config ≡ machine
-  pub start : is_settled ≡ true → left.start ≡ boot machine
+  pub legal : IsLegal (volume_in left)
+  pub whole : is_settled ≡ true → IsWholeFrom machine left
   pub begun : is_settled ≡ true → HasBeginnings left.entries ps
   pub others : is_settled ≡ true → HasNoOthers left.entries ps
 

@@ -10,33 +10,36 @@ use kc_types::{CALL_LIMIT, Config, Memory};
 use std::alloc::Global;
 use std::marker::Model;
 use std::mem;
-use std::snapshot::Snapshot;
 
 /// The core of one thread, and the volume of its calls that is being filled. Every value of it is legal: each reply is the
 /// one that a single thread gets at that point, from the start of the volume on, and the core stands at the volume's end.
 #[derive(Drop)]
 pub struct Book {
-    config: Config,
     core: KCore,
+    /// The number of the volume, from 0.
     volume: u64,
-    start: Snapshot<KCore>,
     entries: Vec<Entry>,
 }
 
 impl Model for Book {
     ghost use Rattle.std.specs.Prelude.{◌≤◌, vec_capacity};
+    ghost use Rattle.std.specs.Coded.{codes, coded_ℕ};
+    ghost use Rattle.std.specs.FinMap as map;
+    ghost use Rattle.std.specs.Ordering.{nat_cmp};
     ghost use Rattle.kc_types.specs.Limits.{call_limit};
     ghost use Rattle.kc_live.specs.Book.{Log, IsKept, log};
 
     ghost Value = { Log };
 
-    ghost view = { λ b. log b.config b.volume b.start.value b.entries.items };
+    ghost coded = { Prim.hlevel (codes, map.code {R = nat_cmp} coded_ℕ coded_ℕ) };
 
-    ghost invariant = { λ b. IsKept (log b.config b.volume b.start.value b.entries.items) b.core × (call_limit ≤ vec_capacity b.entries) };
+    ghost view = { λ b. log b.volume b.entries.items b.core };
+
+    ghost invariant = { λ b. IsKept (log b.volume b.entries.items b.core) × (call_limit ≤ vec_capacity b.entries) };
 }
 
 impl Book {
-    ghost use Rattle.kc_live.specs.Book.{IsLegal, IsSafeHistory, longer, next_volume, receipt_of, reply_to, new_log};
+    ghost use Rattle.kc_live.specs.Book.{IsLegal, IsKept, longer, next_volume, receipt_of, new_log, volume_in};
 
     /// The core in the boot state of its configuration, no calls, and room for as many as there can be; `Memory`
     /// where a growth was refused.
@@ -44,14 +47,9 @@ impl Book {
         // No clause can rule out want of memory: tests make books.
         ensures { IfOk result (λ book. book ≡ new_log config) }
     {
-        let kept = config.copy()?;
-        let core = KCore::boot(alloc, config)?;
-        let start = Snapshot::of(&core);
         Ok(Book {
-            config: kept,
-            core,
+            core: KCore::boot(alloc, config)?,
             volume: 0,
-            start,
             entries: Vec::with_capacity(alloc, CALL_LIMIT)?,
         })
     }
@@ -60,7 +58,7 @@ impl Book {
     /// `HistoryFull`, which comes exactly where the volume has 65,536 calls.
     pub fn step(&mut self, ready: Ready) -> Result<Receipt, LiveFault>
         ensures receipt { IfOk result (λ r. r ≡ receipt_of self.old ready) }
-        ensures entry { IfOk result (λ r. self.new ≡ longer self.old r.call r.reply) }
+        ensures entry { OnOk result (self.new ≡ longer self.old ready) }
         ensures full { IsErr result ↔ (length self.old.entries ≡ call_limit) }
         ensures fault { IfErr result (λ fault. fault ≡ LiveFault.HistoryFull) }
         ensures err { OnErr result (self.new ≡ self.old) }
@@ -79,7 +77,7 @@ impl Book {
     pub fn record(&mut self, ready: Ready, receipts: &mut Vec<Receipt>) -> Result<(), LiveFault>
         requires { length receipts.old.items < vec_capacity receipts.old }
         ensures receipt { OnOk result (receipts.new.items ≡ receipts.old.items ++ receipt_of self.old ready ∷ []) }
-        ensures entry { OnOk result (self.new ≡ longer self.old ready (reply_to self.old ready)) }
+        ensures entry { OnOk result (self.new ≡ longer self.old ready) }
         ensures full { IsErr result ↔ (length self.old.entries ≡ call_limit) }
         ensures fault { IfErr result (λ fault. fault ≡ LiveFault.HistoryFull) }
         ensures err { OnErr result ((receipts.new ≡ receipts.old) × (self.new ≡ self.old)) }
@@ -94,15 +92,12 @@ impl Book {
     pub fn turn(&mut self, room: Vec<Entry>) -> Volume
         requires empty { room.items ≡ [] }
         requires room { call_limit ≤ vec_capacity room }
-        ensures volume { result ≡ self.old }
+        ensures volume { result ≡ volume_in self.old }
         ensures next { self.new ≡ next_volume self.old }
         ensures legal { IsLegal result }
-        ensures safe { IsSafeHistory result }
     {
         let volume = Volume {
-            config: Snapshot::of(&self.config),
             number: self.volume,
-            start: mem::replace(&mut self.start, Snapshot::of(&self.core)),
             entries: mem::replace(&mut self.entries, room),
         };
         self.volume = self.volume.saturating_add(1);
@@ -120,25 +115,15 @@ impl Book {
     /// Ends the history.
     pub fn close(self) -> History
         ensures same { result ≡ self }
-        ensures legal { IsLegal result }
-        ensures safe { IsSafeHistory result }
+        ensures kept { IsKept result }
     {
         let Book {
-            config,
             core,
             volume: number,
-            start,
             entries,
         } = self;
-        let volume = Volume {
-            config: Snapshot::of(&config),
-            number,
-            start,
-            entries,
-        };
         History {
-            config,
-            volume,
+            volume: Volume { number, entries },
             core,
         }
     }
@@ -148,30 +133,28 @@ impl Book {
 /// `Book` is.
 #[derive(Drop)]
 pub struct Volume {
-    config: Snapshot<Config>,
     number: u64,
-    start: Snapshot<KCore>,
     entries: Vec<Entry>,
 }
 
 impl Model for Volume {
     ghost use Rattle.std.specs.Prelude.{◌≤◌, length};
     ghost use Rattle.kc_types.specs.Limits.{call_limit};
-    ghost use Rattle.kc_live.specs.Book.{Log, IsLegal, log};
+    ghost use Rattle.kc_live.specs.Book.{VolumeView, IsLegal};
 
-    ghost Value = { Log };
+    ghost Value = { VolumeView };
 
-    ghost view = { λ v. log v.config.value v.number v.start.value v.entries.items };
+    ghost view = { λ v. record { number = v.number; entries = v.entries.items } };
 
-    ghost invariant = { λ v. IsLegal (log v.config.value v.number v.start.value v.entries.items) × (length v.entries.items ≤ call_limit) };
+    ghost invariant = { λ v. IsLegal (record { number = v.number; entries = v.entries.items }) × (length v.entries.items ≤ call_limit) };
 }
 
 impl Volume {
-    ghost use Rattle.kc_live.specs.Book.{IsLegal, IsSafeHistory};
+    ghost use Rattle.kc_live.specs.Book.{IsLegal};
 
     /// Its number, from 0: how many volumes came before.
     pub fn number(&self) -> u64
-        ensures { result ≡ self.now.volume }
+        ensures { result ≡ self.now.number }
     {
         self.number
     }
@@ -180,7 +163,6 @@ impl Volume {
     pub fn entries(&self) -> &[Entry]
         ensures entries { result.now ≡ self.now.entries }
         ensures legal { IsLegal self.now }
-        ensures safe { IsSafeHistory self.now }
         ensures short { length self.now.entries ≤ call_limit }
     {
         self.entries.as_slice()
@@ -190,10 +172,9 @@ impl Volume {
     pub fn into_entries(self) -> Vec<Entry>
         ensures entries { result.items ≡ self.entries }
         ensures legal { IsLegal self }
-        ensures safe { IsSafeHistory self }
         ensures short { length self.entries ≤ call_limit }
     {
-        let Volume { entries, .. } = self;
+        let Volume { number: _, entries } = self;
         entries
     }
 }
@@ -201,65 +182,50 @@ impl Volume {
 /// A history that has ended: its last volume, and the core that this left. Every value of it is legal, as a `Book` is.
 #[derive(Drop)]
 pub struct History {
-    config: Config,
     volume: Volume,
     core: KCore,
 }
 
 impl Model for History {
-    ghost use Rattle.std.specs.Prelude.{◌≡◌};
-    ghost use Rattle.kc_live.specs.Book.{Log, end_state};
+    ghost use Rattle.std.specs.Coded.{codes, coded_ℕ};
+    ghost use Rattle.std.specs.FinMap as map;
+    ghost use Rattle.std.specs.Ordering.{nat_cmp};
+    ghost use Rattle.kc_live.specs.Book.{Log, IsKept, log};
 
     ghost Value = { Log };
 
-    ghost view = { λ h. h.volume };
+    ghost coded = { Prim.hlevel (codes, map.code {R = nat_cmp} coded_ℕ coded_ℕ) };
 
-    ghost invariant = { λ h. (h.volume.config ≡ h.config) × (h.core ≡ end_state h.volume) };
+    ghost view = { λ h. log h.volume.number h.volume.entries h.core };
+
+    ghost invariant = { λ h. IsKept (log h.volume.number h.volume.entries h.core) };
 }
 
 impl History {
-    ghost use Rattle.kc_live.specs.Book.{IsLegal, IsSafeHistory, end_state};
-
-    /// The configuration of the core.
-    pub fn config(&self) -> &Config
-        ensures { result.now ≡ self.now.config }
-    {
-        &self.config
-    }
+    ghost use Rattle.kc_live.specs.Book.{IsLegal, volume_in};
 
     /// The last volume.
     pub fn volume(&self) -> &Volume
-        ensures { result.now ≡ self.now }
+        ensures same { result.now ≡ volume_in self.now }
+        ensures legal { IsLegal (volume_in self.now) }
+        ensures short { length self.now.entries ≤ call_limit }
     {
         &self.volume
     }
 
-    /// The calls of the last volume in the order in which they were made, each with its reply.
-    pub fn entries(&self) -> &[Entry]
-        ensures entries { result.now ≡ self.now.entries }
-        ensures legal { IsLegal self.now }
-        ensures safe { IsSafeHistory self.now }
-        ensures short { length self.now.entries ≤ call_limit }
-    {
-        self.volume.entries()
-    }
-
     /// The core as the calls left it.
     pub fn core(&self) -> &KCore
-        ensures { result.now ≡ end_state self.now }
+        ensures { result.now ≡ self.now.state }
     {
         &self.core
     }
 
-    /// The calls of the last volume, each with its reply, and the core as they left it.
-    pub fn into_parts(self) -> (Vec<Entry>, KCore)
-        ensures entries { result.0.items ≡ self.entries }
-        ensures core { result.1 ≡ end_state self }
-        ensures legal { IsLegal self }
-        ensures safe { IsSafeHistory self }
-        ensures short { length self.entries ≤ call_limit }
+    /// The last volume, and the core as its calls left it.
+    pub fn into_parts(self) -> (Volume, KCore)
+        ensures volume { result.0 ≡ volume_in self }
+        ensures core { result.1 ≡ self.state }
     {
-        let History { volume, core, .. } = self;
-        (volume.into_entries(), core)
+        let History { volume, core } = self;
+        (volume, core)
     }
 }

@@ -1,8 +1,7 @@
 //! A trace that is cut into programs and run.
 ghost use Rattle.std.specs.Prelude.{◌≡◌, ◌↔◌, [], ◌∷◌, is_some, IfSome, IfOk, IfErr, OnOk, MatchOption, IsTrue};
 ghost use Rattle.kc_types.specs.Actors.{actor as actor_made};
-ghost use Rattle.kc_model.specs.Boot.{boot};
-ghost use Rattle.kc_live.specs.Book.{IsSafeHistory, calls_of};
+ghost use Rattle.kc_live.specs.Book.{IsWholeFrom, calls_of};
 ghost use Rattle.kc_live.specs.Program.{NoneIs, actors_of};
 ghost use Rattle.kc_live.specs.Plans.{AreActors};
 ghost use Rattle.kc_live.specs.Cuts.{IsCut, IsFirstUnknown, IsJudgedPart, IsLeftOf, IsPlaceOf, KeepsOrders, MayRun, StopsTrace, callers, with_call};
@@ -116,11 +115,10 @@ pub fn run_trace<G: Gate + Sync, R: Threads + Wait + Sync>(
     ensures history { IfErr result (λ stop. FitsHistory stop.cause (is_some stop.history)) }
     ensures left { IfErr result (λ stop. IfSome stop.history (IsLeftOf config calls.items stop.is_settled)) }
 
-    // The history is of the configuration handed in, starts in its boot state, and has each actor's calls in order.
-    ensures config { IfOk result (λ history. history.config ≡ config) }
-    ensures start { IfOk result (λ history. history.start ≡ boot config) }
+    // One thread could have made the history from the boot state of the configuration on, what every trace keeps holds of
+    // it, and it has each actor's calls in order.
+    ensures whole { IfOk result (IsWholeFrom config) }
     ensures order { IfOk result (λ history. KeepsOrders (calls_of history.entries) calls.items) }
-    ensures safe { IfOk result IsSafeHistory }
 {
     let part = judged_part(&config, calls);
     let Ok(programs) = programs_of(alloc, part) else {

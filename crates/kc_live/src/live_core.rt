@@ -1,7 +1,7 @@
 //! The core under its one lock.
 ghost use Rattle.std.specs.Prelude.{◌≡◌, ◌≢◌, ◌↔◌, Err, IfOk, OnOk, OnErr};
 ghost use Rattle.kc_types.specs.Actors.{actor as actor_made};
-ghost use Rattle.kc_live.specs.Book.{IsLegal, IsSafeHistory};
+ghost use Rattle.kc_live.specs.Book.{IsLegal, IsKept};
 ghost use Rattle.kc_live.specs.Seat.{GainsReceipt};
 
 use crate::book::{Book, History, Volume};
@@ -44,8 +44,7 @@ impl LiveCore {
     /// which the room for the next one's calls is made. `Memory` where that growth was refused, and then nothing has changed.
     // An empty volume is legal too: tests turn volumes over.
     pub fn turn<R: Wait>(&self, rt: &R) -> Result<Volume, Memory>
-        ensures legal { IfOk result IsLegal }
-        ensures safe { IfOk result IsSafeHistory }
+        ensures { IfOk result IsLegal }
     {
         let room = Vec::with_capacity(self.alloc, CALL_LIMIT)?;
         Ok(self.book.lock(rt).turn(room))
@@ -54,8 +53,7 @@ impl LiveCore {
     /// Ends the history and hands out its last volume and the core. It waits for nobody.
     // A fresh history is legal too: tests settle what is handed out.
     pub fn close(self) -> History
-        ensures legal { IsLegal result }
-        ensures safe { IsSafeHistory result }
+        ensures { IsKept result }
     {
         let LiveCore { alloc: _, book } = self;
         book.into_inner().close()

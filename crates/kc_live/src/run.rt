@@ -1,8 +1,7 @@
 //! A whole live run: from programs to a closed history with its receipts.
 ghost use Rattle.std.specs.Prelude.{◌≡◌, ◌↔◌, ◌≤◌, map, true, false, is_some, IfOk, IfErr, OnOk, IfSome, MatchOption, IsTrue};
 ghost use Rattle.kc_types.specs.Limits.{call_limit};
-ghost use Rattle.kc_model.specs.Boot.{boot};
-ghost use Rattle.kc_live.specs.Book.{IsSafeHistory};
+ghost use Rattle.kc_live.specs.Book.{IsWholeFrom, volume_in};
 ghost use Rattle.kc_live.specs.Program.{receipt_calls, HasCalls, HasNoOthers};
 ghost use Rattle.kc_live.specs.Settling.{IsSettled, IsAnswer};
 ghost use Rattle.kc_live.specs.Plans.{MayRunTogether};
@@ -117,7 +116,7 @@ fn is_answer(config: &Config, history: &History, marks: Marks, rows: &[Vec<Recei
     requires { marks ≡ call_limit }
     ensures { IsTrue result ↔ IsAnswer config.now history.now (map (λ v. v.items) rows.now) }
 {
-    is_same_config(history.config(), config)
+    is_same_config(history.core().config(), config)
         && history.volume().number() == 0
         && marks.settle(history.volume(), rows)
 }
@@ -142,13 +141,10 @@ pub fn run_live<G: Gate + Sync, R: Threads + Wait + Sync>(
     ensures history { IfErr result (λ stop. FitsHistory stop.cause (is_some stop.history)) }
     ensures left { IfErr result (λ stop. IfSome stop.history (IsLeftHistory config programs.items stop.is_settled)) }
 
-    // The history is of the configuration handed in and starts in its boot state, and the receipts are just those of it.
-    ensures config { IfOk result (λ r. r.0.config ≡ config) }
-    ensures start { IfOk result (λ r. r.0.start ≡ boot config) }
-    ensures settled { IfOk result (λ r. IsSettled r.0 (map (λ v. v.items) r.1.items)) }
-
-    // What every trace keeps holds of the history.
-    ensures safe { IfOk result (λ r. IsSafeHistory r.0) }
+    // One thread could have made the history from the boot state of the configuration on, what every trace keeps holds of
+    // it, and the receipts are just those of it.
+    ensures whole { IfOk result (λ r. IsWholeFrom config r.0) }
+    ensures settled { IfOk result (λ r. IsSettled (volume_in r.0) (map (λ v. v.items) r.1.items)) }
 
     // Row by row the receipts are of the programs' calls, and so is the history, actor by actor.
     ensures rows { IfOk result (λ r. map (λ row. receipt_calls row.items) r.1.items ≡ map (λ p. p.calls) programs.items) }

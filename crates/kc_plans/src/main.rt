@@ -121,9 +121,9 @@ fn print_replay<R: Threads + Wait + Sync>(
 /// The calls of a history, as a trace.
 fn print_history(rt: &HostRuntime, history: History) -> Result<()> {
     let alloc = rt.alloc();
-    let (entries, _core) = history.into_parts();
+    let (volume, _core) = history.into_parts();
     let mut calls = Vec::new(alloc);
-    for entry in entries {
+    for entry in volume.into_entries() {
         let Entry { call, reply: _ } = entry;
         calls.push(call)?;
     }

@@ -78,7 +78,7 @@ fn push_reply_line(text: &mut Vec<u8>, reply: &Reply) -> Option<()> {
 /// The calls of a history, each with its reply behind it, as they are written.
 fn text_of(alloc: Global, history: &History) -> Option<Vec<u8>> {
     let mut text = Vec::new(alloc);
-    for entry in history.entries() {
+    for entry in history.volume().entries() {
         push_call_line(&mut text, &entry.call)?;
         push_reply_line(&mut text, &entry.reply)?;
     }
@@ -117,8 +117,9 @@ fn threads_follow_a_script(rt: HostRuntime) {
 /// Whether two workers make the calls of a run's history once more, and tell each once, by its place there.
 fn is_made_again<R: Threads + Wait + Clock + Sync>(rt: &R, alloc: Global) -> Option<bool> {
     let (history, _rows) = run(rt, alloc, &[])?;
-    let gate = Watch::new(rt, alloc, history.entries().len(), &[])?;
-    replay_history(rt, alloc, &history, 2, &gate).ok()?;
+    let (volume, _core) = history.into_parts();
+    let gate = Watch::new(rt, alloc, volume.entries().len(), &[])?;
+    replay_history(rt, alloc, small_config(alloc)?, &volume, 2, &gate).ok()?;
     Some(gate.has_told_each_once())
 }
 

@@ -169,7 +169,7 @@ fn is_followed<R: Threads + Wait + Sync>(rt: &R, alloc: Global) -> Option<bool> 
     Some(
         same && is_left
             && are_settled(alloc, &volumes, [host, guest])?
-            && history.entries().is_empty(),
+            && history.volume().entries().is_empty(),
     )
 }
 

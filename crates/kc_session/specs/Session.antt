@@ -14,7 +14,7 @@ use Rattle.kc_session.specs.declared.session.AskFault.TheVariants.{BadLine, Hist
 pub record IsAnswer (old new : Log) (line bytes : List ℕ) : Type 0 where
   pub call : Call
   pub read : call_of line ≡ Some call
-  pub made : new ≡ longer old call (reply_to old call)
+  pub made : new ≡ longer old call
   pub told : bytes ≡ reply_line_of (reply_to old call) ++ 10 ∷ []
 
 -- why a line is not answered: it is no call, or it is one and the volume is full, or memory was short

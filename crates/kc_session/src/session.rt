@@ -3,7 +3,7 @@ ghost use Rattle.std.specs.Prelude.{◌≡◌, ◌≤◌, length, vec_len, slice
 ghost use Rattle.std.specs.List.{concat};
 ghost use Rattle.kc_trace.specs.ReplyText.{longest_reply};
 ghost use Rattle.kc_trace.specs.Trace.{IsTrace};
-ghost use Rattle.kc_live.specs.Book.{new_log, next_volume, calls_of};
+ghost use Rattle.kc_live.specs.Book.{new_log, next_volume, volume_in, calls_of};
 ghost use Rattle.kc_session.specs.Session.{IsAnswer, IsUnanswered, trace_lines};
 
 use kc_live::{Book, Ready, Volume};
@@ -51,11 +51,16 @@ pub struct Session {
 }
 
 impl Model for Session {
+    ghost use Rattle.std.specs.Coded.{codes, coded_ℕ};
+    ghost use Rattle.std.specs.FinMap as map;
     ghost use Rattle.std.specs.List.{AllByRecursion};
+    ghost use Rattle.std.specs.Ordering.{nat_cmp};
     ghost use Rattle.kc_model.specs.Ranged.{IsRanged};
     ghost use Rattle.kc_live.specs.Book.{Log, calls_of};
 
     ghost Value = { Log };
+
+    ghost coded = { Prim.hlevel (codes, map.code {R = nat_cmp} coded_ℕ coded_ℕ) };
 
     ghost view = { λ s. s.book };
 
@@ -96,7 +101,7 @@ impl Session {
     /// Hands out the volume, full or not, and begins the next one with the core as it is: the lines from then on are of the
     /// next one. `Memory` where the room for its calls was refused.
     pub fn turn(&mut self) -> Result<Volume, Memory>
-        ensures volume { IfOk result (λ volume. volume ≡ self.old) }
+        ensures volume { IfOk result (λ volume. volume ≡ volume_in self.old) }
         ensures next { OnOk result (self.new ≡ next_volume self.old) }
         ensures err { OnErr result (self.new ≡ self.old) }
     {
@@ -134,7 +139,7 @@ impl Session {
     /// Ends the session: the core's pages are zeroed before their memory goes.
     pub fn end(self) {
         let Session { alloc: _, book } = self;
-        let (_entries, core) = book.close().into_parts();
+        let (_volume, core) = book.close().into_parts();
         let (_config, mut parts) = core.into_parts();
         parts.wipe();
     }
