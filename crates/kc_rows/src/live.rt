@@ -1,10 +1,13 @@
 //! Live runs through a gate, which holds their calls and counts them.
+ghost use Rattle.std.specs.Prelude.{IfSome};
+ghost use Rattle.kc_live.specs.Book.{IsWholeFrom};
+
 use crate::gates::Watch;
 use crate::support::{calls_of, small_config};
 use kc_cli::replay_history;
 use kc_live::{History, Program, Receipt, run_live, settle};
 use kc_trace::{LONGEST_CALL, LONGEST_REPLY, push_call, push_reply};
-use kc_types::{Actor, Call, Reply};
+use kc_types::{Actor, Call, Config, Reply};
 use std::alloc::Global;
 use std::rt::Clock;
 use std::sync::Wait;
@@ -49,11 +52,14 @@ fn programs(alloc: Global) -> Option<Vec<Program>> {
 fn run<R: Threads + Wait + Clock + Sync>(
     rt: &R,
     alloc: Global,
+    config: Config,
     order: &[usize],
-) -> Option<(History, Vec<Vec<Receipt>>)> {
+) -> Option<(History, Vec<Vec<Receipt>>)>
+    ensures { IfSome result (λ r. IsWholeFrom config r.0) }
+{
     let gate = Watch::new(rt, alloc, 16, order)?;
     let programs = programs(alloc)?;
-    let ran = run_live(rt, alloc, small_config(alloc)?, programs, &gate).ok()?;
+    let ran = run_live(rt, alloc, config, programs, &gate).ok()?;
     if gate.has_told_each_once() {
         Some(ran)
     } else {
@@ -105,7 +111,7 @@ fn is_run<R: Threads + Wait + Clock + Sync>(
     order: &[usize],
     lines: &str,
 ) -> Option<bool> {
-    let (history, rows) = run(rt, alloc, order)?;
+    let (history, rows) = run(rt, alloc, small_config(alloc)?, order)?;
     Some(is_history(alloc, &history, lines) && is_settled(alloc, &history, &rows))
 }
 
@@ -116,10 +122,12 @@ fn threads_follow_a_script(rt: HostRuntime) {
 
 /// Whether two workers make the calls of a run's history once more, and tell each once, by its place there.
 fn is_made_again<R: Threads + Wait + Clock + Sync>(rt: &R, alloc: Global) -> Option<bool> {
-    let (history, _rows) = run(rt, alloc, &[])?;
+    let config = small_config(alloc)?;
+    let kept = config.copy().ok()?;
+    let (history, _rows) = run(rt, alloc, config, &[])?;
     let (volume, _core) = history.into_parts();
     let gate = Watch::new(rt, alloc, volume.entries().len(), &[])?;
-    replay_history(rt, alloc, small_config(alloc)?, &volume, 2, &gate).ok()?;
+    replay_history(rt, alloc, kept, &volume, 2, &gate).ok()?;
     Some(gate.has_told_each_once())
 }
 

@@ -82,21 +82,17 @@ fn make_and_turn<R: Wait>(
     Some(volumes)
 }
 
-/// The receipts of a seat that are of a volume.
-fn of_volume(alloc: Global, receipts: &mut Vec<Receipt>, number: u64) -> Option<Vec<Receipt>> {
-    let mut row = Vec::new(alloc);
-    let mut others = Vec::new(alloc);
-    while let Some(receipt) = receipts.pop() {
+/// The receipts that are of a volume, and the others, in order.
+fn cut(alloc: Global, receipts: Vec<Receipt>, number: u64) -> Option<(Vec<Receipt>, Vec<Receipt>)> {
+    let (mut row, mut others) = (Vec::new(alloc), Vec::new(alloc));
+    for receipt in receipts {
         if receipt.volume == number {
             row.push(receipt).ok()?;
         } else {
             others.push(receipt).ok()?;
         }
     }
-    row.reverse();
-    others.reverse();
-    *receipts = others;
-    Some(row)
+    Some((row, others))
 }
 
 /// Whether the volumes come one behind the other, and the receipts are theirs, each once.
@@ -108,11 +104,13 @@ fn are_settled(alloc: Global, volumes: &[Volume], seats: [Seat; 2]) -> Option<bo
         if volume.number() != place as u64 {
             return Some(false);
         }
+        let (of_host, later) = cut(alloc, host, volume.number())?;
+        host = later;
+        let (of_guest, later) = cut(alloc, guest, volume.number())?;
+        guest = later;
         let mut rows = Vec::new(alloc);
-        rows.push(of_volume(alloc, &mut host, volume.number())?)
-            .ok()?;
-        rows.push(of_volume(alloc, &mut guest, volume.number())?)
-            .ok()?;
+        rows.push(of_host).ok()?;
+        rows.push(of_guest).ok()?;
         if !settle(alloc, volume, &rows).ok()? {
             return Some(false);
         }
