@@ -59,7 +59,9 @@ fn run<R: Threads + Wait + Clock + Sync>(
 {
     let gate = Watch::new(rt, alloc, 16, order)?;
     let programs = programs(alloc)?;
-    let ran = run_live(rt, alloc, config, programs, &gate).ok()?;
+    let Ok(ran) = run_live(rt, alloc, config, programs, &gate) else {
+        return None;
+    };
     if gate.has_told_each_once() {
         Some(ran)
     } else {
