@@ -125,7 +125,9 @@ fn threads_follow_a_script(rt: HostRuntime) {
 /// Whether two workers make the calls of a run's history once more, and tell each once, by its place there.
 fn is_made_again<R: Threads + Wait + Clock + Sync>(rt: &R, alloc: Global) -> Option<bool> {
     let config = small_config(alloc)?;
-    let kept = config.copy().ok()?;
+    let Ok(kept) = config.copy() else {
+        return None;
+    };
     let (history, _rows) = run(rt, alloc, config, &[])?;
     let (volume, _core) = history.into_parts();
     let gate = Watch::new(rt, alloc, volume.entries().len(), &[])?;
