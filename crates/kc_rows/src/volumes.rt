@@ -95,27 +95,36 @@ fn cut(alloc: Global, receipts: Vec<Receipt>, number: u64) -> Option<(Vec<Receip
     Some((row, others))
 }
 
+/// Whether the receipts of host and guest that are of a volume are its own, each once; the others.
+fn settled(
+    alloc: Global,
+    volume: &Volume,
+    host: Vec<Receipt>,
+    guest: Vec<Receipt>,
+) -> Option<(bool, Vec<Receipt>, Vec<Receipt>)> {
+    let (of_host, host) = cut(alloc, host, volume.number())?;
+    let (of_guest, guest) = cut(alloc, guest, volume.number())?;
+    let rows = Vec::from_array(alloc, [of_host, of_guest]).ok()?;
+    let same = settle(alloc, volume, &rows).ok()?;
+    Some((same, host, guest))
+}
+
 /// Whether the volumes come one behind the other, and the receipts are theirs, each once.
-fn are_settled(alloc: Global, volumes: &[Volume], seats: [Seat; 2]) -> Option<bool> {
-    let [host, guest] = seats;
-    let mut host = host.into_receipts();
-    let mut guest = guest.into_receipts();
+fn are_settled(
+    alloc: Global,
+    volumes: &[Volume],
+    host: Vec<Receipt>,
+    guest: Vec<Receipt>,
+) -> Option<bool> {
+    let (mut host, mut guest) = (host, guest);
+    let mut same = true;
     for (place, volume) in volumes.iter().enumerate() {
-        if volume.number() != place as u64 {
-            return Some(false);
-        }
-        let (of_host, later) = cut(alloc, host, volume.number())?;
+        let (is_settled, later, others) = settled(alloc, volume, host, guest)?;
+        same = same && is_settled && volume.number() == place as u64;
         host = later;
-        let (of_guest, later) = cut(alloc, guest, volume.number())?;
-        guest = later;
-        let mut rows = Vec::new(alloc);
-        rows.push(of_host).ok()?;
-        rows.push(of_guest).ok()?;
-        if !settle(alloc, volume, &rows).ok()? {
-            return Some(false);
-        }
+        guest = others;
     }
-    Some(host.is_empty() && guest.is_empty())
+    Some(same && host.is_empty() && guest.is_empty())
 }
 
 /// Whether two workers that replay the volumes one behind the other get their replies; the core that they leave.
@@ -144,31 +153,71 @@ fn dump_of<R: Threads + Sync>(rt: &R, alloc: Global, core: &KCore) -> Option<Vec
     write_dump(alloc, &dumped).ok()
 }
 
-/// Host and guest call from a thread each, and the host turns the core over as it goes.
-fn is_followed<R: Threads + Wait + Sync>(rt: &R, alloc: Global) -> Option<bool> {
-    let core = LiveCore::new(alloc, small_config(alloc)?).ok()?;
-    let mut host = Seat::new(alloc, Actor::Host);
-    let mut guest = Seat::new(alloc, Actor::Vcpu(0, 0));
+/// What a core leaves that was turned over while its actors called.
+#[derive(Drop)]
+struct Turned {
+    volumes: Vec<Volume>,
+    host: Vec<Receipt>,
+    guest: Vec<Receipt>,
+    core: KCore,
+}
+
+/// Boots a VM from a seat.
+fn boot<R: Wait>(rt: &R, alloc: Global, core: &LiveCore, host: &mut Seat) -> Option<()> {
     for call in calls_of(alloc, BOOTS)? {
-        core.call(rt, &mut host, call).ok()?;
+        core.call(rt, host, call).ok()?;
     }
+    Some(())
+}
+
+/// Host and guest call from a thread each, and the host turns the core over as it goes: the volumes, the last one too.
+fn volumes_of<R: Threads + Wait + Sync>(
+    rt: &R,
+    alloc: Global,
+    core: &LiveCore,
+    host: &mut Seat,
+    guest: &mut Seat,
+) -> Option<Vec<Volume>> {
     let (of_host, of_guest) = (calls_of(alloc, HOST)?, calls_of(alloc, GUEST)?);
     let (volumes, made) = join(
         rt,
-        || make_and_turn(rt, alloc, &core, &mut host, &of_host),
-        || make_calls(rt, &core, &mut guest, &of_guest),
+        || make_and_turn(rt, alloc, core, host, &of_host),
+        || make_calls(rt, core, guest, &of_guest),
     );
     made?;
     let mut volumes = volumes?;
     volumes.push(core.turn(rt).ok()?).ok()?;
-    let history = core.close();
-    let (same, left) = followed(rt, alloc, &volumes)?;
-    let is_left = dump_of(rt, alloc, &left)? == dump_of(rt, alloc, history.core())?;
-    Some(
-        same && is_left
-            && are_settled(alloc, &volumes, [host, guest])?
-            && history.volume().entries().is_empty(),
-    )
+    Some(volumes)
+}
+
+/// Boots a VM and turns the core over while host and guest call.
+fn run_over<R: Threads + Wait + Sync>(rt: &R, alloc: Global) -> Option<Turned> {
+    let core = LiveCore::new(alloc, small_config(alloc)?).ok()?;
+    let mut host = Seat::new(alloc, Actor::Host);
+    let mut guest = Seat::new(alloc, Actor::Vcpu(0, 0));
+    boot(rt, alloc, &core, &mut host)?;
+    let volumes = volumes_of(rt, alloc, &core, &mut host, &mut guest)?;
+    let (_empty, core) = core.close().into_parts();
+    Some(Turned {
+        volumes,
+        host: host.into_receipts(),
+        guest: guest.into_receipts(),
+        core,
+    })
+}
+
+/// Whether the volumes are followed to the core that they left, and the receipts are theirs.
+fn is_followed<R: Threads + Wait + Sync>(rt: &R, alloc: Global) -> Option<bool> {
+    let turned = run_over(rt, alloc)?;
+    let (same, left) = followed(rt, alloc, &turned.volumes)?;
+    let is_left = dump_of(rt, alloc, &left)? == dump_of(rt, alloc, &turned.core)?;
+    let Turned {
+        volumes,
+        host,
+        guest,
+        core: _,
+    } = turned;
+    Some(same && is_left && are_settled(alloc, &volumes, host, guest)?)
 }
 
 #[test]
