@@ -81,10 +81,10 @@ int main(void) {
     is(used == 14 && memcmp(out, "kcore-trace 2\n", 14) == 0 ? 0 : 1, 0, "which is the same");
     is(line(&core, 1, sizeof out), KCORE_NO_SUCH_LINE, "a volume in which nothing was answered");
     is(ask(&core, "take", sizeof out), KCORE_DONE, "its first call");
-    is(used == 8 && memcmp(out, "frame 5\n", 8) == 0 ? 0 : 1, 0, "the frame that was given back");
+    is(used == 8 && memcmp(out, "frame 6\n", 8) == 0 ? 0 : 1, 0, "the frame before the one that was given back");
     is(kcore_turn(&core), KCORE_DONE, "one more volume, before this one is full");
     is(ask(&core, "take", sizeof out), KCORE_DONE, "the first call there");
-    is(used == 8 && memcmp(out, "frame 6\n", 8) == 0 ? 0 : 1, 0, "the frame behind it, since the core goes on");
+    is(used == 8 && memcmp(out, "frame 7\n", 8) == 0 ? 0 : 1, 0, "the frame behind it, since the core goes on");
     is(line(&core, 1, sizeof out), KCORE_DONE, "the only call of this volume");
     is(line(&core, 2, sizeof out), KCORE_NO_SUCH_LINE, "the line behind that");
     is(kcore_end(&core), KCORE_DONE, "the end");
