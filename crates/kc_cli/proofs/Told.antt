@@ -14,7 +14,7 @@ use Rattle.kc_types.specs.declared.custody.Event.{Event}
 use Rattle.kc_types.specs.declared.custody.Event.TheVariants as event
 use Rattle.kc_model.specs.State.{State}
 use Rattle.kc_model.specs.Lawful.{IsLawful}
-use Rattle.kc_model.specs.Next.{next, state_after}
+use Rattle.kc_model.specs.Next.{state_after}
 use Rattle.kc_model.specs.Custody.{first_line}
 use Rattle.kc_model.specs.Events.{events, events_from, changes_in}
 use Rattle.kc_model.proofs.Safe.Safe.{safe}
@@ -22,7 +22,6 @@ use Rattle.kc_model.proofs.Custody.Events.{events-append, changes-of-events, fla
 use Rattle.kc_model.proofs.Custody.Bars.{bars_are}
 use Rattle.kc_model.proofs.Custody.Laws.{custody_is}
 use Rattle.kc_model.proofs.States.Runs.{state_after-append}
-use Rattle.kc_model.proofs.States.Sizes.{sized-next}
 use Rattle.kc_trace.specs.CustodyText.{change_line, event_line, header_line, end_line, custody_text_of}
 use Rattle.kc_texts.specs.declared.origin.Origin.{Origin}
 use Rattle.kc_texts.specs.Reading.{BeginsIn, Writes, Begins}
@@ -40,11 +39,6 @@ told_more m old xs ys line told now so_far from at added =
 
 pub left_more : (m old new : State) (xs ys : List Call) → old ≡ state_after m xs → new ≡ state_after old ys → new ≡ state_after m (xs ++ ys)
 left_more m old new xs ys from to = to ∙ ap (λ (s : State). state_after s ys) from ∙ sym (state_after-append m xs ys)
-
--- the configuration stays
-pub config_after : (m : State) (calls : List Call) → (state_after m calls).config ≡ m.config
-config_after m [] = refl
-config_after m (call ∷ calls) = config_after (next m call).1 calls ∙ (sized-next m call).config
 
 pub is_told : (source : Option (List ℕ)) (m : State) (told : List Event) (count : ℕ) → IsLawful m → AreEventsOf m source count told → IsCustodyTold m source count told
 is_told source m told count is h = record {

@@ -9,8 +9,8 @@ use Rattle.kc_model.specs.State.{State}
 use Rattle.kc_model.specs.Boot.{boot}
 use Rattle.kc_model.specs.Next.{next, state_after}
 use Rattle.kc_model.specs.Lawful.{IsLawful}
-use Rattle.kc_model.proofs.Lawful.Keeps.{lawful-next}
-use Rattle.kc_model.proofs.States.Sizes.{sized-next}
+use Rattle.kc_model.proofs.Lawful.LawfulTraces.{lawful-after}
+use Rattle.kc_model.proofs.States.Sizes.{config-after}
 use Rattle.kc_model.proofs.States.Runs.{replies_from-append, state_after-append}
 use Rattle.kc_model.proofs.Safe.Safe.{safe}
 use Rattle.kc_model.proofs.Refusals.ReplyBytes.{bytes-next}
@@ -42,10 +42,6 @@ kept_more l call kept fits =
       short = omega (arith, length-append l.entries one);
     }
 
-lawful_after : (m : State) (calls : List Call) → IsLawful m → IsLawful (state_after m calls)
-lawful_after m [] lawful = lawful
-lawful_after m (call ∷ calls) lawful = lawful_after (next m call).1 calls (lawful-next m call lawful)
-
 -- where a volume begins that has no calls yet
 begun : (number : ℕ) (start : State) → MayStart number start → IsKept (log number [] start)
 begun number start may = record {
@@ -62,23 +58,19 @@ pub kept_next : (l : Log) → IsKept l → IsKept (next_volume l)
 kept_next l kept =
     let may = kept.legal.may in
     begun _ l.state (record {
-      lawful = rw kept.ends (lawful_after kept.legal.start (calls_of l.entries) may.lawful);
+      lawful = rw kept.ends (lawful-after kept.legal.start (calls_of l.entries) may.lawful);
       config = may.config;
       before = may.before ++ calls_of l.entries;
       leads = kept.ends ∙ rw (may.leads, state_after-append (boot may.config) may.before (calls_of l.entries)) refl;
       first = λ none. absurd (omega (arith, none));
     })
 
-config_after : (m : State) (calls : List Call) → (state_after m calls).config ≡ m.config
-config_after m [] = refl
-config_after m (call ∷ calls) = config_after (next m call).1 calls ∙ (sized-next m call).config
-
 -- a first volume was made from the boot state of the configuration that the core has at its end
 pub whole_from : (l : Log) (config : Configuration) → IsKept l → l.volume ≡ 0 → l.state.config ≡ config → IsWholeFrom config l
 whole_from l config kept none same =
     let may = kept.legal.may in
     let boots : kept.legal.start ≡ boot may.config = may.leads ∙ ap (state_after (boot may.config)) (may.first none) in
-    let its : may.config ≡ config = sym (ap (λ (m : State). m.config) kept.ends ∙ (config_after kept.legal.start (calls_of l.entries) ∙ ap (λ (m : State). m.config) boots)) ∙ same in
+    let its : may.config ≡ config = sym (ap (λ (m : State). m.config) kept.ends ∙ (config-after kept.legal.start (calls_of l.entries) ∙ ap (λ (m : State). m.config) boots)) ∙ same in
     let start : kept.legal.start ≡ boot config = boots ∙ ap boot its in
     record {
       made = subst (λ m. IsMadeFrom m (volume_in l)) start kept.legal.made;

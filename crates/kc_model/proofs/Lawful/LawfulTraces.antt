@@ -12,11 +12,14 @@ use Rattle.kc_model.specs.Refusals.{pages_of}
 use Rattle.kc_model.specs.Lawful.{IsLawful, IsLawfulImage, holds, same_owner, times_in}
 use Rattle.kc_model.specs.Local.{IsOrderly, HasMappedPages}
 use Rattle.kc_model.specs.Footprints.{state_at}
+use Rattle.kc_model.specs.Next.{next, state_after}
+use Rattle.kc_model.specs.Volumes.{IsCoreState}
 use Rattle.kc_model.proofs.States.Members.{held-times_in, same_number}
 use Rattle.kc_model.proofs.Local.Orderly.{orderly-lawful}
 use Rattle.kc_model.proofs.Local.LinksKept.{ListsAll}
 use Rattle.kc_model.proofs.Lawful.Keeps.{lawful-next}
 use Rattle.kc_model.proofs.States.Places.{good-at}
+use Rattle.kc_model.proofs.States.Sizes.{config-after}
 
 some-page : (len : ℕ) → 0 < len → 0 < pages_of len
 some-page len some = omega (arith, some)
@@ -52,6 +55,15 @@ lists-all m is = record {
 
 pub lawful-at : (m : State) (calls : List Call) → IsLawful m → (k : ℕ) → k ≤ length calls → IsLawful (state_at m calls k)
 lawful-at m calls is k le = good-at IsLawful lawful-next m calls is k le
+
+-- calls leave a lawful state lawful
+pub lawful-after : (m : State) (calls : List Call) → IsLawful m → IsLawful (state_after m calls)
+lawful-after m [] is = is
+lawful-after m (call ∷ calls) is = lawful-after (next m call).1 calls (lawful-next m call is)
+
+-- calls leave a core's state one
+pub core_state-after : (m : State) (calls : List Call) → IsCoreState m → IsCoreState (state_after m calls)
+core_state-after m calls is = record { lawful = lawful-after m calls is.lawful; digests = rw (config-after m calls) is.digests }
 
 pub orderly-at : (m : State) (calls : List Call) → IsLawful m → (k : ℕ) → k < length calls → IsOrderly (state_at m calls k)
 orderly-at m calls is k lt = orderly-is (state_at m calls k) (lawful-at m calls is k (omega (arith, lt)))

@@ -8,7 +8,7 @@ use Rattle.kc_types.specs.declared.owner.Owner.TheVariants.{Free}
 use Rattle.kc_model.specs.State.{State, Frame, Slot, Image, mapped_at, slot_at, untouched}
 use Rattle.kc_model.specs.Refusals.{refusal}
 use Rattle.kc_model.specs.Effects.{effect, host_takes, guest_read, guest_written, verified, all_trimmed, trimmed, scrubbed, granted, revoked, frames_under, with_each, first_failing, is_approved}
-use Rattle.kc_model.specs.Next.{next, unless_refused}
+use Rattle.kc_model.specs.Next.{next, unless_refused, state_after}
 use Rattle.kc_model.specs.Local.{IsSameSize}
 use Rattle.kc_model.proofs.States.Each.{length-changed}
 
@@ -85,3 +85,8 @@ sized-unless (Some r) m call = sized-same m
 pub sized-next : (m : State) (call : Call) → IsSameSize m (next m call).1
 unfolding next
 sized-next m call = sized-unless (refusal m call) m call
+
+-- calls leave the configuration
+pub config-after : (m : State) (calls : List Call) → (state_after m calls).config ≡ m.config
+config-after m [] = refl
+config-after m (call ∷ calls) = config-after (next m call).1 calls ∙ (sized-next m call).config

@@ -1,6 +1,7 @@
 use Rattle.std.proofs.Common.{◌++◌, [], length, length-append, refl, ap, ◌∙◌, rules, arith}
 use Rattle.kc_model.specs.State.{State}
-use Rattle.kc_cli.proofs.Told.{told_more, left_more, config_after}
+use Rattle.kc_model.proofs.States.Sizes.{config-after}
+use Rattle.kc_cli.proofs.Told.{told_more, left_more}
 use Rattle.kc_cli.proofs.custody.tell_source.Goals as goal
 
 pub loop-events-init : goal.loop-events-init
@@ -56,4 +57,4 @@ returns-in-Ok-finish-clause-config g c =
     let before = c.loop-events.invariant.read in
     let calls = c.in_ok-part.part.calls.items in
     ap (λ (m : State). m.config) (left_more c.args.core.now c.loop-events.core c.tell_calls.new.core before.1 calls before.4 (rw c.deref.ensures.value at c.in-Ok.ensures.state))
-    ∙ config_after c.args.core.now (before.1 ++ calls)
+    ∙ config-after c.args.core.now (before.1 ++ calls)
