@@ -7,3 +7,8 @@ pub mod Turned
 pub mod Calls
 pub mod Pushed
 pub mod Picked
+pub mod Counts
+pub mod Tallied
+pub mod Distinct
+pub mod Taken
+pub mod Traced

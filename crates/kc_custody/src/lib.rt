@@ -1,11 +1,20 @@
 //! What happened to each frame and slot: every change of custody that a call makes, and each read and write of the host that
-//! it was served of a VM's frame.
+//! it was served of a VM's frame; and the lives of VMs, as these events tell them.
 #![tactic(auto)]
 
+mod behind;
+mod different;
+mod ends;
+mod lives;
 mod look_ups;
 mod movable;
 mod selected;
+mod selected_lives;
+mod tallies;
+mod tally;
 mod telling;
 
+pub use lives::lives;
 pub use selected::select;
+pub use selected_lives::select_lives;
 pub use telling::{tell_call, tell_calls};

@@ -1,8 +1,8 @@
 use Rattle.std.proofs.Common.{All, List, sym, subst}
 use Rattle.std.proofs.lemmas.Result.{err_from_is_err_and, on_ok_weaker}
 use Rattle.kc_model.specs.Custody.{first_line}
-use Rattle.kc_summary.specs.Within.{IsWithin}
-use Rattle.kc_summary.proofs.Traced.{events-within}
+use Rattle.kc_custody.specs.Within.{IsWithin}
+use Rattle.kc_custody.proofs.Traced.{events-within}
 use Rattle.kc_texts.proofs.Told.{sources_err, texts_err, sink_more}
 use Rattle.kc_types.specs.declared.custody.Event.{Event}
 use Rattle.kc_cli.proofs.Told.{gives_custody, begins_custody}

@@ -1,0 +1,64 @@
+-- The events of a trace name frames and slots that there are.
+use Rattle.std.proofs.Common.{ℕ, ◌+◌, ◌<◌, ◌≤◌, List, [], ◌∷◌, All, ap, arith}
+use Rattle.std.specs.List.{range_with_len}
+use Rattle.std.proofs.lemmas.List.Elements.{All-nil, All-cons, All-append, All-map, All-filter, All-from_get_or}
+use Rattle.std.proofs.lemmas.List.FromFn.{get_or-range_with_len, length-range_with_len}
+use Rattle.kc_types.specs.Configuration.{Configuration, slot_count, slots_of}
+use Rattle.kc_types.specs.declared.version.Version.{Version}
+use Rattle.kc_types.specs.declared.version.Version.TheVariants.{One, Two}
+use Rattle.kc_types.specs.declared.owner.Owner.{Owner}
+use Rattle.kc_types.specs.declared.owner.Owner.TheVariants.{Core, Host, Free, Vm}
+use Rattle.kc_types.specs.declared.call.Call.{Call}
+use Rattle.kc_types.specs.declared.call.Call.TheVariants.{HostRead, HostWrite}
+use Rattle.kc_types.specs.declared.reply.Reply.{Reply}
+use Rattle.kc_types.specs.declared.reply.Reply.TheVariants as reply
+use Rattle.kc_types.specs.declared.custody.Change.{Change}
+use Rattle.kc_types.specs.declared.custody.Change.TheVariants as change
+use Rattle.kc_types.specs.declared.custody.Event.{Event}
+use Rattle.kc_types.specs.declared.custody.Event.TheVariants as event
+use Rattle.kc_model.specs.State.{State, frame_at}
+use Rattle.kc_model.specs.Next.{next}
+use Rattle.kc_model.specs.Custody.{changes_by, frame_change, phase_change, has_moved, has_turned}
+use Rattle.kc_model.specs.Events.{of_owner, access_by, events_by, events_from}
+use Rattle.kc_model.proofs.States.Sizes.{sized-next}
+use Rattle.kc_custody.specs.Within.{IsWithin}
+
+few-of : (version : Version) → slots_of version ≤ 64
+few-of One = omega arith
+few-of Two = omega arith
+
+few-slots : (c : Configuration) → slot_count c ≤ 64
+unfolding slot_count
+few-slots c = few-of c.version
+
+range-below : (n most : ℕ) → n ≤ most → All (λ i. i < most) (range_with_len 0 n)
+range-below n most few = All-from_get_or (λ i. i < most) (range_with_len 0 n) 0 (λ i lt.
+    let low : i < n = omega (arith, length-range_with_len 0 n, lt) in
+    omega (arith, get_or-range_with_len 0 n i 0 low, low, few))
+
+owner-within : (frames : ℕ) (made : ℕ → Event) (owner : Owner) → ((v : ℕ) → IsWithin frames (made v)) → All (IsWithin frames) (of_owner made owner)
+owner-within frames made (Vm v) within = All-cons (IsWithin frames) (made v) [] (within v) (All-nil (IsWithin frames))
+owner-within frames made Core within = All-nil (IsWithin frames)
+owner-within frames made Host within = All-nil (IsWithin frames)
+owner-within frames made Free within = All-nil (IsWithin frames)
+
+access-within : (frames : ℕ) (m : State) (call : Call) (answer : Reply) → All (IsWithin frames) (access_by m call answer)
+access-within frames m (HostRead f off len) (reply.Data bytes) = owner-within frames event.Read (frame_at m f).owner (λ v. tt)
+access-within frames m (HostWrite f off bytes) reply.Done = owner-within frames event.Write (frame_at m f).owner (λ v. tt)
+access-within frames m call answer = All-nil (IsWithin frames)
+
+changes-within : (line : ℕ) (old new : State) → All (λ told. IsWithin old.config.frames (event.Change told)) (changes_by line old new)
+changes-within line old new =
+    let P : Change → Type 0 = λ told. IsWithin old.config.frames (event.Change told) in
+    All-append P _ _
+    (All-map P change.Frame _ (All-map (λ told. P (change.Frame told)) (frame_change line old new) _ (All-filter (has_moved old new) (λ f. f < old.config.frames) _ (range-below old.config.frames old.config.frames (omega arith)))))
+    (All-map P change.Phase _ (All-map (λ told. P (change.Phase told)) (phase_change line old new) _ (All-filter (has_turned old new) (λ v. v < 64) _ (range-below (slot_count old.config) 64 (few-slots old.config)))))
+
+-- the events of a trace name frames and slots that there are
+pub events-within : (n : ℕ) (m : State) (calls : List Call) → All (IsWithin m.config.frames) (events_from n m calls)
+events-within n m [] = All-nil (IsWithin m.config.frames)
+events-within n m (call ∷ calls) =
+    let rest = rw (ap (λ (c : Configuration). c.frames) (sized-next m call).config) at (events-within (n + 1) (next m call).1 calls) in
+    All-append (IsWithin m.config.frames) (events_by n m call) _
+    (All-append (IsWithin m.config.frames) (access_by m call (next m call).0) _ (access-within m.config.frames m call (next m call).0) (All-map (IsWithin m.config.frames) event.Change _ (changes-within n m (next m call).1)))
+    rest

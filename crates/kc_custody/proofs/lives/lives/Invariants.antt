@@ -1,0 +1,15 @@
+use Rattle.std.proofs.Common.{◌≡◌, ◌++◌, List, vec_len}
+use Rattle.kc_types.specs.declared.custody.Event.{Event}
+use Rattle.kc_custody.specs.Behind.{IsBehind}
+use Rattle.kc_custody.proofs.lives.lives.Given as goal
+
+-- the events that were taken, and what they tell
+abbrev pub invariant-loop-event : goal.invariant-loop-event
+invariant-loop-event l = record {
+  more : List Event;
+  all : l.fn.events.items ≡ l.events.items ++ more;
+  told : IsBehind l.frames more l.behind;
+}
+
+abbrev pub decreases-loop-event : goal.decreases-loop-event
+decreases-loop-event l = vec_len l.events

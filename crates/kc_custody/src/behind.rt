@@ -1,0 +1,62 @@
+//! What events tell of all slots and frames, gathered from the last of them to the first.
+ghost use Rattle.std.specs.Prelude.{◌≡◌, ℕ, List, OnOk, IfOk, []};
+ghost use Rattle.kc_types.specs.declared.custody.Event.{Event as AnEvent};
+ghost use Rattle.kc_model.specs.Lives.{lives};
+ghost use Rattle.kc_custody.specs.Behind.{Notes, IsBehind};
+
+use crate::ends::Ends;
+use crate::tallies::Tallies;
+use kc_types::{Change, Event, Life, Memory};
+use std::alloc::Global;
+
+/// What the events behind a place in a trace tell.
+#[derive(Drop)]
+pub(crate) struct Behind {
+    tallies: Tallies,
+    ends: Ends,
+    /// The lives that begin there, the first of them last.
+    lives: Vec<Life>,
+}
+
+impl Behind {
+    /// Behind the last event, of a core with this many frames; `Memory` where a growth was refused.
+    pub(crate) fn none(alloc: Global, frames: u32) -> Result<Behind, Memory>
+        ensures { IfOk result (λ behind. IsBehind frames [] behind) }
+    {
+        Ok(Behind {
+            tallies: Tallies::none(alloc)?,
+            ends: Ends::none(alloc, frames)?,
+            lives: Vec::new(alloc),
+        })
+    }
+
+    /// Takes in one event more, the one before those. `Memory` where a growth was refused; then what is told is of no use.
+    pub(crate) fn note(&mut self, alloc: Global, event: Event) -> Result<(), Memory>
+        ensures { OnOk result (Notes event self.old self.new) }
+    {
+        match event {
+            Event::Read { vm } => self.tallies.note_read(vm),
+            Event::Write { vm } => self.tallies.note_write(vm),
+            Event::Change(Change::Frame(change)) => {
+                self.tallies
+                    .note_frame(&change, self.ends.of(change.frame))?;
+                self.ends.note(&change);
+            },
+            Event::Change(Change::Phase(change)) => {
+                if let Some(life) = self.tallies.note_phase(alloc, change)? {
+                    self.lives.push(life)?;
+                }
+            },
+        }
+        Ok(())
+    }
+
+    /// The lives that are told, in the order in which they begin.
+    pub(crate) fn into_lives(self) -> Vec<Life>
+        ensures { (frames : ℕ) (more : List AnEvent) → IsBehind frames more self → result.items ≡ lives more }
+    {
+        let mut lives = self.lives;
+        lives.reverse();
+        lives
+    }
+}

@@ -1,0 +1,22 @@
+//! The lives of all VMs.
+ghost use Rattle.std.specs.Prelude.{◌≡◌, All, IfOk};
+ghost use Rattle.kc_model.specs.Lives.{lives};
+ghost use Rattle.kc_custody.specs.Within.{IsWithin};
+
+use crate::behind::Behind;
+use kc_types::{Event, Life, Memory};
+use std::alloc::Global;
+
+/// The lives of VMs that some events tell, in the order in which they begin; the events name frames below `frames`, and
+/// slots below 64. `Memory` where a growth was refused.
+pub fn lives(alloc: Global, frames: u32, mut events: Vec<Event>) -> Result<Vec<Life>, Memory>
+    requires { All (IsWithin frames) events.items }
+    // No clause can rule out want of memory: examples of the program make some.
+    ensures { IfOk result (λ told. told.items ≡ lives events.items) }
+{
+    let mut behind = Behind::none(alloc, frames)?;
+    while let Some(event) = events.pop() {
+        behind.note(alloc, event)?;
+    }
+    Ok(behind.into_lives())
+}
