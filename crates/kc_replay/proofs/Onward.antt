@@ -22,7 +22,7 @@ use Rattle.kc_footprints.specs.Reordering.{after_order, AnswersAlike}
 use Rattle.kc_footprints.proofs.Reordered.{alike, is_order_free}
 use Rattle.kc_replay.specs.Wave.{IsWave, AreReplied, wave_calls}
 use Rattle.kc_footprints.specs.Plan.{AreCallNumbers, AreCallsOf}
-use Rattle.kc_replay.proofs.Ready.{config-order, feet-of-wave}
+use Rattle.kc_replay.proofs.Ready.{config-order, apart-in-wave}
 
 -- the calls of the waves up to w are taken, in whatever order, and their replies stand in their places
 pub record IsUpTo (m : State) (calls : List Call) (wave : ℕ → ℕ) (w : ℕ) (store : State) (replies : List Reply) : Type 0 where
@@ -170,7 +170,7 @@ module _ (m : State) (calls : List Call) (is : IsLawful m) (wave : ℕ → ℕ) 
     up.state ∙ (is_order_free m calls up.order is (record { final = up.done; taken = up.taken; all = λ j low. up.below j low (last j low) })).1,
   )
 
-  module _ (feet : ℕ → Resources) (rows : (k : ℕ) (r : Resource) → k < length calls → feet k r ≡ footprint m calls k r) (w : ℕ) (store : State) (replies : List Reply) (up : IsUpTo m calls wave w store replies)
+  module _ (footprints : ℕ → Resources) (rows : (k : ℕ) (r : Resource) → k < length calls → footprints k r ≡ footprint m calls k r) (w : ℕ) (store : State) (replies : List Reply) (up : IsUpTo m calls wave w store replies)
       (members : List ℕ) (are : AreCallsOf wave (length calls) (suc w) members) where
     fresh : (j : ℕ) → j < length calls → wave j ≡ suc w → up.done j ≡ false
     fresh j low at = false_from_ne_true (up.done j) (λ did. let le = up.above j low did in omega (arith, le, at))
@@ -195,11 +195,11 @@ module _ (m : State) (calls : List Call) (is : IsLawful m) (wave : ℕ → ℕ) 
         })
 
     -- the next wave can be made side by side
-    pub wave-next : IsWave store calls feet members
-    wave-next = subst (λ (s : State). IsWave s calls feet members) (sym up.state) (record {
+    pub wave-next : IsWave store calls footprints members
+    wave-next = subst (λ (s : State). IsWave s calls footprints members) (sym up.state) (record {
       lawful = lawful-taken (footprint m calls) calls up.order (λ j. false) up.done m up.taken is;
       within = are.calls.within;
-      feet_are = feet-of-wave m calls is wave up.order up.done feet members (suc w) plan up.taken due-at are.same are.calls.once rows;
+      apart = apart-in-wave m calls is wave up.order up.done footprints members (suc w) plan up.taken due-at are.same are.calls.once rows;
       once = are.calls.once;
     })
 
@@ -258,8 +258,8 @@ pub state-one : (m : State) (calls : List Call) (k : ℕ) → state_at m calls (
 state-one m calls k = let e : k + 1 ≡ suc k = omega arith in rw e refl
 
 -- the numbers of a wave's calls
-pub numbers_of : (m : State) (calls : List Call) (feet : ℕ → Resources) (members : List ℕ) → IsWave m calls feet members → AreCallNumbers (length calls) members
-numbers_of m calls feet members wave = record { within = wave.within; once = wave.once }
+pub numbers_of : (m : State) (calls : List Call) (footprints : ℕ → Resources) (members : List ℕ) → IsWave m calls footprints members → AreCallNumbers (length calls) members
+numbers_of m calls footprints members wave = record { within = wave.within; once = wave.once }
 
 -- a list that was written over whole
 pub written-whole : {X : Type 0} (xs ys : List X) (n : ℕ) → n ≡ length xs → take n (xs ++ drop (length xs) ys) ≡ xs

@@ -31,7 +31,7 @@ use Rattle.kc_parts.proofs.Places.{place-found}
 use Rattle.kc_core.specs.KCore.{IsCore}
 use Rattle.kc_model.proofs.States.Changes.{exists}
 use Rattle.kc_parts.specs.Restricted.{seen_part, exists_in, IsRestricted, IsClosed}
-use Rattle.kc_replay.specs.Wave.{IsRest, HasPlaces, down_from, wave_calls, feet_at, IsWave, IsTaskAt, IsFinishedAt}
+use Rattle.kc_replay.specs.Wave.{IsRest, HasPlaces, down_from, wave_calls, footprints_at, IsWave, IsTaskAt, IsFinishedAt}
 use Rattle.kc_replay.specs.declared.task.Finished.{Finished}
 use Rattle.kc_model.proofs.Local.Orderly.{owned-is}
 use Rattle.kc_parts.proofs.Restricting.{linked-cut, state-cut, here-is}
@@ -45,7 +45,7 @@ seen-none : (there : Option HeldPart) → option_map seen_part there ≡ None �
 seen-none None e = refl
 seen-none (Some x) e = cc
 
--- what is held is in the foot
+-- what is held is in the footprint
 held-here : (b : Bool) (there : Option HeldPart) (x : HeldPart) (l : LinkedPart) → option_map seen_part there ≡ cond b (Some l) None → there ≡ Some x → b ≡ true
 held-here true there x l seen is = refl
 held-here false None x l seen is = cc
@@ -123,55 +123,55 @@ module _ (m : State) (h : Held) (lawful : IsLawful m) (restricted : IsRestricted
     state-again,
   )
 
-module _ (m : State) (calls : List Call) (feet : ℕ → Resources) (members : List ℕ) (wave : IsWave m calls feet members) where
+module _ (m : State) (calls : List Call) (footprints : ℕ → Resources) (members : List ℕ) (wave : IsWave m calls footprints members) where
   abbrev pub last : State
   last = state_at m (wave_calls calls members) (length (wave_calls calls members))
 
   -- all of the wave's calls are out
-  pub switched : (h : Held) → IsRest m (feet_at feet members) (down_from (length members)) h → IsRest (state_at m (wave_calls calls members) (length (wave_calls calls members))) (feet_at feet members) (down_from (length members)) h
+  pub switched : (h : Held) → IsRest m (footprints_at footprints members) (down_from (length members)) h → IsRest (state_at m (wave_calls calls members) (length (wave_calls calls members))) (footprints_at footprints members) (down_from (length members)) h
   switched h left =
-      all-out m (wave_calls calls members) (feet_at feet members) wave.lawful wave.feet_are (down_from (length members)) h
-      (λ k r low e. out-all m (wave_calls calls members) (feet_at feet members) wave.feet_are (length members) k r (let l = low in let n = wave-length calls members in omega (arith, l, n)) e) left
+      all-out m (wave_calls calls members) (footprints_at footprints members) wave.lawful wave.apart (down_from (length members)) h
+      (λ k r low e. out-all m (wave_calls calls members) (footprints_at footprints members) wave.apart (length members) k r (let l = low in let n = wave-length calls members in omega (arith, l, n)) e) left
 
-  module _ (i : ℕ) (h : Held) (done : Finished) (low : i < length members) (left : IsRest (state_at m (wave_calls calls members) (length (wave_calls calls members))) (feet_at feet members) (down_from (i + 1)) h) (at : IsFinishedAt m calls feet members i done) where
+  module _ (i : ℕ) (h : Held) (done : Finished) (low : i < length members) (left : IsRest (state_at m (wave_calls calls members) (length (wave_calls calls members))) (footprints_at footprints members) (down_from (i + 1)) h) (at : IsFinishedAt m calls footprints members i done) where
     -- what is held of a call's parts is not in the store
-    absent : (r : Resource) → feet_at feet members i r ≡ true → held_at h r ≡ None
+    absent : (r : Resource) → footprints_at footprints members i r ≡ true → held_at h r ≡ None
     absent r e = seen-none (held_at h r) (left.parts r ∙ ap (λ b. cond b None (cond (exists_in (state_at m (wave_calls calls members) (length (wave_calls calls members))).config r) (Some (linked_part_of (state_at m (wave_calls calls members) (length (wave_calls calls members))) r)) None))
-        (out-all m (wave_calls calls members) (feet_at feet members) wave.feet_are (i + 1) i r (omega arith) e))
+        (out-all m (wave_calls calls members) (footprints_at footprints members) wave.apart (i + 1) i r (omega arith) e))
 
-    foot : (r : Resource) (x : HeldPart) → held_at done.left.parts r ≡ Some x → feet_at feet members i r ≡ true
-    foot r x e = held-here (feet_at feet members i r) (held_at done.left.parts r) x (linked_part_of (state_at m (wave_calls calls members) (suc i)) r) (at.parts.parts r) e
+    footprint : (r : Resource) (x : HeldPart) → held_at done.left.parts r ≡ Some x → footprints_at footprints members i r ≡ true
+    footprint r x e = held-here (footprints_at footprints members i r) (held_at done.left.parts r) x (linked_part_of (state_at m (wave_calls calls members) (suc i)) r) (at.parts.parts r) e
 
-    there : (r : Resource) → feet_at feet members i r ≡ true → exists_in m.config r ≡ true
-    there r e = wave.feet_are.exist i (low-in m calls feet members wave i low) r e
+    there : (r : Resource) → footprints_at footprints members i r ≡ true → exists_in m.config r ≡ true
+    there r e = wave.apart.exist i (low-in m calls footprints members wave i low) r e
 
     pub fits-wave : HasPlaces m.config h → FitsInto h done.left.parts
     fits-wave places = record {
       pages = λ f page e.
-          let t = foot (resource.Frame f) (page_part page) (ap (option_map page_part) e) in
+          let t = footprint (resource.Frame f) (page_part page) (ap (option_map page_part) e) in
           (rw places.numbers (place-low m.config.frames f (ltb-true f m.config.frames (there (resource.Frame f) t))), page-none (page_at h f) (absent (resource.Frame f) t));
       slots = λ v vm e.
-          let t = foot (resource.Vm v) (slot_part vm) (ap (option_map slot_part) e) in
+          let t = footprint (resource.Vm v) (slot_part vm) (ap (option_map slot_part) e) in
           (places.slots v (ltb-true v (slot_count m.config) (there (resource.Vm v) t)), slot-none (vm_at h v) (absent (resource.Vm v) t));
       ends = λ ends e.
-          let t = foot resource.Free (ends_part ends) (ap (option_map ends_part) e) in
+          let t = footprint resource.Free (ends_part ends) (ap (option_map ends_part) e) in
           ends-none h.free (absent resource.Free t);
     }
 
-    pub back-wave : (joined : Held) → IsJoin h done.left.parts joined → IsRest (state_at m (wave_calls calls members) (length (wave_calls calls members))) (feet_at feet members) (down_from i) joined
+    pub back-wave : (joined : Held) → IsJoin h done.left.parts joined → IsRest (state_at m (wave_calls calls members) (length (wave_calls calls members))) (footprints_at footprints members) (down_from i) joined
     back-wave joined join =
         let e : i + 1 ≡ suc i = omega arith in
-        back m (wave_calls calls members) (feet_at feet members) wave.lawful wave.feet_are (down_from i) i h done.left.parts joined (low-in m calls feet members wave i low)
-        (λ r t. out-earlier m (wave_calls calls members) (feet_at feet members) wave.feet_are i i r (omega arith) (low-in m calls feet members wave i low) t) (rw e at left) at.parts join
+        back m (wave_calls calls members) (footprints_at footprints members) wave.lawful wave.apart (down_from i) i h done.left.parts joined (low-in m calls footprints members wave i low)
+        (λ r t. out-earlier m (wave_calls calls members) (footprints_at footprints members) wave.apart i i r (omega arith) (low-in m calls footprints members wave i low) t) (rw e at left) at.parts join
 
   lawful-last : IsLawful (state_at m (wave_calls calls members) (length (wave_calls calls members)))
   lawful-last = lawful-at m (wave_calls calls members) wave.lawful (length (wave_calls calls members)) (omega arith)
 
   config-last : (state_at m (wave_calls calls members) (length (wave_calls calls members))).config ≡ m.config
-  config-last = config-at m (wave_calls calls members) (feet_at feet members) wave.lawful wave.feet_are (length (wave_calls calls members))
+  config-last = config-at m (wave_calls calls members) (footprints_at footprints members) wave.lawful wave.apart (length (wave_calls calls members))
 
   -- a whole core is left
-  pub core-last : (h : Held) → IsRest (state_at m (wave_calls calls members) (length (wave_calls calls members))) (feet_at feet members) [] h → HasPlaces m.config h → IsCore m.config h × (state_of m.config h ≡ state_at m (wave_calls calls members) (length (wave_calls calls members)))
+  pub core-last : (h : Held) → IsRest (state_at m (wave_calls calls members) (length (wave_calls calls members))) (footprints_at footprints members) [] h → HasPlaces m.config h → IsCore m.config h × (state_of m.config h ≡ state_at m (wave_calls calls members) (length (wave_calls calls members)))
   core-last h left places =
       let end : State = state_at m (wave_calls calls members) (length (wave_calls calls members)) in
       subst (λ config. IsCore config h × (state_of config h ≡ end)) config-last
@@ -190,21 +190,21 @@ module _ (R : ℕ → Finished → Type 0) (all rest : List Finished) (one : Fin
   pub len-popped : length all ≡ length rest + 1
   len-popped = len-one
 
-module _ (m : State) (calls : List Call) (feet : ℕ → Resources) (members : List ℕ) (wave : IsWave m calls feet members) (tasks : List Task) (zip : AllZip (IsTaskAt m calls feet members) (range_with_len 0 (length members)) tasks) where
+module _ (m : State) (calls : List Call) (footprints : ℕ → Resources) (members : List ℕ) (wave : IsWave m calls footprints members) (tasks : List Task) (zip : AllZip (IsTaskAt m calls footprints members) (range_with_len 0 (length members)) tasks) where
   -- each task can be done
   pub all-able : All (IsTaskOf m.config calls) tasks
   all-able k d low =
-      let at = zip_get (IsTaskAt m calls feet members) (range_with_len 0 (length members)) tasks zip k 0 d low in
-      able-at m calls feet members wave (get_or (range_with_len 0 (length members)) k 0) (get_or tasks k d) at.within at
+      let at = zip_get (IsTaskAt m calls footprints members) (range_with_len 0 (length members)) tasks zip k 0 d low in
+      able-at m calls footprints members wave (get_or (range_with_len 0 (length members)) k 0) (get_or tasks k d) at.within at
 
   -- and what is left of each is what its call leaves
-  pub all-finished : (done : List Finished) → AnswersAll m.config calls tasks done → AllZip (IsFinishedAt m calls feet members) (range_with_len 0 (length members)) done
+  pub all-finished : (done : List Finished) → AnswersAll m.config calls tasks done → AllZip (IsFinishedAt m calls footprints members) (range_with_len 0 (length members)) done
   all-finished done answers =
-      zip_through (IsTaskAt m calls feet members) (Finishes m.config calls) (IsFinishedAt m calls feet members)
-      (λ i task one at is. finished-at m calls feet members wave i task one at.within at is) (range_with_len 0 (length members)) tasks done zip answers
+      zip_through (IsTaskAt m calls footprints members) (Finishes m.config calls) (IsFinishedAt m calls footprints members)
+      (λ i task one at is. finished-at m calls footprints members wave i task one at.within at is) (range_with_len 0 (length members)) tasks done zip answers
 
 -- one more reply is written
-module _ (m : State) (calls : List Call) (feet : ℕ → Resources) (members : List ℕ) (wave : IsWave m calls feet members) (replies : List Reply) (j number : ℕ) (reply : Reply) (low : j < length members) (is : number ≡ get_or members j 0) (within : number < length replies) where
+module _ (m : State) (calls : List Call) (footprints : ℕ → Resources) (members : List ℕ) (wave : IsWave m calls footprints members) (replies : List Reply) (j number : ℕ) (reply : Reply) (low : j < length members) (is : number ≡ get_or members j 0) (within : number < length replies) where
   pub back-more : reply ≡ reply_at m (wave_calls calls members) j → ((i : ℕ) → j + 1 ≤ i → i < length members → get_or replies (get_or members i 0) Done ≡ reply_at m (wave_calls calls members) i)
       → (i : ℕ) → j ≤ i → i < length members → get_or (set replies number reply) (get_or members i 0) Done ≡ reply_at m (wave_calls calls members) i
   back-more given before i from below = by_place (cases_eq i j)

@@ -19,7 +19,7 @@ use Rattle.kc_footprints.specs.Reordering.{after_order}
 use Rattle.kc_footprints.proofs.Reordered.{is_ready}
 use Rattle.kc_footprints.proofs.Existing.{reach-low}
 use Rattle.kc_parts.specs.Restricted.{exists_in}
-use Rattle.kc_replay.specs.Wave.{AreFeet, wave_calls, feet_at}
+use Rattle.kc_replay.specs.Wave.{AreApart, wave_calls, footprints_at}
 use Rattle.kc_replay.proofs.Taking.{wave-call, wave-length}
 
 pub config-order : (calls : List Call) (store : State) (order : List ℕ) → (after_order calls store order).config ≡ store.config
@@ -55,14 +55,14 @@ module _ (m : State) (calls : List Call) (is : IsLawful m) where
   footprint-exists k resource.Free h = refl
 
   -- the calls of one wave, all of them due after those of the order
-  pub feet-of-wave : (wave : ℕ → ℕ) (order : List ℕ) (done : ℕ → Bool) (feet : ℕ → Resources) (members : List ℕ) (w : ℕ) → IsWaves m calls wave
+  pub apart-in-wave : (wave : ℕ → ℕ) (order : List ℕ) (done : ℕ → Bool) (footprints : ℕ → Resources) (members : List ℕ) (w : ℕ) → IsWaves m calls wave
       → IsTaken (footprint m calls) (length calls) (λ j. false) order done
       → ((i : ℕ) → i < length members → IsDue (footprint m calls) (length calls) done (get_or members i 0))
       → ((i : ℕ) → i < length members → wave (get_or members i 0) ≡ w)
       → ((i j : ℕ) → i < length members → j < length members → i ≢ j → get_or members i 0 ≢ get_or members j 0)
-      → ((k : ℕ) (r : Resource) → k < length calls → feet k r ≡ footprint m calls k r)
-      → AreFeet (after_order calls m order) (wave_calls calls members) (feet_at feet members)
-  feet-of-wave wave order done feet members w plan taken due same other rows = record {
+      → ((k : ℕ) (r : Resource) → k < length calls → footprints k r ≡ footprint m calls k r)
+      → AreApart (after_order calls m order) (wave_calls calls members) (footprints_at footprints members)
+  apart-in-wave wave order done footprints members w plan taken due same other rows = record {
     needs = λ i low r needed.
         let l = below i low in
         row i l r ∙ is_ready m calls order done (get_or members i 0) is taken (due i l) r (ap (λ call. need (after_order calls m order) call r) (sym (wave-call calls members i l)) ∙ needed);
@@ -81,7 +81,7 @@ module _ (m : State) (calls : List Call) (is : IsLawful m) where
       below : (i : ℕ) → i < length (wave_calls calls members) → i < length members
       below i low = rw (wave-length calls members) at low
 
-      row : (i : ℕ) → i < length members → (r : Resource) → feet_at feet members i r ≡ footprint m calls (get_or members i 0) r
+      row : (i : ℕ) → i < length members → (r : Resource) → footprints_at footprints members i r ≡ footprint m calls (get_or members i 0) r
       row i l r = rows (get_or members i 0) r (due i l).within
 
       side : (j k : ℕ) (r : Resource) → j < length calls → k < length calls → j ≢ k → wave j ≡ wave k → footprint m calls j r ≡ true → footprint m calls k r ≡ true → ⊥

@@ -42,7 +42,7 @@ use Rattle.kc_core.specs.Applying.{IsAble, IsAnswer}
 use Rattle.kc_replay.specs.declared.task.Task.{Task}
 use Rattle.kc_replay.specs.declared.task.Finished.{Finished}
 use Rattle.kc_replay.specs.Working.{IsTaskOf, Finishes}
-use Rattle.kc_replay.specs.Wave.{AreFeet, out, IsRest, HasPlaces, down_from, wave_calls, feet_at, IsWave, IsTaskAt, IsFinishedAt}
+use Rattle.kc_replay.specs.Wave.{AreApart, out, IsRest, HasPlaces, down_from, wave_calls, footprints_at, IsWave, IsTaskAt, IsFinishedAt}
 use Rattle.kc_replay.proofs.Apart.{config-at, closed-at, needs-at, taken, rest-left}
 use Rattle.kc_core.proofs.Restricted.{able-cut, reply-is, restricted-after}
 use Rattle.kc_links.proofs.Neighbours.{link_in-linked, chain-ends}
@@ -96,8 +96,8 @@ module _ (config : Configuration) (h : Held) (is : IsCore config h) where
   places-whole = record { numbers = is.whole.numbers; slots = slots-whole }
 
   -- a whole core has all of its state
-  pub left-whole : (feet : ℕ → Resources) → IsRest (state_of config h) feet [] h
-  left-whole feet = record { parts = parts; capacities = is.linked.vms }
+  pub left-whole : (footprints : ℕ → Resources) → IsRest (state_of config h) footprints [] h
+  left-whole footprints = record { parts = parts; capacities = is.linked.vms }
     where
       parts : (r : Resource) → seen_at h r ≡ cond (exists_in config r) (Some (linked_part_of (state_of config h) r)) None
       parts (resource.Frame f) = by_low (cases_lt f config.frames) (page_at h f) refl
@@ -128,19 +128,19 @@ module _ (config : Configuration) (h : Held) (is : IsCore config h) where
               let chain = is.linked.lists.spelled Free ends e in
               ap (λ x. Some (free_ends x)) (chain-ends (links_of h) ends (listed (links_of h) ends) chain ∙ ap (λ there. ends_of (list_in (links_of h) there)) (sym e))
 
-module _ (m : State) (calls : List Call) (feet : ℕ → Resources) (are : AreFeet m calls feet) where
-  -- the feet of earlier calls have nothing of a later one's
-  pub out-earlier : (i k : ℕ) (r : Resource) → i ≤ k → k < length calls → feet k r ≡ true → out feet (down_from i) r ≡ false
+module _ (m : State) (calls : List Call) (footprints : ℕ → Resources) (are : AreApart m calls footprints) where
+  -- the footprints of earlier calls have nothing of a later one's
+  pub out-earlier : (i k : ℕ) (r : Resource) → i ≤ k → k < length calls → footprints k r ≡ true → out footprints (down_from i) r ≡ false
   out-earlier zero k r le low e = refl
   out-earlier (suc i) k r le low e =
-      rw (by_test (feet i r) refl) (out-earlier i k r (omega (arith, le)) low e)
+      rw (by_test (footprints i r) refl) (out-earlier i k r (omega (arith, le)) low e)
     where
-      by_test : (b : Bool) → feet i r ≡ b → b ≡ false
+      by_test : (b : Bool) → footprints i r ≡ b → b ≡ false
       by_test true t = absurd (are.apart i k r (omega (arith, le, low)) low (λ same. omega (arith, same, le)) t e)
       by_test false t = refl
 
   -- all calls are out in the end
-  pub out-all : (i k : ℕ) (r : Resource) → k < i → feet k r ≡ true → out feet (down_from i) r ≡ true
+  pub out-all : (i k : ℕ) (r : Resource) → k < i → footprints k r ≡ true → out footprints (down_from i) r ≡ true
   out-all zero k r low e = absurd (omega (arith, low))
   out-all (suc i) k r low e = by_last (cases_lt k i) (λ below. out-all i k r below e)
     where
@@ -148,12 +148,12 @@ module _ (m : State) (calls : List Call) (feet : ℕ → Resources) (are : AreFe
       or-second true b e = refl
       or-second false b e = e
 
-      by_last : ((k < i) ⊎ (i ≤ k)) → (k < i → out feet (down_from i) r ≡ true) → (feet i r || out feet (down_from i) r) ≡ true
-      by_last (inl below) rest = or-second (feet i r) (out feet (down_from i) r) (rest below)
-      by_last (inr past) rest = let same : k ≡ i = omega (arith, low, past) in let t : feet i r ≡ true = subst (λ n. feet n r ≡ true) same e in rw t refl
+      by_last : ((k < i) ⊎ (i ≤ k)) → (k < i → out footprints (down_from i) r ≡ true) → (footprints i r || out footprints (down_from i) r) ≡ true
+      by_last (inl below) rest = or-second (footprints i r) (out footprints (down_from i) r) (rest below)
+      by_last (inr past) rest = let same : k ≡ i = omega (arith, low, past) in let t : footprints i r ≡ true = subst (λ n. footprints n r ≡ true) same e in rw t refl
 
   -- what a call may touch is here
-  pub here-before : (i : ℕ) (h : Held) (r : Resource) → i < length calls → IsRest m feet (down_from i) h → feet i r ≡ true → IsSome (held_at h r)
+  pub here-before : (i : ℕ) (h : Held) (r : Resource) → i < length calls → IsRest m footprints (down_from i) h → footprints i r ≡ true → IsSome (held_at h r)
   here-before i h r low left e =
       some-held (held_at h r) (left.parts r ∙ rw (out-earlier i i r (omega arith) low e, are.exist i low r e) refl)
     where
@@ -174,51 +174,51 @@ pub wave-length : (calls : List Call) (members : List ℕ) → length (wave_call
 wave-length calls [] = refl
 wave-length calls (k ∷ members) = ap suc (wave-length calls members)
 
-module _ (m : State) (calls : List Call) (feet : ℕ → Resources) (members : List ℕ) (wave : IsWave m calls feet members) where
+module _ (m : State) (calls : List Call) (footprints : ℕ → Resources) (members : List ℕ) (wave : IsWave m calls footprints members) where
   pub low-in : (i : ℕ) → i < length members → i < length (wave_calls calls members)
   low-in i low = rw (wave-length calls members) low
 
-  pub here-wave : (i : ℕ) (h : Held) (wanted : List Resource) → i < length members → ((r : Resource) → is_wanted wanted r ≡ feet_at feet members i r) → IsRest m (feet_at feet members) (down_from i) h → AreHere h wanted
-  here-wave i h wanted low is left r e = here-before m (wave_calls calls members) (feet_at feet members) wave.feet_are i h r (low-in i low) left (sym (is r) ∙ e)
+  pub here-wave : (i : ℕ) (h : Held) (wanted : List Resource) → i < length members → ((r : Resource) → is_wanted wanted r ≡ footprints_at footprints members i r) → IsRest m (footprints_at footprints members) (down_from i) h → AreHere h wanted
+  here-wave i h wanted low is left r e = here-before m (wave_calls calls members) (footprints_at footprints members) wave.apart i h r (low-in i low) left (sym (is r) ∙ e)
 
-  pub taken-wave : (i : ℕ) (h rest got : Held) → i < length members → IsRest m (feet_at feet members) (down_from i) h → IsSplit h (feet_at feet members i) rest got
-      → IsRestricted (state_at m (wave_calls calls members) i) (feet_at feet members i) got × IsRest m (feet_at feet members) (down_from (i + 1)) rest
+  pub taken-wave : (i : ℕ) (h rest got : Held) → i < length members → IsRest m (footprints_at footprints members) (down_from i) h → IsSplit h (footprints_at footprints members i) rest got
+      → IsRestricted (state_at m (wave_calls calls members) i) (footprints_at footprints members i) got × IsRest m (footprints_at footprints members) (down_from (i + 1)) rest
   taken-wave i h rest got low left split =
       let e : i + 1 ≡ suc i = omega arith in (
-        taken m (wave_calls calls members) (feet_at feet members) wave.lawful wave.feet_are (down_from i) i h rest got (low-in i low)
-            (λ r t. out-earlier m (wave_calls calls members) (feet_at feet members) wave.feet_are i i r (omega arith) (low-in i low) t) left split,
-        rw e (rest-left m (wave_calls calls members) (feet_at feet members) wave.lawful wave.feet_are (down_from i) i h rest got left split),
+        taken m (wave_calls calls members) (footprints_at footprints members) wave.lawful wave.apart (down_from i) i h rest got (low-in i low)
+            (λ r t. out-earlier m (wave_calls calls members) (footprints_at footprints members) wave.apart i i r (omega arith) (low-in i low) t) left split,
+        rw e (rest-left m (wave_calls calls members) (footprints_at footprints members) wave.lawful wave.apart (down_from i) i h rest got left split),
       )
 
   -- so a task of it can be done
-  pub able-at : (i : ℕ) (task : Task) → i < length members → IsTaskAt m calls feet members i task → IsTaskOf m.config calls task
+  pub able-at : (i : ℕ) (task : Task) → i < length members → IsTaskAt m calls footprints members i task → IsTaskOf m.config calls task
   able-at i task low at = record {
     within = rw at.number (wave.within i low);
     able =
         subst (λ call. IsAble m.config task.parts call) (sym (ap (call_at calls) at.number ∙ sym (wave-call calls members i low)))
-        (subst (λ config. IsAble config task.parts (call_at (wave_calls calls members) i)) (config-at m (wave_calls calls members) (feet_at feet members) wave.lawful wave.feet_are i)
-        (able-cut (state_at m (wave_calls calls members) i) (feet_at feet members i) task.parts (call_at (wave_calls calls members) i)
+        (subst (λ config. IsAble config task.parts (call_at (wave_calls calls members) i)) (config-at m (wave_calls calls members) (footprints_at footprints members) wave.lawful wave.apart i)
+        (able-cut (state_at m (wave_calls calls members) i) (footprints_at footprints members i) task.parts (call_at (wave_calls calls members) i)
         (lawful-at m (wave_calls calls members) wave.lawful i (let l = low-in i low in omega (arith, l)))
-        (closed-at m (wave_calls calls members) (feet_at feet members) wave.lawful wave.feet_are i (low-in i low))
-        at.parts (needs-at m (wave_calls calls members) (feet_at feet members) wave.lawful wave.feet_are i (low-in i low))));
+        (closed-at m (wave_calls calls members) (footprints_at footprints members) wave.lawful wave.apart i (low-in i low))
+        at.parts (needs-at m (wave_calls calls members) (footprints_at footprints members) wave.lawful wave.apart i (low-in i low))));
   }
 
   -- and what it leaves is what the call leaves
-  pub finished-at : (i : ℕ) (task : Task) (done : Finished) → i < length members → IsTaskAt m calls feet members i task → Finishes m.config calls task done → IsFinishedAt m calls feet members i done
+  pub finished-at : (i : ℕ) (task : Task) (done : Finished) → i < length members → IsTaskAt m calls footprints members i task → Finishes m.config calls task done → IsFinishedAt m calls footprints members i done
   finished-at i task done low at answers =
       let s : State = state_at m (wave_calls calls members) i in
       let call : Call = call_at (wave_calls calls members) i in
       let lawful : IsLawful s = lawful-at m (wave_calls calls members) wave.lawful i (let l = low-in i low in omega (arith, l)) in
-      let closed = closed-at m (wave_calls calls members) (feet_at feet members) wave.lawful wave.feet_are i (low-in i low) in
-      let needs = needs-at m (wave_calls calls members) (feet_at feet members) wave.lawful wave.feet_are i (low-in i low) in
+      let closed = closed-at m (wave_calls calls members) (footprints_at footprints members) wave.lawful wave.apart i (low-in i low) in
+      let needs = needs-at m (wave_calls calls members) (footprints_at footprints members) wave.lawful wave.apart i (low-in i low) in
       let is : call_at calls task.number ≡ call = ap (call_at calls) at.number ∙ sym (wave-call calls members i low) in
       let answer : IsAnswer s.config task.parts done.left.parts call done.reply =
-      subst (λ config. IsAnswer config task.parts done.left.parts call done.reply) (sym (config-at m (wave_calls calls members) (feet_at feet members) wave.lawful wave.feet_are i))
+      subst (λ config. IsAnswer config task.parts done.left.parts call done.reply) (sym (config-at m (wave_calls calls members) (footprints_at footprints members) wave.lawful wave.apart i))
       (subst (λ call. IsAnswer m.config task.parts done.left.parts call done.reply) is answers.answer) in
       record {
         number = answers.number ∙ at.number;
-        reply = reply-is s (feet_at feet members i) task.parts done.left.parts call done.reply lawful closed at.parts needs answer;
-        parts = restricted-after s (feet_at feet members i) task.parts done.left.parts call done.reply lawful closed at.parts needs answer;
+        reply = reply-is s (footprints_at footprints members i) task.parts done.left.parts call done.reply lawful closed at.parts needs answer;
+        parts = restricted-after s (footprints_at footprints members i) task.parts done.left.parts call done.reply lawful closed at.parts needs answer;
       }
 
 -- what stands in a list doesn't rest on what is said where there is nothing

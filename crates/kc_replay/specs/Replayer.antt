@@ -4,6 +4,8 @@ use Rattle.kc_types.specs.declared.call.Call.{Call}
 use Rattle.kc_types.specs.declared.reply.Reply.{Reply}
 use Rattle.kc_model.specs.State.{State}
 use Rattle.kc_model.specs.Next.{replies_from, state_after}
+use Rattle.kc_model.specs.Blind.{ShowsNothing}
+use Rattle.kc_replay.specs.declared.segment.Outcome.{Outcome}
 
 -- the state that the calls so far left, none after a segment that failed, how many calls came, and how many workers may take them
 pub record Replaying : Type 0 where
@@ -19,6 +21,12 @@ pub record IsFed (before after : Replaying) (calls : List Call) (replies : List 
   pub state : after.state ≡ Some (state_after start calls)
   pub fed : after.fed ≡ before.fed + length calls
   pub workers : after.workers ≡ before.workers
+
+-- the replies and the core are those of one thread that takes the calls in order, and neither shows what no VM granted
+pub record IsReplayOf (m : State) (calls : List Call) (outcome : Outcome) : Type 0 where
+  pub replies : outcome.replies.items ≡ replies_from m calls
+  pub state : outcome.core ≡ state_after m calls
+  pub blind : ShowsNothing m calls outcome.replies.items outcome.core
 
 -- the replies to segments in turn, joined
 unfoldable pub replies_to_each : State → List (List Call) → List Reply

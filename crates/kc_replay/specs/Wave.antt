@@ -16,26 +16,27 @@ use Rattle.kc_vms.specs.Vm.{VmSlot}
 use Rattle.kc_page.specs.declared.page.Page.{Page}
 use Rattle.kc_parts.specs.Parts.{Held, HasPlace, page_at, vm_at}
 use Rattle.kc_parts.specs.Restricted.{seen_at, exists_in, IsRestricted}
+use Rattle.kc_replay.specs.declared.crew.WaveCalls.{WaveCalls}
 use Rattle.kc_replay.specs.declared.task.Task.{Task}
 use Rattle.kc_replay.specs.declared.task.Finished.{Finished}
 use Rattle.std.specs.List.Sorted.{IsPermutation}
 
--- each call of a wave has a foot that holds what it needs, and no two feet share a resource
-pub record AreFeet (m : State) (calls : List Call) (feet : ℕ → Resources) : Type 0 where
-  pub needs : (k : ℕ) → k < length calls → IsWithin (need m (call_at calls k)) (feet k)
-  pub exist : (k : ℕ) → k < length calls → IsWithin (feet k) (exists_in m.config)
-  -- a foot has no list but those that its call needs
-  pub slots : (k v : ℕ) → k < length calls → feet k (resource.Vm v) ≡ true → need m (call_at calls k) (resource.Vm v) ≡ true
-  pub free : (k : ℕ) → k < length calls → feet k resource.Free ≡ true → need m (call_at calls k) resource.Free ≡ true
-  pub apart : (j k : ℕ) (r : Resource) → j < length calls → k < length calls → j ≢ k → feet j r ≡ true → feet k r ≡ true → ⊥
+-- each call of a wave has a footprint that holds what it needs, and no two footprints share a resource
+pub record AreApart (m : State) (calls : List Call) (footprints : ℕ → Resources) : Type 0 where
+  pub needs : (k : ℕ) → k < length calls → IsWithin (need m (call_at calls k)) (footprints k)
+  pub exist : (k : ℕ) → k < length calls → IsWithin (footprints k) (exists_in m.config)
+  -- a footprint has no list but those that its call needs
+  pub slots : (k v : ℕ) → k < length calls → footprints k (resource.Vm v) ≡ true → need m (call_at calls k) (resource.Vm v) ≡ true
+  pub free : (k : ℕ) → k < length calls → footprints k resource.Free ≡ true → need m (call_at calls k) resource.Free ≡ true
+  pub apart : (j k : ℕ) (r : Resource) → j < length calls → k < length calls → j ≢ k → footprints j r ≡ true → footprints k r ≡ true → ⊥
 
 -- one of the calls may touch the resource
 abbrev pub out : (ℕ → Resources) → List ℕ → Resources
-out feet ks r = list_any (λ k. feet k r) ks
+out footprints ks r = list_any (λ k. footprints k r) ks
 
 -- the store lacks what the calls may touch, and has all else of the state
-pub record IsRest (m : State) (feet : ℕ → Resources) (ks : List ℕ) (h : Held) : Type 0 where
-  pub parts : (r : Resource) → seen_at h r ≡ cond (out feet ks r) None (cond (exists_in m.config r) (Some (linked_part_of m r)) None)
+pub record IsRest (m : State) (footprints : ℕ → Resources) (ks : List ℕ) (h : Held) : Type 0 where
+  pub parts : (r : Resource) → seen_at h r ≡ cond (out footprints ks r) None (cond (exists_in m.config r) (Some (linked_part_of m r)) None)
   pub capacities : (v : ℕ) (vm : VmSlot) → vm_at h v ≡ Some vm → vm.capacity ≡ m.config.leaves
 
 -- the store has a place for all of the configuration
@@ -47,26 +48,30 @@ pub record HasPlaces (config : Configuration) (h : Held) : Type 0 where
 pub record Wave : Type 0 where
   pub start : State
   pub calls : List Call
-  pub feet : ℕ → Resources
+  pub footprints : ℕ → Resources
   pub members : List ℕ
 
 -- the calls of the wave
 abbrev pub wave_calls : List Call → List ℕ → List Call
 wave_calls calls members = map (λ k. call_at calls k) members
 
--- the foot of each call of a trace
-abbrev pub foot_of : Rows → ℕ → Resources
-foot_of feet k r = row_touches feet.sets (row_at feet k) r
+-- the footprint of each call of a trace
+abbrev pub footprint_of : Rows → ℕ → Resources
+footprint_of footprints k r = row_touches footprints.sets (row_at footprints k) r
 
--- the foot of the wave's i-th call
-abbrev pub feet_at : (ℕ → Resources) → List ℕ → ℕ → Resources
-feet_at feet members i = feet (slice_index_or members i 0)
+-- the wave that starts in a state
+abbrev pub wave_from : State → WaveCalls → Wave
+wave_from m given = record { start = m; calls = given.calls.now; footprints = footprint_of given.footprints.now; members = given.members.now }
+
+-- the footprint of the wave's i-th call
+abbrev pub footprints_at : (ℕ → Resources) → List ℕ → ℕ → Resources
+footprints_at footprints members i = footprints (slice_index_or members i 0)
 
 -- what is known of a wave that starts in a state
-pub record IsWave (m : State) (calls : List Call) (feet : ℕ → Resources) (members : List ℕ) : Type 0 where
+pub record IsWave (m : State) (calls : List Call) (footprints : ℕ → Resources) (members : List ℕ) : Type 0 where
   pub lawful : IsLawful m
   pub within : (i : ℕ) → i < length members → slice_index_or members i 0 < length calls
-  pub feet_are : AreFeet m (wave_calls calls members) (feet_at feet members)
+  pub apart : AreApart m (wave_calls calls members) (footprints_at footprints members)
   -- no call stands twice
   pub once : (i j : ℕ) → i < length members → j < length members → i ≢ j → slice_index_or members i 0 ≢ slice_index_or members j 0
 
@@ -75,15 +80,15 @@ abbrev pub down_from : ℕ → List ℕ
 down_from zero = []
 down_from (suc i) = i ∷ down_from i
 
-pub record IsTaskAt (m : State) (calls : List Call) (feet : ℕ → Resources) (members : List ℕ) (i : ℕ) (task : Task) : Type 0 where
+pub record IsTaskAt (m : State) (calls : List Call) (footprints : ℕ → Resources) (members : List ℕ) (i : ℕ) (task : Task) : Type 0 where
   pub within : i < length members
   pub number : task.number ≡ slice_index_or members i 0
-  pub parts : IsRestricted (state_at m (wave_calls calls members) i) (feet_at feet members i) task.parts
+  pub parts : IsRestricted (state_at m (wave_calls calls members) i) (footprints_at footprints members i) task.parts
 
-pub record IsFinishedAt (m : State) (calls : List Call) (feet : ℕ → Resources) (members : List ℕ) (i : ℕ) (done : Finished) : Type 0 where
+pub record IsFinishedAt (m : State) (calls : List Call) (footprints : ℕ → Resources) (members : List ℕ) (i : ℕ) (done : Finished) : Type 0 where
   pub number : done.left.number ≡ slice_index_or members i 0
   pub reply : done.reply ≡ reply_at m (wave_calls calls members) i
-  pub parts : IsRestricted (state_at m (wave_calls calls members) (suc i)) (feet_at feet members i) done.left.parts
+  pub parts : IsRestricted (state_at m (wave_calls calls members) (suc i)) (footprints_at footprints members i) done.left.parts
 
 -- the wave's calls have their replies, and all else is as before
 pub record AreReplied (m : State) (calls : List Call) (members : List ℕ) (old new : List Reply) : Type 0 where

@@ -21,10 +21,10 @@ fn numbers_of(alloc: Global, cards: Vec<(usize, usize)>) -> Result<Vec<usize>, M
 pub(crate) fn deal(alloc: Global, members: &[usize], workers: usize) -> Result<Vec<usize>, Memory>
     ensures { IfOk result (λ dealt. IsPermutation members.now dealt.items) }
 {
-    let hands = workers.max(1);
+    let workers = workers.max(1);
     let mut cards = Vec::with_capacity(alloc, members.len())?;
     for place in 0..members.len() {
-        cards.push((place % hands, members[place]))?;
+        cards.push((place % workers, members[place]))?;
     }
     cards.sort_by_key(|card| card.0)?;
     numbers_of(alloc, cards)

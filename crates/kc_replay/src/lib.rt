@@ -3,6 +3,7 @@
 #![tactic(auto)]
 
 mod budget;
+mod crew;
 mod deal;
 mod failed;
 mod fault;

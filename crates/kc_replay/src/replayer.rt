@@ -12,6 +12,7 @@ ghost use Rattle.kc_replay.specs.declared.fault.ReplayFault.TheVariants.{BadWork
 
 use crate::Gate;
 use crate::budget::Budget;
+use crate::crew::Crew;
 use crate::fault::ReplayFault;
 use crate::segment::{Outcome, answer_segment};
 use kc_core::KCore;
@@ -145,15 +146,13 @@ impl Replayer {
             gate,
             fed: self.fed,
         };
-        match answer_segment(
+        let crew = Crew {
             rt,
             alloc,
-            core,
-            calls,
-            self.workers,
-            &gate,
-            &mut self.budget,
-        ) {
+            gate: &gate,
+            workers: self.workers,
+        };
+        match answer_segment(&crew, core, calls, &mut self.budget) {
             Ok(outcome) => {
                 let Outcome { replies, core } = outcome;
                 self.core = Some(core);

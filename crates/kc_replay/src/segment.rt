@@ -3,17 +3,18 @@ ghost use Rattle.std.specs.Prelude.{◌≡◌, ◌≢◌, ℕ, ◌<◌, ◌≤�
 ghost use Rattle.std.specs.List.Sorted.{IsPermutation};
 ghost use Rattle.kc_types.specs.Limits.{call_limit};
 ghost use Rattle.kc_model.specs.Safety.{IsSafe};
-ghost use Rattle.kc_model.specs.Blind.{ShowsNothing};
 ghost use Rattle.kc_model.specs.Lawful.{IsLawful};
 ghost use Rattle.kc_model.specs.Next.{replies_from, state_after};
 ghost use Rattle.kc_model.specs.Footprints.{state_at};
 ghost use Rattle.kc_footprints.specs.Footprints.{AreFootprints};
 ghost use Rattle.kc_replay.specs.declared.fault.ReplayFault.TheVariants.{Start};
-ghost use Rattle.kc_replay.specs.Wave.{IsWave, IsWaveTaken, IsWiped, AreReplied, wave_calls, foot_of};
+ghost use Rattle.kc_replay.specs.Replayer.{IsReplayOf};
+ghost use Rattle.kc_replay.specs.Wave.{IsWave, IsWaveTaken, IsWiped, AreReplied, wave_calls, footprint_of};
 ghost use Rattle.kc_footprints.specs.Plan.{AreCallNumbers};
 
 use crate::Gate;
 use crate::budget::Budget;
+use crate::crew::{Crew, WaveCalls};
 use crate::deal::deal;
 use crate::failed::Failed;
 use crate::trace::footprints;
@@ -58,28 +59,22 @@ fn answer_wave<G: Gate>(
 
 /// Makes the calls of a wave by workers.
 fn share_wave<R: Threads + Wait + Sync, G: Gate + Sync>(
-    rt: &R,
-    alloc: Global,
+    crew: &Crew<R, G>,
     core: KCore,
-    calls: &[Call],
-    feet: &Footprints,
-    members: &[usize],
+    wave: &WaveCalls,
     workers: usize,
     replies: &mut [Reply],
-    gate: &G,
 ) -> Result<KCore, Failed>
-    requires wave { IsWave core calls.now (foot_of feet.now) members.now }
-    requires rows { length feet.now.rows ≡ length calls.now }
-    requires long { length replies.old ≡ length calls.now }
-    ensures replies { OnOk result (AreReplied core calls.now members.now replies.old replies.new) }
-    ensures state { IfOk result (λ left. left ≡ state_at core (wave_calls calls.now members.now) (length members.now)) }
+    requires wave { IsWave core wave.now.calls.now (footprint_of wave.now.footprints.now) wave.now.members.now }
+    requires rows { length wave.now.footprints.now.rows ≡ length wave.now.calls.now }
+    requires long { length replies.old ≡ length wave.now.calls.now }
+    ensures replies { OnOk result (AreReplied core wave.now.calls.now wave.now.members.now replies.old replies.new) }
+    ensures state { IfOk result (λ left. left ≡ state_at core (wave_calls wave.now.calls.now wave.now.members.now) (length wave.now.members.now)) }
     ensures wiped { IfErr result (λ failed. IsWiped core.config failed.left) }
 {
     let (config, mut parts) = core.into_parts();
-    match run_wave(
-        rt, alloc, &config, &mut parts, calls, feet, members, workers, replies, gate,
-    ) {
-        Ok(()) => Ok(KCore::from_parts(alloc, config, parts)),
+    match run_wave(crew, &config, &mut parts, wave, workers, replies) {
+        Ok(()) => Ok(KCore::from_parts(crew.alloc, config, parts)),
         Err(fault) => Err(Failed { fault, left: parts }),
     }
 }
@@ -121,21 +116,21 @@ struct Work {
 }
 
 impl Work {
-    fn of(core: &KCore, calls: &[Call], feet: &Footprints, members: &[usize]) -> Work
-        requires members { AreCallNumbers (length calls.now) members.now }
-        requires rows { length feet.now.rows ≡ length calls.now }
+    fn of(core: &KCore, wave: &WaveCalls) -> Work
+        requires members { AreCallNumbers (length wave.now.calls.now) wave.now.members.now }
+        requires rows { length wave.now.footprints.now.rows ≡ length wave.now.calls.now }
     {
         let mut hashing: usize = 0;
         let mut frames: u32 = 0;
         let mut longest = 0;
         let mut parts: u32 = 0;
-        for place in 0..members.len() {
-            let number = members[place];
-            let one = hashed(core, &calls[number]);
+        for place in 0..wave.members.len() {
+            let number = wave.members[place];
+            let one = hashed(core, &wave.calls[number]);
             hashing = hashing.saturating_add(usize::from(one > 0));
             frames = frames.saturating_add(one);
             longest = longest.max(one);
-            parts = parts.saturating_add(feet.count_at_most(number));
+            parts = parts.saturating_add(wave.footprints.count_at_most(number));
         }
         Work {
             hashing,
@@ -159,51 +154,40 @@ impl Work {
 
 /// Makes the calls of a wave: by workers where a call may wait for another, or where that is worth it.
 fn take_wave<R: Threads + Wait + Sync, G: Gate + Sync>(
-    rt: &R,
-    alloc: Global,
+    crew: &Crew<R, G>,
     core: KCore,
-    calls: &[Call],
-    feet: &Footprints,
-    members: &[usize],
-    workers: usize,
+    wave: &WaveCalls,
     replies: &mut [Reply],
-    gate: &G,
     budget: &mut Budget,
 ) -> Result<KCore, Failed>
-    requires wave { (order : List ℕ) → IsPermutation members.now order → IsWave core calls.now (foot_of feet.now) order }
-    requires rows { length feet.now.rows ≡ length calls.now }
-    requires members { AreCallNumbers (length calls.now) members.now }
-    requires long { length replies.old ≡ length calls.now }
-    ensures taken { IfOk result (IsWaveTaken core calls.now members.now replies.old replies.new) }
+    requires wave { (order : List ℕ) → IsPermutation wave.now.members.now order → IsWave core wave.now.calls.now (footprint_of wave.now.footprints.now) order }
+    requires rows { length wave.now.footprints.now.rows ≡ length wave.now.calls.now }
+    requires members { AreCallNumbers (length wave.now.calls.now) wave.now.members.now }
+    requires long { length replies.old ≡ length wave.now.calls.now }
+    ensures taken { IfOk result (IsWaveTaken core wave.now.calls.now wave.now.members.now replies.old replies.new) }
     ensures wiped { IfErr result (λ failed. IsWiped core.config failed.left) }
 {
-    let work = Work::of(&core, calls, feet, members);
-    let worth = if gate.may_wait() {
-        members.len()
+    let work = Work::of(&core, wave);
+    let worth = if crew.gate.may_wait() {
+        wave.members.len()
     } else {
         work.threads(core.config().frames())
     };
-    let hands = workers.min(worth);
-    if hands > 1 {
+    let workers = crew.workers.min(worth);
+    if workers > 1 {
         budget.add_frames(work.frames);
-        let Ok(dealt) = deal(alloc, members, hands) else {
-            return Err(Failed::for_memory(rt, core));
+        let Ok(dealt) = deal(crew.alloc, wave.members, workers) else {
+            return Err(Failed::for_memory(crew.rt, core));
         };
-        return share_wave(
-            rt,
-            alloc,
-            core,
-            calls,
-            feet,
-            dealt.as_slice(),
-            hands,
-            replies,
-            gate,
-        );
+        let dealt = WaveCalls {
+            members: dealt.as_slice(),
+            ..*wave
+        };
+        return share_wave(crew, core, &dealt, workers, replies);
     }
     let mut core = core;
-    if answer_wave(&mut core, calls, members, replies, gate).is_err() {
-        return Err(Failed::for_memory(rt, core));
+    if answer_wave(&mut core, wave.calls, wave.members, replies, crew.gate).is_err() {
+        return Err(Failed::for_memory(crew.rt, core));
     }
     Ok(core)
 }
@@ -219,43 +203,58 @@ fn no_replies(alloc: Global, count: usize) -> Result<Vec<Reply>, Memory>
     Ok(replies)
 }
 
+/// What waves need before their first call: the footprints, the plan, and room for the replies.
+#[derive(Drop)]
+struct Prepared {
+    footprints: Footprints,
+    plan: Plan,
+    replies: Vec<Reply>,
+}
+
+fn prepare(alloc: Global, core: &KCore, calls: &[Call]) -> Result<Prepared, Memory>
+    requires { length calls.now ≤ call_limit }
+    ensures footprints { IfOk result (λ prepared. AreFootprints core.now calls.now prepared.footprints) }
+    ensures plan { IfOk result (λ prepared. prepared.plan ≡ prepared.footprints.waves) }
+    ensures long { IfOk result (λ prepared. length prepared.replies.items ≡ length calls.now) }
+{
+    let footprints = footprints(alloc, core, calls)?;
+    let plan = Plan::make(alloc, &footprints)?;
+    let replies = no_replies(alloc, calls.len())?;
+    Ok(Prepared {
+        footprints,
+        plan,
+        replies,
+    })
+}
+
 /// Makes some calls, wave after wave.
 fn replay_waves<R: Threads + Wait + Sync, G: Gate + Sync>(
-    rt: &R,
-    alloc: Global,
+    crew: &Crew<R, G>,
     core: KCore,
     calls: &[Call],
-    feet: &Footprints,
-    plan: &Plan,
-    workers: usize,
-    mut replies: Vec<Reply>,
-    gate: &G,
+    prepared: Prepared,
     budget: &mut Budget,
 ) -> Result<Outcome, Failed>
     requires lawful { IsLawful core }
-    requires feet { AreFootprints core calls.now feet.now }
-    requires plan { plan.now ≡ feet.now.waves }
-    requires long { length replies.items ≡ length calls.now }
-    ensures blind { IfOk result (λ outcome. ShowsNothing core calls.now outcome.replies.items outcome.core) }
-    ensures replies { IfOk result (λ outcome. outcome.replies.items ≡ replies_from core calls.now) }
-    ensures state { IfOk result (λ outcome. outcome.core ≡ state_after core calls.now) }
+    requires footprints { AreFootprints core calls.now prepared.footprints }
+    requires plan { prepared.plan ≡ prepared.footprints.waves }
+    requires long { length prepared.replies.items ≡ length calls.now }
+    ensures replayed { IfOk result (IsReplayOf core calls.now) }
     ensures wiped { IfErr result (λ failed. IsWiped core.config failed.left) }
 {
+    let Prepared {
+        footprints,
+        plan,
+        mut replies,
+    } = prepared;
     let mut store = core;
     for done in 0..plan.waves() {
-        let members = plan.calls_in(done + 1);
-        store = take_wave(
-            rt,
-            alloc,
-            store,
+        let wave = WaveCalls {
             calls,
-            feet,
-            members,
-            workers,
-            &mut replies,
-            gate,
-            budget,
-        )?;
+            footprints: &footprints,
+            members: plan.calls_in(done + 1),
+        };
+        store = take_wave(crew, store, &wave, &mut replies, budget)?;
     }
     Ok(Outcome {
         replies,
@@ -263,58 +262,22 @@ fn replay_waves<R: Threads + Wait + Sync, G: Gate + Sync>(
     })
 }
 
-/// What waves need before their first call: the footprints, the plan, and room for the replies.
-#[derive(Drop)]
-struct Prepared {
-    feet: Footprints,
-    plan: Plan,
-    replies: Vec<Reply>,
-}
-
-fn prepare(alloc: Global, core: &KCore, calls: &[Call]) -> Result<Prepared, Memory>
-    requires { length calls.now ≤ call_limit }
-    ensures feet { IfOk result (λ prepared. AreFootprints core.now calls.now prepared.feet) }
-    ensures plan { IfOk result (λ prepared. prepared.plan ≡ prepared.feet.waves) }
-    ensures long { IfOk result (λ prepared. length prepared.replies.items ≡ length calls.now) }
-{
-    let feet = footprints(alloc, core, calls)?;
-    let plan = Plan::make(alloc, &feet)?;
-    let replies = no_replies(alloc, calls.len())?;
-    Ok(Prepared {
-        feet,
-        plan,
-        replies,
-    })
-}
-
 /// Makes some calls by workers. Where that fails all pages are wiped.
 fn answer_by_waves<R: Threads + Wait + Sync, G: Gate + Sync>(
-    rt: &R,
-    alloc: Global,
+    crew: &Crew<R, G>,
     core: KCore,
     calls: &[Call],
-    workers: usize,
-    gate: &G,
     budget: &mut Budget,
 ) -> Result<Outcome, Failed>
     requires lawful { IsLawful core }
     requires short { length calls.now ≤ call_limit }
-    ensures blind { IfOk result (λ outcome. ShowsNothing core calls.now outcome.replies.items outcome.core) }
-    ensures replies { IfOk result (λ outcome. outcome.replies.items ≡ replies_from core calls.now) }
-    ensures state { IfOk result (λ outcome. outcome.core ≡ state_after core calls.now) }
+    ensures replayed { IfOk result (IsReplayOf core calls.now) }
     ensures wiped { IfErr result (λ failed. IsWiped core.config failed.left) }
 {
-    let Ok(prepared) = prepare(alloc, &core, calls) else {
-        return Err(Failed::for_memory(rt, core));
+    let Ok(prepared) = prepare(crew.alloc, &core, calls) else {
+        return Err(Failed::for_memory(crew.rt, core));
     };
-    let Prepared {
-        feet,
-        plan,
-        replies,
-    } = prepared;
-    replay_waves(
-        rt, alloc, core, calls, &feet, &plan, workers, replies, gate, budget,
-    )
+    replay_waves(crew, core, calls, prepared, budget)
 }
 
 /// Makes some calls in their order, and tells the gate of each.
@@ -340,23 +303,19 @@ fn answer_each<G: Gate>(
 
 /// Makes some calls in their order, on this thread. Where that fails all pages are wiped.
 fn answer_in_order<R: Threads + Sync, G: Gate>(
-    rt: &R,
-    alloc: Global,
+    crew: &Crew<R, G>,
     core: KCore,
     calls: &[Call],
-    gate: &G,
 ) -> Result<Outcome, Failed>
     requires lawful { IsLawful core }
-    ensures blind { IfOk result (λ outcome. ShowsNothing core calls.now outcome.replies.items outcome.core) }
-    ensures replies { IfOk result (λ outcome. outcome.replies.items ≡ replies_from core calls.now) }
-    ensures state { IfOk result (λ outcome. outcome.core ≡ state_after core calls.now) }
+    ensures replayed { IfOk result (IsReplayOf core calls.now) }
     ensures wiped { IfErr result (λ failed. IsWiped core.config failed.left) }
     ensures alone { IfErr result (λ failed. failed.fault ≢ Start) }
 {
     let mut core = core;
-    match answer_each(alloc, &mut core, calls, gate) {
+    match answer_each(crew.alloc, &mut core, calls, crew.gate) {
         Ok(replies) => Ok(Outcome { replies, core }),
-        Err(_) => Err(Failed::for_memory(rt, core)),
+        Err(_) => Err(Failed::for_memory(crew.rt, core)),
     }
 }
 
@@ -383,26 +342,21 @@ fn is_planned<G: Gate>(core: &KCore, calls: &[Call], gate: &G, budget: &mut Budg
 /// a thread, since they hash frames, and a plan may be paid for. No other wave would start a thread, so no plan is made
 /// for it. Where that fails all pages are wiped.
 pub(crate) fn answer_segment<R: Threads + Wait + Sync, G: Gate + Sync>(
-    rt: &R,
-    alloc: Global,
+    crew: &Crew<R, G>,
     core: KCore,
     calls: &[Call],
-    workers: usize,
-    gate: &G,
     budget: &mut Budget,
 ) -> Result<Outcome, Failed>
     requires lawful { IsLawful core }
     requires short { length calls.now ≤ call_limit }
-    ensures blind { IfOk result (λ outcome. ShowsNothing core calls.now outcome.replies.items outcome.core) }
-    ensures replies { IfOk result (λ outcome. outcome.replies.items ≡ replies_from core calls.now) }
-    ensures state { IfOk result (λ outcome. outcome.core ≡ state_after core calls.now) }
+    ensures replayed { IfOk result (IsReplayOf core calls.now) }
     ensures wiped { IfErr result (λ failed. IsWiped core.config failed.left) }
     ensures safe { IsSafe core calls.now }
-    ensures started { IfErr result (λ failed. failed.fault ≡ Start → 1 < workers) }
+    ensures started { IfErr result (λ failed. failed.fault ≡ Start → 1 < crew.now.workers) }
 {
     budget.add_calls(calls.len());
-    if workers > 1 && calls.len() > 1 && is_planned(&core, calls, gate, budget) {
-        return answer_by_waves(rt, alloc, core, calls, workers, gate, budget);
+    if crew.workers > 1 && calls.len() > 1 && is_planned(&core, calls, crew.gate, budget) {
+        return answer_by_waves(crew, core, calls, budget);
     }
-    answer_in_order(rt, alloc, core, calls, gate)
+    answer_in_order(crew, core, calls)
 }

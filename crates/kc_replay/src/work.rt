@@ -7,6 +7,7 @@ ghost use Rattle.kc_types.specs.declared.call.Call.{Call};
 ghost use Rattle.kc_replay.specs.Working.{Finishes, AnswersAll, IsTaskOf, no_config};
 
 use crate::Gate;
+use crate::crew::Crew;
 use crate::fault::ReplayFault;
 use crate::task::{Finished, Task};
 use kc_core::apply;
@@ -107,21 +108,19 @@ fn join_lanes<R: Threads, S: Setting>(
 /// Has the calls of each lane made by a worker of its own, those of the last by the calling thread, and joins them all.
 /// `Start` where a worker could not be started, else `Memory` where a growth was refused.
 pub(crate) fn run_lanes<R: Threads + Wait + Sync, G: Gate + Sync>(
-    rt: &R,
-    alloc: Global,
+    crew: &Crew<R, G>,
     config: &Config,
     calls: &[Call],
     lanes: Vec<Vec<Task>>,
-    gate: &G,
 ) -> Result<Vec<Vec<Finished>>, ReplayFault>
     requires { All (λ lane. All (IsTaskOf config.now calls.now) lane.items) lanes.items }
     ensures { IfOk result (λ done. AllZip (λ lane f. AnswersAll config.now calls.now lane.items f.items) lanes.items done.items) }
 {
     let mut lanes = lanes;
     let Some(mine) = lanes.pop() else {
-        return Ok(Vec::new(alloc));
+        return Ok(Vec::new(crew.alloc));
     };
-    run_beside::<R, G, Brand>(rt, alloc, config, calls, lanes, mine, gate)
+    run_beside::<R, G, Brand>(crew, config, calls, lanes, mine)
 }
 
 /// Starts a worker for a lane of tasks.
@@ -146,19 +145,23 @@ fn start_lane<'s, E, G: Gate + Sync, S: Setting>(
 
 /// Has the calls of each lane made by a worker of its own, and those of one by the calling thread, and joins them all.
 fn run_beside<R: Threads + Wait + Sync, G: Gate + Sync, S: Setting>(
-    rt: &R,
-    alloc: Global,
+    crew: &Crew<R, G>,
     config: &Config,
     calls: &[Call],
     lanes: Vec<Vec<Task>>,
     mine: Vec<Task>,
-    gate: &G,
 ) -> Result<Vec<Vec<Finished>>, ReplayFault>
     requires setting { (S.config ≡ config.now) × (S.calls ≡ calls.now) }
     requires lanes { All (λ lane. All (IsTaskOf config.now calls.now) lane.items) lanes.items }
     requires mine { All (IsTaskOf config.now calls.now) mine.items }
     ensures { IfOk result (λ done. AllZip (λ lane f. AnswersAll config.now calls.now lane.items f.items) (lanes.items ++ mine ∷ []) done.items) }
 {
+    let Crew {
+        rt,
+        alloc,
+        gate,
+        workers: _,
+    } = *crew;
     let handles = Vec::with_capacity(alloc, lanes.len())?;
     let all = Vec::with_capacity(alloc, lanes.len() + 1)?;
     thread::scope(

@@ -10,65 +10,53 @@ use Rattle.kc_footprints.specs.Plan.{wave_of, highest, AreCallsOf}
 use Rattle.kc_footprints.specs.Footprints.{AreFootprints}
 use Rattle.kc_footprints.specs.Rows.{Rows}
 use Rattle.kc_footprints.proofs.Listing.{at_most}
-use Rattle.kc_replay.specs.Wave.{IsWiped, foot_of}
+use Rattle.kc_replay.specs.Wave.{IsWiped, footprint_of}
 use Rattle.kc_replay.proofs.Onward.{up-to-none, up-to-config, up-to-all, up-to-next, wave-next, written-whole}
 use Rattle.kc_replay.proofs.Dealing.{dealt-members}
 use Rattle.kc_replay.proofs.segment.replay_waves.Goals as goal
 
 -- the plan's waves are the longest chains
-longest : (m : State) (calls : List Call) (feet : Rows) (plan : List ℕ) → AreFootprints m calls feet → plan ≡ feet.waves → IsWaves m calls (wave_of plan)
-longest m calls feet plan are is = subst (λ (waves : List ℕ). IsWaves m calls (wave_of waves)) (sym is) are.waves
+longest : (m : State) (calls : List Call) (footprints : Rows) (plan : List ℕ) → AreFootprints m calls footprints → plan ≡ footprints.waves → IsWaves m calls (wave_of plan)
+longest m calls footprints plan are is = subst (λ (waves : List ℕ). IsWaves m calls (wave_of waves)) (sym is) are.waves
 
 -- the calls of a wave, in whatever order
-in-order : (m : State) (calls : List Call) (feet : Rows) (plan : List ℕ) (done : ℕ) (members order : List ℕ) → AreFootprints m calls feet → plan ≡ feet.waves → AreCallsOf (wave_of plan) (length plan) (done + 1) members → IsPermutation members order
+in-order : (m : State) (calls : List Call) (footprints : Rows) (plan : List ℕ) (done : ℕ) (members order : List ℕ) → AreFootprints m calls footprints → plan ≡ footprints.waves → AreCallsOf (wave_of plan) (length plan) (done + 1) members → IsPermutation members order
     → AreCallsOf (wave_of plan) (length calls) (suc done) order
-in-order m calls feet plan done members order are is of same =
+in-order m calls footprints plan done members order are is of same =
     let one : done + 1 ≡ suc done = omega arith in
     let count : length plan ≡ length calls = ap (λ (waves : List ℕ). length waves) is ∙ are.waves_count in
     dealt-members (wave_of plan) (length calls) (suc done) members order (subst (λ n. AreCallsOf (wave_of plan) n (suc done) members) count (subst (λ w. AreCallsOf (wave_of plan) (length plan) w members) one of)) same
 
 pub loop-done-init : goal.loop-done-init
 loop-done-init g c =
-    up-to-none c.args.core c.args.calls.now c.requires.lawful (wave_of c.args.plan.now) (longest c.args.core c.args.calls.now c.args.feet.now c.args.plan.now c.requires.feet c.requires.plan) c.args.replies.items c.requires.long
+    up-to-none c.args.core c.args.calls.now c.requires.lawful (wave_of c.args.prepared.plan) (longest c.args.core c.args.calls.now c.args.prepared.footprints c.args.prepared.plan c.requires.footprints c.requires.plan) c.args.prepared.replies.items c.requires.long
 
 pub take_wave-requires-clause-wave : goal.take_wave-requires-clause-wave
 take_wave-requires-clause-wave g c κs within order same =
-    let are = in-order c.args.core c.args.calls.now c.args.feet.now c.args.plan.now c.loop-done.done c.calls_in-members.result.now order c.requires.feet c.requires.plan c.calls_in-members.ensures.members same in
-    wave-next c.args.core c.args.calls.now c.requires.lawful (wave_of c.args.plan.now) (longest c.args.core c.args.calls.now c.args.feet.now c.args.plan.now c.requires.feet c.requires.plan) (foot_of c.args.feet.now) (λ k r low. c.requires.feet.touches k r low)
+    let are = in-order c.args.core c.args.calls.now c.args.prepared.footprints c.args.prepared.plan c.loop-done.done c.calls_in.result.now order c.requires.footprints c.requires.plan c.calls_in.ensures.members same in
+    wave-next c.args.core c.args.calls.now c.requires.lawful (wave_of c.args.prepared.plan) (longest c.args.core c.args.calls.now c.args.prepared.footprints c.args.prepared.plan c.requires.footprints c.requires.plan) (footprint_of c.args.prepared.footprints) (λ k r low. c.requires.footprints.touches k r low)
     c.loop-done.done c.loop-done.store c.loop-done.replies.items c.loop-done.invariant order are
 
 pub returns-in_err-store-clause-wiped : goal.returns-in_err-store-clause-wiped
 returns-in_err-store-clause-wiped g c =
     let made = err_from_is_err_and c.from_residual.result c.from_residual.ensures.1 in
-    let same = up-to-config c.args.core c.args.calls.now (wave_of c.args.plan.now) c.loop-done.done c.loop-done.store c.loop-done.replies.items c.loop-done.invariant in
+    let same = up-to-config c.args.core c.args.calls.now (wave_of c.args.prepared.plan) c.loop-done.done c.loop-done.store c.loop-done.replies.items c.loop-done.invariant in
     rw (made.1, made.2) (subst (λ (config : Configuration). IsWiped config c.in_err-store.field-0.0.left) same c.in_err-store.ensures.wiped)
 
 pub loop-done-preserved : goal.loop-done-preserved
 loop-done-preserved g c =
     let taken = rw c.deref_mut.ensures.value at c.in_ok-store.ensures.taken in
-    let are = in-order c.args.core c.args.calls.now c.args.feet.now c.args.plan.now c.loop-done.done c.calls_in-members.result.now taken.order c.requires.feet c.requires.plan c.calls_in-members.ensures.members taken.same in
+    let are = in-order c.args.core c.args.calls.now c.args.prepared.footprints c.args.prepared.plan c.loop-done.done c.calls_in.result.now taken.order c.requires.footprints c.requires.plan c.calls_in.ensures.members taken.same in
     let one : c.loop-done.done + 1 ≡ suc c.loop-done.done = omega arith in
     let size : c.loop-done.replies.len ≡ length c.take_wave.new.replies = search rules in
     rw (one, written-whole c.take_wave.new.replies c.loop-done.replies.items c.loop-done.replies.len size)
-    (up-to-next c.args.core c.args.calls.now c.requires.lawful (wave_of c.args.plan.now) (longest c.args.core c.args.calls.now c.args.feet.now c.args.plan.now c.requires.feet c.requires.plan) (foot_of c.args.feet.now) (λ k r low. c.requires.feet.touches k r low)
+    (up-to-next c.args.core c.args.calls.now c.requires.lawful (wave_of c.args.prepared.plan) (longest c.args.core c.args.calls.now c.args.prepared.footprints c.args.prepared.plan c.requires.footprints c.requires.plan) (footprint_of c.args.prepared.footprints) (λ k r low. c.requires.footprints.touches k r low)
     c.loop-done.done c.loop-done.store c.loop-done.replies.items c.loop-done.invariant taken.order are c.in_ok-store.store c.take_wave.new.replies taken.replied taken.state)
 
-pub returns-clause-replies : goal.returns-clause-replies
-returns-clause-replies g c =
-    let all : highest c.args.plan.now ≤ c.loop-done.done = search rules in
-    (up-to-all c.args.core c.args.calls.now c.requires.lawful (wave_of c.args.plan.now) (longest c.args.core c.args.calls.now c.args.feet.now c.args.plan.now c.requires.feet c.requires.plan) c.loop-done.done c.loop-done.store c.loop-done.replies.items
-    (λ k low. let last = at_most c.args.plan.now k in omega (arith, last, all)) c.loop-done.invariant).0
-
-pub returns-clause-state : goal.returns-clause-state
-returns-clause-state g c =
-    let all : highest c.args.plan.now ≤ c.loop-done.done = search rules in
-    (up-to-all c.args.core c.args.calls.now c.requires.lawful (wave_of c.args.plan.now) (longest c.args.core c.args.calls.now c.args.feet.now c.args.plan.now c.requires.feet c.requires.plan) c.loop-done.done c.loop-done.store c.loop-done.replies.items
-    (λ k low. let last = at_most c.args.plan.now k in omega (arith, last, all)) c.loop-done.invariant).1
-
-pub returns-clause-blind : goal.returns-clause-blind
-returns-clause-blind g c =
-    let all : highest c.args.plan.now ≤ c.loop-done.done = search rules in
+pub returns-clause-replayed : goal.returns-clause-replayed
+returns-clause-replayed g c =
+    let all : highest c.args.prepared.plan ≤ c.loop-done.done = search rules in
     let end =
-    up-to-all c.args.core c.args.calls.now c.requires.lawful (wave_of c.args.plan.now) (longest c.args.core c.args.calls.now c.args.feet.now c.args.plan.now c.requires.feet c.requires.plan) c.loop-done.done c.loop-done.store c.loop-done.replies.items
-    (λ k low. let last = at_most c.args.plan.now k in omega (arith, last, all)) c.loop-done.invariant in
-    shows_nothing c.args.core c.loop-done.store c.args.calls.now c.loop-done.replies.items c.requires.lawful end.0 end.1
+    up-to-all c.args.core c.args.calls.now c.requires.lawful (wave_of c.args.prepared.plan) (longest c.args.core c.args.calls.now c.args.prepared.footprints c.args.prepared.plan c.requires.footprints c.requires.plan) c.loop-done.done c.loop-done.store c.loop-done.replies.items
+    (λ k low. let last = at_most c.args.prepared.plan k in omega (arith, last, all)) c.loop-done.invariant in
+    record { replies = end.0; state = end.1; blind = shows_nothing c.args.core c.loop-done.store c.args.calls.now c.loop-done.replies.items c.requires.lawful end.0 end.1 }

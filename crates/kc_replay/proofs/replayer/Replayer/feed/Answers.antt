@@ -5,8 +5,8 @@ pub returns-in-Ok-clause-fed : goal.returns-in-Ok-clause-fed
 returns-in-Ok-clause-fed g c = record {
   start = c.in-Some.core;
   from = search rules;
-  given = c.in-Ok.ensures.replies;
-  state = ap Some c.in-Ok.ensures.state;
+  given = c.in-Ok.ensures.replayed.replies;
+  state = ap Some c.in-Ok.ensures.replayed.state;
   fed = search rules;
   workers = search rules;
 }
@@ -15,7 +15,7 @@ pub returns-in-Ok-clause-blind : goal.returns-in-Ok-clause-blind
 returns-in-Ok-clause-blind g c = λ start from.
     let before : c.args.self.now.state ≡ Some c.in-Some.core = search rules in
     let same : c.in-Some.core ≡ start = cc in
-    rw same at (rw c.in-Ok.ensures.state at c.in-Ok.ensures.blind)
+    rw same at (rw c.in-Ok.ensures.replayed.state at c.in-Ok.ensures.replayed.blind)
 
 pub returns-in-Ok-clause-safe : goal.returns-in-Ok-clause-safe
 returns-in-Ok-clause-safe g c = λ start from.
