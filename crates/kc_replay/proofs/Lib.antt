@@ -6,6 +6,6 @@ pub mod Putting
 pub mod Wiping
 pub mod Ready
 pub mod Onward
-pub mod Dealing
+pub mod Dealt
 pub mod Cutting
 pub mod Moving

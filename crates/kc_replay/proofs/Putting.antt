@@ -1,6 +1,6 @@
 -- What the calls of a wave left goes back into the store.
-use Rattle.std.proofs.Common.{ℕ, suc, ◌≡◌, ◌≢◌, ◌<◌, ◌≤◌, ◌+◌, ◌⊎◌, inl, inr, Bool, true, false, cond, nat_lt, List, [], ◌∷◌, ◌++◌, length, length-append, All, get_or, set, Option, Some, None, refl, sym, ap, ◌∙◌, subst, arith}
-use Rattle.std.specs.List.{AllZip, range_with_len}
+use Rattle.std.proofs.Common.{ℕ, suc, ◌≡◌, ◌≢◌, ◌<◌, ◌≤◌, ◌+◌, ◌⊎◌, inl, inr, Bool, true, false, cond, nat_lt, List, [], ◌∷◌, length, get_or, set, Option, Some, None, refl, sym, ap, ◌∙◌, subst, arith}
+use Rattle.std.specs.List.{range_with_len}
 use Rattle.std.specs.Option.{option_map}
 use Rattle.std.proofs.lemmas.Bool.{ltb-true, lt-ltb, cases_eq}
 use Rattle.std.proofs.lemmas.List.{get_or-set_same, get_or-set_other}
@@ -31,15 +31,12 @@ use Rattle.kc_parts.proofs.Places.{place-found}
 use Rattle.kc_core.specs.KCore.{IsCore}
 use Rattle.kc_model.proofs.States.Changes.{exists}
 use Rattle.kc_parts.specs.Restricted.{seen_part, exists_in, IsRestricted, IsClosed}
-use Rattle.kc_replay.specs.Wave.{IsRest, HasPlaces, down_from, wave_calls, footprints_at, IsWave, IsTaskAt, IsFinishedAt}
+use Rattle.kc_replay.specs.Wave.{IsRest, HasPlaces, down_from, wave_calls, footprints_at, IsWave, IsFinishedAt}
 use Rattle.kc_replay.specs.declared.task.Finished.{Finished}
 use Rattle.kc_model.proofs.Local.Orderly.{owned-is}
 use Rattle.kc_parts.proofs.Restricting.{linked-cut, state-cut, here-is}
 use Rattle.kc_replay.proofs.Apart.{config-at, all-out, back}
-use Rattle.kc_replay.proofs.Taking.{out-earlier, out-all, low-in, wave-length, range-more, able-at, finished-at}
-use Rattle.kc_replay.proofs.Zips.{zip_last, zip_get, zip_through}
-use Rattle.kc_replay.specs.Working.{IsTaskOf, Finishes, AnswersAll}
-use Rattle.kc_replay.specs.declared.task.Task.{Task}
+use Rattle.kc_replay.proofs.Taking.{out-earlier, out-all, low-in, wave-length}
 
 seen-none : (there : Option HeldPart) → option_map seen_part there ≡ None → there ≡ None
 seen-none None e = refl
@@ -176,32 +173,6 @@ module _ (m : State) (calls : List Call) (footprints : ℕ → Resources) (membe
       let end : State = state_at m (wave_calls calls members) (length (wave_calls calls members)) in
       subst (λ config. IsCore config h × (state_of config h ≡ end)) config-last
       (core-again end h lawful-last (record { parts = left.parts; capacities = left.capacities }) (subst (λ config. HasPlaces config h) (sym config-last) places))
-
--- one result fewer
-module _ (R : ℕ → Finished → Type 0) (all rest : List Finished) (one : Finished) (items : all ≡ rest ++ one ∷ []) (zip : AllZip R (range_with_len 0 (length all)) all) where
-  len-one : length all ≡ length rest + 1
-  len-one = ap length items ∙ length-append rest (one ∷ [])
-
-  pub popped : AllZip R (range_with_len 0 (length rest)) rest × R (length rest) one
-  popped =
-      zip_last R (range_with_len 0 (length rest)) rest (length rest) one
-      (subst (λ xs. AllZip R xs (rest ++ one ∷ [])) (range-more (length rest)) (subst (λ n. AllZip R (range_with_len 0 n) (rest ++ one ∷ [])) len-one (subst (λ xs. AllZip R (range_with_len 0 (length all)) xs) items zip)))
-
-  pub len-popped : length all ≡ length rest + 1
-  len-popped = len-one
-
-module _ (m : State) (calls : List Call) (footprints : ℕ → Resources) (members : List ℕ) (wave : IsWave m calls footprints members) (tasks : List Task) (zip : AllZip (IsTaskAt m calls footprints members) (range_with_len 0 (length members)) tasks) where
-  -- each task can be done
-  pub all-able : All (IsTaskOf m.config calls) tasks
-  all-able k d low =
-      let at = zip_get (IsTaskAt m calls footprints members) (range_with_len 0 (length members)) tasks zip k 0 d low in
-      able-at m calls footprints members wave (get_or (range_with_len 0 (length members)) k 0) (get_or tasks k d) at.within at
-
-  -- and what is left of each is what its call leaves
-  pub all-finished : (done : List Finished) → AnswersAll m.config calls tasks done → AllZip (IsFinishedAt m calls footprints members) (range_with_len 0 (length members)) done
-  all-finished done answers =
-      zip_through (IsTaskAt m calls footprints members) (Finishes m.config calls) (IsFinishedAt m calls footprints members)
-      (λ i task one at is. finished-at m calls footprints members wave i task one at.within at is) (range_with_len 0 (length members)) tasks done zip answers
 
 -- one more reply is written
 module _ (m : State) (calls : List Call) (footprints : ℕ → Resources) (members : List ℕ) (wave : IsWave m calls footprints members) (replies : List Reply) (j number : ℕ) (reply : Reply) (low : j < length members) (is : number ≡ get_or members j 0) (within : number < length replies) where

@@ -1,6 +1,5 @@
-use Rattle.std.proofs.Common.{ℕ, zero, suc, ◌≡◌, ◌<◌, ◌+◌, length, length-append, get_or, All, subst, arith, refl, ap, List, [], ◌∷◌, ◌++◌}
-use Rattle.std.specs.List.{AllZip, flat_map}
-use Rattle.std.proofs.lemmas.List.{get_or-append-add, get_or_append_left}
+use Rattle.std.proofs.Common.{ℕ, zero, suc, ◌≡◌, ◌<◌, length, get_or, arith, refl, ap, List, [], ◌∷◌, ◌++◌}
+use Rattle.std.specs.List.{AllZip}
 
 pub zip_push : {A B : Type 0} (R : A → B → Type 0) (xs : List A) (ys : List B) (x : A) (y : B) → AllZip R xs ys → R x y → AllZip R (xs ++ x ∷ []) (ys ++ y ∷ [])
 zip_push R [] [] x y h r = (r, tt)
@@ -38,21 +37,3 @@ zip_get R [] (y ∷ ys) h k a b low = absurd h
 zip_get R (x ∷ xs) [] h k a b low = absurd (omega (arith, low))
 zip_get R (x ∷ xs) (y ∷ ys) h zero a b low = h.0
 zip_get R (x ∷ xs) (y ∷ ys) h (suc k) a b low = zip_get R xs ys h.1 k a b (omega (arith, low))
-
--- what holds of lists joined holds of each
-pub all_lanes : {L A : Type 0} (f : L → List A) (P : A → Type 0) (ls : List L) → All P (flat_map f ls) → All (λ l. All P (f l)) ls
-all_lanes f P [] all k d low = absurd (omega (arith, low))
-all_lanes f P (l ∷ ls) all zero d low = λ i a below. subst P (get_or_append_left (f l) (flat_map f ls) a i below) (all i a (let len = length-append (f l) (flat_map f ls) in omega (arith, below, len)))
-all_lanes f P (l ∷ ls) all (suc k) d low = all_lanes f P ls (λ i a below. subst P (get_or-append-add (f l) (flat_map f ls) i a) (all (length (f l) + i) a (let len = length-append (f l) (flat_map f ls) in omega (arith, below, len)))) k d (omega (arith, low))
-
-zip_append : {A B : Type 0} (R : A → B → Type 0) (xs us : List A) (ys vs : List B) → AllZip R xs ys → AllZip R us vs → AllZip R (xs ++ us) (ys ++ vs)
-zip_append R [] us [] vs h k = k
-zip_append R [] us (y ∷ ys) vs h k = absurd h
-zip_append R (x ∷ xs) us [] vs h k = absurd h
-zip_append R (x ∷ xs) us (y ∷ ys) vs h k = (h.0, zip_append R xs us ys vs h.1 k)
-
-pub zip_lanes : {L M A B : Type 0} (f : L → List A) (g : M → List B) (R : A → B → Type 0) (ls : List L) (ms : List M) → AllZip (λ l m. AllZip R (f l) (g m)) ls ms → AllZip R (flat_map f ls) (flat_map g ms)
-zip_lanes f g R [] [] h = tt
-zip_lanes f g R [] (m ∷ ms) h = absurd h
-zip_lanes f g R (l ∷ ls) [] h = absurd h
-zip_lanes f g R (l ∷ ls) (m ∷ ms) h = zip_append R (f l) (flat_map f ls) (g m) (flat_map g ms) h.0 (zip_lanes f g R ls ms h.1)

@@ -19,7 +19,6 @@ use Rattle.kc_parts.specs.Restricted.{seen_at, exists_in, IsRestricted}
 use Rattle.kc_replay.specs.declared.crew.WaveCalls.{WaveCalls}
 use Rattle.kc_replay.specs.declared.task.Task.{Task}
 use Rattle.kc_replay.specs.declared.task.Finished.{Finished}
-use Rattle.std.specs.List.Sorted.{IsPermutation}
 
 -- each call of a wave has a footprint that holds what it needs, and no two footprints share a resource
 pub record AreApart (m : State) (calls : List Call) (footprints : ℕ → Resources) : Type 0 where
@@ -104,10 +103,3 @@ HasNoBytes h = (f : ℕ) (page : Page) → page_at h f ≡ Some page → page.by
 pub record IsWiped (config : Configuration) (left : Held) : Type 0 where
   pub places : HasPlaces config left
   pub bytes : HasNoBytes left
-
--- the calls of a wave are taken, in some order, and their replies stand in their places
-pub record IsWaveTaken (m : State) (calls : List Call) (members : List ℕ) (old new : List Reply) (left : State) : Type 0 where
-  pub order : List ℕ
-  pub same : IsPermutation members order
-  pub replied : AreReplied m calls order old new
-  pub state : left ≡ state_at m (wave_calls calls order) (length order)

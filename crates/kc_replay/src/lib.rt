@@ -4,10 +4,9 @@
 
 mod budget;
 mod crew;
-mod deal;
+mod dealing;
 mod failed;
 mod fault;
-mod lanes;
 pub mod laws;
 mod owned;
 mod replayer;

@@ -1,6 +1,5 @@
 //! The calls of a trace, or of a segment of one, from a core on.
-ghost use Rattle.std.specs.Prelude.{◌≡◌, ◌≢◌, ℕ, ◌<◌, ◌≤◌, List, length, OnOk, IfOk, IfErr};
-ghost use Rattle.std.specs.List.Sorted.{IsPermutation};
+ghost use Rattle.std.specs.Prelude.{◌≡◌, ◌≢◌, ◌<◌, ◌≤◌, length, OnOk, IfOk, IfErr};
 ghost use Rattle.kc_types.specs.Limits.{call_limit};
 ghost use Rattle.kc_model.specs.Safety.{IsSafe};
 ghost use Rattle.kc_model.specs.Lawful.{IsLawful};
@@ -9,13 +8,12 @@ ghost use Rattle.kc_model.specs.Footprints.{state_at};
 ghost use Rattle.kc_footprints.specs.Footprints.{AreFootprints};
 ghost use Rattle.kc_replay.specs.declared.fault.ReplayFault.TheVariants.{Start};
 ghost use Rattle.kc_replay.specs.Replayer.{IsReplayOf};
-ghost use Rattle.kc_replay.specs.Wave.{IsWave, IsWaveTaken, IsWiped, AreReplied, wave_calls, footprint_of};
+ghost use Rattle.kc_replay.specs.Wave.{IsWave, IsWiped, AreReplied, wave_calls, footprint_of};
 ghost use Rattle.kc_footprints.specs.Plan.{AreCallNumbers};
 
 use crate::Gate;
 use crate::budget::Budget;
 use crate::crew::{Crew, WaveCalls};
-use crate::deal::deal;
 use crate::failed::Failed;
 use crate::trace::footprints;
 use crate::wave::run_wave;
@@ -68,6 +66,7 @@ fn share_wave<R: Threads + Wait + Sync, G: Gate + Sync>(
     requires wave { IsWave core wave.now.calls.now (footprint_of wave.now.footprints.now) wave.now.members.now }
     requires rows { length wave.now.footprints.now.rows ≡ length wave.now.calls.now }
     requires long { length replies.old ≡ length wave.now.calls.now }
+    requires workers { 0 < workers }
     ensures replies { OnOk result (AreReplied core wave.now.calls.now wave.now.members.now replies.old replies.new) }
     ensures state { IfOk result (λ left. left ≡ state_at core (wave_calls wave.now.calls.now wave.now.members.now) (length wave.now.members.now)) }
     ensures wiped { IfErr result (λ failed. IsWiped core.config failed.left) }
@@ -160,11 +159,12 @@ fn take_wave<R: Threads + Wait + Sync, G: Gate + Sync>(
     replies: &mut [Reply],
     budget: &mut Budget,
 ) -> Result<KCore, Failed>
-    requires wave { (order : List ℕ) → IsPermutation wave.now.members.now order → IsWave core wave.now.calls.now (footprint_of wave.now.footprints.now) order }
+    requires wave { IsWave core wave.now.calls.now (footprint_of wave.now.footprints.now) wave.now.members.now }
     requires rows { length wave.now.footprints.now.rows ≡ length wave.now.calls.now }
     requires members { AreCallNumbers (length wave.now.calls.now) wave.now.members.now }
     requires long { length replies.old ≡ length wave.now.calls.now }
-    ensures taken { IfOk result (IsWaveTaken core wave.now.calls.now wave.now.members.now replies.old replies.new) }
+    ensures replies { OnOk result (AreReplied core wave.now.calls.now wave.now.members.now replies.old replies.new) }
+    ensures state { IfOk result (λ left. left ≡ state_at core (wave_calls wave.now.calls.now wave.now.members.now) (length wave.now.members.now)) }
     ensures wiped { IfErr result (λ failed. IsWiped core.config failed.left) }
 {
     let work = Work::of(&core, wave);
@@ -176,14 +176,7 @@ fn take_wave<R: Threads + Wait + Sync, G: Gate + Sync>(
     let workers = crew.workers.min(worth);
     if workers > 1 {
         budget.add_frames(work.frames);
-        let Ok(dealt) = deal(crew.alloc, wave.members, workers) else {
-            return Err(Failed::for_memory(crew.rt, core));
-        };
-        let dealt = WaveCalls {
-            members: dealt.as_slice(),
-            ..*wave
-        };
-        return share_wave(crew, core, &dealt, workers, replies);
+        return share_wave(crew, core, wave, workers, replies);
     }
     let mut core = core;
     if answer_wave(&mut core, wave.calls, wave.members, replies, crew.gate).is_err() {

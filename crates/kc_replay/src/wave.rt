@@ -1,43 +1,50 @@
 //! One wave over a store.
-ghost use Rattle.std.specs.Prelude.{◌≡◌, ◌<◌, length, slice_set, OnOk, OnErr, IfOk};
-ghost use Rattle.std.specs.List.{AllZip, range_with_len};
+ghost use Rattle.std.specs.Prelude.{◌≡◌, ◌<◌, length, map, slice_set, OnOk, OnErr, IfOk};
 ghost use Rattle.kc_model.specs.Footprints.{state_at};
 ghost use Rattle.kc_model.specs.State.{State};
 ghost use Rattle.kc_core.specs.KCore.{IsCore};
 ghost use Rattle.kc_parts.specs.States.{state_of};
+ghost use Rattle.kc_replay.specs.Dealing.{AreDealt};
 ghost use Rattle.kc_replay.specs.Wave.{Wave, IsWave, IsRest, HasPlaces, IsTaskAt, IsFinishedAt, AreReplied, IsWiped, wave_calls, wave_from, footprint_of, footprints_at, down_from};
 
 use crate::Gate;
 use crate::crew::{Crew, WaveCalls};
+use crate::dealing::{deal, no_tasks, take_back};
 use crate::fault::ReplayFault;
-use crate::lanes::{cut_lanes, join_results};
 use crate::task::{Finished, Task};
-use crate::work::run_lanes;
+use crate::work::run_workers;
 use kc_parts::Parts;
 use kc_types::{Config, Memory, Reply};
 use std::alloc::Global;
 use std::sync::Wait;
 use std::thread::Threads;
 
-/// Takes out what the calls of a wave may touch.
-fn take_tasks(alloc: Global, store: &mut Parts, wave: &WaveCalls) -> Result<Vec<Task>, Memory>
+/// Takes out what the calls of a wave may touch, and deals it to workers.
+fn take_tasks(
+    alloc: Global,
+    store: &mut Parts,
+    wave: &WaveCalls,
+    workers: usize,
+) -> Result<Vec<Vec<Task>>, Memory>
     ghost start: { State }
     requires wave { IsWave start wave.now.calls.now (footprint_of wave.now.footprints.now) wave.now.members.now }
     requires rows { length wave.now.footprints.now.rows ≡ length wave.now.calls.now }
     requires core { IsCore start.config store.old }
     requires state { state_of start.config store.old ≡ start }
-    ensures tasks { IfOk result (λ ts. AllZip (IsTaskAt start wave.now.calls.now (footprint_of wave.now.footprints.now) wave.now.members.now) (range_with_len 0 (length wave.now.members.now)) ts.items) }
+    requires workers { 0 < workers }
+    ensures tasks { IfOk result (λ lists. AreDealt (IsTaskAt start wave.now.calls.now (footprint_of wave.now.footprints.now) wave.now.members.now) (length wave.now.members.now) (map (λ list. list.items) lists.items)) }
+    ensures workers { IfOk result (λ lists. length lists.items ≡ workers) }
     ensures store { OnOk result (IsRest start (footprints_at (footprint_of wave.now.footprints.now) wave.now.members.now) (down_from (length wave.now.members.now)) store.new) }
     ensures places { HasPlaces start.config store.new }
 {
-    let mut tasks = Vec::with_capacity(alloc, wave.members.len())?;
+    let mut lists = no_tasks(alloc, workers)?;
     for place in 0..wave.members.len() {
         let number = wave.members[place];
         let wanted = wave.footprints.of(alloc, number)?;
         let parts = store.take_out(alloc, wanted.as_slice())?;
-        tasks.push(Task { number, parts })?;
+        deal(&mut lists, place, Task { number, parts })?;
     }
-    Ok(tasks)
+    Ok(lists)
 }
 
 /// Writes a reply into its place.
@@ -48,11 +55,13 @@ fn write_reply(replies: &mut [Reply], number: usize, reply: Reply)
     replies[number] = reply;
 }
 
-/// Puts back what the calls of a wave left, and writes their replies into their places.
-fn put_all(store: &mut Parts, mut done: Vec<Finished>, replies: &mut [Reply])
+/// Puts back what so many calls of a wave left, and writes their replies into their places.
+fn put_all(store: &mut Parts, mut lists: Vec<Vec<Finished>>, count: usize, replies: &mut [Reply])
     ghost wave: { Wave }
     requires wave { IsWave wave.start wave.calls wave.footprints wave.members }
-    requires done { AllZip (IsFinishedAt wave.start wave.calls wave.footprints wave.members) (range_with_len 0 (length wave.members)) done.items }
+    requires done { AreDealt (IsFinishedAt wave.start wave.calls wave.footprints wave.members) count (map (λ list. list.items) lists.items) }
+    requires workers { 0 < length lists.items }
+    requires count { count ≡ length wave.members }
     requires store { IsRest (state_at wave.start (wave_calls wave.calls wave.members) (length wave.members)) (footprints_at wave.footprints wave.members) (down_from (length wave.members)) store.old }
     requires places { HasPlaces wave.start.config store.old }
     requires long { length replies.old ≡ length wave.calls }
@@ -61,9 +70,11 @@ fn put_all(store: &mut Parts, mut done: Vec<Finished>, replies: &mut [Reply])
     ensures replies { AreReplied wave.start wave.calls wave.members replies.old replies.new }
     ensures state { state_of wave.start.config store.new ≡ state_at wave.start (wave_calls wave.calls wave.members) (length wave.members) }
 {
-    while let Some(finished) = done.pop() {
-        let Finished { reply, left } = finished;
-        let (number, parts) = left.into_parts();
+    let mut left = count;
+    while left > 0 {
+        left -= 1;
+        let Finished { reply, left: task } = take_back(&mut lists, left);
+        let (number, parts) = task.into_parts();
         store.put_back(parts);
         write_reply(replies, number, reply);
     }
@@ -84,16 +95,15 @@ fn share_out<R: Threads + Wait + Sync, G: Gate + Sync>(
     requires rows { length wave.now.footprints.now.rows ≡ length seen.calls }
     requires core { IsCore config.now store.old }
     requires long { length replies.old ≡ length seen.calls }
+    requires workers { 0 < workers }
     ensures replies { OnOk result (AreReplied seen.start seen.calls seen.members replies.old replies.new) }
     ensures core { OnOk result (IsCore config.now store.new) }
     ensures places { HasPlaces seen.start.config store.new }
     ensures state { OnOk result (state_of config.now store.new ≡ state_at seen.start (wave_calls seen.calls seen.members) (length seen.members)) }
 {
-    let tasks = take_tasks(crew.alloc, store, wave)?;
-    let lanes = cut_lanes(crew.alloc, tasks, workers)?;
-    let all = run_lanes(crew, config, wave.calls, lanes)?;
-    let finished = join_results(crew.alloc, all)?;
-    put_all(store, finished, replies);
+    let tasks = take_tasks(crew.alloc, store, wave, workers)?;
+    let finished = run_workers(crew, config, wave.calls, tasks)?;
+    put_all(store, finished, wave.members.len(), replies);
     Ok(())
 }
 
@@ -111,6 +121,7 @@ pub(crate) fn run_wave<R: Threads + Wait + Sync, G: Gate + Sync>(
     requires rows { length wave.now.footprints.now.rows ≡ length wave.now.calls.now }
     requires core { IsCore config.now store.old }
     requires long { length replies.old ≡ length wave.now.calls.now }
+    requires workers { 0 < workers }
     ensures replies { OnOk result (AreReplied (state_of config.now store.old) wave.now.calls.now wave.now.members.now replies.old replies.new) }
     ensures core { OnOk result (IsCore config.now store.new) }
     ensures state { OnOk result (state_of config.now store.new ≡ state_at (state_of config.now store.old) (wave_calls wave.now.calls.now wave.now.members.now) (length wave.now.members.now)) }

@@ -84,7 +84,7 @@ impl<S: Setting> Promise<Result<Vec<Finished>, Memory>> for TasksOf<S> {
 type Running<S> = PromisedHandle<Result<Vec<Finished>, Memory>, TasksOf<S>>;
 
 /// Waits for all workers.
-fn join_lanes<R: Threads, S: Setting>(
+fn join_workers<R: Threads, S: Setting>(
     rt: &R,
     handles: Vec<Running<S>>,
     all: Vec<Vec<Finished>>,
@@ -105,56 +105,56 @@ fn join_lanes<R: Threads, S: Setting>(
     if short { Err(Memory) } else { Ok(all) }
 }
 
-/// Has the calls of each lane made by a worker of its own, those of the last by the calling thread, and joins them all.
+/// Has the calls of each list made by a worker of its own, those of the last by the calling thread, and joins them all.
 /// `Start` where a worker could not be started, else `Memory` where a growth was refused.
-pub(crate) fn run_lanes<R: Threads + Wait + Sync, G: Gate + Sync>(
+pub(crate) fn run_workers<R: Threads + Wait + Sync, G: Gate + Sync>(
     crew: &Crew<R, G>,
     config: &Config,
     calls: &[Call],
-    lanes: Vec<Vec<Task>>,
+    lists: Vec<Vec<Task>>,
 ) -> Result<Vec<Vec<Finished>>, ReplayFault>
-    requires { All (λ lane. All (IsTaskOf config.now calls.now) lane.items) lanes.items }
-    ensures { IfOk result (λ done. AllZip (λ lane f. AnswersAll config.now calls.now lane.items f.items) lanes.items done.items) }
+    requires { All (λ list. All (IsTaskOf config.now calls.now) list.items) lists.items }
+    ensures { IfOk result (λ done. AllZip (λ list f. AnswersAll config.now calls.now list.items f.items) lists.items done.items) }
 {
-    let mut lanes = lanes;
-    let Some(mine) = lanes.pop() else {
+    let mut lists = lists;
+    let Some(mine) = lists.pop() else {
         return Ok(Vec::new(crew.alloc));
     };
-    run_beside::<R, G, Brand>(crew, config, calls, lanes, mine)
+    run_beside::<R, G, Brand>(crew, config, calls, lists, mine)
 }
 
-/// Starts a worker for a lane of tasks.
-fn start_lane<'s, E, G: Gate + Sync, S: Setting>(
+/// Starts a worker for a list of tasks.
+fn start_worker<'s, E, G: Gate + Sync, S: Setting>(
     scope: &Scope<'s, E>,
     alloc: Global,
     config: &'s Config,
     calls: &'s [Call],
-    lane: Vec<Task>,
+    list: Vec<Task>,
     gate: &'s G,
 ) -> Result<Running<S>, ReplayFault>
     requires setting { (S.config ≡ config.now) × (S.calls ≡ calls.now) }
-    requires tasks { All (IsTaskOf config.now calls.now) lane.items }
-    ensures { IfOk result (λ h. h.promise.0.value ≡ lane) }
+    requires tasks { All (IsTaskOf config.now calls.now) list.items }
+    ensures { IfOk result (λ h. h.promise.0.value ≡ list) }
 {
-    let promise = TasksOf(Snapshot::of(&lane), PhantomData);
-    match scope.spawn_with(promise, move || work(alloc, config, calls, lane, gate)) {
+    let promise = TasksOf(Snapshot::of(&list), PhantomData);
+    match scope.spawn_with(promise, move || work(alloc, config, calls, list, gate)) {
         Ok(handle) => Ok(handle),
         Err(_) => Err(ReplayFault::Start),
     }
 }
 
-/// Has the calls of each lane made by a worker of its own, and those of one by the calling thread, and joins them all.
+/// Has the calls of each list made by a worker of its own, and those of one by the calling thread, and joins them all.
 fn run_beside<R: Threads + Wait + Sync, G: Gate + Sync, S: Setting>(
     crew: &Crew<R, G>,
     config: &Config,
     calls: &[Call],
-    lanes: Vec<Vec<Task>>,
+    lists: Vec<Vec<Task>>,
     mine: Vec<Task>,
 ) -> Result<Vec<Vec<Finished>>, ReplayFault>
     requires setting { (S.config ≡ config.now) × (S.calls ≡ calls.now) }
-    requires lanes { All (λ lane. All (IsTaskOf config.now calls.now) lane.items) lanes.items }
+    requires lists { All (λ list. All (IsTaskOf config.now calls.now) list.items) lists.items }
     requires mine { All (IsTaskOf config.now calls.now) mine.items }
-    ensures { IfOk result (λ done. AllZip (λ lane f. AnswersAll config.now calls.now lane.items f.items) (lanes.items ++ mine ∷ []) done.items) }
+    ensures { IfOk result (λ done. AllZip (λ list f. AnswersAll config.now calls.now list.items f.items) (lists.items ++ mine ∷ []) done.items) }
 {
     let Crew {
         rt,
@@ -162,35 +162,35 @@ fn run_beside<R: Threads + Wait + Sync, G: Gate + Sync, S: Setting>(
         gate,
         workers: _,
     } = *crew;
-    let handles = Vec::with_capacity(alloc, lanes.len())?;
-    let all = Vec::with_capacity(alloc, lanes.len() + 1)?;
+    let handles = Vec::with_capacity(alloc, lists.len())?;
+    let all = Vec::with_capacity(alloc, lists.len() + 1)?;
     thread::scope(
         thread::scope_env(),
         rt,
         |scope| -> Result<Vec<Vec<Finished>>, ReplayFault>
             requires setting { (S.config ≡ config.now) × (S.calls ≡ calls.now) }
-            requires lanes { All (λ lane. All (IsTaskOf config.now calls.now) lane.items) lanes.items }
+            requires lists { All (λ list. All (IsTaskOf config.now calls.now) list.items) lists.items }
             requires mine { All (IsTaskOf config.now calls.now) mine.items }
             requires empty { (all.items ≡ []) × (handles.items ≡ []) }
-            requires room { (vec_len lanes ≤ vec_capacity handles) × (vec_len lanes < vec_capacity all) }
-            ensures { IfOk result (λ done. AllZip (λ lane f. AnswersAll config.entry.now calls.entry.now lane.items f.items) (lanes.items ++ mine ∷ []) done.items) }
+            requires room { (vec_len lists ≤ vec_capacity handles) × (vec_len lists < vec_capacity all) }
+            ensures { IfOk result (λ done. AllZip (λ list f. AnswersAll config.entry.now calls.entry.now list.items f.items) (lists.items ++ mine ∷ []) done.items) }
         {
             let mut handles: Vec<Running<S>> = handles;
             let mut refused = false;
-            for lane in lanes {
+            for list in lists {
                 if !refused {
-                    match start_lane(scope, alloc, config, calls, lane, gate) {
+                    match start_worker(scope, alloc, config, calls, list, gate) {
                         Ok(handle) => handles.push_reserved(handle),
                         Err(_) => refused = true,
                     }
                 }
             }
             if refused {
-                let _ = join_lanes(rt, handles, all);
+                let _ = join_workers(rt, handles, all);
                 return Err(ReplayFault::Start);
             }
             let own = work(alloc, config, calls, mine, gate);
-            let mut joined = join_lanes(rt, handles, all)?;
+            let mut joined = join_workers(rt, handles, all)?;
             joined.push_reserved(own?);
             Ok(joined)
         },

@@ -1,5 +1,4 @@
 use Rattle.std.proofs.Common.{ℕ, suc, ◌≡◌, ◌≤◌, ◌+◌, List, length, sym, ap, subst, ◌∙◌, arith, rules}
-use Rattle.std.specs.List.Sorted.{IsPermutation}
 use Rattle.std.proofs.lemmas.Result.{err_from_is_err_and}
 use Rattle.kc_types.specs.Configuration.{Configuration}
 use Rattle.kc_types.specs.declared.call.Call.{Call}
@@ -12,30 +11,29 @@ use Rattle.kc_footprints.specs.Rows.{Rows}
 use Rattle.kc_footprints.proofs.Listing.{at_most}
 use Rattle.kc_replay.specs.Wave.{IsWiped, footprint_of}
 use Rattle.kc_replay.proofs.Onward.{up-to-none, up-to-config, up-to-all, up-to-next, wave-next, written-whole}
-use Rattle.kc_replay.proofs.Dealing.{dealt-members}
 use Rattle.kc_replay.proofs.segment.replay_waves.Goals as goal
 
 -- the plan's waves are the longest chains
 longest : (m : State) (calls : List Call) (footprints : Rows) (plan : List ℕ) → AreFootprints m calls footprints → plan ≡ footprints.waves → IsWaves m calls (wave_of plan)
 longest m calls footprints plan are is = subst (λ (waves : List ℕ). IsWaves m calls (wave_of waves)) (sym is) are.waves
 
--- the calls of a wave, in whatever order
-in-order : (m : State) (calls : List Call) (footprints : Rows) (plan : List ℕ) (done : ℕ) (members order : List ℕ) → AreFootprints m calls footprints → plan ≡ footprints.waves → AreCallsOf (wave_of plan) (length plan) (done + 1) members → IsPermutation members order
-    → AreCallsOf (wave_of plan) (length calls) (suc done) order
-in-order m calls footprints plan done members order are is of same =
+-- the calls of a wave
+in-wave : (m : State) (calls : List Call) (footprints : Rows) (plan : List ℕ) (done : ℕ) (members : List ℕ) → AreFootprints m calls footprints → plan ≡ footprints.waves → AreCallsOf (wave_of plan) (length plan) (done + 1) members
+    → AreCallsOf (wave_of plan) (length calls) (suc done) members
+in-wave m calls footprints plan done members are is of =
     let one : done + 1 ≡ suc done = omega arith in
     let count : length plan ≡ length calls = ap (λ (waves : List ℕ). length waves) is ∙ are.waves_count in
-    dealt-members (wave_of plan) (length calls) (suc done) members order (subst (λ n. AreCallsOf (wave_of plan) n (suc done) members) count (subst (λ w. AreCallsOf (wave_of plan) (length plan) w members) one of)) same
+    subst (λ n. AreCallsOf (wave_of plan) n (suc done) members) count (subst (λ w. AreCallsOf (wave_of plan) (length plan) w members) one of)
 
 pub loop-done-init : goal.loop-done-init
 loop-done-init g c =
     up-to-none c.args.core c.args.calls.now c.requires.lawful (wave_of c.args.prepared.plan) (longest c.args.core c.args.calls.now c.args.prepared.footprints c.args.prepared.plan c.requires.footprints c.requires.plan) c.args.prepared.replies.items c.requires.long
 
 pub take_wave-requires-clause-wave : goal.take_wave-requires-clause-wave
-take_wave-requires-clause-wave g c κs within order same =
-    let are = in-order c.args.core c.args.calls.now c.args.prepared.footprints c.args.prepared.plan c.loop-done.done c.calls_in.result.now order c.requires.footprints c.requires.plan c.calls_in.ensures.members same in
+take_wave-requires-clause-wave g c κs within =
+    let are = in-wave c.args.core c.args.calls.now c.args.prepared.footprints c.args.prepared.plan c.loop-done.done c.calls_in.result.now c.requires.footprints c.requires.plan c.calls_in.ensures.members in
     wave-next c.args.core c.args.calls.now c.requires.lawful (wave_of c.args.prepared.plan) (longest c.args.core c.args.calls.now c.args.prepared.footprints c.args.prepared.plan c.requires.footprints c.requires.plan) (footprint_of c.args.prepared.footprints) (λ k r low. c.requires.footprints.touches k r low)
-    c.loop-done.done c.loop-done.store c.loop-done.replies.items c.loop-done.invariant order are
+    c.loop-done.done c.loop-done.store c.loop-done.replies.items c.loop-done.invariant c.calls_in.result.now are
 
 pub returns-in_err-store-clause-wiped : goal.returns-in_err-store-clause-wiped
 returns-in_err-store-clause-wiped g c =
@@ -45,13 +43,13 @@ returns-in_err-store-clause-wiped g c =
 
 pub loop-done-preserved : goal.loop-done-preserved
 loop-done-preserved g c =
-    let taken = rw c.deref_mut.ensures.value at c.in_ok-store.ensures.taken in
-    let are = in-order c.args.core c.args.calls.now c.args.prepared.footprints c.args.prepared.plan c.loop-done.done c.calls_in.result.now taken.order c.requires.footprints c.requires.plan c.calls_in.ensures.members taken.same in
+    let replied = rw c.deref_mut.ensures.value at c.in_ok-store.ensures.replies in
+    let are = in-wave c.args.core c.args.calls.now c.args.prepared.footprints c.args.prepared.plan c.loop-done.done c.calls_in.result.now c.requires.footprints c.requires.plan c.calls_in.ensures.members in
     let one : c.loop-done.done + 1 ≡ suc c.loop-done.done = omega arith in
     let size : c.loop-done.replies.len ≡ length c.take_wave.new.replies = search rules in
     rw (one, written-whole c.take_wave.new.replies c.loop-done.replies.items c.loop-done.replies.len size)
     (up-to-next c.args.core c.args.calls.now c.requires.lawful (wave_of c.args.prepared.plan) (longest c.args.core c.args.calls.now c.args.prepared.footprints c.args.prepared.plan c.requires.footprints c.requires.plan) (footprint_of c.args.prepared.footprints) (λ k r low. c.requires.footprints.touches k r low)
-    c.loop-done.done c.loop-done.store c.loop-done.replies.items c.loop-done.invariant taken.order are c.in_ok-store.store c.take_wave.new.replies taken.replied taken.state)
+    c.loop-done.done c.loop-done.store c.loop-done.replies.items c.loop-done.invariant c.calls_in.result.now are c.in_ok-store.store c.take_wave.new.replies replied c.in_ok-store.ensures.state)
 
 pub returns-clause-replayed : goal.returns-clause-replayed
 returns-clause-replayed g c =

@@ -1,7 +1,6 @@
-use Rattle.std.proofs.Common.{List, ℕ, ◌≡◌, ◌<◌, length, get_or, refl, ap, sym, subst, ◌∙◌, arith, rules}
-use Rattle.std.specs.List.{range_with_len}
-use Rattle.std.proofs.lemmas.List.FromFn.{length-range_with_len}
-use Rattle.std.proofs.lemmas.List.{length-set}
+use Rattle.std.proofs.Common.{List, ℕ, suc, ◌≡◌, ◌<◌, ◌+◌, ◌-◌, length, get_or, map, refl, ap, sym, subst, ◌∙◌, arith, rules}
+use Rattle.std.specs.Prelude.{◌%◌, []}
+use Rattle.std.proofs.lemmas.List.{length-map, length-set}
 use Rattle.kc_types.specs.declared.call.Call.{Call}
 use Rattle.kc_model.specs.State.{State}
 use Rattle.kc_model.specs.Resources.{Resources}
@@ -10,63 +9,117 @@ use Rattle.kc_parts.specs.Cuts.{FitsInto, IsJoin}
 use Rattle.kc_parts.specs.Parts.{Held}
 use Rattle.kc_parts.specs.States.{state_of}
 use Rattle.kc_core.specs.KCore.{IsCore}
-use Rattle.kc_replay.specs.Wave.{IsRest, HasPlaces, IsFinishedAt, IsWave, wave_calls, footprints_at, down_from}
-use Rattle.kc_replay.proofs.Zips.{zip_length}
+use Rattle.kc_replay.specs.declared.task.Finished.{Finished}
+use Rattle.kc_replay.specs.Dealing.{AreDealt, with_dealt}
+use Rattle.kc_replay.specs.Wave.{Wave, IsRest, HasPlaces, IsFinishedAt, IsWave, wave_calls, footprints_at, down_from}
+use Rattle.kc_replay.proofs.Dealt.{dealt-some, taken-back, dealt-fewer}
 use Rattle.kc_replay.proofs.Taking.{wave-length}
-use Rattle.kc_replay.proofs.Putting.{fits-wave, back-wave, core-last, popped, len-popped, back-more, kept-more}
+use Rattle.kc_replay.proofs.Putting.{fits-wave, back-wave, core-last, back-more, kept-more}
 use Rattle.kc_replay.proofs.wave.put_all.Goals as goal
 
-pub loop-finished-init : goal.loop-finished-init
-loop-finished-init g c =
-    let len : length c.args.done.items ≡ length g.wave.members = zip_length (IsFinishedAt g.wave.start g.wave.calls g.wave.footprints g.wave.members) (range_with_len 0 (length g.wave.members)) c.args.done.items c.requires.1.0 ∙ length-range_with_len 0 (length g.wave.members) in
+pub loop-left-init : goal.loop-left-init
+loop-left-init g c =
+    let count = c.requires.1.1.1.0 in
     record {
-      few = omega (arith, len);
-      done = rw len c.requires.1.0;
-      store = rw (len, wave-length g.wave.calls g.wave.members) c.requires.1.1.0;
-      places = c.requires.1.1.1.0;
-      back = λ i from below. absurd (omega (arith, len, from, below));
+      few = omega (arith, count);
+      done = c.requires.1.0;
+      workers = c.requires.1.1.0;
+      store = rw (count, wave-length g.wave.calls g.wave.members) c.requires.1.1.1.1.0;
+      places = c.requires.1.1.1.1.1.0;
+      back = λ i from below. absurd (omega (arith, count, from, below));
       kept = λ k none. refl;
       size = refl;
     }
+
+-- the calls up to the last that is left
+last : (R : ℕ → Finished → Type 0) (left : ℕ) (lists : List (List Finished)) → 0 < left → AreDealt R left lists → AreDealt R (suc (left - 1)) lists
+last R left lists some all = let one : left ≡ suc (left - 1) = omega (arith, some) in subst (λ n. AreDealt R n lists) one all
+
+pub take_back-reply-requires-clause-last : goal.take_back-reply-requires-clause-last
+take_back-reply-requires-clause-last g c =
+    let R = IsFinishedAt g.wave.start g.wave.calls g.wave.footprints g.wave.members in
+    let lists = map (λ list. list.items) c.loop-left.lists.items in
+    let size = length-map c.loop-left.lists.items (λ list. list.items) in
+    let workers = c.loop-left.invariant.workers in
+    subst (λ n. 0 < length (get_or lists ((c.loop-left.left - 1) % n) [])) size
+    (dealt-some R (c.loop-left.left - 1) lists (omega (arith, size, workers)) (last R c.loop-left.left lists c.loop-left-test.true c.loop-left.invariant.done))
+
+-- what is left of the last call, and of those before it
+module _ (wave : Wave) (p : ℕ) (lists left : List (List Finished)) (finished : Finished) (some : 0 < length lists) (size : length left ≡ length lists) (is : lists ≡ with_dealt left p finished)
+    (all : AreDealt (IsFinishedAt wave.start wave.calls wave.footprints wave.members) (suc p) lists) where
+  at : IsFinishedAt wave.start wave.calls wave.footprints wave.members p finished
+  at = taken-back (IsFinishedAt wave.start wave.calls wave.footprints wave.members) p lists left finished some size is all
+
+  before : AreDealt (IsFinishedAt wave.start wave.calls wave.footprints wave.members) p left
+  before = dealt-fewer (IsFinishedAt wave.start wave.calls wave.footprints wave.members) p lists left finished some size is all
+
+-- the sizes of lists
+sizes : {A B : Type 0} (items : A → List B) (old new : List A) → length new ≡ length old → length (map items new) ≡ length (map items old)
+sizes items old new same = length-map new items ∙ same ∙ sym (length-map old items)
+
+some-list : {A B : Type 0} (items : A → List B) (lists : List A) → 0 < length lists → 0 < length (map items lists)
+some-list items lists some = let size = length-map lists items in omega (arith, size, some)
 
 number-low : (calls : List Call) (members : List ℕ) (number j count : ℕ) → number ≡ get_or members j 0 → get_or members j 0 < length calls → count ≡ length calls → number < count
 number-low calls members number j count is low same = omega (arith, is, low, same)
 
 pub put_back-requires : goal.put_back-requires
 put_back-requires g c =
-    let R = IsFinishedAt g.wave.start g.wave.calls g.wave.footprints g.wave.members in
-    let both = popped R c.loop-finished.done.items c.pop.new.self.items c.in-Some.finished c.in-Some.ensures.items c.loop-finished.invariant.done in
-    let len = len-popped R c.loop-finished.done.items c.pop.new.self.items c.in-Some.finished c.in-Some.ensures.items c.loop-finished.invariant.done in
-    let few = c.loop-finished.invariant.few in
-    subst (λ (parts : Held). FitsInto c.loop-finished.store parts) (sym c.into_parts-number.ensures.parts)
-    (fits-wave g.wave.start g.wave.calls g.wave.footprints g.wave.members c.requires.0 (length c.pop.new.self.items) c.loop-finished.store c.in-Some.finished (omega (arith, len, few))
-    (rw len at c.loop-finished.invariant.store) both.1 c.loop-finished.invariant.places)
+    let p = c.loop-left.left - 1 in
+    let taken = c.take_back-reply.ensures in
+    let lists = map (λ list. list.items) c.loop-left.lists.items in
+    let done =
+    at g.wave p lists (map (λ list. list.items) c.take_back-reply.new.lists.items) c.take_back-reply.result (some-list (λ list. list.items) c.loop-left.lists.items c.loop-left.invariant.workers)
+    (sizes (λ list. list.items) c.loop-left.lists.items c.take_back-reply.new.lists.items taken.len) taken.taken
+    (last (IsFinishedAt g.wave.start g.wave.calls g.wave.footprints g.wave.members) c.loop-left.left lists c.loop-left-test.true c.loop-left.invariant.done) in
+    let more = c.loop-left-test.true in
+    let few = c.loop-left.invariant.few in
+    let one : c.loop-left.left ≡ p + 1 = omega (arith, more) in
+    subst (λ (parts : Held). FitsInto c.loop-left.store parts) (sym c.into_parts-number.ensures.parts)
+    (fits-wave g.wave.start g.wave.calls g.wave.footprints g.wave.members c.requires.0 p c.loop-left.store c.take_back-reply.result (omega (arith, more, few))
+    (rw one at c.loop-left.invariant.store) done c.loop-left.invariant.places)
 
 pub write_reply-requires : goal.write_reply-requires
 write_reply-requires g c =
-    let R = IsFinishedAt g.wave.start g.wave.calls g.wave.footprints g.wave.members in
-    let both = popped R c.loop-finished.done.items c.pop.new.self.items c.in-Some.finished c.in-Some.ensures.items c.loop-finished.invariant.done in
-    let len = len-popped R c.loop-finished.done.items c.pop.new.self.items c.in-Some.finished c.in-Some.ensures.items c.loop-finished.invariant.done in
-    let few = c.loop-finished.invariant.few in
-    number-low g.wave.calls g.wave.members c.into_parts-number.result.0 (length c.pop.new.self.items) (length c.loop-finished.replies) (c.into_parts-number.ensures.number ∙ both.1.number) (c.requires.0.within (length c.pop.new.self.items) (omega (arith, len, few))) (c.loop-finished.invariant.size ∙ c.requires.1.1.1.1)
+    let p = c.loop-left.left - 1 in
+    let taken = c.take_back-reply.ensures in
+    let lists = map (λ list. list.items) c.loop-left.lists.items in
+    let done =
+    at g.wave p lists (map (λ list. list.items) c.take_back-reply.new.lists.items) c.take_back-reply.result (some-list (λ list. list.items) c.loop-left.lists.items c.loop-left.invariant.workers)
+    (sizes (λ list. list.items) c.loop-left.lists.items c.take_back-reply.new.lists.items taken.len) taken.taken
+    (last (IsFinishedAt g.wave.start g.wave.calls g.wave.footprints g.wave.members) c.loop-left.left lists c.loop-left-test.true c.loop-left.invariant.done) in
+    let more = c.loop-left-test.true in
+    let few = c.loop-left.invariant.few in
+    number-low g.wave.calls g.wave.members c.into_parts-number.result.0 p (length c.loop-left.replies) (c.into_parts-number.ensures.number ∙ done.number) (c.requires.0.within p (omega (arith, more, few))) (c.loop-left.invariant.size ∙ c.requires.1.1.1.1.1.1)
 
-pub loop-finished-preserved : goal.loop-finished-preserved
-loop-finished-preserved g c =
-    let R = IsFinishedAt g.wave.start g.wave.calls g.wave.footprints g.wave.members in
-    let both = popped R c.loop-finished.done.items c.pop.new.self.items c.in-Some.finished c.in-Some.ensures.items c.loop-finished.invariant.done in
-    let len = len-popped R c.loop-finished.done.items c.pop.new.self.items c.in-Some.finished c.in-Some.ensures.items c.loop-finished.invariant.done in
-    let few = c.loop-finished.invariant.few in
-    let joined : IsJoin c.loop-finished.store c.in-Some.finished.left.parts c.put_back.new.self = subst (λ (parts : Held). IsJoin c.loop-finished.store parts c.put_back.new.self) c.into_parts-number.ensures.parts c.put_back.ensures.joined in
-    let low : length c.pop.new.self.items < length g.wave.members = omega (arith, len, few) in
-    let within = number-low g.wave.calls g.wave.members c.into_parts-number.result.0 (length c.pop.new.self.items) (length c.loop-finished.replies) (c.into_parts-number.ensures.number ∙ both.1.number) (c.requires.0.within (length c.pop.new.self.items) low) (c.loop-finished.invariant.size ∙ c.requires.1.1.1.1) in
+pub loop-left-preserved : goal.loop-left-preserved
+loop-left-preserved g c =
+    let p = c.loop-left.left - 1 in
+    let taken = c.take_back-reply.ensures in
+    let finished = c.take_back-reply.result in
+    let lists = map (λ list. list.items) c.loop-left.lists.items in
+    let left = map (λ list. list.items) c.take_back-reply.new.lists.items in
+    let some = some-list (λ list. list.items) c.loop-left.lists.items c.loop-left.invariant.workers in
+    let size = sizes (λ list. list.items) c.loop-left.lists.items c.take_back-reply.new.lists.items taken.len in
+    let all = last (IsFinishedAt g.wave.start g.wave.calls g.wave.footprints g.wave.members) c.loop-left.left lists c.loop-left-test.true c.loop-left.invariant.done in
+    let done = at g.wave p lists left finished some size taken.taken all in
+    let more = c.loop-left-test.true in
+    let few = c.loop-left.invariant.few in
+    let len = taken.len in
+    let workers = c.loop-left.invariant.workers in
+    let one : c.loop-left.left ≡ p + 1 = omega (arith, more) in
+    let joined : IsJoin c.loop-left.store finished.left.parts c.put_back.new.self = subst (λ (parts : Held). IsJoin c.loop-left.store parts c.put_back.new.self) c.into_parts-number.ensures.parts c.put_back.ensures.joined in
+    let low : p < length g.wave.members = omega (arith, more, few) in
+    let within = number-low g.wave.calls g.wave.members c.into_parts-number.result.0 p (length c.loop-left.replies) (c.into_parts-number.ensures.number ∙ done.number) (c.requires.0.within p low) (c.loop-left.invariant.size ∙ c.requires.1.1.1.1.1.1) in
     record {
-      few = omega (arith, len, few);
-      done = both.0;
-      store = back-wave g.wave.start g.wave.calls g.wave.footprints g.wave.members c.requires.0 (length c.pop.new.self.items) c.loop-finished.store c.in-Some.finished low (rw len at c.loop-finished.invariant.store) both.1 c.put_back.new.self joined;
-      places = record { numbers = c.put_back.ensures.places ∙ c.loop-finished.invariant.places.numbers; slots = rw c.put_back.ensures.slots c.loop-finished.invariant.places.slots };
-      back = rw c.write_reply.ensures (back-more g.wave.start g.wave.calls g.wave.footprints g.wave.members c.requires.0 c.loop-finished.replies (length c.pop.new.self.items) c.into_parts-number.result.0 c.in-Some.finished.reply low (c.into_parts-number.ensures.number ∙ both.1.number) within both.1.reply (rw len at c.loop-finished.invariant.back));
-      kept = λ k none. rw c.write_reply.ensures (kept-more g.wave.start g.wave.calls g.wave.footprints g.wave.members c.requires.0 c.loop-finished.replies (length c.pop.new.self.items) c.into_parts-number.result.0 c.in-Some.finished.reply low (c.into_parts-number.ensures.number ∙ both.1.number) within k none ∙ c.loop-finished.invariant.kept k none);
-      size = ap length c.write_reply.ensures ∙ length-set c.loop-finished.replies c.into_parts-number.result.0 c.in-Some.finished.reply ∙ c.loop-finished.invariant.size;
+      few = omega (arith, low);
+      done = before g.wave p lists left finished some size taken.taken all;
+      workers = omega (arith, len, workers);
+      store = back-wave g.wave.start g.wave.calls g.wave.footprints g.wave.members c.requires.0 p c.loop-left.store finished low (rw one at c.loop-left.invariant.store) done c.put_back.new.self joined;
+      places = record { numbers = c.put_back.ensures.places ∙ c.loop-left.invariant.places.numbers; slots = rw c.put_back.ensures.slots c.loop-left.invariant.places.slots };
+      back = rw c.write_reply.ensures (back-more g.wave.start g.wave.calls g.wave.footprints g.wave.members c.requires.0 c.loop-left.replies p c.into_parts-number.result.0 finished.reply low (c.into_parts-number.ensures.number ∙ done.number) within done.reply (rw one at c.loop-left.invariant.back));
+      kept = λ k none. rw c.write_reply.ensures (kept-more g.wave.start g.wave.calls g.wave.footprints g.wave.members c.requires.0 c.loop-left.replies p c.into_parts-number.result.0 finished.reply low (c.into_parts-number.ensures.number ∙ done.number) within k none ∙ c.loop-left.invariant.kept k none);
+      size = ap length c.write_reply.ensures ∙ length-set c.loop-left.replies c.into_parts-number.result.0 finished.reply ∙ c.loop-left.invariant.size;
     }
 
 -- nothing is out any more
@@ -79,10 +132,10 @@ ended m calls footprints members h n wave none left places =
 
 pub returns-clause-core : goal.returns-clause-core
 returns-clause-core g c =
-    let none : length c.loop-finished.done.items ≡ 0 = search rules in
-    (ended g.wave.start g.wave.calls g.wave.footprints g.wave.members c.loop-finished.store (length c.loop-finished.done.items) c.requires.0 none c.loop-finished.invariant.store c.loop-finished.invariant.places).0
+    let none : c.loop-left.left ≡ 0 = search rules in
+    (ended g.wave.start g.wave.calls g.wave.footprints g.wave.members c.loop-left.store c.loop-left.left c.requires.0 none c.loop-left.invariant.store c.loop-left.invariant.places).0
 
 pub returns-clause-state : goal.returns-clause-state
 returns-clause-state g c =
-    let none : length c.loop-finished.done.items ≡ 0 = search rules in
-    (ended g.wave.start g.wave.calls g.wave.footprints g.wave.members c.loop-finished.store (length c.loop-finished.done.items) c.requires.0 none c.loop-finished.invariant.store c.loop-finished.invariant.places).1
+    let none : c.loop-left.left ≡ 0 = search rules in
+    (ended g.wave.start g.wave.calls g.wave.footprints g.wave.members c.loop-left.store c.loop-left.left c.requires.0 none c.loop-left.invariant.store c.loop-left.invariant.places).1

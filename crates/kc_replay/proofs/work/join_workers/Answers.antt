@@ -1,7 +1,7 @@
 use Rattle.std.proofs.Common.{◌≡◌, ◌+◌, ◌∷◌, ◌++◌, [], length, length-append, ◌∙◌, arith}
 use Rattle.kc_replay.specs.Working.{AnswersAll}
 use Rattle.kc_replay.proofs.Zips.{zip_push}
-use Rattle.kc_replay.proofs.work.join_lanes.Goals as goal
+use Rattle.kc_replay.proofs.work.join_workers.Goals as goal
 
 pub loop-handle-preserved-in-Ok : goal.loop-handle-preserved-in-Ok
 loop-handle-preserved-in-Ok g c =

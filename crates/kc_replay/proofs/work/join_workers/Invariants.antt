@@ -1,7 +1,7 @@
 use Rattle.std.proofs.Common.{◌≡◌, ◌≤◌, false, length, vec_len, vec_capacity}
 use Rattle.std.specs.List.{AllZip}
 use Rattle.kc_replay.specs.Working.{AnswersAll}
-use Rattle.kc_replay.proofs.work.join_lanes.Given as goal
+use Rattle.kc_replay.proofs.work.join_workers.Given as goal
 
 abbrev pub invariant-loop-handle : goal.invariant-loop-handle
 invariant-loop-handle g l = record {
