@@ -273,28 +273,7 @@ fn answer_by_waves<R: Threads + Wait + Sync, G: Gate + Sync>(
     replay_waves(crew, core, calls, prepared, budget)
 }
 
-/// Makes some calls in their order, and tells the gate of each.
-fn answer_each<G: Gate>(
-    alloc: Global,
-    core: &mut KCore,
-    calls: &[Call],
-    gate: &G,
-) -> Result<Vec<Reply>, Memory>
-    ensures replies { IfOk result (λ replies. replies.items ≡ replies_from core.old calls.now) }
-    ensures state { OnOk result (core.new ≡ state_after core.old calls.now) }
-    ensures config { core.new.config ≡ core.old.config }
-{
-    let mut replies = Vec::with_capacity(alloc, calls.len())?;
-    for number in 0..calls.len() {
-        gate.before(number);
-        let reply = core.call(&calls[number])?;
-        gate.after(number);
-        replies.push(reply)?;
-    }
-    Ok(replies)
-}
-
-/// Makes some calls in their order, on this thread. Where that fails all pages are wiped.
+/// Makes some calls in their order, on this thread, and tells the gate of each. Where that fails all pages are wiped.
 fn answer_in_order<R: Threads + Sync, G: Gate>(
     crew: &Crew<R, G>,
     core: KCore,
@@ -306,10 +285,20 @@ fn answer_in_order<R: Threads + Sync, G: Gate>(
     ensures alone { IfErr result (λ failed. failed.fault ≢ Start) }
 {
     let mut core = core;
-    match answer_each(crew.alloc, &mut core, calls, crew.gate) {
-        Ok(replies) => Ok(Outcome { replies, core }),
-        Err(_) => Err(Failed::for_memory(crew.rt, core)),
+    let Ok(mut replies) = Vec::with_capacity(crew.alloc, calls.len()) else {
+        return Err(Failed::for_memory(crew.rt, core));
+    };
+    for number in 0..calls.len() {
+        crew.gate.before(number);
+        let Ok(reply) = core.call(&calls[number]) else {
+            return Err(Failed::for_memory(crew.rt, core));
+        };
+        crew.gate.after(number);
+        let Ok(()) = replies.push(reply) else {
+            return Err(Failed::for_memory(crew.rt, core));
+        };
     }
+    Ok(Outcome { replies, core })
 }
 
 /// Whether at least two of the calls hash frames.
