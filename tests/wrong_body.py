@@ -12,6 +12,19 @@ class BadEdit(Exception):
 
 
 @dataclasses.dataclass(frozen=True)
+class Edit:
+    """A wrong body as it is written: its name, the file of the crate that it turns, and the lines behind its name."""
+
+    crate: pathlib.Path
+    name: str
+    path: pathlib.Path
+    lines: tuple
+
+    def __str__(self):
+        return f"wrong body {self.crate.name}/{self.name}"
+
+
+@dataclasses.dataclass(frozen=True)
 class Function:
     """A function of a file: the head of its impl or trait, and which lines are its own, from its attributes on."""
 
@@ -117,37 +130,44 @@ def outside(text, found):
     return bare(lines)
 
 
-def applied(edit, crate):
-    """Returns the one file that an edit turns, the text that it makes of it, and whether answers are tried with it."""
-    path, old, text, has_answers = None, None, None, True
-    for line in edit.read_text().split("\n"):
+def edits_of(crate):
+    """Returns the edits in a crate's wrong-bodies/. Those of src/PATH.rt stand in PATH.edits, with an empty line between
+    them: a name on a line of its own, and the lines of the edit."""
+    edits = []
+    for file in sorted(it for it in (crate / "wrong-bodies").glob("**/*") if it.is_file()):
+        path = (crate / "src" / file.relative_to(crate / "wrong-bodies")).with_suffix(".rt")
+        for block in file.read_text().strip("\n").split("\n\n"):
+            name, *lines = block.split("\n")
+            edits.append(Edit(crate, name, path, tuple(lines)))
+    return edits
+
+
+def applied(edit):
+    """Returns the text that an edit makes of its file, and whether answers are tried with it."""
+    if not re.fullmatch(r"\w+", edit.name):
+        raise BadEdit("it does not begin with a name")
+    old, text, has_answers = None, edit.path.read_text(), True
+    for line in edit.lines:
         word, _, rest = line.partition(": ")
-        if word == "file":
-            if path not in (None, crate / rest.strip()) or not rest.startswith("src/"):
-                raise BadEdit("it turns another file than one of src/")
-            path = crate / rest.strip()
-        elif word == "old":
+        if word == "old":
             old = rest
         elif word in ("new", "new:"):
-            if not path or not old:
-                raise BadEdit("a new text has no file, or no old text, before it")
-            text = path.read_text() if text is None else text
+            if not old:
+                raise BadEdit("a new text has no old text before it")
             if text.count(old) != 1:
-                raise BadEdit(f"an old text is in {path.name} {text.count(old)} times, and not once")
+                raise BadEdit(f"an old text is in {edit.path.name} {text.count(old)} times, and not once")
             text, old = text.replace(old, rest), None
-        elif word == "answers":
-            if rest != "none":
-                raise BadEdit("behind 'answers: ' stands 'none', or there is no such line")
+        elif line == "answers: none":
             has_answers = False
-    if text is None:
-        raise BadEdit("it has no new text")
-    return path, text, has_answers
+        else:
+            raise BadEdit("it has a line that begins with none of 'old: ', 'new: ' and 'answers: none'")
+    return text, has_answers
 
 
-def wrong_body(edit, crate):
+def wrong_body(edit):
     """Returns the wrong body that an edit makes of the one function whose body it turns."""
-    path, now, has_answers = applied(edit, crate)
-    was = path.read_text()
+    crate, was = edit.crate, edit.path.read_text()
+    now, has_answers = applied(edit)
     old, new = functions(was), functions(now)
     if outside(was, old) != outside(now, new):
         raise BadEdit("it turns what is outside of functions: such stand in must-fail/")
@@ -158,7 +178,7 @@ def wrong_body(edit, crate):
     function, right, wrong = turned[0]
     if head_of(right) != head_of(wrong):
         raise BadEdit("it turns a signature or a clause")
-    path = str(path.relative_to(crate))
+    path = str(edit.path.relative_to(crate))
     where = place(crate, path, function)
     body = Body(crate, edit.name, path, function, tuple(wrong), where, has_answers=has_answers)
     if not has_answers and all(it.name != "Answers.antt" for it in body.proof_files()):

@@ -1,9 +1,10 @@
 -- The program's command, in clap's words.
-use Rattle.std.specs.Prelude.{codes, pos, Some, true}
+use Rattle.std.specs.Prelude.{◌-◌, codes, pos, Some, true}
 use Rattle.clap.specs.Words.{App, Rule, new_app, new_rule, with_rule, with_subcommand}
 use Rattle.clap.specs.Simple.{on_top}
 use Rattle.clap.specs.declared.builder.action.ArgAction.TheVariants.{SetTrue}
 use Rattle.clap.specs.declared.builder.value_parser.ValueParser.TheVariants.{Signed}
+use Rattle.kc_types.specs.Limits.{slot_limit, worker_limit}
 
 abbrev pub config_rule : Rule
 config_rule = record (new_rule (codes "config")) { long = Some (codes "config"); value_names = 1 }
@@ -17,7 +18,7 @@ to_rule = record (new_rule (codes "to")) { long = Some (codes "to"); value_names
 
 -- a whole number from 1 to 64
 abbrev pub workers_rule : Rule
-workers_rule = record (new_rule (codes "workers")) { long = Some (codes "workers"); value_names = 1; parser = Some (Signed (pos 1) (pos 64)) }
+workers_rule = record (new_rule (codes "workers")) { long = Some (codes "workers"); value_names = 1; parser = Some (Signed (pos 1) (pos worker_limit)) }
 
 -- a flag, which takes no value
 abbrev pub dump_rule : Rule
@@ -28,7 +29,7 @@ state_rule = record (new_rule (codes "state")) { long = Some (codes "state"); ac
 
 -- a whole number from 0 to 63
 abbrev pub vm_rule : Rule
-vm_rule = record (new_rule (codes "vm")) { long = Some (codes "vm"); value_names = 1; parser = Some (Signed (pos 0) (pos 63)) }
+vm_rule = record (new_rule (codes "vm")) { long = Some (codes "vm"); value_names = 1; parser = Some (Signed (pos 0) (pos (slot_limit - 1))) }
 
 -- further flags
 abbrev pub summary_rule : Rule

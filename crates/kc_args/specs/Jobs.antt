@@ -6,6 +6,7 @@ use Rattle.clap.specs.Words.{Text, Row, first_of, one_of, subcommand_of, fault_o
 use Rattle.clap.specs.Walk.{byte_or_zero}
 use Rattle.clap.specs.declared.error.kind.ErrorKind.{ErrorKind}
 use Rattle.clap.specs.declared.error.kind.ErrorKind.TheVariants.{DisplayHelp, DisplayVersion, OutOfMemory}
+use Rattle.kc_types.specs.Limits.{worker_limit}
 use Rattle.kc_args.specs.declared.job.Job.{Job}
 use Rattle.kc_args.specs.declared.job.Job.TheVariants.{Replay, Live, Custody, Audit}
 use Rattle.kc_args.specs.declared.job.ArgFault.{ArgFault}
@@ -14,7 +15,7 @@ use Rattle.kc_args.specs.Commands.{kcore}
 
 -- 1 to 64: the command's rules let no other number of workers through
 abbrev pub in_range : ℕ → ℕ
-in_range n = if nat_le 1 n && nat_le n 64 then n else 1
+in_range n = if nat_le 1 n && nat_le n worker_limit then n else 1
 
 -- the number of workers that the words say; 1 where they say none
 abbrev pub workers_in : List Row → ℕ

@@ -8,6 +8,7 @@ ghost use Rattle.kc_args.specs.Jobs.{in_range, workers_in, slot_in, vm_in, IsSet
 
 use clap::error::ErrorKind;
 use clap::{Arg, ArgAction, ArgMatches, Command, Error};
+use kc_types::{SLOT_LIMIT, WORKER_LIMIT};
 use std::alloc::{AllocError, Global};
 
 /// What the program is asked to do.
@@ -109,7 +110,7 @@ fn workers_arg<'a>(alloc: Global) -> Arg<'a>
     Arg::new(alloc, "workers")
         .long("workers")
         .value_name("N")
-        .value_parser(clap::value_parser!(u8).range(1..=64))
+        .value_parser(clap::value_parser!(u8).range(1..=WORKER_LIMIT as i64))
         .help(
             "At most so many threads, 1 to 64, make the calls of a replay, started where that pays; 1 where this is not given",
         )
@@ -144,7 +145,7 @@ fn vm_arg<'a>(alloc: Global) -> Arg<'a>
     Arg::new(alloc, "vm")
         .long("vm")
         .value_name("V")
-        .value_parser(clap::value_parser!(u8).range(0..=63))
+        .value_parser(clap::value_parser!(u8).range(0..=i64::from(SLOT_LIMIT) - 1))
         .help("Tell of the VM in this slot alone, 0 to 63")
 }
 
@@ -301,7 +302,7 @@ fn is_set(matches: &ArgMatches<'_>, flag: &str) -> bool
 fn in_range(workers: u8) -> u32
     ensures { result ≡ in_range workers }
 {
-    if (1..=64).contains(&workers) {
+    if (1..=WORKER_LIMIT).contains(&usize::from(workers)) {
         u32::from(workers)
     } else {
         1

@@ -45,7 +45,7 @@ fn lists(alloc: Global, dump: &Dump) -> Result<Vec<bool>, Memory>
 /// What is wrong with a dump: the kinds of finding in their order, and within a kind by slot, guest frame or frame,
 /// rising. `Memory` where a growth was refused.
 pub fn audit(alloc: Global, dump: &Dump) -> Result<Vec<Finding>, Memory>
-    // No clause can rule out want of memory: a test audits dumps.
+    // No clause can rule out that memory runs out: a test audits dumps.
     ensures found { IfOk result (λ found. AreFindings dump.now found.items) }
     ensures sound { IfOk result (λ found. (found.items ≡ []) ↔ IsSound dump.now) }
 {

@@ -35,7 +35,7 @@ fn count(lines: &[FrameLine], counts: &mut [u32])
 
 /// How many frames each list should hold.
 pub fn counts(alloc: Global, dump: &Dump) -> Result<Vec<u32>, Memory>
-    // No clause can rule out want of memory: a test audits dumps.
+    // No clause can rule out that memory runs out: a test audits dumps.
     ensures { IfOk result (λ counts. AreOwnerCounts dump.now.frames (length dump.now.frames) (slot_limit + 1) counts.items) }
 {
     let mut counts = vec![in alloc; 0u32; SLOT_LIMIT as usize + 1]?;

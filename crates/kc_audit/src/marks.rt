@@ -53,7 +53,7 @@ fn mark_slots(dump: &Dump, marks: &mut [bool])
 /// For each frame of a VM, whether its table maps it where its record says, in time that grows with frames and
 /// entries.
 pub fn marks(alloc: Global, dump: &Dump) -> Result<Vec<bool>, Memory>
-    // No clause can rule out want of memory: a test audits dumps.
+    // No clause can rule out that memory runs out: a test audits dumps.
     ensures { IfOk result (λ marks. AreMarks dump.now marks.items) }
 {
     let mut marks = vec![in alloc; false; dump.frames().len()]?;

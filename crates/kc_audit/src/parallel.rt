@@ -105,7 +105,7 @@ pub fn audit_parallel(
     alloc: Global,
     dump: &Dump,
 ) -> Result<Vec<Finding>, Memory>
-    // No clause can rule out want of memory: a test audits dumps.
+    // No clause can rule out that memory runs out: a test audits dumps.
     ensures found { IfOk result (λ found. AreFindings dump.now found.items) }
     ensures sound { IfOk result (λ found. (found.items ≡ []) ↔ IsSound dump.now) }
 {

@@ -10,7 +10,7 @@ ghost use Rattle.kc_picture.specs.Frames.{IsIn};
 ghost use Rattle.kc_custody.specs.Selected.{selected};
 ghost use Rattle.kc_trace.specs.CustodyText.{event_line, custody_text_of};
 ghost use Rattle.kc_trace.specs.SummaryText.{summary_text_of};
-ghost use Rattle.kc_texts.specs.Lines.{longest_with_newline};
+ghost use Rattle.kc_trace.specs.Spelling.{longest_call};
 ghost use Rattle.kc_texts.specs.Outcomes.{TellsSink};
 ghost use Rattle.kc_cli.specs.Custody.{IsAccount};
 
@@ -54,7 +54,7 @@ fn give_text<K: Sink>(
     end: &[u8],
 ) -> Result<(), Failed>
     requires out { K.failed out.old ≡ false }
-    requires room { longest_with_newline ≤ vec_capacity piece }
+    requires room { longest_call ≤ vec_capacity piece }
     ensures ok { OnOk result (Appends (K.taken out.old) (K.taken out.new) (piece.items ++ (flat_map event_line events.now ++ end.now))) }
     ensures begun { OnErr result ((n : ℕ) × Appends (K.taken out.old) (K.taken out.new) (take n (piece.items ++ (flat_map event_line events.now ++ end.now)))) }
     ensures mark { K.failed out.new ≡ is_err result }

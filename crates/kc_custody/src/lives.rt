@@ -11,7 +11,7 @@ use std::alloc::Global;
 /// slots below 64. `Memory` where a growth was refused.
 pub fn lives(alloc: Global, frames: u32, mut events: Vec<Event>) -> Result<Vec<Life>, Memory>
     requires { All (IsWithin frames) events.items }
-    // No clause can rule out want of memory: examples of the program make some.
+    // No clause can rule out that memory runs out: examples of the program make some.
     ensures { IfOk result (λ told. told.items ≡ lives events.items) }
 {
     let mut behind = Behind::none(alloc, frames)?;

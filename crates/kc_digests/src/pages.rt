@@ -172,7 +172,7 @@ pub fn frame_digests(
     pages: &[Page],
     lanes: Lanes,
 ) -> Result<Vec<[u8; 32]>, Memory>
-    // No clause can rule out want of memory: a test hashes pages.
+    // No clause can rule out that memory runs out: a test hashes pages.
     ensures { IfOk result (λ digests. digests.items ≡ map digest_of pages.now) }
 {
     digests(rt, alloc, pages, lanes)
@@ -185,7 +185,7 @@ pub fn bytes_digests(
     pages: &[PageBytes],
     lanes: Lanes,
 ) -> Result<Vec<[u8; 32]>, Memory>
-    // No clause can rule out want of memory: a test hashes pages.
+    // No clause can rule out that memory runs out: a test hashes pages.
     ensures { IfOk result (λ digests. digests.items ≡ map sha256 pages.now) }
 {
     digests(rt, alloc, pages, lanes)

@@ -128,7 +128,7 @@ fn text_of(alloc: Global, dump: &Dump) -> Result<Vec<u8>, Memory>
 
 /// The one text of a dump, which is read as that dump. `Memory` where a growth was refused.
 pub fn write_dump(alloc: Global, dump: &Dump) -> Result<Vec<u8>, Memory>
-    // No clause can rule out want of memory: a test writes dumps.
+    // No clause can rule out that memory runs out: a test writes dumps.
     ensures text { IfOk result (λ text. text.items ≡ dump_text dump.now) }
     ensures read { IfOk result (λ text. IsDumpText text.items dump.now) }
 {

@@ -46,7 +46,7 @@ pub record IsLeftHistory (machine : Configuration) (ps : List ProgramView) (is_s
   pub begun : is_settled ≡ true → HasBeginnings left.entries ps
   pub others : is_settled ≡ true → HasNoOthers left.entries ps
 
--- the cause that a call which a thread did not make is: want of memory is told as that, and with programs that were judged any other fault settles nothing
+-- the cause that a call which a thread did not make is: out of memory is told as that, and with programs that were judged any other fault settles nothing
 abbrev pub fault_cause : LiveFault → LiveCause
 fault_cause faults.Memory = Memory
 fault_cause faults.NotYours = Unsettled

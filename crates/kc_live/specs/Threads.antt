@@ -20,7 +20,7 @@ AreBeginnings (row ∷ rows) (calls ∷ rest) = ((n : ℕ) × (row ≡ take n ca
 AreBeginnings [] (calls ∷ rest) = ⊥
 AreBeginnings (row ∷ rows) [] = ⊥
 
--- what is told of two threads: a start that was refused goes first, then want of memory
+-- what is told of two threads: a start that was refused goes first, then out of memory
 abbrev pub graver : Option ThreadStop → Option ThreadStop → Option ThreadStop
 graver (Some Start) stop = Some Start
 graver met (Some Start) = Some Start

@@ -44,7 +44,7 @@ impl Book {
     /// The core in the boot state of its configuration, no calls, and room for as many as there can be; `Memory`
     /// where a growth was refused.
     pub fn new(alloc: Global, config: Config) -> Result<Book, Memory>
-        // No clause can rule out want of memory: tests make books.
+        // No clause can rule out that memory runs out: tests make books.
         ensures { IfOk result (λ book. book ≡ new_log config) }
     {
         Ok(Book {
@@ -54,7 +54,7 @@ impl Book {
         })
     }
 
-    /// Makes one call, which the volume then has with its reply. No want of memory can come here. The one fault is
+    /// Makes one call, which the volume then has with its reply. Memory cannot run out here. The one fault is
     /// `HistoryFull`, which comes exactly where the volume has 65,536 calls.
     pub fn step(&mut self, ready: Ready) -> Result<Receipt, LiveFault>
         ensures receipt { IfOk result (λ r. r ≡ receipt_of self.old ready) }
@@ -88,7 +88,7 @@ impl Book {
     }
 
     /// Hands out the volume, full or not, and begins the next one with the core as it is. The room for the next one's calls is
-    /// made before, so that no want of memory can come here.
+    /// made before, so that memory cannot run out here.
     pub fn turn(&mut self, room: Vec<Entry>) -> Volume
         requires empty { room.items ≡ [] }
         requires room { call_limit ≤ vec_capacity room }

@@ -34,7 +34,7 @@ impl Model for Ready {
 impl Ready {
     /// Makes a call ready; `Memory` where a growth was refused.
     pub fn new(alloc: Global, call: Call) -> Result<Ready, Memory>
-        // No clause can rule out want of memory: tests make calls ready.
+        // No clause can rule out that memory runs out: tests make calls ready.
         ensures { IfOk result (λ ready. ready ≡ call) }
     {
         let (call, copy) = call.share(alloc)?;
@@ -49,7 +49,7 @@ impl Ready {
         })
     }
 
-    /// Makes the call of a core, for which no want of memory can come: what the history keeps of it, and the receipt, with
+    /// Makes the call of a core, for which memory cannot run out: what the history keeps of it, and the receipt, with
     /// this place in this volume.
     pub fn make(self, core: &mut KCore, volume: u64, number: u32) -> (Entry, Receipt)
         ensures entry { result.0 ≡ entry self (next core.old self).0 }

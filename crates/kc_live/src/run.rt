@@ -124,7 +124,7 @@ fn is_answer(config: &Config, history: &History, marks: Marks, rows: &[Vec<Recei
 /// Runs each program in a thread of its own, and answers the closed history and each program's receipts.
 ///
 /// Before the run the programs are judged: `BadActor`, `NotYours` and `HistoryFull` come in this order. Each thread is
-/// joined, whatever comes; a program that meets want of memory makes no more calls, one whose thread could not be
+/// joined, whatever comes; a program that is out of memory makes no more calls, one whose thread could not be
 /// started makes none, and the others go on to their ends. Then the receipts are settled with the history. `Start` goes
 /// before `Memory`, and both before `Unsettled`, where the receipts are not the history's. The gate is told call `j` of
 /// program `p` by the number `j` plus the lengths of the programs before `p`, outside the lock.

@@ -100,7 +100,7 @@ impl Model for Marks {
 impl Marks {
     /// Room for a volume of this many calls; `Memory` where a growth was refused.
     pub fn with_room(alloc: Global, calls: usize) -> Result<Marks, Memory>
-        // No clause can rule out want of memory: tests settle.
+        // No clause can rule out that memory runs out: tests settle.
         ensures { IfOk result (λ marks. marks ≡ calls) }
     {
         let mut seen = Vec::new(alloc);
@@ -122,7 +122,7 @@ impl Marks {
 
 /// The same as `Marks::settle`, in room made for it; `Memory` where a growth was refused.
 pub fn settle(alloc: Global, volume: &Volume, rows: &[Vec<Receipt>]) -> Result<bool, Memory>
-    // No clause can rule out want of memory: tests settle.
+    // No clause can rule out that memory runs out: tests settle.
     ensures { IfOk result (λ yes. IsTrue yes ↔ IsSettled volume.now (map (λ v. v.items) rows.now)) }
 {
     let marks = Marks::with_room(alloc, volume.entries().len())?;

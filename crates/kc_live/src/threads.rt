@@ -76,7 +76,7 @@ impl Model for Places {
 impl Places {
     /// Places for this many programs; `Memory` where a growth was refused.
     pub fn with_room(alloc: Global, programs: usize) -> Result<Places, Memory>
-        // No clause can rule out want of memory: tests run programs.
+        // No clause can rule out that memory runs out: tests run programs.
         ensures { IfOk result (λ places. programs ≤ places) }
     {
         Ok(Places {
@@ -101,7 +101,7 @@ pub struct Made {
     pub stop: Option<ThreadStop>,
 }
 
-/// What is told of two threads: a start that was refused goes first, then want of memory.
+/// What is told of two threads: a start that was refused goes first, then out of memory.
 fn graver(met: Option<ThreadStop>, stop: Option<ThreadStop>) -> Option<ThreadStop>
     ensures { result ≡ graver met stop }
 {

@@ -47,7 +47,7 @@ fn fill_with_zeros(bytes: &mut Vec<u8>)
 impl PageBytes {
     /// A page of zero bytes, or `Memory` where a growth was refused.
     pub fn zeroed(alloc: Global) -> Result<PageBytes, Memory>
-        // No clause can rule out want of memory: tests make pages.
+        // No clause can rule out that memory runs out: tests make pages.
         ensures { IfOk result (λ page. page ≡ zero_page) }
     {
         Ok(PageBytes {

@@ -3,7 +3,7 @@
 use kc_parts::Parts;
 use kc_types::Reply;
 
-/// A call with parts on which it can be made, or that it left. Where it is let go, their pages are wiped.
+/// A call with parts on which it can be made, or that it left. Where it is dropped, their pages are wiped.
 pub(crate) struct Task {
     /// The call's place in the trace.
     pub(crate) number: usize,

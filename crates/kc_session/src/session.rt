@@ -70,7 +70,7 @@ impl Model for Session {
 impl Session {
     /// The core in the boot state of its configuration, asked nothing yet; `Memory` where a growth was refused.
     pub fn new(alloc: Global, config: Config) -> Result<Session, Memory>
-        // No clause can rule out want of memory: tests open sessions.
+        // No clause can rule out that memory runs out: tests open sessions.
         ensures { IfOk result (λ session. session ≡ new_log config) }
     {
         let book = Book::new(alloc, config)?;

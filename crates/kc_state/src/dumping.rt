@@ -64,7 +64,7 @@ pub fn dump(
     core: &KCore,
     lanes: Lanes,
 ) -> Result<Dump, Memory>
-    // No clause can rule out want of memory: a test dumps a core.
+    // No clause can rule out that memory runs out: a test dumps a core.
     ensures dump { IfOk result (λ dump. dump ≡ dump_of core.now) }
     ensures sound { IfOk result IsSound }
 {

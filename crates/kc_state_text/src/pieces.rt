@@ -192,7 +192,7 @@ pub fn is_state_text(
     text: &[u8],
     lanes: Lanes,
 ) -> Result<bool, Memory>
-    // No clause can rule out want of memory: a test compares states.
+    // No clause can rule out that memory runs out: a test compares states.
     ensures { IfOk result (λ same. IsTrue same ↔ (text.now ≡ state_text core.now)) }
 {
     let pieces = StatePieces::new(rt, alloc, core, lanes)?;

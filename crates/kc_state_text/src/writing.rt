@@ -165,7 +165,7 @@ fn push_sizes(text: &mut Vec<u8>, sizes: Sizes) -> Result<(), Memory>
 
 /// The lines of a core's state before those of its pages: at most 300,000 bytes. `Memory` where a growth was refused.
 pub fn write_front(alloc: Global, core: &KCore) -> Result<Vec<u8>, Memory>
-    // No clause can rule out want of memory: a test writes states.
+    // No clause can rule out that memory runs out: a test writes states.
     ensures { IfOk result (λ text. text.items ≡ front_begin core.now) }
 {
     let mut text = Vec::new(alloc);

@@ -21,7 +21,7 @@ pub record IsAudited (all : Bool) (text : List ℕ) (sound : Bool) (written : Li
   pub nothing : IsTrue sound ↔ (found ≡ [])
   pub in_order : IsTrue sound ↔ IsSound dump
 
--- the dump is refused, or memory, and want of memory is never told as a fault of the dump
+-- the dump is refused, or memory, and out of memory is never told as a fault of the dump
 abbrev pub IsDumpFault : TextFault → Type 0
 IsDumpFault (texts.Dump fault) = fault ≢ dumps.Memory
 IsDumpFault fault = fault ≡ texts.Memory

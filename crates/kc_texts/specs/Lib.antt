@@ -1,5 +1,4 @@
 pub mod Streamed
-pub mod Lines
 pub mod Ends
 pub mod Faults
 pub mod Reading

@@ -20,7 +20,7 @@ mod whole;
 
 pub use auditing::audit_text;
 pub use fault::TextFault;
-pub use lines::{LONGEST_LINE, Line, give_lines};
+pub use lines::{Line, give_lines};
 pub use mem::Mem;
 pub use origin::Origin;
 pub use piece::{PIECE, empty_piece};

@@ -2,14 +2,11 @@
 ghost use Rattle.std.specs.Prelude.{◌≡◌, ◌≤◌, ◌+◌, ◌++◌, false, ℕ, List, take, vec_len, vec_capacity, is_err, OnOk, OnErr};
 ghost use Rattle.std.specs.List.{flat_map};
 ghost use Rattle.std.specs.Io.KnownBytes.{Appends};
-ghost use Rattle.kc_texts.specs.Lines.{longest_with_newline};
+ghost use Rattle.kc_trace.specs.Spelling.{longest_call};
 
 use crate::source::{Failed, Sink};
 use crate::whole::write_whole;
 use kc_trace::LONGEST_CALL;
-
-/// The bytes of the longest line, with its newline: a call's.
-pub const LONGEST_LINE: usize = LONGEST_CALL;
 
 /// What stands in a line of its own.
 pub trait Line {
@@ -18,7 +15,7 @@ pub trait Line {
 
     /// Appends its line, for which there is room: memory does not grow.
     fn push(&self, text: &mut Vec<u8>)
-        requires { vec_len text.old + longest_with_newline ≤ vec_capacity text.old }
+        requires { vec_len text.old + longest_call ≤ vec_capacity text.old }
         ensures line { text.new.items ≡ text.old.items ++ line self.now }
         ensures capacity { vec_capacity text.old ≤ vec_capacity text.new };
 }
@@ -31,13 +28,13 @@ pub fn give_lines<K: Sink, L: Line>(
     lines: &[L],
 ) -> Result<(), Failed>
     requires out { K.failed out.old ≡ false }
-    requires room { longest_with_newline ≤ vec_capacity piece }
+    requires room { longest_call ≤ vec_capacity piece }
     ensures ok { OnOk result (Appends (K.taken out.old) (K.taken out.new) (piece.items ++ flat_map L.line lines.now)) }
     ensures begun { OnErr result ((n : ℕ) × Appends (K.taken out.old) (K.taken out.new) (take n (piece.items ++ flat_map L.line lines.now))) }
     ensures mark { K.failed out.new ≡ is_err result }
 {
     for line in lines {
-        if piece.capacity() - piece.len() < LONGEST_LINE {
+        if piece.capacity() - piece.len() < LONGEST_CALL {
             write_whole(out, &piece)?;
             piece.clear();
         }

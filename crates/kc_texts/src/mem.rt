@@ -10,7 +10,7 @@ use std::alloc::Global;
 pub struct Mem {
     pub bytes: Vec<u8>,
     pub position: usize,
-    /// Whether a write was refused for want of memory.
+    /// Whether a write was refused since memory ran out.
     pub failed: bool,
 }
 

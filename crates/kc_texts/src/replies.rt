@@ -2,7 +2,7 @@
 ghost use Rattle.std.specs.Prelude.{◌≡◌, ◌≤◌, ◌++◌, ◌∷◌, [], ℕ, false, take, vec_capacity, is_err, OnOk, OnErr};
 ghost use Rattle.std.specs.Io.KnownBytes.{Appends};
 ghost use Rattle.kc_trace.specs.ReplyText.{reply_line_of, reply_text_of};
-ghost use Rattle.kc_texts.specs.Lines.{longest_with_newline};
+ghost use Rattle.kc_trace.specs.Spelling.{longest_call};
 
 use crate::lines::{Line, give_lines};
 use crate::source::{Failed, Sink};
@@ -22,7 +22,7 @@ impl Line for Reply {
 pub fn give_replies<K: Sink>(out: &mut K, piece: Vec<u8>, replies: &[Reply]) -> Result<(), Failed>
     requires out { K.failed out.old ≡ false }
     requires empty { piece.items ≡ [] }
-    requires room { longest_with_newline ≤ vec_capacity piece }
+    requires room { longest_call ≤ vec_capacity piece }
     ensures ok { OnOk result (Appends (K.taken out.old) (K.taken out.new) (reply_text_of replies.now)) }
     ensures begun { OnErr result ((n : ℕ) × Appends (K.taken out.old) (K.taken out.new) (take n (reply_text_of replies.now))) }
     ensures mark { K.failed out.new ≡ is_err result }

@@ -48,7 +48,7 @@ impl From<ReadFault> for StreamFault {
 /// So many calls are worth going on with, before more are read.
 const CALLS_AT_ONCE: usize = 4_096;
 
-/// So many bytes of text are, too: calls with whole pages let go of their memory before it has to grow.
+/// So many bytes of text are, too: calls with whole pages drop their memory before it has to grow.
 const TEXT_AT_ONCE: usize = 2 * PIECE;
 
 /// The calls with more behind them; where there were none, those that come as they lie.
@@ -116,7 +116,7 @@ impl CallStream {
         ensures few { self.new.total ≤ byte_limit }
         ensures mark { OnOk result (T.failed source.new ≡ false) }
         ensures read { result ≡ Err ReadFault.Read → (bytes : List ℕ) (calls : List Call) (first : Option (List ℕ)) → HasRead self.old bytes calls first (T.left source.old) → ReadFailed (T.failed source.new) first (T.left source.new) }
-        // A read that failed is never reported as want of memory.
+        // A read that failed is never reported as out of memory.
         ensures memory { result ≡ Err ReadFault.Memory → T.failed source.new ≡ false }
     {
         let start = self.total;
@@ -159,7 +159,7 @@ impl CallStream {
     pub fn finish(self) -> Result<(), TraceFault>
         ensures ok { OnOk result ((bytes : List ℕ) (calls : List Call) (first now : Option (List ℕ)) → HasRead self bytes calls first now → IsAtEnd now → IfSome first (λ text. IsTrace text calls)) }
         ensures trace { (fault : TraceFault) → result ≡ Err fault → (bytes : List ℕ) (calls : List Call) (first now : Option (List ℕ)) → HasRead self bytes calls first now → IsAtEnd now → IfSome first (λ text. IsRefused text fault) }
-        // Want of memory is no fault of the trace.
+        // Out of memory is no fault of the trace.
         ensures told { result ≢ Err TraceFault.Memory }
     {
         self.reader.finish()
@@ -174,9 +174,9 @@ pub fn read_calls<T: Source>(alloc: Global, source: &mut T) -> Result<Vec<Call>,
     ensures ended { OnOk result (IsAtEnd (T.left source.new)) }
     ensures trace { (fault : TraceFault) → result ≡ Err (StreamFault.Trace fault) → IfSome (T.left source.old) (λ text. IsRefused text fault) × IsAtEnd (T.left source.new) }
     ensures read { result ≡ Err StreamFault.Read → ReadFailed (T.failed source.new) (T.left source.old) (T.left source.new) }
-    // Want of memory is no fault of the trace.
+    // Out of memory is no fault of the trace.
     ensures told { result ≢ Err (StreamFault.Trace TraceFault.Memory) }
-    // A read that failed is reported as nothing else, and more bytes than are read as nothing else but want of memory.
+    // A read that failed is reported as nothing else, and more bytes than are read as nothing else but out of memory.
     ensures failure { T.failed source.new ≡ true → result ≡ Err StreamFault.Read }
     ensures few { result ≢ Err StreamFault.Read → result ≢ Err StreamFault.Memory → IfSome (T.left source.old) (λ text. length text ≤ byte_limit) }
 {

@@ -27,7 +27,7 @@ pub fn read_whole<S: Source>(alloc: Global, source: &mut S) -> Result<Vec<u8>, R
     ensures few { IfOk result (λ all. length all.items ≤ byte_limit) }
     ensures ended { OnOk result (IsAtEnd (S.left source.new)) }
     ensures mark { OnOk result (S.failed source.new ≡ false) }
-    // A read that failed is never reported as want of memory.
+    // A read that failed is never reported as out of memory.
     ensures memory { result ≡ Err ReadFault.Memory → S.failed source.new ≡ false }
     ensures read { result ≡ Err ReadFault.Read → ReadFailed (S.failed source.new) (S.left source.old) (S.left source.new) }
 {
@@ -112,7 +112,7 @@ pub fn read_secret<S: Source>(alloc: Global, source: &mut S) -> Result<Vec<u8>, 
     ensures few { IfOk result (λ all. length all.items ≤ byte_limit) }
     ensures ended { OnOk result (IsAtEnd (S.left source.new)) }
     ensures mark { OnOk result (S.failed source.new ≡ false) }
-    // A read that failed is never reported as want of memory.
+    // A read that failed is never reported as out of memory.
     ensures memory { result ≡ Err ReadFault.Memory → S.failed source.new ≡ false }
     ensures read { result ≡ Err ReadFault.Read → ReadFailed (S.failed source.new) (S.left source.old) (S.left source.new) }
 {

@@ -11,9 +11,9 @@ use Rattle.kc_types.specs.Bytes.{IsData}
 use Rattle.kc_types.specs.declared.call.Call.{Call}
 use Rattle.kc_types.specs.declared.call.Call.TheVariants.{Take, Give, HostFault, HostRead, HostWrite, RegisterVm, RegisterVcpu, SetBoot, Remap, Verify, Map, GuestRead, GuestWrite, Grant, Revoke, GrantRange, RevokeRange, Drop, Clear}
 use Rattle.kc_model.specs.Ranged.{IsWord, IsRanged}
+use Rattle.kc_types.specs.Limits.{line_limit}
 use Rattle.kc_trace.specs.Spelling.{words_of, line_of}
 use Rattle.kc_trace.specs.Reading.{with_three_numbers, four_words, call_of_words, call_of}
-use Rattle.kc_trace.specs.Machine.{longest_line}
 use Rattle.kc_lines.specs.Lines.{IsOneLine}
 use Rattle.kc_lines.proofs.Numbers.{number_of-decimal}
 use Rattle.kc_lines.proofs.Digits.{data_of-encode_lower}
@@ -102,16 +102,16 @@ three_fit : (a b c : ℕ) → IsWord a → IsWord b → IsWord c → width (deci
 three_fit a b c fits_a fits_b fits_c = omega (arith, ten_digits a fits_a, two_fit b c fits_b fits_c)
 
 -- a name of at most seven letters, and what stands behind it
-fits_behind : (name : List ℕ) (words : List (List ℕ)) → length name ≤ 7 → width words ≤ 8236 → length (join_with_byte 32 (name ∷ words)) ≤ longest_line
+fits_behind : (name : List ℕ) (words : List (List ℕ)) → length name ≤ 7 → width words ≤ 8236 → length (join_with_byte 32 (name ∷ words)) ≤ line_limit
 fits_behind name words short few = omega (arith, length-join name words)
 
-fits_three : (name : List ℕ) (a b c : ℕ) → length name ≤ 7 → IsWord a → IsWord b → IsWord c → length (join_with_byte 32 (name ∷ decimal a ∷ decimal b ∷ decimal c ∷ [])) ≤ longest_line
+fits_three : (name : List ℕ) (a b c : ℕ) → length name ≤ 7 → IsWord a → IsWord b → IsWord c → length (join_with_byte 32 (name ∷ decimal a ∷ decimal b ∷ decimal c ∷ [])) ≤ line_limit
 fits_three name a b c short fits_a fits_b fits_c = fits_behind name (decimal a ∷ decimal b ∷ decimal c ∷ []) short (omega (arith, three_fit a b c fits_a fits_b fits_c))
 
-fits_four : (name : List ℕ) (a b c d : ℕ) → length name ≤ 7 → IsWord a → IsWord b → IsWord c → IsWord d → length (join_with_byte 32 (name ∷ decimal a ∷ decimal b ∷ decimal c ∷ decimal d ∷ [])) ≤ longest_line
+fits_four : (name : List ℕ) (a b c d : ℕ) → length name ≤ 7 → IsWord a → IsWord b → IsWord c → IsWord d → length (join_with_byte 32 (name ∷ decimal a ∷ decimal b ∷ decimal c ∷ decimal d ∷ [])) ≤ line_limit
 fits_four name a b c d short fits_a fits_b fits_c fits_d = fits_behind name (decimal a ∷ decimal b ∷ decimal c ∷ decimal d ∷ []) short (omega (arith, two_fit a b fits_a fits_b, two_fit c d fits_c fits_d))
 
-pub line_fits : (call : Call) → IsRanged call → length (line_of call) ≤ longest_line
+pub line_fits : (call : Call) → IsRanged call → length (line_of call) ≤ line_limit
 line_fits Take fits = omega arith
 line_fits (Give a) fits = fits_behind (codes "give") (decimal a ∷ []) (omega arith) (omega (arith, one_fits a fits))
 line_fits (HostFault a) fits = fits_behind (codes "hfault") (decimal a ∷ []) (omega arith) (omega (arith, one_fits a fits))

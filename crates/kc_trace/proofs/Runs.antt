@@ -7,9 +7,10 @@ use Rattle.std.proofs.lemmas.List.{append-nil, drop_all}
 use Rattle.kc_types.specs.Limits.{call_limit}
 use Rattle.kc_types.specs.declared.version.Version.{Version}
 use Rattle.kc_types.specs.declared.call.Call.{Call}
+use Rattle.kc_types.specs.Limits.{line_limit}
 use Rattle.kc_trace.specs.declared.fault.TraceFault.{TraceFault}
 use Rattle.kc_trace.specs.declared.fault.TraceFault.TheVariants.{NoHeader, BadLine, TooManyCalls}
-use Rattle.kc_trace.specs.Machine.{◌>>=◌, Progress, told, longest_line, with_byte, longer_each, call_in, after_line, with_front, step, feed}
+use Rattle.kc_trace.specs.Machine.{◌>>=◌, Progress, told, with_byte, longer_each, call_in, after_line, with_front, step, feed}
 use Rattle.kc_lines.specs.Lines.{IsOneLine}
 use Rattle.kc_lines.proofs.Newlines.{tail_is}
 
@@ -23,19 +24,19 @@ none_longer : (run : List ℕ) → longer_each None run ≡ None
 none_longer [] = refl
 none_longer (byte ∷ run) = none_longer run
 
-fits_longer : (line run : List ℕ) → length line + length run ≤ longest_line → longer_each (Some line) run ≡ Some (line ++ run)
+fits_longer : (line run : List ℕ) → length line + length run ≤ line_limit → longer_each (Some line) run ≡ Some (line ++ run)
 fits_longer line [] fits = ap (λ (l : List ℕ). Some l) (sym (append-nil line))
 fits_longer line (byte ∷ run) fits =
     let more = length-append line (byte ∷ []) in
-    rw (lt-ltb (length line) longest_line (omega arith), fits_longer (line ++ byte ∷ []) run (omega (arith, more)), append_assoc line (byte ∷ []) run) refl
+    rw (lt-ltb (length line) line_limit (omega arith), fits_longer (line ++ byte ∷ []) run (omega (arith, more)), append_assoc line (byte ∷ []) run) refl
 
-over_longer : (line run : List ℕ) → length line ≤ longest_line → longest_line < length line + length run → longer_each (Some line) run ≡ None
+over_longer : (line run : List ℕ) → length line ≤ line_limit → line_limit < length line + length run → longer_each (Some line) run ≡ None
 over_longer line [] few over = absurd (omega arith)
 over_longer line (byte ∷ run) few over =
     let more = length-append line (byte ∷ []) in
-    elim (cases_lt (length line) longest_line) [
-      | inl lt ↦ rw (lt-ltb (length line) longest_line lt) (over_longer (line ++ byte ∷ []) run (omega (arith, more)) (omega (arith, more)))
-      | inr le ↦ rw (le-ltb (length line) longest_line le) (none_longer run)
+    elim (cases_lt (length line) line_limit) [
+      | inl lt ↦ rw (lt-ltb (length line) line_limit lt) (over_longer (line ++ byte ∷ []) run (omega (arith, more)) (omega (arith, more)))
+      | inr le ↦ rw (le-ltb (length line) line_limit le) (none_longer run)
     ]
 
 abbrev with_more : Progress → List ℕ → Progress
@@ -83,10 +84,10 @@ feed_call p q run rest call behind few h is next = rw next (feed_line p run rest
 pub feed_none : (p : Progress) (run rest : List ℕ) → p.header_left ≡ [] → p.calls < call_limit → IsOneLine run → None ≡ call_in p.version (longer_each p.line run) → feed p (run ++ 10 ∷ rest) ≡ Err (BadLine (p.calls + 2))
 feed_none p run rest behind few h is = feed_line p run rest behind few h ∙ ap (λ (found : Option Call). after_line p found >>= λ first. with_front first.1 (feed first.0 rest)) (sym is)
 
-pub whole_fits : (line : List ℕ) → length line ≤ longest_line → longer_each (Some []) line ≡ Some line
+pub whole_fits : (line : List ℕ) → length line ≤ line_limit → longer_each (Some []) line ≡ Some line
 whole_fits line fits = fits_longer [] line (omega arith)
 
-pub whole_over : (line : List ℕ) → longest_line < length line → longer_each (Some []) line ≡ None
+pub whole_over : (line : List ℕ) → line_limit < length line → longer_each (Some []) line ≡ None
 whole_over line over = over_longer [] line (omega arith) (omega arith)
 
 pub nothing_behind : (xs : List ℕ) → take (length xs - length xs) (drop (length xs) xs) ≡ []
@@ -126,11 +127,11 @@ one_too_many p bytes behind full some = go p.header_left bytes behind some
     go [] (byte ∷ bytes) behind some = rw (le-leb call_limit p.calls full) refl
 
 -- what a run makes of a line, or of one that is longer than any call
-pub longer_fits : (is_too_long : Bool) (line run new : List ℕ) → new ≡ line ++ run → length line + length run ≤ longest_line → cond is_too_long None (Some new) ≡ longer_each (cond is_too_long None (Some line)) run
+pub longer_fits : (is_too_long : Bool) (line run new : List ℕ) → new ≡ line ++ run → length line + length run ≤ line_limit → cond is_too_long None (Some new) ≡ longer_each (cond is_too_long None (Some line)) run
 longer_fits true line run new e fits = sym (none_longer run)
 longer_fits false line run new e fits = ap (λ (l : List ℕ). Some l) e ∙ sym (fits_longer line run fits)
 
-pub longer_over : (is_too_long : Bool) (line run : List ℕ) → length line ≤ longest_line → longest_line < length line + length run → None ≡ longer_each (cond is_too_long None (Some line)) run
+pub longer_over : (is_too_long : Bool) (line run : List ℕ) → length line ≤ line_limit → line_limit < length line + length run → None ≡ longer_each (cond is_too_long None (Some line)) run
 longer_over true line run few over = sym (none_longer run)
 longer_over false line run few over = sym (over_longer line run few over)
 

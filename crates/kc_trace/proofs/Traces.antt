@@ -9,10 +9,11 @@ use Rattle.std.proofs.lemmas.List.Concat.{flat_map-cons}
 use Rattle.kc_types.specs.declared.version.Version.{Version}
 use Rattle.kc_types.specs.declared.version.Version.TheVariants.{One, Two}
 use Rattle.kc_types.specs.declared.call.Call.{Call}
+use Rattle.kc_types.specs.Limits.{line_limit}
 use Rattle.kc_trace.specs.declared.fault.TraceFault.{TraceFault}
 use Rattle.kc_trace.specs.declared.fault.TraceFault.TheVariants.{NoHeader, BadLine, NoNewline, TooManyCalls, Memory}
 use Rattle.kc_trace.specs.Spelling.{line_of, lines_of, trace_header, stands_in}
-use Rattle.kc_trace.specs.Machine.{◌>>=◌, Gives, Fails, Progress, longest_line, start, with_byte, told, standing, call_of_kept, call_in, after_line, step, feed, feed_each, line_ended, ended, reading}
+use Rattle.kc_trace.specs.Machine.{◌>>=◌, Gives, Fails, Progress, start, with_byte, told, standing, call_of_kept, call_in, after_line, step, feed, feed_each, line_ended, ended, reading}
 use Rattle.kc_lines.specs.Lines.{IsOneLine}
 use Rattle.kc_trace.specs.Trace.{IsCallOf, AreCalls, StopsAt, IsTrace, IsRefused}
 use Rattle.kc_trace.proofs.Lines.{line_fits, line_is_one, call_of-line_of}
@@ -21,7 +22,7 @@ use Rattle.kc_trace.proofs.Spelled.{line_is_spelled}
 -- ---- a line that is kept
 
 abbrev kept : List ℕ → Option (List ℕ)
-kept line = cond (nat_le (length line) longest_line) (Some line) None
+kept line = cond (nat_le (length line) line_limit) (Some line) None
 
 length_pushed : (line : List ℕ) (byte : ℕ) → length (line ++ byte ∷ []) ≡ length line + 1
 length_pushed line byte = omega (arith, length-append line (byte ∷ []))
@@ -29,11 +30,11 @@ length_pushed line byte = omega (arith, length-append line (byte ∷ []))
 longer-kept : (line : List ℕ) (byte : ℕ) → with_byte (kept line) byte ≡ kept (line ++ byte ∷ [])
 longer-kept line byte =
     let more = length_pushed line byte in
-    elim (cases_lt (length line) longest_line) [
-      | inl lt ↦ rw (le-leb (length line) longest_line (omega arith), lt-ltb (length line) longest_line lt, le-leb (length (line ++ byte ∷ [])) longest_line (omega (arith, more))) refl
-      | inr le ↦ elim (cases_lt longest_line (length line)) [
-        | inl past ↦ rw (lt-leb (length line) longest_line past, lt-leb (length (line ++ byte ∷ [])) longest_line (omega (arith, more))) refl
-        | inr same ↦ rw (le-leb (length line) longest_line same, le-ltb (length line) longest_line le, lt-leb (length (line ++ byte ∷ [])) longest_line (omega (arith, more))) refl
+    elim (cases_lt (length line) line_limit) [
+      | inl lt ↦ rw (le-leb (length line) line_limit (omega arith), lt-ltb (length line) line_limit lt, le-leb (length (line ++ byte ∷ [])) line_limit (omega (arith, more))) refl
+      | inr le ↦ elim (cases_lt line_limit (length line)) [
+        | inl past ↦ rw (lt-leb (length line) line_limit past, lt-leb (length (line ++ byte ∷ [])) line_limit (omega (arith, more))) refl
+        | inr same ↦ rw (le-leb (length line) line_limit same, le-ltb (length line) line_limit le, lt-leb (length (line ++ byte ∷ [])) line_limit (omega (arith, more))) refl
       ]
     ]
 
@@ -48,15 +49,15 @@ stood v (Some other) call e = by_test (stands_in v other) refl e
 kept_is_call : (v : Version) (line : List ℕ) (call : Call) → call_in v (kept line) ≡ Some call → (line ≡ line_of call) × IsCallOf v call
 kept_is_call v line call e =
     let is = stood v (call_of_kept (kept line)) call e in
-    elim (cases_lt longest_line (length line)) [
-      | inl past ↦ absurd (let none : None ≡ Some call = rw (lt-leb (length line) longest_line past) at is.0 in cc)
-      | inr le ↦ let spelled = line_is_spelled line call (rw (le-leb (length line) longest_line le) at is.0) in (spelled.0, (spelled.1, is.1))
+    elim (cases_lt line_limit (length line)) [
+      | inl past ↦ absurd (let none : None ≡ Some call = rw (lt-leb (length line) line_limit past) at is.0 in cc)
+      | inr le ↦ let spelled = line_is_spelled line call (rw (le-leb (length line) line_limit le) at is.0) in (spelled.0, (spelled.1, is.1))
     ]
 
 kept_is_none : (v : Version) (line : List ℕ) → call_in v (kept line) ≡ None → (call : Call) → IsCallOf v call → line ≡ line_of call → ⊥
 kept_is_none v line e call fits same =
-    let short : length line ≤ longest_line = rw same (line_fits call fits.0) in
-    let some : call_in v (kept line) ≡ Some call = rw (le-leb (length line) longest_line short, same, call_of-line_of call fits.0, fits.1) refl in
+    let short : length line ≤ line_limit = rw same (line_fits call fits.0) in
+    let some : call_in v (kept line) ≡ Some call = rw (le-leb (length line) line_limit short, same, call_of-line_of call fits.0, fits.1) refl in
     cc
 
 -- ---- the text behind the header
@@ -139,7 +140,7 @@ at_end : (v : Version) (before : ℕ) (line : List ℕ) → IsBegun before line 
 unfolding feed
 at_end v before [] begun = (refl, tt, omega (arith, begun.few))
 at_end v before (x ∷ line) begun =
-    subst (λ (e : Result (Unit {0}) TraceFault). Answers v before ((x ∷ line) ++ []) (e >>= λ end. Ok [])) (sym (ends_open x line (nat_le (length (x ∷ line)) longest_line)))
+    subst (λ (e : Result (Unit {0}) TraceFault). Answers v before ((x ∷ line) ++ []) (e >>= λ end. Ok [])) (sym (ends_open x line (nat_le (length (x ∷ line)) line_limit)))
     ([], x ∷ line, append-nil (x ∷ line), tt, (let lt : before < 65536 = begun.room (omega arith) in omega arith, omega arith, begun.one_line))
 
 -- what a newline makes of the line before it
@@ -366,7 +367,7 @@ skip one two p q h = ap (λ (read : Result (Progress × List Call) TraceFault). 
 
 call_again : (v : Version) (before : ℕ) (call : Call) (rest : List ℕ) → before < 65536 → IsCallOf v call → outcome (at_line v before []) (line_of call ++ 10 ∷ rest) ≡ onto (call ∷ []) (outcome (at_line v (before + 1) []) rest)
 call_again v before call rest lt fits =
-    let short : call_in v (kept (line_of call)) ≡ Some call = rw (le-leb (length (line_of call)) longest_line (line_fits call fits.0), call_of-line_of call fits.0, fits.1) refl in
+    let short : call_in v (kept (line_of call)) ≡ Some call = rw (le-leb (length (line_of call)) line_limit (line_fits call fits.0), call_of-line_of call fits.0, fits.1) refl in
     let taken : step (at_line v before (line_of call)) 10 ≡ Ok (at_line v (before + 1) [], call ∷ []) = line_ends v before (line_of call) 10 lt refl ∙ ap (after_line (at_line v before (line_of call))) short in
     skip (line_of call) (10 ∷ rest) (at_line v before []) (at_line v before (line_of call)) (grows_by v (line_of call) before [] lt (line_is_one call fits.0))
     ∙ outcome-cons (at_line v before (line_of call)) (at_line v (before + 1) []) 10 rest (call ∷ []) taken

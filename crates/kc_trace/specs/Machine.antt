@@ -5,7 +5,7 @@ use Rattle.kc_types.specs.declared.version.Version.TheVariants.{One, Two}
 use Rattle.kc_types.specs.declared.call.Call.{Call}
 use Rattle.kc_trace.specs.declared.fault.TraceFault.{TraceFault}
 use Rattle.kc_trace.specs.declared.fault.TraceFault.TheVariants.{NoHeader, BadLine, NoNewline, TooManyCalls, Memory}
-use Rattle.kc_types.specs.Limits.{call_limit}
+use Rattle.kc_types.specs.Limits.{call_limit, line_limit}
 use Rattle.kc_trace.specs.Spelling.{trace_header, stands_in}
 use Rattle.kc_trace.specs.Reading.{call_of}
 
@@ -40,14 +40,10 @@ pub record Progress : Type 0 where
 abbrev pub start : Progress
 start = record { header_left = trace_header One; version = One; calls = 0; line = Some [] }
 
--- the length of the longest line: `gwrite`, four numbers and 4,096 bytes
-abbrev pub longest_line : ℕ
-longest_line = 8243
-
 -- the line with one more byte
 abbrev pub with_byte : Option (List ℕ) → ℕ → Option (List ℕ)
 with_byte None byte = None
-with_byte (Some line) byte = if nat_lt (length line) longest_line then Some (line ++ byte ∷ []) else None
+with_byte (Some line) byte = if nat_lt (length line) line_limit then Some (line ++ byte ∷ []) else None
 
 -- the same of some bytes
 abbrev pub longer_each : Option (List ℕ) → List ℕ → Option (List ℕ)

@@ -1,8 +1,9 @@
 -- How each call is spelled.
-use Rattle.std.specs.Prelude.{ℕ, Bool, true, false, not, List, [], ◌∷◌, ◌++◌, codes, if◌then◌else◌}
+use Rattle.std.specs.Prelude.{ℕ, ◌+◌, Bool, true, false, not, List, [], ◌∷◌, ◌++◌, codes, if◌then◌else◌}
 use Rattle.std.specs.List.{list_any, flat_map, join_with_byte}
 use Rattle.std.specs.Fmt.{decimal}
 use Rattle.hex.specs.Hex.{encode_lower}
+use Rattle.kc_types.specs.Limits.{line_limit}
 use Rattle.kc_types.specs.declared.version.Version.{Version}
 use Rattle.kc_types.specs.declared.version.Version.TheVariants.{One, Two}
 use Rattle.kc_types.specs.declared.call.Call.{Call}
@@ -36,7 +37,7 @@ line_of call = join_with_byte 32 (words_of call)
 
 -- the length of the longest line of a call, with its newline: `gwrite`, four numbers and 4,096 bytes
 abbrev pub longest_call : ℕ
-longest_call = 8244
+longest_call = line_limit + 1
 
 -- the lines of some calls, each with its newline
 abbrev pub lines_of : List Call → List ℕ

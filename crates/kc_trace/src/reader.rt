@@ -11,14 +11,11 @@ use crate::line::call_of_line;
 use crate::writer::stands_in;
 use arrayvec::ArrayVec;
 use kc_lines::split_line;
-use kc_types::{CALL_LIMIT, Call, Version};
+use kc_types::{CALL_LIMIT, Call, LINE_LIMIT, Version};
 use std::alloc::{AllocError, Global};
 use std::marker::Model;
 
 const HEADER: &[u8; 14] = b"kcore-trace 1\n";
-
-/// The bytes of the longest line of a call, without its newline.
-const LONGEST_LINE: usize = 8_243;
 
 /// The version that the header tells, where this byte is to come of the first version's: the digit 2 may stand for
 /// its 1.
@@ -52,7 +49,7 @@ fn standing(version: Version, call: Option<Call>) -> Option<Call>
 fn call_of_whole(alloc: Global, line: &[u8]) -> Result<Option<Call>, AllocError>
     ensures { IfOk result (λ call. call ≡ call_of_kept (longer_each (Some []) line.now)) }
 {
-    if line.len() > LONGEST_LINE {
+    if line.len() > LINE_LIMIT {
         return Ok(None);
     }
     call_of_line(alloc, line)
@@ -70,7 +67,7 @@ struct Progress {
     header_left: &'static [u8],
     version: Version,
     calls: u32,
-    line: ArrayVec<u8, LONGEST_LINE>,
+    line: ArrayVec<u8, LINE_LIMIT>,
     is_too_long: bool,
 }
 
@@ -99,7 +96,7 @@ impl Progress {
         }
     }
 
-    /// The same, so that want of memory can leave the first as it was.
+    /// The same, so that the first stays as it was where memory runs out.
     fn copy(&self) -> Progress
         ensures { result ≡ self.now }
     {
@@ -284,7 +281,7 @@ impl TraceReader {
     }
 
     /// The calls whose lines this piece ends, in order. A fault comes with the piece whose bytes decide it, with
-    /// no call of that piece, and then again with each further piece. After want of memory the reader is as it
+    /// no call of that piece, and then again with each further piece. After `Memory` the reader is as it
     /// was, so the piece may be fed again. A piece is best not too small, as a copy of the line begun is made for
     /// each.
     pub fn feed(&mut self, alloc: Global, piece: &[u8]) -> Result<Vec<Call>, TraceFault>

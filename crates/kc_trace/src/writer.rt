@@ -6,15 +6,16 @@ ghost use Rattle.hex.specs.Hex.{encode_lower};
 ghost use Rattle.kc_types.specs.Limits.{call_limit};
 ghost use Rattle.kc_types.specs.Bytes.{IsData};
 ghost use Rattle.kc_model.specs.Ranged.{IsRanged};
+ghost use Rattle.kc_types.specs.Limits.{line_limit};
 ghost use Rattle.kc_trace.specs.Trace.{IsTrace};
 ghost use Rattle.kc_trace.specs.Spelling.{is_new, stands_in, version_of, trace_header, line_of, longest_call, trace_of};
 
 use kc_lines::{push_bytes, push_digits, push_number};
-use kc_types::{Call, Data, Memory, Version};
+use kc_types::{Call, Data, LINE_LIMIT, Memory, Version};
 use std::alloc::Global;
 
 /// The bytes of the longest line of a call, with its newline: `gwrite`, four numbers and 4,096 bytes.
-pub const LONGEST_CALL: usize = 8_244;
+pub const LONGEST_CALL: usize = LINE_LIMIT + 1;
 
 /// Appends a space, and the digits of some bytes.
 fn push_data(text: &mut Vec<u8>, bytes: &Data)
@@ -74,9 +75,9 @@ fn push_four(text: &mut Vec<u8>, name: &str, first: u32, second: u32, third: u32
 
 /// Appends the line of a call.
 fn push_line(text: &mut Vec<u8>, call: &Call)
-    requires { vec_len text.old + 8243 ≤ vec_capacity text.old }
+    requires { vec_len text.old + line_limit ≤ vec_capacity text.old }
     ensures items { text.new.items ≡ text.old.items ++ line_of call.now }
-    ensures len { vec_len text.new ≤ vec_len text.old + 8243 }
+    ensures len { vec_len text.new ≤ vec_len text.old + line_limit }
     ensures ranged { IsRanged call.now }
     ensures capacity { vec_capacity text.old ≤ vec_capacity text.new }
 {
@@ -202,7 +203,7 @@ pub fn push_header(text: &mut Vec<u8>, version: Version)
 /// each call. Each line ends with a newline. `read_trace` reads it as these calls.
 pub fn write_trace(alloc: Global, calls: &[Call]) -> Result<Vec<u8>, Memory>
     requires { length calls.now ≤ call_limit }
-    // No clause can rule out want of memory: tests write traces.
+    // No clause can rule out that memory runs out: tests write traces.
     ensures text { IfOk result (λ text. text.items ≡ trace_of calls.now) }
     ensures read { IfOk result (λ text. IsTrace text.items calls.now) }
 {

@@ -1,6 +1,6 @@
 -- The limits of `src/limits.rt`, as definitions name them.
 use Rattle.std.specs.Prelude.{ℕ}
-use Rattle.kc_types.specs.declared.limits.TheConstants.{PAGE_SIZE, FRAME_LIMIT, FIRST_FRAME_LIMIT, SLOT_LIMIT, FIRST_SLOT_LIMIT, VCPU_LIMIT, GFN_LIMIT, LEAF_ENTRIES, LEAF_LIMIT, IMAGE_LIMIT, IMAGE_SIZE_LIMIT, DIGEST_LIMIT, SHARE_LIMIT, RANGE_LIMIT, CALL_LIMIT, WORKER_LIMIT, BYTE_LIMIT}
+use Rattle.kc_types.specs.declared.limits.TheConstants.{PAGE_SIZE, FRAME_LIMIT, FIRST_FRAME_LIMIT, SLOT_LIMIT, FIRST_SLOT_LIMIT, VCPU_LIMIT, GFN_LIMIT, LEAF_ENTRIES, LEAF_LIMIT, IMAGE_LIMIT, IMAGE_SIZE_LIMIT, DIGEST_LIMIT, SHARE_LIMIT, RANGE_LIMIT, CALL_LIMIT, WORKER_LIMIT, LINE_LIMIT, BYTE_LIMIT}
 
 abbrev pub page_size : ℕ
 page_size = PAGE_SIZE
@@ -49,6 +49,9 @@ call_limit = CALL_LIMIT
 
 abbrev pub worker_limit : ℕ
 worker_limit = WORKER_LIMIT
+
+abbrev pub line_limit : ℕ
+line_limit = LINE_LIMIT
 
 abbrev pub byte_limit : ℕ
 byte_limit = BYTE_LIMIT

@@ -144,7 +144,7 @@ pub fn actor_of(call: &Call) -> Actor
 impl Call {
     /// A copy, or `Memory` where a growth was refused.
     pub fn copy(&self) -> Result<Call, Memory>
-        // No clause can rule out want of memory: a test makes a copy.
+        // No clause can rule out that memory runs out: a test makes a copy.
         ensures { IfOk result (λ made. made ≡ self.now) }
     {
         Ok(match self {
@@ -255,7 +255,7 @@ impl Call {
 
     /// The same call twice, which share their bytes; `Memory` where a growth was refused.
     pub fn share(self, alloc: Global) -> Result<(Call, Call), Memory>
-        // No clause can rule out want of memory: tests make calls live.
+        // No clause can rule out that memory runs out: tests make calls live.
         ensures { IfOk result (λ both. (both.0 ≡ self) × (both.1 ≡ self)) }
     {
         match self {

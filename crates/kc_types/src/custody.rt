@@ -61,7 +61,7 @@ impl Model for MeasuredImages {
 impl MeasuredImages {
     /// No images, with room for 4; `Memory` where a growth was refused.
     pub fn none(alloc: Global) -> Result<MeasuredImages, Memory>
-        // No clause can rule out want of memory: a test makes them.
+        // No clause can rule out that memory runs out: a test makes them.
         ensures { IfOk result (λ images. images ≡ []) }
     {
         match Box::new(alloc, ArrayVec::new()) {

@@ -78,7 +78,7 @@ impl Data {
 
     /// An equal value, which shares the bytes where they are shared already; `Memory` where a growth was refused.
     pub fn copy(&self) -> Result<Data, Memory>
-        // No clause can rule out want of memory: a test makes a copy.
+        // No clause can rule out that memory runs out: a test makes a copy.
         ensures { IfOk result (λ made. made ≡ self.now) }
     {
         let bytes = match &self.bytes {
@@ -92,7 +92,7 @@ impl Data {
     /// The same bytes for two owners, which share them where they take memory. The data are handed back where the growth that sharing takes
     /// was refused.
     pub fn share(self, alloc: Global) -> Result<(Data, Data), Data>
-        // No clause can rule out want of memory: tests share data.
+        // No clause can rule out that memory runs out: tests share data.
         ensures { MatchResult result (λ both. (both.0 ≡ self) × (both.1 ≡ self)) (λ back. back ≡ self) }
     {
         let Data { bytes } = self;

@@ -1,4 +1,4 @@
-//! What every layer speaks of: numbers with their range, calls, replies, refusals, the configuration, want of memory.
+//! What every layer speaks of: numbers with their range, calls, replies, refusals, the configuration, out of memory.
 #![tactic(auto)]
 
 mod call;
@@ -26,8 +26,8 @@ pub use custody::{
 pub use data::{Data, SHORT_SIZE};
 pub use limits::{
     BYTE_LIMIT, CALL_LIMIT, DIGEST_LIMIT, FIRST_FRAME_LIMIT, FIRST_SLOT_LIMIT, FRAME_LIMIT,
-    GFN_LIMIT, IMAGE_LIMIT, IMAGE_SIZE_LIMIT, LEAF_ENTRIES, LEAF_LIMIT, PAGE_SIZE, RANGE_LIMIT,
-    SHARE_LIMIT, SLOT_LIMIT, VCPU_LIMIT, WORKER_LIMIT,
+    GFN_LIMIT, IMAGE_LIMIT, IMAGE_SIZE_LIMIT, LEAF_ENTRIES, LEAF_LIMIT, LINE_LIMIT, PAGE_SIZE,
+    RANGE_LIMIT, SHARE_LIMIT, SLOT_LIMIT, VCPU_LIMIT, WORKER_LIMIT,
 };
 pub use link::{Ends, Link};
 pub use memory::Memory;

@@ -33,5 +33,7 @@ pub const RANGE_LIMIT: u32 = 64;
 pub const CALL_LIMIT: usize = 65_536;
 /// The most workers of a replay.
 pub const WORKER_LIMIT: usize = 64;
+/// The most bytes of a line of a trace, without its newline.
+pub const LINE_LIMIT: usize = 8_243;
 /// The most bytes that are read of a source.
 pub const BYTE_LIMIT: usize = 1_073_741_824;

@@ -1,4 +1,4 @@
-//! Want of memory.
+//! Out of memory.
 use std::alloc::{AllocError, AllocFailed};
 use thiserror::Error;
 

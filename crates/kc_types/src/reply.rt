@@ -25,7 +25,7 @@ pub enum Reply {
 impl Reply {
     /// A copy, or `Memory` where a growth was refused.
     pub fn copy(&self) -> Result<Reply, Memory>
-        // No clause can rule out want of memory: a test makes a copy.
+        // No clause can rule out that memory runs out: a test makes a copy.
         ensures { IfOk result (λ made. made ≡ self.now) }
     {
         Ok(match self {

@@ -34,7 +34,7 @@ impl ReplyBuffer {
 
     /// The buffer, grown to this many bytes where it has room for fewer; `Memory` where that growth was refused.
     pub fn at_least(self, len: usize) -> Result<ReplyBuffer, Memory>
-        // No clause can rule out want of memory: tests make reads.
+        // No clause can rule out that memory runs out: tests make reads.
         ensures enough { IfOk result (λ buffer. len ≤ buffer) }
         ensures none { len ≤ self → IsOk result }
     {
@@ -86,7 +86,7 @@ impl Call {
 
 impl Reply {
     /// The same reply twice, which share their bytes. Where a growth for that was refused they are copied into a buffer
-    /// made before, so that it comes to no want of memory.
+    /// made before, so that memory cannot run out.
     pub fn share(self, alloc: Global, buffer: ReplyBuffer) -> (Reply, Reply)
         requires { bytes_in self ≤ buffer }
         ensures reply { result.0 ≡ self }

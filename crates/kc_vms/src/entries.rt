@@ -33,7 +33,7 @@ fn push_leaf(
 /// All entries, by rising guest frame.
 pub fn entries_of(alloc: Global, levels: &Levels) -> Result<Vec<(Gfn, FrameNo)>, Memory>
     requires { IsLevels levels.now }
-    // No clause can rule out want of memory: a test lists entries.
+    // No clause can rule out that memory runs out: a test lists entries.
     ensures { IfOk result (λ entries. entries.items ≡ entries_below levels.now gfn_limit) }
 {
     let mut entries = Vec::new(alloc);

@@ -124,7 +124,7 @@ impl Stage2 {
     /// All mapped guest frames with their frames, by rising guest frame. Only the leaves that are taken are read.
     /// `Memory` where a growth was refused.
     pub fn entries(&self, alloc: Global) -> Result<Vec<(Gfn, FrameNo)>, Memory>
-        // No clause can rule out want of memory: a test lists entries.
+        // No clause can rule out that memory runs out: a test lists entries.
         ensures { IfOk result (λ entries. entries.items ≡ finite.entries self.now.mapped) }
     {
         entries_of(alloc, &self.levels)

@@ -9,7 +9,7 @@ use std::alloc::Global;
 use std::marker::Model;
 use std::ptr;
 
-/// A pointer that owns the session behind it, or one with none. It is only let go where there is none.
+/// A pointer that owns the session behind it, or one with none. It is only dropped where there is none.
 #[repr(C)]
 #[derive(Drop)]
 pub struct Held {

@@ -3,10 +3,10 @@ use Rattle.std.specs.Prelude.{OnErr}
 use Rattle.std.specs.Vec.{vec_capacity}
 use Rattle.std.proofs.lemmas.List.{take_all}
 use Rattle.std.proofs.lemmas.Result.{on_ok_weaker, on_err_weaker}
-use Rattle.kc_texts.specs.Lines.{longest_with_newline}
+use Rattle.kc_trace.specs.Spelling.{longest_call}
 use Rattle.kc_texts.proofs.Pieces.{IsGiven, text_of_first, given_whole, given_all, given_more, begun}
 use Rattle.kc_texts.proofs.lines.give_lines.Goals as goal
-use Rattle.kc_texts.proofs.lines.give_lines.Goals.{then-capacity-len-lt-LONGEST_LINE+in_ok-write_whole, else-capacity-len-lt-LONGEST_LINE}
+use Rattle.kc_texts.proofs.lines.give_lines.Goals.{then-capacity-len-lt-LONGEST_CALL+in_ok-write_whole, else-capacity-len-lt-LONGEST_CALL}
 
 on_err : {T E P : Type 0} (r : Result T E) → P → OnErr r P
 on_err (Ok x) h = tt
@@ -26,24 +26,24 @@ pub loop-line-preserved : goal.loop-line-preserved
 loop-line-preserved g c =
     let before = c.loop-line.invariant in
     let old = g.K.Sink.taken c.args.out.now in
-    let left = c.if-capacity-len-lt-LONGEST_LINE in
+    let left = c.if-capacity-len-lt-LONGEST_CALL in
     let text = text_of_first g.L.Line.line c.args.piece.items c.loop-line.line-index c.args.lines.now in
     let given : IsGiven text left.piece.items old (g.K.Sink.taken left.out) =
     elim left.branch [
-      | then-capacity-len-lt-LONGEST_LINE+in_ok-write_whole w ↦
+      | then-capacity-len-lt-LONGEST_CALL+in_ok-write_whole w ↦
           rw (w.out-is, w.piece-is, w.clear.ensures.items)
           (given_whole text c.loop-line.piece.items old (g.K.Sink.taken c.loop-line.out) (g.K.Sink.taken w.write_whole.new.sink) before.given (rw w.deref.ensures.value at w.in_ok-write_whole.ensures.ok))
-      | else-capacity-len-lt-LONGEST_LINE w ↦ rw (w.out-is, w.piece-is) before.given
+      | else-capacity-len-lt-LONGEST_CALL w ↦ rw (w.out-is, w.piece-is) before.given
     ] in
     let whole : g.K.Sink.failed left.out ≡ false =
     elim left.branch [
-      | then-capacity-len-lt-LONGEST_LINE+in_ok-write_whole w ↦ rw w.out-is w.in_ok-write_whole.ensures.mark
-      | else-capacity-len-lt-LONGEST_LINE w ↦ rw w.out-is before.whole
+      | then-capacity-len-lt-LONGEST_CALL+in_ok-write_whole w ↦ rw w.out-is w.in_ok-write_whole.ensures.mark
+      | else-capacity-len-lt-LONGEST_CALL w ↦ rw w.out-is before.whole
     ] in
-    let room : longest_with_newline ≤ vec_capacity left.piece =
+    let room : longest_call ≤ vec_capacity left.piece =
     elim left.branch [
-      | then-capacity-len-lt-LONGEST_LINE+in_ok-write_whole w ↦ rw (w.piece-is, w.clear.ensures.capacity) before.room
-      | else-capacity-len-lt-LONGEST_LINE w ↦ rw w.piece-is before.room
+      | then-capacity-len-lt-LONGEST_CALL+in_ok-write_whole w ↦ rw (w.piece-is, w.clear.ensures.capacity) before.room
+      | else-capacity-len-lt-LONGEST_CALL w ↦ rw w.piece-is before.room
     ] in
     record {
       given = given_more g.L.Line.line c.args.piece.items c.loop-line.line-index c.args.lines.now c.line-item.result left.piece.items c.push.new.text.items old (g.K.Sink.taken left.out) c.loop-line-test.true c.line-item.is given c.push.ensures.line;

@@ -3,8 +3,8 @@ use Rattle.kc_trace.specs.Machine.{call_of_kept}
 use Rattle.kc_trace.proofs.Runs.{whole_fits, whole_over}
 use Rattle.kc_trace.proofs.reader.call_of_whole.Goals as goal
 
-pub returns-then-line-gt-LONGEST_LINE : goal.returns-then-line-gt-LONGEST_LINE
-returns-then-line-gt-LONGEST_LINE c = sym (ap call_of_kept (whole_over c.args.line.now c.if-line-gt-LONGEST_LINE.true))
+pub returns-then-line-gt-LINE_LIMIT : goal.returns-then-line-gt-LINE_LIMIT
+returns-then-line-gt-LINE_LIMIT c = sym (ap call_of_kept (whole_over c.args.line.now c.if-line-gt-LINE_LIMIT.true))
 
 pub returns : goal.returns
-returns c = rw (whole_fits c.args.line.now c.if-line-gt-LONGEST_LINE.false) c.call_of_line.ensures
+returns c = rw (whole_fits c.args.line.now c.if-line-gt-LINE_LIMIT.false) c.call_of_line.ensures
