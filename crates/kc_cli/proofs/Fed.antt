@@ -1,5 +1,5 @@
 -- Calls that are fed after others.
-use Rattle.std.proofs.Common.{◌≡◌, ◌++◌, ◌∷◌, ◌∙◌, ℕ, zero, suc, take, drop, List, [], Option, Some, None, refl, ap, sym, arith, length-append}
+use Rattle.std.proofs.Common.{◌≡◌, ◌++◌, ◌∷◌, ◌∙◌, ℕ, List, [], Option, Some, None, refl, ap, sym, arith, length-append}
 use Rattle.std.specs.Prelude.{IsSome, IfSome}
 use Rattle.kc_types.specs.declared.call.Call.{Call}
 use Rattle.kc_types.specs.declared.reply.Reply.{Reply}
@@ -37,11 +37,6 @@ fed_more a b c xs ys rs ss h k =
 
 pub still_whole : (a b : Replaying) (calls : List Call) (given : List Reply) → IsFed a b calls given → IsSome b.state
 still_whole a b calls given h = rw h.state refl
-
-pub front_and_rest : (n : ℕ) (calls : List Call) → calls ≡ take n calls ++ drop n calls
-front_and_rest zero calls = refl
-front_and_rest (suc n) [] = refl
-front_and_rest (suc n) (call ∷ calls) = ap (λ rest. call ∷ rest) (front_and_rest n calls)
 
 pub calls_known : (first : Option (List ℕ)) (a b : Replaying) (calls : List Call) (given : List Reply) → IfSome first (λ text. IsTrace text calls) → IsFed a b calls given → IfSome first (λ text. (made : List Call) × IsTrace text made × IsFed a b made given)
 calls_known None a b calls given traced fed = tt

@@ -22,9 +22,6 @@ use std::alloc::Global;
 use std::sync::Wait;
 use std::thread::Threads;
 
-/// The most calls of a segment.
-const SEGMENT: usize = 4_096;
-
 /// Makes the calls of a segment, and adds their replies.
 fn feed_segment<R: Threads + Wait + Sync>(
     rt: &R,
@@ -50,29 +47,6 @@ fn feed_segment<R: Threads + Wait + Sync>(
     }
 }
 
-/// Makes some calls, at most 4,096 in a segment, and adds their replies.
-fn feed_all<R: Threads + Wait + Sync>(
-    rt: &R,
-    alloc: Global,
-    replayer: &mut Replayer,
-    calls: &[Call],
-    replies: &mut Vec<Reply>,
-) -> Result<(), TextFault>
-    requires room { replayer.old.fed + length calls.now ≤ call_limit }
-    requires whole { IsSome replayer.old.state }
-    ensures fed { OnOk result ((given : List Reply) × (replies.new.items ≡ replies.old.items ++ given) × IsFed replayer.old replayer.new calls.now given) }
-    ensures fault { IfErr result (λ fault. (fault ≡ TextFault.Memory) ⊎ (fault ≡ TextFault.Start)) }
-    ensures started { result ≡ Err TextFault.Start → 1 < replayer.old.workers }
-{
-    let mut rest = calls;
-    while !rest.is_empty() {
-        let (front, back) = rest.split_at(rest.len().min(SEGMENT));
-        feed_segment(rt, alloc, replayer, front, replies)?;
-        rest = back;
-    }
-    Ok(())
-}
-
 /// Makes the calls of the trace that a source has left, as it is read, and gives their replies.
 fn feed_source<T: Source, R: Threads + Wait + Sync>(
     rt: &R,
@@ -96,7 +70,7 @@ fn feed_source<T: Source, R: Threads + Wait + Sync>(
     let mut replies = Vec::new(alloc);
     loop {
         let part = stream.next(alloc, trace, &mut buffer)?;
-        feed_all(rt, alloc, replayer, &part.calls, &mut replies)?;
+        feed_segment(rt, alloc, replayer, &part.calls, &mut replies)?;
         if part.is_last {
             break;
         }
