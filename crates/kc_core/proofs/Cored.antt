@@ -79,7 +79,7 @@ core-kept config old new is lawful linked places = record {
   };
 }
 
--- a call that is answered, or that meets want of memory, leaves the state lawful
+-- a call that is answered, or that is out of memory, leaves the state lawful
 pub lawful-left : {X E : Type 0} (answer : Result X E) (config : Configuration) (old new : Held) (call : Call) → IsLawful (state_of config old)
     → OnOk answer (state_of config new ≡ (next (state_of config old) call).1) → OnErr answer (new ≡ old) → IsLawful (state_of config new)
 lawful-left (Ok reply) config old new call is state same = rw state (lawful-next _ call is)

@@ -1,4 +1,4 @@
--- Where a run stops for want of memory.
+-- Where a run that is out of memory stops.
 use Rattle.std.specs.Prelude.{ℕ, ◌≡◌, ◌≤◌, List, length, take}
 use Rattle.kc_types.specs.declared.call.Call.{Call}
 use Rattle.kc_types.specs.declared.reply.Reply.{Reply}

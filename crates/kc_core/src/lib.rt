@@ -7,15 +7,14 @@ mod gate;
 mod guest;
 mod hand;
 mod host;
+mod kcore;
 pub mod laws;
 mod look_ups;
-mod on_parts;
-mod one_thread;
 mod shares;
 mod slots;
 mod verify;
 
 pub use dispatch::{answer, apply};
 pub use gate::{Gate, OpenGate};
-pub use one_thread::{KCore, RunStop};
+pub use kcore::{KCore, RunStop};
 pub use verify::Verified;

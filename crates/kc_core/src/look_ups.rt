@@ -20,15 +20,12 @@ pub fn page_record(parts: &Parts, frame: FrameNo) -> PageRecord
     requires { is_some (page_at parts.now frame) ≡ true }
     ensures { ShowsRecord parts.now frame result }
 {
-    let meta = parts.frame(frame).unwrap().meta;
+    let meta = parts.page(frame).meta;
     match meta.owner {
         Owner::Core | Owner::Host => PageRecord {
-            owner: meta.owner,
-            share: meta.share,
-            gfn: meta.gfn,
-            present: meta.present,
             prev: None,
             next: None,
+            ..meta
         },
         Owner::Free | Owner::Vm(_) => meta,
     }
@@ -36,7 +33,7 @@ pub fn page_record(parts: &Parts, frame: FrameNo) -> PageRecord
 
 /// The frames of a list, in its order.
 fn listed(alloc: Global, parts: &Parts, ends: &Ends) -> Result<Vec<FrameNo>, Memory>
-    // No clause can rule out want of memory, here and below: a test lists frames.
+    // No clause can rule out being out of memory, here and below: a test lists frames.
     ensures { IfOk result (λ frames. frames.items ≡ listed (links_of parts.now) ends.now) }
 {
     let mut frames = Vec::new(alloc);

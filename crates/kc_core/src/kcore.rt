@@ -1,0 +1,323 @@
+//! The core, seen as a state that is lawful after every call.
+ghost use Rattle.std.specs.Prelude.{◌≡◌, ◌+◌, ◌<◌, ◌≤◌, map, IsSome, IfSome, ◌↔◌, IfOk, IfErr, IsErr, OnOk, OnErr, None, true};
+ghost use Rattle.kc_types.specs.ReplyBytes.{is_data, most_reply_bytes};
+ghost use Rattle.kc_types.specs.declared.call.Call.TheVariants.{Verify};
+ghost use Rattle.kc_model.specs.Boot.{boot};
+ghost use Rattle.kc_model.specs.Next.{next, replies_from, state_after};
+ghost use Rattle.kc_model.specs.Custody.{images_by};
+ghost use Rattle.kc_model.specs.Lawful.{IsLawful};
+ghost use Rattle.kc_core.specs.Runs.{StopsAfter};
+ghost use Rattle.kc_model.specs.Safety.{IsSafe};
+ghost use Rattle.kc_model.specs.Blind.{ShowsNothing};
+ghost use Rattle.kc_types.specs.Configuration.{slot_count};
+ghost use Rattle.kc_types.specs.Limits.{vcpu_limit, gfn_limit};
+ghost use Rattle.std.specs.FinMap as finite;
+ghost use Rattle.kc_model.specs.State.{frame_at, slot_at, vcpu_at, mapped_at};
+ghost use Rattle.kc_model.specs.Links.{frames_of};
+ghost use Rattle.kc_model.specs.Linked.{ends_of};
+ghost use Rattle.kc_model.specs.Wiped.{wiped};
+ghost use Rattle.kc_page.specs.Page.{frame_of, IsRecordOf};
+ghost use Rattle.kc_parts.specs.States.{state_of, unlinked_slot};
+ghost use Rattle.kc_core.specs.KCore.{IsCore, frames_to_hash};
+
+use crate::dispatch::{answer, apply};
+use crate::look_ups::{frames_of, page_record};
+use crate::verify::{Verified, booted_slot, verify};
+use kc_page::{Page, PageBytes, PageRecord, scrub_all};
+use kc_parts::Parts;
+use kc_types::{
+    Call, Config, Ends, FrameNo, Gfn, Image, Memory, Owner, Phase, Reply, ReplyBuffer, Vcpu, VcpuId,
+};
+use kc_vms::Vm;
+use std::alloc::Global;
+use std::marker::Model;
+use std::thread::Threads;
+
+/// The trusted core, seen as its state. Every value of it is lawful, and no call makes it otherwise.
+#[derive(Drop)]
+pub struct KCore {
+    alloc: Global,
+    config: Config,
+    parts: Parts,
+}
+
+impl Model for KCore {
+    ghost use Rattle.kc_model.specs.State.{State};
+    ghost use Rattle.std.specs.Coded.{codes, coded_ℕ};
+    ghost use Rattle.std.specs.FinMap as map;
+    ghost use Rattle.std.specs.Ordering.{nat_cmp};
+
+    ghost Value = { State };
+
+    ghost coded = { Prim.hlevel (codes, map.code {R = nat_cmp} coded_ℕ coded_ℕ) };
+
+    ghost use Rattle.kc_parts.specs.States.{state_of};
+    ghost use Rattle.kc_core.specs.KCore.{IsCore};
+
+    ghost view = { λ k. state_of k.config k.parts };
+
+    ghost invariant = { λ k. IsCore k.config k.parts };
+}
+
+/// Where a run was out of memory.
+#[derive(Drop)]
+pub struct RunStop {
+    /// How many calls of the trace are done.
+    pub done: usize,
+    /// Their replies, in order.
+    pub replies: Vec<Reply>,
+}
+
+impl KCore {
+    /// The core in the boot state of its configuration, with all its frames made and zeroed; `Memory` where a
+    /// growth was refused.
+    pub fn boot(alloc: Global, config: Config) -> Result<KCore, Memory>
+        // No clause can rule out being out of memory: tests boot cores.
+        ensures state { IfOk result (λ core. core ≡ boot config) }
+        ensures lawful { OnOk result (IsLawful (boot config)) }
+    {
+        let parts = Parts::boot(alloc, &config)?;
+        Ok(KCore {
+            alloc,
+            config,
+            parts,
+        })
+    }
+
+    /// The core of a configuration and parts: all of them are here, linked, and those of a lawful state.
+    pub fn from_parts(alloc: Global, config: Config, parts: Parts) -> KCore
+        requires { IsCore config parts }
+        ensures { result ≡ state_of config parts }
+    {
+        KCore {
+            alloc,
+            config,
+            parts,
+        }
+    }
+
+    /// The configuration and the parts, all of them here: what `from_parts` makes this core of again.
+    pub fn into_parts(self) -> (Config, Parts)
+        ensures core { IsCore result.0 result.1 }
+        ensures state { state_of result.0 result.1 ≡ self }
+    {
+        (self.config, self.parts)
+    }
+
+    /// Answers a call: with the first refusal that applies, and then nothing has changed, or with its effect. The
+    /// bytes of the reply lie in a buffer made before by `Call::reply_buffer`, and nothing takes memory.
+    pub fn answer(&mut self, call: &Call, buffer: ReplyBuffer) -> Reply
+        requires { most_reply_bytes call.now ≤ buffer }
+        ensures reply { result ≡ (next self.old call.now).0 }
+        ensures state { self.new ≡ (next self.old call.now).1 }
+        ensures lawful { IsLawful self.new }
+    {
+        answer(&mut self.parts, &self.config, call, buffer)
+    }
+
+    /// Answers a call. `Memory` where a growth was refused, which comes only where the reply would be bytes, and then
+    /// nothing has changed.
+    pub fn call(&mut self, call: &Call) -> Result<Reply, Memory>
+        ensures reply { IfOk result (λ reply. reply ≡ (next self.old call.now).0) }
+        ensures state { OnOk result (self.new ≡ (next self.old call.now).1) }
+        ensures err { OnErr result (self.new ≡ self.old) }
+        ensures lawful { IsLawful self.new }
+        ensures memory { IsErr result → is_data (next self.old call.now).0 ≡ true }
+    {
+        apply(self.alloc, &mut self.parts, &self.config, call)
+    }
+
+    /// Answers `verify` of a VM slot, 0 to 63, as `call` does, and gives the images that it measured.
+    pub fn verify(&mut self, vm: u32) -> Verified
+        ensures reply { result.reply ≡ (next self.old (Verify vm)).0 }
+        ensures images { result.images.items ≡ images_by self.old (Verify vm) }
+        ensures state { self.new ≡ (next self.old (Verify vm)).1 }
+        ensures lawful { IsLawful self.new }
+    {
+        verify(&mut self.parts, &self.config, vm)
+    }
+
+    /// Answers a trace, call by call, and gives the replies in order.
+    pub fn run(&mut self, alloc: Global, calls: &[Call]) -> Result<Vec<Reply>, RunStop>
+        ensures safe { IsSafe self.old calls.now }
+        ensures blind { IfOk result (λ replies. ShowsNothing self.old calls.now replies.items self.new) }
+        ensures replies { IfOk result (λ replies. replies.items ≡ replies_from self.old calls.now) }
+        ensures state { OnOk result (self.new ≡ state_after self.old calls.now) }
+        // Such a stop comes of being out of memory alone, which no clause can rule out: tests run to the end.
+        ensures stop { IfErr result (λ stop. StopsAfter self.old calls.now stop.done stop.replies.items self.new) }
+    {
+        // Opened here, the core is known to be lawful from the first call on.
+        let _ = &self.parts;
+        let Ok(mut replies) = Vec::with_capacity(alloc, calls.len()) else {
+            return Err(RunStop {
+                done: 0,
+                replies: Vec::new(alloc),
+            });
+        };
+        for (done, call) in calls.iter().enumerate() {
+            let Ok(reply) = self.call(call) else {
+                return Err(RunStop { done, replies });
+            };
+            replies.push(reply).unwrap();
+        }
+        Ok(replies)
+    }
+
+    /// What the core was started with.
+    pub fn config(&self) -> &Config
+        ensures value { result.now ≡ self.now.config }
+        ensures lawful { IsLawful self.now }
+    {
+        &self.config
+    }
+
+    /// The record of a frame, with its neighbours in the list of its owner; `None` for a frame that does not
+    /// exist.
+    pub fn page_record(&self, frame: u32) -> Option<PageRecord>
+        ensures exists { IsSome result ↔ (frame < self.now.config.frames) }
+        ensures value { IfSome result (IsRecordOf self.now frame) }
+    {
+        let frame = self.config.frame(frame)?;
+        Some(page_record(&self.parts, frame))
+    }
+
+    /// The bytes of a frame; `None` for a frame that does not exist.
+    pub fn bytes(&self, frame: u32) -> Option<&PageBytes>
+        ensures exists { IsSome result ↔ (frame < self.now.config.frames) }
+        ensures value { IfSome result (λ bytes. bytes.now ≡ (frame_at self.now frame).bytes) }
+    {
+        let page = self.parts.frame(self.config.frame(frame)?)?;
+        Some(&page.bytes)
+    }
+
+    /// The frames of an owner: free frames and a VM's in the order of their list, the core's and the host's by
+    /// rising number. `Memory` where a growth was refused.
+    pub fn frames_of(&self, owner: Owner) -> Result<Vec<FrameNo>, Memory>
+        // No clause can rule out being out of memory: a test lists frames.
+        ensures { IfOk result (λ frames. frames.items ≡ frames_of self.now owner) }
+    {
+        frames_of(self.alloc, &self.parts, &self.config, owner)
+    }
+
+    /// The ends of the free list.
+    pub fn free_ends(&self) -> Ends
+        ensures { result ≡ ends_of self.now.free }
+    {
+        match self.parts.free() {
+            Some(ends) => *ends,
+            None => Ends::empty(),
+        }
+    }
+
+    /// The ends of the list of a VM slot's frames; `None` for a slot that does not exist.
+    pub fn slot_ends(&self, vm: u32) -> Option<Ends>
+        ensures exists { IsSome result ↔ (vm < slot_count self.now.config) }
+        ensures value { IfSome result (λ ends. ends ≡ ends_of (slot_at self.now vm).frames) }
+    {
+        Some(*self.slot(vm)?.list())
+    }
+
+    /// The mapped guest frames of a VM slot with their frames, by rising guest frame; none for a slot that does not
+    /// exist. `Memory` where a growth was refused.
+    pub fn entries(&self, alloc: Global, vm: u32) -> Result<Vec<(Gfn, FrameNo)>, Memory>
+        // No clause can rule out being out of memory: a test lists entries.
+        ensures { IfOk result (λ entries. entries.items ≡ finite.entries (slot_at self.now vm).mapped) }
+    {
+        match self.slot(vm) {
+            Some(slot) => slot.table().entries(alloc),
+            None => Ok(Vec::new(alloc)),
+        }
+    }
+
+    /// The VM slot of this number, which is the state's but for the list of its frames; `None` where there is none.
+    fn slot(&self, vm: u32) -> Option<&Vm>
+        ensures exists { IsSome result ↔ (vm < slot_count self.now.config) }
+        ensures value { IfSome result (λ slot. slot_at self.now vm ≡ unlinked_slot slot.now.slot (slot_at self.now vm).frames) }
+        ensures lawful { IsLawful self.now }
+        ensures linked { IfSome result (λ slot. slot.now.slot.frames ≡ ends_of (slot_at self.now vm).frames) }
+    {
+        self.parts.vm(self.config.vm(vm)?)
+    }
+
+    /// The phase of a VM slot, 0 to 63; `None` for a slot that does not exist.
+    pub fn phase(&self, vm: u32) -> Option<Phase>
+        ensures exists { IsSome result ↔ (vm < slot_count self.now.config) }
+        ensures value { IfSome result (λ phase. phase ≡ (slot_at self.now vm).phase) }
+    {
+        Some(self.slot(vm)?.phase())
+    }
+
+    /// How many frames `verify` of a VM slot hashes: all that the slot has, or none where the call is refused.
+    pub fn frames_to_hash(&self, vm: u32) -> u32
+        ensures { result ≡ frames_to_hash self.now vm }
+    {
+        if booted_slot(&self.parts, &self.config, vm).is_err() {
+            return 0;
+        }
+        match self.slot_ends(vm) {
+            Some(ends) => ends.count,
+            None => 0,
+        }
+    }
+
+    /// The guest frame that a virtual processor, 0 to 7, of a VM slot, 0 to 63, waits for; `None` where the slot
+    /// or the virtual processor does not exist, or where it waits for nothing.
+    pub fn fault(&self, vm: u32, vcpu: u32) -> Option<Gfn>
+        ensures exists { IsSome result → (vm < slot_count self.now.config) × (vcpu < vcpu_limit) }
+        ensures value { result ≡ (vcpu_at self.now vm vcpu).fault }
+    {
+        let slot = self.slot(vm)?;
+        Gfn::try_new(slot.vcpu(VcpuId::try_new(vcpu)?).fault?)
+    }
+
+    /// A virtual processor, 0 to 7, of a VM slot, 0 to 63; `None` where either does not exist.
+    pub fn vcpu(&self, vm: u32, vcpu: u32) -> Option<Vcpu>
+        ensures exists { IsSome result ↔ ((vm < slot_count self.now.config) × (vcpu < vcpu_limit)) }
+        ensures value { IfSome result (λ there. there ≡ vcpu_at self.now vm vcpu) }
+    {
+        let slot = self.slot(vm)?;
+        Some(slot.vcpu(VcpuId::try_new(vcpu)?))
+    }
+
+    /// The boot images of a VM slot, 0 to 63, by their numbers; `None` for a VM slot that does not exist.
+    pub fn images(&self, vm: u32) -> Option<&[Image]>
+        ensures exists { IsSome result ↔ (vm < slot_count self.now.config) }
+        ensures value { IfSome result (λ images. images.now ≡ (slot_at self.now vm).images) }
+    {
+        Some(self.slot(vm)?.images())
+    }
+
+    /// The frame at a guest frame, 0 to 262,143, of a VM slot, 0 to 63; `None` where the slot or the guest frame
+    /// does not exist, or where nothing is mapped there.
+    pub fn lookup(&self, vm: u32, gfn: u32) -> Option<FrameNo>
+        ensures exists { IsSome result → (vm < slot_count self.now.config) × (gfn < gfn_limit) }
+        ensures value { result ≡ mapped_at self.now vm gfn }
+    {
+        let table = self.slot(vm)?.table();
+        table.get(Gfn::try_new(gfn)?)
+    }
+
+    /// The root slots, 0 to 511, that have leaves in the table of a VM slot, 0 to 63, in the order in which they
+    /// took them; `None` for a VM slot that does not exist.
+    pub fn leaves(&self, vm: u32) -> Option<&[u32]>
+        ensures exists { IsSome result ↔ (vm < slot_count self.now.config) }
+        ensures value { IfSome result (λ leaves. leaves.now ≡ (slot_at self.now vm).leaves) }
+    {
+        Some(self.slot(vm)?.table().leaves())
+    }
+
+    /// All pages, by frame number.
+    pub fn pages(&self) -> &[Page]
+        ensures { map frame_of result.now ≡ self.now.frames }
+    {
+        self.parts.pages()
+    }
+
+    /// Zeroes all bytes, by several threads, and changes nothing else. It is never refused: where no thread can be
+    /// started, this one does all.
+    pub fn wipe(&mut self, rt: &(impl Threads + Sync))
+        ensures { self.new ≡ wiped self.old }
+    {
+        scrub_all(rt, self.parts.pages_mut());
+    }
+}
