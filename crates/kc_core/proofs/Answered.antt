@@ -51,7 +51,7 @@ answer-served config old new call reply served replied left linked places =
       places = places;
     }
 
--- what a call promises where it may also want memory, and then leaves everything as it was
+-- what a call promises where it may also be out of memory, and then leaves everything as it was
 pub answer-parts : (config : Configuration) (old new : Held) (call : Call) (result : Result Reply Memory) → IsLinked config old → IfOk result (IsAnswer config old new call) → OnErr result (new ≡ old)
     → IfOk result (λ reply. reply ≡ (next (state_of config old) call).0) × OnOk result (state_of config new ≡ (next (state_of config old) call).1) × IsLinked config new × KeepsPlaces old new
 answer-parts config old new call (Ok reply) linked answer same = (answer.reply, answer.state, answer.linked, answer.places)

@@ -1,13 +1,18 @@
 -- What a call does with parts, beside what the rules say.
-use Rattle.std.specs.Prelude.{ℕ, ◌≡◌, true}
+use Rattle.std.specs.Prelude.{ℕ, ◌≡◌, true, Result, Ok, Err}
 use Rattle.kc_types.specs.declared.call.Call.{Call}
+use Rattle.kc_types.specs.declared.memory.Memory.{Memory}
+use Rattle.kc_types.specs.declared.refusal.Refusal.{Refusal}
 use Rattle.kc_types.specs.declared.reply.Reply.{Reply}
+use Rattle.kc_types.specs.declared.reply.Reply.TheVariants as reply
 use Rattle.kc_types.specs.Configuration.{Configuration}
 use Rattle.kc_model.specs.Next.{next}
 use Rattle.kc_model.specs.Resources.{Resource, need, IsWithin}
 use Rattle.kc_model.specs.Local.{IsOrderly}
 use Rattle.kc_parts.specs.Parts.{Held, links_of}
 use Rattle.kc_parts.specs.States.{state_of, here_of, owner_at, is_away, IsLinked}
+use Rattle.kc_core.specs.declared.unserved.Unserved.{Unserved}
+use Rattle.kc_core.specs.declared.unserved.Unserved.TheVariants.{Refused, OutOfMemory}
 
 -- the same places of frames and of slots, and the same parts in them; frames of a list whose ends are elsewhere keep their owner and their links
 pub record KeepsPlaces (old new : Held) : Type 0 where
@@ -29,3 +34,14 @@ pub record IsAnswer (config : Configuration) (old new : Held) (call : Call) (ans
   pub state : state_of config new ≡ (next (state_of config old) call).1
   pub linked : IsLinked config new
   pub places : KeepsPlaces old new
+
+-- the reply to a call that is carried out is its own, and to a call that is not, that it is refused, and why
+abbrev pub reply_of : Result Reply Refusal → Reply
+reply_of (Ok reply) = reply
+reply_of (Err why) = reply.Refused why
+
+-- the same of a call for which there may be no memory, and then there is no reply
+abbrev pub answer_of : Result Reply Unserved → Result Reply Memory
+answer_of (Ok reply) = Ok reply
+answer_of (Err (Refused why)) = Ok (reply.Refused why)
+answer_of (Err (OutOfMemory memory)) = Err memory

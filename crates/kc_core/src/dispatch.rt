@@ -3,7 +3,7 @@ ghost use Rattle.std.specs.Prelude.{◌≡◌, ◌≤◌, true, IfOk, IsOk, IsEr
 ghost use Rattle.kc_types.specs.ReplyBytes.{is_data, most_reply_bytes};
 ghost use Rattle.kc_model.specs.Next.{next};
 ghost use Rattle.kc_parts.specs.States.{state_of, IsLinked};
-ghost use Rattle.kc_core.specs.Applying.{IsAble, IsAnswer, KeepsPlaces};
+ghost use Rattle.kc_core.specs.Applying.{IsAble, IsAnswer, KeepsPlaces, answer_of};
 
 use crate::freeing::{clear, drop_page};
 use crate::guest::{guest_read, guest_write};
@@ -11,28 +11,29 @@ use crate::hand::{map, remap};
 use crate::host::{give, host_fault, host_read, host_write, take};
 use crate::shares::{grant, grant_range, revoke, revoke_range};
 use crate::slots::{register_vcpu, register_vm, set_boot};
+use crate::unserved::Unserved;
 use crate::verify::verify;
 use kc_parts::Parts;
 use kc_types::{Call, Config, Memory, Reply, ReplyBuffer};
 use std::alloc::Global;
 
-/// Answers a call. The room is for the bytes of the reply, and grows where it is too small for them.
-fn answer_in(
+/// Carries out a call, or says why not. The room is for the bytes of the reply, and grows where it is too small for them.
+fn serve(
     parts: &mut Parts,
     config: &Config,
     call: &Call,
     buffer: ReplyBuffer,
-) -> Result<Reply, Memory>
+) -> Result<Reply, Unserved>
     requires { IsAble config.now parts.old call.now }
-    ensures answer { IfOk result (IsAnswer config.now parts.old parts.new call.now) }
-    ensures err { OnErr result (parts.new ≡ parts.old) }
-    ensures memory { IsErr result → is_data (next (state_of config.now parts.old) call.now).0 ≡ true }
-    ensures fits { most_reply_bytes call.now ≤ buffer → IsOk result }
+    ensures answer { IfOk (answer_of result) (IsAnswer config.now parts.old parts.new call.now) }
+    ensures err { OnErr (answer_of result) (parts.new ≡ parts.old) }
+    ensures memory { IsErr (answer_of result) → is_data (next (state_of config.now parts.old) call.now).0 ≡ true }
+    ensures fits { most_reply_bytes call.now ≤ buffer → IsOk (answer_of result) }
 {
     match call {
-        Call::Take => Ok(take(parts, config)),
-        Call::Give { frame } => Ok(give(parts, config, *frame)),
-        Call::HostFault { frame } => Ok(host_fault(parts, config, *frame)),
+        Call::Take => Ok(take(parts, config)?),
+        Call::Give { frame } => Ok(give(parts, config, *frame)?),
+        Call::HostFault { frame } => Ok(host_fault(parts, config, *frame)?),
         Call::HostRead { frame, offset, len } => {
             host_read(parts, config, *frame, *offset, *len, buffer)
         },
@@ -40,13 +41,13 @@ fn answer_in(
             frame,
             offset,
             data,
-        } => Ok(host_write(parts, config, *frame, *offset, data)),
-        Call::RegisterVm { vm } => Ok(register_vm(parts, config, *vm)),
-        Call::RegisterVcpu { vm, vcpu } => Ok(register_vcpu(parts, config, *vm, *vcpu)),
-        Call::SetBoot { vm, base, len } => Ok(set_boot(parts, config, *vm, *base, *len)),
-        Call::Remap { vm, image, frame } => Ok(remap(parts, config, *vm, *image, *frame)),
-        Call::Verify { vm } => Ok(verify(parts, config, *vm).reply),
-        Call::Map { vm, vcpu, frame } => Ok(map(parts, config, *vm, *vcpu, *frame)),
+        } => Ok(host_write(parts, config, *frame, *offset, data)?),
+        Call::RegisterVm { vm } => Ok(register_vm(parts, config, *vm)?),
+        Call::RegisterVcpu { vm, vcpu } => Ok(register_vcpu(parts, config, *vm, *vcpu)?),
+        Call::SetBoot { vm, base, len } => Ok(set_boot(parts, config, *vm, *base, *len)?),
+        Call::Remap { vm, image, frame } => Ok(remap(parts, config, *vm, *image, *frame)?),
+        Call::Verify { vm } => Ok(verify(parts, config, *vm)?.reply),
+        Call::Map { vm, vcpu, frame } => Ok(map(parts, config, *vm, *vcpu, *frame)?),
         Call::GuestRead {
             vm,
             vcpu,
@@ -60,23 +61,44 @@ fn answer_in(
             gfn,
             offset,
             data,
-        } => Ok(guest_write(parts, config, *vm, *vcpu, *gfn, *offset, data)),
-        Call::Grant { vm, vcpu, gfn } => Ok(grant(parts, config, *vm, *vcpu, *gfn)),
-        Call::Revoke { vm, vcpu, gfn } => Ok(revoke(parts, config, *vm, *vcpu, *gfn)),
+        } => Ok(guest_write(parts, config, *vm, *vcpu, *gfn, *offset, data)?),
+        Call::Grant { vm, vcpu, gfn } => Ok(grant(parts, config, *vm, *vcpu, *gfn)?),
+        Call::Revoke { vm, vcpu, gfn } => Ok(revoke(parts, config, *vm, *vcpu, *gfn)?),
         Call::GrantRange {
             vm,
             vcpu,
             gfn,
             count,
-        } => Ok(grant_range(parts, config, *vm, *vcpu, *gfn, *count)),
+        } => Ok(grant_range(parts, config, *vm, *vcpu, *gfn, *count)?),
         Call::RevokeRange {
             vm,
             vcpu,
             gfn,
             count,
-        } => Ok(revoke_range(parts, config, *vm, *vcpu, *gfn, *count)),
-        Call::Drop { vm, vcpu, gfn } => Ok(drop_page(parts, config, *vm, *vcpu, *gfn)),
-        Call::Clear { vm } => Ok(clear(parts, config, *vm)),
+        } => Ok(revoke_range(parts, config, *vm, *vcpu, *gfn, *count)?),
+        Call::Drop { vm, vcpu, gfn } => Ok(drop_page(parts, config, *vm, *vcpu, *gfn)?),
+        Call::Clear { vm } => Ok(clear(parts, config, *vm)?),
+    }
+}
+
+/// Answers a call: with its reply, or with why it is refused. The room is for the bytes of the reply, and grows where it is
+/// too small for them.
+fn answer_in(
+    parts: &mut Parts,
+    config: &Config,
+    call: &Call,
+    buffer: ReplyBuffer,
+) -> Result<Reply, Memory>
+    requires { IsAble config.now parts.old call.now }
+    ensures answer { IfOk result (IsAnswer config.now parts.old parts.new call.now) }
+    ensures err { OnErr result (parts.new ≡ parts.old) }
+    ensures memory { IsErr result → is_data (next (state_of config.now parts.old) call.now).0 ≡ true }
+    ensures fits { most_reply_bytes call.now ≤ buffer → IsOk result }
+{
+    match serve(parts, config, call, buffer) {
+        Ok(reply) => Ok(reply),
+        Err(Unserved::Refused(refusal)) => Ok(Reply::Refused(refusal)),
+        Err(Unserved::OutOfMemory(memory)) => Err(memory),
     }
 }
 

@@ -6,7 +6,7 @@ ghost use Rattle.kc_model.specs.Refusals.{refusal};
 ghost use Rattle.kc_model.specs.Effects.{freed};
 ghost use Rattle.kc_parts.specs.Parts.{page_at};
 ghost use Rattle.kc_parts.specs.States.{state_of, IsLinked, IsLoose, is_away};
-ghost use Rattle.kc_core.specs.Applying.{IsAble, IsAnswer, KeepsPlaces};
+ghost use Rattle.kc_core.specs.Applying.{IsAble, IsAnswer, KeepsPlaces, reply_of};
 ghost use Rattle.kc_core.specs.Guests.{IsMapping};
 
 use crate::shares::{Mapping, mapped_frame};
@@ -24,14 +24,11 @@ fn unshared_frame(
     ensures answer { Answers result (refusal (state_of config.now parts.now) (Drop vm vcpu gfn)) }
     ensures mapped { IfOk result (IsMapping (state_of config.now parts.now) vm gfn) }
 {
-    match mapped_frame(parts, config, vm, vcpu, gfn) {
-        Ok(found) => if parts.record_of(config, found.frame.number()).share > 0 {
-            Err(Refusal::Shared)
-        } else {
-            Ok(found)
-        },
-        Err(refusal) => Err(refusal),
+    let found = mapped_frame(parts, config, vm, vcpu, gfn)?;
+    if parts.record_of(config, found.frame.number()).share > 0 {
+        return Err(Refusal::Shared);
     }
+    Ok(found)
 }
 
 /// A frame that left its owner's list, whose ends are here, becomes the last of the free ones, with zero bytes.
@@ -54,20 +51,22 @@ fn free_frame(parts: &mut Parts, config: &Config, frame: FrameNo)
 }
 
 /// A slot gives up a guest frame, and its frame goes to the end of the free list.
-pub fn drop_page(parts: &mut Parts, config: &Config, vm: u32, vcpu: u32, gfn: u32) -> Reply
+pub fn drop_page(
+    parts: &mut Parts,
+    config: &Config,
+    vm: u32,
+    vcpu: u32,
+    gfn: u32,
+) -> Result<Reply, Refusal>
     requires { IsAble config.now parts.old (Drop vm vcpu gfn) }
-    ensures { IsAnswer config.now parts.old parts.new (Drop vm vcpu gfn) result }
+    ensures { IsAnswer config.now parts.old parts.new (Drop vm vcpu gfn) (reply_of result) }
 {
-    match unshared_frame(parts, config, vm, vcpu, gfn) {
-        Ok(found) => {
-            let slot = parts.slot_mut(found.vm);
-            slot.table_mut().unmap(found.gfn);
-            parts.unlink_vm(found.vm, found.frame);
-            free_frame(parts, config, found.frame);
-            Reply::Done
-        },
-        Err(refusal) => Reply::Refused(refusal),
-    }
+    let found = unshared_frame(parts, config, vm, vcpu, gfn)?;
+    let slot = parts.slot_mut(found.vm);
+    slot.table_mut().unmap(found.gfn);
+    parts.unlink_vm(found.vm, found.frame);
+    free_frame(parts, config, found.frame);
+    Ok(Reply::Done)
 }
 
 /// The slot of this number, which has a VM.
@@ -86,16 +85,12 @@ fn used_slot(parts: &Parts, config: &Config, vm: u32) -> Result<VmId, Refusal>
 
 /// A slot is empty again, and its frames, with zero bytes, go to the end of the free list in the order in which
 /// they came.
-pub fn clear(parts: &mut Parts, config: &Config, vm: u32) -> Reply
+pub fn clear(parts: &mut Parts, config: &Config, vm: u32) -> Result<Reply, Refusal>
     requires { IsAble config.now parts.old (Clear vm) }
-    ensures { IsAnswer config.now parts.old parts.new (Clear vm) result }
+    ensures { IsAnswer config.now parts.old parts.new (Clear vm) (reply_of result) }
 {
-    match used_slot(parts, config, vm) {
-        Ok(slot) => {
-            let list = parts.empty_slot(slot);
-            parts.append_list(list);
-            Reply::Done
-        },
-        Err(refusal) => Reply::Refused(refusal),
-    }
+    let slot = used_slot(parts, config, vm)?;
+    let list = parts.empty_slot(slot);
+    parts.append_list(list);
+    Ok(Reply::Done)
 }

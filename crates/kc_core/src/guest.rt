@@ -10,14 +10,13 @@ ghost use Rattle.kc_model.specs.Effects.{with_fault};
 ghost use Rattle.kc_model.specs.Next.{next};
 ghost use Rattle.kc_parts.specs.Parts.{vm_at};
 ghost use Rattle.kc_parts.specs.States.{state_of, IsLinked};
-ghost use Rattle.kc_core.specs.Applying.{IsAble, IsAnswer, KeepsPlaces};
+ghost use Rattle.kc_core.specs.Applying.{IsAble, IsAnswer, KeepsPlaces, reply_of, answer_of};
 ghost use Rattle.kc_core.specs.Guests.{IsAt};
 
 use crate::host::write_frame;
+use crate::unserved::Unserved;
 use kc_parts::Parts;
-use kc_types::{
-    Config, Data, Gfn, Memory, PAGE_SIZE, Phase, Refusal, Reply, ReplyBuffer, VcpuId, VmId,
-};
+use kc_types::{Config, Data, Gfn, PAGE_SIZE, Phase, Refusal, Reply, ReplyBuffer, VcpuId, VmId};
 
 /// What a virtual processor's call on a guest frame names, where all of it exists.
 #[derive(Clone, Copy)]
@@ -29,16 +28,16 @@ pub struct GuestFrame {
 
 /// Why a virtual processor can make no call: there is no VM in the slot, or it isn't active, or the virtual
 /// processor isn't registered.
-pub fn vcpu_refusal(parts: &Parts, config: &Config, vm: u32, vcpu: VcpuId) -> Option<Refusal>
-    ensures { result ≡ first_of_these (no_vm (state_of config.now parts.now) vm ∷ not_active (state_of config.now parts.now) vm ∷ no_vcpu (state_of config.now parts.now) vm vcpu ∷ []) }
+pub fn expect_vcpu(parts: &Parts, config: &Config, vm: u32, vcpu: VcpuId) -> Result<(), Refusal>
+    ensures { Answers result (first_of_these (no_vm (state_of config.now parts.now) vm ∷ not_active (state_of config.now parts.now) vm ∷ no_vcpu (state_of config.now parts.now) vm vcpu ∷ [])) }
 {
     match parts.phase_of(config, vm) {
-        Phase::Empty => Some(Refusal::NoVm),
-        Phase::Booting | Phase::Dead => Some(Refusal::WrongPhase),
+        Phase::Empty => Err(Refusal::NoVm),
+        Phase::Booting | Phase::Dead => Err(Refusal::WrongPhase),
         Phase::Active => if parts.vcpu_of(config, vm, vcpu).registered {
-            None
+            Ok(())
         } else {
-            Some(Refusal::NoVcpu)
+            Err(Refusal::NoVcpu)
         },
     }
 }
@@ -68,14 +67,12 @@ fn guest_frame(
     if len == 0 || len > PAGE_SIZE || offset > PAGE_SIZE - len {
         return Err(Refusal::BadRange);
     }
-    match vcpu_refusal(parts, config, vm, vcpu) {
-        Some(refusal) => Err(refusal),
-        None => Ok(GuestFrame {
-            vm: slot,
-            vcpu,
-            gfn,
-        }),
-    }
+    expect_vcpu(parts, config, vm, vcpu)?;
+    Ok(GuestFrame {
+        vm: slot,
+        vcpu,
+        gfn,
+    })
 }
 
 /// A registered virtual processor of an active slot waits for a guest frame.
@@ -104,8 +101,8 @@ pub fn spend_fault(parts: &mut Parts, config: &Config, vm: VmId, vcpu: VcpuId)
     parts.slot_mut(vm).spend_fault(vcpu);
 }
 
-/// Reads bytes of a guest frame that is mapped; where it is not, the virtual processor waits for it. `Memory` where
-/// there was no room for the bytes.
+/// Reads bytes of a guest frame that is mapped; where it is not, the virtual processor waits for it. `OutOfMemory`
+/// where there was no room for the bytes.
 pub fn guest_read(
     parts: &mut Parts,
     config: &Config,
@@ -115,29 +112,23 @@ pub fn guest_read(
     offset: u32,
     len: u32,
     buffer: ReplyBuffer,
-) -> Result<Reply, Memory>
+) -> Result<Reply, Unserved>
     requires { IsAble config.now parts.old (GuestRead vm vcpu gfn offset len) }
-    ensures answer { IfOk result (IsAnswer config.now parts.old parts.new (GuestRead vm vcpu gfn offset len)) }
-    ensures err { OnErr result (parts.new ≡ parts.old) }
-    ensures memory { IsErr result → is_data (next (state_of config.now parts.old) (GuestRead vm vcpu gfn offset len)).0 ≡ true }
-    ensures fits { readable len ≤ buffer → IsOk result }
+    ensures answer { IfOk (answer_of result) (IsAnswer config.now parts.old parts.new (GuestRead vm vcpu gfn offset len)) }
+    ensures err { OnErr (answer_of result) (parts.new ≡ parts.old) }
+    ensures memory { IsErr (answer_of result) → is_data (next (state_of config.now parts.old) (GuestRead vm vcpu gfn offset len)).0 ≡ true }
+    ensures fits { readable len ≤ buffer → IsOk (answer_of result) }
 {
-    match guest_frame(parts, config, vm, vcpu, gfn, offset, len) {
-        Ok(at) => match parts.mapping_of(config, vm, at.gfn) {
-            Some(frame) => {
-                let buffer = buffer.at_least(len as usize)?;
-                let page = parts.page(frame);
-                let bytes = page.bytes.read(offset as usize, len as usize, buffer);
-                spend_fault(parts, config, at.vm, at.vcpu);
-                Ok(Reply::Data(bytes))
-            },
-            None => {
-                set_fault(parts, config, at);
-                Ok(Reply::Fault(gfn))
-            },
-        },
-        Err(refusal) => Ok(Reply::Refused(refusal)),
-    }
+    let at = guest_frame(parts, config, vm, vcpu, gfn, offset, len)?;
+    let Some(frame) = parts.mapping_of(config, vm, at.gfn) else {
+        set_fault(parts, config, at);
+        return Ok(Reply::Fault(gfn));
+    };
+    let buffer = buffer.at_least(len as usize)?;
+    let page = parts.page(frame);
+    let bytes = page.bytes.read(offset as usize, len as usize, buffer);
+    spend_fault(parts, config, at.vm, at.vcpu);
+    Ok(Reply::Data(bytes))
 }
 
 /// Writes bytes to a guest frame that is mapped; where it is not, the virtual processor waits for it.
@@ -149,23 +140,24 @@ pub fn guest_write(
     gfn: u32,
     offset: u32,
     bytes: &Data,
-) -> Reply
+) -> Result<Reply, Refusal>
     requires { IsAble config.now parts.old (GuestWrite vm vcpu gfn offset bytes.now) }
-    ensures { IsAnswer config.now parts.old parts.new (GuestWrite vm vcpu gfn offset bytes.now) result }
+    ensures { IsAnswer config.now parts.old parts.new (GuestWrite vm vcpu gfn offset bytes.now) (reply_of result) }
 {
-    let len = bytes.as_slice().len() as u32;
-    match guest_frame(parts, config, vm, vcpu, gfn, offset, len) {
-        Ok(at) => match parts.mapping_of(config, vm, at.gfn) {
-            Some(frame) => {
-                write_frame(parts, config, frame, offset, bytes);
-                spend_fault(parts, config, at.vm, at.vcpu);
-                Reply::Done
-            },
-            None => {
-                set_fault(parts, config, at);
-                Reply::Fault(gfn)
-            },
-        },
-        Err(refusal) => Reply::Refused(refusal),
-    }
+    let at = guest_frame(
+        parts,
+        config,
+        vm,
+        vcpu,
+        gfn,
+        offset,
+        bytes.as_slice().len() as u32,
+    )?;
+    let Some(frame) = parts.mapping_of(config, vm, at.gfn) else {
+        set_fault(parts, config, at);
+        return Ok(Reply::Fault(gfn));
+    };
+    write_frame(parts, config, frame, offset, bytes);
+    spend_fault(parts, config, at.vm, at.vcpu);
+    Ok(Reply::Done)
 }

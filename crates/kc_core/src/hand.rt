@@ -9,25 +9,25 @@ ghost use Rattle.kc_model.specs.Refusals.{refusal, first_of_these, not_host, tab
 ghost use Rattle.kc_model.specs.Effects.{hand};
 ghost use Rattle.kc_parts.specs.Parts.{page_at, vm_at};
 ghost use Rattle.kc_parts.specs.States.{state_of, owner_at, IsLinked};
-ghost use Rattle.kc_core.specs.Applying.{IsAble, IsAnswer, KeepsPlaces};
+ghost use Rattle.kc_core.specs.Applying.{IsAble, IsAnswer, KeepsPlaces, reply_of};
 ghost use Rattle.kc_core.specs.Hands.{IsNextPage, IsAwaited};
 
-use crate::guest::{spend_fault, vcpu_refusal};
+use crate::guest::{expect_vcpu, spend_fault};
 use kc_parts::Parts;
 use kc_types::{Config, FrameNo, Gfn, Owner, Refusal, Reply, VcpuId, VmId};
 
 /// Why a frame can't be handed to a slot at a guest frame.
-fn hand_refusal(parts: &Parts, config: &Config, vm: u32, gfn: Gfn, frame: u32) -> Option<Refusal>
+fn expect_room(parts: &Parts, config: &Config, vm: u32, gfn: Gfn, frame: u32) -> Result<(), Refusal>
     requires { IsLinked config.now parts.now }
-    ensures { result ≡ first_of_these (not_host (state_of config.now parts.now) frame ∷ tables_full (state_of config.now parts.now) vm gfn ∷ []) }
+    ensures { Answers result (first_of_these (not_host (state_of config.now parts.now) frame ∷ tables_full (state_of config.now parts.now) vm gfn ∷ [])) }
 {
     if parts.record_of(config, frame).owner != Owner::Host {
-        return Some(Refusal::NotHost);
+        return Err(Refusal::NotHost);
     }
     if !parts.fits_in(config, vm, gfn) {
-        return Some(Refusal::TablesFull);
+        return Err(Refusal::TablesFull);
     }
-    None
+    Ok(())
 }
 
 /// A frame of the host's becomes the last in the list of a slot, which sees it at a guest frame.
@@ -78,32 +78,30 @@ fn next_page(
     let Some(found) = config.frame(frame) else {
         return Err(Refusal::BadFrame);
     };
-    match parts.next_page_of(config, vm, image) {
-        Ok(gfn) => match hand_refusal(parts, config, vm, gfn, frame) {
-            Some(refusal) => Err(refusal),
-            None => Ok(NextPage {
-                vm: slot,
-                gfn,
-                frame: found,
-            }),
-        },
-        Err(refusal) => Err(refusal),
-    }
+    let gfn = parts.next_page_of(config, vm, image)?;
+    expect_room(parts, config, vm, gfn, frame)?;
+    Ok(NextPage {
+        vm: slot,
+        gfn,
+        frame: found,
+    })
 }
 
 /// A frame of the host's becomes the next page of a boot image.
-pub fn remap(parts: &mut Parts, config: &Config, vm: u32, image: u32, frame: u32) -> Reply
+pub fn remap(
+    parts: &mut Parts,
+    config: &Config,
+    vm: u32,
+    image: u32,
+    frame: u32,
+) -> Result<Reply, Refusal>
     requires { IsAble config.now parts.old (Remap vm image frame) }
-    ensures { IsAnswer config.now parts.old parts.new (Remap vm image frame) result }
+    ensures { IsAnswer config.now parts.old parts.new (Remap vm image frame) (reply_of result) }
 {
-    match next_page(parts, config, vm, image, frame) {
-        Ok(page) => {
-            hand(parts, config, page.vm, page.gfn, page.frame);
-            parts.slot_mut(page.vm).add_page(image);
-            Reply::Done
-        },
-        Err(refusal) => Reply::Refused(refusal),
-    }
+    let page = next_page(parts, config, vm, image, frame)?;
+    hand(parts, config, page.vm, page.gfn, page.frame);
+    parts.slot_mut(page.vm).add_page(image);
+    Ok(Reply::Done)
 }
 
 /// A frame of the host's, and the guest frame for which a virtual processor waits.
@@ -136,37 +134,35 @@ fn awaited_frame(
     let Some(found) = config.frame(frame) else {
         return Err(Refusal::BadFrame);
     };
-    if let Some(refusal) = vcpu_refusal(parts, config, vm, vcpu) {
-        return Err(refusal);
-    }
+    expect_vcpu(parts, config, vm, vcpu)?;
     let Some(gfn) = parts.pending_of(config, vm, vcpu) else {
         return Err(Refusal::NoFault);
     };
     if parts.mapping_of(config, vm, gfn).is_some() {
         return Err(Refusal::Mapped);
     }
-    match hand_refusal(parts, config, vm, gfn, frame) {
-        Some(refusal) => Err(refusal),
-        None => Ok(Awaited {
-            vm: slot,
-            vcpu,
-            gfn,
-            frame: found,
-        }),
-    }
+    expect_room(parts, config, vm, gfn, frame)?;
+    Ok(Awaited {
+        vm: slot,
+        vcpu,
+        gfn,
+        frame: found,
+    })
 }
 
 /// A frame of the host's goes where a virtual processor waits for one.
-pub fn map(parts: &mut Parts, config: &Config, vm: u32, vcpu: u32, frame: u32) -> Reply
+pub fn map(
+    parts: &mut Parts,
+    config: &Config,
+    vm: u32,
+    vcpu: u32,
+    frame: u32,
+) -> Result<Reply, Refusal>
     requires { IsAble config.now parts.old (Map vm vcpu frame) }
-    ensures { IsAnswer config.now parts.old parts.new (Map vm vcpu frame) result }
+    ensures { IsAnswer config.now parts.old parts.new (Map vm vcpu frame) (reply_of result) }
 {
-    match awaited_frame(parts, config, vm, vcpu, frame) {
-        Ok(page) => {
-            hand(parts, config, page.vm, page.gfn, page.frame);
-            spend_fault(parts, config, page.vm, page.vcpu);
-            Reply::Done
-        },
-        Err(refusal) => Reply::Refused(refusal),
-    }
+    let page = awaited_frame(parts, config, vm, vcpu, frame)?;
+    hand(parts, config, page.vm, page.gfn, page.frame);
+    spend_fault(parts, config, page.vm, page.vcpu);
+    Ok(Reply::Done)
 }

@@ -9,23 +9,24 @@ ghost use Rattle.kc_model.specs.Effects.{written};
 ghost use Rattle.kc_model.specs.Next.{next};
 ghost use Rattle.kc_parts.specs.Parts.{page_at};
 ghost use Rattle.kc_parts.specs.States.{state_of, IsLinked};
-ghost use Rattle.kc_core.specs.Applying.{IsAble, IsAnswer, KeepsPlaces};
+ghost use Rattle.kc_core.specs.Applying.{IsAble, IsAnswer, KeepsPlaces, reply_of, answer_of};
 
+use crate::unserved::Unserved;
 use kc_parts::Parts;
-use kc_types::{Config, Data, FrameNo, Memory, Owner, PAGE_SIZE, Refusal, Reply, ReplyBuffer};
+use kc_types::{Config, Data, FrameNo, Owner, PAGE_SIZE, Refusal, Reply, ReplyBuffer};
 
 /// The first free frame becomes the host's.
-pub fn take(parts: &mut Parts, config: &Config) -> Reply
+pub fn take(parts: &mut Parts, config: &Config) -> Result<Reply, Refusal>
     requires { IsAble config.now parts.old Take }
-    ensures { IsAnswer config.now parts.old parts.new Take result }
+    ensures { IsAnswer config.now parts.old parts.new Take (reply_of result) }
 {
     let Some(frame) = parts.pop_free() else {
-        return Reply::Refused(Refusal::NoFree);
+        return Err(Refusal::NoFree);
     };
     let page = parts.page_mut(frame);
     page.meta.owner = Owner::Host;
     page.meta.present = false;
-    Reply::Frame(frame.number())
+    Ok(Reply::Frame(frame.number()))
 }
 
 /// The frame of this number, which is the host's.
@@ -43,21 +44,17 @@ fn host_frame(parts: &Parts, config: &Config, frame: u32) -> Result<FrameNo, Ref
 }
 
 /// A frame of the host's becomes free.
-pub fn give(parts: &mut Parts, config: &Config, frame: u32) -> Reply
+pub fn give(parts: &mut Parts, config: &Config, frame: u32) -> Result<Reply, Refusal>
     requires { IsAble config.now parts.old (Give frame) }
-    ensures { IsAnswer config.now parts.old parts.new (Give frame) result }
+    ensures { IsAnswer config.now parts.old parts.new (Give frame) (reply_of result) }
 {
-    match host_frame(parts, config, frame) {
-        Ok(frame) => {
-            let page = parts.page_mut(frame);
-            page.meta.owner = Owner::Free;
-            page.meta.present = false;
-            page.bytes.scrub();
-            parts.append_free(frame);
-            Reply::Done
-        },
-        Err(refusal) => Reply::Refused(refusal),
-    }
+    let frame = host_frame(parts, config, frame)?;
+    let page = parts.page_mut(frame);
+    page.meta.owner = Owner::Free;
+    page.meta.present = false;
+    page.bytes.scrub();
+    parts.append_free(frame);
+    Ok(Reply::Done)
 }
 
 /// The frame of this number, which the host may reach: it is its own, or shared.
@@ -76,18 +73,14 @@ fn reachable_frame(parts: &Parts, config: &Config, frame: u32) -> Result<FrameNo
 }
 
 /// Marks a frame as present.
-pub fn host_fault(parts: &mut Parts, config: &Config, frame: u32) -> Reply
+pub fn host_fault(parts: &mut Parts, config: &Config, frame: u32) -> Result<Reply, Refusal>
     requires { IsAble config.now parts.old (HostFault frame) }
-    ensures { IsAnswer config.now parts.old parts.new (HostFault frame) result }
+    ensures { IsAnswer config.now parts.old parts.new (HostFault frame) (reply_of result) }
 {
-    match reachable_frame(parts, config, frame) {
-        Ok(frame) => {
-            let page = parts.page_mut(frame);
-            page.meta.present = true;
-            Reply::Done
-        },
-        Err(refusal) => Reply::Refused(refusal),
-    }
+    let frame = reachable_frame(parts, config, frame)?;
+    let page = parts.page_mut(frame);
+    page.meta.present = true;
+    Ok(Reply::Done)
 }
 
 /// The frame of this number, of which the host may read or write `len` bytes from `offset` on.
@@ -113,7 +106,7 @@ fn present_frame(
     Ok(found)
 }
 
-/// Bytes of a frame, `len` of them from `offset` on. `Memory` where there was no room for them.
+/// Bytes of a frame, `len` of them from `offset` on. `OutOfMemory` where there was no room for them.
 pub fn host_read(
     parts: &Parts,
     config: &Config,
@@ -121,20 +114,16 @@ pub fn host_read(
     offset: u32,
     len: u32,
     buffer: ReplyBuffer,
-) -> Result<Reply, Memory>
+) -> Result<Reply, Unserved>
     requires { IsAble config.now parts.now (HostRead frame offset len) }
-    ensures answer { IfOk result (IsAnswer config.now parts.now parts.now (HostRead frame offset len)) }
-    ensures memory { IsErr result → is_data (next (state_of config.now parts.now) (HostRead frame offset len)).0 ≡ true }
-    ensures fits { readable len ≤ buffer → IsOk result }
+    ensures answer { IfOk (answer_of result) (IsAnswer config.now parts.now parts.now (HostRead frame offset len)) }
+    ensures memory { IsErr (answer_of result) → is_data (next (state_of config.now parts.now) (HostRead frame offset len)).0 ≡ true }
+    ensures fits { readable len ≤ buffer → IsOk (answer_of result) }
 {
-    match present_frame(parts, config, frame, offset, len) {
-        Ok(frame) => {
-            let buffer = buffer.at_least(len as usize)?;
-            let page = parts.page(frame);
-            Ok(Reply::Data(page.bytes.read(offset as usize, len as usize, buffer)))
-        },
-        Err(refusal) => Ok(Reply::Refused(refusal)),
-    }
+    let frame = present_frame(parts, config, frame, offset, len)?;
+    let buffer = buffer.at_least(len as usize)?;
+    let page = parts.page(frame);
+    Ok(Reply::Data(page.bytes.read(offset as usize, len as usize, buffer)))
 }
 
 /// Writes bytes to a frame, from `offset` on.
@@ -157,15 +146,11 @@ pub fn host_write(
     frame: u32,
     offset: u32,
     bytes: &Data,
-) -> Reply
+) -> Result<Reply, Refusal>
     requires { IsAble config.now parts.old (HostWrite frame offset bytes.now) }
-    ensures { IsAnswer config.now parts.old parts.new (HostWrite frame offset bytes.now) result }
+    ensures { IsAnswer config.now parts.old parts.new (HostWrite frame offset bytes.now) (reply_of result) }
 {
-    match present_frame(parts, config, frame, offset, bytes.as_slice().len() as u32) {
-        Ok(frame) => {
-            write_frame(parts, config, frame, offset, bytes);
-            Reply::Done
-        },
-        Err(refusal) => Reply::Refused(refusal),
-    }
+    let frame = present_frame(parts, config, frame, offset, bytes.as_slice().len() as u32)?;
+    write_frame(parts, config, frame, offset, bytes);
+    Ok(Reply::Done)
 }

@@ -134,7 +134,10 @@ impl KCore {
         ensures state { self.new ≡ (next self.old (Verify vm)).1 }
         ensures lawful { IsLawful self.new }
     {
-        verify(&mut self.parts, &self.config, vm)
+        match verify(&mut self.parts, &self.config, vm) {
+            Ok(verified) => verified,
+            Err(refusal) => Verified::refused(refusal),
+        }
     }
 
     /// Answers a trace, call by call, and gives the replies in order.

@@ -12,6 +12,7 @@ pub mod laws;
 mod look_ups;
 mod shares;
 mod slots;
+mod unserved;
 mod verify;
 
 pub use dispatch::{answer, apply};

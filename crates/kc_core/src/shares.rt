@@ -7,12 +7,12 @@ ghost use Rattle.kc_model.specs.Refusals.{refusal, any_from, share_at};
 ghost use Rattle.kc_model.specs.Effects.{granted, revoked};
 ghost use Rattle.kc_parts.specs.Parts.{page_at};
 ghost use Rattle.kc_parts.specs.States.{state_of, IsLinked};
-ghost use Rattle.kc_core.specs.Applying.{IsAble, IsAnswer, KeepsPlaces};
+ghost use Rattle.kc_core.specs.Applying.{IsAble, IsAnswer, KeepsPlaces, reply_of};
 ghost use Rattle.kc_core.specs.Guests.{AnswersMapped, AnswersRange};
 ghost use Rattle.kc_types.specs.Limits.{gfn_limit, share_limit};
 ghost use Rattle.kc_types.specs.Refusals.{Answers};
 
-use crate::guest::vcpu_refusal;
+use crate::guest::expect_vcpu;
 use kc_page::PageRecord;
 use kc_parts::Parts;
 use kc_types::{
@@ -46,17 +46,15 @@ pub fn mapped_frame(
     let Some(gfn) = Gfn::try_new(gfn) else {
         return Err(Refusal::BadGfn);
     };
-    if let Some(refusal) = vcpu_refusal(parts, config, vm, vcpu) {
-        return Err(refusal);
-    }
-    match parts.mapping_of(config, vm, gfn) {
-        Some(frame) => Ok(Mapping {
-            vm: slot,
-            gfn,
-            frame,
-        }),
-        None => Err(Refusal::NotMapped),
-    }
+    expect_vcpu(parts, config, vm, vcpu)?;
+    let Some(frame) = parts.mapping_of(config, vm, gfn) else {
+        return Err(Refusal::NotMapped);
+    };
+    Ok(Mapping {
+        vm: slot,
+        gfn,
+        frame,
+    })
 }
 
 /// The frame at a guest frame to which the host may be granted access once more.
@@ -70,14 +68,11 @@ fn grantable_frame(
     ensures answer { Answers result (refusal (state_of config.now parts.now) (Grant vm vcpu gfn)) }
     ensures mapped { IfOk result (λ frame. mapped_at (state_of config.now parts.now) vm gfn ≡ Some frame) }
 {
-    match mapped_frame(parts, config, vm, vcpu, gfn) {
-        Ok(found) => if parts.record_of(config, found.frame.number()).share >= SHARE_LIMIT {
-            Err(Refusal::ShareFull)
-        } else {
-            Ok(found.frame)
-        },
-        Err(refusal) => Err(refusal),
+    let found = mapped_frame(parts, config, vm, vcpu, gfn)?;
+    if parts.record_of(config, found.frame.number()).share >= SHARE_LIMIT {
+        return Err(Refusal::ShareFull);
     }
+    Ok(found.frame)
 }
 
 /// The frame at a guest frame of which a grant of the host's may be taken back.
@@ -91,14 +86,11 @@ fn shared_frame(
     ensures answer { Answers result (refusal (state_of config.now parts.now) (Revoke vm vcpu gfn)) }
     ensures mapped { IfOk result (λ frame. mapped_at (state_of config.now parts.now) vm gfn ≡ Some frame) }
 {
-    match mapped_frame(parts, config, vm, vcpu, gfn) {
-        Ok(found) => if parts.record_of(config, found.frame.number()).share == 0 {
-            Err(Refusal::NotShared)
-        } else {
-            Ok(found.frame)
-        },
-        Err(refusal) => Err(refusal),
+    let found = mapped_frame(parts, config, vm, vcpu, gfn)?;
+    if parts.record_of(config, found.frame.number()).share == 0 {
+        return Err(Refusal::NotShared);
     }
+    Ok(found.frame)
 }
 
 /// The host has one grant more to a frame.
@@ -139,31 +131,35 @@ pub fn revoke_frame(parts: &mut Parts, config: &Config, frame: FrameNo)
 }
 
 /// The host is granted access to a guest frame once more.
-pub fn grant(parts: &mut Parts, config: &Config, vm: u32, vcpu: u32, gfn: u32) -> Reply
+pub fn grant(
+    parts: &mut Parts,
+    config: &Config,
+    vm: u32,
+    vcpu: u32,
+    gfn: u32,
+) -> Result<Reply, Refusal>
     requires { IsAble config.now parts.old (Grant vm vcpu gfn) }
-    ensures { IsAnswer config.now parts.old parts.new (Grant vm vcpu gfn) result }
+    ensures { IsAnswer config.now parts.old parts.new (Grant vm vcpu gfn) (reply_of result) }
 {
-    match grantable_frame(parts, config, vm, vcpu, gfn) {
-        Ok(frame) => {
-            grant_frame(parts, config, frame);
-            Reply::Done
-        },
-        Err(refusal) => Reply::Refused(refusal),
-    }
+    let frame = grantable_frame(parts, config, vm, vcpu, gfn)?;
+    grant_frame(parts, config, frame);
+    Ok(Reply::Done)
 }
 
 /// A grant of the host's to a guest frame is taken back.
-pub fn revoke(parts: &mut Parts, config: &Config, vm: u32, vcpu: u32, gfn: u32) -> Reply
+pub fn revoke(
+    parts: &mut Parts,
+    config: &Config,
+    vm: u32,
+    vcpu: u32,
+    gfn: u32,
+) -> Result<Reply, Refusal>
     requires { IsAble config.now parts.old (Revoke vm vcpu gfn) }
-    ensures { IsAnswer config.now parts.old parts.new (Revoke vm vcpu gfn) result }
+    ensures { IsAnswer config.now parts.old parts.new (Revoke vm vcpu gfn) (reply_of result) }
 {
-    match shared_frame(parts, config, vm, vcpu, gfn) {
-        Ok(frame) => {
-            revoke_frame(parts, config, frame);
-            Reply::Done
-        },
-        Err(refusal) => Reply::Refused(refusal),
-    }
+    let frame = shared_frame(parts, config, vm, vcpu, gfn)?;
+    revoke_frame(parts, config, frame);
+    Ok(Reply::Done)
 }
 
 /// The frame at a guest frame of a slot, by its number.
@@ -234,9 +230,7 @@ fn expect_range(
     if count == 0 || count > RANGE_LIMIT {
         return Err(Refusal::BadRange);
     }
-    if let Some(refusal) = vcpu_refusal(parts, config, vm, vcpu) {
-        return Err(refusal);
-    }
+    expect_vcpu(parts, config, vm, vcpu)?;
     if any_unmapped(parts, config, vm, gfn, count) {
         return Err(Refusal::NotMapped);
     }
@@ -254,14 +248,11 @@ fn expect_grantable(
 ) -> Result<(), Refusal>
     ensures { Answers result (refusal (state_of config.now parts.now) (GrantRange vm vcpu gfn count)) }
 {
-    match expect_range(parts, config, vm, vcpu, gfn, count) {
-        Ok(()) => if any_full(parts, config, vm, gfn, count) {
-            Err(Refusal::ShareFull)
-        } else {
-            Ok(())
-        },
-        Err(refusal) => Err(refusal),
+    expect_range(parts, config, vm, vcpu, gfn, count)?;
+    if any_full(parts, config, vm, gfn, count) {
+        return Err(Refusal::ShareFull);
     }
+    Ok(())
 }
 
 /// Why no grant of the host's to each of `count` guest frames can be taken back.
@@ -275,14 +266,11 @@ fn expect_shared(
 ) -> Result<(), Refusal>
     ensures { Answers result (refusal (state_of config.now parts.now) (RevokeRange vm vcpu gfn count)) }
 {
-    match expect_range(parts, config, vm, vcpu, gfn, count) {
-        Ok(()) => if any_unshared(parts, config, vm, gfn, count) {
-            Err(Refusal::NotShared)
-        } else {
-            Ok(())
-        },
-        Err(refusal) => Err(refusal),
+    expect_range(parts, config, vm, vcpu, gfn, count)?;
+    if any_unshared(parts, config, vm, gfn, count) {
+        return Err(Refusal::NotShared);
     }
+    Ok(())
 }
 
 /// The frame at a mapped guest frame of a slot, by its number.
@@ -302,20 +290,16 @@ pub fn grant_range(
     vcpu: u32,
     gfn: u32,
     count: u32,
-) -> Reply
+) -> Result<Reply, Refusal>
     requires { IsAble config.now parts.old (GrantRange vm vcpu gfn count) }
-    ensures { IsAnswer config.now parts.old parts.new (GrantRange vm vcpu gfn count) result }
+    ensures { IsAnswer config.now parts.old parts.new (GrantRange vm vcpu gfn count) (reply_of result) }
 {
-    match expect_grantable(parts, config, vm, vcpu, gfn, count) {
-        Ok(()) => {
-            for at in gfn..gfn + count {
-                let frame = frame_under(parts, config, vm, at);
-                grant_frame(parts, config, frame);
-            }
-            Reply::Done
-        },
-        Err(refusal) => Reply::Refused(refusal),
+    expect_grantable(parts, config, vm, vcpu, gfn, count)?;
+    for at in gfn..gfn + count {
+        let frame = frame_under(parts, config, vm, at);
+        grant_frame(parts, config, frame);
     }
+    Ok(Reply::Done)
 }
 
 /// A grant of the host's to each of `count` guest frames from `gfn` on is taken back.
@@ -326,18 +310,14 @@ pub fn revoke_range(
     vcpu: u32,
     gfn: u32,
     count: u32,
-) -> Reply
+) -> Result<Reply, Refusal>
     requires { IsAble config.now parts.old (RevokeRange vm vcpu gfn count) }
-    ensures { IsAnswer config.now parts.old parts.new (RevokeRange vm vcpu gfn count) result }
+    ensures { IsAnswer config.now parts.old parts.new (RevokeRange vm vcpu gfn count) (reply_of result) }
 {
-    match expect_shared(parts, config, vm, vcpu, gfn, count) {
-        Ok(()) => {
-            for at in gfn..gfn + count {
-                let frame = frame_under(parts, config, vm, at);
-                revoke_frame(parts, config, frame);
-            }
-            Reply::Done
-        },
-        Err(refusal) => Reply::Refused(refusal),
+    expect_shared(parts, config, vm, vcpu, gfn, count)?;
+    for at in gfn..gfn + count {
+        let frame = frame_under(parts, config, vm, at);
+        revoke_frame(parts, config, frame);
     }
+    Ok(Reply::Done)
 }

@@ -1,11 +1,12 @@
 //! Verifying a VM: its boot images are measured, and it becomes active or dead.
-ghost use Rattle.std.specs.Prelude.{◌≡◌, ◌+◌, ◌<◌, ◌≤◌, ◌↔◌, ◌||◌, ◌==◌, All, IsTrue, IfOk, Some, None, true, is_some, length, map};
+ghost use Rattle.std.specs.Prelude.{◌≡◌, ◌+◌, ◌<◌, ◌≤◌, ◌↔◌, ◌||◌, ◌==◌, [], All, IsTrue, IfOk, MatchResult, Some, None, true, is_some, length, map};
 ghost use Rattle.std.specs.List.{list_any};
 ghost use Rattle.std.specs.FinMap as finite;
 ghost use Rattle.sha2.specs.Sha256.{sha256};
 ghost use Rattle.kc_types.specs.Limits.{gfn_limit, page_size, image_limit};
 ghost use Rattle.kc_types.specs.Configuration.{slot_count};
 ghost use Rattle.kc_types.specs.declared.call.Call.TheVariants.{Verify};
+ghost use Rattle.kc_types.specs.declared.reply.Reply.TheVariants.{Refused};
 ghost use Rattle.kc_types.specs.Refusals.{Answers};
 ghost use Rattle.kc_model.specs.State.{slot_at};
 ghost use Rattle.kc_model.specs.Lawful.{IsLawfulImage};
@@ -260,6 +261,19 @@ pub struct Verified {
     pub images: ArrayVec<MeasuredImage, IMAGE_LIMIT>,
 }
 
+impl Verified {
+    /// The answer of a `verify` that is refused: it measured nothing.
+    pub(crate) fn refused(refusal: Refusal) -> Verified
+        ensures reply { result.reply ≡ Refused refusal }
+        ensures images { result.images.items ≡ [] }
+    {
+        Verified {
+            reply: Reply::Refused(refusal),
+            images: ArrayVec::new(),
+        }
+    }
+}
+
 /// Measures the images of a slot, which is booting and has all their pages: it becomes active if all are approved,
 /// and dead if one is not. It stands apart from its judge, since what it needs of the slot is all of it: that no
 /// condition holds, and no one value that the judge could hand over.
@@ -290,16 +304,11 @@ fn measure_slot(parts: &mut Parts, config: &Config, vm: VmId) -> Verified
 
 /// The slot becomes active if all its images are approved, and dead if one is not.
 #[inline(never)]
-pub fn verify(parts: &mut Parts, config: &Config, vm: u32) -> Verified
+pub fn verify(parts: &mut Parts, config: &Config, vm: u32) -> Result<Verified, Refusal>
     requires { IsAble config.now parts.old (Verify vm) }
-    ensures answer { IsAnswer config.now parts.old parts.new (Verify vm) result.reply }
-    ensures images { result.images.items ≡ images_by (state_of config.now parts.old) (Verify vm) }
+    ensures answer { MatchResult result (λ verified. IsAnswer config.now parts.old parts.new (Verify vm) verified.reply) (λ why. IsAnswer config.now parts.old parts.new (Verify vm) (Refused why)) }
+    ensures images { MatchResult result (λ verified. verified.images.items ≡ images_by (state_of config.now parts.old) (Verify vm)) (λ why. images_by (state_of config.now parts.old) (Verify vm) ≡ []) }
 {
-    match booted_slot(parts, config, vm) {
-        Ok(vm) => measure_slot(parts, config, vm),
-        Err(refusal) => Verified {
-            reply: Reply::Refused(refusal),
-            images: ArrayVec::new(),
-        },
-    }
+    let vm = booted_slot(parts, config, vm)?;
+    Ok(measure_slot(parts, config, vm))
 }

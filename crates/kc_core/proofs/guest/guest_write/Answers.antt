@@ -1,4 +1,4 @@
-use Rattle.std.proofs.Common.{◌≡◌, ◌<◌, ◌≤◌, ◌+◌, Some, None, length, IsSome, refl, sym, ap, ◌∙◌}
+use Rattle.std.proofs.Common.{◌≡◌, ◌<◌, ◌≤◌, ◌+◌, Some, None, length, IsSome, refl, sym, ap, ◌∙◌, Err, arith}
 use Rattle.kc_types.specs.Configuration.{slot_count}
 use Rattle.kc_types.specs.declared.call.Call.TheVariants.{GuestWrite}
 use Rattle.kc_types.specs.declared.reply.Reply.TheVariants as reply
@@ -14,76 +14,78 @@ use Rattle.kc_core.proofs.Frames.{places-through}
 use Rattle.kc_core.proofs.Answered.{answer-refused, answer-served}
 use Rattle.kc_core.proofs.Guests.{fault-at, waits-at}
 use Rattle.kc_core.proofs.guest.guest_write.Goals as goal
-use Rattle.kc_core.proofs.guest.guest_write.Goals.{In-Ok, In-Some, In-None}
+use Rattle.kc_core.proofs.guest.guest_write.Goals.{In_ok-at, In-Some, In_default}
 
-served : (c : In-Ok) → refusal (state_of c.args.config.now c.args.parts.now) (GuestWrite c.args.vm c.args.vcpu c.args.gfn c.args.offset c.args.bytes.now) ≡ None
-served c = rw (← c.as_slice.ensures.value) c.in-Ok.ensures.answer
+served : (c : In_ok-at) → refusal (state_of c.args.config.now c.args.parts.now) (GuestWrite c.args.vm c.args.vcpu c.args.gfn c.args.offset c.args.bytes.now) ≡ None
+served c = rw (← c.as_slice.ensures.value) c.in_ok-at.ensures.answer
 
-seen : (c : In-Ok) → IsGuestCall (state_of c.args.config.now c.args.parts.now) c.args.vm c.args.vcpu c.args.gfn × (c.args.offset + length c.args.bytes.now ≤ 4096)
+seen : (c : In_ok-at) → IsGuestCall (state_of c.args.config.now c.args.parts.now) c.args.vm c.args.vcpu c.args.gfn × (c.args.offset + length c.args.bytes.now ≤ 4096)
 seen c = guest_access-served _ _ _ _ _ _ (served c)
 
-low : (c : In-Ok) → c.args.vm < slot_count c.args.config.now
+low : (c : In_ok-at) → c.args.vm < slot_count c.args.config.now
 low c = (seen c).0.vm
 
-exists : (c : In-Ok) → c.in-Ok.at.vm < slot_count c.args.config.now
-exists c = rw c.in-Ok.ensures.named.vm (low c)
+exists : (c : In_ok-at) → c.in_ok-at.at.vm < slot_count c.args.config.now
+exists c = rw c.in_ok-at.ensures.named.vm (low c)
 
 -- the slot is here
-here : (c : In-Ok) → IsSome (vm_at c.args.parts.now c.in-Ok.at.vm)
-here c = rw c.in-Ok.ensures.named.vm (slot-needed _ _ _ c.requires c.args.vm refl (low c))
+here : (c : In_ok-at) → IsSome (vm_at c.args.parts.now c.in_ok-at.at.vm)
+here c = rw c.in_ok-at.ensures.named.vm (slot-needed _ _ _ c.requires c.args.vm refl (low c))
 
 mapped : (c : In-Some) → mapped_at (state_of c.args.config.now c.args.parts.now) c.args.vm c.args.gfn ≡ Some c.in-Some.frame
-mapped c = rw (← c.in-Ok.ensures.named.gfn) (sym c.in-Some.ensures)
+mapped c = rw (← c.in_ok-at.ensures.named.gfn) (sym c.in-Some.ensures)
 
-unmapped : (c : In-None) → mapped_at (state_of c.args.config.now c.args.parts.now) c.args.vm c.args.gfn ≡ None
-unmapped c = rw (← c.in-Ok.ensures.named.gfn) (sym c.in-None.ensures)
+unmapped : (c : In_default) → mapped_at (state_of c.args.config.now c.args.parts.now) c.args.vm c.args.gfn ≡ None
+unmapped c = rw (← c.in_ok-at.ensures.named.gfn) (sym c.in_default.ensures)
 
 pub write_frame-requires-clause-here : goal.write_frame-requires-clause-here
 write_frame-requires-clause-here c =
     let k = goal.at.write_frame-requires-clause-here c in
-    mapped-needed _ _ _ c.requires c.args.vm c.args.gfn _ refl (low k.In-Ok) (mapped k.In-Some)
+    mapped-needed _ _ _ c.requires c.args.vm c.args.gfn _ refl (low k.In_ok-at) (mapped k.In-Some)
 
 pub write_frame-requires-clause-within : goal.write_frame-requires-clause-within
-write_frame-requires-clause-within c = (seen (goal.at.write_frame-requires-clause-within c).In-Ok).1
+write_frame-requires-clause-within c = (seen (goal.at.write_frame-requires-clause-within c).In_ok-at).1
 
 pub spend_fault-requires-clause-exists : goal.spend_fault-requires-clause-exists
-spend_fault-requires-clause-exists c = exists (goal.at.spend_fault-requires-clause-exists c).In-Ok
+spend_fault-requires-clause-exists c = exists (goal.at.spend_fault-requires-clause-exists c).In_ok-at
 
 pub set_fault-requires-clause-exists : goal.set_fault-requires-clause-exists
-set_fault-requires-clause-exists c = exists (goal.at.set_fault-requires-clause-exists c).In-Ok
+set_fault-requires-clause-exists c = exists (goal.at.set_fault-requires-clause-exists c).In_ok-at
 
 pub set_fault-requires-clause-here : goal.set_fault-requires-clause-here
-set_fault-requires-clause-here c = here (goal.at.set_fault-requires-clause-here c).In-Ok
+set_fault-requires-clause-here c = here (goal.at.set_fault-requires-clause-here c).In_ok-at
 
 pub set_fault-requires-clause-active : goal.set_fault-requires-clause-active
-set_fault-requires-clause-active c = rw c.in-Ok.ensures.named.vm (seen (goal.at.set_fault-requires-clause-active c).In-Ok).0.active
+set_fault-requires-clause-active c = rw c.in_ok-at.ensures.named.vm (seen (goal.at.set_fault-requires-clause-active c).In_ok-at).0.active
 
 pub set_fault-requires-clause-registered : goal.set_fault-requires-clause-registered
-set_fault-requires-clause-registered c = rw (c.in-Ok.ensures.named.vm, c.in-Ok.ensures.named.vcpu) (seen (goal.at.set_fault-requires-clause-registered c).In-Ok).0.registered
+set_fault-requires-clause-registered c = rw (c.in_ok-at.ensures.named.vm, c.in_ok-at.ensures.named.vcpu) (seen (goal.at.set_fault-requires-clause-registered c).In_ok-at).0.registered
 
 pub spend_fault-requires-clause-here : goal.spend_fault-requires-clause-here
-spend_fault-requires-clause-here c = c.write_frame.ensures.places.here (resource.Vm c.in-Ok.at.vm) ∙ here (goal.at.spend_fault-requires-clause-here c).In-Ok
+spend_fault-requires-clause-here c = c.write_frame.ensures.places.here (resource.Vm c.in_ok-at.at.vm) ∙ here (goal.at.spend_fault-requires-clause-here c).In_ok-at
 
-pub returns-in-Some : goal.returns-in-Some
-returns-in-Some c =
-    let k = goal.at.returns-in-Some c in
+pub returns : goal.returns
+returns c =
+    let k = goal.at.returns c in
     let m = state_of c.args.config.now c.args.parts.now in
     let is = mapped k.In-Some in
-    answer-served c.args.config.now c.args.parts.now _ (GuestWrite c.args.vm c.args.vcpu c.args.gfn c.args.offset c.args.bytes.now) reply.Done (served k.In-Ok)
+    answer-served c.args.config.now c.args.parts.now _ (GuestWrite c.args.vm c.args.vcpu c.args.gfn c.args.offset c.args.bytes.now) reply.Done (served k.In_ok-at)
     (ap (λ there. (guest_written m c.args.vm c.args.vcpu c.args.gfn c.args.offset c.args.bytes.now there).0) (sym is))
-    (c.spend_fault.ensures.state ∙ fault-at _ _ _ _ _ None c.in-Ok.ensures.named ∙ ap (λ (s : State). with_fault s c.args.vm c.args.vcpu None) c.write_frame.ensures.state
+    (c.spend_fault.ensures.state ∙ fault-at _ _ _ _ _ None c.in_ok-at.ensures.named ∙ ap (λ (s : State). with_fault s c.args.vm c.args.vcpu None) c.write_frame.ensures.state
     ∙ ap (λ there. (guest_written m c.args.vm c.args.vcpu c.args.gfn c.args.offset c.args.bytes.now there).1) (sym is))
     c.spend_fault.ensures.linked (places-through _ _ _ c.write_frame.ensures.places c.spend_fault.ensures.places)
 
-pub returns-in-None : goal.returns-in-None
-returns-in-None c =
-    let k = goal.at.returns-in-None c in
+pub returns-in_default : goal.returns-in_default
+returns-in_default c =
+    let k = goal.at.returns-in_default c in
     let m = state_of c.args.config.now c.args.parts.now in
-    let is = unmapped k.In-None in
-    answer-served c.args.config.now c.args.parts.now _ (GuestWrite c.args.vm c.args.vcpu c.args.gfn c.args.offset c.args.bytes.now) (reply.Fault c.args.gfn) (served k.In-Ok)
+    let is = unmapped k.In_default in
+    answer-served c.args.config.now c.args.parts.now _ (GuestWrite c.args.vm c.args.vcpu c.args.gfn c.args.offset c.args.bytes.now) (reply.Fault c.args.gfn) (served k.In_ok-at)
     (ap (λ there. (guest_written m c.args.vm c.args.vcpu c.args.gfn c.args.offset c.args.bytes.now there).0) (sym is))
-    (c.set_fault.ensures.state ∙ waits-at m _ _ _ _ c.in-Ok.ensures.named ∙ ap (λ there. (guest_written m c.args.vm c.args.vcpu c.args.gfn c.args.offset c.args.bytes.now there).1) (sym is))
+    (c.set_fault.ensures.state ∙ waits-at m _ _ _ _ c.in_ok-at.ensures.named ∙ ap (λ there. (guest_written m c.args.vm c.args.vcpu c.args.gfn c.args.offset c.args.bytes.now there).1) (sym is))
     c.set_fault.ensures.linked c.set_fault.ensures.places
 
-pub returns-in-Err : goal.returns-in-Err
-returns-in-Err c = answer-refused _ _ _ c.in-Err.refusal c.requires.linked (rw (← c.as_slice.ensures.value) c.in-Err.ensures.answer)
+pub returns-in_err-at : goal.returns-in_err-at
+returns-in_err-at c =
+    let is : c.from_residual.result ≡ Err c.in_err-at.field-0.0 = grind arith in
+    rw is (answer-refused _ _ _ _ c.requires.linked (rw (← c.as_slice.ensures.value) c.in_err-at.ensures.answer))

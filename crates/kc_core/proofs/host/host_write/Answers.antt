@@ -1,4 +1,4 @@
-use Rattle.std.proofs.Common.{◌≡◌, None, length, eq-eqb, refl}
+use Rattle.std.proofs.Common.{◌≡◌, None, length, eq-eqb, refl, Err, arith}
 use Rattle.kc_types.specs.declared.call.Call.TheVariants.{HostWrite}
 use Rattle.kc_types.specs.declared.reply.Reply.TheVariants as reply
 use Rattle.kc_model.specs.Refusals.{refusal}
@@ -8,29 +8,31 @@ use Rattle.kc_core.specs.Applying.{IsAble}
 use Rattle.kc_core.proofs.Needed.{frame-needed}
 use Rattle.kc_core.proofs.Answered.{answer-refused, answer-served}
 use Rattle.kc_core.proofs.host.host_write.Goals as goal
-use Rattle.kc_core.proofs.host.host_write.Goals.{In-Ok}
+use Rattle.kc_core.proofs.host.host_write.Goals.{In_ok-frame}
 
-able : (c : In-Ok) → IsAble c.args.config.now c.args.parts.now (HostWrite c.in-Ok.frame c.args.offset c.args.bytes.now)
-able c = rw c.in-Ok.ensures.frame c.requires
+able : (c : In_ok-frame) → IsAble c.args.config.now c.args.parts.now (HostWrite c.in_ok-frame.frame c.args.offset c.args.bytes.now)
+able c = rw c.in_ok-frame.ensures.frame c.requires
 
-served : (c : In-Ok) → refusal (state_of c.args.config.now c.args.parts.now) (HostWrite c.in-Ok.frame c.args.offset c.args.bytes.now) ≡ None
-served c = rw (c.in-Ok.ensures.frame, ← c.as_slice.ensures.value) c.in-Ok.ensures.answer
+served : (c : In_ok-frame) → refusal (state_of c.args.config.now c.args.parts.now) (HostWrite c.in_ok-frame.frame c.args.offset c.args.bytes.now) ≡ None
+served c = rw (c.in_ok-frame.ensures.frame, ← c.as_slice.ensures.value) c.in_ok-frame.ensures.answer
 
-seen : (c : In-Ok) → IsHostAccess (state_of c.args.config.now c.args.parts.now) c.in-Ok.frame c.args.offset (length c.args.bytes.now)
+seen : (c : In_ok-frame) → IsHostAccess (state_of c.args.config.now c.args.parts.now) c.in_ok-frame.frame c.args.offset (length c.args.bytes.now)
 seen c = host_access-served _ _ _ _ (served c)
 
 pub write_frame-requires-clause-here : goal.write_frame-requires-clause-here
 write_frame-requires-clause-here c =
-    let k = (goal.at.write_frame-requires-clause-here c).In-Ok in
-    frame-needed _ _ _ (able k) c.in-Ok.frame (eq-eqb c.in-Ok.frame c.in-Ok.frame refl) (seen k).frame
+    let k = (goal.at.write_frame-requires-clause-here c).In_ok-frame in
+    frame-needed _ _ _ (able k) c.in_ok-frame.frame (eq-eqb c.in_ok-frame.frame c.in_ok-frame.frame refl) (seen k).frame
 
 pub write_frame-requires-clause-within : goal.write_frame-requires-clause-within
-write_frame-requires-clause-within c = (seen (goal.at.write_frame-requires-clause-within c).In-Ok).within
+write_frame-requires-clause-within c = (seen (goal.at.write_frame-requires-clause-within c).In_ok-frame).within
 
-pub returns-in-Ok : goal.returns-in-Ok
-returns-in-Ok c =
+pub returns : goal.returns
+returns c =
     let done = c.write_frame.ensures in
-    rw (← c.in-Ok.ensures.frame) (answer-served c.args.config.now c.args.parts.now _ (HostWrite c.in-Ok.frame c.args.offset c.args.bytes.now) reply.Done (served (goal.at.returns-in-Ok c).In-Ok) refl done.state done.linked done.places)
+    rw (← c.in_ok-frame.ensures.frame) (answer-served c.args.config.now c.args.parts.now _ (HostWrite c.in_ok-frame.frame c.args.offset c.args.bytes.now) reply.Done (served (goal.at.returns c).In_ok-frame) refl done.state done.linked done.places)
 
-pub returns-in-Err : goal.returns-in-Err
-returns-in-Err c = answer-refused _ _ _ c.in-Err.refusal c.requires.linked (rw (← c.as_slice.ensures.value) c.in-Err.ensures.answer)
+pub returns-in_err-frame : goal.returns-in_err-frame
+returns-in_err-frame c =
+    let is : c.from_residual.result ≡ Err c.in_err-frame.field-0.0 = grind arith in
+    rw is (answer-refused _ _ _ _ c.requires.linked (rw (← c.as_slice.ensures.value) c.in_err-frame.ensures.answer))

@@ -1,4 +1,4 @@
-use Rattle.std.proofs.Common.{◌≡◌, ◌+◌, ◌-◌, Some, is_some, refl, ap, ◌∙◌, arith}
+use Rattle.std.proofs.Common.{◌≡◌, ◌+◌, ◌-◌, Some, is_some, refl, ap, ◌∙◌, arith, Err}
 use Rattle.kc_types.specs.declared.call.Call.TheVariants.{GrantRange}
 use Rattle.kc_types.specs.declared.reply.Reply.TheVariants as reply
 use Rattle.kc_model.specs.State.{State, frame_at, mapped_at}
@@ -13,7 +13,7 @@ use Rattle.kc_core.proofs.shares.grant_range.Goals as goal
 use Rattle.kc_core.proofs.shares.grant_range.Goals.{In-loop-at}
 
 call : (c : In-loop-at) → IsRangeCall (state_of c.args.config.now c.args.parts.now) c.args.vm c.args.vcpu c.args.gfn c.args.count
-call c = (guest_range-served (state_of c.args.config.now c.args.parts.now) c.args.vm c.args.vcpu c.args.gfn c.args.count _ c.in-Ok.ensures).0
+call c = (guest_range-served (state_of c.args.config.now c.args.parts.now) c.args.vm c.args.vcpu c.args.gfn c.args.count _ c.in_ok-expect_grantable.ensures).0
 
 -- the guest frame is mapped as at the start
 mapped : (c : In-loop-at) → mapped_at (state_of c.args.config.now c.loop-at.parts) c.args.vm c.loop-at.at ≡ Some (backing (mapped_at (state_of c.args.config.now c.args.parts.now) c.args.vm c.loop-at.at))
@@ -31,7 +31,7 @@ pub grant_frame-requires-clause-few : goal.grant_frame-requires-clause-few
 grant_frame-requires-clause-few c =
     let so_far = c.loop-at.invariant in
     let count = (call (goal.at.grant_frame-requires-clause-few c).In-loop-at).few in
-    let few = few-ranged (state_of c.args.config.now c.args.parts.now) c.args.vm c.args.vcpu c.args.gfn c.args.count c.in-Ok.ensures c.loop-at.at so_far.from c.loop-at-test.true in
+    let few = few-ranged (state_of c.args.config.now c.args.parts.now) c.args.vm c.args.vcpu c.args.gfn c.args.count c.in_ok-expect_grantable.ensures c.loop-at.at so_far.from c.loop-at-test.true in
     let now = so_far.few c.loop-at.at in
     let low = c.loop-at-test.true in
     let same = ap (λ at. (frame_at (state_of c.args.config.now c.loop-at.parts) (backing at)).share) c.frame_under-frame.ensures in
@@ -53,13 +53,15 @@ loop-at-preserved c =
       places = places-through _ _ _ so_far.places c.grant_frame.ensures.places;
     }
 
-pub returns-after-loop-at : goal.returns-after-loop-at
-returns-after-loop-at c =
+pub returns : goal.returns
+returns c =
     let so_far = c.loop-at.invariant in
     let past = c.loop-at-test.false in
     let none : c.args.gfn + c.args.count - c.loop-at.at ≡ 0 = omega (arith, past) in
-    answer-served c.args.config.now c.args.parts.now _ (GrantRange c.args.vm c.args.vcpu c.args.gfn c.args.count) reply.Done c.in-Ok.ensures refl
+    answer-served c.args.config.now c.args.parts.now _ (GrantRange c.args.vm c.args.vcpu c.args.gfn c.args.count) reply.Done c.in_ok-expect_grantable.ensures refl
     (all-done granted (state_of c.args.config.now c.loop-at.parts) _ c.args.vm c.loop-at.at _ none so_far.left) so_far.linked so_far.places
 
-pub returns-in-Err : goal.returns-in-Err
-returns-in-Err c = answer-refused _ _ _ c.in-Err.refusal c.requires.linked c.in-Err.ensures
+pub returns-in_err-expect_grantable : goal.returns-in_err-expect_grantable
+returns-in_err-expect_grantable c =
+    let is : c.from_residual.result ≡ Err c.in_err-expect_grantable.field-0.0 = grind arith in
+    rw is (answer-refused _ _ _ _ c.requires.linked c.in_err-expect_grantable.ensures)

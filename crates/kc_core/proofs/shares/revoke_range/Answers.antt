@@ -1,4 +1,4 @@
-use Rattle.std.proofs.Common.{◌≡◌, ◌+◌, ◌-◌, Some, is_some, refl, ap, ◌∙◌, arith}
+use Rattle.std.proofs.Common.{◌≡◌, ◌+◌, ◌-◌, Some, is_some, refl, ap, ◌∙◌, arith, Err}
 use Rattle.kc_types.specs.declared.call.Call.TheVariants.{RevokeRange}
 use Rattle.kc_types.specs.declared.reply.Reply.TheVariants as reply
 use Rattle.kc_model.specs.State.{State, mapped_at}
@@ -13,7 +13,7 @@ use Rattle.kc_core.proofs.shares.revoke_range.Goals as goal
 use Rattle.kc_core.proofs.shares.revoke_range.Goals.{In-loop-at}
 
 call : (c : In-loop-at) → IsRangeCall (state_of c.args.config.now c.args.parts.now) c.args.vm c.args.vcpu c.args.gfn c.args.count
-call c = (guest_range-served (state_of c.args.config.now c.args.parts.now) c.args.vm c.args.vcpu c.args.gfn c.args.count _ c.in-Ok.ensures).0
+call c = (guest_range-served (state_of c.args.config.now c.args.parts.now) c.args.vm c.args.vcpu c.args.gfn c.args.count _ c.in_ok-expect_shared.ensures).0
 
 -- the guest frame is mapped as at the start
 mapped : (c : In-loop-at) → mapped_at (state_of c.args.config.now c.loop-at.parts) c.args.vm c.loop-at.at ≡ Some (backing (mapped_at (state_of c.args.config.now c.args.parts.now) c.args.vm c.loop-at.at))
@@ -42,13 +42,15 @@ loop-at-preserved c =
       places = places-through _ _ _ so_far.places c.revoke_frame.ensures.places;
     }
 
-pub returns-after-loop-at : goal.returns-after-loop-at
-returns-after-loop-at c =
+pub returns : goal.returns
+returns c =
     let so_far = c.loop-at.invariant in
     let past = c.loop-at-test.false in
     let none : c.args.gfn + c.args.count - c.loop-at.at ≡ 0 = omega (arith, past) in
-    answer-served c.args.config.now c.args.parts.now _ (RevokeRange c.args.vm c.args.vcpu c.args.gfn c.args.count) reply.Done c.in-Ok.ensures refl
+    answer-served c.args.config.now c.args.parts.now _ (RevokeRange c.args.vm c.args.vcpu c.args.gfn c.args.count) reply.Done c.in_ok-expect_shared.ensures refl
     (all-done revoked (state_of c.args.config.now c.loop-at.parts) _ c.args.vm c.loop-at.at _ none so_far.left) so_far.linked so_far.places
 
-pub returns-in-Err : goal.returns-in-Err
-returns-in-Err c = answer-refused _ _ _ c.in-Err.refusal c.requires.linked c.in-Err.ensures
+pub returns-in_err-expect_shared : goal.returns-in_err-expect_shared
+returns-in_err-expect_shared c =
+    let is : c.from_residual.result ≡ Err c.in_err-expect_shared.field-0.0 = grind arith in
+    rw is (answer-refused _ _ _ _ c.requires.linked c.in_err-expect_shared.ensures)

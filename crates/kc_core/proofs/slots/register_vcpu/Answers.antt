@@ -1,4 +1,4 @@
-use Rattle.std.proofs.Common.{◌≡◌, ◌<◌, Some, refl, ◌∙◌}
+use Rattle.std.proofs.Common.{◌≡◌, ◌<◌, Some, refl, ◌∙◌, Err, arith}
 use Rattle.kc_types.specs.Configuration.{slot_count}
 use Rattle.kc_types.specs.Limits.{vcpu_limit}
 use Rattle.kc_types.specs.declared.refusal.Refusal.TheVariants.{BadVm, BadVcpu}
@@ -31,15 +31,16 @@ returns-in_default-try_new c =
 pub slot_mut-slot-requires : goal.slot_mut-slot-requires
 slot_mut-slot-requires c = rw c.in-Some.ensures.value (slot-needed _ _ _ c.requires c.args.vm refl (low (goal.at.slot_mut-slot-requires c).In-Some))
 
-pub returns-in-Ok : goal.returns-in-Ok
-returns-in-Ok c =
-    let k = goal.at.returns-in-Ok c in
+pub returns : goal.returns
+returns c =
+    let k = goal.at.returns c in
     rw c.in-Some.ensures.value (answer-register_vcpu _ _ _ _ _ _ c.requires.linked (low k.In-Some) (vcpu_low k.In-Some-try_new) (at k.After-slot_mut-slot)
-    (rw c.in-Some-try_new.ensures.value at c.in-Ok.ensures.answer) (rw c.in-Some-try_new.ensures.value at c.in-Ok.ensures.ok))
+    (rw c.in-Some-try_new.ensures.value at c.in_ok-add_vcpu.ensures.answer) (rw c.in-Some-try_new.ensures.value at c.in_ok-add_vcpu.ensures.ok))
 
-pub returns-in-Err : goal.returns-in-Err
-returns-in-Err c =
-    let k = goal.at.returns-in-Err c in
-    rw c.in-Some.ensures.value (answer-slot_refused _ _ _ _ _ _ c.in-Err.refusal c.requires.linked (at k.After-slot_mut-slot) c.in-Err.ensures.err
+pub returns-in_err-add_vcpu : goal.returns-in_err-add_vcpu
+returns-in_err-add_vcpu c =
+    let k = goal.at.returns-in_err-add_vcpu c in
+    let is : c.from_residual.result ≡ Err c.in_err-add_vcpu.field-0.0 = grind arith in
+    rw (is, c.in-Some.ensures.value) (answer-slot_refused _ _ _ _ _ _ _ c.requires.linked (at k.After-slot_mut-slot) c.in_err-add_vcpu.ensures.err
     (refusal-register_vcpu (state_of c.args.config.now c.args.parts.now) _ _ c.slot_mut-slot.result.now.slot _ (low k.In-Some) (vcpu_low k.In-Some-try_new)
-    (slot-is c.args.config.now c.args.parts.now _ _ (low k.In-Some) (at k.After-slot_mut-slot)) ∙ rw c.in-Some-try_new.ensures.value at c.in-Err.ensures.answer))
+    (slot-is c.args.config.now c.args.parts.now _ _ (low k.In-Some) (at k.After-slot_mut-slot)) ∙ rw c.in-Some-try_new.ensures.value at c.in_err-add_vcpu.ensures.answer))

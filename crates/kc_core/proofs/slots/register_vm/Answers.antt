@@ -1,4 +1,4 @@
-use Rattle.std.proofs.Common.{◌≡◌, ◌<◌, Some, refl, ◌∙◌}
+use Rattle.std.proofs.Common.{◌≡◌, ◌<◌, Some, refl, ◌∙◌, Err, arith}
 use Rattle.kc_types.specs.Configuration.{slot_count}
 use Rattle.kc_types.specs.declared.refusal.Refusal.TheVariants.{BadVm}
 use Rattle.kc_parts.specs.Parts.{vm_at}
@@ -22,13 +22,14 @@ returns-in_default c = answer-refused _ _ _ BadVm c.requires.linked (rw (vm-past
 pub slot_mut-slot-requires : goal.slot_mut-slot-requires
 slot_mut-slot-requires c = rw c.in-Some.ensures.value (slot-needed _ _ _ c.requires c.args.vm refl (low (goal.at.slot_mut-slot-requires c).In-Some))
 
-pub returns-in-Ok : goal.returns-in-Ok
-returns-in-Ok c =
-    let k = goal.at.returns-in-Ok c in
-    rw c.in-Some.ensures.value (answer-register_vm _ _ _ _ _ c.requires.linked (low k.In-Some) (at k.After-slot_mut-slot) c.in-Ok.ensures.answer c.in-Ok.ensures.ok)
+pub returns : goal.returns
+returns c =
+    let k = goal.at.returns c in
+    rw c.in-Some.ensures.value (answer-register_vm _ _ _ _ _ c.requires.linked (low k.In-Some) (at k.After-slot_mut-slot) c.in_ok-register.ensures.answer c.in_ok-register.ensures.ok)
 
-pub returns-in-Err : goal.returns-in-Err
-returns-in-Err c =
-    let k = goal.at.returns-in-Err c in
-    rw c.in-Some.ensures.value (answer-slot_refused _ _ _ _ _ _ c.in-Err.refusal c.requires.linked (at k.After-slot_mut-slot) c.in-Err.ensures.err
-    (refusal-register_vm (state_of c.args.config.now c.args.parts.now) _ c.slot_mut-slot.result.now.slot _ (low k.In-Some) (slot-is c.args.config.now c.args.parts.now _ _ (low k.In-Some) (at k.After-slot_mut-slot)) ∙ c.in-Err.ensures.answer))
+pub returns-in_err-register : goal.returns-in_err-register
+returns-in_err-register c =
+    let k = goal.at.returns-in_err-register c in
+    let is : c.from_residual.result ≡ Err c.in_err-register.field-0.0 = grind arith in
+    rw (is, c.in-Some.ensures.value) (answer-slot_refused _ _ _ _ _ _ _ c.requires.linked (at k.After-slot_mut-slot) c.in_err-register.ensures.err
+    (refusal-register_vm (state_of c.args.config.now c.args.parts.now) _ c.slot_mut-slot.result.now.slot _ (low k.In-Some) (slot-is c.args.config.now c.args.parts.now _ _ (low k.In-Some) (at k.After-slot_mut-slot)) ∙ c.in_err-register.ensures.answer))

@@ -1,4 +1,4 @@
-use Rattle.std.proofs.Common.{◌≡◌, ◌<◌, ◌≤◌, ◌+◌, inl, inr, arith, Some, refl, ◌∙◌}
+use Rattle.std.proofs.Common.{◌≡◌, ◌<◌, ◌≤◌, ◌+◌, inl, inr, arith, Some, refl, ◌∙◌, Err}
 use Rattle.kc_types.specs.Limits.{gfn_limit}
 use Rattle.kc_types.specs.Configuration.{slot_count}
 use Rattle.kc_types.specs.declared.refusal.Refusal.TheVariants.{BadVm, BadGfn, BadRange}
@@ -56,14 +56,15 @@ returns-then-len-eq0 c =
 pub slot_mut-slot-requires : goal.slot_mut-slot-requires
 slot_mut-slot-requires c = rw c.in-Some.ensures.value (slot-needed _ _ _ c.requires c.args.vm refl (low (goal.at.slot_mut-slot-requires c).In-Some))
 
-pub returns-in-Ok : goal.returns-in-Ok
-returns-in-Ok c =
-    let k = goal.at.returns-in-Ok c in
-    rw c.in-Some.ensures.value (answer-set_boot _ _ _ _ _ _ _ _ c.requires.linked (low k.In-Some) (fits k.Else-len-gt-IMAGE_SIZE_LIMIT) (at k.After-slot_mut-slot) c.in-Ok.ensures.answer c.in-Ok.ensures.number c.in-Ok.ensures.ok)
+pub returns : goal.returns
+returns c =
+    let k = goal.at.returns c in
+    rw c.in-Some.ensures.value (answer-set_boot _ _ _ _ _ _ _ _ c.requires.linked (low k.In-Some) (fits k.Else-len-gt-IMAGE_SIZE_LIMIT) (at k.After-slot_mut-slot) c.in_ok-image.ensures.answer c.in_ok-image.ensures.number c.in_ok-image.ensures.ok)
 
-pub returns-in-Err : goal.returns-in-Err
-returns-in-Err c =
-    let k = goal.at.returns-in-Err c in
-    rw c.in-Some.ensures.value (answer-slot_refused _ _ _ _ _ _ c.in-Err.refusal c.requires.linked (at k.After-slot_mut-slot) c.in-Err.ensures.err
+pub returns-in_err-image : goal.returns-in_err-image
+returns-in_err-image c =
+    let k = goal.at.returns-in_err-image c in
+    let is : c.from_residual.result ≡ Err c.in_err-image.field-0.0 = grind arith in
+    rw (is, c.in-Some.ensures.value) (answer-slot_refused _ _ _ _ _ _ _ c.requires.linked (at k.After-slot_mut-slot) c.in_err-image.ensures.err
     (refusal-set_boot (state_of c.args.config.now c.args.parts.now) _ _ _ c.slot_mut-slot.result.now.slot _ (low k.In-Some) (fits k.Else-len-gt-IMAGE_SIZE_LIMIT)
-    (slot-is c.args.config.now c.args.parts.now _ _ (low k.In-Some) (at k.After-slot_mut-slot)) ∙ c.in-Err.ensures.answer))
+    (slot-is c.args.config.now c.args.parts.now _ _ (low k.In-Some) (at k.After-slot_mut-slot)) ∙ c.in_err-image.ensures.answer))

@@ -1,0 +1,30 @@
+//! Why a call is not carried out.
+ghost use Rattle.std.specs.Prelude.{◌≡◌};
+ghost use Rattle.kc_core.specs.declared.unserved.Unserved.TheVariants.{Refused, OutOfMemory};
+
+use kc_types::{Memory, Refusal};
+
+/// Why a call is not carried out.
+#[derive(Clone, Copy, Debug, PartialEq, Eq)]
+pub enum Unserved {
+    /// One of its conditions does not hold, and the first of them is the reply.
+    Refused(Refusal),
+    /// A growth of memory was refused, and there is no reply.
+    OutOfMemory(Memory),
+}
+
+impl From<Refusal> for Unserved {
+    ghost from_gives = { λ refusal unserved. unserved ≡ Refused refusal };
+
+    fn from(refusal: Refusal) -> Unserved {
+        Unserved::Refused(refusal)
+    }
+}
+
+impl From<Memory> for Unserved {
+    ghost from_gives = { λ memory unserved. unserved ≡ OutOfMemory memory };
+
+    fn from(memory: Memory) -> Unserved {
+        Unserved::OutOfMemory(memory)
+    }
+}
