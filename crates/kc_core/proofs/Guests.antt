@@ -15,7 +15,7 @@ use Rattle.kc_model.specs.Slot as slots
 use Rattle.kc_parts.specs.Parts.{Held, page_at, vm_at, with_vm}
 use Rattle.kc_parts.specs.States.{state_of, IsLinked}
 use Rattle.kc_parts.proofs.SlotChanges.{state-vm}
-use Rattle.kc_core.specs.declared.guest.GuestFrame.{GuestFrame}
+use Rattle.kc_core.specs.declared.naming.GuestFrame.{GuestFrame}
 use Rattle.kc_core.specs.Guests.{IsAt}
 use Rattle.kc_core.proofs.Frames.{frame-is}
 use Rattle.kc_parts.proofs.Looked.{slot-is}

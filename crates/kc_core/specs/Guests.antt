@@ -4,8 +4,8 @@ use Rattle.kc_types.specs.Limits.{gfn_limit}
 use Rattle.kc_types.specs.declared.refusal.Refusal.{Refusal}
 use Rattle.kc_model.specs.State.{State, mapped_at}
 use Rattle.kc_model.specs.Refusals.{first_of_these, guest_frame, guest_range, any_from}
-use Rattle.kc_core.specs.declared.guest.GuestFrame.{GuestFrame}
-use Rattle.kc_core.specs.declared.shares.Mapping.{Mapping}
+use Rattle.kc_core.specs.declared.naming.GuestFrame.{GuestFrame}
+use Rattle.kc_core.specs.declared.naming.Mapping.{Mapping}
 
 -- the slot, the virtual processor and the guest frame of these numbers
 pub record IsAt (v c g : ℕ) (at : GuestFrame) : Type 0 where

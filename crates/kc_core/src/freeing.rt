@@ -9,7 +9,7 @@ ghost use Rattle.kc_parts.specs.States.{state_of, IsLinked, IsLoose, is_away};
 ghost use Rattle.kc_core.specs.Applying.{IsAble, IsAnswer, KeepsPlaces, reply_of};
 ghost use Rattle.kc_core.specs.Guests.{IsMapping};
 
-use crate::shares::{Mapping, mapped_frame};
+use crate::naming::{Mapping, mapped_frame};
 use kc_parts::Parts;
 use kc_types::{Config, FrameNo, Owner, Phase, Refusal, Reply, VmId};
 

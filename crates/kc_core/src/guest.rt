@@ -1,11 +1,12 @@
 //! The calls of a virtual processor that read and write its guest frames.
-ghost use Rattle.std.specs.Prelude.{◌≡◌, ◌≤◌, ◌<◌, Some, None, [], ◌∷◌, true, IsSome, IsOk, IsErr, IfOk, OnErr};
+ghost use Rattle.std.specs.Prelude.{◌≡◌, ◌≤◌, ◌<◌, Some, None, true, IsSome, IsOk, IsErr, IfOk, OnErr};
 ghost use Rattle.kc_types.specs.Configuration.{slot_count};
 ghost use Rattle.kc_types.specs.ReplyBytes.{is_data, readable};
 ghost use Rattle.kc_types.specs.declared.call.Call.TheVariants.{GuestRead, GuestWrite};
+ghost use Rattle.kc_types.specs.declared.slot.Phase.TheVariants.{Active};
 ghost use Rattle.kc_types.specs.Refusals.{Answers};
-ghost use Rattle.kc_model.specs.State.{slot_at, vcpu_at};
-ghost use Rattle.kc_model.specs.Refusals.{refusal, first_of_these, no_vm, not_active, no_vcpu};
+ghost use Rattle.kc_model.specs.State.{slot_at, vcpu_at, mapped_at};
+ghost use Rattle.kc_model.specs.Refusals.{refusal};
 ghost use Rattle.kc_model.specs.Effects.{with_fault};
 ghost use Rattle.kc_model.specs.Next.{next};
 ghost use Rattle.kc_parts.specs.Parts.{vm_at};
@@ -14,36 +15,14 @@ ghost use Rattle.kc_core.specs.Applying.{IsAble, IsAnswer, KeepsPlaces, reply_of
 ghost use Rattle.kc_core.specs.Guests.{IsAt};
 
 use crate::host::write_frame;
+use crate::naming::{GuestFrame, expect_vcpu, guest_frame};
 use crate::unserved::Unserved;
 use kc_parts::Parts;
-use kc_types::{Config, Data, Gfn, PAGE_SIZE, Phase, Refusal, Reply, ReplyBuffer, VcpuId, VmId};
+use kc_types::{Config, Data, FrameNo, PAGE_SIZE, Refusal, Reply, ReplyBuffer, VcpuId, VmId};
 
-/// What a virtual processor's call on a guest frame names, where all of it exists.
-#[derive(Clone, Copy)]
-pub struct GuestFrame {
-    pub vm: VmId,
-    pub vcpu: VcpuId,
-    pub gfn: Gfn,
-}
-
-/// Why a virtual processor can make no call: there is no VM in the slot, or it isn't active, or the virtual
-/// processor isn't registered.
-pub fn expect_vcpu(parts: &Parts, config: &Config, vm: u32, vcpu: VcpuId) -> Result<(), Refusal>
-    ensures { Answers result (first_of_these (no_vm (state_of config.now parts.now) vm ∷ not_active (state_of config.now parts.now) vm ∷ no_vcpu (state_of config.now parts.now) vm vcpu ∷ [])) }
-{
-    match parts.phase_of(config, vm) {
-        Phase::Empty => Err(Refusal::NoVm),
-        Phase::Booting | Phase::Dead => Err(Refusal::WrongPhase),
-        Phase::Active => if parts.vcpu_of(config, vm, vcpu).registered {
-            Ok(())
-        } else {
-            Err(Refusal::NoVcpu)
-        },
-    }
-}
-
-/// The guest frame of which a virtual processor may read or write `len` bytes from `offset` on, mapped or not.
-fn guest_frame(
+/// The guest frame of which a virtual processor may read or write `len` bytes from `offset` on, and the frame that is
+/// mapped there, if one is.
+fn accessed(
     parts: &Parts,
     config: &Config,
     vm: u32,
@@ -51,28 +30,17 @@ fn guest_frame(
     gfn: u32,
     offset: u32,
     len: u32,
-) -> Result<GuestFrame, Refusal>
+) -> Result<(GuestFrame, Option<FrameNo>), Refusal>
     ensures answer { Answers result (refusal (state_of config.now parts.now) (GuestRead vm vcpu gfn offset len)) }
-    ensures named { IfOk result (IsAt vm vcpu gfn) }
+    ensures named { IfOk result (λ found. IsAt vm vcpu gfn found.0) }
+    ensures mapped { IfOk result (λ found. found.1 ≡ mapped_at (state_of config.now parts.now) vm gfn) }
 {
-    let Some(slot) = config.vm(vm) else {
-        return Err(Refusal::BadVm);
-    };
-    let Some(vcpu) = VcpuId::try_new(vcpu) else {
-        return Err(Refusal::BadVcpu);
-    };
-    let Some(gfn) = Gfn::try_new(gfn) else {
-        return Err(Refusal::BadGfn);
-    };
+    let at = guest_frame(config, vm, vcpu, gfn)?;
     if len == 0 || len > PAGE_SIZE || offset > PAGE_SIZE - len {
         return Err(Refusal::BadRange);
     }
-    expect_vcpu(parts, config, vm, vcpu)?;
-    Ok(GuestFrame {
-        vm: slot,
-        vcpu,
-        gfn,
-    })
+    let slot = expect_vcpu(parts, config, at.vm, at.vcpu)?;
+    Ok((at, slot.table().get(at.gfn)))
 }
 
 /// A registered virtual processor of an active slot waits for a guest frame.
@@ -80,7 +48,7 @@ fn set_fault(parts: &mut Parts, config: &Config, at: GuestFrame)
     requires exists { at.vm < slot_count config.now }
     requires here { IsSome (vm_at parts.old at.vm) }
     requires linked { IsLinked config.now parts.old }
-    requires active { (slot_at (state_of config.now parts.old) at.vm).phase ≡ Phase.Active }
+    requires active { (slot_at (state_of config.now parts.old) at.vm).phase ≡ Active }
     requires registered { (vcpu_at (state_of config.now parts.old) at.vm at.vcpu).registered ≡ true }
     ensures state { state_of config.now parts.new ≡ with_fault (state_of config.now parts.old) at.vm at.vcpu (Some at.gfn) }
     ensures linked { IsLinked config.now parts.new }
@@ -119,8 +87,8 @@ pub fn guest_read(
     ensures memory { IsErr (answer_of result) → is_data (next (state_of config.now parts.old) (GuestRead vm vcpu gfn offset len)).0 ≡ true }
     ensures fits { readable len ≤ buffer → IsOk (answer_of result) }
 {
-    let at = guest_frame(parts, config, vm, vcpu, gfn, offset, len)?;
-    let Some(frame) = parts.mapping_of(config, vm, at.gfn) else {
+    let (at, mapped) = accessed(parts, config, vm, vcpu, gfn, offset, len)?;
+    let Some(frame) = mapped else {
         set_fault(parts, config, at);
         return Ok(Reply::Fault(gfn));
     };
@@ -144,16 +112,9 @@ pub fn guest_write(
     requires { IsAble config.now parts.old (GuestWrite vm vcpu gfn offset bytes.now) }
     ensures { IsAnswer config.now parts.old parts.new (GuestWrite vm vcpu gfn offset bytes.now) (reply_of result) }
 {
-    let at = guest_frame(
-        parts,
-        config,
-        vm,
-        vcpu,
-        gfn,
-        offset,
-        bytes.as_slice().len() as u32,
-    )?;
-    let Some(frame) = parts.mapping_of(config, vm, at.gfn) else {
+    let size = bytes.as_slice().len() as u32;
+    let (at, mapped) = accessed(parts, config, vm, vcpu, gfn, offset, size)?;
+    let Some(frame) = mapped else {
         set_fault(parts, config, at);
         return Ok(Reply::Fault(gfn));
     };

@@ -12,7 +12,8 @@ ghost use Rattle.kc_parts.specs.States.{state_of, owner_at, IsLinked};
 ghost use Rattle.kc_core.specs.Applying.{IsAble, IsAnswer, KeepsPlaces, reply_of};
 ghost use Rattle.kc_core.specs.Hands.{IsNextPage, IsAwaited};
 
-use crate::guest::{expect_vcpu, spend_fault};
+use crate::guest::spend_fault;
+use crate::naming::expect_vcpu;
 use kc_parts::Parts;
 use kc_types::{Config, FrameNo, Gfn, Owner, Refusal, Reply, VcpuId, VmId};
 
@@ -134,7 +135,7 @@ fn awaited_frame(
     let Some(found) = config.frame(frame) else {
         return Err(Refusal::BadFrame);
     };
-    expect_vcpu(parts, config, vm, vcpu)?;
+    expect_vcpu(parts, config, slot, vcpu)?;
     let Some(gfn) = parts.pending_of(config, vm, vcpu) else {
         return Err(Refusal::NoFault);
     };

@@ -10,6 +10,7 @@ mod host;
 mod kcore;
 pub mod laws;
 mod look_ups;
+mod naming;
 mod shares;
 mod slots;
 mod unserved;

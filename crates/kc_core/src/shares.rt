@@ -8,54 +8,14 @@ ghost use Rattle.kc_model.specs.Effects.{granted, revoked};
 ghost use Rattle.kc_parts.specs.Parts.{page_at};
 ghost use Rattle.kc_parts.specs.States.{state_of, IsLinked};
 ghost use Rattle.kc_core.specs.Applying.{IsAble, IsAnswer, KeepsPlaces, reply_of};
-ghost use Rattle.kc_core.specs.Guests.{AnswersMapped, AnswersRange};
+ghost use Rattle.kc_core.specs.Guests.{AnswersRange};
 ghost use Rattle.kc_types.specs.Limits.{gfn_limit, share_limit};
 ghost use Rattle.kc_types.specs.Refusals.{Answers};
 
-use crate::guest::expect_vcpu;
+use crate::naming::{expect_vcpu, mapped_frame};
 use kc_page::PageRecord;
 use kc_parts::Parts;
-use kc_types::{
-    Config, FrameNo, GFN_LIMIT, Gfn, RANGE_LIMIT, Refusal, Reply, SHARE_LIMIT, VcpuId, VmId,
-};
-
-/// A guest frame of a slot, and the frame that is mapped there.
-#[derive(Clone, Copy)]
-pub struct Mapping {
-    pub vm: VmId,
-    pub gfn: Gfn,
-    pub frame: FrameNo,
-}
-
-/// The frame at the guest frame that a virtual processor's call names.
-pub fn mapped_frame(
-    parts: &Parts,
-    config: &Config,
-    vm: u32,
-    vcpu: u32,
-    gfn: u32,
-) -> Result<Mapping, Refusal>
-    ensures { AnswersMapped (state_of config.now parts.now) vm vcpu gfn result }
-{
-    let Some(slot) = config.vm(vm) else {
-        return Err(Refusal::BadVm);
-    };
-    let Some(vcpu) = VcpuId::try_new(vcpu) else {
-        return Err(Refusal::BadVcpu);
-    };
-    let Some(gfn) = Gfn::try_new(gfn) else {
-        return Err(Refusal::BadGfn);
-    };
-    expect_vcpu(parts, config, vm, vcpu)?;
-    let Some(frame) = parts.mapping_of(config, vm, gfn) else {
-        return Err(Refusal::NotMapped);
-    };
-    Ok(Mapping {
-        vm: slot,
-        gfn,
-        frame,
-    })
-}
+use kc_types::{Config, FrameNo, GFN_LIMIT, Gfn, RANGE_LIMIT, Refusal, Reply, SHARE_LIMIT, VcpuId};
 
 /// The frame at a guest frame to which the host may be granted access once more.
 fn grantable_frame(
@@ -218,9 +178,9 @@ fn expect_range(
 ) -> Result<(), Refusal>
     ensures { AnswersRange (state_of config.now parts.now) vm vcpu gfn count result }
 {
-    if vm >= config.slots() {
+    let Some(slot) = config.vm(vm) else {
         return Err(Refusal::BadVm);
-    }
+    };
     let Some(vcpu) = VcpuId::try_new(vcpu) else {
         return Err(Refusal::BadVcpu);
     };
@@ -230,7 +190,7 @@ fn expect_range(
     if count == 0 || count > RANGE_LIMIT {
         return Err(Refusal::BadRange);
     }
-    expect_vcpu(parts, config, vm, vcpu)?;
+    expect_vcpu(parts, config, slot, vcpu)?;
     if any_unmapped(parts, config, vm, gfn, count) {
         return Err(Refusal::NotMapped);
     }

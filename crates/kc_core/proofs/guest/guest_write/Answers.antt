@@ -33,10 +33,10 @@ here : (c : In_ok-at) → IsSome (vm_at c.args.parts.now c.in_ok-at.at.vm)
 here c = rw c.in_ok-at.ensures.named.vm (slot-needed _ _ _ c.requires c.args.vm refl (low c))
 
 mapped : (c : In-Some) → mapped_at (state_of c.args.config.now c.args.parts.now) c.args.vm c.args.gfn ≡ Some c.in-Some.frame
-mapped c = rw (← c.in_ok-at.ensures.named.gfn) (sym c.in-Some.ensures)
+mapped c = sym c.in_ok-at.ensures.mapped ∙ c.in-Some.is
 
 unmapped : (c : In_default) → mapped_at (state_of c.args.config.now c.args.parts.now) c.args.vm c.args.gfn ≡ None
-unmapped c = rw (← c.in_ok-at.ensures.named.gfn) (sym c.in_default.ensures)
+unmapped c = sym c.in_ok-at.ensures.mapped ∙ c.in_default.is
 
 pub write_frame-requires-clause-here : goal.write_frame-requires-clause-here
 write_frame-requires-clause-here c =
