@@ -25,6 +25,6 @@ AnswersMapped m v c g (Ok found) = IsMapping m v g found × ((last : Option Refu
 AnswersMapped m v c g (Err refusal) = (last : Option Refusal) → first_of_these (guest_frame m v c g last) ≡ Some refusal
 
 -- the same of a call on the guest frames of a range: its first refusal, or none, and then each of them is mapped and only the last condition counts
-abbrev pub AnswersRange : State → ℕ → ℕ → ℕ → ℕ → Result Unit Refusal → Type 0
+abbrev pub AnswersRange : {X : Type 0} → State → ℕ → ℕ → ℕ → ℕ → Result X Refusal → Type 0
 AnswersRange m v c g n (Ok found) = (g + n ≤ gfn_limit) × (any_from g n (λ h. is_none (mapped_at m v h)) ≡ false) × ((last : Option Refusal) → first_of_these (guest_range m v c g n last) ≡ last)
 AnswersRange m v c g n (Err refusal) = (last : Option Refusal) → first_of_these (guest_range m v c g n last) ≡ Some refusal

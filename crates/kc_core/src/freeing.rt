@@ -64,7 +64,8 @@ pub fn drop_page(
     let found = unshared_frame(parts, config, vm, vcpu, gfn)?;
     let slot = parts.slot_mut(found.vm);
     slot.table_mut().unmap(found.gfn);
-    parts.unlink_vm(found.vm, found.frame);
+    let list = *slot.list();
+    parts.unlink_vm(found.vm, list, found.frame);
     free_frame(parts, config, found.frame);
     Ok(Reply::Done)
 }
@@ -77,7 +78,7 @@ fn used_slot(parts: &Parts, config: &Config, vm: u32) -> Result<VmId, Refusal>
     let Some(slot) = config.vm(vm) else {
         return Err(Refusal::BadVm);
     };
-    match parts.phase_of(config, vm) {
+    match parts.phase_of(config, slot) {
         Phase::Empty => Err(Refusal::NoVm),
         Phase::Booting | Phase::Active | Phase::Dead => Ok(slot),
     }

@@ -18,8 +18,15 @@ use kc_parts::Parts;
 use kc_types::{Config, FrameNo, Gfn, Owner, Refusal, Reply, VcpuId, VmId};
 
 /// Why a frame can't be handed to a slot at a guest frame.
-fn expect_room(parts: &Parts, config: &Config, vm: u32, gfn: Gfn, frame: u32) -> Result<(), Refusal>
-    requires { IsLinked config.now parts.now }
+fn expect_room(
+    parts: &Parts,
+    config: &Config,
+    vm: VmId,
+    gfn: Gfn,
+    frame: u32,
+) -> Result<(), Refusal>
+    requires low { vm < slot_count config.now }
+    requires linked { IsLinked config.now parts.now }
     ensures { Answers result (first_of_these (not_host (state_of config.now parts.now) frame ∷ tables_full (state_of config.now parts.now) vm gfn ∷ [])) }
 {
     if parts.record_of(config, frame).owner != Owner::Host {
@@ -73,7 +80,7 @@ fn next_page(
     ensures answer { Answers result (refusal (state_of config.now parts.now) (Remap vm image frame)) }
     ensures found { IfOk result (IsNextPage (state_of config.now parts.now) vm image frame) }
 {
-    let Some(slot) = config.vm(vm) else {
+    let Some(vm) = config.vm(vm) else {
         return Err(Refusal::BadVm);
     };
     let Some(found) = config.frame(frame) else {
@@ -82,7 +89,7 @@ fn next_page(
     let gfn = parts.next_page_of(config, vm, image)?;
     expect_room(parts, config, vm, gfn, frame)?;
     Ok(NextPage {
-        vm: slot,
+        vm,
         gfn,
         frame: found,
     })
@@ -126,7 +133,7 @@ fn awaited_frame(
     ensures answer { Answers result (refusal (state_of config.now parts.now) (Map vm vcpu frame)) }
     ensures found { IfOk result (IsAwaited (state_of config.now parts.now) vm vcpu frame) }
 {
-    let Some(slot) = config.vm(vm) else {
+    let Some(vm) = config.vm(vm) else {
         return Err(Refusal::BadVm);
     };
     let Some(vcpu) = VcpuId::try_new(vcpu) else {
@@ -135,16 +142,16 @@ fn awaited_frame(
     let Some(found) = config.frame(frame) else {
         return Err(Refusal::BadFrame);
     };
-    expect_vcpu(parts, config, slot, vcpu)?;
+    let slot = expect_vcpu(parts, config, vm, vcpu)?;
     let Some(gfn) = parts.pending_of(config, vm, vcpu) else {
         return Err(Refusal::NoFault);
     };
-    if parts.mapping_of(config, vm, gfn).is_some() {
+    if slot.table().get(gfn).is_some() {
         return Err(Refusal::Mapped);
     }
     expect_room(parts, config, vm, gfn, frame)?;
     Ok(Awaited {
-        vm: slot,
+        vm,
         vcpu,
         gfn,
         frame: found,

@@ -1,9 +1,10 @@
 //! What a virtual processor's call names, looked up once.
 ghost use Rattle.std.specs.Prelude.{◌≡◌, ◌<◌, nat_le, [], ◌∷◌, Some, IfOk};
 ghost use Rattle.kc_types.specs.Configuration.{slot_count};
+ghost use Rattle.kc_types.specs.Limits.{gfn_limit};
 ghost use Rattle.kc_types.specs.Refusals.{Answers};
 ghost use Rattle.kc_types.specs.declared.refusal.Refusal.TheVariants.{BadVm};
-ghost use Rattle.kc_model.specs.State.{slot_at};
+ghost use Rattle.kc_model.specs.State.{slot_at, mapped_at};
 ghost use Rattle.kc_model.specs.Refusals.{first_of_these, when, bad_vcpu, bad_gfn, no_vm, not_active, no_vcpu};
 ghost use Rattle.kc_parts.specs.Parts.{links_of};
 ghost use Rattle.kc_parts.specs.States.{state_of, slot_in};
@@ -70,6 +71,15 @@ pub fn expect_vcpu<'a>(
             Err(Refusal::NoVcpu)
         },
     }
+}
+
+/// The frame at a guest frame of a slot, by its number; `None` where none is mapped there.
+pub fn frame_at(parts: &Parts, config: &Config, vm: VmId, gfn: u32) -> Option<FrameNo>
+    requires exists { vm < slot_count config.now }
+    requires low { gfn < gfn_limit }
+    ensures { result ≡ mapped_at (state_of config.now parts.now) vm gfn }
+{
+    parts.mapping_of(config, vm, Gfn::try_new(gfn).unwrap())
 }
 
 /// The frame at the guest frame of these numbers.

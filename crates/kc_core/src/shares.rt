@@ -9,13 +9,16 @@ ghost use Rattle.kc_parts.specs.Parts.{page_at};
 ghost use Rattle.kc_parts.specs.States.{state_of, IsLinked};
 ghost use Rattle.kc_core.specs.Applying.{IsAble, IsAnswer, KeepsPlaces, reply_of};
 ghost use Rattle.kc_core.specs.Guests.{AnswersRange};
+ghost use Rattle.kc_types.specs.Configuration.{slot_count};
 ghost use Rattle.kc_types.specs.Limits.{gfn_limit, share_limit};
 ghost use Rattle.kc_types.specs.Refusals.{Answers};
 
-use crate::naming::{expect_vcpu, mapped_frame};
+use crate::naming::{expect_vcpu, frame_at, mapped_frame};
 use kc_page::PageRecord;
 use kc_parts::Parts;
-use kc_types::{Config, FrameNo, GFN_LIMIT, Gfn, RANGE_LIMIT, Refusal, Reply, SHARE_LIMIT, VcpuId};
+use kc_types::{
+    Config, FrameNo, GFN_LIMIT, RANGE_LIMIT, Refusal, Reply, SHARE_LIMIT, VcpuId, VmId,
+};
 
 /// The frame at a guest frame to which the host may be granted access once more.
 fn grantable_frame(
@@ -122,28 +125,22 @@ pub fn revoke(
     Ok(Reply::Done)
 }
 
-/// The frame at a guest frame of a slot, by its number.
-fn mapped_under(parts: &Parts, config: &Config, vm: u32, gfn: u32) -> Option<FrameNo>
-    requires { gfn < gfn_limit }
-    ensures { result ≡ mapped_at (state_of config.now parts.now) vm gfn }
-{
-    parts.mapping_of(config, vm, Gfn::try_new(gfn).unwrap())
-}
-
 /// Whether one of `count` guest frames from `gfn` on is not mapped.
-fn any_unmapped(parts: &Parts, config: &Config, vm: u32, gfn: u32, count: u32) -> bool
-    requires { gfn + count ≤ gfn_limit }
+fn any_unmapped(parts: &Parts, config: &Config, vm: VmId, gfn: u32, count: u32) -> bool
+    requires exists { vm < slot_count config.now }
+    requires low { gfn + count ≤ gfn_limit }
     ensures { result ≡ any_from gfn count (λ h. is_none (mapped_at (state_of config.now parts.now) vm h)) }
 {
-    (gfn..gfn + count).any(|at| mapped_under(parts, config, vm, at).is_none())
+    (gfn..gfn + count).any(|at| frame_at(parts, config, vm, at).is_none())
 }
 
 /// How often the frame at a mapped guest frame is granted; where none is mapped, frame 0.
-fn share_under(parts: &Parts, config: &Config, vm: u32, gfn: u32) -> u32
-    requires { gfn < gfn_limit }
+fn share_of(parts: &Parts, config: &Config, vm: VmId, gfn: u32) -> u32
+    requires exists { vm < slot_count config.now }
+    requires low { gfn < gfn_limit }
     ensures { result ≡ share_at (state_of config.now parts.now) vm gfn }
 {
-    let frame = match mapped_under(parts, config, vm, gfn) {
+    let frame = match frame_at(parts, config, vm, gfn) {
         Some(frame) => frame.number(),
         None => 0,
     };
@@ -151,23 +148,24 @@ fn share_under(parts: &Parts, config: &Config, vm: u32, gfn: u32) -> u32
 }
 
 /// Whether one of the frames is granted 100 times.
-fn any_full(parts: &Parts, config: &Config, vm: u32, gfn: u32, count: u32) -> bool
-    requires { gfn + count ≤ gfn_limit }
+fn any_full(parts: &Parts, config: &Config, vm: VmId, gfn: u32, count: u32) -> bool
+    requires exists { vm < slot_count config.now }
+    requires low { gfn + count ≤ gfn_limit }
     ensures { result ≡ any_from gfn count (λ h. nat_le share_limit (share_at (state_of config.now parts.now) vm h)) }
 {
-    (gfn..gfn + count).any(|at| share_under(parts, config, vm, at) >= SHARE_LIMIT)
+    (gfn..gfn + count).any(|at| share_of(parts, config, vm, at) >= SHARE_LIMIT)
 }
 
 /// Whether one of the frames is not granted.
-fn any_unshared(parts: &Parts, config: &Config, vm: u32, gfn: u32, count: u32) -> bool
-    requires { gfn + count ≤ gfn_limit }
+fn any_unshared(parts: &Parts, config: &Config, vm: VmId, gfn: u32, count: u32) -> bool
+    requires exists { vm < slot_count config.now }
+    requires low { gfn + count ≤ gfn_limit }
     ensures { result ≡ any_from gfn count (λ h. share_at (state_of config.now parts.now) vm h == 0) }
 {
-    (gfn..gfn + count).any(|at| share_under(parts, config, vm, at) == 0)
+    (gfn..gfn + count).any(|at| share_of(parts, config, vm, at) == 0)
 }
 
-/// Why a virtual processor can make no call on `count` guest frames from `gfn` on: the slot, the virtual processor or
-/// the guest frames do not exist, or one of these is not mapped.
+/// The slot in which a virtual processor may make a call on `count` guest frames from `gfn` on: all of them are mapped.
 fn expect_range(
     parts: &Parts,
     config: &Config,
@@ -175,8 +173,10 @@ fn expect_range(
     vcpu: u32,
     gfn: u32,
     count: u32,
-) -> Result<(), Refusal>
-    ensures { AnswersRange (state_of config.now parts.now) vm vcpu gfn count result }
+) -> Result<VmId, Refusal>
+    ensures answer { AnswersRange (state_of config.now parts.now) vm vcpu gfn count result }
+    ensures slot { IfOk result (λ slot. slot ≡ vm) }
+    ensures exists { IfOk result (λ slot. slot < slot_count config.now) }
 {
     let Some(slot) = config.vm(vm) else {
         return Err(Refusal::BadVm);
@@ -191,13 +191,13 @@ fn expect_range(
         return Err(Refusal::BadRange);
     }
     expect_vcpu(parts, config, slot, vcpu)?;
-    if any_unmapped(parts, config, vm, gfn, count) {
+    if any_unmapped(parts, config, slot, gfn, count) {
         return Err(Refusal::NotMapped);
     }
-    Ok(())
+    Ok(slot)
 }
 
-/// Why the host can't be granted access to each of `count` guest frames once more.
+/// The slot of `count` guest frames to each of which the host may be granted access once more.
 fn expect_grantable(
     parts: &Parts,
     config: &Config,
@@ -205,17 +205,19 @@ fn expect_grantable(
     vcpu: u32,
     gfn: u32,
     count: u32,
-) -> Result<(), Refusal>
-    ensures { Answers result (refusal (state_of config.now parts.now) (GrantRange vm vcpu gfn count)) }
+) -> Result<VmId, Refusal>
+    ensures answer { Answers result (refusal (state_of config.now parts.now) (GrantRange vm vcpu gfn count)) }
+    ensures slot { IfOk result (λ slot. slot ≡ vm) }
+    ensures exists { IfOk result (λ slot. slot < slot_count config.now) }
 {
-    expect_range(parts, config, vm, vcpu, gfn, count)?;
-    if any_full(parts, config, vm, gfn, count) {
+    let slot = expect_range(parts, config, vm, vcpu, gfn, count)?;
+    if any_full(parts, config, slot, gfn, count) {
         return Err(Refusal::ShareFull);
     }
-    Ok(())
+    Ok(slot)
 }
 
-/// Why no grant of the host's to each of `count` guest frames can be taken back.
+/// The slot of `count` guest frames of each of which a grant of the host's may be taken back.
 fn expect_shared(
     parts: &Parts,
     config: &Config,
@@ -223,23 +225,16 @@ fn expect_shared(
     vcpu: u32,
     gfn: u32,
     count: u32,
-) -> Result<(), Refusal>
-    ensures { Answers result (refusal (state_of config.now parts.now) (RevokeRange vm vcpu gfn count)) }
+) -> Result<VmId, Refusal>
+    ensures answer { Answers result (refusal (state_of config.now parts.now) (RevokeRange vm vcpu gfn count)) }
+    ensures slot { IfOk result (λ slot. slot ≡ vm) }
+    ensures exists { IfOk result (λ slot. slot < slot_count config.now) }
 {
-    expect_range(parts, config, vm, vcpu, gfn, count)?;
-    if any_unshared(parts, config, vm, gfn, count) {
+    let slot = expect_range(parts, config, vm, vcpu, gfn, count)?;
+    if any_unshared(parts, config, slot, gfn, count) {
         return Err(Refusal::NotShared);
     }
-    Ok(())
-}
-
-/// The frame at a mapped guest frame of a slot, by its number.
-fn frame_under(parts: &Parts, config: &Config, vm: u32, gfn: u32) -> FrameNo
-    requires low { gfn < gfn_limit }
-    requires mapped { IsSome (mapped_at (state_of config.now parts.now) vm gfn) }
-    ensures { mapped_at (state_of config.now parts.now) vm gfn ≡ Some result }
-{
-    mapped_under(parts, config, vm, gfn).unwrap()
+    Ok(slot)
 }
 
 /// The host is granted access to each of `count` guest frames from `gfn` on once more.
@@ -254,9 +249,9 @@ pub fn grant_range(
     requires { IsAble config.now parts.old (GrantRange vm vcpu gfn count) }
     ensures { IsAnswer config.now parts.old parts.new (GrantRange vm vcpu gfn count) (reply_of result) }
 {
-    expect_grantable(parts, config, vm, vcpu, gfn, count)?;
+    let slot = expect_grantable(parts, config, vm, vcpu, gfn, count)?;
     for at in gfn..gfn + count {
-        let frame = frame_under(parts, config, vm, at);
+        let frame = frame_at(parts, config, slot, at).unwrap();
         grant_frame(parts, config, frame);
     }
     Ok(Reply::Done)
@@ -274,9 +269,9 @@ pub fn revoke_range(
     requires { IsAble config.now parts.old (RevokeRange vm vcpu gfn count) }
     ensures { IsAnswer config.now parts.old parts.new (RevokeRange vm vcpu gfn count) (reply_of result) }
 {
-    expect_shared(parts, config, vm, vcpu, gfn, count)?;
+    let slot = expect_shared(parts, config, vm, vcpu, gfn, count)?;
     for at in gfn..gfn + count {
-        let frame = frame_under(parts, config, vm, at);
+        let frame = frame_at(parts, config, slot, at).unwrap();
         revoke_frame(parts, config, frame);
     }
     Ok(Reply::Done)

@@ -29,7 +29,7 @@ use kc_types::{
 use kc_vms::{Approved, Measure, Stage2, Vm, pages_of};
 
 /// The frame at a mapped guest frame.
-fn frame_under(table: &Stage2, gfn: u32) -> FrameNo
+fn frame_at(table: &Stage2, gfn: u32) -> FrameNo
     requires low { gfn < gfn_limit }
     requires mapped { is_some (finite.get table.now.mapped gfn) ≡ true }
     ensures { result ≡ backing (finite.get table.now.mapped gfn) }
@@ -45,7 +45,7 @@ fn page_under<'a>(parts: &'a Parts, table: &Stage2, gfn: u32) -> &'a Page
     requires here { is_some (page_under parts.now (finite.get table.now.mapped) gfn) ≡ true }
     ensures { page_under parts.now (finite.get table.now.mapped) gfn ≡ Some result.now }
 {
-    parts.page(frame_under(table, gfn))
+    parts.page(frame_at(table, gfn))
 }
 
 /// The bytes of a page of an image, by its number from the image's first page on.
@@ -184,7 +184,7 @@ fn trim_image(parts: &mut Parts, config: &Config, vm: VmId, image: &Image)
     ensures slots { parts.new.vms ≡ parts.old.vms }
 {
     let slot = parts.slot(vm);
-    let frame = frame_under(slot.table(), image.base + (pages_of(image.len) - 1));
+    let frame = frame_at(slot.table(), image.base + (pages_of(image.len) - 1));
     let page = parts.page_mut(frame);
     let used = (image.len - 1) % PAGE_SIZE + 1;
     page.bytes.zero_from(used as usize);

@@ -43,9 +43,6 @@ meta-absent config h f low at = meta-none (frame_at (state_of config h) f) (fram
 pub meta-past : (config : Configuration) (h : Held) (f : ℕ) → config.frames ≤ f → IsMetaOf (frame_at (state_of config h) f) no_record
 meta-past config h f past = meta-none (frame_at (state_of config h) f) (get_or_past (state_of config h).frames f (untouched Core) (rw (length-map-range_with_len (λ g. frame_in (page_at h g)) 0 config.frames) past))
 
-pub slot-past : (config : Configuration) (h : Held) (v : ℕ) → slot_count config ≤ v → slot_at (state_of config h) v ≡ empty_slot
-slot-past config h v past = get_or_past (state_of config h).slots v empty_slot (rw (length-map-range_with_len (λ w. slot_in (links_of h) (vm_at h w)) 0 (slot_count config)) past)
-
 -- an empty slot has no virtual processor and no mapped guest frame
 pub vcpu-none : (slot : Slot) (c : ℕ) → slot ≡ empty_slot → absent_vcpu ≡ get_or slot.vcpus c absent_vcpu
 vcpu-none slot c is = sym (ap (λ (there : Slot). get_or there.vcpus c absent_vcpu) is ∙ at-no_vcpus c)

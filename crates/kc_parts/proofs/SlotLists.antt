@@ -31,6 +31,14 @@ other-slot v w other same = other (ap number same)
     number (Vm v) = v
     number _ = 0
 
+-- the slot whose list has these ends
+pub slot-ended : (h : Held) (v : ℕ) (ends : Ends) → ends_at h (Vm v) ≡ Some ends → (vm : VmSlot) × ((vm_at h v ≡ Some vm) × (ends ≡ vm.slot.frames))
+slot-ended h v ends is = by_slot (vm_at h v) refl is
+  where
+    by_slot : (there : Option VmSlot) → vm_at h v ≡ there → option_map (λ (vm : VmSlot). vm.slot.frames) there ≡ Some ends → (vm : VmSlot) × ((vm_at h v ≡ Some vm) × (ends ≡ vm.slot.frames))
+    by_slot None at is = cc
+    by_slot (Some vm) at is = (vm, (at, cc))
+
 module _ (old mid : Held) (v : ℕ) (vm : VmSlot) (e' : Ends) (frames : List ℕ) (rest : IsSameRest old mid) (at : vm_at old v ≡ Some vm) (are : AreLists (links_of old) (ends_at old) (owner_at old))
     (keeps : KeepsOthers (links_of old) (links_of mid) frames) (owned : (f : ℕ) → 0 < times_in frames f → owner_at old f ≡ Vm v) where
   abbrev pub moved : Held

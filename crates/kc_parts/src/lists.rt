@@ -96,19 +96,16 @@ impl Parts {
         }
     }
 
-    /// Takes a frame off the list of a slot, which is here.
-    pub fn unlink_vm(&mut self, vm: VmId, frame: FrameNo)
-        requires here { IsSome (vm_at self.old vm) }
+    /// Takes a frame off the list of a slot, which is here, by the ends of that list.
+    pub fn unlink_vm(&mut self, vm: VmId, mut list: Ends, frame: FrameNo)
+        requires ends { ends_at self.old (owner.Vm vm) ≡ Some list }
         requires lists { AreLists (links_of self.old) (ends_at self.old) (owner_at self.old) }
         requires inside { 0 < times_in (listed_frames self.old vm) frame }
         ensures frames { listed_frames self.new vm ≡ without (listed_frames self.old vm) frame }
         ensures loose { IsLoose self.new frame }
         ensures rest { IsSlotMove vm self.old self.new }
     {
-        if let Some(slot) = self.vm(vm) {
-            let mut ends = *slot.list();
-            unlink(self, &mut ends, frame);
-            self.set_list(vm, ends);
-        }
+        unlink(self, &mut list, frame);
+        self.set_list(vm, list);
     }
 }

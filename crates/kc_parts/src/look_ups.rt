@@ -1,6 +1,7 @@
-//! Look-ups by number, which answer for all numbers: what is not here counts as untouched.
-ghost use Rattle.std.specs.Prelude.{◌≡◌, not, IfOk, Some};
+//! Look-ups by number: what is not here counts as untouched.
+ghost use Rattle.std.specs.Prelude.{◌≡◌, ◌<◌, not, IfOk, Some};
 ghost use Rattle.std.specs.Option.{option_copied};
+ghost use Rattle.kc_types.specs.Configuration.{slot_count};
 ghost use Rattle.kc_types.specs.Refusals.{Answers};
 ghost use Rattle.kc_model.specs.State.{frame_at, slot_at, vcpu_at, mapped_at};
 ghost use Rattle.kc_types.specs.declared.refusal.Refusal.TheVariants.{TablesFull};
@@ -14,7 +15,7 @@ ghost use Rattle.kc_parts.specs.LookUps.{IsMetaOf};
 
 use crate::Parts;
 use kc_page::PageRecord;
-use kc_types::{Config, FrameNo, Gfn, Owner, Phase, Refusal, Vcpu, VcpuId};
+use kc_types::{Config, FrameNo, Gfn, Owner, Phase, Refusal, VcpuId, VmId};
 use kc_vms::Vm;
 
 /// The record of an untouched frame of the core's.
@@ -41,19 +42,18 @@ impl Parts {
         }
     }
 
-    /// The slot of this number, where it is here.
-    fn slot_of(&self, config: &Config, vm: u32) -> Option<&Vm>
+    /// A slot that exists, where it is here.
+    fn slot_of(&self, config: &Config, vm: VmId) -> Option<&Vm>
+        requires { vm < slot_count config.now }
         ensures value { slot_at (state_of config.now self.now) vm ≡ slot_in (links_of self.now) (option_copied result) }
         ensures here { (slot : VmSlot) → option_copied result ≡ Some slot → vm_at self.now vm ≡ Some slot }
     {
-        match config.vm(vm) {
-            Some(vm) => self.vm(vm),
-            None => None,
-        }
+        self.vm(vm)
     }
 
     /// The phase of a slot.
-    pub fn phase_of(&self, config: &Config, vm: u32) -> Phase
+    pub fn phase_of(&self, config: &Config, vm: VmId) -> Phase
+        requires { vm < slot_count config.now }
         ensures { result ≡ (slot_at (state_of config.now self.now) vm).phase }
     {
         match self.slot_of(config, vm) {
@@ -62,21 +62,9 @@ impl Parts {
         }
     }
 
-    /// A virtual processor of a slot.
-    pub fn vcpu_of(&self, config: &Config, vm: u32, vcpu: VcpuId) -> Vcpu
-        ensures { result ≡ vcpu_at (state_of config.now self.now) vm vcpu }
-    {
-        match self.slot_of(config, vm) {
-            Some(slot) => slot.vcpu(vcpu),
-            None => Vcpu {
-                registered: false,
-                fault: None,
-            },
-        }
-    }
-
     /// The frame at a guest frame of a slot.
-    pub fn mapping_of(&self, config: &Config, vm: u32, gfn: Gfn) -> Option<FrameNo>
+    pub fn mapping_of(&self, config: &Config, vm: VmId, gfn: Gfn) -> Option<FrameNo>
+        requires { vm < slot_count config.now }
         ensures { result ≡ mapped_at (state_of config.now self.now) vm gfn }
     {
         match self.slot_of(config, vm) {
@@ -86,7 +74,8 @@ impl Parts {
     }
 
     /// The guest frame that a virtual processor of a slot waits for.
-    pub fn pending_of(&self, config: &Config, vm: u32, vcpu: VcpuId) -> Option<Gfn>
+    pub fn pending_of(&self, config: &Config, vm: VmId, vcpu: VcpuId) -> Option<Gfn>
+        requires { vm < slot_count config.now }
         ensures { result ≡ (vcpu_at (state_of config.now self.now) vm vcpu).fault }
     {
         match self.slot_of(config, vm) {
@@ -99,7 +88,8 @@ impl Parts {
     }
 
     /// The guest frame of the next page of a slot's image, or why it has none.
-    pub fn next_page_of(&self, config: &Config, vm: u32, image: u32) -> Result<Gfn, Refusal>
+    pub fn next_page_of(&self, config: &Config, vm: VmId, image: u32) -> Result<Gfn, Refusal>
+        requires { vm < slot_count config.now }
         ensures answer { Answers result (next_page_refusal (linked_slot (slot_at (state_of config.now self.now) vm)) image) }
         ensures gfn { IfOk result (λ gfn. gfn ≡ next_gfn (state_of config.now self.now) vm image) }
     {
@@ -110,8 +100,9 @@ impl Parts {
     }
 
     /// Whether the root slot of a slot's guest frame has a leaf or can take one.
-    pub fn fits_in(&self, config: &Config, vm: u32, gfn: Gfn) -> bool
-        requires { IsLinked config.now self.now }
+    pub fn fits_in(&self, config: &Config, vm: VmId, gfn: Gfn) -> bool
+        requires low { vm < slot_count config.now }
+        requires linked { IsLinked config.now self.now }
         ensures { tables_full (state_of config.now self.now) vm gfn ≡ when (not result) TablesFull }
     {
         match self.slot_of(config, vm) {

@@ -1,10 +1,12 @@
-use Rattle.std.proofs.Common.{◌≡◌, Some, None, is_some, refl, ap, ◌∙◌, Err, arith}
+use Rattle.std.proofs.Common.{◌≡◌, Some, None, refl, sym, ap, ◌∙◌, Err, arith}
+use Rattle.std.specs.Option.{option_map}
 use Rattle.kc_types.specs.declared.resource.Resource.TheVariants as resource
 use Rattle.kc_types.specs.declared.call.Call.TheVariants.{Drop}
 use Rattle.kc_types.specs.declared.reply.Reply.TheVariants as reply
 use Rattle.kc_model.specs.State.{mapped_at}
 use Rattle.kc_model.specs.Refusals.{refusal}
 use Rattle.kc_model.proofs.Lawful.GuestCalls.{IsMappedCall, guest_frame-served}
+use Rattle.kc_vms.specs.Vm.{VmSlot}
 use Rattle.kc_parts.specs.States.{state_of}
 use Rattle.kc_parts.proofs.SlotChanges.{vm-set}
 use Rattle.kc_core.specs.Applying.{IsAble}
@@ -42,8 +44,8 @@ unmapping c =
 pub slot_mut-slot-requires : goal.slot_mut-slot-requires
 slot_mut-slot-requires c = let k = (goal.at.slot_mut-slot-requires c).In_ok-found in slot-needed _ _ _ (able k) c.in_ok-found.found.vm refl (seen k).call.vm
 
-pub unlink_vm-requires-clause-here : goal.unlink_vm-requires-clause-here
-unlink_vm-requires-clause-here c = ap is_some (vm-set c.args.parts.now c.in_ok-found.found.vm c.slot_mut-slot.result.now _ c.slot_mut-slot.ensures.value)
+pub unlink_vm-requires-clause-ends : goal.unlink_vm-requires-clause-ends
+unlink_vm-requires-clause-ends c = ap (option_map (λ (vm : VmSlot). vm.slot.frames)) (vm-set c.args.parts.now c.in_ok-found.found.vm c.slot_mut-slot.result.now _ c.slot_mut-slot.ensures.value) ∙ ap Some (sym c.list-list.ensures)
 
 pub unlink_vm-requires-clause-lists : goal.unlink_vm-requires-clause-lists
 unlink_vm-requires-clause-lists c = (linked-unmapped _ _ _ _ _ _ _ (unmapping (goal.at.unlink_vm-requires-clause-lists c).After-unmap)).lists

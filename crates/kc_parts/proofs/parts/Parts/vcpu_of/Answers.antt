@@ -1,7 +1,0 @@
-use Rattle.kc_model.specs.State.{slot_at}
-use Rattle.kc_parts.specs.States.{state_of}
-use Rattle.kc_parts.proofs.Looked.{vcpu-none}
-use Rattle.kc_parts.proofs.parts.Parts.vcpu_of.Goals as goal
-
-pub returns-in-None : goal.returns-in-None
-returns-in-None c = vcpu-none (slot_at (state_of c.args.config.now c.args.self.now) c.args.vm) c.args.vcpu c.in-None.ensures.value
