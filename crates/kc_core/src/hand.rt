@@ -13,7 +13,7 @@ ghost use Rattle.kc_core.specs.Applying.{IsAble, IsAnswer, KeepsPlaces, reply_of
 ghost use Rattle.kc_core.specs.Hands.{IsNextPage, IsAwaited};
 
 use crate::guest::spend_fault;
-use crate::naming::expect_vcpu;
+use crate::naming::{expect_vcpu, named_vcpu};
 use kc_parts::Parts;
 use kc_types::{Config, FrameNo, Gfn, Owner, Refusal, Reply, VcpuId, VmId};
 
@@ -133,12 +133,7 @@ fn awaited_frame(
     ensures answer { Answers result (refusal (state_of config.now parts.now) (Map vm vcpu frame)) }
     ensures found { IfOk result (IsAwaited (state_of config.now parts.now) vm vcpu frame) }
 {
-    let Some(vm) = config.vm(vm) else {
-        return Err(Refusal::BadVm);
-    };
-    let Some(vcpu) = VcpuId::try_new(vcpu) else {
-        return Err(Refusal::BadVcpu);
-    };
+    let (vm, vcpu) = named_vcpu(config, vm, vcpu)?;
     let Some(found) = config.frame(frame) else {
         return Err(Refusal::BadFrame);
     };

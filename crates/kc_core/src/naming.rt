@@ -30,11 +30,11 @@ pub struct Mapping {
     pub frame: FrameNo,
 }
 
-/// The guest frame of these numbers, mapped or not.
-pub fn guest_frame(config: &Config, vm: u32, vcpu: u32, gfn: u32) -> Result<GuestFrame, Refusal>
-    ensures answer { Answers result (first_of_these (when (nat_le (slot_count config.now) vm) BadVm ∷ bad_vcpu vcpu ∷ bad_gfn gfn ∷ [])) }
-    ensures named { IfOk result (IsAt vm vcpu gfn) }
-    ensures exists { IfOk result (λ at. at.vm < slot_count config.now) }
+/// The slot and the virtual processor of these numbers, registered or not.
+pub fn named_vcpu(config: &Config, vm: u32, vcpu: u32) -> Result<(VmId, VcpuId), Refusal>
+    ensures answer { Answers result (first_of_these (when (nat_le (slot_count config.now) vm) BadVm ∷ bad_vcpu vcpu ∷ [])) }
+    ensures named { IfOk result (λ named. (named.0 ≡ vm) × (named.1 ≡ vcpu)) }
+    ensures exists { IfOk result (λ named. named.0 < slot_count config.now) }
 {
     let Some(vm) = config.vm(vm) else {
         return Err(Refusal::BadVm);
@@ -42,6 +42,16 @@ pub fn guest_frame(config: &Config, vm: u32, vcpu: u32, gfn: u32) -> Result<Gues
     let Some(vcpu) = VcpuId::try_new(vcpu) else {
         return Err(Refusal::BadVcpu);
     };
+    Ok((vm, vcpu))
+}
+
+/// The guest frame of these numbers, mapped or not.
+pub fn guest_frame(config: &Config, vm: u32, vcpu: u32, gfn: u32) -> Result<GuestFrame, Refusal>
+    ensures answer { Answers result (first_of_these (when (nat_le (slot_count config.now) vm) BadVm ∷ bad_vcpu vcpu ∷ bad_gfn gfn ∷ [])) }
+    ensures named { IfOk result (IsAt vm vcpu gfn) }
+    ensures exists { IfOk result (λ at. at.vm < slot_count config.now) }
+{
+    let (vm, vcpu) = named_vcpu(config, vm, vcpu)?;
     let Some(gfn) = Gfn::try_new(gfn) else {
         return Err(Refusal::BadGfn);
     };

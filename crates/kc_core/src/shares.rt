@@ -13,12 +13,10 @@ ghost use Rattle.kc_types.specs.Configuration.{slot_count};
 ghost use Rattle.kc_types.specs.Limits.{gfn_limit, share_limit};
 ghost use Rattle.kc_types.specs.Refusals.{Answers};
 
-use crate::naming::{expect_vcpu, frame_at, mapped_frame};
+use crate::naming::{expect_vcpu, frame_at, mapped_frame, named_vcpu};
 use kc_page::PageRecord;
 use kc_parts::Parts;
-use kc_types::{
-    Config, FrameNo, GFN_LIMIT, RANGE_LIMIT, Refusal, Reply, SHARE_LIMIT, VcpuId, VmId,
-};
+use kc_types::{Config, FrameNo, GFN_LIMIT, RANGE_LIMIT, Refusal, Reply, SHARE_LIMIT, VmId};
 
 /// The frame at a guest frame to which the host may be granted access once more.
 fn grantable_frame(
@@ -178,12 +176,7 @@ fn expect_range(
     ensures slot { IfOk result (λ slot. slot ≡ vm) }
     ensures exists { IfOk result (λ slot. slot < slot_count config.now) }
 {
-    let Some(slot) = config.vm(vm) else {
-        return Err(Refusal::BadVm);
-    };
-    let Some(vcpu) = VcpuId::try_new(vcpu) else {
-        return Err(Refusal::BadVcpu);
-    };
+    let (slot, vcpu) = named_vcpu(config, vm, vcpu)?;
     if gfn >= GFN_LIMIT || count > GFN_LIMIT - gfn {
         return Err(Refusal::BadGfn);
     }

@@ -7,7 +7,7 @@ use kc_types::{Memory, Refusal};
 /// Why a call is not carried out.
 #[derive(Clone, Copy, Debug, PartialEq, Eq)]
 pub enum Unserved {
-    /// One of its conditions does not hold, and the first of them is the reply.
+    /// It is refused, and its reply says why.
     Refused(Refusal),
     /// A growth of memory was refused, and there is no reply.
     OutOfMemory(Memory),
