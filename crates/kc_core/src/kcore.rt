@@ -72,7 +72,7 @@ impl KCore {
     /// The core in the boot state of its configuration, with all its frames made and zeroed; `Memory` where a
     /// growth was refused.
     pub fn boot(alloc: Global, config: Config) -> Result<KCore, Memory>
-        // No clause can rule out being out of memory: tests boot cores.
+        // No clause can rule out that memory runs out: tests boot cores.
         ensures state { IfOk result (λ core. core ≡ boot config) }
         ensures lawful { OnOk result (IsLawful (boot config)) }
     {
@@ -146,7 +146,7 @@ impl KCore {
         ensures blind { IfOk result (λ replies. ShowsNothing self.old calls.now replies.items self.new) }
         ensures replies { IfOk result (λ replies. replies.items ≡ replies_from self.old calls.now) }
         ensures state { OnOk result (self.new ≡ state_after self.old calls.now) }
-        // Such a stop comes of being out of memory alone, which no clause can rule out: tests run to the end.
+        // Such a stop comes where memory runs out alone, which no clause can rule out: tests run to the end.
         ensures stop { IfErr result (λ stop. StopsAfter self.old calls.now stop.done stop.replies.items self.new) }
     {
         // Opened here, the core is known to be lawful from the first call on.
@@ -196,7 +196,7 @@ impl KCore {
     /// The frames of an owner: free frames and a VM's in the order of their list, the core's and the host's by
     /// rising number. `Memory` where a growth was refused.
     pub fn frames_of(&self, owner: Owner) -> Result<Vec<FrameNo>, Memory>
-        // No clause can rule out being out of memory: a test lists frames.
+        // No clause can rule out that memory runs out: a test lists frames.
         ensures { IfOk result (λ frames. frames.items ≡ frames_of self.now owner) }
     {
         frames_of(self.alloc, &self.parts, &self.config, owner)
@@ -223,7 +223,7 @@ impl KCore {
     /// The mapped guest frames of a VM slot with their frames, by rising guest frame; none for a slot that does not
     /// exist. `Memory` where a growth was refused.
     pub fn entries(&self, alloc: Global, vm: u32) -> Result<Vec<(Gfn, FrameNo)>, Memory>
-        // No clause can rule out being out of memory: a test lists entries.
+        // No clause can rule out that memory runs out: a test lists entries.
         ensures { IfOk result (λ entries. entries.items ≡ finite.entries (slot_at self.now vm).mapped) }
     {
         match self.slot(vm) {

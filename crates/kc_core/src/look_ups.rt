@@ -33,7 +33,7 @@ pub fn page_record(parts: &Parts, frame: FrameNo) -> PageRecord
 
 /// The frames of a list, in its order.
 fn listed(alloc: Global, parts: &Parts, ends: &Ends) -> Result<Vec<FrameNo>, Memory>
-    // No clause can rule out being out of memory, here and below: a test lists frames.
+    // No clause can rule out that memory runs out, here and below: a test lists frames.
     ensures { IfOk result (λ frames. frames.items ≡ listed (links_of parts.now) ends.now) }
 {
     let mut frames = Vec::new(alloc);
