@@ -28,7 +28,7 @@ impl Model for Blank {
 impl Blank {
     /// A new blank, or `Memory` where a growth was refused.
     pub(crate) fn make(alloc: Global) -> Result<Blank, Memory>
-        // No clause can rule out want of memory: tests take parts out.
+        // No clause can rule out that memory runs out: tests take parts out.
         ensures { IfOk result (λ blank. blank ≡ blank_page) }
     {
         let meta = PageRecord {

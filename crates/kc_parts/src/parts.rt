@@ -78,7 +78,7 @@ impl Parts {
     /// All parts of the boot state: every frame of the configuration, zeroed, every slot, empty, and the free
     /// list by rising number; `Memory` where a growth was refused.
     pub fn boot(alloc: Global, config: &Config) -> Result<Parts, Memory>
-        // No clause can rule out want of memory: a test boots parts.
+        // No clause can rule out that memory runs out: a test boots parts.
         ensures state { IfOk result (λ parts. state_of config.now parts ≡ boot config.now) }
         ensures linked { IfOk result (IsLinked config.now) }
         ensures whole { IfOk result (IsWhole config.now) }
@@ -101,7 +101,7 @@ impl Parts {
     ) -> Result<Parts, Memory>
         requires frames { length pages.items ≤ frame_limit }
         requires slots { length vms.items ≤ slot_limit }
-        // No clause can rule out want of memory: a test boots parts.
+        // No clause can rule out that memory runs out: a test boots parts.
         ensures { IfOk result (λ parts. parts ≡ parts_of pages.items vms.items free) }
     {
         match all_places(alloc, pages.len() as u32, vms) {
@@ -286,7 +286,7 @@ impl Parts {
     /// then nothing has changed.
     pub fn take_out(&mut self, alloc: Global, wanted: &[Resource]) -> Result<Parts, Memory>
         requires { AreHere self.old wanted.now }
-        // No clause can rule out want of memory: tests take parts out.
+        // No clause can rule out that memory runs out: tests take parts out.
         ensures ok { IfOk result (λ taken. IsSplit self.old (is_wanted wanted.now) self.new taken) }
         ensures full { IfOk result IsFull }
         ensures fits { IfOk result (FitsInto self.new) }
