@@ -215,7 +215,7 @@ fn print_asked<R: Threads + Wait + Sync>(
 fn main(rt: HostRuntime) -> Result<()> {
     let words = env::args(&rt)?.skip(1).collect::<Vec<String>>(rt.alloc())?;
     let (Some(config), Some(trace)) = (words.first(), words.get(1)) else {
-        bail!("usage: kc_plans CONFIG TRACE [TIMES | replay WORKERS | dump WORKERS | live]");
+        bail!("usage: plan_lister CONFIG TRACE [TIMES | replay WORKERS | dump WORKERS | live]");
     };
     let config = read_machine(&rt, config.as_str())?;
     let calls = read_calls(&rt, trace.as_str())?;
