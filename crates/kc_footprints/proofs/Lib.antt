@@ -3,9 +3,9 @@ pub mod Carried
 pub mod Commute
 pub mod Exact
 pub mod Existing
-pub mod Firsts
 pub mod Joins
 pub mod Kept
+pub mod Listed
 pub mod Listing
 pub mod Plans
 pub mod Related

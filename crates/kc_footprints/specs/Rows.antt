@@ -1,9 +1,9 @@
 -- Footprints as rows of lengths into what principals may have.
-use Rattle.std.specs.Prelude.{◌≡◌, ℕ, ◌<◌, ◌≤◌, Bool, true, false, ◌||◌, eqb, List, [], length, get_or, take, Option, Some, None, IfSome, is_some, option_map, ◌&&◌, if◌then◌else◌, ◌⊎◌}
+use Rattle.std.specs.Prelude.{◌≡◌, ℕ, ◌<◌, ◌≤◌, Bool, false, ◌||◌, not, eqb, List, [], ◌∷◌, map, length, get_or, take, Option, Some, None, IfSome, is_some, option_map, ◌&&◌, if◌then◌else◌}
 use Rattle.kc_types.specs.Limits.{frame_limit, slot_limit}
-use Rattle.kc_model.specs.Resources.{Resource, is_wanted, same_resource}
+use Rattle.kc_model.specs.Resources.{Resource}
 use Rattle.kc_types.specs.declared.resource.Resource.TheVariants as resource
-use Rattle.std.specs.List.{IsDistinct}
+use Rattle.std.specs.List.{IsDistinct, filter}
 use Rattle.kc_footprints.specs.declared.names.Names.{Names}
 use Rattle.kc_footprints.specs.Reach.{has_member, is_at, reach_of, may_have, names_at}
 use Rattle.kc_footprints.specs.declared.rows.Row.{Row}
@@ -54,51 +54,25 @@ pub record AreRows (sets : List (List ℕ)) (rows : List Row) : Type 0 where
   pub once : (p : ℕ) → IsDistinct eqb (get_or sets p [])
   pub each : (k : ℕ) → k < length rows → IsRow sets (get_or rows k no_row)
 
--- the frames in the list are no others than the frame and what the other has
-abbrev pub HasOnly : List (List ℕ) → Option ℕ → Option Span → List Resource → Type 0
-HasOnly sets frame other before = (f : ℕ) → is_wanted before (resource.Frame f) ≡ true → (is_at frame f ≡ true) ⊎ (has_frame sets other f ≡ true)
+-- the first of what a principal may have, but for the frame and for what the other principal has
+abbrev pub numbers_of : List (List ℕ) → Option ℕ → Option Span → Span → List ℕ
+numbers_of sets frame other s = filter (λ f. not (is_at frame f || has_frame sets other f)) (take s.length (get_or sets s.principal []))
 
--- the first n of what the principal p may have are listed, but for the frame and for what the other has; and no other frame is
-pub record IsListed (sets : List (List ℕ)) (p n : ℕ) (frame : Option ℕ) (other : Option Span) (before after : List Resource) : Type 0 where
-  pub keeps : (r : Resource) → is_wanted before r ≡ true → is_wanted after r ≡ true
-  pub only : (r : Resource) → is_wanted after r ≡ true → (is_wanted before r ≡ true) ⊎ ((i : ℕ) × (i < n) × (r ≡ resource.Frame (get_or (get_or sets p []) i 0)))
-  pub there : (i : ℕ) → i < n → (is_wanted after (resource.Frame (get_or (get_or sets p []) i 0)) ≡ true)
-      ⊎ ((is_at frame (get_or (get_or sets p []) i 0) ≡ true) ⊎ (has_frame sets other (get_or (get_or sets p []) i 0) ≡ true))
-  pub once : IsDistinct same_resource before → HasOnly sets frame other before → IsDistinct same_resource after
+abbrev pub frames_of : List (List ℕ) → Option ℕ → Option Span → Span → List Resource
+frames_of sets frame other s = map resource.Frame (numbers_of sets frame other s)
 
--- what the list has more
-abbrev pub IsPut : (Resource → Bool) → List Resource → List Resource → Type 0
-IsPut test before after = (r : Resource) → is_wanted after r ≡ (is_wanted before r || test r)
+-- a footprint is listed in three parts: the frame that is named, the slot with what it may have, and the free list
+abbrev pub frame_part : Option ℕ → List Resource
+frame_part None = []
+frame_part (Some f) = resource.Frame f ∷ []
 
-abbrev pub is_named : Option ℕ → Resource → Bool
-is_named frame (resource.Frame f) = is_at frame f
-is_named frame (resource.Vm v) = false
-is_named frame resource.Free = false
+abbrev pub slot_part : List (List ℕ) → Option ℕ → Option Span → List Resource
+slot_part sets frame None = []
+slot_part sets frame (Some s) = resource.Vm s.principal ∷ frames_of sets frame None s
 
-abbrev pub is_slot : List (List ℕ) → Option Span → Resource → Bool
-is_slot sets span (resource.Frame f) = has_frame sets span f
-is_slot sets span (resource.Vm v) = is_of span v
-is_slot sets span resource.Free = false
-
-abbrev pub is_free : List (List ℕ) → Option Span → Resource → Bool
-is_free sets span (resource.Frame f) = has_frame sets span f
-is_free sets span (resource.Vm v) = false
-is_free sets span resource.Free = is_some span
-
--- the list has the frame, and what the other may have
-abbrev pub HasFrame : Option ℕ → List Resource → Type 0
-HasFrame frame before = (f : ℕ) → is_at frame f ≡ true → is_wanted before (resource.Frame f) ≡ true
-
-abbrev pub HasOther : List (List ℕ) → Option Span → List Resource → Type 0
-HasOther sets other before = (f : ℕ) → has_frame sets other f ≡ true → is_wanted before (resource.Frame f) ≡ true
-
--- the list has nothing that does not pass the test
-abbrev pub IsWithout : (Resource → Bool) → List Resource → Type 0
-IsWithout test before = (r : Resource) → is_wanted before r ≡ true → test r ≡ true
-
--- the frame that a call names, and a slot with what it may have
-abbrev pub is_named_or_slot : List (List ℕ) → Option ℕ → Option Span → Resource → Bool
-is_named_or_slot sets frame slot r = is_named frame r || is_slot sets slot r
+abbrev pub free_part : List (List ℕ) → Option ℕ → Option Span → Option Span → List Resource
+free_part sets frame slot None = []
+free_part sets frame slot (Some s) = resource.Free ∷ frames_of sets frame slot s
 
 -- all that a principal may have
 abbrev pub span_of : List (List ℕ) → ℕ → Span

@@ -1,11 +1,11 @@
 //! What each call of a trace may touch, kept as lengths into what slots and the free list may have.
-ghost use Rattle.std.specs.Prelude.{◌≡◌, ◌<◌, length, [], IfOk, OnOk, IfSome};
+ghost use Rattle.std.specs.Prelude.{◌≡◌, ℕ, ◌<◌, ◌||◌, ◌++◌, [], eqb, get_or, length, IfOk, OnOk, IfSome};
 ghost use Rattle.kc_types.specs.Limits.{frame_limit, slot_limit};
 ghost use Rattle.kc_types.specs.declared.resource.Resource.TheVariants as resource;
 ghost use Rattle.std.specs.List.{IsDistinct};
 ghost use Rattle.kc_model.specs.Resources.{is_wanted, same_resource};
 ghost use Rattle.kc_footprints.specs.Reach.{is_at};
-ghost use Rattle.kc_footprints.specs.Rows.{has_frame, row_touches, row_at, IsRow, IsSpan, IsListed, IsPut, HasFrame, HasOther, IsWithout, is_named_or_slot, AreRows, is_named, is_slot, is_free};
+ghost use Rattle.kc_footprints.specs.Rows.{has_frame, row_touches, row_at, AreRows, IsRow, IsSpan, frames_of, frame_part, slot_part, free_part};
 
 use crate::planner::Walk;
 use crate::reach_set::ReachSet;
@@ -109,6 +109,7 @@ impl Footprints {
         requires { number < length self.now.rows }
         ensures value { result ≡ row_at self.now number }
         ensures row { IsRow self.now.sets result }
+        ensures once { (p : ℕ) → IsDistinct eqb (get_or self.now.sets p []) }
     {
         self.rows[number]
     }
@@ -149,6 +150,14 @@ impl Footprints {
         }
     }
 
+    /// Whether this is the frame, or among the first of what a principal may have.
+    fn has_either(&self, frame: Option<u32>, span: Option<Span>, number: u32) -> bool
+        requires { IfSome span (IsSpan self.now.sets) }
+        ensures { result ≡ (is_at frame number || has_frame self.now.sets span number) }
+    {
+        is_frame(frame, number) || self.has(span, number)
+    }
+
     /// Lists the first of what a principal may have, but for the frame and for what the other principal has.
     fn list(
         &self,
@@ -159,16 +168,14 @@ impl Footprints {
     ) -> Result<(), AllocError>
         requires span { IsSpan self.now.sets span }
         requires other { IfSome other (IsSpan self.now.sets) }
-        ensures { OnOk result (IsListed self.now.sets span.principal span.length frame other footprint.old.items footprint.new.items) }
+        ensures { OnOk result (footprint.new.items ≡ footprint.old.items ++ frames_of self.now.sets frame other span) }
     {
         let set = &self.sets[span.principal as usize];
         for place in 0..span.length {
             let Some(member) = set.at(place) else {
                 unreachable!()
             };
-            let named = is_frame(frame, member);
-            let had = self.has(other, member);
-            if !named && !had {
+            if !self.has_either(frame, other, member) {
                 footprint.push(frame_of(member))?;
             }
         }
@@ -184,11 +191,7 @@ impl Footprints {
     ) -> Result<(), AllocError>
         requires slot { IfSome slot (IsSpan self.now.sets) }
         requires low { IfSome slot (λ s. s.principal < slot_limit) }
-        requires frame { HasFrame frame footprint.old.items }
-        requires only { IsWithout (is_named frame) footprint.old.items }
-        requires once { IsDistinct same_resource footprint.old.items }
-        ensures put { OnOk result (IsPut (is_slot self.now.sets slot) footprint.old.items footprint.new.items) }
-        ensures once { OnOk result (IsDistinct same_resource footprint.new.items) }
+        ensures { OnOk result (footprint.new.items ≡ footprint.old.items ++ slot_part self.now.sets frame slot) }
     {
         if let Some(span) = slot {
             footprint.push(slot_of(span.principal))?;
@@ -207,12 +210,7 @@ impl Footprints {
     ) -> Result<(), AllocError>
         requires free { IfSome free (IsSpan self.now.sets) }
         requires slot { IfSome slot (IsSpan self.now.sets) }
-        requires frame { HasFrame frame footprint.old.items }
-        requires other { HasOther self.now.sets slot footprint.old.items }
-        requires only { IsWithout (is_named_or_slot self.now.sets frame slot) footprint.old.items }
-        requires once { IsDistinct same_resource footprint.old.items }
-        ensures put { OnOk result (IsPut (is_free self.now.sets free) footprint.old.items footprint.new.items) }
-        ensures once { OnOk result (IsDistinct same_resource footprint.new.items) }
+        ensures { OnOk result (footprint.new.items ≡ footprint.old.items ++ free_part self.now.sets frame slot free) }
     {
         if let Some(span) = free {
             footprint.push(Resource::Free)?;
@@ -223,9 +221,7 @@ impl Footprints {
 
     fn list_frame(footprint: &mut Vec<Resource>, frame: Option<u32>) -> Result<(), AllocError>
         requires frame { IfSome frame (λ f. f < frame_limit) }
-        requires empty { footprint.old.items ≡ [] }
-        ensures put { OnOk result (IsPut (is_named frame) footprint.old.items footprint.new.items) }
-        ensures once { OnOk result (IsDistinct same_resource footprint.new.items) }
+        ensures { OnOk result (footprint.new.items ≡ footprint.old.items ++ frame_part frame) }
     {
         if let Some(frame) = frame {
             footprint.push(frame_of(frame))?;

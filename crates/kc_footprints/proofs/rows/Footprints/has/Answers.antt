@@ -1,6 +1,6 @@
 use Rattle.std.proofs.Common.{arith, rules, get_or, []}
 use Rattle.std.proofs.lemmas.Grind.{common_steps}
-use Rattle.kc_footprints.proofs.Firsts.{some_place, no_place}
+use Rattle.kc_footprints.proofs.Listed.{some_place, no_place}
 use Rattle.kc_footprints.proofs.rows.Footprints.has.Goals as goal
 
 pub returns-in-Some-place_of : goal.returns-in-Some-place_of

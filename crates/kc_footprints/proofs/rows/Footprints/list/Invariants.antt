@@ -1,5 +1,6 @@
-use Rattle.kc_footprints.specs.Rows.{IsListed}
+use Rattle.std.proofs.Common.{◌≡◌, ◌++◌}
+use Rattle.kc_footprints.specs.Rows.{frames_of}
 use Rattle.kc_footprints.proofs.rows.Footprints.list.Given as goal
 
 abbrev pub invariant-loop-place : goal.invariant-loop-place
-invariant-loop-place l = IsListed l.self.sets l.fn.span.principal l.place l.fn.frame l.fn.other l.fn.footprint.items l.footprint.items
+invariant-loop-place l = l.footprint.items ≡ l.fn.footprint.items ++ frames_of l.self.sets l.fn.frame l.fn.other (record { principal = l.fn.span.principal; length = l.place })
