@@ -9,15 +9,16 @@ use Rattle.std.proofs.lemmas.List.Folds.{list_any-append}
 use Rattle.std.proofs.lemmas.Map.Keys.{IsDistinct-push}
 use Rattle.std.proofs.lemmas.Nat.{same_from_place}
 use Rattle.std.proofs.Math.ListN.{length-set, length-replicate}
+use Rattle.std.proofs.Math.Bool.{or-false, or-true}
+use Rattle.std.proofs.lemmas.Bool.{and_from, and_parts, eq-eqb, eqb-true}
 use Rattle.kc_footprints.specs.Members.{has_member, with_member, AreFlags, AreSame}
-use Rattle.kc_footprints.proofs.Shapes.{same_number, equal, and_left, and_right, both, or_false, or_true}
 
 added_by : (xs : List ℕ) (f : ℕ) (b : Bool) → has_member xs f ≡ b → (g : ℕ) → has_member (cond b xs (xs ++ f ∷ [])) g ≡ (has_member xs g || eqb f g)
 added_by xs f true has g = case (eqb f g) refl
   where
     case : (b : Bool) → eqb f g ≡ b → has_member xs g ≡ (has_member xs g || eqb f g)
-    case true e = let is : f ≡ g = same_number f g e in let there : has_member xs g ≡ true = subst (λ (x : ℕ). has_member xs x ≡ true) is has in rw there refl
-    case false e = rw e (sym (or_false (has_member xs g)))
+    case true e = let is : f ≡ g = eqb-true f g e in let there : has_member xs g ≡ true = subst (λ (x : ℕ). has_member xs x ≡ true) is has in rw there refl
+    case false e = rw e (sym (or-false (has_member xs g)))
 added_by xs f false has g = list_any-append (eqb g) xs (f ∷ []) ∙ ap (λ (b : Bool). has_member xs g || b) (last f g)
   where
     last : (f g : ℕ) → (eqb g f || false) ≡ eqb f g
@@ -60,16 +61,16 @@ module _ (p f : ℕ) (a b : List (List ℕ)) (low : p < length a) (sets : b ≡ 
     where
       by : (e : Bool) → eqb p q ≡ e → has_member (get_or b q []) g ≡ (has_member (get_or a q []) g || (eqb p q && eqb f g))
       by true e =
-          let is : p ≡ q = same_number p q e in
+          let is : p ≡ q = eqb-true p q e in
           rw e (subst (λ (x : ℕ). has_member (get_or b x []) g ≡ (has_member (get_or a x []) g || eqb f g)) is (ap (λ (xs : List ℕ). has_member xs g) this_set ∙ is_in_added (get_or a p []) f g))
-      by false e = rw e (ap (λ (xs : List ℕ). has_member xs g) (other_set q (λ is. let no : eqb p q ≡ true = rw is (equal p) in cc)) ∙ sym (or_false (has_member (get_or a q []) g)))
+      by false e = rw e (ap (λ (xs : List ℕ). has_member xs g) (other_set q (λ is. let no : eqb p q ≡ true = rw is (eq-eqb p p refl) in cc)) ∙ sym (or-false (has_member (get_or a q []) g)))
 
   pub set_once : (q : ℕ) → IsDistinct eqb (get_or a q []) → IsDistinct eqb (get_or b q [])
   set_once q once = by (eqb p q) refl
     where
       by : (e : Bool) → eqb p q ≡ e → IsDistinct eqb (get_or b q [])
-      by true e = let is : q ≡ p = sym (same_number p q e) in rw is (rw this_set (added_once (get_or a p []) f (subst (λ (x : ℕ). IsDistinct eqb (get_or a x [])) is once)))
-      by false e = let s : get_or b q [] ≡ get_or a q [] = other_set q (λ is. let no : eqb p q ≡ true = rw is (equal p) in cc) in rw s once
+      by true e = let is : q ≡ p = sym (eqb-true p q e) in rw is (rw this_set (added_once (get_or a p []) f (subst (λ (x : ℕ). IsDistinct eqb (get_or a x [])) is once)))
+      by false e = let s : get_or b q [] ≡ get_or a q [] = other_set q (λ is. let no : eqb p q ≡ true = rw is (eq-eqb p p refl) in cc) in rw s once
 
 -- flags
 
@@ -116,13 +117,13 @@ flags_added sets flags p f low room are =
       where
         by : (b : Bool) → (eqb p q && eqb f g) ≡ b → get_or (set flags (f * length sets + p) true) (g * length sets + q) false ≡ (has_member (get_or sets q []) g || (eqb p q && eqb f g))
         by true e =
-            let is_p : p ≡ q = same_number p q (and_left (eqb p q) (eqb f g) e) in
-            let is_f : f ≡ g = same_number f g (and_right (eqb p q) (eqb f g) e) in
-            rw (e, ← is_p, ← is_f) (get_or-set_same flags (f * length sets + p) true false room ∙ sym (or_true (has_member (get_or sets p []) f)))
+            let is_p : p ≡ q = eqb-true p q (and_parts (eqb p q) (eqb f g) e).0 in
+            let is_f : f ≡ g = eqb-true f g (and_parts (eqb p q) (eqb f g) e).1 in
+            rw (e, ← is_p, ← is_f) (get_or-set_same flags (f * length sets + p) true false room ∙ sym (or-true (has_member (get_or sets p []) f)))
         by false e =
             rw e
             (get_or-set_other flags (f * length sets + p) (g * length sets + q) true false
             (λ (same : g * length sets + q ≡ f * length sets + p).
             let is = same_from_place g q f p (length sets) there low same in
-            let yes : (eqb p q && eqb f g) ≡ true = rw (is.0, is.1) (both (eqb p p) (eqb f f) (equal p) (equal f)) in cc)
-            ∙ are.has q g there ∙ sym (or_false (has_member (get_or sets q []) g)))
+            let yes : (eqb p q && eqb f g) ≡ true = rw (is.0, is.1) (and_from (eqb p p) (eqb f f) (eq-eqb p p refl) (eq-eqb f f refl)) in cc)
+            ∙ are.has q g there ∙ sym (or-false (has_member (get_or sets q []) g)))

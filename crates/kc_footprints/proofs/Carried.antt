@@ -1,9 +1,10 @@
 -- What the planner's numbers say is what the definitions say.
 use Rattle.std.proofs.Common.{◌≡◌, ℕ, zero, suc, ◌<◌, ◌≤◌, Bool, true, false, ◌&&◌, ◌||◌, nat_lt, cond, List, [], ◌∷◌, length, map, refl, sym, ◌∙◌, ap, subst, arith, inl, inr}
 use Rattle.std.specs.Prelude.{eqb, Option, Some, None, if◌then◌else◌}
-use Rattle.std.proofs.lemmas.Bool.{ltb-true}
+use Rattle.std.proofs.lemmas.Bool.{ltb-true, and_parts, eq-eqb, eqb-true}
 use Rattle.std.proofs.lemmas.Bool.Decides.{nat_tests}
 use Rattle.waves.specs.Planned.{ComesJustAfter}
+use Rattle.std.proofs.Math.Bool.{and-false}
 use Rattle.kc_types.specs.Configuration.{Configuration, slot_count}
 use Rattle.kc_types.specs.declared.call.Call.{Call}
 use Rattle.kc_types.specs.declared.call.Call.TheVariants.{Take, Give, HostFault, HostRead, HostWrite, RegisterVm, RegisterVcpu, SetBoot, Remap, Verify, Map, GuestRead, GuestWrite, Grant, Revoke, GrantRange, RevokeRange, Drop, Clear}
@@ -18,7 +19,6 @@ use Rattle.kc_footprints.specs.Naming.{named_frame, gain_of, below, names_of}
 use Rattle.kc_footprints.specs.Reach.{Numbered, Frame, Principal, is_at, names_at, names_principal, reach_of, gains_by, may_have, touched_by, touches}
 use Rattle.kc_footprints.specs.Owned.{IsOwned}
 use Rattle.kc_footprints.specs.Planner.{has_pair}
-use Rattle.kc_footprints.proofs.Shapes.{and_left, and_right, and_false, same_number, equal}
 
 -- a resource in the planner's numbers
 abbrev pub numbered : ℕ → Resource → Numbered
@@ -45,12 +45,12 @@ swapped : (n x y : ℕ) → (nat_lt x n && eqb x y) ≡ (eqb x y && nat_lt y n)
 swapped n x y = by (eqb x y) refl
   where
     by : (b : Bool) → eqb x y ≡ b → (nat_lt x n && b) ≡ (b && nat_lt y n)
-    by true e = let same : x ≡ y = same_number x y e in subst (λ (z : ℕ). (nat_lt x n && true) ≡ nat_lt z n) same (true_and (nat_lt x n))
+    by true e = let same : x ≡ y = eqb-true x y e in subst (λ (z : ℕ). (nat_lt x n && true) ≡ nat_lt z n) same (true_and (nat_lt x n))
       where
         true_and : (b : Bool) → (b && true) ≡ b
         true_and true = refl
         true_and false = refl
-    by false e = and_false (nat_lt x n)
+    by false e = and-false (nat_lt x n)
 
 -- where the second is below, the first needs no asking
 pub low_too : (n x y : ℕ) → y < n → (nat_lt x n && eqb x y) ≡ eqb x y
@@ -137,7 +137,7 @@ module _ (config : Configuration) (held : Owner → ℕ → Bool) (r : ℕ → �
   gains_slot (RevokeRange v c g k) w f low = refl
 
   is_free : (b : Bool) → ((true && eqb (slot_count config) (slot_count config)) && b) ≡ b
-  is_free b = rw (equal (slot_count config)) refl
+  is_free b = rw (eq-eqb (slot_count config) (slot_count config) refl) refl
 
   no_slot : (v : ℕ) (b : Bool) → (is_at (below (slot_count config) (Some v)) (slot_count config) && b) ≡ false
   no_slot v b = rw (not_past (slot_count config) (Some v)) refl
@@ -172,7 +172,7 @@ module _ (config : Configuration) (held : Owner → ℕ → Bool) (r : ℕ → �
       grouped false b c = refl
 
   slot_is : (o : Option ℕ) (b : Bool) (v : ℕ) → v < slot_count config → (is_at (below (slot_count config) o) v || (b && eqb (slot_count config) v)) ≡ exists_slot config o v
-  slot_is None b v low = rw (differs v (slot_count config) low) (and_false b)
+  slot_is None b v low = rw (differs v (slot_count config) low) (and-false b)
   slot_is (Some x) b v low = rw (at_below (slot_count config) x v, differs v (slot_count config) low) (with_false (nat_lt x (slot_count config) && eqb x v) b)
     where
       with_false : (a b : Bool) → (a || (b && false)) ≡ a
@@ -181,7 +181,7 @@ module _ (config : Configuration) (held : Owner → ℕ → Bool) (r : ℕ → �
       with_false false false = refl
 
   free_is : (o : Option ℕ) (b : Bool) → (is_at (below (slot_count config) o) (slot_count config) || (b && eqb (slot_count config) (slot_count config))) ≡ b
-  free_is o b = rw (not_past (slot_count config) o, equal (slot_count config)) (and_true b)
+  free_is o b = rw (not_past (slot_count config) o, eq-eqb (slot_count config) (slot_count config) refl) (and_true b)
     where
       and_true : (b : Bool) → (b && true) ≡ b
       and_true true = refl
@@ -190,8 +190,8 @@ module _ (config : Configuration) (held : Owner → ℕ → Bool) (r : ℕ → �
   exists_low : (o : Option ℕ) (v : ℕ) → exists_slot config o v ≡ true → v < slot_count config
   exists_low None v h = cc
   exists_low (Some x) v h =
-      let low : x < slot_count config = ltb-true x (slot_count config) (and_left (nat_lt x (slot_count config)) (eqb x v) h) in
-      let same : x ≡ v = same_number x v (and_right (nat_lt x (slot_count config)) (eqb x v) h) in
+      let low : x < slot_count config = ltb-true x (slot_count config) (and_parts (nat_lt x (slot_count config)) (eqb x v) h).0 in
+      let same : x ≡ v = eqb-true x v (and_parts (nat_lt x (slot_count config)) (eqb x v) h).1 in
       subst (λ (y : ℕ). y < slot_count config) same low
 
   at_low : (o : Option ℕ) (p : ℕ) → is_at (below (slot_count config) o) p ≡ true → p < slot_count config
@@ -209,7 +209,7 @@ module _ (config : Configuration) (held : Owner → ℕ → Bool) (r : ℕ → �
     where
       by : (b : Bool) → eqb (slot_count config) p ≡ b → touched config held call (cond b resource.Free (resource.Vm p)) ≡ true
       by true e =
-          let same : slot_count config ≡ p = same_number (slot_count config) p e in
+          let same : slot_count config ≡ p = eqb-true (slot_count config) p e in
           let here : names_principal (slot_count config) (names_of config call) (slot_count config) ≡ true = subst (λ (x : ℕ). names_principal (slot_count config) (names_of config call) x ≡ true) (sym same) h in
           sym (free_is (slot_of call) (uses_free call)) ∙ here
       by false e =

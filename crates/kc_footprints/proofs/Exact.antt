@@ -2,7 +2,7 @@
 use Rattle.std.proofs.Common.{◌≡◌, ℕ, ◌+◌, ◌<◌, ◌≤◌, true, List, [], length, map, get_or, refl, sym, ◌∙◌, subst, arith, inl, inr}
 use Rattle.std.specs.List.{IsDistinct}
 use Rattle.std.specs.Prelude.{eqb, Option, Some, None, IfSome}
-use Rattle.std.proofs.lemmas.Bool.{cases_lt}
+use Rattle.std.proofs.lemmas.Bool.{cases_lt, eq-eqb}
 use Rattle.std.proofs.lemmas.List.{get_or_past}
 use Rattle.std.proofs.lemmas.List.Folds.{list_any_at}
 use Rattle.kc_types.specs.Limits.{frame_limit, slot_limit}
@@ -21,7 +21,6 @@ use Rattle.kc_footprints.specs.Reach.{has_member, is_at, may_have}
 use Rattle.kc_footprints.specs.Owned.{IsOwned}
 use Rattle.kc_footprints.specs.Planner.{has_pair, HaveFramesBelow}
 use Rattle.kc_footprints.specs.Rows.{row_touches, no_row, IsRow, IsRowOf, AreRowsOf, AreRows}
-use Rattle.kc_footprints.proofs.Shapes.{equal}
 use Rattle.kc_footprints.proofs.Existing.{may_have_low}
 use Rattle.kc_footprints.proofs.Carried.{at_below, names_are, frame_is, same_reach}
 use Rattle.kc_footprints.proofs.Waves.{below_low, names_range}
@@ -57,7 +56,7 @@ module _ (config : Configuration) (calls : List Call) (pairs : List (ℕ × ℕ)
             | inl there ↦
                 (let f : ℕ = get_or (get_or sets p []) i 0 in
                 let below_all : p < slot_count config + 1 = rw size at there in
-                let in_set : has_member (get_or sets p []) (get_or (get_or sets p []) i 0) ≡ true = list_any_at (eqb (get_or (get_or sets p []) i 0)) (get_or sets p []) i 0 under (equal (get_or (get_or sets p []) i 0)) in
+                let in_set : has_member (get_or sets p []) (get_or (get_or sets p []) i 0) ≡ true = list_any_at (eqb (get_or (get_or sets p []) i 0)) (get_or sets p []) i 0 under (eq-eqb (get_or (get_or sets p []) i 0) (get_or (get_or sets p []) i 0) refl) in
                 let l : get_or (get_or sets p []) i 0 < config.frames =
                 may_have_low (slot_count config) config.frames (has_pair pairs) (map (names_of config) calls) exist (λ k few. (names_range config calls k few).frame) (length (map (names_of config) calls)) p
                 (get_or (get_or sets p []) i 0) (omega arith) (sym (same p (get_or (get_or sets p []) i 0) below_all) ∙ in_set) in

@@ -1,7 +1,7 @@
 -- A footprint has only what exists.
 use Rattle.std.proofs.Common.{ℕ, zero, suc, ◌≡◌, ◌<◌, ◌≤◌, Bool, true, false, ◌&&◌, ◌||◌, nat_lt, nat_eq, eqb-true, List, length, refl, ap, subst, ◌∙◌, arith}
 use Rattle.std.specs.Prelude.{eqb, Option, Some, None, IfSome}
-use Rattle.std.proofs.lemmas.Bool.{ltb-true, and_parts}
+use Rattle.std.proofs.lemmas.Bool.{ltb-true, and_parts, eqb-true}
 use Rattle.kc_types.specs.Configuration.{Configuration, slot_count}
 use Rattle.kc_types.specs.declared.call.Call.{Call}
 use Rattle.kc_types.specs.declared.call.Call.TheVariants.{Give, Remap, Map, Drop, Clear}
@@ -15,7 +15,6 @@ use Rattle.kc_footprints.specs.declared.names.Gain.{Gain}
 use Rattle.kc_footprints.specs.declared.names.Gain.TheVariants.{Nothing, SlotTakesFrame, FreeTakesFrame, FreeTakesReach}
 use Rattle.kc_footprints.specs.declared.names.Names.{Names}
 use Rattle.kc_footprints.specs.Reach.{is_at, names_at, reach_of, gains_by, may_have}
-use Rattle.kc_footprints.proofs.Shapes.{same_number}
 
 low-same : (n g f : ℕ) → (nat_lt g n && nat_eq g f) ≡ true → f < n
 low-same n g f h =
@@ -46,7 +45,7 @@ reach-low m calls is (suc k) owner f differs h =
 
 at_low : (o : Option ℕ) (n f : ℕ) → IfSome o (λ x. x < n) → is_at o f ≡ true → f < n
 at_low None n f low h = cc
-at_low (Some x) n f low h = subst (λ (y : ℕ). y < n) (same_number x f h) low
+at_low (Some x) n f low h = subst (λ (y : ℕ). y < n) (eqb-true x f h) low
 
 reach_of_low : (reach : ℕ → ℕ → Bool) (n : ℕ) → ((p f : ℕ) → reach p f ≡ true → f < n) → (o : Option ℕ) (f : ℕ) → reach_of reach o f ≡ true → f < n
 reach_of_low reach n low None f h = cc

@@ -1,6 +1,6 @@
 use Rattle.std.proofs.Common.{◌≡◌, ◌≢◌, ℕ, zero, suc, ◌+◌, ◌<◌, ◌≤◌, Bool, true, false, cond, ◌&&◌, ◌||◌, List, [], ◌∷◌, ◌++◌, length, get_or, set, take, refl, sym, ◌∙◌, ap, subst, arith, inl, inr}
 use Rattle.std.specs.Prelude.{◌⊎◌, eqb, slice_get, Some}
-use Rattle.std.proofs.lemmas.Bool.{cases_lt}
+use Rattle.std.proofs.lemmas.Bool.{cases_lt, and_from, and_parts, eq-eqb, eqb-true, or_cases, or_left, or_right}
 use Rattle.std.proofs.lemmas.List.{get_or-set_same, get_or-set_other}
 use Rattle.std.proofs.lemmas.List.Folds.{list_any_at}
 use Rattle.std.specs.List.{IsDistinct}
@@ -8,7 +8,6 @@ use Rattle.std.proofs.Math.ListN.{length-set}
 use Rattle.kc_footprints.specs.Members.{with_member}
 use Rattle.kc_footprints.specs.Reach.{has_member}
 use Rattle.kc_footprints.proofs.Added.{length_added, added_front, set_has, set_once}
-use Rattle.kc_footprints.proofs.Shapes.{or_left, or_right, or_cases, both, and_left, and_right, same_number, equal}
 use Rattle.kc_footprints.specs.Planner.{Reached, members_of, is_near, IsExact, IsRelated, IsJoined, AreFreed, IsWider, IsGrown}
 
 -- the first n of what the slot v may have, the free list may have
@@ -38,13 +37,13 @@ module _ (size free p f : ℕ) (a b : Reached) (low : p < size) (free_low : free
   keeps q g has = members_joined q g ∙ or_left (has_member (members_of a q) g) (eqb p q && eqb f g) has
 
   has_new : has_member (members_of b p) f ≡ true
-  has_new = members_joined p f ∙ or_right (has_member (members_of a p) f) (eqb p p && eqb f f) (both (eqb p p) (eqb f f) (equal p) (equal f))
+  has_new = members_joined p f ∙ or_right (has_member (members_of a p) f) (eqb p p && eqb f f) (and_from (eqb p p) (eqb f f) (eq-eqb p p refl) (eq-eqb f f refl))
 
   old_or_new : (q g : ℕ) → has_member (members_of b q) g ≡ true → (has_member (members_of a q) g ≡ true) ⊎ ((p ≡ q) × (f ≡ g))
   old_or_new q g has =
       elim (or_cases (has_member (members_of a q) g) (eqb p q && eqb f g) (sym (members_joined q g) ∙ has)) [
         | inl old ↦ inl old
-        | inr new ↦ inr (same_number p q (and_left (eqb p q) (eqb f g) new), same_number f g (and_right (eqb p q) (eqb f g) new))
+        | inr new ↦ inr (eqb-true p q (and_parts (eqb p q) (eqb f g) new).0, eqb-true f g (and_parts (eqb p q) (eqb f g) new).1)
       ]
 
   each_once : (q : ℕ) → IsDistinct eqb (members_of b q)
@@ -54,17 +53,17 @@ module _ (size free p f : ℕ) (a b : Reached) (low : p < size) (free_low : free
   longer q = by (eqb p q) refl
     where
       by : (e : Bool) → eqb p q ≡ e → length (members_of a q) ≤ length (members_of b q)
-      by true e = subst (λ (x : ℕ). length (members_of a x) ≤ length (members_of b x)) (same_number p q e) (rw new_set (length_added (members_of a p) f))
-      by false e = let s : members_of b q ≡ members_of a q = same_set q (λ is. let no : eqb p q ≡ true = rw is (equal p) in cc) in rw s (omega arith)
+      by true e = subst (λ (x : ℕ). length (members_of a x) ≤ length (members_of b x)) (eqb-true p q e) (rw new_set (length_added (members_of a p) f))
+      by false e = let s : members_of b q ≡ members_of a q = same_set q (λ is. let no : eqb p q ≡ true = rw is (eq-eqb p p refl) in cc) in rw s (omega arith)
 
   front : (q i : ℕ) → i < length (members_of a q) → get_or (members_of b q) i 0 ≡ get_or (members_of a q) i 0
   front q i below = by (eqb p q) refl
     where
       by : (e : Bool) → eqb p q ≡ e → get_or (members_of b q) i 0 ≡ get_or (members_of a q) i 0
       by true e =
-          let is : q ≡ p = sym (same_number p q e) in
+          let is : q ≡ p = sym (eqb-true p q e) in
           rw is (rw new_set (added_front (members_of a p) f i (subst (λ (x : ℕ). i < length (members_of a x)) is below)))
-      by false e = ap (λ (xs : List ℕ). get_or xs i 0) (same_set q (λ is. let no : eqb p q ≡ true = rw is (equal p) in cc))
+      by false e = ap (λ (xs : List ℕ). get_or xs i 0) (same_set q (λ is. let no : eqb p q ≡ true = rw is (eq-eqb p p refl) in cc))
 
   module _ (m : Reached) (between : m.sets ≡ b.sets) (near_before : m.near ≡ a.near) (freed_before : m.freed ≡ a.freed) (n : ℕ) (count : n ≡ size) (related : IsRelated n p f m b) where
     near_old : (q r : ℕ) → is_near a q r ≡ true → is_near b q r ≡ true
@@ -146,12 +145,12 @@ joined_grown size free p f a b low exact j q n under = by (eqb p q) refl
   where
     by : (c : Bool) → eqb p q ≡ c → (n ≤ length (members_of b q)) × (take n (members_of b q) ≡ take n (members_of a q))
     by true e =
-        let is : p ≡ q = same_number p q e in
+        let is : p ≡ q = eqb-true p q e in
         let here : members_of b p ≡ with_member (members_of a p) f = ap (λ (xs : List (List ℕ)). get_or xs p []) j.sets ∙ get_or-set_same a.sets p (with_member (get_or a.sets p []) f) [] (let l = exact.sets_len in omega arith) in
         let there : members_of b q ≡ with_member (members_of a q) f = subst (λ (x : ℕ). members_of b x ≡ with_member (members_of a x) f) is here in
         rw there (front_kept (members_of a q) f n under)
     by false e =
-        let there : members_of b q ≡ members_of a q = ap (λ (xs : List (List ℕ)). get_or xs q []) j.sets ∙ get_or-set_other a.sets p q (with_member (get_or a.sets p []) f) [] (λ (is : q ≡ p). let no : eqb p q ≡ true = rw is (equal p) in cc) in
+        let there : members_of b q ≡ members_of a q = ap (λ (xs : List (List ℕ)). get_or xs q []) j.sets ∙ get_or-set_other a.sets p q (with_member (get_or a.sets p []) f) [] (λ (is : q ≡ p). let no : eqb p q ≡ true = rw is (eq-eqb p p refl) in cc) in
         rw there (under, refl)
 
 -- a join as a test
@@ -197,11 +196,11 @@ in_place (x ∷ xs) f h = in_place_by x xs f (eqb f x) refl (in_place xs f) h
   where
     in_place_by : (x : ℕ) (xs : List ℕ) (f : ℕ) (b : Bool) → eqb f x ≡ b → (has_member xs f ≡ true → (i : ℕ) × (i < length xs) × (get_or xs i 0 ≡ f))
         → has_member (x ∷ xs) f ≡ true → (i : ℕ) × (i < length (x ∷ xs)) × (get_or (x ∷ xs) i 0 ≡ f)
-    in_place_by x xs f true e rest h = (0, omega arith, sym (same_number f x e))
+    in_place_by x xs f true e rest h = (0, omega arith, sym (eqb-true f x e))
     in_place_by x xs f false e rest h = let later : has_member xs f ≡ true = rw e at h in let p = rest later in (suc p.0, omega arith, p.2)
 
 at_place : (xs : List ℕ) (i : ℕ) → i < length xs → has_member xs (get_or xs i 0) ≡ true
-at_place xs i low = list_any_at (eqb (get_or xs i 0)) xs i 0 low (equal (get_or xs i 0))
+at_place xs i low = list_any_at (eqb (get_or xs i 0)) xs i 0 low (eq-eqb (get_or xs i 0) (get_or xs i 0) refl)
 
 at_place_of : (xs : List ℕ) (i x : ℕ) → i < length xs → get_or xs i 0 ≡ x → has_member xs x ≡ true
 at_place_of xs i x low e = subst (λ (y : ℕ). has_member xs y ≡ true) e (at_place xs i low)
@@ -233,15 +232,15 @@ freed_all size free v n a b c low free_low before so_far all sets near freed = r
       let has : has_member (members_of b p) f ≡ true = rw sets at h in
       elim (so_far.only p f has) [
         | inl old ↦ or_left (has_member (members_of a p) f) (eqb free p && has_member (members_of a v) f) old
-        | inr new ↦ or_right (has_member (members_of a p) f) (eqb free p && has_member (members_of a v) f) (both (eqb free p) (has_member (members_of a v) f) (rw new.0 (equal p)) new.1)
+        | inr new ↦ or_right (has_member (members_of a p) f) (eqb free p && has_member (members_of a v) f) (and_from (eqb free p) (has_member (members_of a v) f) (rw new.0 (eq-eqb p p refl)) new.1)
       ])
       (λ h.
       rw sets
       (elim (or_cases (has_member (members_of a p) f) (eqb free p && has_member (members_of a v) f) h) [
         | inl old ↦ so_far.keeps p f old
         | inr new ↦
-            (let e : free ≡ p = same_number free p (and_left (eqb free p) (has_member (members_of a v) f) new) in
-            let it = in_place (members_of a v) f (and_right (eqb free p) (has_member (members_of a v) f) new) in
+            (let e : free ≡ p = eqb-true free p (and_parts (eqb free p) (has_member (members_of a v) f) new).0 in
+            let it = in_place (members_of a v) f (and_parts (eqb free p) (has_member (members_of a v) f) new).1 in
             let got : has_member (members_of b free) (get_or (members_of a v) it.0 0) ≡ true = so_far.there it.0 (let l = it.1 in omega arith) in
             subst (λ (x : ℕ). has_member (members_of b x) f ≡ true) e (subst (λ (x : ℕ). has_member (members_of b free) x ≡ true) it.2 got))
       ]));
@@ -259,14 +258,14 @@ freed_all size free v n a b c low free_low before so_far all sets near freed = r
     set_there p ne = rw freed (get_or-set_other b.freed v p (length (members_of a v)) 0 ne)
 
     not_v : (p : ℕ) → eqb v p ≡ false → p ≡ v → ⊥
-    not_v p e is = let no : eqb v p ≡ true = rw is (equal v) in cc
+    not_v p e is = let no : eqb v p ≡ true = rw is (eq-eqb v v refl) in cc
 
     slot_c : members_of c v ≡ members_of a v
     slot_c = rw sets so_far.slot_same
 
     freed_low_by : (p : ℕ) → p < size → (e : Bool) → eqb v p ≡ e → get_or c.freed p 0 ≤ length (members_of c p)
     freed_low_by p below true e =
-        let is : v ≡ p = same_number v p e in
+        let is : v ≡ p = eqb-true v p e in
         let s = set_here p is in
         let l : length (members_of c p) ≡ length (members_of a v) = subst (λ (x : ℕ). length (members_of c x) ≡ length (members_of a v)) is (ap (λ (xs : List ℕ). length xs) slot_c) in omega arith
     freed_low_by p below false e =
@@ -275,7 +274,7 @@ freed_all size free v n a b c low free_low before so_far all sets near freed = r
 
     freed_in_by : (p i : ℕ) → p < size → (e : Bool) → eqb v p ≡ e → i < get_or c.freed p 0 → has_member (members_of c free) (get_or (members_of c p) i 0) ≡ true
     freed_in_by p i below true e under =
-        let is : v ≡ p = same_number v p e in
+        let is : v ≡ p = eqb-true v p e in
         let s = set_here p is in
         let got : has_member (members_of b free) (get_or (members_of a v) i 0) ≡ true = so_far.there i (omega arith) in
         let there : has_member (members_of c free) (get_or (members_of c v) i 0) ≡ true = rw slot_c (rw sets got) in

@@ -4,13 +4,14 @@ use Rattle.std.proofs.Math.Nat.{eq-or-lt_of_le}
 use Rattle.std.proofs.Math.ListN.{length-replicate}
 use Rattle.std.proofs.lemmas.List.{get_or-append-add, get_or_append_left}
 use Rattle.waves.specs.Planned.{ComesJustAfter}
+use Rattle.std.proofs.lemmas.Bool.{and_parts, eqb-true, or_cases}
 use Rattle.kc_footprints.specs.declared.names.Gain.{Gain}
 use Rattle.kc_footprints.specs.declared.names.Gain.TheVariants.{Nothing, SlotTakesFrame, FreeTakesFrame, FreeTakesReach}
 use Rattle.kc_footprints.specs.declared.names.Names.{Names}
 use Rattle.kc_footprints.specs.Reach.{has_member, is_at, names_principal, names_at, may_have, touches, gains_by, reach_of}
 use Rattle.kc_footprints.specs.LastWaves.{IsFound, IsNoted}
 use Rattle.kc_footprints.proofs.Tracked.{IsNear, AreTracked}
-use Rattle.kc_footprints.proofs.Shapes.{same_number, or_cases, and_right, the_shape}
+use Rattle.kc_footprints.proofs.Shapes.{the_shape}
 use Rattle.kc_footprints.proofs.Steps.{just_after, one_more}
 use Rattle.kc_footprints.specs.Planner.{Reached, Stamps, members_of, is_near, IsExact, IsStart, IsHigh, IsWritten, AreGained, IsInRange, has_pair}
 use Rattle.kc_footprints.proofs.Starts.{replicas}
@@ -71,13 +72,13 @@ going_start frames free pairs cs h s started frame_waves principal_waves reach_w
 module _ (frames free : ℕ) (start : ℕ → ℕ → Bool) (cs : List Names) (range : (k : ℕ) → IsInRange frames free (names_at cs k)) where
   slot_below : (o : Option ℕ) (p : ℕ) → IfSome o (λ v. v < free) → is_at o p ≡ true → p < free
   slot_below None p low is = cc
-  slot_below (Some v) p low is = let e : v ≡ p = same_number v p is in omega arith
+  slot_below (Some v) p low is = let e : v ≡ p = eqb-true v p is in omega arith
 
   named_below : (k p : ℕ) → names_principal free (names_at cs k) p ≡ true → p < free + 1
   named_below k p is =
       elim (or_cases (is_at (names_at cs k).slot p) ((names_at cs k).free && eqb free p) is) [
         | inl at ↦ (let l = slot_below (names_at cs k).slot p (range k).slot at in omega arith)
-        | inr at ↦ (let e : free ≡ p = same_number free p (and_right (names_at cs k).free (eqb free p) at) in omega arith)
+        | inr at ↦ (let e : free ≡ p = eqb-true free p (and_parts (names_at cs k).free (eqb free p) at).1 in omega arith)
       ]
 
   module _ (k : ℕ) (h : Reached) (sets : (p f : ℕ) → p < free + 1 → has_member (members_of h p) f ≡ may_have free start cs k p f) where

@@ -4,8 +4,8 @@ use Rattle.std.proofs.lemmas.List.{get_or-set_same, get_or-set_other}
 use Rattle.std.proofs.lemmas.List.Folds.{list_any_more}
 use Rattle.std.proofs.Math.ListN.{length-set, length-replicate}
 use Rattle.std.proofs.lemmas.Map.Keys.{IsDistinct-from_apart}
-use Rattle.kc_footprints.proofs.Shapes.{same_number, equal}
 use Rattle.std.specs.List.{IsDistinct}
+use Rattle.std.proofs.lemmas.Bool.{eq-eqb, eqb-true}
 use Rattle.kc_footprints.specs.Members.{has_member, with_member}
 use Rattle.kc_footprints.specs.Planner.{Reached, is_near, HasOneOwnerEach, AreUnrelated, IsStart, has_pair}
 use Rattle.kc_footprints.proofs.Added.{set_has, set_once}
@@ -68,9 +68,9 @@ start_of n free pairs h low one owned apart freed = record {
     near_only p q below it = by (eqb p q) refl
       where
         by : (b : Bool) → eqb p q ≡ b → p ≡ q
-        by true e = same_number p q e
+        by true e = eqb-true p q e
         by false e =
             let a : get_or (get_or h.near p []) q false ≡ true = it in
             let b : get_or (set (replicate n false) p true) q false ≡ true = rw (apart.row p below) at a in
-            let c = get_or-set_other (replicate n false) p q true false (λ (is : q ≡ p). let no : eqb p q ≡ true = rw is (equal p) in cc) in
+            let c = get_or-set_other (replicate n false) p q true false (λ (is : q ≡ p). let no : eqb p q ≡ true = rw is (eq-eqb p p refl) in cc) in
             let d : get_or (replicate n false) q false ≡ false = replicas {A = Bool} n q false in cc

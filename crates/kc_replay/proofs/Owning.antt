@@ -1,10 +1,11 @@
 -- The owners at the start.
 use Rattle.std.proofs.Common.{◌≡◌, ℕ, ◌+◌, ◌<◌, Bool, true, false, ◌&&◌, ◌||◌, nat_lt, cond, List, [], ◌∷◌, ◌++◌, length, get_or, refl, sym, ◌∙◌, ap, subst, arith, inl, inr, length-append}
 use Rattle.std.specs.Prelude.{eqb, Option, Some, None}
-use Rattle.std.proofs.lemmas.Bool.{and_parts, cases_lt, ltb-true}
+use Rattle.std.proofs.lemmas.Bool.{and_parts, cases_lt, ltb-true, eq-eqb, eqb-true}
 use Rattle.std.proofs.lemmas.Bool.Decides.{nat_tests}
 use Rattle.std.proofs.lemmas.List.{get_or_append_left}
 use Rattle.std.proofs.lemmas.List.Folds.{list_any-append}
+use Rattle.std.proofs.Math.Bool.{and-false}
 use Rattle.kc_types.specs.Configuration.{slot_count}
 use Rattle.kc_types.specs.declared.owner.Owner.{Owner}
 use Rattle.kc_types.specs.declared.owner.Owner.TheVariants as owner
@@ -14,7 +15,6 @@ use Rattle.kc_model.proofs.States.Changes.{exists}
 use Rattle.kc_footprints.specs.Reach.{is_at}
 use Rattle.kc_footprints.specs.Planner.{HasOneOwnerEach, HaveFramesBelow, has_pair}
 use Rattle.kc_footprints.specs.Owned.{IsOwned, principal_of}
-use Rattle.kc_footprints.proofs.Shapes.{same_number, equal, and_right, and_false}
 use Rattle.kc_footprints.proofs.Carried.{at_below, low_too, not_past, differs}
 
 -- the pairs are those of the frames below n
@@ -28,9 +28,9 @@ none_more m n pairs none so_far = record { has = λ p f. so_far.has p f ∙ by p
   where
     by : (p f : ℕ) (b : Bool) → eqb n f ≡ b → (nat_lt f n && is_at (principal_of (slot_count m.config) (frame_at m f).owner) p) ≡ (nat_lt f (n + 1) && is_at (principal_of (slot_count m.config) (frame_at m f).owner) p)
     by p f true e =
-        let same : n ≡ f = same_number n f e in
+        let same : n ≡ f = eqb-true n f e in
         let nothing : principal_of (slot_count m.config) (frame_at m f).owner ≡ None = subst (λ (x : ℕ). principal_of (slot_count m.config) (frame_at m x).owner ≡ None) same none in
-        rw nothing (and_false (nat_lt f n) ∙ sym (and_false (nat_lt f (n + 1))))
+        rw nothing (and-false (nat_lt f n) ∙ sym (and-false (nat_lt f (n + 1))))
     by p f false e = let l : nat_lt f n ≡ nat_lt f (n + 1) = grind (arith, nat_tests) in ap (λ (x : Bool). x && is_at (principal_of (slot_count m.config) (frame_at m f).owner) p) l
 
 principal_low : (n : ℕ) (o : Owner) (q : ℕ) → principal_of n o ≡ Some q → q < n + 1
@@ -63,7 +63,7 @@ one_more m n q pairs after some pushed so_far = rw pushed record {
 
     by : (p f : ℕ) (b : Bool) → eqb n f ≡ b → ((nat_lt f n && is_at (principal_of (slot_count m.config) (frame_at m f).owner) p) || ((eqb q p && b) || false)) ≡ (nat_lt f (n + 1) && is_at (principal_of (slot_count m.config) (frame_at m f).owner) p)
     by p f true e =
-        let same : n ≡ f = same_number n f e in
+        let same : n ≡ f = eqb-true n f e in
         let is : principal_of (slot_count m.config) (frame_at m f).owner ≡ Some q = subst (λ (x : ℕ). principal_of (slot_count m.config) (frame_at m x).owner ≡ Some q) same some in
         let past : nat_lt f n ≡ false = grind (arith, nat_tests) in
         let under : nat_lt f (n + 1) ≡ true = grind (arith, nat_tests) in
@@ -93,7 +93,7 @@ of_slot n (owner.Vm w) v low = at_below n w v ∙ low_too n w v low
 of_free : (n : ℕ) (o : Owner) → is_at (principal_of n o) n ≡ same_owner o owner.Free
 of_free n owner.Core = refl
 of_free n owner.Host = refl
-of_free n owner.Free = equal n
+of_free n owner.Free = eq-eqb n n refl
 of_free n (owner.Vm w) = not_past n (Some w)
 
 -- what is not the core's is there
@@ -104,7 +104,7 @@ asked m lawful o differs f = by (same_owner (frame_at m f).owner o) refl
     by true e =
         let low : f < m.config.frames = rw lawful.frames at (exists m f (λ core. let no : same_owner (frame_at m f).owner o ≡ false = ap (λ x. same_owner x o) core ∙ differs in cc)) in
         let is : nat_lt f m.config.frames ≡ true = grind (arith, nat_tests) in rw is refl
-    by false e = and_false (nat_lt f m.config.frames)
+    by false e = and-false (nat_lt f m.config.frames)
 
 pub all_owned : (m : State) (n : ℕ) (pairs : List (ℕ × ℕ)) → IsLawful m → n ≡ m.config.frames → IsOwnedBelow m n pairs → IsOwned m pairs
 all_owned m n pairs lawful all so_far = record {
@@ -118,14 +118,14 @@ all_owned m n pairs lawful all so_far = record {
 
 same_at : (o : Option ℕ) (p q : ℕ) → is_at o p ≡ true → is_at o q ≡ true → p ≡ q
 same_at None p q h g = cc
-same_at (Some x) p q h g = sym (same_number x p h) ∙ same_number x q g
+same_at (Some x) p q h g = sym (eqb-true x p h) ∙ eqb-true x q g
 
 pub one_owner : (m : State) (n : ℕ) (pairs : List (ℕ × ℕ)) → IsOwnedBelow m n pairs → HasOneOwnerEach pairs
 one_owner m n pairs so_far = record {
   same = λ p q f h g.
       same_at (principal_of (slot_count m.config) (frame_at m f).owner) p q
-      (and_right (nat_lt f n) (is_at (principal_of (slot_count m.config) (frame_at m f).owner) p) (sym (so_far.has p f) ∙ h))
-      (and_right (nat_lt f n) (is_at (principal_of (slot_count m.config) (frame_at m f).owner) q) (sym (so_far.has q f) ∙ g));
+      (and_parts (nat_lt f n) (is_at (principal_of (slot_count m.config) (frame_at m f).owner) p) (sym (so_far.has p f) ∙ h)).1
+      (and_parts (nat_lt f n) (is_at (principal_of (slot_count m.config) (frame_at m f).owner) q) (sym (so_far.has q f) ∙ g)).1;
 }
 
 pub all_exist : (m : State) (n : ℕ) (pairs : List (ℕ × ℕ)) → n ≡ m.config.frames → IsOwnedBelow m n pairs → HaveFramesBelow m.config.frames pairs
