@@ -1,16 +1,17 @@
 -- Sets that take in a number.
-use Rattle.std.proofs.Common.{◌≡◌, ◌≢◌, ℕ, zero, suc, ◌+◌, ◌*◌, ◌<◌, ◌≤◌, ◌^◌, Bool, true, false, cond, ◌&&◌, ◌||◌, List, [], ◌∷◌, ◌++◌, length, get_or, set, replicate, refl, sym, ◌∙◌, ap, subst, arith, length-append}
+use Rattle.std.proofs.Common.{◌≡◌, ◌≢◌, ℕ, zero, suc, ◌+◌, ◌*◌, ◌<◌, ◌≤◌, ◌^◌, Bool, true, false, cond, ◌&&◌, ◌||◌, List, [], ◌∷◌, ◌++◌, length, get_or, set, take, replicate, refl, sym, ◌∙◌, ap, subst, arith, inl, inr, length-append}
 use Rattle.std.specs.Prelude.{eqb}
 use Rattle.std.specs.List.{IsDistinct}
 use Rattle.std.proofs.lemmas.Bool.Decides.{nat_tests}
 use Rattle.std.proofs.lemmas.Cmp.{nat_eq_equiv}
-use Rattle.std.proofs.lemmas.List.{get_or-set_same, get_or-set_other, get_or_append_left}
+use Rattle.std.proofs.lemmas.List.{get_or-set_same, get_or-set_other, take-append-le}
 use Rattle.std.proofs.lemmas.List.Folds.{list_any-append}
 use Rattle.std.proofs.lemmas.Map.Keys.{IsDistinct-push}
 use Rattle.std.proofs.lemmas.Nat.{same_from_place}
 use Rattle.std.proofs.Math.ListN.{length-set, length-replicate}
 use Rattle.std.proofs.Math.Bool.{or-false, or-true}
-use Rattle.std.proofs.lemmas.Bool.{and_from, and_parts, eq-eqb, eqb-true}
+use Rattle.std.proofs.lemmas.Bool.{and_from, and_parts, cases_eq, eq-eqb, eqb-true, ne_eqb}
+use Rattle.kc_model.proofs.States.Slots.{get_or-same}
 use Rattle.kc_footprints.specs.Members.{has_member, with_member, AreFlags, AreSame}
 
 added_by : (xs : List ℕ) (f : ℕ) (b : Bool) → has_member xs f ≡ b → (g : ℕ) → has_member (cond b xs (xs ++ f ∷ [])) g ≡ (has_member xs g || eqb f g)
@@ -27,20 +28,6 @@ added_by xs f false has g = list_any-append (eqb g) xs (f ∷ []) ∙ ap (λ (b 
 pub is_in_added : (xs : List ℕ) (f g : ℕ) → has_member (with_member xs f) g ≡ (has_member xs g || eqb f g)
 is_in_added xs f g = added_by xs f (has_member xs f) refl g
 
-pub length_added : (xs : List ℕ) (f : ℕ) → length xs ≤ length (with_member xs f)
-length_added xs f = by (has_member xs f)
-  where
-    by : (b : Bool) → length xs ≤ length (cond b xs (xs ++ f ∷ []))
-    by true = omega arith
-    by false = omega (arith, length-append xs (f ∷ []))
-
-pub added_front : (xs : List ℕ) (f i : ℕ) → i < length xs → get_or (with_member xs f) i 0 ≡ get_or xs i 0
-added_front xs f i low = by (has_member xs f)
-  where
-    by : (b : Bool) → get_or (cond b xs (xs ++ f ∷ [])) i 0 ≡ get_or xs i 0
-    by true = refl
-    by false = get_or_append_left xs (f ∷ []) 0 i low
-
 pub added_once : (xs : List ℕ) (f : ℕ) → IsDistinct eqb xs → IsDistinct eqb (with_member xs f)
 added_once xs f once = by (has_member xs f) refl
   where
@@ -48,46 +35,48 @@ added_once xs f once = by (has_member xs f) refl
     by true has = once
     by false has = IsDistinct-push nat_eq_equiv xs f once has
 
+-- a list keeps its front
+added_front : (xs : List ℕ) (f n : ℕ) → n ≤ length xs → (n ≤ length (with_member xs f)) × (take n (with_member xs f) ≡ take n xs)
+added_front xs f n low = by (has_member xs f)
+  where
+    by : (b : Bool) → (n ≤ length (cond b xs (xs ++ f ∷ []))) × (take n (cond b xs (xs ++ f ∷ [])) ≡ take n xs)
+    by true = (low, refl)
+    by false = (omega (arith, length-append xs (f ∷ [])), take-append-le n xs (f ∷ []) low)
+
 -- one of several sets
 module _ (p f : ℕ) (a b : List (List ℕ)) (low : p < length a) (sets : b ≡ set a p (with_member (get_or a p []) f)) where
-  other_set : (q : ℕ) → q ≢ p → get_or b q [] ≡ get_or a q []
+  pub other_set : (q : ℕ) → q ≢ p → get_or b q [] ≡ get_or a q []
   other_set q ne = rw sets (get_or-set_other a p q (with_member (get_or a p []) f) [] ne)
 
   this_set : get_or b p [] ≡ with_member (get_or a p []) f
   this_set = rw sets (get_or-set_same a p (with_member (get_or a p []) f) [] low)
 
+  -- what holds of a set that stays, and of the one that takes the number in, holds of each
+  each_set : (P : ℕ → List ℕ → List ℕ → Type 0) → ((q : ℕ) → q ≢ p → P q (get_or a q []) (get_or a q [])) → P p (get_or a p []) (with_member (get_or a p []) f) → (q : ℕ) → P q (get_or a q []) (get_or b q [])
+  each_set P stays new q =
+      elim (cases_eq q p) [
+        | inl same ↦ rw (same, this_set) new
+        | inr differ ↦ rw (other_set q differ) (stays q differ)
+      ]
+
   pub set_has : (q g : ℕ) → has_member (get_or b q []) g ≡ (has_member (get_or a q []) g || (eqb p q && eqb f g))
-  set_has q g = by (eqb p q) refl
-    where
-      by : (e : Bool) → eqb p q ≡ e → has_member (get_or b q []) g ≡ (has_member (get_or a q []) g || (eqb p q && eqb f g))
-      by true e =
-          let is : p ≡ q = eqb-true p q e in
-          rw e (subst (λ (x : ℕ). has_member (get_or b x []) g ≡ (has_member (get_or a x []) g || eqb f g)) is (ap (λ (xs : List ℕ). has_member xs g) this_set ∙ is_in_added (get_or a p []) f g))
-      by false e = rw e (ap (λ (xs : List ℕ). has_member xs g) (other_set q (λ is. let no : eqb p q ≡ true = rw is (eq-eqb p p refl) in cc)) ∙ sym (or-false (has_member (get_or a q []) g)))
+  set_has q g =
+      each_set (λ q xs ys. has_member ys g ≡ (has_member xs g || (eqb p q && eqb f g)))
+      (λ q differ. rw (ne_eqb p q (λ e. differ (sym e))) (sym (or-false (has_member (get_or a q []) g))))
+      (rw (eq-eqb p p refl) (is_in_added (get_or a p []) f g)) q
 
   pub set_once : (q : ℕ) → IsDistinct eqb (get_or a q []) → IsDistinct eqb (get_or b q [])
-  set_once q once = by (eqb p q) refl
-    where
-      by : (e : Bool) → eqb p q ≡ e → IsDistinct eqb (get_or b q [])
-      by true e = let is : q ≡ p = sym (eqb-true p q e) in rw is (rw this_set (added_once (get_or a p []) f (subst (λ (x : ℕ). IsDistinct eqb (get_or a x [])) is once)))
-      by false e = let s : get_or b q [] ≡ get_or a q [] = other_set q (λ is. let no : eqb p q ≡ true = rw is (eq-eqb p p refl) in cc) in rw s once
+  set_once = each_set (λ q xs ys. IsDistinct eqb xs → IsDistinct eqb ys) (λ q differ once. once) (added_once (get_or a p []) f)
+
+  pub set_grown : (q n : ℕ) → n ≤ length (get_or a q []) → (n ≤ length (get_or b q [])) × (take n (get_or b q []) ≡ take n (get_or a q []))
+  set_grown = each_set (λ q xs ys. (n : ℕ) → n ≤ length xs → (n ≤ length ys) × (take n ys ≡ take n xs)) (λ q differ n under. (under, refl)) (added_front (get_or a p []) f)
 
 -- flags
-
-no_flag : (n i : ℕ) → get_or (replicate n false) i false ≡ false
-no_flag zero i = refl
-no_flag (suc n) zero = refl
-no_flag (suc n) (suc i) = no_flag n i
-
-no_set : (n p : ℕ) → get_or {A = List ℕ} (replicate n []) p [] ≡ []
-no_set zero p = refl
-no_set (suc n) zero = refl
-no_set (suc n) (suc p) = no_set n p
 
 pub no_flags : (n k : ℕ) → n < 2 ^ 32 → AreFlags (replicate n []) (replicate k false)
 no_flags n k few = record {
   few = let l = length-replicate {A = List ℕ} n [] in omega arith;
-  has = λ p f low. no_flag k (f * length (replicate n []) + p) ∙ sym (ap (λ (xs : List ℕ). has_member xs f) (no_set n p));
+  has = λ p f low. get_or-same k false (f * length (replicate n []) + p) ∙ sym (ap (λ (xs : List ℕ). has_member xs f) (get_or-same n [] p));
 }
 
 pub same_flags : (flags : List Bool) → AreSame flags flags

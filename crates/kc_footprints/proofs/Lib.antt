@@ -7,8 +7,8 @@ pub mod Joins
 pub mod Kept
 pub mod Listed
 pub mod Listing
+pub mod Near
 pub mod Plans
-pub mod Related
 pub mod Reordered
 pub mod Shapes
 pub mod Starts

@@ -1,20 +1,20 @@
 use Rattle.std.proofs.Common.{◌≡◌, ℕ, zero, suc, ◌+◌, ◌<◌, ◌≤◌, Bool, true, false, cond, ◌&&◌, ◌||◌, List, [], ◌∷◌, ◌++◌, length, get_or, replicate, refl, sym, ◌∙◌, ap, subst, arith, inl, inr, length-append}
+use mathlib.Core.Path.{fun_ext}
 use Rattle.std.specs.Prelude.{eqb, Option, Some, None, IfSome}
 use Rattle.std.proofs.Math.Nat.{eq-or-lt_of_le}
 use Rattle.std.proofs.Math.ListN.{length-replicate}
 use Rattle.std.proofs.lemmas.List.{get_or-append-add, get_or_append_left}
+use Rattle.kc_model.proofs.States.Slots.{get_or-same}
 use Rattle.waves.specs.Planned.{ComesJustAfter}
 use Rattle.std.proofs.lemmas.Bool.{and_parts, eqb-true, or_cases}
-use Rattle.kc_footprints.specs.declared.names.Gain.{Gain}
-use Rattle.kc_footprints.specs.declared.names.Gain.TheVariants.{Nothing, SlotTakesFrame, FreeTakesFrame, FreeTakesReach}
 use Rattle.kc_footprints.specs.declared.names.Names.{Names}
-use Rattle.kc_footprints.specs.Reach.{has_member, is_at, names_principal, names_at, may_have, touches, gains_by, reach_of}
+use Rattle.kc_footprints.specs.Reach.{has_member, is_at, names_principal, names_at, may_have, touches, gains_by}
 use Rattle.kc_footprints.specs.LastWaves.{IsFound, IsNoted}
 use Rattle.kc_footprints.proofs.Tracked.{IsNear, AreTracked}
+use Rattle.kc_footprints.proofs.Near.{near_same, near_cases}
 use Rattle.kc_footprints.proofs.Shapes.{the_shape}
 use Rattle.kc_footprints.proofs.Steps.{just_after, one_more}
 use Rattle.kc_footprints.specs.Planner.{Reached, Stamps, members_of, is_near, IsExact, IsStart, IsHigh, IsWritten, AreGained, IsInRange, has_pair}
-use Rattle.kc_footprints.proofs.Starts.{replicas}
 
 -- the waves of the first calls are planned, whatever those of the later ones are, and h and s are what the planner keeps then
 pub record IsGoing (frames free : ℕ) (start : ℕ → ℕ → Bool) (cs : List Names) (waves : List ℕ) (h : Reached) (s : Stamps) : Type 0 where
@@ -22,7 +22,7 @@ pub record IsGoing (frames free : ℕ) (start : ℕ → ℕ → Bool) (cs : List
   pub tracked : (wave : ℕ → ℕ) → ((j : ℕ) → j < length waves → wave j ≡ get_or waves j 0)
       → AreTracked (λ k f. is_at (names_at cs k).frame f) (λ k p. names_principal free (names_at cs k) p) (may_have free start cs) (touches free start cs) wave
       (free + 1) (length waves) (λ f. get_or s.frame_waves f 0) (λ p. get_or s.principal_waves p 0) (λ p. get_or s.reach_waves p 0)
-  pub sets : (p f : ℕ) → p < free + 1 → has_member (members_of h p) f ≡ may_have free start cs (length waves) p f
+  pub sets : (p f : ℕ) → has_member (members_of h p) f ≡ may_have free start cs (length waves) p f
   pub exact : IsExact (free + 1) free h
   pub frame_low : (f : ℕ) → get_or s.frame_waves f 0 ≤ length waves
   pub principal_low : (p : ℕ) → get_or s.principal_waves p 0 ≤ length waves
@@ -40,12 +40,6 @@ in_range_all frames free [] range k = record { frame = tt; slot = tt }
 in_range_all frames free (c ∷ cs) range zero = range 0 (omega arith)
 in_range_all frames free (c ∷ cs) range (suc k) = in_range_all frames free cs (λ j low. range (suc j) (omega arith)) k
 
-gains_same : (free : ℕ) (r t : ℕ → ℕ → Bool) (n : Names) (g : Gain) (p f : ℕ) → reach_of r n.slot f ≡ reach_of t n.slot f → gains_by free r n g p f ≡ gains_by free t n g p f
-gains_same free r t n Nothing p f e = refl
-gains_same free r t n SlotTakesFrame p f e = refl
-gains_same free r t n FreeTakesFrame p f e = refl
-gains_same free r t n FreeTakesReach p f e = rw e refl
-
 -- the start
 pub going_start : (frames free : ℕ) (pairs : List (ℕ × ℕ)) (cs : List Names) (h : Reached) (s : Stamps) → IsStart (free + 1) free pairs h
     → s.frame_waves ≡ replicate frames 0 → s.principal_waves ≡ replicate (free + 1) 0 → s.reach_waves ≡ replicate (free + 1) 0 → IsGoing frames free (has_pair pairs) cs [] h s
@@ -53,17 +47,17 @@ going_start frames free pairs cs h s started frame_waves principal_waves reach_w
   planned = λ wave agrees k low. absurd (omega arith);
   tracked = λ wave agrees. record {
     frame_bound = λ j f low. absurd (omega arith);
-    frame_got = λ f. inl (rw frame_waves (replicas frames f 0));
+    frame_got = λ f. inl (rw frame_waves (get_or-same frames 0 f));
     principal_bound = λ j p low. absurd (omega arith);
-    principal_got = λ p. inl (rw principal_waves (replicas (free + 1) p 0));
+    principal_got = λ p. inl (rw principal_waves (get_or-same (free + 1) 0 p));
     reach_bound = λ j p r below low. absurd (omega arith);
-    reach_got = λ p low. inl (rw reach_waves (replicas (free + 1) p 0));
+    reach_got = λ p low. inl (rw reach_waves (get_or-same (free + 1) 0 p));
   };
   sets = started.sets;
   exact = started.exact;
-  frame_low = λ f. let e : get_or s.frame_waves f 0 ≡ 0 = rw frame_waves (replicas frames f 0) in omega arith;
-  principal_low = λ p. let e : get_or s.principal_waves p 0 ≡ 0 = rw principal_waves (replicas (free + 1) p 0) in omega arith;
-  reach_low = λ p low. let e : get_or s.reach_waves p 0 ≡ 0 = rw reach_waves (replicas (free + 1) p 0) in omega arith;
+  frame_low = λ f. let e : get_or s.frame_waves f 0 ≡ 0 = rw frame_waves (get_or-same frames 0 f) in omega arith;
+  principal_low = λ p. let e : get_or s.principal_waves p 0 ≡ 0 = rw principal_waves (get_or-same (free + 1) 0 p) in omega arith;
+  reach_low = λ p low. let e : get_or s.reach_waves p 0 ≡ 0 = rw reach_waves (get_or-same (free + 1) 0 p) in omega arith;
   frame_len = rw frame_waves (length-replicate frames 0);
   principal_len = rw principal_waves (length-replicate (free + 1) 0);
   reach_len = rw reach_waves (length-replicate (free + 1) 0);
@@ -81,68 +75,20 @@ module _ (frames free : ℕ) (start : ℕ → ℕ → Bool) (cs : List Names) (r
         | inr at ↦ (let e : free ≡ p = eqb-true free p (and_parts (names_at cs k).free (eqb free p) at).1 in omega arith)
       ]
 
-  module _ (k : ℕ) (h : Reached) (sets : (p f : ℕ) → p < free + 1 → has_member (members_of h p) f ≡ may_have free start cs k p f) where
-    forth : (p f : ℕ) → p < free + 1 → has_member (members_of h p) f ≡ true → may_have free start cs k p f ≡ true
-    forth p f low has = sym (sets p f low) ∙ has
-
-    back : (p f : ℕ) → p < free + 1 → may_have free start cs k p f ≡ true → has_member (members_of h p) f ≡ true
-    back p f low has = sets p f low ∙ has
-
+  module _ (k : ℕ) (h : Reached) (sets : (p f : ℕ) → has_member (members_of h p) f ≡ may_have free start cs k p f) where
     near_at : IsExact (free + 1) free h → IsNear (λ j f. is_at (names_at cs j).frame f) (λ j p. names_principal free (names_at cs j) p) (may_have free start cs) (touches free start cs) (free + 1) k (is_near h)
     near_at exact = record {
-      shared_or_same = λ p q bp bq n.
-          elim (exact.shared_or_same p q bp bq n) [
+      shared_or_same = λ p q bp bq near.
+          elim (near_cases h p q near) [
             | inl same ↦ inl same
-            | inr it ↦ inr (it.0, forth p it.0 bp it.1, forth q it.0 bq it.2)
+            | inr is ↦ (let it = exact.related p q is in inr (it.0, sym (sets p it.0) ∙ it.1, sym (sets q it.0) ∙ it.2))
           ];
-      itself = exact.itself;
-      shared = λ p q f bp bq hp hq. exact.shared p q f bp bq (back p f bp hp) (back q f bq hq);
+      itself = λ p low. near_same h p p refl;
+      shared = λ p q f bp bq hp hq. exact.shared p q f bp bq (sets p f ∙ hp) (sets q f ∙ hq);
     }
 
-    found_at : (s : Stamps) (high : ℕ) → IsHigh (free + 1) free (names_at cs k) h s high
-        → IsFound (λ j f. is_at (names_at cs j).frame f) (λ j p. names_principal free (names_at cs j) p) (may_have free start cs) (free + 1) k high
-        (λ f. get_or s.frame_waves f 0) (λ p. get_or s.principal_waves p 0) (λ p. get_or s.reach_waves p 0)
-    found_at s high found = record {
-      named = found.named;
-      had = λ f p is low has. found.had f p is low (back p f low has);
-      whole = found.whole;
-      got =
-          elim found.got [
-            | inl none ↦ inl none
-            | inr some ↦
-                inr (elim some [
-                  | inl frame_waves ↦ inl frame_waves
-                  | inr more ↦
-                      inr (elim more [
-                        | inl principal_waves ↦ inl (principal_waves.0, principal_waves.1, principal_waves.2, principal_waves.3, forth principal_waves.1 principal_waves.0 principal_waves.3 principal_waves.4, principal_waves.5)
-                        | inr reach_waves ↦ inr reach_waves
-                      ])
-                ])
-          ];
-    }
-
-    noted_at : (s t : Stamps) (w : ℕ) → IsWritten (free + 1) free (names_at cs k) w h s t
-        → IsNoted (λ j f. is_at (names_at cs j).frame f) (λ j p. names_principal free (names_at cs j) p) (may_have free start cs) (free + 1) k w (is_near h)
-        (λ f. get_or s.frame_waves f 0) (λ p. get_or s.principal_waves p 0) (λ p. get_or s.reach_waves p 0) (λ f. get_or t.frame_waves f 0) (λ p. get_or t.principal_waves p 0) (λ p. get_or t.reach_waves p 0)
-    noted_at s t w noted = record {
-      frame_is = noted.frame_is;
-      principal_is = noted.principal_is;
-      reach_more = noted.reach_more;
-      reach_named = λ p f low is has. noted.reach_named p f low is (back p f low has);
-      reach_near = noted.reach_near;
-      reach_is = λ p low.
-          elim (noted.reach_is p low) [
-            | inl same ↦ inl same
-            | inr new ↦
-                inr (
-                  new.0,
-                  (elim new.1 [
-                    | inl it ↦ inl (it.0, it.1, forth p it.0 low it.2)
-                    | inr it ↦ inr it
-                  ]),
-                )
-          ];
-    }
+    pub is_reach : ◌≡◌ {A = ℕ → ℕ → Bool} (λ p f. has_member (members_of h p) f) (may_have free start cs k)
+    is_reach = fun_ext (λ p. fun_ext (λ f. sets p f))
 
   cond_low : (b : Bool) (w x n : ℕ) → w ≤ n → x ≤ n → cond b w x ≤ n
   cond_low true w x n a c = a
@@ -182,7 +128,7 @@ module _ (frames free : ℕ) (start : ℕ → ℕ → Bool) (cs : List Names) (r
         wave (free + 1) (length waves) (suc high) (is_near h) (λ f. get_or s.frame_waves f 0) (λ p. get_or s.principal_waves p 0) (λ p. get_or s.reach_waves p 0)
         (λ f. get_or t.frame_waves f 0) (λ p. get_or t.principal_waves p 0) (λ p. get_or t.reach_waves p 0) named_below
         (going.tracked wave (earlier wave agrees)) (near_at (length waves) h going.sets going.exact) noted (just_at wave agrees) (last_is wave agrees));
-    sets = λ p f low. rw len (sets_by p f low);
+    sets = λ p f. rw len (sets_by p f);
     exact = gained_n.exact;
     frame_low = λ f. rw len (rw (written_n.frame_is f) (cond_low _ (suc high) (get_or s.frame_waves f 0) (suc (length waves)) w_low (let l = going.frame_low f in omega arith)));
     principal_low = λ p. rw len (rw (written_n.principal_is p) (cond_low _ (suc high) (get_or s.principal_waves p 0) (suc (length waves)) w_low (let l = going.principal_low p in omega arith)));
@@ -203,13 +149,20 @@ module _ (frames free : ℕ) (start : ℕ → ℕ → Bool) (cs : List Names) (r
       w_low : suc high ≤ suc (length waves)
       w_low = let l = high_low waves h s n (length waves) high is going found_n in omega arith
 
-      found : IsFound (λ j f. is_at (names_at cs j).frame f) (λ j p. names_principal free (names_at cs j) p) (may_have free start cs) (free + 1) (length waves) high
-          (λ f. get_or s.frame_waves f 0) (λ p. get_or s.principal_waves p 0) (λ p. get_or s.reach_waves p 0)
-      found = found_at (length waves) h going.sets s high (subst (λ (x : Names). IsHigh (free + 1) free x h s high) is found_n)
+      -- what the sets say is what the definitions say
+      same_reach : ◌≡◌ {A = ℕ → ℕ → Bool} (λ p f. has_member (members_of h p) f) (may_have free start cs (length waves))
+      same_reach = is_reach (length waves) h going.sets
 
-      noted : IsNoted (λ j f. is_at (names_at cs j).frame f) (λ j p. names_principal free (names_at cs j) p) (may_have free start cs) (free + 1) (length waves) (suc high) (is_near h)
+      found : IsFound (λ f. is_at (names_at cs (length waves)).frame f) (λ p. names_principal free (names_at cs (length waves)) p) (may_have free start cs (length waves)) (free + 1) high
+          (λ f. get_or s.frame_waves f 0) (λ p. get_or s.principal_waves p 0) (λ p. get_or s.reach_waves p 0)
+      found = subst (λ (r : ℕ → ℕ → Bool). IsFound (λ f. is_at (names_at cs (length waves)).frame f) (λ p. names_principal free (names_at cs (length waves)) p) r (free + 1) high
+          (λ f. get_or s.frame_waves f 0) (λ p. get_or s.principal_waves p 0) (λ p. get_or s.reach_waves p 0)) same_reach (subst (λ (x : Names). IsHigh (free + 1) free x h s high) is found_n)
+
+      noted : IsNoted (λ f. is_at (names_at cs (length waves)).frame f) (λ p. names_principal free (names_at cs (length waves)) p) (may_have free start cs (length waves)) (free + 1) (suc high) (is_near h)
           (λ f. get_or s.frame_waves f 0) (λ p. get_or s.principal_waves p 0) (λ p. get_or s.reach_waves p 0) (λ f. get_or t.frame_waves f 0) (λ p. get_or t.principal_waves p 0) (λ p. get_or t.reach_waves p 0)
-      noted = noted_at (length waves) h going.sets s t (suc high) (subst (λ (x : Names). IsWritten (free + 1) free x (suc high) h s t) is written_n)
+      noted = subst (λ (r : ℕ → ℕ → Bool). IsNoted (λ f. is_at (names_at cs (length waves)).frame f) (λ p. names_principal free (names_at cs (length waves)) p) r (free + 1) (suc high) (is_near h)
+          (λ f. get_or s.frame_waves f 0) (λ p. get_or s.principal_waves p 0) (λ p. get_or s.reach_waves p 0) (λ f. get_or t.frame_waves f 0) (λ p. get_or t.principal_waves p 0) (λ p. get_or t.reach_waves p 0)) same_reach
+          (subst (λ (x : Names). IsWritten (free + 1) free x (suc high) h s t) is written_n)
 
       earlier : (wave : ℕ → ℕ) → ((j : ℕ) → j < length (waves ++ suc high ∷ []) → wave j ≡ get_or (waves ++ suc high ∷ []) j 0) → (j : ℕ) → j < length waves → wave j ≡ get_or waves j 0
       earlier wave agrees j low = agrees j (rw len (omega arith)) ∙ get_or_append_left waves (suc high ∷ []) 0 j low
@@ -226,13 +179,5 @@ module _ (frames free : ℕ) (start : ℕ → ℕ → Bool) (cs : List Names) (r
       gained : AreGained (free + 1) free (names_at cs (length waves)) h g
       gained = subst (λ (x : Names). AreGained (free + 1) free x h g) is gained_n
 
-      same_reach : (o : Option ℕ) (f : ℕ) → IfSome o (λ v. v < free) → reach_of (λ q x. has_member (members_of h q) x) o f ≡ reach_of (may_have free start cs (length waves)) o f
-      same_reach None f low = refl
-      same_reach (Some v) f low = going.sets v f (omega arith)
-
-      sets_by : (p f : ℕ) → p < free + 1 → has_member (members_of g p) f ≡ may_have free start cs (suc (length waves)) p f
-      sets_by p f low =
-          gained.sets p f low ∙ rw (going.sets p f low)
-          (ap (λ (x : Bool). may_have free start cs (length waves) p f || x)
-          (gains_same free (λ q x. has_member (members_of h q) x) (may_have free start cs (length waves)) (names_at cs (length waves)) (names_at cs (length waves)).gain p f
-          (same_reach (names_at cs (length waves)).slot f (range (length waves)).slot)))
+      sets_by : (p f : ℕ) → has_member (members_of g p) f ≡ may_have free start cs (suc (length waves)) p f
+      sets_by p f = gained.sets p f ∙ ap (λ (r : ℕ → ℕ → Bool). r p f || gains_by free r (names_at cs (length waves)) (names_at cs (length waves)).gain p f) same_reach

@@ -17,7 +17,7 @@ module _ (names_frame names_principal : ℕ → ℕ → Bool) (reach : ℕ → �
   had_later j k p f low h = let e : k ≡ (k - j) + j = omega arith in rw e (later (k - j) j p f h)
 
   module _ (wave : ℕ → ℕ) (size k high : ℕ) (frame_waves principal_waves reach_waves : ℕ → ℕ) (named_below : (j p : ℕ) → names_principal j p ≡ true → p < size)
-      (tracked : AreTracked names_frame names_principal reach touches wave size k frame_waves principal_waves reach_waves) (found : IsFound names_frame names_principal reach size k high frame_waves principal_waves reach_waves) where
+      (tracked : AreTracked names_frame names_principal reach touches wave size k frame_waves principal_waves reach_waves) (found : IsFound (names_frame k) (names_principal k) (reach k) size high frame_waves principal_waves reach_waves) where
     below_by_name : (j f : ℕ) → j < k → touches j (Frame f) ≡ true → names_frame k f ≡ true
         → (names_frame j f ≡ true) ⊎ ((p : ℕ) × (names_principal j p ≡ true) × (reach j p f ≡ true)) → wave j ≤ high
     below_by_name j f low tj nk (inl named) = let a = tracked.frame_bound j f low named in let b = found.named f nk in omega arith
@@ -76,7 +76,7 @@ module _ (names_frame names_principal : ℕ → ℕ → Bool) (reach : ℕ → �
 
   module _ (wave : ℕ → ℕ) (size k w : ℕ) (near : ℕ → ℕ → Bool) (frame_waves principal_waves reach_waves frame_after principal_after reach_after : ℕ → ℕ) (named_below : (j p : ℕ) → names_principal j p ≡ true → p < size)
       (tracked : AreTracked names_frame names_principal reach touches wave size k frame_waves principal_waves reach_waves) (is_near : IsNear names_frame names_principal reach touches size k near)
-      (noted : IsNoted names_frame names_principal reach size k w near frame_waves principal_waves reach_waves frame_after principal_after reach_after)
+      (noted : IsNoted (names_frame k) (names_principal k) (reach k) size w near frame_waves principal_waves reach_waves frame_after principal_after reach_after)
       (planned : ComesJustAfter touches wave k) (is : wave k ≡ w) where
     own_bound_by : (j f : ℕ) → j < suc k → names_frame j f ≡ true → (b : Bool) → names_frame k f ≡ b → wave j ≤ frame_after f
     own_bound_by j f low nj b nk =

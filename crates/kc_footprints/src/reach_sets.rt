@@ -45,7 +45,8 @@ impl ReachSets {
 
     /// The number of principals.
     pub(crate) fn len(&self) -> usize
-        ensures { result ≡ length self.now }
+        ensures value { result ≡ length self.now }
+        ensures few { result < 2 ^ 32 }
     {
         self.sets.len()
     }
@@ -73,6 +74,9 @@ impl ReachSets {
         ensures ok { OnOk result (self.new ≡ set self.old principal (with_member (get_or self.old principal []) number)) }
         ensures err { OnErr result (self.new ≡ self.old) }
     {
+        if self.contains(principal, number) {
+            return Ok(());
+        }
         let place = number as usize * self.sets.len() + principal;
         make_room(&mut self.flags, place)?;
         self.sets[principal].add(number)?;

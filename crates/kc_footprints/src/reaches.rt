@@ -1,8 +1,8 @@
 //! What each slot and the free list may have, and which of them may have a frame in common.
-ghost use Rattle.std.specs.Prelude.{◌≡◌, ℕ, ◌<◌, ◌^◌, ◌||◌, ◌&&◌, Bool, false, true, length, get_or, set, replicate, List, IfOk, OnOk, [], IfSome, eqb};
+ghost use Rattle.std.specs.Prelude.{◌≡◌, ℕ, ◌<◌, ◌^◌, ◌&&◌, true, length, IfOk, OnOk, IfSome, eqb};
 ghost use Rattle.kc_footprints.specs.Reach.{has_member, is_at, reach_of};
 ghost use Rattle.kc_footprints.specs.Rows.{span_of, row_of};
-ghost use Rattle.kc_footprints.specs.Planner.{is_hit, members_of, IsExact, IsJoined, AreGained, IsStart, AreUnrelated, AreBelow, HasOneOwnerEach, IsRelated, AreFreed, IsWider};
+ghost use Rattle.kc_footprints.specs.Planner.{is_near, is_hit, members_of, IsExact, IsJoined, AreGained, IsStart, AreBelow, HasOneOwnerEach, IsRelated, IsWider};
 
 use crate::names::{Gain, Names};
 use crate::reach_set::ReachSet;
@@ -11,49 +11,11 @@ use crate::rows::{Row, Span};
 use std::alloc::{AllocError, Global};
 use std::marker::Model;
 
-/// Flags by number.
-#[derive(Drop)]
-pub(crate) struct Flags {
-    flags: Vec<bool>,
-}
-
-impl Model for Flags {
-    ghost use Rattle.std.specs.Prelude.{Bool, List};
-
-    ghost Value = { List Bool };
-
-    ghost view = { λ f. f.flags.items };
-}
-
-impl Flags {
-    pub(crate) fn new(alloc: Global, count: usize) -> Result<Flags, AllocError>
-        ensures { IfOk result (λ f. f ≡ replicate count false) }
-    {
-        Ok(Flags {
-            flags: vec![in alloc; false; count]?,
-        })
-    }
-
-    pub(crate) fn get(&self, number: usize) -> bool
-        requires { number < length self.now }
-        ensures { result ≡ get_or self.now number false }
-    {
-        self.flags[number]
-    }
-
-    pub(crate) fn raise(&mut self, number: usize)
-        requires { number < length self.old }
-        ensures { self.new ≡ set self.old number true }
-    {
-        self.flags[number] = true;
-    }
-}
-
 /// What each principal may have, which principals may have a frame in common, and how much of each slot's frames the free list may have.
 #[derive(Drop)]
 pub(crate) struct Reaches {
     sets: ReachSets,
-    near: Vec<Flags>,
+    near: ReachSets,
     freed: Vec<usize>,
 }
 
@@ -62,7 +24,7 @@ impl Model for Reaches {
 
     ghost Value = { Reached };
 
-    ghost view = { λ r. record { sets = r.sets; near = r.near.items; freed = r.freed.items } };
+    ghost view = { λ r. record { sets = r.sets; near = r.near; freed = r.freed.items } };
 }
 
 impl Reaches {
@@ -74,13 +36,20 @@ impl Reaches {
         self.sets.contains(principal, frame)
     }
 
+    /// Whether two principals are one, or may have a frame in common.
+    #[tactic(auto, unfolding(crate::specs::Planner::is_near))]
+    fn is_near(&self, principal: usize, other: u32) -> bool
+        requires { principal < length self.now.near }
+        ensures { result ≡ is_near self.now principal other }
+    {
+        principal == other as usize || self.near.contains(principal, other)
+    }
+
     /// Whether a call touches a principal or what it may have.
     pub(crate) fn is_touched(&self, free: usize, names: &Names, principal: usize) -> bool
         requires sets { principal < length self.now.sets }
         requires near { principal < length self.now.near }
-        requires row { length (get_or self.now.near principal []) ≡ length self.now.near }
-        requires slot { IfSome names.now.slot (λ v. v < length self.now.near) }
-        requires free { free < length self.now.near }
+        requires few { free < 2 ^ 32 }
         ensures { result ≡ is_hit free names.now self.now principal }
     {
         let by_frame = match names.frame {
@@ -88,10 +57,10 @@ impl Reaches {
             None => false,
         };
         let by_slot = match names.slot {
-            Some(slot) => self.near[principal].get(slot as usize),
+            Some(slot) => self.is_near(principal, slot),
             None => false,
         };
-        let by_free = names.free && self.near[principal].get(free);
+        let by_free = names.free && self.is_near(principal, free as u32);
         by_frame || by_slot || by_free
     }
 
@@ -135,19 +104,20 @@ impl Reaches {
         }
     }
 
-    /// Raises the relation of a principal to each that may have the frame, both ways.
-    pub(crate) fn relate(&mut self, principal: usize, frame: u32)
+    /// Relates a principal that may have the frame to each that may have it too, both ways.
+    fn relate(&mut self, principal: usize, frame: u32) -> Result<(), AllocError>
         requires sets { principal < length self.old.sets }
         requires near { length self.old.near ≡ length self.old.sets }
-        requires rows { (p : ℕ) → p < length self.old.near → length (get_or self.old.near p []) ≡ length self.old.near }
-        ensures { IsRelated (length self.old.sets) principal frame self.old self.new }
+        requires has { has_member (members_of self.old principal) frame ≡ true }
+        ensures { OnOk result (IsRelated (length self.old.sets) principal frame self.old self.new) }
     {
         for other in 0..self.sets.len() {
             if self.sets.contains(other, frame) {
-                self.near[principal].raise(other);
-                self.near[other].raise(principal);
+                self.near.add(principal, other as u32)?;
+                self.near.add(other, principal as u32)?;
             }
         }
+        Ok(())
     }
 
     /// Lets a principal have a frame.
@@ -163,7 +133,7 @@ impl Reaches {
         ensures { OnOk result (IsJoined (length self.old.sets) free principal frame self.old self.new) }
     {
         self.sets.add(principal, frame)?;
-        self.relate(principal, frame);
+        self.relate(principal, frame)?;
         Ok(())
     }
 
@@ -172,7 +142,8 @@ impl Reaches {
         requires slot { slot < free }
         requires free { free < length self.old.sets }
         requires exact { IsExact (length self.old.sets) free self.old }
-        ensures { OnOk result (AreFreed (length self.old.sets) free slot self.old self.new) }
+        ensures { let gained = λ (p f : ℕ). eqb free p && has_member (members_of self.old slot) f in
+            OnOk result (IsWider (length self.old.sets) free gained self.old self.new) }
     {
         let count = self.sets.of(slot).len();
         for place in self.freed[slot]..count {
@@ -256,19 +227,6 @@ impl Reaches {
     }
 }
 
-/// Flags for each principal that say that it is near itself alone.
-fn apart(alloc: Global, principals: usize) -> Result<Vec<Flags>, AllocError>
-    ensures { IfOk result (λ near. AreUnrelated principals near.items) }
-{
-    let mut near = Vec::with_capacity(alloc, principals)?;
-    for principal in 0..principals {
-        let mut row = Flags::new(alloc, principals)?;
-        row.raise(principal);
-        near.push(row)?;
-    }
-    Ok(near)
-}
-
 /// What the principals may have at the start, with room for this many frames. No frame is owned by two.
 pub(crate) fn start(
     alloc: Global,
@@ -289,7 +247,7 @@ pub(crate) fn start(
     }
     Ok(Reaches {
         sets,
-        near: apart(alloc, principals)?,
+        near: ReachSets::new(alloc, principals, principals)?,
         freed: vec![in alloc; 0usize; principals]?,
     })
 }

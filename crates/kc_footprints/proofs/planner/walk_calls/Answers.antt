@@ -43,7 +43,7 @@ loop-names-preserved c =
       rows = rows_more c.args.free (has_pair c.args.pairs.now) c.args.calls.now c.loop-names.reaches c.gain.new.self c.loop-names.rows.items c.push-in-loop-names.new.self.items n
           (ap (names_at c.args.calls.now) (sym c.loop-names.invariant.count)) (in_range_all c.args.frames c.args.free c.args.calls.now c.requires.range c.loop-names.names-index).slot
           (λ p f low. let same : length waves ≡ length c.loop-names.rows.items = len ∙ sym c.loop-names.invariant.count in
-          subst (λ (x : ℕ). has_member (members_of c.loop-names.reaches p) f ≡ may_have c.args.free (has_pair c.args.pairs.now) c.args.calls.now x p f) same (going.sets p f low))
+          subst (λ (x : ℕ). has_member (members_of c.loop-names.reaches p) f ≡ may_have c.args.free (has_pair c.args.pairs.now) c.args.calls.now x p f) same (going.sets p f))
           going.exact.sets_len gained.exact.sets_len gained.grown
           (rw c.row-row.ensures at c.in_ok-push-2.ensures.items) c.loop-names.invariant.rows;
       count = rw c.in_ok-push-2.ensures.items (length-append c.loop-names.rows.items (c.row-row.result ∷ []) ∙ (let e : length c.loop-names.rows.items ≡ c.loop-names.names-index = c.loop-names.invariant.count in omega arith));
@@ -61,4 +61,4 @@ returns-clause-sets c = λ p f low.
     let len : length c.loop-names.waves.items ≡ c.loop-names.names-index = c.loop-names.invariant.len in
     let principal_waves : length c.loop-names.waves.items ≡ length c.args.calls.now = omega arith in
     rw c.into_sets.ensures
-    (subst (λ (x : ℕ). has_member (members_of c.loop-names.reaches p) f ≡ may_have c.args.free (has_pair c.args.pairs.now) c.args.calls.now x p f) principal_waves (c.loop-names.invariant.going.sets p f low))
+    (subst (λ (x : ℕ). has_member (members_of c.loop-names.reaches p) f ≡ may_have c.args.free (has_pair c.args.pairs.now) c.args.calls.now x p f) principal_waves (c.loop-names.invariant.going.sets p f))

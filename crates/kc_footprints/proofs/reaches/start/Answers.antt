@@ -16,5 +16,4 @@ pub returns : goal.returns
 returns c =
     let all : take c.loop-principal.principal-index c.args.pairs.now ≡ c.args.pairs.now = take_all c.loop-principal.principal-index c.args.pairs.now (omega arith) in
     let owned : AreOwned c.args.principals c.args.pairs.now c.loop-principal.sets = rw all at c.loop-principal.invariant in
-    let is : c.sets-2.inside.sets.items ≡ c.loop-principal.sets = c.sets-2.view_is in
-    start_of c.args.principals c.args.free c.args.pairs.now _ c.requires.free c.requires.one (rw is owned) c.in_ok-apart.ensures (search rules)
+    start_of c.args.principals c.args.free c.args.pairs.now _ c.requires.few c.requires.one (rw c.sets-2.view_is owned) (search rules) (search rules)

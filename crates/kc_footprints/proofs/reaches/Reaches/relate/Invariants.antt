@@ -3,4 +3,4 @@ use Rattle.kc_footprints.proofs.reaches.Reaches.relate.Given as goal
 
 abbrev pub invariant-loop-other : goal.invariant-loop-other
 invariant-loop-other l =
-    IsRelated l.other l.principal l.frame l.fn.self (record { sets = l.self-inside.sets; near = l.self-inside.near.items; freed = l.self-inside.freed.items })
+    IsRelated l.other l.principal l.frame l.fn.self (record { sets = l.self-inside.sets; near = l.self-inside.near; freed = l.self-inside.freed.items })
