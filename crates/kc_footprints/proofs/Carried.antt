@@ -4,10 +4,10 @@ use Rattle.std.specs.Prelude.{eqb, Option, Some, None, if◌then◌else◌}
 use Rattle.std.proofs.lemmas.Bool.{ltb-true, and_parts, eq-eqb, eqb-true}
 use Rattle.std.proofs.lemmas.Bool.Decides.{nat_tests}
 use Rattle.waves.specs.Planned.{ComesJustAfter}
-use Rattle.std.proofs.Math.Bool.{and-false}
+use Rattle.std.proofs.Math.Bool.{and-false, and-true, or-false, or_assoc}
 use Rattle.kc_types.specs.Configuration.{Configuration, slot_count}
 use Rattle.kc_types.specs.declared.call.Call.{Call}
-use Rattle.kc_types.specs.declared.call.Call.TheVariants.{Take, Give, HostFault, HostRead, HostWrite, RegisterVm, RegisterVcpu, SetBoot, Remap, Verify, Map, GuestRead, GuestWrite, Grant, Revoke, GrantRange, RevokeRange, Drop, Clear}
+use Rattle.kc_types.specs.declared.call.Call.TheVariants.{Give, HostFault, HostRead, HostWrite, Remap, Map, Drop, Clear}
 use Rattle.kc_types.specs.declared.owner.Owner.{Owner}
 use Rattle.kc_types.specs.declared.owner.Owner.TheVariants as owner
 use Rattle.kc_types.specs.declared.resource.Resource.TheVariants as resource
@@ -42,38 +42,19 @@ at_below n x y = by (nat_lt x n)
     by false = refl
 
 swapped : (n x y : ℕ) → (nat_lt x n && eqb x y) ≡ (eqb x y && nat_lt y n)
-swapped n x y = by (eqb x y) refl
-  where
-    by : (b : Bool) → eqb x y ≡ b → (nat_lt x n && b) ≡ (b && nat_lt y n)
-    by true e = let same : x ≡ y = eqb-true x y e in subst (λ (z : ℕ). (nat_lt x n && true) ≡ nat_lt z n) same (true_and (nat_lt x n))
-      where
-        true_and : (b : Bool) → (b && true) ≡ b
-        true_and true = refl
-        true_and false = refl
-    by false e = and-false (nat_lt x n)
+swapped n x y = grind (arith, nat_tests)
 
 -- where the second is below, the first needs no asking
 pub low_too : (n x y : ℕ) → y < n → (nat_lt x n && eqb x y) ≡ eqb x y
-low_too n x y low = swapped n x y ∙ by (eqb x y)
-  where
-    is_low : nat_lt y n ≡ true
-    is_low = grind (arith, nat_tests)
-
-    by : (b : Bool) → (b && nat_lt y n) ≡ b
-    by true = is_low
-    by false = refl
+low_too n x y low = grind (arith, nat_tests)
 
 -- nothing below n is n
 pub not_past : (n : ℕ) (o : Option ℕ) → is_at (below n o) n ≡ false
 not_past n None = refl
-not_past n (Some x) = at_below n x n ∙ (swapped n x n ∙ by (eqb x n))
+not_past n (Some x) = at_below n x n ∙ at_end n x
   where
-    is_past : nat_lt n n ≡ false
-    is_past = grind (arith, nat_tests)
-
-    by : (b : Bool) → (b && nat_lt n n) ≡ false
-    by true = is_past
-    by false = refl
+    at_end : (n x : ℕ) → (nat_lt x n && eqb x n) ≡ false
+    at_end n x = grind (arith, nat_tests)
 
 named_is : (n : ℕ) (call : Call) (f : ℕ) → is_at (below n (named_frame call)) f ≡ (names_frame call f && nat_lt f n)
 named_is n (Give g) f = at_below n g f ∙ swapped n g f
@@ -82,19 +63,7 @@ named_is n (HostRead g off len) f = at_below n g f ∙ swapped n g f
 named_is n (HostWrite g off bytes) f = at_below n g f ∙ swapped n g f
 named_is n (Remap v i g) f = at_below n g f ∙ swapped n g f
 named_is n (Map v c g) f = at_below n g f ∙ swapped n g f
-named_is n Take f = refl
-named_is n (RegisterVm v) f = refl
-named_is n (RegisterVcpu v c) f = refl
-named_is n (SetBoot v base len) f = refl
-named_is n (Verify v) f = refl
-named_is n (GuestRead v c g off len) f = refl
-named_is n (GuestWrite v c g off bytes) f = refl
-named_is n (Grant v c g) f = refl
-named_is n (Revoke v c g) f = refl
-named_is n (GrantRange v c g k) f = refl
-named_is n (RevokeRange v c g k) f = refl
-named_is n (Drop v c g) f = refl
-named_is n (Clear v) f = refl
+named_is n call f = refl
 
 module _ (config : Configuration) (held : Owner → ℕ → Bool) (r : ℕ → ℕ → Bool)
     (same_slot : (v f : ℕ) → v < slot_count config → r v f ≡ held (owner.Vm v) f) (same_free : (f : ℕ) → r (slot_count config) f ≡ held owner.Free f) where
@@ -121,20 +90,7 @@ module _ (config : Configuration) (held : Owner → ℕ → Bool) (r : ℕ → �
   gains_slot (Map v c g) w f low = both_named v g w f low
   gains_slot (Drop v c g) w f low = not_free w (reach_of r (below (slot_count config) (Some v)) f) low
   gains_slot (Clear v) w f low = not_free w (reach_of r (below (slot_count config) (Some v)) f) low
-  gains_slot Take w f low = refl
-  gains_slot (HostFault g) w f low = refl
-  gains_slot (HostRead g off len) w f low = refl
-  gains_slot (HostWrite g off bytes) w f low = refl
-  gains_slot (RegisterVm v) w f low = refl
-  gains_slot (RegisterVcpu v c) w f low = refl
-  gains_slot (SetBoot v base len) w f low = refl
-  gains_slot (Verify v) w f low = refl
-  gains_slot (GuestRead v c g off len) w f low = refl
-  gains_slot (GuestWrite v c g off bytes) w f low = refl
-  gains_slot (Grant v c g) w f low = refl
-  gains_slot (Revoke v c g) w f low = refl
-  gains_slot (GrantRange v c g k) w f low = refl
-  gains_slot (RevokeRange v c g k) w f low = refl
+  gains_slot call w f low = refl
 
   is_free : (b : Bool) → ((true && eqb (slot_count config) (slot_count config)) && b) ≡ b
   is_free b = rw (eq-eqb (slot_count config) (slot_count config) refl) refl
@@ -148,44 +104,18 @@ module _ (config : Configuration) (held : Owner → ℕ → Bool) (r : ℕ → �
   gains_free (Map v c g) f = no_slot v (is_at (below config.frames (Some g)) f)
   gains_free (Drop v c g) f = is_free (reach_of r (below (slot_count config) (Some v)) f) ∙ slot_reach v f
   gains_free (Clear v) f = is_free (reach_of r (below (slot_count config) (Some v)) f) ∙ slot_reach v f
-  gains_free Take f = refl
-  gains_free (HostFault g) f = refl
-  gains_free (HostRead g off len) f = refl
-  gains_free (HostWrite g off bytes) f = refl
-  gains_free (RegisterVm v) f = refl
-  gains_free (RegisterVcpu v c) f = refl
-  gains_free (SetBoot v base len) f = refl
-  gains_free (Verify v) f = refl
-  gains_free (GuestRead v c g off len) f = refl
-  gains_free (GuestWrite v c g off bytes) f = refl
-  gains_free (Grant v c g) f = refl
-  gains_free (Revoke v c g) f = refl
-  gains_free (GrantRange v c g k) f = refl
-  gains_free (RevokeRange v c g k) f = refl
+  gains_free call f = refl
 
   pub frame_is : (call : Call) (f : ℕ) → touched_by (slot_count config) r (names_of config call) (Frame f) ≡ touched config held call (resource.Frame f)
   frame_is call f = rw (named_is config.frames call f, reach_is (slot_of call) f, same_free f)
-      (grouped (names_frame call f && nat_lt f config.frames) (of_slot config held (slot_of call) f) (uses_free call && held owner.Free f))
-    where
-      grouped : (a b c : Bool) → (a || (b || c)) ≡ ((a || b) || c)
-      grouped true b c = refl
-      grouped false b c = refl
+      (sym (or_assoc (names_frame call f && nat_lt f config.frames) (of_slot config held (slot_of call) f) (uses_free call && held owner.Free f)))
 
   slot_is : (o : Option ℕ) (b : Bool) (v : ℕ) → v < slot_count config → (is_at (below (slot_count config) o) v || (b && eqb (slot_count config) v)) ≡ exists_slot config o v
   slot_is None b v low = rw (differs v (slot_count config) low) (and-false b)
-  slot_is (Some x) b v low = rw (at_below (slot_count config) x v, differs v (slot_count config) low) (with_false (nat_lt x (slot_count config) && eqb x v) b)
-    where
-      with_false : (a b : Bool) → (a || (b && false)) ≡ a
-      with_false true b = refl
-      with_false false true = refl
-      with_false false false = refl
+  slot_is (Some x) b v low = rw (at_below (slot_count config) x v, differs v (slot_count config) low) (rw (and-false b) (or-false (nat_lt x (slot_count config) && eqb x v)))
 
   free_is : (o : Option ℕ) (b : Bool) → (is_at (below (slot_count config) o) (slot_count config) || (b && eqb (slot_count config) (slot_count config))) ≡ b
-  free_is o b = rw (not_past (slot_count config) o, eq-eqb (slot_count config) (slot_count config) refl) (and_true b)
-    where
-      and_true : (b : Bool) → (b && true) ≡ b
-      and_true true = refl
-      and_true false = refl
+  free_is o b = rw (not_past (slot_count config) o, eq-eqb (slot_count config) (slot_count config) refl) (and-true b)
 
   exists_low : (o : Option ℕ) (v : ℕ) → exists_slot config o v ≡ true → v < slot_count config
   exists_low None v h = cc
@@ -213,13 +143,8 @@ module _ (config : Configuration) (held : Owner → ℕ → Bool) (r : ℕ → �
           let here : names_principal (slot_count config) (names_of config call) (slot_count config) ≡ true = subst (λ (x : ℕ). names_principal (slot_count config) (names_of config call) x ≡ true) (sym same) h in
           sym (free_is (slot_of call) (uses_free call)) ∙ here
       by false e =
-          let at : is_at (below (slot_count config) (slot_of call)) p ≡ true = no_free (is_at (below (slot_count config) (slot_of call)) p) (uses_free call) (rw e at h) in
+          let at : is_at (below (slot_count config) (slot_of call)) p ≡ true = rw (e, and-false (uses_free call), or-false (is_at (below (slot_count config) (slot_of call)) p)) at h in
           sym (slot_is (slot_of call) (uses_free call) p (at_low (slot_of call) p at)) ∙ h
-        where
-          no_free : (a b : Bool) → (a || (b && false)) ≡ true → a ≡ true
-          no_free true b h = refl
-          no_free false true h = cc
-          no_free false false h = cc
 
 pub names_are : (config : Configuration) (calls : List Call) (k : ℕ) → k < length calls → names_at (map (names_of config) calls) k ≡ names_of config (call_at calls k)
 names_are config [] k low = absurd (omega arith)
