@@ -1,10 +1,10 @@
 -- What the planner's numbers say is what the definitions say.
-use Rattle.std.proofs.Common.{◌≡◌, ℕ, zero, suc, ◌<◌, ◌≤◌, Bool, true, false, ◌&&◌, ◌||◌, nat_lt, cond, List, [], ◌∷◌, length, map, refl, sym, ◌∙◌, ap, subst, arith, inl, inr}
-use Rattle.std.specs.Prelude.{eqb, Option, Some, None, if◌then◌else◌}
-use Rattle.std.proofs.lemmas.Bool.{ltb-true, and_parts, eq-eqb, eqb-true}
+use Rattle.std.proofs.Common.{◌≡◌, ℕ, zero, suc, ◌<◌, ◌≤◌, Bool, true, false, ◌&&◌, ◌||◌, nat_lt, cond, List, [], ◌∷◌, length, map, refl, sym, ◌∙◌, ap, arith, inl, inr}
+use Rattle.std.specs.Prelude.{eqb, Option, Some, None}
+use Rattle.std.proofs.lemmas.Bool.{ltb-true, eq-eqb}
 use Rattle.std.proofs.lemmas.Bool.Decides.{nat_tests}
 use Rattle.waves.specs.Planned.{ComesJustAfter}
-use Rattle.std.proofs.Math.Bool.{and-false, and-true, or-false, or_assoc}
+use Rattle.std.proofs.Math.Bool.{or_assoc}
 use Rattle.kc_types.specs.Configuration.{Configuration, slot_count}
 use Rattle.kc_types.specs.declared.call.Call.{Call}
 use Rattle.kc_types.specs.declared.call.Call.TheVariants.{Give, HostFault, HostRead, HostWrite, Remap, Map, Drop, Clear}
@@ -16,20 +16,9 @@ use Rattle.kc_model.specs.Resources.{Resource, slot_of, names_frame, uses_free, 
 use Rattle.kc_model.specs.Footprints.{call_at, gains, footprint}
 use Rattle.kc_model.specs.Footprints as model
 use Rattle.kc_footprints.specs.Naming.{named_frame, gain_of, below, names_of}
-use Rattle.kc_footprints.specs.Reach.{Numbered, Frame, Principal, is_at, names_at, names_principal, reach_of, gains_by, may_have, touched_by, touches}
+use Rattle.kc_footprints.specs.Reach.{is_at, names_at, reach_of, gains_by, may_have, touched_by, touches}
 use Rattle.kc_footprints.specs.Owned.{IsOwned}
 use Rattle.kc_footprints.specs.Planner.{has_pair}
-
--- a resource in the planner's numbers
-abbrev pub numbered : ℕ → Resource → Numbered
-numbered slots (resource.Frame f) = Frame f
-numbered slots (resource.Vm v) = Principal v
-numbered slots resource.Free = Principal slots
-
--- and back
-abbrev pub resource_of : ℕ → Numbered → Resource
-resource_of slots (Frame f) = resource.Frame f
-resource_of slots (Principal p) = if eqb slots p then resource.Free else resource.Vm p
 
 pub differs : (v n : ℕ) → v < n → eqb n v ≡ false
 differs v n low = grind (arith, nat_tests)
@@ -106,45 +95,16 @@ module _ (config : Configuration) (held : Owner → ℕ → Bool) (r : ℕ → �
   gains_free (Clear v) f = is_free (reach_of r (below (slot_count config) (Some v)) f) ∙ slot_reach v f
   gains_free call f = refl
 
-  pub frame_is : (call : Call) (f : ℕ) → touched_by (slot_count config) r (names_of config call) (Frame f) ≡ touched config held call (resource.Frame f)
-  frame_is call f = rw (named_is config.frames call f, reach_is (slot_of call) f, same_free f)
+  -- what is touched by the planner's numbers is what is touched
+  touched_is : (call : Call) (x : Resource) → touched_by (slot_count config) r (names_of config call) x ≡ touched config held call x
+  touched_is call (resource.Frame f) = rw (named_is config.frames call f, reach_is (slot_of call) f, same_free f)
       (sym (or_assoc (names_frame call f && nat_lt f config.frames) (of_slot config held (slot_of call) f) (uses_free call && held owner.Free f)))
-
-  slot_is : (o : Option ℕ) (b : Bool) (v : ℕ) → v < slot_count config → (is_at (below (slot_count config) o) v || (b && eqb (slot_count config) v)) ≡ exists_slot config o v
-  slot_is None b v low = rw (differs v (slot_count config) low) (and-false b)
-  slot_is (Some x) b v low = rw (at_below (slot_count config) x v, differs v (slot_count config) low) (rw (and-false b) (or-false (nat_lt x (slot_count config) && eqb x v)))
-
-  free_is : (o : Option ℕ) (b : Bool) → (is_at (below (slot_count config) o) (slot_count config) || (b && eqb (slot_count config) (slot_count config))) ≡ b
-  free_is o b = rw (not_past (slot_count config) o, eq-eqb (slot_count config) (slot_count config) refl) (and-true b)
-
-  exists_low : (o : Option ℕ) (v : ℕ) → exists_slot config o v ≡ true → v < slot_count config
-  exists_low None v h = cc
-  exists_low (Some x) v h =
-      let low : x < slot_count config = ltb-true x (slot_count config) (and_parts (nat_lt x (slot_count config)) (eqb x v) h).0 in
-      let same : x ≡ v = eqb-true x v (and_parts (nat_lt x (slot_count config)) (eqb x v) h).1 in
-      subst (λ (y : ℕ). y < slot_count config) same low
-
-  at_low : (o : Option ℕ) (p : ℕ) → is_at (below (slot_count config) o) p ≡ true → p < slot_count config
-  at_low None p h = cc
-  at_low (Some x) p h = exists_low (Some x) p (sym (at_below (slot_count config) x p) ∙ h)
-
-  pub forth : (call : Call) (x : Resource) → touched config held call x ≡ true → touched_by (slot_count config) r (names_of config call) (numbered (slot_count config) x) ≡ true
-  forth call (resource.Frame f) h = frame_is call f ∙ h
-  forth call (resource.Vm v) h = slot_is (slot_of call) (uses_free call) v (exists_low (slot_of call) v h) ∙ h
-  forth call resource.Free h = free_is (slot_of call) (uses_free call) ∙ h
-
-  pub back : (call : Call) (t : Numbered) → touched_by (slot_count config) r (names_of config call) t ≡ true → touched config held call (resource_of (slot_count config) t) ≡ true
-  back call (Frame f) h = sym (frame_is call f) ∙ h
-  back call (Principal p) h = by (eqb (slot_count config) p) refl
+  touched_is call (resource.Vm v) = at_exists (slot_of call)
     where
-      by : (b : Bool) → eqb (slot_count config) p ≡ b → touched config held call (cond b resource.Free (resource.Vm p)) ≡ true
-      by true e =
-          let same : slot_count config ≡ p = eqb-true (slot_count config) p e in
-          let here : names_principal (slot_count config) (names_of config call) (slot_count config) ≡ true = subst (λ (x : ℕ). names_principal (slot_count config) (names_of config call) x ≡ true) (sym same) h in
-          sym (free_is (slot_of call) (uses_free call)) ∙ here
-      by false e =
-          let at : is_at (below (slot_count config) (slot_of call)) p ≡ true = rw (e, and-false (uses_free call), or-false (is_at (below (slot_count config) (slot_of call)) p)) at h in
-          sym (slot_is (slot_of call) (uses_free call) p (at_low (slot_of call) p at)) ∙ h
+      at_exists : (o : Option ℕ) → is_at (below (slot_count config) o) v ≡ exists_slot config o v
+      at_exists None = refl
+      at_exists (Some x) = at_below (slot_count config) x v
+  touched_is call resource.Free = refl
 
 pub names_are : (config : Configuration) (calls : List Call) (k : ℕ) → k < length calls → names_at (map (names_of config) calls) k ≡ names_of config (call_at calls k)
 names_are config [] k low = absurd (omega arith)
@@ -172,25 +132,19 @@ module _ (m : State) (calls : List Call) (pairs : List (ℕ × ℕ)) (owned : Is
             (gains_free m.config (model.reach m calls k) (may_have (slot_count m.config) (has_pair pairs) (map (names_of m.config) calls) k) so_far.by_slot so_far.by_free (call_at calls k) f));
       }
 
-  pub touches_forth : (k : ℕ) (x : Resource) → k < length calls → footprint m calls k x ≡ true → touches (slot_count m.config) (has_pair pairs) (map (names_of m.config) calls) k (numbered (slot_count m.config) x) ≡ true
-  touches_forth k x low h =
+  pub touches_is : (k : ℕ) (x : Resource) → k < length calls → touches (slot_count m.config) (has_pair pairs) (map (names_of m.config) calls) k x ≡ footprint m calls k x
+  touches_is k x low =
       let so_far = same_reach k (omega arith) in
       rw (names_are m.config calls k low)
-      (forth m.config (model.reach m calls k) (may_have (slot_count m.config) (has_pair pairs) (map (names_of m.config) calls) k) so_far.by_slot so_far.by_free (call_at calls k) x h)
-
-  pub touches_back : (k : ℕ) (t : Numbered) → k < length calls → touches (slot_count m.config) (has_pair pairs) (map (names_of m.config) calls) k t ≡ true → footprint m calls k (resource_of (slot_count m.config) t) ≡ true
-  touches_back k t low h =
-      let so_far = same_reach k (omega arith) in
-      let is = names_are m.config calls k low in
-      back m.config (model.reach m calls k) (may_have (slot_count m.config) (has_pair pairs) (map (names_of m.config) calls) k) so_far.by_slot so_far.by_free (call_at calls k) t (rw is at h)
+      (touched_is m.config (model.reach m calls k) (may_have (slot_count m.config) (has_pair pairs) (map (names_of m.config) calls) k) so_far.by_slot so_far.by_free (call_at calls k) x)
 
   -- a plan over the planner's numbers is one over resources
   pub carried : (wave : ℕ → ℕ) (k : ℕ) → k < length calls → ComesJustAfter (touches (slot_count m.config) (has_pair pairs) (map (names_of m.config) calls)) wave k → ComesJustAfter (footprint m calls) wave k
   carried wave k low it = record {
-    above = λ j x before tj tk. it.above j (numbered (slot_count m.config) x) before (touches_forth j x (omega arith) tj) (touches_forth k x low tk);
+    above = λ j x before tj tk. it.above j x before (touches_is j x (omega arith) ∙ tj) (touches_is k x low ∙ tk);
     just =
         elim it.just [
           | inl first ↦ inl first
-          | inr later ↦ inr (later.0, resource_of (slot_count m.config) later.1, later.2, touches_back later.0 later.1 (let l = later.2 in omega arith) later.3, touches_back k later.1 low later.4, later.5)
+          | inr later ↦ inr (later.0, later.1, later.2, sym (touches_is later.0 later.1 (let l = later.2 in omega arith)) ∙ later.3, sym (touches_is k later.1 low) ∙ later.4, later.5)
         ];
   }

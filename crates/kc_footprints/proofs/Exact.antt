@@ -10,24 +10,19 @@ use Rattle.kc_types.specs.Configuration.{Configuration, slot_count}
 use Rattle.kc_types.specs.declared.call.Call.{Call}
 use Rattle.kc_types.specs.declared.resource.Resource.TheVariants as resource
 use Rattle.kc_model.specs.State.{State}
-use Rattle.kc_model.specs.Resources.{Resource, slot_of, exists_slot}
+use Rattle.kc_model.specs.Resources.{Resource}
 use Rattle.kc_model.specs.Footprints.{call_at, footprint}
-use Rattle.kc_model.specs.Footprints as model
 use Rattle.kc_footprints.specs.declared.names.Names.{Names}
 use Rattle.kc_footprints.specs.declared.rows.Row.{Row}
 use Rattle.kc_footprints.specs.declared.rows.Span.{Span}
 use Rattle.kc_footprints.specs.Naming.{below, named_frame, names_of}
-use Rattle.kc_footprints.specs.Reach.{has_member, is_at, may_have}
+use Rattle.kc_footprints.specs.Reach.{has_member, may_have, names_at, touches}
 use Rattle.kc_footprints.specs.Owned.{IsOwned}
 use Rattle.kc_footprints.specs.Planner.{has_pair, HaveFramesBelow}
 use Rattle.kc_footprints.specs.Rows.{row_touches, no_row, IsRow, IsRowOf, AreRowsOf, AreRows}
 use Rattle.kc_footprints.proofs.Existing.{may_have_low}
-use Rattle.kc_footprints.proofs.Carried.{at_below, names_are, frame_is, same_reach}
+use Rattle.kc_footprints.proofs.Carried.{names_are, touches_is}
 use Rattle.kc_footprints.proofs.Waves.{below_low, names_range}
-
-at_exists : (config : Configuration) (o : Option ℕ) (v : ℕ) → is_at (below (slot_count config) o) v ≡ exists_slot config o v
-at_exists config None v = refl
-at_exists config (Some x) v = at_below (slot_count config) x v
 
 module _ (config : Configuration) (calls : List Call) (pairs : List (ℕ × ℕ)) (sets : List (List ℕ)) (rows : List Row)
     (are : AreRowsOf (slot_count config) (has_pair pairs) (map (names_of config) calls) sets rows) (count : length rows ≡ length calls) where
@@ -78,10 +73,12 @@ module _ (config : Configuration) (calls : List Call) (pairs : List (ℕ × ℕ)
 pub row_touches_is : (m : State) (calls : List Call) (pairs : List (ℕ × ℕ)) → IsOwned m pairs → (sets : List (List ℕ)) (rows : List Row)
     → AreRowsOf (slot_count m.config) (has_pair pairs) (map (names_of m.config) calls) sets rows → length rows ≡ length calls
     → (k : ℕ) (x : Resource) → k < length calls → row_touches sets (get_or rows k no_row) x ≡ footprint m calls k x
-row_touches_is m calls pairs owned sets rows are count k (resource.Frame f) low =
-    let is = row_is m.config calls pairs sets rows are count k low in
-    let so_far = same_reach m calls pairs owned k (omega arith) in
-    rw (is.frame, is.slot f, is.free_has f)
-    (frame_is m.config (model.reach m calls k) (may_have (slot_count m.config) (has_pair pairs) (map (names_of m.config) calls) k) so_far.by_slot so_far.by_free (call_at calls k) f)
-row_touches_is m calls pairs owned sets rows are count k (resource.Vm v) low = (row_is m.config calls pairs sets rows are count k low).slot_is v ∙ at_exists m.config (slot_of (call_at calls k)) v
-row_touches_is m calls pairs owned sets rows are count k resource.Free low = (row_is m.config calls pairs sets rows are count k low).free_is
+row_touches_is m calls pairs owned sets rows are count k x low = by x ∙ touches_is m calls pairs owned k x low
+  where
+    is : IsRowOf (slot_count m.config) (may_have (slot_count m.config) (has_pair pairs) (map (names_of m.config) calls) k) (names_at (map (names_of m.config) calls) k) sets (get_or rows k no_row)
+    is = are k (rw count low)
+
+    by : (x : Resource) → row_touches sets (get_or rows k no_row) x ≡ touches (slot_count m.config) (has_pair pairs) (map (names_of m.config) calls) k x
+    by (resource.Frame f) = rw (is.frame, is.slot f, is.free_has f) refl
+    by (resource.Vm v) = is.slot_is v
+    by resource.Free = is.free_is

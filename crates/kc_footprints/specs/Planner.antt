@@ -4,6 +4,7 @@ use Rattle.std.specs.List.{list_any, IsDistinct}
 use Rattle.kc_footprints.specs.declared.names.Names.{Names}
 use Rattle.kc_footprints.specs.Reach.{has_member, is_at, names_principal, gains_by, may_have, touches}
 use Rattle.waves.specs.Planned.{ComesJustAfter}
+pub use Rattle.kc_footprints.specs.LastWaves.{Stamps}
 use Rattle.kc_footprints.specs.LastWaves.{IsFound, IsNoted}
 use Rattle.kc_footprints.specs.Plan.{wave_of}
 
@@ -12,12 +13,6 @@ pub record Reached : Type 0 where
   pub sets : List (List ℕ)
   pub near : List (List ℕ)
   pub freed : List ℕ
-
--- the last wave of a call that named a frame, that of one that named a principal, and the highest of one that touched a principal or what it may have
-pub record Stamps : Type 0 where
-  pub frame_waves : List ℕ
-  pub principal_waves : List ℕ
-  pub reach_waves : List ℕ
 
 abbrev pub members_of : Reached → ℕ → List ℕ
 members_of h p = get_or h.sets p []
@@ -67,9 +62,7 @@ pub record IsLastOf (n f : ℕ) (h : Reached) (s : Stamps) (high : ℕ) : Type 0
 
 -- high is the highest wave of a call that shares something with a call of these names
 abbrev pub IsHigh : ℕ → ℕ → Names → Reached → Stamps → ℕ → Type 0
-IsHigh size free n h s high =
-    IsFound (λ f. is_at n.frame f) (λ p. names_principal free n p) (λ p f. has_member (members_of h p) f) size high
-    (λ f. get_or s.frame_waves f 0) (λ p. get_or s.principal_waves p 0) (λ p. get_or s.reach_waves p 0)
+IsHigh size free n h s high = IsFound (λ f. is_at n.frame f) (λ p. names_principal free n p) (λ p f. has_member (members_of h p) f) size high s
 
 -- the highest waves of the first n principals are raised to w where the call touches them or what they may have
 pub record IsTop (n free w : ℕ) (names : Names) (h : Reached) (before after : List ℕ) : Type 0 where
@@ -79,9 +72,7 @@ pub record IsTop (n free w : ℕ) (names : Names) (h : Reached) (before after : 
 
 -- a call of these names, of wave w, is written down
 abbrev pub IsWritten : ℕ → ℕ → Names → ℕ → Reached → Stamps → Stamps → Type 0
-IsWritten size free n w h s t =
-    IsNoted (λ f. is_at n.frame f) (λ p. names_principal free n p) (λ p f. has_member (members_of h p) f) size w (is_near h)
-    (λ f. get_or s.frame_waves f 0) (λ p. get_or s.principal_waves p 0) (λ p. get_or s.reach_waves p 0) (λ f. get_or t.frame_waves f 0) (λ p. get_or t.principal_waves p 0) (λ p. get_or t.reach_waves p 0)
+IsWritten size free n w h s t = IsNoted (λ f. is_at n.frame f) (λ p. names_principal free n p) (λ p f. has_member (members_of h p) f) size w (is_near h) s t
 
 -- the principal p, which may have the frame f, is related to each of the first n that may have it too, both ways
 pub record IsRelated (n p f : ℕ) (a b : Reached) : Type 0 where

@@ -1,14 +1,11 @@
 -- What principals may have before a call, and what calls touch: from names and the start alone.
-use Rattle.std.specs.Prelude.{ℕ, zero, suc, Bool, false, ◌&&◌, ◌||◌, eqb, List, get_or, Option, Some, None}
+use Rattle.std.specs.Prelude.{ℕ, zero, suc, Bool, false, ◌&&◌, ◌||◌, eqb, nat_lt, List, get_or, Option, Some, None}
+use Rattle.kc_types.specs.declared.resource.Resource.TheVariants as resource
+use Rattle.kc_model.specs.Resources.{Resource}
 pub use Rattle.kc_footprints.specs.Members.{has_member}
 use Rattle.kc_footprints.specs.declared.names.Gain.{Gain}
 use Rattle.kc_footprints.specs.declared.names.Gain.TheVariants.{Nothing, SlotTakesFrame, FreeTakesFrame, FreeTakesReach}
 use Rattle.kc_footprints.specs.declared.names.Names.{Names}
-
--- what a call may touch: a frame, or a principal, which is a slot or the free list, by its number
-pub data Numbered : Type 0 where
-  Frame : ℕ → Numbered
-  Principal : ℕ → Numbered
 
 abbrev pub is_at : Option ℕ → ℕ → Bool
 is_at None x = false
@@ -39,10 +36,17 @@ abbrev pub may_have : ℕ → (ℕ → ℕ → Bool) → List Names → ℕ → 
 may_have free start cs zero p f = start p f
 may_have free start cs (suc k) p f = may_have free start cs k p f || gains_by free (may_have free start cs k) (names_at cs k) (names_at cs k).gain p f
 
--- whether a call that names this touches the resource, where `reach` says what each principal may have
-abbrev pub touched_by : ℕ → (ℕ → ℕ → Bool) → Names → Numbered → Bool
-touched_by free reach n (Frame f) = is_at n.frame f || (reach_of reach n.slot f || (n.free && reach free f))
-touched_by free reach n (Principal p) = names_principal free n p
+-- whether the resource is the principal p, or a frame that it may have; `reach` says what each principal may have
+abbrev pub has_part : ℕ → (ℕ → ℕ → Bool) → ℕ → Resource → Bool
+has_part free reach p (resource.Frame f) = reach p f
+has_part free reach p (resource.Vm v) = eqb p v && nat_lt v free
+has_part free reach p resource.Free = eqb free p
 
-abbrev pub touches : ℕ → (ℕ → ℕ → Bool) → List Names → ℕ → Numbered → Bool
+-- whether a call that names this touches the resource
+abbrev pub touched_by : ℕ → (ℕ → ℕ → Bool) → Names → Resource → Bool
+touched_by free reach n (resource.Frame f) = is_at n.frame f || (reach_of reach n.slot f || (n.free && reach free f))
+touched_by free reach n (resource.Vm v) = is_at n.slot v
+touched_by free reach n resource.Free = n.free
+
+abbrev pub touches : ℕ → (ℕ → ℕ → Bool) → List Names → ℕ → Resource → Bool
 touches free start cs k r = touched_by free (may_have free start cs k) (names_at cs k) r

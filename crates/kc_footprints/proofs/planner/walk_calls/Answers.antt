@@ -2,7 +2,7 @@ use Rattle.std.proofs.Common.{◌≡◌, ◌+◌, ◌<◌, suc, arith, refl, len
 use Rattle.kc_footprints.specs.declared.names.Names.{Names}
 use Rattle.kc_footprints.specs.Reach.{has_member, names_at, may_have}
 use Rattle.kc_footprints.specs.Planner.{IsHigh, IsWritten, AreGained, has_pair, members_of}
-use Rattle.kc_footprints.proofs.Plans.{going_start, going_more, in_range_all}
+use Rattle.kc_footprints.proofs.Plans.{going_start, going_more, high_low, in_range_all}
 use Rattle.kc_footprints.proofs.Kept.{rows_more}
 use Rattle.kc_footprints.proofs.planner.walk_calls.Goals as goal
 
@@ -15,6 +15,15 @@ loop-names-init c = record {
   rows = rw c.in_ok-rows.ensures.items (λ k low. absurd (omega arith));
   count = search rules;
 }
+
+pub overflow_add-wave : goal.overflow_add-wave
+overflow_add-wave c =
+    let going = c.loop-names.invariant.going in
+    let found : IsHigh (c.args.free + 1) c.args.free (names_at c.args.calls.now c.loop-names.names-index) c.loop-names.reaches c.loop-names.planner c.highest-wave.result = rw going.reach_len at c.highest-wave.ensures in
+    let range = in_range_all c.args.frames c.args.free c.args.calls.now c.requires.range in
+    let most = high_low c.args.frames c.args.free (has_pair c.args.pairs.now) c.args.calls.now range c.loop-names.waves.items c.loop-names.reaches c.loop-names.planner _ c.loop-names.names-index c.highest-wave.result refl going found in
+    let len = c.loop-names.invariant.len in
+    omega arith
 
 pub loop-names-preserved : goal.loop-names-preserved
 loop-names-preserved c =
