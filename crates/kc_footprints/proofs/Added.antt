@@ -4,7 +4,7 @@ use Rattle.std.specs.Prelude.{eqb}
 use Rattle.std.specs.List.{IsDistinct}
 use Rattle.std.proofs.lemmas.Bool.Decides.{nat_tests}
 use Rattle.std.proofs.lemmas.Cmp.{nat_eq_equiv}
-use Rattle.std.proofs.lemmas.List.{get_or-set_same, get_or-set_other, take-append-le}
+use Rattle.std.proofs.lemmas.List.{get_or-set_same, get_or-set_other, take-append-le, take_all}
 use Rattle.std.proofs.lemmas.List.Folds.{list_any-append}
 use Rattle.std.proofs.lemmas.Map.Keys.{IsDistinct-push}
 use Rattle.std.proofs.lemmas.Nat.{same_from_place}
@@ -12,7 +12,7 @@ use Rattle.std.proofs.Math.ListN.{length-set, length-replicate}
 use Rattle.std.proofs.Math.Bool.{or-false, or-true}
 use Rattle.std.proofs.lemmas.Bool.{and_from, and_parts, cases_eq, eq-eqb, eqb-true, ne_eqb}
 use Rattle.kc_model.proofs.States.Slots.{get_or-same}
-use Rattle.kc_footprints.specs.Members.{has_member, with_member, AreFlags, AreSame}
+use Rattle.kc_footprints.specs.Members.{has_member, with_member, AreFlags}
 
 added_by : (xs : List ℕ) (f : ℕ) (b : Bool) → has_member xs f ≡ b → (g : ℕ) → has_member (cond b xs (xs ++ f ∷ [])) g ≡ (has_member xs g || eqb f g)
 added_by xs f true has g = case (eqb f g) refl
@@ -79,21 +79,14 @@ no_flags n k few = record {
   has = λ p f low. get_or-same k false (f * length (replicate n []) + p) ∙ sym (ap (λ (xs : List ℕ). has_member xs f) (get_or-same n [] p));
 }
 
-pub same_flags : (flags : List Bool) → AreSame flags flags
-same_flags flags = record { flag = λ i. refl }
+-- more flags that are false
+more_false : (flags : List Bool) (k i : ℕ) → get_or (flags ++ replicate k false) i false ≡ get_or flags i false
+more_false [] k i = get_or-same k false i
+more_false (x ∷ xs) k zero = refl
+more_false (x ∷ xs) k (suc i) = more_false xs k i
 
--- one flag more that is false
-end_false : (flags : List Bool) (i : ℕ) → get_or (flags ++ false ∷ []) i false ≡ get_or flags i false
-end_false [] zero = refl
-end_false [] (suc i) = refl
-end_false (x ∷ xs) zero = refl
-end_false (x ∷ xs) (suc i) = end_false xs i
-
-pub more_false : (a b after : List Bool) → after ≡ b ++ false ∷ [] → AreSame a b → AreSame a after
-more_false a b after is same = rw is record { flag = λ i. end_false b i ∙ same.flag i }
-
-pub flags_same : (sets : List (List ℕ)) (flags after : List Bool) → AreFlags sets flags → AreSame flags after → AreFlags sets after
-flags_same sets flags after are same = record { few = are.few; has = λ p f low. same.flag (f * length sets + p) ∙ are.has p f low }
+pub flags_same : (sets : List (List ℕ)) (flags after : List Bool) (n k : ℕ) → length flags ≤ n → after ≡ take n flags ++ replicate k false → AreFlags sets flags → AreFlags sets after
+flags_same sets flags after n k all is are = rw (is, take_all n flags all) record { few = are.few; has = λ p f low. more_false flags k (f * length sets + p) ∙ are.has p f low }
 
 pub flags_added : (sets : List (List ℕ)) (flags : List Bool) (p f : ℕ) → p < length sets → f * length sets + p < length flags → AreFlags sets flags
     → AreFlags (set sets p (with_member (get_or sets p []) f)) (set flags (f * length sets + p) true)

@@ -7,50 +7,45 @@ use Rattle.std.proofs.lemmas.List.{get_or-set_same, get_or-set_other, length-set
 use Rattle.std.proofs.lemmas.List.Folds.{list_any_more}
 use Rattle.kc_footprints.specs.Members.{has_member, with_member}
 use Rattle.kc_footprints.specs.Planner.{Reached, members_of, is_near, is_related, IsExact, IsGrown, IsRelated, IsJoined, IsWider}
-use Rattle.kc_footprints.proofs.Near.{near_same, near_related, near_cases}
+use Rattle.kc_footprints.proofs.Near.{near_same, near_related, near_back, near_cases}
 use Rattle.kc_footprints.proofs.Added.{other_set, set_has, set_once, set_grown}
 
--- one principal more that may have the frame, which both are related to each other then
-module _ (n p f : ℕ) (a b : Reached) (mid near : List (List ℕ)) (p_low : p < length b.near) (n_low : n < length b.near) (has_p : has_member (members_of a p) f ≡ true) (has_n : has_member (members_of a n) f ≡ true)
-    (first : mid ≡ set b.near p (with_member (get_or b.near p []) n)) (second : near ≡ set mid n (with_member (get_or mid n []) p)) where
-  middle : length mid ≡ length b.near
-  middle = rw first (length-set b.near p (with_member (get_or b.near p []) n))
+-- the principal p is related to one more that may have the frame
+pub related_more : (n p f : ℕ) (a b : Reached) (near : List (List ℕ)) → p < length b.near → has_member (members_of a p) f ≡ true → has_member (members_of a n) f ≡ true → near ≡ set b.near p (with_member (get_or b.near p []) n)
+    → IsRelated n p f a b → IsRelated (n + 1) p f a (record { sets = b.sets; near = near; freed = b.freed })
+related_more n p f a b near low has_p has_n is so_far = record {
+  sets = so_far.sets;
+  freed = so_far.freed;
+  near_len = rw is (length-set b.near p (with_member (get_or b.near p []) n)) ∙ so_far.near_len;
+  keeps = λ q r h. old q r (so_far.keeps q r h);
+  only = λ q r h.
+      elim (or_cases (is_related b q r) (eqb p q && eqb n r) (sym (raised q r) ∙ h)) [
+        | inl was ↦ so_far.only q r was
+        | inr new ↦ (let same = and_parts (eqb p q) (eqb n r) new in inr (of p q same.0 has_p, of n r same.1 has_n))
+      ];
+  there = λ q under h.
+      elim (cases_lt q n) [
+        | inl before ↦ old p q (so_far.there q before h)
+        | inr past ↦ (let last : n ≡ q = omega arith in raised p q ∙ or_right (is_related b p q) (eqb p p && eqb n q) (and_from (eqb p p) (eqb n q) (eq-eqb p p refl) (eq-eqb n q last)))
+      ];
+}
+  where
+    raised : (q r : ℕ) → has_member (get_or near q []) r ≡ (is_related b q r || (eqb p q && eqb n r))
+    raised = set_has p n b.near near low is
 
-  raised : (q r : ℕ) → has_member (get_or near q []) r ≡ ((is_related b q r || (eqb p q && eqb n r)) || (eqb n q && eqb p r))
-  raised q r = set_has n p mid near (let m = middle in omega arith) second q r ∙ ap (λ x. x || (eqb n q && eqb p r)) (set_has p n b.near mid p_low first q r)
+    old : (q r : ℕ) → is_related b q r ≡ true → has_member (get_or near q []) r ≡ true
+    old q r h = raised q r ∙ or_left (is_related b q r) (eqb p q && eqb n r) h
 
-  pub related_more : IsRelated n p f a b → IsRelated (n + 1) p f a (record { sets = b.sets; near = near; freed = b.freed })
-  related_more so_far = record {
-    sets = so_far.sets;
-    freed = so_far.freed;
-    near_len = rw second (length-set mid n (with_member (get_or mid n []) p)) ∙ middle ∙ so_far.near_len;
-    keeps = λ q r h. old q r (so_far.keeps q r h);
-    only = λ q r h.
-        elim (or_cases (is_related b q r || (eqb p q && eqb n r)) (eqb n q && eqb p r) (sym (raised q r) ∙ h)) [
-          | inl before ↦
-              elim (or_cases (is_related b q r) (eqb p q && eqb n r) before) [
-                | inl was ↦ so_far.only q r was
-                | inr forth ↦ (let is = and_parts (eqb p q) (eqb n r) forth in inr (of p q is.0 has_p, of n r is.1 has_n))
-              ]
-          | inr back ↦ (let is = and_parts (eqb n q) (eqb p r) back in inr (of n q is.0 has_n, of p r is.1 has_p))
-        ];
-    there = λ q low h.
-        elim (cases_lt q n) [
-          | inl under ↦ (let was = so_far.there q under h in (old p q was.0, old q p was.1))
-          | inr past ↦
-              (let last : q ≡ n = omega arith in
-              rw last (
-                raised p n ∙ or_left (is_related b p n || (eqb p p && eqb n n)) (eqb n p && eqb p n) (or_right (is_related b p n) (eqb p p && eqb n n) (and_from (eqb p p) (eqb n n) (eq-eqb p p refl) (eq-eqb n n refl))),
-                raised n p ∙ or_right (is_related b n p || (eqb p n && eqb n p)) (eqb n n && eqb p p) (and_from (eqb n n) (eqb p p) (eq-eqb n n refl) (eq-eqb p p refl)),
-              ))
-        ];
-  }
-    where
-      old : (q r : ℕ) → is_related b q r ≡ true → has_member (get_or near q []) r ≡ true
-      old q r h = raised q r ∙ or_left (is_related b q r || (eqb p q && eqb n r)) (eqb n q && eqb p r) (or_left (is_related b q r) (eqb p q && eqb n r) h)
+    of : (x q : ℕ) → eqb x q ≡ true → has_member (members_of a x) f ≡ true → has_member (members_of a q) f ≡ true
+    of x q e h = subst (λ (y : ℕ). has_member (members_of a y) f ≡ true) (eqb-true x q e) h
 
-      of : (x q : ℕ) → eqb x q ≡ true → has_member (members_of a x) f ≡ true → has_member (members_of a q) f ≡ true
-      of x q e h = subst (λ (y : ℕ). has_member (members_of a y) f ≡ true) (eqb-true x q e) h
+-- principals are near while the same ones are related and more
+near_stays : (a b : Reached) → ((p q : ℕ) → is_related a p q ≡ true → is_related b p q ≡ true) → (p q : ℕ) → is_near a p q ≡ true → is_near b p q ≡ true
+near_stays a b more p q near =
+    elim (near_cases a p q near) [
+      | inl same ↦ near_same b p q same
+      | inr is ↦ elim is [ inl forth ↦ near_related b p q (more p q forth) | inr back ↦ near_back b p q (more q p back) ]
+    ]
 
 -- m has the frame in the set of p, and b has the principals related to p besides
 module _ (size free p f n : ℕ) (a m b : Reached) (low : p < size) (exact : IsExact size free a) (added : m.sets ≡ set a.sets p (with_member (members_of a p) f)) (near : m.near ≡ a.near) (freed : m.freed ≡ a.freed)
@@ -80,22 +75,18 @@ module _ (size free p f n : ℕ) (a m b : Reached) (low : p < size) (exact : IsE
   same_freed : b.freed ≡ a.freed
   same_freed = related.freed ∙ freed
 
-  near_both : (q g : ℕ) → q < size → f ≡ g → has_member (members_of b q) g ≡ true → (is_related b p q ≡ true) × (is_related b q p ≡ true)
-  near_both q g below is h = related.there q (rw count below) (rw (is, ← related.sets) h)
+  related_p : (q g : ℕ) → q < size → f ≡ g → has_member (members_of b q) g ≡ true → is_related b p q ≡ true
+  related_p q g below is h = related.there q (rw count below) (rw (is, ← related.sets) h)
 
   near_then : (q r g : ℕ) → q < size → r < size → has_member (members_of b q) g ≡ true → has_member (members_of b r) g ≡ true → is_near b q r ≡ true
   near_then q r g q_low r_low hq hr =
       elim (old_or_new q g hq) [
         | inl q_old ↦
             elim (old_or_new r g hr) [
-              | inl r_old ↦
-                  elim (near_cases a q r (exact.shared q r g q_low r_low q_old r_old)) [
-                    | inl same ↦ near_same b q r same
-                    | inr was ↦ near_related b q r (related.keeps q r (rw near was))
-                  ]
-              | inr new ↦ near_related b q r (subst (λ (x : ℕ). is_related b q x ≡ true) new.0 (near_both q g q_low new.1 hq).1)
+              | inl r_old ↦ near_stays a b (λ x y was. related.keeps x y (rw near was)) q r (exact.shared q r g q_low r_low q_old r_old)
+              | inr new ↦ near_back b q r (subst (λ (x : ℕ). is_related b x q ≡ true) new.0 (related_p q g q_low new.1 hq))
             ]
-        | inr new ↦ near_related b q r (subst (λ (x : ℕ). is_related b x r ≡ true) new.0 (near_both r g r_low new.1 hr).0)
+        | inr new ↦ near_related b q r (subst (λ (x : ℕ). is_related b x r ≡ true) new.0 (related_p r g r_low new.1 hr))
       ]
 
   pub joined : IsJoined size free p f a b
@@ -177,7 +168,7 @@ freed_all size free v n a b low free_low all so_far = record {
     freed_in = λ p f h. (freed_at p).1 f h;
     freed_low = λ p. (freed_at p).0;
     related = exact.related;
-    shared = λ p q f bp bq hp hq. elim (near_cases b p q (exact.shared p q f bp bq hp hq)) [ inl same ↦ near_same _ p q same | inr is ↦ near_related _ p q is ];
+    shared = λ p q f bp bq hp hq. near_stays b _ (λ x y is. is) p q (exact.shared p q f bp bq hp hq);
     once = exact.once;
   };
   sets = has;

@@ -1,5 +1,5 @@
 -- When principals are near each other.
-use Rattle.std.proofs.Common.{◌≡◌, ℕ, true, inl, inr}
+use Rattle.std.proofs.Common.{◌≡◌, ℕ, true, ◌||◌, inl, inr}
 use Rattle.std.specs.Prelude.{◌⊎◌, eqb}
 use Rattle.std.proofs.lemmas.Bool.{eq-eqb, eqb-true, or_cases, or_left, or_right}
 use Rattle.kc_footprints.specs.Planner.{Reached, is_near, is_related}
@@ -7,12 +7,16 @@ use Rattle.kc_footprints.specs.Planner.{Reached, is_near, is_related}
 module _ (h : Reached) (p q : ℕ) where
   pub near_same : p ≡ q → is_near h p q ≡ true
   unfolding is_near
-  near_same same = or_left (eqb p q) (is_related h p q) (eq-eqb p q same)
+  near_same same = or_left (eqb p q) (is_related h p q || is_related h q p) (eq-eqb p q same)
 
   pub near_related : is_related h p q ≡ true → is_near h p q ≡ true
   unfolding is_near
-  near_related is = or_right (eqb p q) (is_related h p q) is
+  near_related is = or_right (eqb p q) (is_related h p q || is_related h q p) (or_left (is_related h p q) (is_related h q p) is)
 
-  pub near_cases : is_near h p q ≡ true → (p ≡ q) ⊎ (is_related h p q ≡ true)
+  pub near_back : is_related h q p ≡ true → is_near h p q ≡ true
   unfolding is_near
-  near_cases near = elim (or_cases (eqb p q) (is_related h p q) near) [ inl same ↦ inl (eqb-true p q same) | inr is ↦ inr is ]
+  near_back is = or_right (eqb p q) (is_related h p q || is_related h q p) (or_right (is_related h p q) (is_related h q p) is)
+
+  pub near_cases : is_near h p q ≡ true → (p ≡ q) ⊎ ((is_related h p q ≡ true) ⊎ (is_related h q p ≡ true))
+  unfolding is_near
+  near_cases near = elim (or_cases (eqb p q) (is_related h p q || is_related h q p) near) [ inl same ↦ inl (eqb-true p q same) | inr is ↦ inr (or_cases (is_related h p q) (is_related h q p) is) ]

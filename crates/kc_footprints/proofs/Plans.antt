@@ -77,7 +77,10 @@ module _ (frames free : ℕ) (start : ℕ → ℕ → Bool) (cs : List Names) (r
       common p q p_low q_low near =
           elim (near_cases h p q near) [
             | inl same ↦ (let own = own_of free p p_low in (own.0, own.1 (may_have free start cs k), subst (λ (x : ℕ). has_part free (may_have free start cs k) x own.0 ≡ true) same (own.1 (may_have free start cs k))))
-            | inr is ↦ (let it = exact.related p q is in (resource.Frame it.0, sym (sets p it.0) ∙ it.1, sym (sets q it.0) ∙ it.2))
+            | inr is ↦ elim is [
+              | inl forth ↦ (let it = exact.related p q forth in (resource.Frame it.0, sym (sets p it.0) ∙ it.1, sym (sets q it.0) ∙ it.2))
+              | inr back ↦ (let it = exact.related q p back in (resource.Frame it.0, sym (sets p it.0) ∙ it.2, sym (sets q it.0) ∙ it.1))
+            ]
           ]
 
       all : (p q : ℕ) (r : Resource) → p < free + 1 → q < free + 1 → has_part free (may_have free start cs k) p r ≡ true → has_part free (may_have free start cs k) q r ≡ true → is_near h p q ≡ true

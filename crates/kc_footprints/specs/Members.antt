@@ -15,7 +15,3 @@ with_member xs f = if has_member xs f then xs else xs ++ f ∷ []
 pub record AreFlags (sets : List (List ℕ)) (flags : List Bool) : Type 0 where
   pub few : length sets < 2 ^ 32
   pub has : (p f : ℕ) → p < length sets → get_or flags (f * length sets + p) false ≡ has_member (get_or sets p []) f
-
--- the flags are the same, where those past the end are false
-pub record AreSame (a b : List Bool) : Type 0 where
-  pub flag : (i : ℕ) → get_or b i false ≡ get_or a i false

@@ -17,13 +17,13 @@ pub record Reached : Type 0 where
 abbrev pub members_of : Reached → ℕ → List ℕ
 members_of h p = get_or h.sets p []
 
--- the two principals are related
+-- the principal q is among those to which p is related
 abbrev pub is_related : Reached → ℕ → ℕ → Bool
 is_related h p q = has_member (get_or h.near p []) q
 
--- the principals are one, or related
+-- the principals are one, or one is related to the other
 unfoldable pub is_near : Reached → ℕ → ℕ → Bool
-is_near h p q = eqb p q || is_related h p q
+is_near h p q = eqb p q || (is_related h p q || is_related h q p)
 
 abbrev pub hit_frame : Option ℕ → List ℕ → Bool
 hit_frame None members = false
@@ -74,14 +74,14 @@ pub record IsTop (n free w : ℕ) (names : Names) (h : Reached) (before after : 
 abbrev pub IsWritten : ℕ → ℕ → Names → ℕ → Reached → Stamps → Stamps → Type 0
 IsWritten size free n w h s t = IsNoted (λ f. is_at n.frame f) (λ p. names_principal free n p) (λ p f. has_member (members_of h p) f) size w (is_near h) s t
 
--- the principal p, which may have the frame f, is related to each of the first n that may have it too, both ways
+-- the principal p, which may have the frame f, is related to each of the first n that may have it too
 pub record IsRelated (n p f : ℕ) (a b : Reached) : Type 0 where
   pub sets : b.sets ≡ a.sets
   pub freed : b.freed ≡ a.freed
   pub near_len : length b.near ≡ length a.near
   pub keeps : (q r : ℕ) → is_related a q r ≡ true → is_related b q r ≡ true
   pub only : (q r : ℕ) → is_related b q r ≡ true → (is_related a q r ≡ true) ⊎ ((has_member (members_of a q) f ≡ true) × (has_member (members_of a r) f ≡ true))
-  pub there : (q : ℕ) → q < n → has_member (members_of a q) f ≡ true → (is_related b p q ≡ true) × (is_related b q p ≡ true)
+  pub there : (q : ℕ) → q < n → has_member (members_of a q) f ≡ true → is_related b p q ≡ true
 
 -- what principals may have comes behind what they may have already
 abbrev pub IsGrown : Reached → Reached → Type 0

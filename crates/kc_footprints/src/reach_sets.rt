@@ -1,6 +1,6 @@
 //! The sets of several principals, in which one look tells whether a number is a member.
 ghost use Rattle.std.specs.Prelude.{◌≡◌, ◌<◌, ◌^◌, length, get_or, set, replicate, [], IfOk, OnOk, OnErr};
-ghost use Rattle.kc_footprints.specs.Members.{has_member, with_member, AreSame};
+ghost use Rattle.kc_footprints.specs.Members.{has_member, with_member};
 
 use crate::reach_set::ReachSet;
 use std::alloc::{AllocError, Global};
@@ -78,7 +78,8 @@ impl ReachSets {
             return Ok(());
         }
         let place = number as usize * self.sets.len() + principal;
-        make_room(&mut self.flags, place)?;
+        let room = self.flags.len().max(place + 1);
+        self.flags.resize(room, false)?;
         self.sets[principal].add(number)?;
         self.flags[place] = true;
         Ok(())
@@ -90,16 +91,4 @@ impl ReachSets {
     {
         self.sets
     }
-}
-
-/// Adds flags that are false until there is one at a place.
-fn make_room(flags: &mut Vec<bool>, place: usize) -> Result<(), AllocError>
-    requires { place < usize.MAX }
-    ensures room { OnOk result (place < length flags.new.items) }
-    ensures same { AreSame flags.old.items flags.new.items }
-{
-    for _ in flags.len()..place + 1 {
-        flags.push(false)?;
-    }
-    Ok(())
 }

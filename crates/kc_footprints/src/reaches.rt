@@ -39,17 +39,23 @@ impl Reaches {
     /// Whether two principals are one, or may have a frame in common.
     #[tactic(auto, unfolding(crate::specs::Planner::is_near))]
     fn is_near(&self, principal: usize, other: u32) -> bool
-        requires { principal < length self.now.near }
+        requires principal { principal < length self.now.near }
+        requires other { other < length self.now.near }
+        requires few { length self.now.near < 2 ^ 32 }
         ensures { result ≡ is_near self.now principal other }
     {
-        principal == other as usize || self.near.contains(principal, other)
+        principal == other as usize
+            || self.near.contains(principal, other)
+            || self.near.contains(other as usize, principal as u32)
     }
 
     /// Whether a call touches a principal or what it may have.
     pub(crate) fn is_touched(&self, free: usize, names: &Names, principal: usize) -> bool
         requires sets { principal < length self.now.sets }
         requires near { principal < length self.now.near }
-        requires few { free < 2 ^ 32 }
+        requires few { length self.now.near < 2 ^ 32 }
+        requires slot { IfSome names.now.slot (λ v. v < free) }
+        requires free { free < length self.now.near }
         ensures { result ≡ is_hit free names.now self.now principal }
     {
         let by_frame = match names.frame {
@@ -104,7 +110,7 @@ impl Reaches {
         }
     }
 
-    /// Relates a principal that may have the frame to each that may have it too, both ways.
+    /// Relates a principal that may have the frame to each that may have it too.
     fn relate(&mut self, principal: usize, frame: u32) -> Result<(), AllocError>
         requires sets { principal < length self.old.sets }
         requires near { length self.old.near ≡ length self.old.sets }
@@ -114,7 +120,6 @@ impl Reaches {
         for other in 0..self.sets.len() {
             if self.sets.contains(other, frame) {
                 self.near.add(principal, other as u32)?;
-                self.near.add(other, principal as u32)?;
             }
         }
         Ok(())
