@@ -1,9 +1,8 @@
 -- The rows say what the definitions say.
-use Rattle.std.proofs.Common.{◌≡◌, ℕ, ◌+◌, ◌<◌, ◌≤◌, true, List, [], length, map, get_or, refl, sym, ◌∙◌, subst, arith, inl, inr}
+use Rattle.std.proofs.Common.{◌≡◌, ℕ, ◌+◌, ◌<◌, ◌≤◌, Bool, true, false, ◌&&◌, ap, List, [], length, map, get_or, refl, sym, ◌∙◌, subst, arith}
 use Rattle.std.specs.List.{IsDistinct}
-use Rattle.std.specs.Prelude.{eqb, Option, Some, None, IfSome}
-use Rattle.std.proofs.lemmas.Bool.{cases_lt, eq-eqb}
-use Rattle.std.proofs.lemmas.List.{get_or_past}
+use Rattle.std.specs.Prelude.{eqb, Option, Some, None, IfSome, is_some, if◌then◌else◌}
+use Rattle.std.proofs.lemmas.Bool.{eq-eqb}
 use Rattle.std.proofs.lemmas.List.Folds.{list_any_at}
 use Rattle.kc_types.specs.Limits.{frame_limit, slot_limit}
 use Rattle.kc_types.specs.Configuration.{Configuration, slot_count}
@@ -11,62 +10,79 @@ use Rattle.kc_types.specs.declared.call.Call.{Call}
 use Rattle.kc_types.specs.declared.resource.Resource.TheVariants as resource
 use Rattle.kc_model.specs.State.{State}
 use Rattle.kc_model.specs.Resources.{Resource}
-use Rattle.kc_model.specs.Footprints.{call_at, footprint}
+use Rattle.kc_model.specs.Footprints.{footprint}
 use Rattle.kc_footprints.specs.declared.names.Names.{Names}
 use Rattle.kc_footprints.specs.declared.rows.Row.{Row}
 use Rattle.kc_footprints.specs.declared.rows.Span.{Span}
-use Rattle.kc_footprints.specs.Naming.{below, named_frame, names_of}
-use Rattle.kc_footprints.specs.Reach.{has_member, may_have, names_at, touches}
+use Rattle.kc_footprints.specs.Naming.{names_of}
+use Rattle.kc_footprints.specs.Reach.{has_member, is_at, reach_of, may_have, names_at, touches}
 use Rattle.kc_footprints.specs.Owned.{IsOwned}
 use Rattle.kc_footprints.specs.Planner.{has_pair, HaveFramesBelow}
-use Rattle.kc_footprints.specs.Rows.{row_touches, no_row, IsRow, IsRowOf, AreRowsOf, AreRows}
+use Rattle.kc_footprints.specs.Rows.{has_frame, is_of, row_touches, no_row, free_of, IsSpan, IsSpanOf, IsRow, IsRowOf, AreRowsOf, AreRows}
 use Rattle.kc_footprints.proofs.Existing.{may_have_low}
-use Rattle.kc_footprints.proofs.Carried.{names_are, touches_is}
-use Rattle.kc_footprints.proofs.Waves.{below_low, names_range}
+use Rattle.kc_footprints.proofs.Carried.{touches_is}
+use Rattle.kc_footprints.proofs.Waves.{length_names, names_range}
+
+-- what a span of a principal says
+module _ (sets : List (List ℕ)) (before : ℕ → ℕ → Bool) where
+  frames_are : (o : Option ℕ) (span : Option Span) → IsSpanOf sets before o span → (f : ℕ) → has_frame sets span f ≡ reach_of before o f
+  frames_are None None is f = refl
+  frames_are (Some p) (Some s) is f = is.2 f
+  frames_are o span is f = absurd is
+
+  principal_is : (o : Option ℕ) (span : Option Span) → IsSpanOf sets before o span → (v : ℕ) → is_of span v ≡ is_at o v
+  principal_is None None is v = refl
+  principal_is (Some p) (Some s) is v = ap (λ x. eqb x v) is.0
+  principal_is o span is v = absurd is
+
+  there_is : (o : Option ℕ) (span : Option Span) → IsSpanOf sets before o span → is_some span ≡ is_some o
+  there_is None None is = refl
+  there_is (Some p) (Some s) is = refl
+  there_is o span is = absurd is
+
+  span_in : (o : Option ℕ) (span : Option Span) → IsSpanOf sets before o span → IfSome span (IsSpan sets)
+  span_in (Some p) (Some s) is = is.1
+  span_in o None is = tt
+  span_in o span is = absurd is
+
+  span_low : (n : ℕ) (o : Option ℕ) (span : Option Span) → IfSome o (λ p. p < n) → n ≤ slot_limit → IsSpanOf sets before o span → IfSome span (λ s. s.principal < slot_limit)
+  span_low n (Some p) (Some s) low few is = let e = is.0 in omega arith
+  span_low n o None low few is = tt
+  span_low n o span low few is = absurd is
 
 module _ (config : Configuration) (calls : List Call) (pairs : List (ℕ × ℕ)) (sets : List (List ℕ)) (rows : List Row)
     (are : AreRowsOf (slot_count config) (has_pair pairs) (map (names_of config) calls) sets rows) (count : length rows ≡ length calls) where
-  row_is : (k : ℕ) → k < length calls → IsRowOf (slot_count config) (may_have (slot_count config) (has_pair pairs) (map (names_of config) calls) k) (names_of config (call_at calls k)) sets (get_or rows k no_row)
-  row_is k low =
-      subst (λ (n : Names). IsRowOf (slot_count config) (may_have (slot_count config) (has_pair pairs) (map (names_of config) calls) k) n sets (get_or rows k no_row))
-      (names_are config calls k low) (are k (rw count low))
-
-  frame_low : (o : Option ℕ) (n : ℕ) → n ≤ frame_limit → (p : Option ℕ) → p ≡ below n o → IfSome p (λ f. f < frame_limit)
-  frame_low o n few None e = tt
-  frame_low o n few (Some f) e = let l : f < n = subst (λ (q : Option ℕ). IfSome q (λ x. x < n)) (sym e) (below_low n o) in omega arith
-
-  span_low : (n : ℕ) → n ≤ slot_limit → (o : Option Span) → IfSome o (λ s. s.principal < n) → IfSome o (λ s. s.principal < slot_limit)
-  span_low n few None low = tt
-  span_low n few (Some s) low = omega arith
+  frame_low : (n : ℕ) → n ≤ frame_limit → (o p : Option ℕ) → p ≡ o → IfSome o (λ f. f < n) → IfSome p (λ f. f < frame_limit)
+  frame_low n few o None e low = tt
+  frame_low n few o (Some f) e low = let l : f < n = subst (λ (q : Option ℕ). IfSome q (λ x. x < n)) (sym e) low in omega arith
 
   -- the rows have only numbers of what can be, each once
   pub rows_are : HaveFramesBelow config.frames pairs → config.frames ≤ frame_limit → slot_count config ≤ slot_limit → length sets ≡ slot_count config + 1
-      → ((p f : ℕ) → p < slot_count config + 1 → has_member (get_or sets p []) f ≡ may_have (slot_count config) (has_pair pairs) (map (names_of config) calls) (length (map (names_of config) calls)) p f)
+      → ((p f : ℕ) → has_member (get_or sets p []) f ≡ may_have (slot_count config) (has_pair pairs) (map (names_of config) calls) (length (map (names_of config) calls)) p f)
       → ((p : ℕ) → IsDistinct eqb (get_or sets p [])) → AreRows sets rows
   rows_are exist frames slots size same once = record { low = low; once = once; each = each }
     where
       low : (p i : ℕ) → i < length (get_or sets p []) → get_or (get_or sets p []) i 0 < frame_limit
       low p i under =
-          elim (cases_lt p (length sets)) [
-            | inl there ↦
-                (let f : ℕ = get_or (get_or sets p []) i 0 in
-                let below_all : p < slot_count config + 1 = rw size at there in
-                let in_set : has_member (get_or sets p []) (get_or (get_or sets p []) i 0) ≡ true = list_any_at (eqb (get_or (get_or sets p []) i 0)) (get_or sets p []) i 0 under (eq-eqb (get_or (get_or sets p []) i 0) (get_or (get_or sets p []) i 0) refl) in
-                let l : get_or (get_or sets p []) i 0 < config.frames =
-                may_have_low (slot_count config) config.frames (has_pair pairs) (map (names_of config) calls) exist (λ k few. (names_range config calls k few).frame) (length (map (names_of config) calls)) p
-                (get_or (get_or sets p []) i 0) (omega arith) (sym (same p (get_or (get_or sets p []) i 0) below_all) ∙ in_set) in
-                omega arith)
-            | inr past ↦ (let e : get_or sets p [] ≡ [] = get_or_past sets p [] past in let none : i < length {A = ℕ} [] = rw e at under in absurd (omega arith))
-          ]
+          let f : ℕ = get_or (get_or sets p []) i 0 in
+          let in_set : has_member (get_or sets p []) (get_or (get_or sets p []) i 0) ≡ true = list_any_at (eqb (get_or (get_or sets p []) i 0)) (get_or sets p []) i 0 under (eq-eqb (get_or (get_or sets p []) i 0) (get_or (get_or sets p []) i 0) refl) in
+          let l : get_or (get_or sets p []) i 0 < config.frames =
+          may_have_low (slot_count config) config.frames (has_pair pairs) (map (names_of config) calls) exist (λ k few. (names_range config calls k few).frame) (length (map (names_of config) calls)) p
+          (get_or (get_or sets p []) i 0) (omega arith) (sym (same p (get_or (get_or sets p []) i 0)) ∙ in_set) in
+          omega arith
 
       each : (k : ℕ) → k < length rows → IsRow sets (get_or rows k no_row)
       each k under =
-          let is = row_is k (rw count at under) in
+          let is = are k under in
+          let row : Row = get_or rows k no_row in
+          let n : Names = names_at (map (names_of config) calls) k in
+          let before = may_have (slot_count config) (has_pair pairs) (map (names_of config) calls) k in
+          let range = names_range config calls k (let e = length_names config calls in omega arith) in
           record {
-            frame = frame_low (named_frame (call_at calls k)) config.frames frames (get_or rows k no_row).frame is.frame;
-            slot = is.slot_span;
-            slot_low = span_low (slot_count config) slots (get_or rows k no_row).slot is.slot_low;
-            free = is.free_span;
+            frame = frame_low config.frames frames n.frame row.frame is.frame range.frame;
+            slot = span_in sets before n.slot row.slot is.slot;
+            slot_low = span_low sets before (slot_count config) n.slot row.slot range.slot slots is.slot;
+            free = span_in sets before (free_of (slot_count config) n) row.free is.free;
           }
 
 -- a row is the call's footprint
@@ -78,7 +94,23 @@ row_touches_is m calls pairs owned sets rows are count k x low = by x ∙ touche
     is : IsRowOf (slot_count m.config) (may_have (slot_count m.config) (has_pair pairs) (map (names_of m.config) calls) k) (names_at (map (names_of m.config) calls) k) sets (get_or rows k no_row)
     is = are k (rw count low)
 
+    n : Names
+    n = names_at (map (names_of m.config) calls) k
+
+    before : ℕ → ℕ → Bool
+    before = may_have (slot_count m.config) (has_pair pairs) (map (names_of m.config) calls) k
+
+    free_reach : (free f : ℕ) (c : Bool) → reach_of before (if c then Some free else None) f ≡ (c && before free f)
+    free_reach free f true = refl
+    free_reach free f false = refl
+
+    free_there : (free : ℕ) (c : Bool) → is_some (if c then Some free else None) ≡ c
+    free_there free true = refl
+    free_there free false = refl
+
     by : (x : Resource) → row_touches sets (get_or rows k no_row) x ≡ touches (slot_count m.config) (has_pair pairs) (map (names_of m.config) calls) k x
-    by (resource.Frame f) = rw (is.frame, is.slot f, is.free_has f) refl
-    by (resource.Vm v) = is.slot_is v
-    by resource.Free = is.free_is
+    by (resource.Frame f) =
+        let row : Row = get_or rows k no_row in
+        rw (is.frame, frames_are sets before n.slot row.slot is.slot f, frames_are sets before (free_of (slot_count m.config) n) row.free is.free f, free_reach (slot_count m.config) f n.free) refl
+    by (resource.Vm v) = principal_is sets before n.slot (get_or rows k no_row).slot is.slot v
+    by resource.Free = there_is sets before (free_of (slot_count m.config) n) (get_or rows k no_row).free is.free ∙ free_there (slot_count m.config) n.free

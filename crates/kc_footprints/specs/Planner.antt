@@ -1,5 +1,5 @@
 -- What the planner keeps over the calls so far, and what its steps do.
-use Rattle.std.specs.Prelude.{◌≡◌, ◌≢◌, ℕ, ◌+◌, ◌<◌, ◌≤◌, ◌^◌, Bool, true, false, ◌&&◌, ◌||◌, eqb, List, [], length, get_or, set, take, Option, Some, None, IfSome, ◌⊎◌}
+use Rattle.std.specs.Prelude.{◌≡◌, ◌≢◌, ℕ, ◌<◌, ◌≤◌, ◌^◌, Bool, true, false, ◌&&◌, ◌||◌, eqb, List, [], length, get_or, set, take, Option, Some, None, IfSome, ◌⊎◌}
 use Rattle.std.specs.List.{list_any, IsDistinct}
 use Rattle.kc_footprints.specs.declared.names.Names.{Names}
 use Rattle.kc_footprints.specs.Reach.{has_member, is_at, names_principal, gains_by, may_have, touches}
@@ -132,4 +132,4 @@ ArePlanned free pairs cs waves = (k : ℕ) → k < length cs → ComesJustAfter 
 
 -- the sets have what each principal may have after all calls
 abbrev pub AreReached : ℕ → List (ℕ × ℕ) → List Names → List (List ℕ) → Type 0
-AreReached free pairs cs sets = (p f : ℕ) → p < free + 1 → has_member (get_or sets p []) f ≡ may_have free (has_pair pairs) cs (length cs) p f
+AreReached free pairs cs sets = (p f : ℕ) → has_member (get_or sets p []) f ≡ may_have free (has_pair pairs) cs (length cs) p f

@@ -1,11 +1,11 @@
 -- Footprints as rows of lengths into what principals may have.
-use Rattle.std.specs.Prelude.{◌≡◌, ℕ, ◌<◌, ◌≤◌, Bool, false, ◌||◌, not, eqb, List, [], ◌∷◌, map, length, get_or, take, Option, Some, None, IfSome, is_some, option_map, ◌&&◌, if◌then◌else◌}
+use Rattle.std.specs.Prelude.{◌≡◌, ℕ, ◌<◌, ◌≤◌, Bool, false, ◌||◌, not, eqb, List, [], ◌∷◌, map, length, get_or, take, Option, Some, None, IfSome, is_some, option_map, if◌then◌else◌}
 use Rattle.kc_types.specs.Limits.{frame_limit, slot_limit}
 use Rattle.kc_model.specs.Resources.{Resource}
 use Rattle.kc_types.specs.declared.resource.Resource.TheVariants as resource
 use Rattle.std.specs.List.{IsDistinct, filter}
 use Rattle.kc_footprints.specs.declared.names.Names.{Names}
-use Rattle.kc_footprints.specs.Reach.{has_member, is_at, reach_of, may_have, names_at}
+use Rattle.kc_footprints.specs.Reach.{has_member, is_at, may_have, names_at}
 use Rattle.kc_footprints.specs.declared.rows.Row.{Row}
 use Rattle.kc_footprints.specs.declared.rows.Span.{Span}
 
@@ -78,19 +78,25 @@ free_part sets frame slot (Some s) = resource.Free ∷ frames_of sets frame slot
 abbrev pub span_of : List (List ℕ) → ℕ → Span
 span_of sets p = record { principal = p; length = size_of (get_or sets p []) }
 
-abbrev pub row_of : List (List ℕ) → ℕ → Names → Row
-row_of sets free n = record { frame = n.frame; slot = option_map (span_of sets) n.slot; free = if n.free then Some (span_of sets free) else None }
+-- the free list, where the call names it
+abbrev pub free_of : ℕ → Names → Option ℕ
+free_of free n = if n.free then Some free else None
 
--- the row says what a call of these names touches, where reach says what principals may have before it
-pub record IsRowOf (free : ℕ) (before : ℕ → ℕ → Bool) (n : Names) (sets : List (List ℕ)) (row : Row) : Type 0 where
+abbrev pub row_of : List (List ℕ) → ℕ → Names → Row
+row_of sets free n = record { frame = n.frame; slot = option_map (span_of sets) n.slot; free = option_map (span_of sets) (free_of free n) }
+
+-- the span is that of the principal, where there is one, and its frames are those that the principal may have by `before`
+abbrev pub IsSpanOf : List (List ℕ) → (ℕ → ℕ → Bool) → Option ℕ → Option Span → Type 0
+IsSpanOf sets before None None = Unit {0}
+IsSpanOf sets before None (Some s) = ⊥
+IsSpanOf sets before (Some p) None = ⊥
+IsSpanOf sets before (Some p) (Some s) = (s.principal ≡ p) × IsSpan sets s × ((f : ℕ) → has_frame sets (Some s) f ≡ before p f)
+
+-- the row says what a call of these names touches, where `before` says what principals may have before it
+pub record IsRowOf (end : ℕ) (before : ℕ → ℕ → Bool) (n : Names) (sets : List (List ℕ)) (row : Row) : Type 0 where
   pub frame : row.frame ≡ n.frame
-  pub slot : (f : ℕ) → has_frame sets row.slot f ≡ reach_of before n.slot f
-  pub slot_is : (v : ℕ) → is_of row.slot v ≡ is_at n.slot v
-  pub slot_span : IfSome row.slot (IsSpan sets)
-  pub slot_low : IfSome row.slot (λ s. s.principal < free)
-  pub free_has : (f : ℕ) → has_frame sets row.free f ≡ (n.free && before free f)
-  pub free_is : is_some row.free ≡ n.free
-  pub free_span : IfSome row.free (IsSpan sets)
+  pub slot : IsSpanOf sets before n.slot row.slot
+  pub free : IsSpanOf sets before (free_of end n) row.free
 
 abbrev pub AreRowsOf : ℕ → (ℕ → ℕ → Bool) → List Names → List (List ℕ) → List Row → Type 0
 AreRowsOf free start cs sets rows = (k : ℕ) → k < length rows → IsRowOf free (may_have free start cs k) (names_at cs k) sets (get_or rows k no_row)

@@ -51,7 +51,7 @@ loop-names-preserved c =
       len = rw pushed (length-append waves (suc high ∷ []) ∙ omega arith);
       rows = rows_more c.args.free (has_pair c.args.pairs.now) c.args.calls.now c.loop-names.reaches c.gain.new.self c.loop-names.rows.items c.push-in-loop-names.new.self.items n
           (ap (names_at c.args.calls.now) (sym c.loop-names.invariant.count)) (in_range_all c.args.frames c.args.free c.args.calls.now c.requires.range c.loop-names.names-index).slot
-          (λ p f low. let same : length waves ≡ length c.loop-names.rows.items = len ∙ sym c.loop-names.invariant.count in
+          (λ p f. let same : length waves ≡ length c.loop-names.rows.items = len ∙ sym c.loop-names.invariant.count in
           subst (λ (x : ℕ). has_member (members_of c.loop-names.reaches p) f ≡ may_have c.args.free (has_pair c.args.pairs.now) c.args.calls.now x p f) same (going.sets p f))
           going.exact.sets_len gained.exact.sets_len gained.grown
           (rw c.row-row.ensures at c.in_ok-push-2.ensures.items) c.loop-names.invariant.rows;
@@ -66,8 +66,11 @@ returns-clause-plan c = λ k low.
     c.loop-names.invariant.going.planned (λ j. get_or waves j 0) (λ j l. refl) k below
 
 pub returns-clause-sets : goal.returns-clause-sets
-returns-clause-sets c = λ p f low.
+returns-clause-sets c = λ p f.
     let len : length c.loop-names.waves.items ≡ c.loop-names.names-index = c.loop-names.invariant.len in
     let principal_waves : length c.loop-names.waves.items ≡ length c.args.calls.now = omega arith in
     rw c.into_sets.ensures
     (subst (λ (x : ℕ). has_member (members_of c.loop-names.reaches p) f ≡ may_have c.args.free (has_pair c.args.pairs.now) c.args.calls.now x p f) principal_waves (c.loop-names.invariant.going.sets p f))
+
+pub returns-clause-rows : goal.returns-clause-rows
+returns-clause-rows c = rw c.into_sets.ensures c.loop-names.invariant.rows
