@@ -1,7 +1,7 @@
 -- A footprint has only what exists.
-use Rattle.std.proofs.Common.{ℕ, zero, suc, ◌≡◌, ◌<◌, ◌≤◌, Bool, true, false, ◌&&◌, ◌||◌, nat_lt, nat_eq, eqb-true, List, length, refl, ap, subst, ◌∙◌, arith}
+use Rattle.std.proofs.Common.{ℕ, zero, suc, ◌≡◌, ◌<◌, ◌≤◌, Bool, true, false, ◌&&◌, nat_lt, nat_eq, eqb-true, List, length, refl, ap, subst, ◌∙◌, arith, inl, inr}
 use Rattle.std.specs.Prelude.{eqb, Option, Some, None, IfSome}
-use Rattle.std.proofs.lemmas.Bool.{ltb-true, and_parts, eqb-true}
+use Rattle.std.proofs.lemmas.Bool.{ltb-true, and_parts, eqb-true, or_cases}
 use Rattle.kc_types.specs.Configuration.{Configuration, slot_count}
 use Rattle.kc_types.specs.declared.call.Call.{Call}
 use Rattle.kc_types.specs.declared.call.Call.TheVariants.{Give, Remap, Map, Drop, Clear}
@@ -30,16 +30,13 @@ gains-low config held low (Remap v i g) (Vm w) f h = low-same config.frames g f 
 gains-low config held low (Map v c g) (Vm w) f h = low-same config.frames g f (and_parts (nat_eq v w) (nat_lt g config.frames && nat_eq g f) h).1
 gains-low config held low call owner f h = cc
 
-either-low : (a b : Bool) (n f : ℕ) → (a || b) ≡ true → (a ≡ true → f < n) → (b ≡ true → f < n) → f < n
-either-low true b n f h first second = first refl
-either-low false b n f h first second = second h
-
 pub reach-low : (m : State) (calls : List Call) → IsLawful m → (k : ℕ) (owner : Owner) (f : ℕ) → same_owner Core owner ≡ false → reach m calls k owner f ≡ true → f < m.config.frames
 reach-low m calls is zero owner f differs h = rw is.frames at (exists m f (λ core. let no : same_owner (frame_at m f).owner owner ≡ false = ap (λ o. same_owner o owner) core ∙ differs in cc))
 reach-low m calls is (suc k) owner f differs h =
-    either-low (reach m calls k owner f) (gains m.config (reach m calls k) (call_at calls k) owner f) m.config.frames f h
-    (reach-low m calls is k owner f differs)
-    (gains-low m.config (reach m calls k) (λ v f there. reach-low m calls is k (Vm v) f refl there) (call_at calls k) owner f)
+    elim (or_cases (reach m calls k owner f) (gains m.config (reach m calls k) (call_at calls k) owner f) h) [
+      | inl old ↦ reach-low m calls is k owner f differs old
+      | inr new ↦ gains-low m.config (reach m calls k) (λ v f there. reach-low m calls is k (Vm v) f refl there) (call_at calls k) owner f new
+    ]
 
 -- ---- the same of the planner's numbers
 
@@ -62,6 +59,7 @@ pub may_have_low : (free n : ℕ) (start : ℕ → ℕ → Bool) (cs : List Name
 may_have_low free n start cs low frames zero p f few h = low p f h
 may_have_low free n start cs low frames (suc k) p f few h =
     let before : (q g : ℕ) → may_have free start cs k q g ≡ true → g < n = λ q g there. may_have_low free n start cs low frames k q g (omega arith) there in
-    either-low (may_have free start cs k p f) (gains_by free (may_have free start cs k) (names_at cs k) (names_at cs k).gain p f) n f h
-    (before p f)
-    (gained_low free n (may_have free start cs k) before (names_at cs k) (frames k (omega arith)) (names_at cs k).gain p f)
+    elim (or_cases (may_have free start cs k p f) (gains_by free (may_have free start cs k) (names_at cs k) (names_at cs k).gain p f) h) [
+      | inl old ↦ before p f old
+      | inr new ↦ gained_low free n (may_have free start cs k) before (names_at cs k) (frames k (omega arith)) (names_at cs k).gain p f new
+    ]

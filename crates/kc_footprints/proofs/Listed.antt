@@ -1,6 +1,6 @@
 -- What a footprint lists.
 use Rattle.std.proofs.Common.{◌≡◌, ℕ, zero, suc, ◌+◌, ◌<◌, ◌≤◌, Bool, true, false, not, ◌&&◌, ◌||◌, cond, nat_lt, List, [], ◌∷◌, ◌++◌, length, map, take, get_or, refl, sym, ◌∙◌, ap, arith}
-use Rattle.std.specs.Prelude.{eqb, Option, Some, None, IfSome, is_some, position, slice_get}
+use Rattle.std.specs.Prelude.{eqb, Option, Some, None, IfSome, is_some, position}
 use Rattle.std.specs.List.{AllByRecursion, IsDistinct, filter, list_any, position_or_len}
 use Rattle.std.proofs.lemmas.Bool.{eqb-true, eq-eqb, and_right, or_parts, or_from, or_left, or_right}
 use Rattle.std.proofs.lemmas.Bool.Decides.{nat_tests}
@@ -20,7 +20,7 @@ lt_suc : (a b : ℕ) → nat_lt (1 + a) (suc b) ≡ nat_lt a b
 lt_suc a b = grind (arith, nat_tests)
 
 -- whether the first n hold f, by the place of f
-pub first_by_place : (xs : List ℕ) (f n : ℕ) → n ≤ length xs → has_member (take n xs) f ≡ nat_lt (position_or_len (eqb f) xs) n
+first_by_place : (xs : List ℕ) (f n : ℕ) → n ≤ length xs → has_member (take n xs) f ≡ nat_lt (position_or_len (eqb f) xs) n
 first_by_place [] f n low = let e : n ≡ 0 = omega arith in rw e refl
 first_by_place (x ∷ xs) f zero low = let e : nat_lt (position_or_len (eqb f) (x ∷ xs)) 0 ≡ false = grind (arith, nat_tests) in sym e
 first_by_place (x ∷ xs) f (suc n) low = by x xs f n (eqb f x) refl (first_by_place xs f n (omega arith))
@@ -29,24 +29,17 @@ first_by_place (x ∷ xs) f (suc n) low = by x xs f n (eqb f x) refl (first_by_p
     by x xs f n true e ih = rw e (let z : nat_lt 0 (suc n) ≡ true = grind (arith, nat_tests) in sym z)
     by x xs f n false e ih = rw e (ih ∙ sym (lt_suc (position_or_len (eqb f) xs) n))
 
-pub some_place : (xs : List ℕ) (f n i : ℕ) → Some i ≡ position (eqb f) xs → n ≤ length xs → nat_lt i n ≡ has_member (take n xs) f
-some_place xs f n i e low = case (nat_lt (position_or_len (eqb f) xs) (length xs)) refl
-  where
-    case : (b : Bool) → nat_lt (position_or_len (eqb f) xs) (length xs) ≡ b → nat_lt i n ≡ has_member (take n xs) f
-    case true t = let is : Some i ≡ Some (position_or_len (eqb f) xs) = rw t at e in let j : i ≡ position_or_len (eqb f) xs = cc in rw j (sym (first_by_place xs f n low))
-    case false t = let is : Some i ≡ None = rw t at e in cc
+-- whether a place is among the first n
+abbrev pub is_within : ℕ → Option ℕ → Bool
+is_within n None = false
+is_within n (Some i) = nat_lt i n
 
-pub no_place : (xs : List ℕ) (f n : ℕ) → None ≡ position (eqb f) xs → n ≤ length xs → false ≡ has_member (take n xs) f
-no_place xs f n e low = case (nat_lt (position_or_len (eqb f) xs) (length xs)) refl
+pub place_is : (xs : List ℕ) (f n : ℕ) (place : Option ℕ) → place ≡ position (eqb f) xs → n ≤ length xs → is_within n place ≡ has_member (take n xs) f
+place_is xs f n place is low = rw is (by (nat_lt (position_or_len (eqb f) xs) (length xs)) refl ∙ sym (first_by_place xs f n low))
   where
-    case : (b : Bool) → nat_lt (position_or_len (eqb f) xs) (length xs) ≡ b → false ≡ has_member (take n xs) f
-    case true t = let is : None ≡ Some (position_or_len (eqb f) xs) = rw t at e in cc
-    case false t = let past : nat_lt (position_or_len (eqb f) xs) n ≡ false = grind (arith, nat_tests) in sym (first_by_place xs f n low ∙ past)
-
-pub some_at : (xs : List ℕ) (i x : ℕ) → slice_get xs i ≡ Some x → get_or xs i 0 ≡ x
-some_at [] i x e = cc
-some_at (y ∷ xs) zero x e = cc
-some_at (y ∷ xs) (suc i) x e = some_at xs i x e
+    by : (b : Bool) → nat_lt (position_or_len (eqb f) xs) (length xs) ≡ b → is_within n (cond b (Some (position_or_len (eqb f) xs)) None) ≡ nat_lt (position_or_len (eqb f) xs) n
+    by true there = refl
+    by false there = grind (arith, nat_tests)
 
 -- a frame more, or one that is listed already
 pub listed_more : (test : ℕ → Bool) (xs : List ℕ) (i m : ℕ) (b : Bool) (before mid : List Resource) → i < length xs → get_or xs i 0 ≡ m → test m ≡ b

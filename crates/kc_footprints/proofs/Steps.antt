@@ -1,5 +1,5 @@
 -- One call more is planned and tracked.
-use Rattle.std.proofs.Common.{◌≡◌, ℕ, zero, suc, ◌+◌, ◌-◌, ◌<◌, ◌≤◌, Bool, true, false, refl, ap, arith, inl, inr}
+use Rattle.std.proofs.Common.{◌≡◌, ℕ, zero, suc, ◌+◌, ◌-◌, ◌<◌, ◌≤◌, Bool, true, false, cond, refl, ap, arith, inl, inr}
 use Rattle.std.specs.Prelude.{◌⊎◌}
 use Rattle.std.proofs.Math.Nat.{eq-or-lt_of_le}
 use Rattle.waves.specs.Planned.{ComesJustAfter}
@@ -65,19 +65,22 @@ module _ (names_frame names_principal : ℕ → ℕ → Bool) (has : ℕ → ℕ
 
   module _ (w : ℕ) (near : ℕ → ℕ → Bool) (t : Stamps) (is_near : IsNear names_frame names_principal has touches size k near)
       (noted : IsNoted (names_frame k) (names_principal k) (λ p f. has k p (Frame f)) size w near s t) (planned : ComesJustAfter touches wave k) (is : wave k ≡ w) where
-    -- a call that named a frame: an earlier one, or call k
-    frame_bound : (j f : ℕ) → j < suc k → names_frame j f ≡ true → (b : Bool) → names_frame k f ≡ b → wave j ≤ frame_wave t f
-    frame_bound j f low nj b nk =
-        let e = noted.frame_is f in
+    -- the last wave of a call that named something, after call k
+    bound : (name : ℕ → Bool) (before after : ℕ) → after ≡ cond (name k) w before → ((j : ℕ) → j < k → name j ≡ true → wave j ≤ before) → ((j : ℕ) → j < k → name j ≡ true → name k ≡ true → wave j < wave k)
+        → (j : ℕ) → j < suc k → name j ≡ true → wave j ≤ after
+    bound name before after now old rise j low nj =
         let step : j ≤ k = omega arith in
         elim (eq-or-lt_of_le step) [
-          | inl same ↦ (let yes : names_frame k f ≡ true = rw same at nj in let x : wave j ≡ wave k = ap wave same in let now = rw yes at e in omega arith)
-          | inr below ↦ earlier b nk below
+          | inl same ↦ (let yes : name k ≡ true = rw same at nj in let x : wave j ≡ wave k = ap wave same in let e = rw yes at now in omega arith)
+          | inr below ↦ earlier below (name k) refl
         ]
       where
-        earlier : (b : Bool) → names_frame k f ≡ b → j < k → wave j ≤ frame_wave t f
-        earlier true nk below = let now = rw nk at (noted.frame_is f) in let x : wave j < wave k = planned.above j (Frame f) below (shape.by_name j f nj) (shape.by_name k f nk) in omega arith
-        earlier false nk below = let now = rw nk at (noted.frame_is f) in let x = tracked.frame_bound j f below nj in omega arith
+        earlier : j < k → (b : Bool) → name k ≡ b → wave j ≤ after
+        earlier below true nk = let e = rw nk at now in let x = rise j below nj nk in omega arith
+        earlier below false nk = let e = rw nk at now in let x = old j below nj in omega arith
+
+    frame_bound : (j f : ℕ) → j < suc k → names_frame j f ≡ true → wave j ≤ frame_wave t f
+    frame_bound j f = bound (λ i. names_frame i f) (frame_wave s f) (frame_wave t f) (noted.frame_is f) (λ i. tracked.frame_bound i f) (λ i low ni nk. planned.above i (Frame f) low (shape.by_name i f ni) (shape.by_name k f nk)) j
 
     frame_got : (f : ℕ) (b : Bool) → names_frame k f ≡ b → (frame_wave t f ≡ 0) ⊎ ((j : ℕ) × (j < suc k) × (names_frame j f ≡ true) × (wave j ≡ frame_wave t f))
     frame_got f true nk = let now = rw nk at (noted.frame_is f) in inr (k, omega arith, nk, omega arith)
@@ -88,22 +91,9 @@ module _ (names_frame names_principal : ℕ → ℕ → Bool) (has : ℕ → ℕ
           | inr it ↦ inr (it.0, (let l = it.1 in omega arith), it.2, (let l = it.3 in omega arith))
         ]
 
-    -- and one that named a principal
-    principal_bound : (j p : ℕ) → j < suc k → names_principal j p ≡ true → (b : Bool) → names_principal k p ≡ b → wave j ≤ principal_wave t p
-    principal_bound j p low nj b nk =
-        let e = noted.principal_is p in
-        let step : j ≤ k = omega arith in
-        elim (eq-or-lt_of_le step) [
-          | inl same ↦ (let yes : names_principal k p ≡ true = rw same at nj in let x : wave j ≡ wave k = ap wave same in let now = rw yes at e in omega arith)
-          | inr below ↦ earlier b nk below
-        ]
-      where
-        earlier : (b : Bool) → names_principal k p ≡ b → j < k → wave j ≤ principal_wave t p
-        earlier true nk below =
-            let own = shape.own k p nk in
-            let now = rw nk at (noted.principal_is p) in
-            let x : wave j < wave k = planned.above j own.0 below (shape.by_part j p own.0 nj (own.1 j)) (shape.by_part k p own.0 nk (own.1 k)) in omega arith
-        earlier false nk below = let now = rw nk at (noted.principal_is p) in let x = tracked.principal_bound j p below nj in omega arith
+    principal_bound : (j p : ℕ) → j < suc k → names_principal j p ≡ true → wave j ≤ principal_wave t p
+    principal_bound j p = bound (λ i. names_principal i p) (principal_wave s p) (principal_wave t p) (noted.principal_is p) (λ i. tracked.principal_bound i p)
+        (λ i low ni nk. let own = shape.own k p nk in planned.above i own.0 low (shape.by_part i p own.0 ni (own.1 i)) (shape.by_part k p own.0 nk (own.1 k))) j
 
     principal_got : (p : ℕ) (b : Bool) → names_principal k p ≡ b
         → (principal_wave t p ≡ 0) ⊎ ((j : ℕ) × (j < suc k) × (names_principal j p ≡ true) × ((r : Resource) → has (suc k) p r ≡ true → touches j r ≡ true) × (wave j ≡ principal_wave t p))
@@ -166,9 +156,9 @@ module _ (names_frame names_principal : ℕ → ℕ → Bool) (has : ℕ → ℕ
 
     pub one_more : AreTracked names_frame names_principal has touches wave size (suc k) t
     one_more = record {
-      frame_bound = λ j f low nj. frame_bound j f low nj (names_frame k f) refl;
+      frame_bound = frame_bound;
       frame_got = λ f. frame_got f (names_frame k f) refl;
-      principal_bound = λ j p low nj. principal_bound j p low nj (names_principal k p) refl;
+      principal_bound = principal_bound;
       principal_got = λ p. principal_got p (names_principal k p) refl;
       reach_bound = reach_bound;
       reach_got = reach_got;

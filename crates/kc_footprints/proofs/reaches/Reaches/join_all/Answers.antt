@@ -1,10 +1,10 @@
 use Rattle.std.proofs.Common.{◌≡◌, ◌&&◌, arith, length, get_or, set, subst, sym, ℕ}
 use Rattle.std.specs.Prelude.{eqb, slice_get, Some}
+use Rattle.std.proofs.lemmas.Option.{get_or_from_slice_get}
 use Rattle.std.proofs.lemmas.Grind.{common_steps}
 use Rattle.kc_footprints.specs.Members.{has_member}
 use Rattle.kc_footprints.specs.Planner.{Reached, members_of, IsWider}
 use Rattle.kc_footprints.proofs.Joins.{IsFreeing, freeing_start, freeing_more, freed_all}
-use Rattle.kc_footprints.proofs.Listed.{some_at}
 use Rattle.kc_footprints.proofs.reaches.Reaches.join_all.Goals as goal
 
 pub loop-place-init : goal.loop-place-init
@@ -20,7 +20,7 @@ loop-place-preserved c =
     let same_size : length b.sets ≡ length a.sets = so_far.wider.exact.sets_len in
     let count : c.len-count.result ≡ length (members_of a c.args.slot) = grind (arith, common_steps) in
     let found : slice_get (members_of b c.args.slot) c.loop-place.place ≡ Some c.in-Some.frame = grind (arith, common_steps) in
-    let here = some_at (members_of a c.args.slot) c.loop-place.place c.in-Some.frame (rw so_far.slot at found) in
+    let here = get_or_from_slice_get (members_of a c.args.slot) c.loop-place.place c.in-Some.frame 0 (rw so_far.slot at found) in
     freeing_more (length a.sets) c.args.free c.args.slot c.loop-place.place c.in-Some.frame a b c.join.new.self c.requires.slot (omega arith) here so_far (rw same_size at c.in_ok-join.ensures)
 
 pub returns : goal.returns
