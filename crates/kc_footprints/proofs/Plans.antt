@@ -88,84 +88,76 @@ module _ (frames free : ℕ) (start : ℕ → ℕ → Bool) (cs : List Names) (r
       all p q (resource.Vm v) p_low q_low hp hq = near_same h p q (eqb-true p v (and_parts (eqb p v) (nat_lt v free) hp).0 ∙ sym (eqb-true q v (and_parts (eqb q v) (nat_lt v free) hq).0))
       all p q resource.Free p_low q_low hp hq = near_same h p q (sym (eqb-true free p hp) ∙ eqb-true free q hq)
 
-  pub high_low : (waves : List ℕ) (h : Reached) (s : Stamps) (n : Names) (k high : ℕ) → n ≡ names_at cs k → IsGoing frames free start cs waves h s → IsHigh (free + 1) free n h s high → high ≤ length waves
-  high_low waves h s n k high is going found =
-      let tracked = going.tracked (λ j. get_or waves j 0) (λ j l. refl) in
-      elim found.got [
-        | inl none ↦ omega arith
-        | inr some ↦
-            elim some [
-              | inl by_frame ↦ (let e = by_frame.2 in elim (tracked.frame_got by_frame.0) [ inl none ↦ omega arith | inr it ↦ (let f = it.3 in let l = going.low it.0 it.1 in omega arith) ])
-              | inr more ↦
-                  elim more [
-                    | inl by_principal ↦ (let e = by_principal.5 in elim (tracked.principal_got by_principal.1) [ inl none ↦ omega arith | inr it ↦ (let f = it.4 in let l = going.low it.0 it.1 in omega arith) ])
-                    | inr by_reach ↦
-                        (let e = by_reach.2 in
-                        elim (tracked.reach_got by_reach.0 (named_below k by_reach.0 (rw is at by_reach.1))) [ inl none ↦ omega arith | inr it ↦ (let f = it.5 in let l = going.low it.0 it.2 in omega arith) ])
-                  ]
-            ]
-      ]
+  module _ (waves : List ℕ) (h : Reached) (s : Stamps) (n : Names) (high : ℕ) (is : n ≡ names_at cs (length waves)) (going : IsGoing frames free start cs waves h s) (found_n : IsHigh (free + 1) free n h s high) where
+    len : length (waves ++ suc high ∷ []) ≡ suc (length waves)
+    len = length-append waves (suc high ∷ []) ∙ omega arith
 
-  -- one more call
-  pub going_more : (waves more : List ℕ) (h g : Reached) (s t : Stamps) (n : Names) (high : ℕ) → n ≡ names_at cs (length waves) → more ≡ waves ++ suc high ∷ []
-      → IsGoing frames free start cs waves h s → IsHigh (free + 1) free n h s high → IsWritten (free + 1) free n (suc high) h s t → AreGained (free + 1) free n h g
-      → length t.frame_waves ≡ frames → length t.principal_waves ≡ free + 1 → length t.reach_waves ≡ free + 1 → IsGoing frames free start cs more g t
-  going_more waves more h g s t n high is pushed going found_n written_n gained_n frame_len principal_len reach_len = rw pushed record {
-    planned = λ wave goes k low.
-        let step : k ≤ length waves = let l : k < suc (length waves) = rw len at low in omega arith in
-        elim (eq-or-lt_of_le step) [
-          | inl same ↦ subst (λ (x : ℕ). ComesJustAfter (touches free start cs) wave x) (sym same) (just_at wave goes)
-          | inr below ↦ going.planned wave (earlier wave goes) k below
-        ];
-    tracked = λ wave goes.
-        rw len
-        (one_more (λ j f. is_at (names_at cs j).frame f) (λ j p. names_principal free (names_at cs j) p) (λ j. has_part free (may_have free start cs j)) (touches free start cs) shape
-        wave (free + 1) (length waves) s named_below (going.tracked wave (earlier wave goes)) (suc high) (is_near h) t (near_at (length waves) h going.sets going.exact) noted (just_at wave goes) (last_is wave goes));
-    low = λ j under.
-        let step : j ≤ length waves = let l : j < suc (length waves) = rw len at under in omega arith in
-        let most = high_low waves h s n (length waves) high is going found_n in
-        rw len
-        (elim (eq-or-lt_of_le step) [
-          | inl same ↦ (let e = get_or_push waves (suc high) 0 j (sym same) in omega arith)
-          | inr below ↦ (let e = get_or_append_left waves (suc high ∷ []) 0 j below in let l = going.low j below in omega arith)
-        ]);
-    sets = λ p f. rw len (gained.sets p f ∙ ap (λ (r : ℕ → ℕ → Bool). r p f || gains_by free r (names_at cs (length waves)) (names_at cs (length waves)).gain p f) same_reach);
-    exact = gained.exact;
-    frame_len = frame_len;
-    principal_len = principal_len;
-    reach_len = reach_len;
-  }
-    where
-      len : length (waves ++ suc high ∷ []) ≡ suc (length waves)
-      len = length-append waves (suc high ∷ []) ∙ omega arith
+    shape : Shape (λ j f. is_at (names_at cs j).frame f) (λ j p. names_principal free (names_at cs j) p) (λ j. has_part free (may_have free start cs j)) (touches free start cs)
+    shape = the_shape free start cs (λ k. (range k).slot)
 
-      shape : Shape (λ j f. is_at (names_at cs j).frame f) (λ j p. names_principal free (names_at cs j) p) (λ j. has_part free (may_have free start cs j)) (touches free start cs)
-      shape = the_shape free start cs (λ k. (range k).slot)
+    -- what the sets say is what the definitions say
+    same_reach : ◌≡◌ {A = ℕ → ℕ → Bool} (λ p f. has_member (members_of h p) f) (may_have free start cs (length waves))
+    same_reach = fun_ext (λ p. fun_ext (λ f. going.sets p f))
 
-      -- what the sets say is what the definitions say
-      same_reach : ◌≡◌ {A = ℕ → ℕ → Bool} (λ p f. has_member (members_of h p) f) (may_have free start cs (length waves))
-      same_reach = fun_ext (λ p. fun_ext (λ f. going.sets p f))
+    found : IsFound (λ f. is_at (names_at cs (length waves)).frame f) (λ p. names_principal free (names_at cs (length waves)) p) (may_have free start cs (length waves)) (free + 1) high s
+    found =
+        subst (λ (r : ℕ → ℕ → Bool). IsFound (λ f. is_at (names_at cs (length waves)).frame f) (λ p. names_principal free (names_at cs (length waves)) p) r (free + 1) high s) same_reach
+        (subst (λ (x : Names). IsHigh (free + 1) free x h s high) is found_n)
 
-      found : IsFound (λ f. is_at (names_at cs (length waves)).frame f) (λ p. names_principal free (names_at cs (length waves)) p) (may_have free start cs (length waves)) (free + 1) high s
-      found =
-          subst (λ (r : ℕ → ℕ → Bool). IsFound (λ f. is_at (names_at cs (length waves)).frame f) (λ p. names_principal free (names_at cs (length waves)) p) r (free + 1) high s) same_reach
-          (subst (λ (x : Names). IsHigh (free + 1) free x h s high) is found_n)
+    earlier : (wave : ℕ → ℕ) → Goes wave (waves ++ suc high ∷ []) → Goes wave waves
+    earlier wave goes j low = goes j (rw len (omega arith)) ∙ get_or_append_left waves (suc high ∷ []) 0 j low
 
-      noted : IsNoted (λ f. is_at (names_at cs (length waves)).frame f) (λ p. names_principal free (names_at cs (length waves)) p) (may_have free start cs (length waves)) (free + 1) (suc high) (is_near h) s t
-      noted =
-          subst (λ (r : ℕ → ℕ → Bool). IsNoted (λ f. is_at (names_at cs (length waves)).frame f) (λ p. names_principal free (names_at cs (length waves)) p) r (free + 1) (suc high) (is_near h) s t) same_reach
-          (subst (λ (x : Names). IsWritten (free + 1) free x (suc high) h s t) is written_n)
+    last_is : (wave : ℕ → ℕ) → Goes wave (waves ++ suc high ∷ []) → wave (length waves) ≡ suc high
+    last_is wave goes = goes (length waves) (rw len (omega arith)) ∙ get_or_push waves (suc high) 0 (length waves) refl
 
-      gained : AreGained (free + 1) free (names_at cs (length waves)) h g
-      gained = subst (λ (x : Names). AreGained (free + 1) free x h g) is gained_n
+    just_at : (wave : ℕ → ℕ) → Goes wave (waves ++ suc high ∷ []) → ComesJustAfter (touches free start cs) wave (length waves)
+    just_at wave goes =
+        just_after (λ j f. is_at (names_at cs j).frame f) (λ j p. names_principal free (names_at cs j) p) (λ j. has_part free (may_have free start cs j)) (touches free start cs) shape
+        wave (free + 1) (length waves) s named_below (going.tracked wave (earlier wave goes)) high found (last_is wave goes)
 
-      earlier : (wave : ℕ → ℕ) → Goes wave (waves ++ suc high ∷ []) → Goes wave waves
-      earlier wave goes j low = goes j (rw len (omega arith)) ∙ get_or_append_left waves (suc high ∷ []) 0 j low
+    -- the next wave comes at most one later than there are calls
+    pub high_low : high ≤ length waves
+    high_low =
+        let wave : ℕ → ℕ = λ j. get_or (waves ++ suc high ∷ []) j 0 in
+        let last = last_is wave (λ j low. refl) in
+        elim (just_at wave (λ j low. refl)).just [
+          | inl first ↦ omega arith
+          | inr it ↦ (let e = it.5 in let same = earlier wave (λ j low. refl) it.0 it.2 in let l = going.low it.0 it.2 in omega arith)
+        ]
 
-      last_is : (wave : ℕ → ℕ) → Goes wave (waves ++ suc high ∷ []) → wave (length waves) ≡ suc high
-      last_is wave goes = goes (length waves) (rw len (omega arith)) ∙ get_or_push waves (suc high) 0 (length waves) refl
+    -- one more call
+    pub going_more : (more : List ℕ) (g : Reached) (t : Stamps) → more ≡ waves ++ suc high ∷ [] → IsWritten (free + 1) free n (suc high) h s t → AreGained (free + 1) free n h g
+        → length t.frame_waves ≡ frames → length t.principal_waves ≡ free + 1 → length t.reach_waves ≡ free + 1 → IsGoing frames free start cs more g t
+    going_more more g t pushed written_n gained_n frame_len principal_len reach_len = rw pushed record {
+      planned = λ wave goes k low.
+          let step : k ≤ length waves = let l : k < suc (length waves) = rw len at low in omega arith in
+          elim (eq-or-lt_of_le step) [
+            | inl same ↦ subst (λ (x : ℕ). ComesJustAfter (touches free start cs) wave x) (sym same) (just_at wave goes)
+            | inr below ↦ going.planned wave (earlier wave goes) k below
+          ];
+      tracked = λ wave goes.
+          rw len
+          (one_more (λ j f. is_at (names_at cs j).frame f) (λ j p. names_principal free (names_at cs j) p) (λ j. has_part free (may_have free start cs j)) (touches free start cs) shape
+          wave (free + 1) (length waves) s named_below (going.tracked wave (earlier wave goes)) (suc high) (is_near h) t (near_at (length waves) h going.sets going.exact) noted (just_at wave goes) (last_is wave goes));
+      low = λ j under.
+          let step : j ≤ length waves = let l : j < suc (length waves) = rw len at under in omega arith in
+          let most = high_low in
+          rw len
+          (elim (eq-or-lt_of_le step) [
+            | inl same ↦ (let e = get_or_push waves (suc high) 0 j (sym same) in omega arith)
+            | inr below ↦ (let e = get_or_append_left waves (suc high ∷ []) 0 j below in let l = going.low j below in omega arith)
+          ]);
+      sets = λ p f. rw len (gained.sets p f ∙ ap (λ (r : ℕ → ℕ → Bool). r p f || gains_by free r (names_at cs (length waves)) (names_at cs (length waves)).gain p f) same_reach);
+      exact = gained.exact;
+      frame_len = frame_len;
+      principal_len = principal_len;
+      reach_len = reach_len;
+    }
+      where
+        noted : IsNoted (λ f. is_at (names_at cs (length waves)).frame f) (λ p. names_principal free (names_at cs (length waves)) p) (may_have free start cs (length waves)) (free + 1) (suc high) (is_near h) s t
+        noted =
+            subst (λ (r : ℕ → ℕ → Bool). IsNoted (λ f. is_at (names_at cs (length waves)).frame f) (λ p. names_principal free (names_at cs (length waves)) p) r (free + 1) (suc high) (is_near h) s t) same_reach
+            (subst (λ (x : Names). IsWritten (free + 1) free x (suc high) h s t) is written_n)
 
-      just_at : (wave : ℕ → ℕ) → Goes wave (waves ++ suc high ∷ []) → ComesJustAfter (touches free start cs) wave (length waves)
-      just_at wave goes =
-          just_after (λ j f. is_at (names_at cs j).frame f) (λ j p. names_principal free (names_at cs j) p) (λ j. has_part free (may_have free start cs j)) (touches free start cs) shape
-          wave (free + 1) (length waves) s named_below (going.tracked wave (earlier wave goes)) high found (last_is wave goes)
+        gained : AreGained (free + 1) free (names_at cs (length waves)) h g
+        gained = subst (λ (x : Names). AreGained (free + 1) free x h g) is gained_n

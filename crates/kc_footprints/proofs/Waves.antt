@@ -41,7 +41,3 @@ pub waves_are : (m : State) (calls : List Call) (pairs : List (ℕ × ℕ)) (wav
 waves_are m calls pairs wave owned each =
     is_plan (footprint m calls) wave (λ k r. r) (length calls)
     (λ k low. carried m calls pairs owned wave k low (each k (let e = length_names m.config calls in rw e low)))
-
--- waves count from 1
-pub waves_some : (m : State) (calls : List Call) (wave : ℕ → ℕ) → IsWaves m calls wave → (k : ℕ) → k < length calls → 0 < wave k
-waves_some m calls wave waves k low = let it = (waves k low).reached in let is : wave k ≡ suc (length it.0) = it.2 in omega arith

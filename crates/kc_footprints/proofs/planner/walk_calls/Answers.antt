@@ -1,4 +1,5 @@
-use Rattle.std.proofs.Common.{◌≡◌, ◌+◌, ◌<◌, suc, arith, refl, length, sym, ◌∙◌, ap, get_or, ℕ, List, ◌∷◌, ◌++◌, [], subst, length-append, rules}
+use Rattle.std.proofs.Common.{◌≡◌, ◌+◌, ◌<◌, suc, arith, refl, length, sym, ◌∙◌, ap, get_or, ℕ, List, ◌∷◌, ◌++◌, [], subst, rules}
+use Rattle.std.proofs.lemmas.List.{length_push}
 use Rattle.kc_footprints.specs.declared.names.Names.{Names}
 use Rattle.kc_footprints.specs.Reach.{has_member, names_at, may_have}
 use Rattle.kc_footprints.specs.Planner.{IsHigh, IsWritten, AreGained, has_pair, members_of}
@@ -19,43 +20,41 @@ loop-names-init c = record {
 pub overflow_add-wave : goal.overflow_add-wave
 overflow_add-wave c =
     let going = c.loop-names.invariant.going in
-    let found : IsHigh (c.args.free + 1) c.args.free (names_at c.args.calls.now c.loop-names.names-index) c.loop-names.reaches c.loop-names.planner c.highest-wave.result = rw going.reach_len at c.highest-wave.ensures in
-    let range = in_range_all c.args.frames c.args.free c.args.calls.now c.requires.range in
-    let most = high_low c.args.frames c.args.free (has_pair c.args.pairs.now) c.args.calls.now range c.loop-names.waves.items c.loop-names.reaches c.loop-names.planner _ c.loop-names.names-index c.highest-wave.result refl going found in
     let len = c.loop-names.invariant.len in
+    let n : Names = names_at c.args.calls.now c.loop-names.names-index in
+    let found : IsHigh (c.args.free + 1) c.args.free n c.loop-names.reaches c.loop-names.planner c.highest-wave.result = rw going.reach_len at c.highest-wave.ensures in
+    let most =
+    high_low c.args.frames c.args.free (has_pair c.args.pairs.now) c.args.calls.now (in_range_all c.args.frames c.args.free c.args.calls.now c.requires.range)
+    c.loop-names.waves.items c.loop-names.reaches c.loop-names.planner n c.highest-wave.result (ap (names_at c.args.calls.now) (sym len)) going found in
     omega arith
 
 pub loop-names-preserved : goal.loop-names-preserved
 loop-names-preserved c =
     let waves : List ℕ = c.loop-names.waves.items in
+    let rows = c.loop-names.rows.items in
     let high : ℕ = c.highest-wave.result in
+    let start = has_pair c.args.pairs.now in
     let going = c.loop-names.invariant.going in
     let len : length waves ≡ c.loop-names.names-index = c.loop-names.invariant.len in
+    let count = c.loop-names.invariant.count in
     let plus : high + 1 ≡ suc high = omega arith in
     let pushed : c.push.new.self.items ≡ waves ++ suc high ∷ [] = rw plus at c.in_ok-push.ensures.items in
     let n : Names = names_at c.args.calls.now c.loop-names.names-index in
     let found : IsHigh (c.args.free + 1) c.args.free n c.loop-names.reaches c.loop-names.planner high = rw going.reach_len at c.highest-wave.ensures in
-    let raw : IsWritten (length c.loop-names.planner.reach_waves) c.args.free n (high + 1) c.loop-names.reaches c.loop-names.planner c.note.new.self = c.note.ensures.written in
-    let written : IsWritten (c.args.free + 1) c.args.free n (suc high) c.loop-names.reaches c.loop-names.planner c.note.new.self =
-    subst (λ (x : ℕ). IsWritten (c.args.free + 1) c.args.free n x c.loop-names.reaches c.loop-names.planner c.note.new.self) plus
-    (subst (λ (x : ℕ). IsWritten x c.args.free n (high + 1) c.loop-names.reaches c.loop-names.planner c.note.new.self) going.reach_len raw) in
-    let got : AreGained (length c.loop-names.reaches.sets) c.args.free n c.loop-names.reaches c.gain.new.self = c.in_ok-gain.ensures in
-    let gained : AreGained (c.args.free + 1) c.args.free n c.loop-names.reaches c.gain.new.self =
-    subst (λ (x : ℕ). AreGained x c.args.free n c.loop-names.reaches c.gain.new.self) going.exact.sets_len got in
-    let is : n ≡ names_at c.args.calls.now (length waves) = ap (names_at c.args.calls.now) (sym len) in
+    let written : IsWritten (c.args.free + 1) c.args.free n (suc high) c.loop-names.reaches c.loop-names.planner c.note.new.self = rw (going.reach_len, plus) at c.note.ensures.written in
+    let gained : AreGained (c.args.free + 1) c.args.free n c.loop-names.reaches c.gain.new.self = rw going.exact.sets_len at c.in_ok-gain.ensures in
     let range = in_range_all c.args.frames c.args.free c.args.calls.now c.requires.range in
     record {
-      going = going_more c.args.frames c.args.free (has_pair c.args.pairs.now) c.args.calls.now range waves c.push.new.self.items c.loop-names.reaches c.gain.new.self
-          c.loop-names.planner c.note.new.self n high is pushed going found written gained
+      going = going_more c.args.frames c.args.free start c.args.calls.now range waves c.loop-names.reaches c.loop-names.planner n high (ap (names_at c.args.calls.now) (sym len)) going found
+          c.push.new.self.items c.gain.new.self c.note.new.self pushed written gained
           (c.note.ensures.frame_waves ∙ going.frame_len) (c.note.ensures.principal_waves ∙ going.principal_len) (c.note.ensures.reach_waves ∙ going.reach_len);
-      len = rw pushed (length-append waves (suc high ∷ []) ∙ omega arith);
-      rows = rows_more c.args.free (has_pair c.args.pairs.now) c.args.calls.now c.loop-names.reaches c.gain.new.self c.loop-names.rows.items c.push-in-loop-names.new.self.items n
-          (ap (names_at c.args.calls.now) (sym c.loop-names.invariant.count)) (in_range_all c.args.frames c.args.free c.args.calls.now c.requires.range c.loop-names.names-index).slot
-          (λ p f. let same : length waves ≡ length c.loop-names.rows.items = len ∙ sym c.loop-names.invariant.count in
-          subst (λ (x : ℕ). has_member (members_of c.loop-names.reaches p) f ≡ may_have c.args.free (has_pair c.args.pairs.now) c.args.calls.now x p f) same (going.sets p f))
+      len = rw pushed (length_push waves (suc high) ∙ omega arith);
+      rows = rows_more c.args.free start c.args.calls.now c.loop-names.reaches c.gain.new.self rows c.push-in-loop-names.new.self.items n
+          (ap (names_at c.args.calls.now) (sym count)) (range c.loop-names.names-index).slot
+          (λ p f. going.sets p f ∙ ap (λ (x : ℕ). may_have c.args.free start c.args.calls.now x p f) (len ∙ sym count))
           going.exact.sets_len gained.exact.sets_len gained.grown
           (rw c.row-row.ensures at c.in_ok-push-2.ensures.items) c.loop-names.invariant.rows;
-      count = rw c.in_ok-push-2.ensures.items (length-append c.loop-names.rows.items (c.row-row.result ∷ []) ∙ (let e : length c.loop-names.rows.items ≡ c.loop-names.names-index = c.loop-names.invariant.count in omega arith));
+      count = rw c.in_ok-push-2.ensures.items (length_push rows c.row-row.result ∙ ap (λ (x : ℕ). x + 1) count);
     }
 
 pub returns-clause-plan : goal.returns-clause-plan
