@@ -1,8 +1,9 @@
 -- What a footprint lists.
 use Rattle.std.proofs.Common.{◌≡◌, ℕ, zero, suc, ◌+◌, ◌<◌, ◌≤◌, Bool, true, false, not, ◌&&◌, ◌||◌, cond, nat_lt, List, [], ◌∷◌, ◌++◌, length, map, take, get_or, refl, sym, ◌∙◌, ap, arith}
-use Rattle.std.specs.Prelude.{eqb, Option, Some, None, IfSome, is_some, position}
+use Rattle.std.specs.Prelude.{eqb, Option, Some, None, IfSome, is_some, option_to_list, position}
 use Rattle.std.specs.List.{AllByRecursion, IsDistinct, filter, list_any, position_or_len}
 use Rattle.std.proofs.lemmas.Bool.{eqb-true, eq-eqb, and_right, or_parts, or_from, or_left, or_right}
+use Rattle.std.proofs.Math.Bool.{or-false}
 use Rattle.std.proofs.lemmas.Bool.Decides.{nat_tests}
 use Rattle.std.proofs.lemmas.List.{append_assoc, map-append, get_or-take, length-take-le}
 use Rattle.std.proofs.lemmas.List.Elements.{filter_more}
@@ -121,10 +122,6 @@ module _ (sets : List (List ℕ)) where
   free_has frame slot None f = sym (and_right (not (is_at frame f || has_frame sets slot f)) false refl)
   free_has frame slot (Some s) f = kept_frames (λ g. not (is_at frame g || has_frame sets slot g)) (take s.length (get_or sets s.principal [])) f
 
-  frame_slot : (frame : Option ℕ) (v : ℕ) → is_wanted (frame_part frame) (resource.Vm v) ≡ false
-  frame_slot None v = refl
-  frame_slot (Some g) v = refl
-
   slot_slot : (frame : Option ℕ) (slot : Option Span) (v : ℕ) → is_wanted (slot_part sets frame slot) (resource.Vm v) ≡ is_of slot v
   slot_slot frame None v = refl
   slot_slot frame (Some s) v = ap (λ b. eqb v s.principal || b) (no_slots (numbers_of sets frame None s) v) ∙ flipped v s.principal
@@ -135,10 +132,6 @@ module _ (sets : List (List ℕ)) where
   free_slot : (frame : Option ℕ) (slot free : Option Span) (v : ℕ) → is_wanted (free_part sets frame slot free) (resource.Vm v) ≡ false
   free_slot frame slot None v = refl
   free_slot frame slot (Some s) v = no_slots (numbers_of sets frame slot s) v
-
-  frame_free : (frame : Option ℕ) → is_wanted (frame_part frame) resource.Free ≡ false
-  frame_free None = refl
-  frame_free (Some g) = refl
 
   slot_free : (frame : Option ℕ) (slot : Option Span) → is_wanted (slot_part sets frame slot) resource.Free ≡ false
   slot_free frame None = refl
@@ -183,14 +176,10 @@ module _ (sets : List (List ℕ)) where
         either false true c = refl
         either false false c = refl
 
-        alone : (b : Bool) → ((false || b) || false) ≡ b
-        alone true = refl
-        alone false = refl
-
         by : (r : Resource) → ((is_wanted (frame_part row.frame) r || is_wanted (slot_part sets row.frame row.slot) r) || is_wanted (free_part sets row.frame row.slot row.free) r) ≡ row_touches sets row r
         by (resource.Frame f) = rw (frame_has row.frame f, slot_has row.frame row.slot f, free_has row.frame row.slot row.free f) (either (is_at row.frame f) (has_frame sets row.slot f) (has_frame sets row.free f))
-        by (resource.Vm v) = rw (frame_slot row.frame v, slot_slot row.frame row.slot v, free_slot row.frame row.slot row.free v) (alone (is_of row.slot v))
-        by resource.Free = rw (frame_free row.frame, slot_free row.frame row.slot, free_free row.frame row.slot row.free) refl
+        by (resource.Vm v) = rw (no_slots (option_to_list row.frame) v, slot_slot row.frame row.slot v, free_slot row.frame row.slot row.free v) (or-false (is_of row.slot v))
+        by resource.Free = rw (no_free (option_to_list row.frame), slot_free row.frame row.slot, free_free row.frame row.slot row.free) refl
 
     -- each once
     pub members_once : IsRow sets row → ((p : ℕ) → IsDistinct eqb (get_or sets p [])) → IsDistinct same_resource row_items
@@ -205,7 +194,7 @@ module _ (sets : List (List ℕ)) where
 
         no_more : (r : Resource) → is_wanted (frame_part row.frame) r ≡ true → is_wanted (slot_part sets row.frame row.slot) r ≡ false
         no_more (resource.Frame f) h = slot_has row.frame row.slot f ∙ rw (sym (frame_has row.frame f) ∙ h) refl
-        no_more (resource.Vm v) h = let no = frame_slot row.frame v in cc
+        no_more (resource.Vm v) h = let no = no_slots (option_to_list row.frame) v in cc
         no_more resource.Free h = slot_free row.frame row.slot
 
         none_more : (r : Resource) → is_wanted first r ≡ true → is_wanted (free_part sets row.frame row.slot row.free) r ≡ false
@@ -213,4 +202,4 @@ module _ (sets : List (List ℕ)) where
             free_has row.frame row.slot row.free f
             ∙ gone (is_at row.frame f) (has_frame sets row.slot f) (has_frame sets row.free f) (rw (frame_has row.frame f, slot_has row.frame row.slot f) at (sym (first_has (resource.Frame f)) ∙ h))
         none_more (resource.Vm v) h = free_slot row.frame row.slot row.free v
-        none_more resource.Free h = let no : is_wanted first resource.Free ≡ false = first_has resource.Free ∙ rw (frame_free row.frame, slot_free row.frame row.slot) refl in cc
+        none_more resource.Free h = let no : is_wanted first resource.Free ≡ false = first_has resource.Free ∙ rw (no_free (option_to_list row.frame), slot_free row.frame row.slot) refl in cc

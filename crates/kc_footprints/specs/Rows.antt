@@ -1,5 +1,5 @@
 -- Footprints as rows of lengths into what principals may have.
-use Rattle.std.specs.Prelude.{◌≡◌, ℕ, ◌<◌, ◌≤◌, Bool, false, ◌||◌, not, eqb, List, [], ◌∷◌, map, length, get_or, take, Option, Some, None, IfSome, is_some, option_map, if◌then◌else◌}
+use Rattle.std.specs.Prelude.{◌≡◌, ℕ, ◌<◌, ◌≤◌, Bool, false, ◌||◌, not, eqb, List, [], ◌∷◌, map, length, get_or, take, Option, Some, None, IfSome, is_some, option_map, option_to_list, if◌then◌else◌}
 use Rattle.kc_types.specs.Limits.{frame_limit, slot_limit}
 use Rattle.kc_model.specs.Resources.{Resource}
 use Rattle.kc_types.specs.declared.resource.Resource.TheVariants as resource
@@ -63,8 +63,7 @@ frames_of sets frame other s = map resource.Frame (numbers_of sets frame other s
 
 -- a footprint is listed in three parts: the frame that is named, the slot with what it may have, and the free list
 abbrev pub frame_part : Option ℕ → List Resource
-frame_part None = []
-frame_part (Some f) = resource.Frame f ∷ []
+frame_part frame = map resource.Frame (option_to_list frame)
 
 abbrev pub slot_part : List (List ℕ) → Option ℕ → Option Span → List Resource
 slot_part sets frame None = []
