@@ -3,7 +3,7 @@ use Rattle.std.proofs.Common.{◌≡◌, ℕ, zero, suc, ◌<◌, ◌≤◌, Boo
 use Rattle.std.specs.Prelude.{eqb, Option, Some, None}
 use Rattle.std.proofs.lemmas.Bool.{ltb-true, eq-eqb}
 use Rattle.std.proofs.lemmas.Bool.Decides.{nat_tests}
-use Rattle.waves.specs.Planned.{ComesJustAfter}
+use Rattle.kc_waves.specs.Planned.{ComesJustAfter}
 use Rattle.std.proofs.Math.Bool.{or_assoc}
 use Rattle.kc_types.specs.Configuration.{Configuration, slot_count}
 use Rattle.kc_types.specs.declared.call.Call.{Call}

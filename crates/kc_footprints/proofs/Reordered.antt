@@ -14,8 +14,8 @@ use Rattle.kc_model.proofs.Local.Parts.{need-merged}
 use Rattle.kc_model.proofs.States.Places.{state_at-end}
 use Rattle.kc_model.proofs.Footprints.Reaches.{footprint-keeps}
 use Rattle.kc_model.proofs.Lawful.LawfulTraces.{orderly-at}
-use Rattle.waves.specs.Reorder.{with_number, IsDue, IsTaken, IsReordering}
-use Rattle.waves.proofs.Reorders.{left_by, all_done, rest, due_finds, due_leaves, due_keeps, by_waves}
+use Rattle.kc_waves.specs.Reorder.{with_number, IsDue, IsTaken, IsReordering}
+use Rattle.kc_waves.proofs.Reorders.{left_by, all_done, rest, due_finds, due_leaves, due_keeps, by_waves}
 use Rattle.kc_footprints.specs.Stepping.{IsStep}
 use Rattle.kc_footprints.specs.Reordering.{after_order, AnswersAlike, IsOrderFree, IsWaveOrderFree, IsReadiness}
 use Rattle.kc_footprints.proofs.Commute.{has_needs, is_stepping}

@@ -3,8 +3,8 @@ use Rattle.std.proofs.Common.{◌≡◌, ℕ, suc, ◌<◌, List, [], ◌∷◌,
 use Rattle.std.specs.Prelude.{IfSome, Option, Some, None}
 use Rattle.std.proofs.lemmas.Bool.Decides.{nat_tests}
 use Rattle.std.specs.Prelude.{Bool, true, false, nat_lt, cond}
-use Rattle.waves.specs.Planned.{ComesJustAfter}
-use Rattle.waves.proofs.Plans.{is_plan}
+use Rattle.kc_waves.specs.Planned.{ComesJustAfter}
+use Rattle.kc_waves.proofs.Plans.{is_plan}
 use Rattle.kc_types.specs.Configuration.{Configuration, slot_count}
 use Rattle.kc_types.specs.declared.call.Call.{Call}
 use Rattle.kc_model.specs.State.{State}
