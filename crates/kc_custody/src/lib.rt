@@ -5,7 +5,7 @@
 mod behind;
 mod different;
 mod ends;
-mod lives;
+mod gathering;
 mod look_ups;
 mod movable;
 mod selected;
@@ -14,7 +14,7 @@ mod tallies;
 mod tally;
 mod telling;
 
-pub use lives::lives;
+pub use gathering::lives;
 pub use selected::select;
 pub use selected_lives::select_lives;
 pub use telling::{tell_call, tell_calls};

@@ -5,7 +5,7 @@ use Rattle.std.proofs.lemmas.List.Elements.{All-get_or}
 use Rattle.kc_types.specs.declared.custody.Event.{Event}
 use Rattle.kc_model.specs.Lives.{lives}
 use Rattle.kc_custody.specs.Within.{IsWithin}
-use Rattle.kc_custody.proofs.lives.lives.Goals as goal
+use Rattle.kc_custody.proofs.gathering.lives.Goals as goal
 
 pub loop-event-init : goal.loop-event-init
 loop-event-init c = record { more = []; all = sym (append-nil c.args.events.items); told = c.in_ok-behind.ensures }

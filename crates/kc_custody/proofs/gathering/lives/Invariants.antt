@@ -1,7 +1,7 @@
 use Rattle.std.proofs.Common.{◌≡◌, ◌++◌, List, vec_len}
 use Rattle.kc_types.specs.declared.custody.Event.{Event}
 use Rattle.kc_custody.specs.Behind.{IsBehind}
-use Rattle.kc_custody.proofs.lives.lives.Given as goal
+use Rattle.kc_custody.proofs.gathering.lives.Given as goal
 
 -- the events that were taken, and what they tell
 abbrev pub invariant-loop-event : goal.invariant-loop-event
