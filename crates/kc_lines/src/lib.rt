@@ -2,12 +2,8 @@
 //! appended where there is room.
 #![tactic(auto)]
 
-mod cuts;
-mod data_word;
-mod number;
+mod reading;
 mod room;
 
-pub use cuts::{split_line, split_word};
-pub use data_word::{decode_into, read_data};
-pub use number::{read_number, split_number};
+pub use reading::{decode_into, read_data, read_number, split_line, split_number, split_word};
 pub use room::{push_bytes, push_digits, push_number};

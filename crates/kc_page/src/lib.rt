@@ -1,8 +1,6 @@
 //! Pages of 4,096 bytes: their records and their bytes.
 #![tactic(auto)]
 
-mod bytes;
 mod page;
 
-pub use bytes::PageBytes;
-pub use page::{Page, PageRecord, scrub_all, scrub_each};
+pub use page::{Page, PageBytes, PageRecord, scrub_all, scrub_each};

@@ -1,6 +1,0 @@
-use Rattle.kc_lines.proofs.Digits.{IsDecoded}
-use Rattle.kc_lines.proofs.data_word.decode_into.Given as goal
-
--- so many bytes are written, and the digits of each stand in the word
-abbrev pub invariant-loop-i : goal.invariant-loop-i
-invariant-loop-i l = IsDecoded l.valid l.word l.bytes l.i
