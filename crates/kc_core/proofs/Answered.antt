@@ -1,9 +1,8 @@
 -- The answer to a call, by its refusal and its effect.
-use Rattle.std.proofs.Common.{ℕ, ◌≡◌, ◌↔◌, ◌<◌, ◌≤◌, inl, inr, None, Some, Option, IsSome, Result, Ok, Err, IfOk, OnOk, OnErr, refl, sym, ap, ◌∙◌}
+use Rattle.std.proofs.Common.{ℕ, ◌≡◌, ◌↔◌, ◌<◌, ◌≤◌, inl, inr, None, Some, Option, IsSome, refl, sym, ap, ◌∙◌}
 use Rattle.std.proofs.lemmas.Bool.{cases_lt}
 use Rattle.kc_types.specs.Configuration.{Configuration}
 use Rattle.kc_types.specs.declared.call.Call.{Call}
-use Rattle.kc_types.specs.declared.memory.Memory.{Memory}
 use Rattle.kc_types.specs.declared.refusal.Refusal.{Refusal}
 use Rattle.kc_types.specs.declared.reply.Reply.{Reply}
 use Rattle.kc_types.specs.declared.reply.Reply.TheVariants as reply
@@ -50,12 +49,6 @@ answer-served config old new call reply served replied left linked places =
       linked = linked;
       places = places;
     }
-
--- what a call promises where it may also be out of memory, and then leaves everything as it was
-pub answer-parts : (config : Configuration) (old new : Held) (call : Call) (result : Result Reply Memory) → IsLinked config old → IfOk result (IsAnswer config old new call) → OnErr result (new ≡ old)
-    → IfOk result (λ reply. reply ≡ (next (state_of config old) call).0) × OnOk result (state_of config new ≡ (next (state_of config old) call).1) × IsLinked config new × KeepsPlaces old new
-answer-parts config old new call (Ok reply) linked answer same = (answer.reply, answer.state, answer.linked, answer.places)
-answer-parts config old new call (Err memory) linked answer same = (tt, tt, rw same linked, rw same (places-same old))
 
 -- a call that changes a slot alone, and not the ends of its list
 pub answer-slot : (config : Configuration) (h : Held) (v : ℕ) (vm new : VmSlot) (call : Call) (reply : Reply) → IsLinked config h → vm_at h v ≡ Some vm → new.slot.frames ≡ vm.slot.frames → new.capacity ≡ vm.capacity

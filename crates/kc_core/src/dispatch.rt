@@ -15,9 +15,8 @@ use crate::unserved::Unserved;
 use crate::verify::verify;
 use kc_parts::Parts;
 use kc_types::{Call, Config, Memory, Reply, ReplyBuffer};
-use std::alloc::Global;
 
-/// Carries out a call, or says why not. The room is for the bytes of the reply, and grows where it is too small for them.
+/// Carries out a call, or says why not. The buffer is for the bytes of the reply, and grows where it is too small for them.
 fn serve(
     parts: &mut Parts,
     config: &Config,
@@ -81,16 +80,20 @@ fn serve(
     }
 }
 
-/// Answers a call: with its reply, or with why it is refused. The room is for the bytes of the reply, and grows where it is
-/// too small for them.
-fn answer_in(
+/// Answers a call on parts that hold what it needs, and leaves all else as it was: with the first refusal that applies, and
+/// then nothing has changed, or with its effect. The buffer is for the bytes of the reply, and grows where it is too small for
+/// them: `Memory` where that was refused, which comes only where the reply would be bytes, and then nothing has changed.
+pub fn apply(
     parts: &mut Parts,
     config: &Config,
     call: &Call,
     buffer: ReplyBuffer,
 ) -> Result<Reply, Memory>
     requires { IsAble config.now parts.old call.now }
-    ensures answer { IfOk result (IsAnswer config.now parts.old parts.new call.now) }
+    ensures reply { IfOk result (λ reply. reply ≡ (next (state_of config.now parts.old) call.now).0) }
+    ensures state { OnOk result (state_of config.now parts.new ≡ (next (state_of config.now parts.old) call.now).1) }
+    ensures linked { IsLinked config.now parts.new }
+    ensures places { KeepsPlaces parts.old parts.new }
     ensures err { OnErr result (parts.new ≡ parts.old) }
     ensures memory { IsErr result → is_data (next (state_of config.now parts.old) call.now).0 ≡ true }
     ensures fits { most_reply_bytes call.now ≤ buffer → IsOk result }
@@ -102,27 +105,7 @@ fn answer_in(
     }
 }
 
-/// Answers a call on parts that hold what it needs, and leaves all else as it was: with the first refusal that
-/// applies, and then nothing has changed, or with its effect. `Memory` where a growth was refused, which comes only
-/// where the reply would be bytes, and then nothing has changed.
-pub fn apply(
-    alloc: Global,
-    parts: &mut Parts,
-    config: &Config,
-    call: &Call,
-) -> Result<Reply, Memory>
-    requires { IsAble config.now parts.old call.now }
-    ensures reply { IfOk result (λ reply. reply ≡ (next (state_of config.now parts.old) call.now).0) }
-    ensures state { OnOk result (state_of config.now parts.new ≡ (next (state_of config.now parts.old) call.now).1) }
-    ensures linked { IsLinked config.now parts.new }
-    ensures places { KeepsPlaces parts.old parts.new }
-    ensures err { OnErr result (parts.new ≡ parts.old) }
-    ensures memory { IsErr result → is_data (next (state_of config.now parts.old) call.now).0 ≡ true }
-{
-    answer_in(parts, config, call, ReplyBuffer::none(alloc))
-}
-
-/// The same, with room for the bytes of the reply that was made before: nothing takes memory.
+/// What `apply` does, with room for all bytes that the reply may have: nothing takes memory.
 pub fn answer(parts: &mut Parts, config: &Config, call: &Call, buffer: ReplyBuffer) -> Reply
     requires able { IsAble config.now parts.old call.now }
     requires fits { most_reply_bytes call.now ≤ buffer }
@@ -131,5 +114,5 @@ pub fn answer(parts: &mut Parts, config: &Config, call: &Call, buffer: ReplyBuff
     ensures linked { IsLinked config.now parts.new }
     ensures places { KeepsPlaces parts.old parts.new }
 {
-    answer_in(parts, config, call, buffer).unwrap()
+    apply(parts, config, call, buffer).unwrap()
 }

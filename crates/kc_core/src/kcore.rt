@@ -124,7 +124,8 @@ impl KCore {
         ensures lawful { IsLawful self.new }
         ensures memory { IsErr result → is_data (next self.old call.now).0 ≡ true }
     {
-        apply(self.alloc, &mut self.parts, &self.config, call)
+        let buffer = ReplyBuffer::none(self.alloc);
+        apply(&mut self.parts, &self.config, call, buffer)
     }
 
     /// Answers `verify` of a VM slot, 0 to 63, as `call` does, and gives the images that it measured.
@@ -189,7 +190,7 @@ impl KCore {
         ensures exists { IsSome result ↔ (frame < self.now.config.frames) }
         ensures value { IfSome result (λ bytes. bytes.now ≡ (frame_at self.now frame).bytes) }
     {
-        let page = self.parts.frame(self.config.frame(frame)?)?;
+        let page = self.parts.try_page(self.config.frame(frame)?)?;
         Some(&page.bytes)
     }
 
@@ -217,7 +218,7 @@ impl KCore {
         ensures exists { IsSome result ↔ (vm < slot_count self.now.config) }
         ensures value { IfSome result (λ ends. ends ≡ ends_of (slot_at self.now vm).frames) }
     {
-        Some(*self.slot(vm)?.list())
+        Some(*self.try_slot(vm)?.list())
     }
 
     /// The mapped guest frames of a VM slot with their frames, by rising guest frame; none for a slot that does not
@@ -226,20 +227,20 @@ impl KCore {
         // No clause can rule out that memory runs out: a test lists entries.
         ensures { IfOk result (λ entries. entries.items ≡ finite.entries (slot_at self.now vm).mapped) }
     {
-        match self.slot(vm) {
+        match self.try_slot(vm) {
             Some(slot) => slot.table().entries(alloc),
             None => Ok(Vec::new(alloc)),
         }
     }
 
     /// The VM slot of this number, which is the state's but for the list of its frames; `None` where there is none.
-    fn slot(&self, vm: u32) -> Option<&Vm>
+    fn try_slot(&self, vm: u32) -> Option<&Vm>
         ensures exists { IsSome result ↔ (vm < slot_count self.now.config) }
         ensures value { IfSome result (λ slot. slot_at self.now vm ≡ unlinked_slot slot.now.slot (slot_at self.now vm).frames) }
         ensures lawful { IsLawful self.now }
         ensures linked { IfSome result (λ slot. slot.now.slot.frames ≡ ends_of (slot_at self.now vm).frames) }
     {
-        self.parts.vm(self.config.vm(vm)?)
+        self.parts.try_slot(self.config.vm(vm)?)
     }
 
     /// The phase of a VM slot, 0 to 63; `None` for a slot that does not exist.
@@ -247,7 +248,7 @@ impl KCore {
         ensures exists { IsSome result ↔ (vm < slot_count self.now.config) }
         ensures value { IfSome result (λ phase. phase ≡ (slot_at self.now vm).phase) }
     {
-        Some(self.slot(vm)?.phase())
+        Some(self.try_slot(vm)?.phase())
     }
 
     /// How many frames `verify` of a VM slot hashes: all that the slot has, or none where the call is refused.
@@ -269,7 +270,7 @@ impl KCore {
         ensures exists { IsSome result → (vm < slot_count self.now.config) × (vcpu < vcpu_limit) }
         ensures value { result ≡ (vcpu_at self.now vm vcpu).fault }
     {
-        let slot = self.slot(vm)?;
+        let slot = self.try_slot(vm)?;
         Gfn::try_new(slot.vcpu(VcpuId::try_new(vcpu)?).fault?)
     }
 
@@ -278,7 +279,7 @@ impl KCore {
         ensures exists { IsSome result ↔ ((vm < slot_count self.now.config) × (vcpu < vcpu_limit)) }
         ensures value { IfSome result (λ there. there ≡ vcpu_at self.now vm vcpu) }
     {
-        let slot = self.slot(vm)?;
+        let slot = self.try_slot(vm)?;
         Some(slot.vcpu(VcpuId::try_new(vcpu)?))
     }
 
@@ -287,7 +288,7 @@ impl KCore {
         ensures exists { IsSome result ↔ (vm < slot_count self.now.config) }
         ensures value { IfSome result (λ images. images.now ≡ (slot_at self.now vm).images) }
     {
-        Some(self.slot(vm)?.images())
+        Some(self.try_slot(vm)?.images())
     }
 
     /// The frame at a guest frame, 0 to 262,143, of a VM slot, 0 to 63; `None` where the slot or the guest frame
@@ -296,7 +297,7 @@ impl KCore {
         ensures exists { IsSome result → (vm < slot_count self.now.config) × (gfn < gfn_limit) }
         ensures value { result ≡ mapped_at self.now vm gfn }
     {
-        let table = self.slot(vm)?.table();
+        let table = self.try_slot(vm)?.table();
         table.get(Gfn::try_new(gfn)?)
     }
 
@@ -306,7 +307,7 @@ impl KCore {
         ensures exists { IsSome result ↔ (vm < slot_count self.now.config) }
         ensures value { IfSome result (λ leaves. leaves.now ≡ (slot_at self.now vm).leaves) }
     {
-        Some(self.slot(vm)?.table().leaves())
+        Some(self.try_slot(vm)?.table().leaves())
     }
 
     /// All pages, by frame number.

@@ -1,5 +1,5 @@
 //! What the core shows of its parts.
-ghost use Rattle.std.specs.Prelude.{◌≡◌, ◌<◌, true, is_some, IfOk};
+ghost use Rattle.std.specs.Prelude.{◌≡◌, ◌<◌, IsSome, IfOk};
 ghost use Rattle.kc_model.specs.Lawful.{same_owner};
 ghost use Rattle.kc_model.specs.Links.{frames_of, owned_by};
 ghost use Rattle.kc_model.specs.State.{frame_at, slot_at};
@@ -17,7 +17,7 @@ use std::alloc::Global;
 /// The record of a frame that is here, with its neighbours in the list of its owner: the core's and the host's
 /// frames are in no list.
 pub fn page_record(parts: &Parts, frame: FrameNo) -> PageRecord
-    requires { is_some (page_at parts.now frame) ≡ true }
+    requires { IsSome (page_at parts.now frame) }
     ensures { ShowsRecord parts.now frame result }
 {
     let meta = parts.page(frame).meta;
@@ -48,7 +48,7 @@ fn owner_at(parts: &Parts, config: &Config, frame: u32) -> Owner
     requires { frame < config.now.frames }
     ensures { result ≡ (frame_at (state_of config.now parts.now) frame).owner }
 {
-    match parts.frame(config.frame(frame).unwrap()) {
+    match parts.try_page(config.frame(frame).unwrap()) {
         Some(page) => page.meta.owner,
         None => Owner::Core,
     }
@@ -110,7 +110,7 @@ fn vm_frames(
     if vm.index() >= config.slots() as usize {
         return Ok(Vec::new(alloc));
     }
-    match parts.vm(vm) {
+    match parts.try_slot(vm) {
         Some(vm) => listed(alloc, parts, vm.list()),
         None => Ok(Vec::new(alloc)),
     }

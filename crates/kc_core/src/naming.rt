@@ -69,7 +69,7 @@ pub fn expect_vcpu<'a>(
     ensures answer { Answers result (first_of_these (no_vm (state_of config.now parts.now) vm ∷ not_active (state_of config.now parts.now) vm ∷ no_vcpu (state_of config.now parts.now) vm vcpu ∷ [])) }
     ensures slot { IfOk result (λ slot. slot_at (state_of config.now parts.now) vm ≡ slot_in (links_of parts.now) (Some slot.now)) }
 {
-    let Some(slot) = parts.vm(vm) else {
+    let Some(slot) = parts.try_slot(vm) else {
         return Err(Refusal::NoVm);
     };
     match slot.phase() {
@@ -84,7 +84,7 @@ pub fn expect_vcpu<'a>(
 }
 
 /// The frame at a guest frame of a slot, by its number; `None` where none is mapped there.
-pub fn frame_at(parts: &Parts, config: &Config, vm: VmId, gfn: u32) -> Option<FrameNo>
+pub fn mapped_at(parts: &Parts, config: &Config, vm: VmId, gfn: u32) -> Option<FrameNo>
     requires exists { vm < slot_count config.now }
     requires low { gfn < gfn_limit }
     ensures { result ≡ mapped_at (state_of config.now parts.now) vm gfn }

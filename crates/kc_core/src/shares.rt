@@ -13,7 +13,7 @@ ghost use Rattle.kc_types.specs.Configuration.{slot_count};
 ghost use Rattle.kc_types.specs.Limits.{gfn_limit, share_limit};
 ghost use Rattle.kc_types.specs.Refusals.{Answers};
 
-use crate::naming::{expect_vcpu, frame_at, mapped_frame, named_vcpu};
+use crate::naming::{expect_vcpu, mapped_at, mapped_frame, named_vcpu};
 use kc_page::PageRecord;
 use kc_parts::Parts;
 use kc_types::{Config, FrameNo, GFN_LIMIT, RANGE_LIMIT, Refusal, Reply, SHARE_LIMIT, VmId};
@@ -129,7 +129,7 @@ fn any_unmapped(parts: &Parts, config: &Config, vm: VmId, gfn: u32, count: u32) 
     requires low { gfn + count ≤ gfn_limit }
     ensures { result ≡ any_from gfn count (λ h. is_none (mapped_at (state_of config.now parts.now) vm h)) }
 {
-    (gfn..gfn + count).any(|at| frame_at(parts, config, vm, at).is_none())
+    (gfn..gfn + count).any(|at| mapped_at(parts, config, vm, at).is_none())
 }
 
 /// How often the frame at a mapped guest frame is granted; where none is mapped, frame 0.
@@ -138,7 +138,7 @@ fn share_of(parts: &Parts, config: &Config, vm: VmId, gfn: u32) -> u32
     requires low { gfn < gfn_limit }
     ensures { result ≡ share_at (state_of config.now parts.now) vm gfn }
 {
-    let frame = match frame_at(parts, config, vm, gfn) {
+    let frame = match mapped_at(parts, config, vm, gfn) {
         Some(frame) => frame.number(),
         None => 0,
     };
@@ -244,7 +244,7 @@ pub fn grant_range(
 {
     let slot = expect_grantable(parts, config, vm, vcpu, gfn, count)?;
     for at in gfn..gfn + count {
-        let frame = frame_at(parts, config, slot, at).unwrap();
+        let frame = mapped_at(parts, config, slot, at).unwrap();
         grant_frame(parts, config, frame);
     }
     Ok(Reply::Done)
@@ -264,7 +264,7 @@ pub fn revoke_range(
 {
     let slot = expect_shared(parts, config, vm, vcpu, gfn, count)?;
     for at in gfn..gfn + count {
-        let frame = frame_at(parts, config, slot, at).unwrap();
+        let frame = mapped_at(parts, config, slot, at).unwrap();
         revoke_frame(parts, config, frame);
     }
     Ok(Reply::Done)

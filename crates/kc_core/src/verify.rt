@@ -1,5 +1,5 @@
 //! Verifying a VM: its boot images are measured, and it becomes active or dead.
-ghost use Rattle.std.specs.Prelude.{◌≡◌, ◌+◌, ◌<◌, ◌≤◌, ◌↔◌, ◌||◌, ◌==◌, [], All, IsTrue, IfOk, MatchResult, Some, None, true, is_some, length, map};
+ghost use Rattle.std.specs.Prelude.{◌≡◌, ◌+◌, ◌<◌, ◌≤◌, ◌↔◌, ◌||◌, ◌==◌, [], All, IsTrue, IfOk, IsSome, MatchResult, Some, None, true, is_some, length, map};
 ghost use Rattle.std.specs.List.{list_any};
 ghost use Rattle.std.specs.FinMap as finite;
 ghost use Rattle.sha2.specs.Sha256.{sha256};
@@ -28,8 +28,8 @@ use kc_types::{
 };
 use kc_vms::{Approved, Measure, Stage2, Vm, pages_of};
 
-/// The frame at a mapped guest frame.
-fn frame_at(table: &Stage2, gfn: u32) -> FrameNo
+/// The frame that backs a mapped guest frame.
+fn backing(table: &Stage2, gfn: u32) -> FrameNo
     requires low { gfn < gfn_limit }
     requires mapped { is_some (finite.get table.now.mapped gfn) ≡ true }
     ensures { result ≡ backing (finite.get table.now.mapped gfn) }
@@ -45,7 +45,7 @@ fn page_under<'a>(parts: &'a Parts, table: &Stage2, gfn: u32) -> &'a Page
     requires here { is_some (page_under parts.now (finite.get table.now.mapped) gfn) ≡ true }
     ensures { page_under parts.now (finite.get table.now.mapped) gfn ≡ Some result.now }
 {
-    parts.page(frame_at(table, gfn))
+    parts.page(backing(table, gfn))
 }
 
 /// The bytes of a page of an image, by its number from the image's first page on.
@@ -138,7 +138,7 @@ fn measured(image: &Image, digest: [u8; 32]) -> MeasuredImage
 fn measured_images(parts: &Parts, config: &Config, vm: VmId) -> ArrayVec<MeasuredImage, IMAGE_LIMIT>
     requires low { vm < slot_count config.now }
     requires linked { IsLinked config.now parts.now }
-    requires slot { is_some (vm_at parts.now vm) ≡ true }
+    requires slot { IsSome (vm_at parts.now vm) }
     requires here { All (IsImageHere parts.now (mapped_in (vm_at parts.now vm))) (slot_at (state_of config.now parts.now) vm).images }
     ensures { result.items ≡ measured_images (state_of config.now parts.now) vm }
 {
@@ -184,7 +184,7 @@ fn trim_image(parts: &mut Parts, config: &Config, vm: VmId, image: &Image)
     ensures slots { parts.new.vms ≡ parts.old.vms }
 {
     let slot = parts.slot(vm);
-    let frame = frame_at(slot.table(), image.base + (pages_of(image.len) - 1));
+    let frame = backing(slot.table(), image.base + (pages_of(image.len) - 1));
     let page = parts.page_mut(frame);
     let used = (image.len - 1) % PAGE_SIZE + 1;
     page.bytes.zero_from(used as usize);
@@ -194,7 +194,7 @@ fn trim_image(parts: &mut Parts, config: &Config, vm: VmId, image: &Image)
 fn trim_images(parts: &mut Parts, config: &Config, vm: VmId)
     requires low { vm < slot_count config.now }
     requires linked { IsLinked config.now parts.old }
-    requires slot { is_some (vm_at parts.old vm) ≡ true }
+    requires slot { IsSome (vm_at parts.old vm) }
     requires here { All (IsImageHere parts.old (mapped_in (vm_at parts.old vm))) (slot_at (state_of config.now parts.old) vm).images }
     ensures state { state_of config.now parts.new ≡ all_trimmed (state_of config.now parts.old) vm (slot_at (state_of config.now parts.old) vm).images }
     ensures linked { IsLinked config.now parts.new }
@@ -239,7 +239,7 @@ pub(crate) fn booted_slot(parts: &Parts, config: &Config, vm: u32) -> Result<VmI
     let Some(vm) = config.vm(vm) else {
         return Err(Refusal::BadVm);
     };
-    let Some(slot) = parts.vm(vm) else {
+    let Some(slot) = parts.try_slot(vm) else {
         return Err(Refusal::NoVm);
     };
     match slot.phase() {

@@ -21,7 +21,7 @@ impl Parts {
     fn scrub_frame(&mut self, frame: FrameNo)
         ensures { self.new ≡ with_scrubbed self.old frame }
     {
-        if let Some(page) = self.frame_mut(frame) {
+        if let Some(page) = self.try_page_mut(frame) {
             page.meta.owner = Owner::Free;
             page.meta.share = 0;
             page.meta.gfn = None;
@@ -50,7 +50,7 @@ impl Parts {
         ensures list { IfSome (vm_at self.old vm) (λ slot. result ≡ slot.slot.frames) }
         ensures rest { IsEmptied vm self.old self.new }
     {
-        let slot = self.vm_mut(vm).unwrap();
+        let slot = self.try_slot_mut(vm).unwrap();
         let list = *slot.list();
         slot.reset();
         self.scrub_list(&list);

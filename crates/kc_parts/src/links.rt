@@ -12,7 +12,7 @@ impl LinkStore for Parts {
     ghost same_rest = { IsSameRest };
 
     fn link(&self, frame: FrameNo) -> Option<Link> {
-        match self.frame(frame) {
+        match self.try_page(frame) {
             Some(page) => Some(Link {
                 prev: page.meta.prev,
                 next: page.meta.next,
@@ -22,7 +22,7 @@ impl LinkStore for Parts {
     }
 
     fn set_link(&mut self, frame: FrameNo, link: Link) {
-        if let Some(page) = self.frame_mut(frame) {
+        if let Some(page) = self.try_page_mut(frame) {
             page.meta.prev = link.prev;
             page.meta.next = link.next;
         }

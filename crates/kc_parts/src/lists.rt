@@ -75,7 +75,7 @@ impl Parts {
         requires { IsSome (vm_at self.old vm) }
         ensures { IfSome (vm_at self.old vm) (λ slot. self.new ≡ with_vm self.old vm (with_ends slot ends)) }
     {
-        if let Some(slot) = self.vm_mut(vm) {
+        if let Some(slot) = self.try_slot_mut(vm) {
             *slot.list_mut() = ends;
         }
     }
@@ -89,7 +89,7 @@ impl Parts {
         ensures frames { listed_frames self.new vm ≡ listed_frames self.old vm ++ frame ∷ [] }
         ensures rest { IsSlotMove vm self.old self.new }
     {
-        if let Some(slot) = self.vm(vm) {
+        if let Some(slot) = self.try_slot(vm) {
             let mut ends = *slot.list();
             append(self, &mut ends, frame);
             self.set_list(vm, ends);

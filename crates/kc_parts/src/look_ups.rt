@@ -34,7 +34,7 @@ impl Parts {
         ensures { IsMetaOf (frame_at (state_of config.now self.now) frame) result }
     {
         match config.frame(frame) {
-            Some(frame) => match self.frame(frame) {
+            Some(frame) => match self.try_page(frame) {
                 Some(page) => page.meta,
                 None => UNTOUCHED,
             },
@@ -48,7 +48,7 @@ impl Parts {
         ensures value { slot_at (state_of config.now self.now) vm ≡ slot_in (links_of self.now) (option_copied result) }
         ensures here { (slot : VmSlot) → option_copied result ≡ Some slot → vm_at self.now vm ≡ Some slot }
     {
-        self.vm(vm)
+        self.try_slot(vm)
     }
 
     /// The phase of a slot.

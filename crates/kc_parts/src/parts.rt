@@ -133,7 +133,7 @@ impl Parts {
     }
 
     /// The page of a frame; `None` where it is not here.
-    pub fn frame(&self, frame: FrameNo) -> Option<&Page>
+    pub fn try_page(&self, frame: FrameNo) -> Option<&Page>
         ensures { option_copied result ≡ page_at self.now frame }
     {
         let at = self.place_in(frame);
@@ -141,7 +141,7 @@ impl Parts {
     }
 
     /// The page of a frame, for writing; `None` where it is not here.
-    pub fn frame_mut(&mut self, frame: FrameNo) -> Option<&mut Page>
+    pub fn try_page_mut(&mut self, frame: FrameNo) -> Option<&mut Page>
         ensures value { option_copied_mut result ≡ page_at self.old frame }
         ensures* writes_back { sem 𝓛 (LendsPage self.entry frame result) }
     {
@@ -154,7 +154,7 @@ impl Parts {
         requires { IsSome (page_at self.now frame) }
         ensures { page_at self.now frame ≡ Some result.now }
     {
-        self.frame(frame).unwrap()
+        self.try_page(frame).unwrap()
     }
 
     /// The page of a frame that is here, for writing.
@@ -163,18 +163,18 @@ impl Parts {
         ensures value { page_at self.old frame ≡ Some result.now }
         ensures* writes_back { sem 𝓛 (LendsPageHere self.entry frame result) }
     {
-        self.frame_mut(frame).unwrap()
+        self.try_page_mut(frame).unwrap()
     }
 
     /// A VM slot; `None` where it is not here.
-    pub fn vm(&self, vm: VmId) -> Option<&Vm>
+    pub fn try_slot(&self, vm: VmId) -> Option<&Vm>
         ensures { option_copied result ≡ vm_at self.now vm }
     {
         self.vms.get(vm)
     }
 
     /// A VM slot, for writing; `None` where it is not here.
-    pub fn vm_mut(&mut self, vm: VmId) -> Option<&mut Vm>
+    pub fn try_slot_mut(&mut self, vm: VmId) -> Option<&mut Vm>
         ensures value { option_copied_mut result ≡ vm_at self.old vm }
         ensures* writes_back { sem 𝓛 (LendsVm self.entry vm result) }
     {
@@ -186,7 +186,7 @@ impl Parts {
         requires { IsSome (vm_at self.now vm) }
         ensures { vm_at self.now vm ≡ Some result.now }
     {
-        self.vm(vm).unwrap()
+        self.try_slot(vm).unwrap()
     }
 
     /// A VM slot that is here, for writing.
@@ -195,7 +195,7 @@ impl Parts {
         ensures value { vm_at self.old vm ≡ Some result.now }
         ensures* writes_back { sem 𝓛 (LendsVmHere self.entry vm result) }
     {
-        self.vm_mut(vm).unwrap()
+        self.try_slot_mut(vm).unwrap()
     }
 
     /// The ends of the free list; `None` where they are not here.
@@ -221,13 +221,6 @@ impl Parts {
             frames: self.numbers.len(),
             slots: self.vms.count(),
         }
-    }
-
-    /// The `n`-th of the frames that there are places for, from 0 on, by rising number; `None` from their count on.
-    pub fn frame_at(&self, n: usize) -> Option<FrameNo>
-        ensures { result ≡ slice_get self.now.numbers n }
-    {
-        FrameNo::try_new(*self.numbers.get(n)?)
     }
 
     /// All pages, by rising frame number, where none is taken out.
@@ -256,29 +249,6 @@ impl Parts {
         ensures { self.new ≡ record self.old { pages = map scrubbed_page self.old.pages } }
     {
         scrub_each(self.pages.as_mut_slice());
-    }
-
-    /// Whether a resource is here.
-    pub fn has(&self, resource: Resource) -> bool
-        ensures { result ≡ is_some (held_at self.now resource) }
-    {
-        match resource {
-            Resource::Frame(frame) => self.frame(frame).is_some(),
-            Resource::Vm(vm) => self.vm(vm).is_some(),
-            Resource::Free => self.free.is_some(),
-        }
-    }
-
-    /// Whether all of the resources are here.
-    pub fn has_all(&self, wanted: &[Resource]) -> bool
-        ensures { IsTrue result ↔ AreHere self.now wanted.now }
-    {
-        for resource in wanted {
-            if !self.has(*resource) {
-                return false;
-            }
-        }
-        true
     }
 
     /// Takes the resources out, all of which are here. What comes out has room for just these: a place for each

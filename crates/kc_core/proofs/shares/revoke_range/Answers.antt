@@ -21,12 +21,12 @@ mapped c = mapped-still (state_of c.args.config.now c.args.parts.now) (state_of 
 
 -- the frame that was found is the one there
 found : (c : After-unwrap-frame) → mapped_at (state_of c.args.config.now c.loop-at.parts) c.args.vm c.loop-at.at ≡ Some c.unwrap-frame.result
-found c = rw (← c.in_ok-slot.ensures.slot) (sym c.frame_at.ensures ∙ c.unwrap-frame.ensures)
+found c = rw (← c.in_ok-slot.ensures.slot) (sym c.mapped_at.ensures ∙ c.unwrap-frame.ensures)
 
 pub unwrap-frame-requires : goal.unwrap-frame-requires
 unwrap-frame-requires c =
     let mid = state_of c.args.config.now c.loop-at.parts in
-    ap is_some (c.frame_at.ensures ∙ ap (λ v. mapped_at mid v c.loop-at.at) c.in_ok-slot.ensures.slot ∙ mapped (goal.at.unwrap-frame-requires c).In-loop-at)
+    ap is_some (c.mapped_at.ensures ∙ ap (λ v. mapped_at mid v c.loop-at.at) c.in_ok-slot.ensures.slot ∙ mapped (goal.at.unwrap-frame-requires c).In-loop-at)
 
 pub revoke_frame-requires-clause-here : goal.revoke_frame-requires-clause-here
 revoke_frame-requires-clause-here c =

@@ -1,4 +1,5 @@
 use Rattle.std.proofs.Common.{List, ℕ, suc, ◌≡◌, ◌<◌, ◌+◌, ◌-◌, length, get_or, map, refl, ap, sym, subst, ◌∙◌, arith, rules}
+use Rattle.std.specs.Global.{Vec}
 use Rattle.std.specs.Prelude.{◌%◌, []}
 use Rattle.std.proofs.lemmas.List.{length-map, length-set}
 use Rattle.kc_types.specs.declared.call.Call.{Call}
@@ -31,34 +32,38 @@ loop-left-init g c =
       size = refl;
     }
 
+abbrev lists : List (Vec Finished) → List (List Finished)
+lists vecs = map (λ list. list.items) vecs
+
+abbrev IsDone : Wave → ℕ → Finished → Type 0
+IsDone wave = IsFinishedAt wave.start wave.calls wave.footprints wave.members
+
 -- the calls up to the last that is left
 last : (R : ℕ → Finished → Type 0) (left : ℕ) (lists : List (List Finished)) → 0 < left → AreDealt R left lists → AreDealt R (suc (left - 1)) lists
 last R left lists some all = let one : left ≡ suc (left - 1) = omega (arith, some) in subst (λ n. AreDealt R n lists) one all
 
 pub take_back-reply-requires-clause-last : goal.take_back-reply-requires-clause-last
 take_back-reply-requires-clause-last g c =
-    let R = IsFinishedAt g.wave.start g.wave.calls g.wave.footprints g.wave.members in
-    let lists = map (λ list. list.items) c.loop-left.lists.items in
+    let all = lists c.loop-left.lists.items in
     let size = length-map c.loop-left.lists.items (λ list. list.items) in
     let workers = c.loop-left.invariant.workers in
-    subst (λ n. 0 < length (get_or lists ((c.loop-left.left - 1) % n) [])) size
-    (dealt-some R (c.loop-left.left - 1) lists (omega (arith, size, workers)) (last R c.loop-left.left lists c.loop-left-test.true c.loop-left.invariant.done))
+    subst (λ n. 0 < length (get_or all ((c.loop-left.left - 1) % n) [])) size
+    (dealt-some (IsDone g.wave) (c.loop-left.left - 1) all (omega (arith, size, workers)) (last (IsDone g.wave) c.loop-left.left all c.loop-left-test.true c.loop-left.invariant.done))
 
--- what is left of the last call, and of those before it
-module _ (wave : Wave) (p : ℕ) (lists left : List (List Finished)) (finished : Finished) (some : 0 < length lists) (size : length left ≡ length lists) (is : lists ≡ with_dealt left p finished)
-    (all : AreDealt (IsFinishedAt wave.start wave.calls wave.footprints wave.members) (suc p) lists) where
-  at : IsFinishedAt wave.start wave.calls wave.footprints wave.members p finished
-  at = taken-back (IsFinishedAt wave.start wave.calls wave.footprints wave.members) p lists left finished some size is all
+-- a call was taken back: what it left, and those before it
+module _ (wave : Wave) (left : ℕ) (old new : List (Vec Finished)) (finished : Finished) (more : 0 < left) (workers : 0 < length old) (len : length new ≡ length old)
+    (is : lists old ≡ with_dealt (lists new) (left - 1) finished) (done : AreDealt (IsDone wave) left (lists old)) where
+  some : 0 < length (lists old)
+  some = rw (length-map old (λ (list : Vec Finished). list.items)) workers
 
-  before : AreDealt (IsFinishedAt wave.start wave.calls wave.footprints wave.members) p left
-  before = dealt-fewer (IsFinishedAt wave.start wave.calls wave.footprints wave.members) p lists left finished some size is all
+  sizes : length (lists new) ≡ length (lists old)
+  sizes = length-map new (λ (list : Vec Finished). list.items) ∙ len ∙ sym (length-map old (λ (list : Vec Finished). list.items))
 
--- the sizes of lists
-sizes : {A B : Type 0} (items : A → List B) (old new : List A) → length new ≡ length old → length (map items new) ≡ length (map items old)
-sizes items old new same = length-map new items ∙ same ∙ sym (length-map old items)
+  at : IsDone wave (left - 1) finished
+  at = taken-back (IsDone wave) (left - 1) (lists old) (lists new) finished some sizes is (last (IsDone wave) left (lists old) more done)
 
-some-list : {A B : Type 0} (items : A → List B) (lists : List A) → 0 < length lists → 0 < length (map items lists)
-some-list items lists some = let size = length-map lists items in omega (arith, size, some)
+  before : AreDealt (IsDone wave) (left - 1) (lists new)
+  before = dealt-fewer (IsDone wave) (left - 1) (lists old) (lists new) finished some sizes is (last (IsDone wave) left (lists old) more done)
 
 number-low : (calls : List Call) (members : List ℕ) (number j count : ℕ) → number ≡ get_or members j 0 → get_or members j 0 < length calls → count ≡ length calls → number < count
 number-low calls members number j count is low same = omega (arith, is, low, same)
@@ -66,13 +71,10 @@ number-low calls members number j count is low same = omega (arith, is, low, sam
 pub put_back-requires : goal.put_back-requires
 put_back-requires g c =
     let p = c.loop-left.left - 1 in
-    let taken = c.take_back-reply.ensures in
-    let lists = map (λ list. list.items) c.loop-left.lists.items in
-    let done =
-    at g.wave p lists (map (λ list. list.items) c.take_back-reply.new.lists.items) c.take_back-reply.result (some-list (λ list. list.items) c.loop-left.lists.items c.loop-left.invariant.workers)
-    (sizes (λ list. list.items) c.loop-left.lists.items c.take_back-reply.new.lists.items taken.len) taken.taken
-    (last (IsFinishedAt g.wave.start g.wave.calls g.wave.footprints g.wave.members) c.loop-left.left lists c.loop-left-test.true c.loop-left.invariant.done) in
     let more = c.loop-left-test.true in
+    let taken = c.take_back-reply in
+    let kept = c.loop-left.invariant in
+    let done = at g.wave c.loop-left.left c.loop-left.lists.items taken.new.lists.items taken.result more kept.workers taken.ensures.len taken.ensures.taken kept.done in
     let few = c.loop-left.invariant.few in
     let one : c.loop-left.left ≡ p + 1 = omega (arith, more) in
     subst (λ (parts : Held). FitsInto c.loop-left.store parts) (sym c.into_parts-number.ensures.parts)
@@ -82,30 +84,23 @@ put_back-requires g c =
 pub write_reply-requires : goal.write_reply-requires
 write_reply-requires g c =
     let p = c.loop-left.left - 1 in
-    let taken = c.take_back-reply.ensures in
-    let lists = map (λ list. list.items) c.loop-left.lists.items in
-    let done =
-    at g.wave p lists (map (λ list. list.items) c.take_back-reply.new.lists.items) c.take_back-reply.result (some-list (λ list. list.items) c.loop-left.lists.items c.loop-left.invariant.workers)
-    (sizes (λ list. list.items) c.loop-left.lists.items c.take_back-reply.new.lists.items taken.len) taken.taken
-    (last (IsFinishedAt g.wave.start g.wave.calls g.wave.footprints g.wave.members) c.loop-left.left lists c.loop-left-test.true c.loop-left.invariant.done) in
     let more = c.loop-left-test.true in
+    let taken = c.take_back-reply in
+    let kept = c.loop-left.invariant in
+    let done = at g.wave c.loop-left.left c.loop-left.lists.items taken.new.lists.items taken.result more kept.workers taken.ensures.len taken.ensures.taken kept.done in
     let few = c.loop-left.invariant.few in
     number-low g.wave.calls g.wave.members c.into_parts-number.result.0 p (length c.loop-left.replies) (c.into_parts-number.ensures.number ∙ done.number) (c.requires.0.within p (omega (arith, more, few))) (c.loop-left.invariant.size ∙ c.requires.1.1.1.1.1.1)
 
 pub loop-left-preserved : goal.loop-left-preserved
 loop-left-preserved g c =
     let p = c.loop-left.left - 1 in
-    let taken = c.take_back-reply.ensures in
-    let finished = c.take_back-reply.result in
-    let lists = map (λ list. list.items) c.loop-left.lists.items in
-    let left = map (λ list. list.items) c.take_back-reply.new.lists.items in
-    let some = some-list (λ list. list.items) c.loop-left.lists.items c.loop-left.invariant.workers in
-    let size = sizes (λ list. list.items) c.loop-left.lists.items c.take_back-reply.new.lists.items taken.len in
-    let all = last (IsFinishedAt g.wave.start g.wave.calls g.wave.footprints g.wave.members) c.loop-left.left lists c.loop-left-test.true c.loop-left.invariant.done in
-    let done = at g.wave p lists left finished some size taken.taken all in
     let more = c.loop-left-test.true in
+    let taken = c.take_back-reply in
+    let finished = taken.result in
+    let kept = c.loop-left.invariant in
+    let done = at g.wave c.loop-left.left c.loop-left.lists.items taken.new.lists.items finished more kept.workers taken.ensures.len taken.ensures.taken kept.done in
     let few = c.loop-left.invariant.few in
-    let len = taken.len in
+    let len = taken.ensures.len in
     let workers = c.loop-left.invariant.workers in
     let one : c.loop-left.left ≡ p + 1 = omega (arith, more) in
     let joined : IsJoin c.loop-left.store finished.left.parts c.put_back.new.self = subst (λ (parts : Held). IsJoin c.loop-left.store parts c.put_back.new.self) c.into_parts-number.ensures.parts c.put_back.ensures.joined in
@@ -113,7 +108,7 @@ loop-left-preserved g c =
     let within = number-low g.wave.calls g.wave.members c.into_parts-number.result.0 p (length c.loop-left.replies) (c.into_parts-number.ensures.number ∙ done.number) (c.requires.0.within p low) (c.loop-left.invariant.size ∙ c.requires.1.1.1.1.1.1) in
     record {
       few = omega (arith, low);
-      done = before g.wave p lists left finished some size taken.taken all;
+      done = before g.wave c.loop-left.left c.loop-left.lists.items taken.new.lists.items finished more kept.workers taken.ensures.len taken.ensures.taken kept.done;
       workers = omega (arith, len, workers);
       store = back-wave g.wave.start g.wave.calls g.wave.footprints g.wave.members c.requires.0 p c.loop-left.store finished low (rw one at c.loop-left.invariant.store) done c.put_back.new.self joined;
       places = record { numbers = c.put_back.ensures.places ∙ c.loop-left.invariant.places.numbers; slots = rw c.put_back.ensures.slots c.loop-left.invariant.places.slots };

@@ -2,8 +2,8 @@ use Rattle.std.proofs.Common.{sym, ◌∙◌}
 use Rattle.kc_core.proofs.SlotsShown.{past_none, unmapped-past_gfns, unmapped-past_slots}
 use Rattle.kc_core.proofs.kcore.KCore.lookup.Goals as goal
 
-pub returns-in_err-slot-clause-value : goal.returns-in_err-slot-clause-value
-returns-in_err-slot-clause-value c = c.from_residual.ensures ∙ sym (unmapped-past_slots c.args.self.now c.slot.ensures.lawful c.args.vm c.args.gfn (past_none c.args.vm _ c.in_err-slot.ensures.exists.1))
+pub returns-in_err-try_slot-clause-value : goal.returns-in_err-try_slot-clause-value
+returns-in_err-try_slot-clause-value c = c.from_residual.ensures ∙ sym (unmapped-past_slots c.args.self.now c.try_slot.ensures.lawful c.args.vm c.args.gfn (past_none c.args.vm _ c.in_err-try_slot.ensures.exists.1))
 
 pub returns-in_err-try_new-clause-value : goal.returns-in_err-try_new-clause-value
-returns-in_err-try_new-clause-value c = c.from_residual-in_err-try_new.ensures ∙ sym (unmapped-past_gfns c.args.self.now c.slot.ensures.lawful c.args.vm c.args.gfn (past_none c.args.gfn _ c.in_err-try_new.ensures.valid.1))
+returns-in_err-try_new-clause-value c = c.from_residual-in_err-try_new.ensures ∙ sym (unmapped-past_gfns c.args.self.now c.try_slot.ensures.lawful c.args.vm c.args.gfn (past_none c.args.gfn _ c.in_err-try_new.ensures.valid.1))

@@ -10,7 +10,7 @@ use Rattle.kc_parts.proofs.parts.Parts.append_vm.Goals as goal
 use Rattle.kc_parts.proofs.parts.Parts.append_vm.Goals.{In-Some, After-set_list}
 
 at : (c : In-Some) → vm_at c.args.self.now c.args.vm ≡ Some c.in-Some.slot.now
-at c = sym (rw c.in-Some.is at c.vm.ensures)
+at c = sym (rw c.in-Some.is at c.try_slot.ensures)
 
 -- the list and the frame behind it are the slot's
 own : (c : In-Some) → (f : ℕ) → 0 < times_in (listed (links_of c.args.self.now) c.in-Some.slot.now.slot.frames ++ c.args.frame ∷ []) f → owner_at c.args.self.now f ≡ Vm c.args.vm

@@ -11,7 +11,7 @@ pub returns-clause-rest : goal.returns-clause-rest
 returns-clause-rest c =
     let old = c.args.self.now in
     let slot = c.unwrap-slot.result.now in
-    let at : vm_at old c.args.vm ≡ Some slot = sym (rw c.unwrap-slot.ensures at c.vm_mut.ensures.value) in
+    let at : vm_at old c.args.vm ≡ Some slot = sym (rw c.unwrap-slot.ensures at c.try_slot_mut.ensures.value) in
     let left : c.scrub_list.new.self ≡ emptied old c.args.vm slot at =
     c.scrub_list.ensures
     ∙ ap (λ (vm : VmSlot). all_scrubbed (with_vm old c.args.vm vm) (listed (links_of old) c.list.result.now)) c.reset.ensures

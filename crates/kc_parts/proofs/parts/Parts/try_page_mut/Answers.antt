@@ -1,5 +1,5 @@
 use Rattle.kc_parts.proofs.Blanks.{held-page}
-use Rattle.kc_parts.proofs.parts.Parts.frame_mut.Goals as goal
+use Rattle.kc_parts.proofs.parts.Parts.try_page_mut.Goals as goal
 
 pub invariant_of-self-lent : goal.invariant_of-self-lent
 invariant_of-self-lent c = λ _. let p = c.self.inside in
