@@ -4,7 +4,6 @@
 
 mod account;
 mod custody;
-mod engine;
 mod giving;
 mod history;
 mod live;
@@ -14,7 +13,6 @@ mod starting;
 
 pub use account::CustodyForm;
 pub use custody::{CustodyOrder, custody_text};
-pub use engine::{replay_text, replay_to_text};
 pub use history::replay_history;
 pub use kc_args::{ArgFault, Job, job_of};
 pub use kc_digests::Lanes;
@@ -24,3 +22,4 @@ pub use kc_texts::{
 };
 pub use live::live_text;
 pub use order::{ReplayForm, ReplayOrder};
+pub use replaying::{replay_text, replay_to_text};

@@ -1,51 +1,28 @@
-//! A trace that is replayed as it is read.
-ghost use Rattle.std.specs.Prelude.{◌≡◌, ◌≢◌, ◌+◌, ◌++◌, ◌<◌, ◌≤◌, ◌⊎◌, ◌∷◌, [], List, length, true, false, IfOk, IfErr, IfSome, OnOk, Err, IsSome};
+//! The engine that replays a trace, over any sources and any sink.
+ghost use Rattle.std.specs.Prelude.{◌≡◌, ◌≢◌, ◌<◌, ◌⊎◌, ◌↔◌, ◌∷◌, [], List, true, false, IsTrue, IfOk, IfErr, IfSome, OnOk, Err, IsSome};
 ghost use Rattle.std.specs.Io.KnownBytes.{IsAtEnd};
-ghost use Rattle.kc_types.specs.Limits.{call_limit, worker_limit};
-ghost use Rattle.kc_types.specs.declared.reply.Reply.{Reply};
-ghost use Rattle.kc_model.specs.Lawful.{IsLawful};
 ghost use Rattle.kc_types.specs.declared.call.Call.{Call};
 ghost use Rattle.kc_trace.specs.declared.fault.TraceFault.{TraceFault};
 ghost use Rattle.kc_trace.specs.Trace.{IsTrace, IsRefused};
+ghost use Rattle.kc_state_text.specs.StateText.{state_text};
 ghost use Rattle.kc_texts.specs.Ends.{ReadFailed};
+ghost use Rattle.kc_texts.specs.Reading.{Writes, Begins};
+ghost use Rattle.kc_texts.specs.Outcomes.{seen, TellsSources, TellsTexts, TellsReplay, TellsSink};
 ghost use Rattle.kc_replay.specs.Replayer.{IsFed};
-ghost use Rattle.kc_cli.specs.Engine.{IsReplayed, AreReplayed, IsReplayFault};
-ghost use Rattle.kc_texts.specs.Outcomes.{seen, TellsSources, TellsTexts, TellsReplay};
+ghost use Rattle.kc_cli.specs.Engine.{AreReplayed, IsReplayFault, IsReplayText, IsLeftText};
 
+use crate::giving::give_outcome;
 use crate::order::ReplayOrder;
 use crate::starting::read_start;
 use kc_core::KCore;
+use kc_digests::Lanes;
 use kc_replay::{OpenGate, Outcome, ReplayFault, Replayer};
-use kc_texts::{CallStream, PIECE, Source, TextFault};
-use kc_types::{Call, Reply, WORKER_LIMIT};
+use kc_state_text::is_state_text;
+use kc_texts::{CallStream, PIECE, Sink, Source, TextFault, read_secret};
+use kc_types::{Reply, WORKER_LIMIT};
 use std::alloc::Global;
 use std::sync::Wait;
 use std::thread::Threads;
-
-/// Makes the calls of a segment, and adds their replies.
-fn feed_segment<R: Threads + Wait + Sync>(
-    rt: &R,
-    alloc: Global,
-    replayer: &mut Replayer,
-    calls: &[Call],
-    replies: &mut Vec<Reply>,
-) -> Result<(), TextFault>
-    requires { replayer.old.fed + length calls.now ≤ call_limit }
-    ensures fed { OnOk result ((given : List Reply) × (replies.new.items ≡ replies.old.items ++ given) × IsFed replayer.old replayer.new calls.now given) }
-    ensures fault { IfErr result (λ fault. (fault ≡ TextFault.Memory) ⊎ (fault ≡ TextFault.Start)) }
-    ensures started { result ≡ Err TextFault.Start → 1 < replayer.old.workers }
-{
-    match replayer.feed(rt, alloc, calls, &OpenGate) {
-        Ok(mut more) => {
-            if replies.append(&mut more).is_err() {
-                return Err(TextFault::Memory);
-            }
-            Ok(())
-        },
-        Err(ReplayFault::Start) => Err(TextFault::Start),
-        Err(_) => Err(TextFault::Memory),
-    }
-}
 
 /// Makes the calls of the trace that a source has left, as it is read, and gives their replies.
 fn feed_source<T: Source, R: Threads + Wait + Sync>(
@@ -70,7 +47,15 @@ fn feed_source<T: Source, R: Threads + Wait + Sync>(
     let mut replies = Vec::new(alloc);
     loop {
         let part = stream.next(alloc, trace, &mut buffer)?;
-        feed_segment(rt, alloc, replayer, &part.calls, &mut replies)?;
+        match replayer.feed(rt, alloc, &part.calls, &OpenGate) {
+            Ok(mut more) => {
+                if replies.append(&mut more).is_err() {
+                    return Err(TextFault::Memory);
+                }
+            },
+            Err(ReplayFault::Start) => return Err(TextFault::Start),
+            Err(_) => return Err(TextFault::Memory),
+        }
         if part.is_last {
             break;
         }
@@ -89,45 +74,9 @@ fn wipe_left(rt: &(impl Threads + Sync), replayer: Replayer) {
     }
 }
 
-/// Makes the calls of the trace that a source has left on a core, as it is read, by 1 to 64 workers. Where there is no
-/// outcome the core is wiped.
-fn replay_source<T: Source, R: Threads + Wait + Sync>(
-    rt: &R,
-    alloc: Global,
-    core: KCore,
-    trace: &mut T,
-    workers: u32,
-) -> Result<Outcome, TextFault>
-    requires lawful { IsLawful core }
-    requires workers { (0 < workers) × (workers ≤ worker_limit) }
-    requires trace { T.failed trace.old ≡ false }
-    ensures ok { IfOk result (λ outcome. IfSome (T.left trace.old) (λ text. IsReplayed core text outcome.replies.items outcome.core)) }
-    ensures ended { OnOk result (IsAtEnd (T.left trace.new)) }
-    ensures trace { (fault : TraceFault) → result ≡ Err (TextFault.Trace fault) → IfSome (T.left trace.old) (λ text. IsRefused text fault) × IsAtEnd (T.left trace.new) }
-    ensures read { result ≡ Err TextFault.Read → ReadFailed (T.failed trace.new) (T.left trace.old) (T.left trace.new) }
-    ensures source { T.failed trace.new ≡ true → result ≡ Err TextFault.Read }
-    ensures started { result ≡ Err TextFault.Start → 1 < workers }
-    ensures fault { IfErr result IsReplayFault }
-{
-    let Ok(replayer) = Replayer::from_core(core, workers as usize) else {
-        return Err(TextFault::Memory);
-    };
-    let mut replayer = replayer;
-    match feed_source(rt, alloc, &mut replayer, trace) {
-        Ok(replies) => match replayer.finish() {
-            Ok(core) => Ok(Outcome { replies, core }),
-            Err(_) => Err(TextFault::Memory),
-        },
-        Err(fault) => {
-            wipe_left(rt, replayer);
-            Err(fault)
-        },
-    }
-}
-
 /// Reads what the calls begin with to its end and a trace as it is replayed by so many workers: the replies and the core.
-/// The number of workers, 1 to 64, is judged before anything is read.
-pub(crate) fn replay_texts<C: Source, T: Source, R: Threads + Wait + Sync>(
+/// The number of workers, 1 to 64, is judged before anything is read. Where there is no outcome the core is wiped.
+fn replay_texts<C: Source, T: Source, R: Threads + Wait + Sync>(
     rt: &R,
     alloc: Global,
     start: &mut C,
@@ -146,5 +95,109 @@ pub(crate) fn replay_texts<C: Source, T: Source, R: Threads + Wait + Sync>(
         return Err(TextFault::Workers);
     }
     let core = read_start(rt, alloc, start, order.origin, order.lanes)?;
-    replay_source(rt, alloc, core, trace, order.workers)
+    let Ok(replayer) = Replayer::from_core(core, order.workers as usize) else {
+        return Err(TextFault::Memory);
+    };
+    let mut replayer = replayer;
+    match feed_source(rt, alloc, &mut replayer, trace) {
+        Ok(replies) => match replayer.finish() {
+            Ok(core) => Ok(Outcome { replies, core }),
+            Err(_) => Err(TextFault::Memory),
+        },
+        Err(fault) => {
+            wipe_left(rt, replayer);
+            Err(fault)
+        },
+    }
+}
+
+/// Reads what the calls begin with and a trace, each to its end, has 1 to 64 workers make the trace's calls as they are read,
+/// and writes what is wanted: the reply text, the dump of the core that the trace leaves, or the text of its state. The number
+/// of workers is judged before anything is read.
+///
+/// Nothing is written but after the whole trace was read and answered. A source that fails, or that has more than
+/// 1,073,741,824 bytes, is `Read`, also where its bytes so far are refused already. Out of memory or a worker that cannot be
+/// started is reported before a fault of the trace that stands further on.
+pub fn replay_text<C: Source, T: Source, K: Sink, R: Threads + Wait + Sync>(
+    rt: &R,
+    alloc: Global,
+    start: &mut C,
+    trace: &mut T,
+    out: &mut K,
+    order: ReplayOrder,
+) -> Result<(), TextFault>
+    requires start { C.failed start.old ≡ false }
+    requires trace { T.failed trace.old ≡ false }
+    requires out { K.failed out.old ≡ false }
+
+    // What is written is the text wanted for what the sources held.
+    ensures ok { OnOk result (Writes (IsReplayText order.origin order.form) (C.left start.old) (T.left trace.old) (K.taken out.old) (K.taken out.new)) }
+    ensures sources { TellsSources (seen (C.failed start.new) (C.left start.old) (C.left start.new) ∷ seen (T.failed trace.new) (T.left trace.old) (T.left trace.new) ∷ []) result }
+    ensures texts { TellsTexts order.origin (seen (C.failed start.new) (C.left start.old) (C.left start.new)) (seen (T.failed trace.new) (T.left trace.old) (T.left trace.new)) (trace.new ≡ trace.old) result }
+    ensures replay { TellsReplay order.workers order.origin (C.left start.old) result }
+    ensures sink { TellsSink (K.failed out.new) (Begins (IsReplayText order.origin order.form) (C.left start.old) (T.left trace.old) (K.taken out.old) (K.taken out.new)) (out.new ≡ out.old) result }
+{
+    let outcome = replay_texts(rt, alloc, start, trace, order)?;
+    give_outcome(rt, alloc, outcome, order, out)
+}
+
+/// Whether what a source has left is the text of a core's state. The text's memory is wiped.
+fn is_left<S: Source>(
+    rt: &(impl Threads + Sync),
+    alloc: Global,
+    core: &KCore,
+    to: &mut S,
+    lanes: Lanes,
+) -> Result<bool, TextFault>
+    requires { S.failed to.old ≡ false }
+    ensures ok { IfOk result (λ same. IfSome (S.left to.old) (λ text. IsTrue same ↔ (text ≡ state_text core.now))) }
+    ensures ended { OnOk result (IsAtEnd (S.left to.new)) }
+    ensures read { result ≡ Err TextFault.Read → ReadFailed (S.failed to.new) (S.left to.old) (S.left to.new) }
+    ensures source { S.failed to.new ≡ true → result ≡ Err TextFault.Read }
+    ensures fault { IfErr result (λ fault. (fault ≡ TextFault.Memory) ⊎ (fault ≡ TextFault.Read)) }
+{
+    let mut text = read_secret(alloc, to)?;
+    let same = is_state_text(rt, alloc, core, &text, lanes);
+    text.fill(0);
+    match same {
+        Ok(same) => Ok(same),
+        Err(_) => Err(TextFault::Memory),
+    }
+}
+
+/// What `replay_text` does, and answers whether what a third source holds, which is read to its end, is the text of the state
+/// that the trace leaves. That source is read behind the trace and before anything is written.
+pub fn replay_to_text<C: Source, T: Source, S: Source, K: Sink, R: Threads + Wait + Sync>(
+    rt: &R,
+    alloc: Global,
+    start: &mut C,
+    trace: &mut T,
+    to: &mut S,
+    out: &mut K,
+    order: ReplayOrder,
+) -> Result<bool, TextFault>
+    requires start { C.failed start.old ≡ false }
+    requires trace { T.failed trace.old ≡ false }
+    requires to { S.failed to.old ≡ false }
+    requires out { K.failed out.old ≡ false }
+
+    // What is written is the text wanted for what the sources held, and what is answered is of the third one.
+    ensures ok { OnOk result (Writes (IsReplayText order.origin order.form) (C.left start.old) (T.left trace.old) (K.taken out.old) (K.taken out.new)) }
+    ensures same { IfOk result (IsLeftText order.origin (C.left start.old) (T.left trace.old) (S.left to.old)) }
+    ensures sources { TellsSources (seen (C.failed start.new) (C.left start.old) (C.left start.new) ∷ seen (T.failed trace.new) (T.left trace.old) (T.left trace.new) ∷ seen (S.failed to.new) (S.left to.old) (S.left to.new) ∷ []) result }
+    ensures texts { TellsTexts order.origin (seen (C.failed start.new) (C.left start.old) (C.left start.new)) (seen (T.failed trace.new) (T.left trace.old) (T.left trace.new)) (trace.new ≡ trace.old) result }
+    ensures replay { TellsReplay order.workers order.origin (C.left start.old) result }
+    ensures sink { TellsSink (K.failed out.new) (Begins (IsReplayText order.origin order.form) (C.left start.old) (T.left trace.old) (K.taken out.old) (K.taken out.new)) (out.new ≡ out.old) result }
+{
+    let outcome = replay_texts(rt, alloc, start, trace, order)?;
+    let same = match is_left(rt, alloc, &outcome.core, to, order.lanes) {
+        Ok(same) => same,
+        Err(fault) => {
+            let mut core = outcome.core;
+            core.wipe(rt);
+            return Err(fault);
+        },
+    };
+    give_outcome(rt, alloc, outcome, order, out)?;
+    Ok(same)
 }

@@ -8,8 +8,9 @@ ghost use Rattle.kc_texts.specs.Audit.{IsAudited, Audits, BeginsAudit, IsDumpFau
 ghost use Rattle.kc_texts.specs.Outcomes.{seen, TellsSources, TellsSink};
 
 use crate::TextFault;
+use crate::lines::write_whole;
 use crate::source::{Sink, Source};
-use crate::whole::{read_whole, write_whole};
+use crate::whole::read_whole;
 use kc_audit::{Finding, audit_parallel, written};
 use kc_dump_text::read_dump;
 use std::alloc::Global;

@@ -3,32 +3,25 @@
 #![tactic(auto)]
 
 mod auditing;
-mod events;
 mod fault;
 mod lines;
 mod mem;
 mod origin;
-mod piece;
 mod reading;
-mod replies;
 mod source;
 mod standard;
 mod stream;
 mod telling;
-mod traces;
 mod whole;
 
 pub use auditing::audit_text;
 pub use fault::TextFault;
-pub use lines::{Line, give_lines};
+pub use lines::{Line, empty_piece, give_lines, give_replies, give_trace, write_whole};
 pub use mem::Mem;
 pub use origin::Origin;
-pub use piece::{PIECE, empty_piece};
 pub use reading::{DEFAULT_CONFIG, read_both, read_configuration};
-pub use replies::give_replies;
-pub use source::{Failed, Sink, Source};
+pub use source::{Failed, PIECE, Sink, Source};
 pub use standard::Std;
 pub use stream::{CallStream, Part, StreamFault, read_calls};
 pub use telling::tell;
-pub use traces::give_trace;
-pub use whole::{ReadFault, read_secret, read_whole, write_whole};
+pub use whole::{ReadFault, read_secret, read_whole};

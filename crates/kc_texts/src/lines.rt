@@ -1,12 +1,38 @@
-//! Lines of text, given to a sink in pieces.
-ghost use Rattle.std.specs.Prelude.{◌≡◌, ◌≤◌, ◌+◌, ◌++◌, false, ℕ, List, take, vec_len, vec_capacity, is_err, OnOk, OnErr};
+//! Text given to a sink: whole, or in lines, a piece at a time.
+ghost use Rattle.std.specs.Prelude.{◌≡◌, ◌≤◌, ◌+◌, ◌++◌, ◌∷◌, [], false, ℕ, List, take, vec_len, vec_capacity, is_err, IfOk, OnOk, OnErr};
 ghost use Rattle.std.specs.List.{flat_map};
 ghost use Rattle.std.specs.Io.KnownBytes.{Appends};
-ghost use Rattle.kc_trace.specs.Spelling.{longest_call};
+ghost use Rattle.kc_trace.specs.CustodyText.{event_line};
+ghost use Rattle.kc_trace.specs.ReplyText.{reply_line_of, reply_text_of};
+ghost use Rattle.kc_trace.specs.Spelling.{line_of, trace_of, longest_call};
 
-use crate::source::{Failed, Sink};
-use crate::whole::write_whole;
-use kc_trace::LONGEST_CALL;
+use crate::source::{Failed, PIECE, Sink};
+use kc_trace::{LONGEST_CALL, push_call, push_change, push_header, push_reply, version_of};
+use kc_types::{Call, Event, Memory, Reply};
+use std::alloc::Global;
+
+/// Gives all bytes to a sink. After an `Err` it has taken a beginning of them.
+pub fn write_whole<S: Sink>(sink: &mut S, bytes: &[u8]) -> Result<(), Failed>
+    requires { S.failed sink.old ≡ false }
+    ensures ok { OnOk result (Appends (S.taken sink.old) (S.taken sink.new) bytes.now) }
+    ensures begun { OnErr result ((n : ℕ) × Appends (S.taken sink.old) (S.taken sink.new) (take n bytes.now)) }
+    ensures mark { S.failed sink.new ≡ is_err result }
+{
+    let mut rest = bytes;
+    while !rest.is_empty() {
+        let n = sink.write(rest)?;
+        (_, rest) = rest.split_at(n);
+    }
+    Ok(())
+}
+
+/// A piece without text, which has room for 65,536 bytes: for the longest line many times over.
+pub fn empty_piece(alloc: Global) -> Result<Vec<u8>, Memory>
+    ensures empty { IfOk result (λ piece. piece.items ≡ []) }
+    ensures room { IfOk result (λ piece. longest_call ≤ vec_capacity piece) }
+{
+    Ok(Vec::with_capacity(alloc, PIECE)?)
+}
 
 /// What stands in a line of its own.
 pub trait Line {
@@ -18,6 +44,34 @@ pub trait Line {
         requires { vec_len text.old + longest_call ≤ vec_capacity text.old }
         ensures line { text.new.items ≡ text.old.items ++ line self.now }
         ensures capacity { vec_capacity text.old ≤ vec_capacity text.new };
+}
+
+impl Line for Reply {
+    ghost line = { λ reply. reply_line_of reply ++ 10 ∷ [] };
+
+    fn push(&self, text: &mut Vec<u8>) {
+        push_reply(text, self);
+    }
+}
+
+impl Line for Call {
+    ghost line = { λ call. line_of call ++ 10 ∷ [] };
+
+    fn push(&self, text: &mut Vec<u8>) {
+        push_call(text, self);
+    }
+}
+
+/// A change of custody has a line, and no other event has one.
+impl Line for Event {
+    ghost line = { λ event. event_line event };
+
+    fn push(&self, text: &mut Vec<u8>) {
+        match self {
+            Event::Change(change) => push_change(text, change),
+            Event::Read { .. } | Event::Write { .. } => (),
+        }
+    }
 }
 
 /// Gives a sink what stands in the piece and then some lines, in pieces as large as that one has room for: memory does
@@ -41,4 +95,31 @@ pub fn give_lines<K: Sink, L: Line>(
         line.push(&mut piece);
     }
     write_whole(out, &piece)
+}
+
+/// Gives the text of some replies to a sink, in pieces as large as the empty buffer has room for: memory does not
+/// grow. After an `Err` the sink has taken a beginning of the text.
+pub fn give_replies<K: Sink>(out: &mut K, piece: Vec<u8>, replies: &[Reply]) -> Result<(), Failed>
+    requires out { K.failed out.old ≡ false }
+    requires empty { piece.items ≡ [] }
+    requires room { longest_call ≤ vec_capacity piece }
+    ensures ok { OnOk result (Appends (K.taken out.old) (K.taken out.new) (reply_text_of replies.now)) }
+    ensures begun { OnErr result ((n : ℕ) × Appends (K.taken out.old) (K.taken out.new) (take n (reply_text_of replies.now))) }
+    ensures mark { K.failed out.new ≡ is_err result }
+{
+    give_lines(out, piece, replies)
+}
+
+/// Gives the trace of some calls to a sink, in pieces as large as the empty buffer has room for: memory does not
+/// grow. After an `Err` the sink has taken a beginning of it.
+pub fn give_trace<K: Sink>(out: &mut K, mut piece: Vec<u8>, calls: &[Call]) -> Result<(), Failed>
+    requires out { K.failed out.old ≡ false }
+    requires empty { piece.items ≡ [] }
+    requires room { longest_call ≤ vec_capacity piece }
+    ensures ok { OnOk result (Appends (K.taken out.old) (K.taken out.new) (trace_of calls.now)) }
+    ensures begun { OnErr result ((n : ℕ) × Appends (K.taken out.old) (K.taken out.new) (take n (trace_of calls.now))) }
+    ensures mark { K.failed out.new ≡ is_err result }
+{
+    push_header(&mut piece, version_of(calls));
+    give_lines(out, piece, calls)
 }

@@ -4,6 +4,9 @@ ghost use Rattle.std.specs.Io.KnownBytes.{ReadConsumes, WriteAppends};
 
 use thiserror::Error;
 
+/// So many bytes of text are read or written at once.
+pub const PIECE: usize = 65_536;
+
 /// A read or a write failed.
 #[derive(Clone, Copy, Debug, PartialEq, Eq, Error)]
 #[error("a read or a write failed")]

@@ -8,8 +8,7 @@ ghost use Rattle.kc_trace.specs.Trace.{IsTrace, IsRefused};
 ghost use Rattle.kc_texts.specs.Ends.{ReadFailed};
 ghost use Rattle.kc_texts.specs.Streamed.{HasRead, GoesOn};
 
-use crate::piece::PIECE;
-use crate::source::{Failed, Source};
+use crate::source::{Failed, PIECE, Source};
 use crate::whole::ReadFault;
 use kc_trace::{TraceFault, TraceReader};
 use kc_types::{BYTE_LIMIT, Call};

@@ -5,8 +5,8 @@ ghost use Rattle.std.specs.Io.KnownBytes.{Appends};
 ghost use Rattle.kc_texts.specs.Faults.{status_of, fault_number, numeral_of, fault_finding, fault_line};
 
 use crate::TextFault;
+use crate::lines::write_whole;
 use crate::source::Sink;
-use crate::whole::write_whole;
 use arrayvec::ArrayString;
 use itoa::Buffer;
 use kc_audit::finding_text;

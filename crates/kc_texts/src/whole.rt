@@ -1,10 +1,10 @@
-//! All that a source has, and all that a sink is given.
+//! All that a source has.
 ghost use Rattle.std.specs.Prelude.{◌≡◌, ◌<◌, ◌≤◌, false, ℕ, length, take, is_err, IfOk, OnOk, OnErr};
-ghost use Rattle.std.specs.Io.KnownBytes.{Consumes, Appends, IsAtEnd};
+ghost use Rattle.std.specs.Io.KnownBytes.{Consumes, IsAtEnd};
 ghost use Rattle.kc_texts.specs.Ends.{ReadFailed};
 ghost use Rattle.kc_types.specs.Limits.{byte_limit};
 
-use crate::{Failed, Sink, Source};
+use crate::{Failed, PIECE, Source};
 use kc_types::{BYTE_LIMIT, Memory};
 use std::alloc::Global;
 use thiserror::Error;
@@ -31,7 +31,7 @@ pub fn read_whole<S: Source>(alloc: Global, source: &mut S) -> Result<Vec<u8>, R
     ensures memory { result ≡ Err ReadFault.Memory → S.failed source.new ≡ false }
     ensures read { result ≡ Err ReadFault.Read → ReadFailed (S.failed source.new) (S.left source.old) (S.left source.new) }
 {
-    let mut buffer = [0u8; 65536];
+    let mut buffer = [0u8; PIECE];
     let mut all = Vec::new(alloc);
     loop {
         let n = match source.read(&mut buffer) {
@@ -49,9 +49,6 @@ pub fn read_whole<S: Source>(alloc: Global, source: &mut S) -> Result<Vec<u8>, R
         }
     }
 }
-
-/// How many bytes are made room for at first, where no more are awaited.
-const PIECE: usize = 65_536;
 
 /// Puts bytes that begin with those of a text in its place: twice as many, at least 65,536 and one more than are awaited, and
 /// at most 65,536 more than are ever read. The old ones are zeroed. An `Err` leaves the text as it was.
@@ -124,19 +121,4 @@ pub fn read_secret<S: Source>(alloc: Global, source: &mut S) -> Result<Vec<u8>, 
             Err(fault)
         }
     }
-}
-
-/// Gives all bytes to a sink. After an `Err` it has taken a beginning of them.
-pub fn write_whole<S: Sink>(sink: &mut S, bytes: &[u8]) -> Result<(), Failed>
-    requires { S.failed sink.old ≡ false }
-    ensures ok { OnOk result (Appends (S.taken sink.old) (S.taken sink.new) bytes.now) }
-    ensures begun { OnErr result ((n : ℕ) × Appends (S.taken sink.old) (S.taken sink.new) (take n bytes.now)) }
-    ensures mark { S.failed sink.new ≡ is_err result }
-{
-    let mut rest = bytes;
-    while !rest.is_empty() {
-        let n = sink.write(rest)?;
-        (_, rest) = rest.split_at(n);
-    }
-    Ok(())
 }

@@ -1,13 +1,31 @@
-//! One line as a call.
-ghost use Rattle.std.specs.Prelude.{◌≡◌, codes, IfOk, option_map, option_and_then};
+//! One line as a call, and in which texts that call may stand.
+ghost use Rattle.std.specs.Prelude.{◌≡◌, codes, not, IfOk, option_map, option_and_then};
 ghost use Rattle.std.specs.Str.{bytes_eq};
 ghost use Rattle.kc_types.specs.declared.call.Call.TheVariants.{HostWrite};
 ghost use Rattle.kc_lines.specs.Words.{data_of};
+ghost use Rattle.kc_trace.specs.Spelling.{is_new, stands_in};
 ghost use Rattle.kc_trace.specs.Reading.{one_word, with_one_number, with_two_numbers, with_three_numbers, with_four_numbers, read_guest_access, call_of};
 
 use kc_lines::{read_data, read_number, split_number, split_word};
-use kc_types::Call;
+use kc_types::{Call, Version};
 use std::alloc::{AllocError, Global};
+
+/// Whether a call stands in texts of the second version alone.
+pub fn is_new(call: &Call) -> bool
+    ensures { result ≡ is_new call.now }
+{
+    matches!(call, Call::GrantRange { .. } | Call::RevokeRange { .. })
+}
+
+/// Whether the call may stand in a text of this version.
+pub fn stands_in(version: Version, call: &Call) -> bool
+    ensures { result ≡ stands_in version call.now }
+{
+    match version {
+        Version::One => !is_new(call),
+        Version::Two => true,
+    }
+}
 
 fn read_one_word(name: &[u8]) -> Option<Call>
     ensures { result ≡ one_word name.now }

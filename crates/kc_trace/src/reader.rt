@@ -7,8 +7,7 @@ ghost use Rattle.kc_trace.specs.Trace.{IsTrace, IsRefused};
 ghost use Rattle.kc_trace.specs.Machine.{Gives, Fails, start, with_front, feed, fed, ended, reading, told, standing, call_of_kept, call_in, longer_each};
 
 use crate::fault::TraceFault;
-use crate::line::call_of_line;
-use crate::writer::stands_in;
+use crate::line::{call_of_line, stands_in};
 use arrayvec::ArrayVec;
 use kc_lines::split_line;
 use kc_types::{CALL_LIMIT, Call, LINE_LIMIT, Version};

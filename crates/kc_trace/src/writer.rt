@@ -8,8 +8,9 @@ ghost use Rattle.kc_types.specs.Bytes.{IsData};
 ghost use Rattle.kc_model.specs.Ranged.{IsRanged};
 ghost use Rattle.kc_types.specs.Limits.{line_limit};
 ghost use Rattle.kc_trace.specs.Trace.{IsTrace};
-ghost use Rattle.kc_trace.specs.Spelling.{is_new, stands_in, version_of, trace_header, line_of, longest_call, trace_of};
+ghost use Rattle.kc_trace.specs.Spelling.{is_new, version_of, trace_header, line_of, longest_call, trace_of};
 
+use crate::line::is_new;
 use kc_lines::{push_bytes, push_digits, push_number};
 use kc_types::{Call, Data, LINE_LIMIT, Memory, Version};
 use std::alloc::Global;
@@ -150,23 +151,6 @@ pub fn push_call(text: &mut Vec<u8>, call: &Call)
 {
     push_line(text, call);
     push_bytes(text, b"\n");
-}
-
-/// Whether a call stands in texts of the second version alone.
-fn is_new(call: &Call) -> bool
-    ensures { result ≡ is_new call.now }
-{
-    matches!(call, Call::GrantRange { .. } | Call::RevokeRange { .. })
-}
-
-/// Whether the call may stand in a text of this version.
-pub fn stands_in(version: Version, call: &Call) -> bool
-    ensures { result ≡ stands_in version call.now }
-{
-    match version {
-        Version::One => !is_new(call),
-        Version::Two => true,
-    }
 }
 
 fn any_is_new(calls: &[Call]) -> bool

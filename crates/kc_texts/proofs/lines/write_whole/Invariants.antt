@@ -1,6 +1,6 @@
 use Rattle.std.proofs.Common.{◌≡◌, false, length}
 use Rattle.kc_texts.proofs.Bytes.{IsSent}
-use Rattle.kc_texts.proofs.whole.write_whole.Given as goal
+use Rattle.kc_texts.proofs.lines.write_whole.Given as goal
 
 -- how much the sink has taken
 abbrev pub invariant-loop-rest : goal.invariant-loop-rest

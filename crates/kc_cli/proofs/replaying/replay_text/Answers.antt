@@ -1,7 +1,7 @@
 use Rattle.std.proofs.lemmas.Result.{err_from_is_err_and}
 use Rattle.kc_texts.proofs.Told.{sources_err, texts_err, sink_more}
 use Rattle.kc_cli.proofs.Replayed.{begins}
-use Rattle.kc_cli.proofs.engine.replay_text.Goals as goal
+use Rattle.kc_cli.proofs.replaying.replay_text.Goals as goal
 
 pub returns-in_err-outcome-clause-texts : goal.returns-in_err-outcome-clause-texts
 returns-in_err-outcome-clause-texts g c =

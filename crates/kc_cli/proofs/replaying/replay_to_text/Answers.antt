@@ -3,7 +3,7 @@ use Rattle.std.proofs.lemmas.Result.{err_from_is_err_and}
 use Rattle.kc_texts.specs.declared.fault.TextFault.TheVariants as texts
 use Rattle.kc_texts.proofs.Told.{texts_err}
 use Rattle.kc_cli.proofs.Sources.{sources_with, sources_last}
-use Rattle.kc_cli.proofs.engine.replay_to_text.Goals as goal
+use Rattle.kc_cli.proofs.replaying.replay_to_text.Goals as goal
 
 pub returns-in_err-outcome-clause-texts : goal.returns-in_err-outcome-clause-texts
 returns-in_err-outcome-clause-texts g c =

@@ -1,5 +1,5 @@
 use Rattle.kc_texts.proofs.Bytes.{sent_on}
-use Rattle.kc_texts.proofs.whole.write_whole.Goals as goal
+use Rattle.kc_texts.proofs.lines.write_whole.Goals as goal
 
 pub loop-rest-preserved : goal.loop-rest-preserved
 loop-rest-preserved g c =
