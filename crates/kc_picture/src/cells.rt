@@ -3,11 +3,11 @@ ghost use Rattle.std.specs.Prelude.{◌≡◌, ◌^◌, ◌<◌, ◌≤◌, sum,
 ghost use Rattle.kc_picture.specs.Cells.{IsOf};
 
 use crate::colour::{CORE, Colour, EDGE, FREE, HOST, SEVERAL};
-use crate::rows::{bars_by_row, frames_of_row, row_of};
+use crate::rows::{frames_of_row, row_of};
 use crate::scale::{LEFT, PLOT, nice};
 use crate::sums::{FIRST_VM, MOST_COLUMNS, OWNERS, Sums, at, sums_of, weigh};
 use crate::svg::{Area, REMARK, Svg};
-use crate::words::{push_count, push_length, push_number};
+use crate::words::Text;
 use kc_types::{Bar, Memory};
 use std::alloc::Global;
 
@@ -84,7 +84,7 @@ fn rest_of(weights: &[u64]) -> Colour {
 
 /// Whose a cell is: a VM's that had more than half of what VMs had of it, or several VMs', or where VMs had nothing that of
 /// the other owner that had most.
-#[derive(Clone, Copy, PartialEq, Eq)]
+#[derive(Clone, Copy)]
 enum Whose {
     Vm(usize),
     Several,
@@ -138,8 +138,8 @@ fn cell_of(weights: &[u64], size: u64) -> Cell {
 
 /// A row's cells, from left to right.
 fn cells_of(alloc: Global, sums: &Sums, size: u64) -> Result<Vec<Cell>, Memory> {
-    let mut running = vec![in alloc; 0; OWNERS]?;
-    let mut weights = vec![in alloc; 0; OWNERS]?;
+    let mut running = [0u64; OWNERS];
+    let mut weights = [0u64; OWNERS];
     let mut cells = Vec::new(alloc);
     for column in 0..sums.columns.min(MOST_COLUMNS) {
         weigh(sums, &mut running, &mut weights, column);
@@ -149,92 +149,70 @@ fn cells_of(alloc: Global, sums: &Sums, size: u64) -> Result<Vec<Cell>, Memory> 
 }
 
 /// Draws cells from one column up to another in one colour; nothing where that is the ground's.
-fn draw_run(
-    svg: &mut Svg,
-    columns: u64,
-    from: u64,
-    to: u64,
-    middle: u64,
-    colour: Colour,
-) -> Result<(), Memory> {
+fn draw_run(svg: &mut Svg, columns: u64, from: u64, to: u64, middle: u64, colour: Colour) {
     if colour == FREE || to <= from {
-        return Ok(());
+        return;
     }
     let x = x_of(from, columns);
-    svg.line(x, middle, x_of(to, columns).saturating_sub(x), colour)
+    svg.line(x, middle, x_of(to, columns).saturating_sub(x), colour);
 }
 
 /// Draws the cells of a row.
-fn draw_cells(svg: &mut Svg, columns: u64, cells: &[Cell], middle: u64) -> Result<(), Memory> {
+fn draw_cells(svg: &mut Svg, columns: u64, cells: &[Cell], middle: u64) {
     let mut from = 0u64;
     let mut last = FREE;
     let mut column = 0u64;
     for cell in cells {
         if cell.colour != last {
-            draw_run(svg, columns, from, column, middle, last)?;
+            draw_run(svg, columns, from, column, middle, last);
             from = column;
             last = cell.colour;
         }
         column = column.saturating_add(1);
     }
-    draw_run(svg, columns, from, column, middle, last)
+    draw_run(svg, columns, from, column, middle, last);
 }
 
 /// Whether an edge is drawn between two cells: where another's begin, unless no VM had any of either.
 fn has_edge(left: Whose, right: Whose) -> bool {
     match (left, right) {
-        (Whose::Rest(_), Whose::Rest(_)) => false,
-        _ => left != right,
+        (Whose::Rest(_), Whose::Rest(_)) | (Whose::Several, Whose::Several) => false,
+        (Whose::Vm(left), Whose::Vm(right)) => left != right,
+        _ => true,
     }
 }
 
 /// Draws an edge where a VM's cells of a row begin and end, which is read in grey too.
-fn draw_edges(
-    svg: &mut Svg,
-    columns: u64,
-    cells: &[Cell],
-    top: u64,
-    height: u64,
-) -> Result<(), Memory> {
-    let mut path = String::new(svg.alloc());
+fn draw_edges(svg: &mut Svg, columns: u64, cells: &[Cell], top: u64, height: u64) {
+    let mut path = Text::new(svg.alloc());
     let mut before = Whose::Rest(FREE);
     let mut column = 0u64;
     for cell in cells {
         if has_edge(before, cell.whose) {
             let x = x_of(column, columns).saturating_add(50);
-            push_length(&mut path, "M", x)?;
-            push_length(&mut path, " ", top)?;
-            push_length(&mut path, "v", height)?;
+            path.put_length("M", x);
+            path.put_length(" ", top);
+            path.put_length("v", height);
         }
         before = cell.whose;
         column = column.saturating_add(1);
     }
-    if path.is_empty() {
-        return Ok(());
-    }
-    svg.lines(&path, 60)
+    svg.lines(&path, 60);
 }
 
 /// Adds a line through the columns from one up to another.
-fn add_mark(
-    path: &mut String,
-    columns: u64,
-    from: u64,
-    to: u64,
-    middle: u64,
-) -> Result<(), Memory> {
+fn add_mark(path: &mut Text, columns: u64, from: u64, to: u64, middle: u64) {
     if to > from {
         let x = x_of(from, columns);
-        push_length(path, "M", x)?;
-        push_length(path, " ", middle)?;
-        push_length(path, "h", x_of(to, columns).saturating_sub(x))?;
+        path.put_length("M", x);
+        path.put_length(" ", middle);
+        path.put_length("h", x_of(to, columns).saturating_sub(x));
     }
-    Ok(())
 }
 
 /// Underlines the cells of a row in which any frame was shared.
-fn draw_shared(svg: &mut Svg, sums: &Sums, middle: u64) -> Result<(), Memory> {
-    let mut path = String::new(svg.alloc());
+fn draw_shared(svg: &mut Svg, sums: &Sums, middle: u64) {
+    let mut path = Text::new(svg.alloc());
     let mut count = 0u64;
     let mut from = 0u64;
     let columns = sums.columns.min(MOST_COLUMNS);
@@ -242,23 +220,20 @@ fn draw_shared(svg: &mut Svg, sums: &Sums, middle: u64) -> Result<(), Memory> {
         let before = count;
         count = count.wrapping_add(at(&sums.shared, column as usize));
         if before > 0 && count == 0 {
-            add_mark(&mut path, columns, from, column, middle)?;
+            add_mark(&mut path, columns, from, column, middle);
         }
         if before == 0 {
             from = column;
         }
     }
     if count > 0 {
-        add_mark(&mut path, columns, from, columns, middle)?;
+        add_mark(&mut path, columns, from, columns, middle);
     }
-    if path.is_empty() {
-        return Ok(());
-    }
-    svg.lines(&path, 120)
+    svg.lines(&path, 120);
 }
 
 /// Writes the numbers of some frames beside their rows.
-fn name_rows(svg: &mut Svg, top: u64, grid: &Grid) -> Result<(), Memory> {
+fn name_rows(svg: &mut Svg, top: u64, grid: &Grid) {
     let step = nice(grid.frames, 8);
     for i in 0..9u64 {
         let frame = step.saturating_mul(i);
@@ -267,55 +242,52 @@ fn name_rows(svg: &mut Svg, top: u64, grid: &Grid) -> Result<(), Memory> {
             let base = top
                 .saturating_add(row.saturating_mul(grid.height))
                 .saturating_add(800);
-            svg.numbered(LEFT - 800, base, &REMARK, "", frame)?;
+            svg.numbered(LEFT - 800, base, &REMARK, "", frame);
         }
     }
-    Ok(())
 }
 
 /// Says at the right what a cell stands for.
-fn explain(svg: &mut Svg, top: u64, grid: &Grid, vm: Option<u32>) -> Result<(), Memory> {
+fn explain(svg: &mut Svg, top: u64, grid: &Grid, vm: Option<u32>) {
     let tall = grid.frames.div_ceil(grid.rows.max(1));
     let wide = grid.lines.div_ceil(grid.columns.max(1));
-    let mut words = String::new(svg.alloc());
-    words.push_str("a cell: up to ")?;
-    push_count(&mut words, tall, "frame")?;
-    words.push_str(" through up to ")?;
-    push_count(&mut words, wide, "line")?;
+    svg.begin_words(LEFT + PLOT, top.saturating_sub(800), &REMARK);
+    svg.text.put("a cell: up to ");
+    svg.text.put_count(tall, "frame");
+    svg.text.put(" through up to ");
+    svg.text.put_count(wide, "line");
     match vm {
         Some(vm) => {
-            push_number(&mut words, "; paler the less of it vm ", u64::from(vm))?;
-            words.push_str(" had; underlined where it shared any")?;
+            svg.text
+                .put_number("; paler the less of it vm ", u64::from(vm));
+            svg.text.put(" had; underlined where it shared any");
         },
-        None => words.push_str(
+        None => svg.text.put(
             "; in a VM's colour where it had most of what VMs had, paler the less that was; underlined where any was shared",
-        )?,
+        ),
     }
-    svg.words(LEFT + PLOT, top.saturating_sub(800), &REMARK, &words)
+    svg.end_words();
 }
 
 /// Draws one row, which begins at this height.
 fn draw_row(svg: &mut Svg, sums: &Sums, size: u64, top: u64, height: u64) -> Result<(), Memory> {
     let cells = cells_of(svg.alloc(), sums, size)?;
-    draw_cells(svg, sums.columns, &cells, top.saturating_add(height / 2))?;
-    draw_edges(svg, sums.columns, &cells, top, height)?;
-    draw_shared(svg, sums, top.saturating_add(height).saturating_sub(60))
+    draw_cells(svg, sums.columns, &cells, top.saturating_add(height / 2));
+    draw_edges(svg, sums.columns, &cells, top, height);
+    draw_shared(svg, sums, top.saturating_add(height).saturating_sub(60));
+    Ok(())
 }
 
-/// Draws the cells of all frames from a height on; where a VM is named its weight alone.
-pub(crate) fn draw_frames(
+/// Draws the rows of cells from a height on.
+fn draw_rows(
     svg: &mut Svg,
     grid: &Grid,
     top: u64,
     bars: &[Bar],
-    vm: Option<u32>,
+    by_row: &[Vec<usize>],
 ) -> Result<(), Memory> {
-    let by_row = bars_by_row(svg.alloc(), bars, vm, grid.rows, grid.frames)?;
-    explain(svg, top, grid, vm)?;
-    name_rows(svg, top, grid)?;
-    svg.begin_lines(grid.height)?;
     let mut row = 0u64;
-    for list in &by_row {
+    for list in by_row {
         let sums = sums_of(svg.alloc(), grid.columns, grid.lines, bars, list)?;
         // All frames of the row through all lines of a column.
         let frames = frames_of_row(row, grid.rows, grid.frames);
@@ -324,12 +296,29 @@ pub(crate) fn draw_frames(
         draw_row(svg, &sums, size, at, grid.height)?;
         row = row.saturating_add(1);
     }
-    svg.end_group()?;
+    Ok(())
+}
+
+/// Draws the cells of all frames from a height on; where a VM is named its weight alone.
+pub(crate) fn draw_frames(
+    svg: &mut Svg,
+    grid: &Grid,
+    top: u64,
+    bars: &[Bar],
+    by_row: &[Vec<usize>],
+    vm: Option<u32>,
+) -> Result<(), Memory> {
+    explain(svg, top, grid, vm);
+    name_rows(svg, top, grid);
+    svg.begin_lines(grid.height);
+    draw_rows(svg, grid, top, bars, by_row)?;
+    svg.end_group();
     let area = Area {
         x: LEFT,
         y: top,
         width: PLOT,
         height: grid.rows.saturating_mul(grid.height),
     };
-    svg.edge(&area, EDGE)
+    svg.edge(&area, EDGE);
+    Ok(())
 }

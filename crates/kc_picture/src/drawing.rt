@@ -1,10 +1,11 @@
 //! The whole picture: lanes of VMs above, frames below, an axis and a legend.
 use crate::colour::{CORE, Colour, EDGE, FAINT, FREE, HOST, SEVERAL};
 use crate::lane_drawing::{LanePlace, draw_lane};
+use crate::rows::bars_by_row;
 use crate::scale::{LEFT, PLOT, Scale, nice};
 use crate::svg::{Anchor, Area, HEADING, PLAIN, REMARK, Style, Svg};
 use crate::vms::{Lane, lanes_of};
-use crate::words::{push_count, push_number};
+use crate::words::Text;
 use crate::{cells, exact};
 use kc_types::{Bar, Config, Event, Memory};
 use std::alloc::Global;
@@ -91,50 +92,42 @@ fn extent_of(lanes: &[Lane], vm: Option<u32>) -> Extent {
     extent
 }
 
-fn title_of(
-    alloc: Global,
-    frames: u64,
-    calls: usize,
-    used: u64,
-    vm: Option<u32>,
-) -> Result<String, Memory> {
-    let mut title = String::new(alloc);
-    title.push_str("Custody of ")?;
-    push_count(&mut title, frames, "frame")?;
-    title.push_str(" of 4,096 bytes through ")?;
-    push_count(&mut title, calls as u64, "call")?;
-    title.push_str(", ")?;
-    push_count(&mut title, used, "VM")?;
+fn title_of(alloc: Global, frames: u64, calls: usize, used: u64, vm: Option<u32>) -> Text {
+    let mut title = Text::new(alloc);
+    title.put("Custody of ");
+    title.put_count(frames, "frame");
+    title.put(" of 4,096 bytes through ");
+    title.put_count(calls as u64, "call");
+    title.put(", ");
+    title.put_count(used, "VM");
     if let Some(vm) = vm {
-        push_number(&mut title, ": vm ", u64::from(vm))?;
-        title.push_str(" alone")?;
+        title.put_number(": vm ", u64::from(vm));
+        title.put(" alone");
     }
-    Ok(title)
+    title
 }
 
-/// What is written above the lanes.
-fn heading_of(alloc: Global, vm: Option<u32>) -> Result<String, Memory> {
-    let mut heading = String::new(alloc);
+/// Writes the heading of the lanes.
+fn head_lanes(svg: &mut Svg, vm: Option<u32>) {
+    svg.begin_words(800, 4_600, &HEADING);
     match vm {
-        Some(vm) => push_number(&mut heading, "Frames of vm ", u64::from(vm))?,
-        None => heading.push_str("Frames of each VM")?,
+        Some(vm) => svg.text.put_number("Frames of vm ", u64::from(vm)),
+        None => svg.text.put("Frames of each VM"),
     }
-    heading.push_str(", and of them shared with the host (hatched)")?;
-    Ok(heading)
+    svg.text.put(", and of them shared with the host (hatched)");
+    svg.end_words();
 }
 
-/// Writes the heading of the lanes, and at the right what their height stands for.
-fn head_lanes(svg: &mut Svg, top: u64, vm: Option<u32>) -> Result<(), Memory> {
-    let heading = heading_of(svg.alloc(), vm)?;
-    svg.words(800, 4_600, &HEADING, &heading)?;
-    let mut highest = String::new(svg.alloc());
-    highest.push_str(if vm.is_some() {
+/// Writes at the right what the height of the lanes stands for.
+fn explain_lanes(svg: &mut Svg, top: u64, vm: Option<u32>) {
+    svg.begin_words(LEFT + PLOT, 4_600, &REMARK);
+    svg.text.put(if vm.is_some() {
         "at most "
     } else {
         "highest lane: "
-    })?;
-    push_count(&mut highest, top, "frame")?;
-    svg.words(LEFT + PLOT, 4_600, &REMARK, &highest)
+    });
+    svg.text.put_count(top, "frame");
+    svg.end_words();
 }
 
 fn draw_lanes(
@@ -165,7 +158,7 @@ fn draw_lanes(
 }
 
 /// Draws a mark of the axis with its line.
-fn draw_mark(svg: &mut Svg, scale: Scale, axis: u64, line: u32) -> Result<(), Memory> {
+fn draw_mark(svg: &mut Svg, scale: Scale, axis: u64, line: u32) {
     let x = scale.x(line);
     let mark = Area {
         x,
@@ -173,22 +166,22 @@ fn draw_mark(svg: &mut Svg, scale: Scale, axis: u64, line: u32) -> Result<(), Me
         width: 80,
         height: 400,
     };
-    svg.rect(&mark, FAINT)?;
+    svg.rect(&mark, FAINT);
     let style = Style {
         anchor: Anchor::Middle,
         ..REMARK
     };
-    svg.numbered(x, axis.saturating_add(1_500), &style, "", u64::from(line))
+    svg.numbered(x, axis.saturating_add(1_500), &style, "", u64::from(line));
 }
 
 /// Draws the axis: marks at the first line and at round ones.
-fn draw_axis(svg: &mut Svg, scale: Scale, axis: u64) -> Result<(), Memory> {
+fn draw_axis(svg: &mut Svg, scale: Scale, axis: u64) {
     let step = nice(scale.last, 12);
-    draw_mark(svg, scale, axis, 1)?;
+    draw_mark(svg, scale, axis, 1);
     for i in 1..13u64 {
         let line = step.saturating_mul(i);
         if line > 1 && line <= scale.last && line <= 4_000_000_000 {
-            draw_mark(svg, scale, axis, line as u32)?;
+            draw_mark(svg, scale, axis, line as u32);
         }
     }
     let style = Style {
@@ -197,7 +190,7 @@ fn draw_axis(svg: &mut Svg, scale: Scale, axis: u64) -> Result<(), Memory> {
         ..REMARK
     };
     let words = "line of the trace (its header is line 1)";
-    svg.words(LEFT + PLOT / 2, axis.saturating_add(3_000), &style, words)
+    svg.words(LEFT + PLOT / 2, axis.saturating_add(3_000), &style, words);
 }
 
 /// How a legend shows what its words say.
@@ -210,7 +203,7 @@ enum Sample {
     Footed(Colour, u64),
 }
 
-fn draw_sample(svg: &mut Svg, x: u64, y: u64, sample: Sample) -> Result<(), Memory> {
+fn draw_sample(svg: &mut Svg, x: u64, y: u64, sample: Sample) {
     let area = Area {
         x,
         y,
@@ -220,19 +213,19 @@ fn draw_sample(svg: &mut Svg, x: u64, y: u64, sample: Sample) -> Result<(), Memo
     match sample {
         Sample::Plain(colour) => svg.edged(&area, colour, EDGE),
         Sample::Shared => {
-            svg.rect(&area, Colour::of_vm(0))?;
-            svg.hatched(&area)
+            svg.rect(&area, Colour::of_vm(0));
+            svg.hatched(&area);
         },
         Sample::Vms => draw_hues(svg, x, y),
         Sample::Footed(colour, height) => {
-            svg.rect(&area, colour)?;
-            svg.foot(&area, height)
+            svg.rect(&area, colour);
+            svg.foot(&area, height);
         },
     }
 }
 
 /// The colours of the first slots, side by side.
-fn draw_hues(svg: &mut Svg, x: u64, y: u64) -> Result<(), Memory> {
+fn draw_hues(svg: &mut Svg, x: u64, y: u64) {
     for vm in 0..4u32 {
         let area = Area {
             x: x.saturating_add(u64::from(vm) * 350),
@@ -240,62 +233,54 @@ fn draw_hues(svg: &mut Svg, x: u64, y: u64) -> Result<(), Memory> {
             width: 350,
             height: 1_100,
         };
-        svg.rect(&area, Colour::of_vm(vm))?;
+        svg.rect(&area, Colour::of_vm(vm));
     }
-    Ok(())
 }
 
 /// Draws a sample and its words, and says where the next one begins.
-fn draw_entry(svg: &mut Svg, x: u64, y: u64, sample: Sample, words: &str) -> Result<u64, Memory> {
-    draw_sample(svg, x, y, sample)?;
+fn draw_entry(svg: &mut Svg, x: u64, y: u64, sample: Sample, words: &str) -> u64 {
+    draw_sample(svg, x, y, sample);
     let style = Style {
         size: 1_100,
         ..PLAIN
     };
     let (left, base) = (x.saturating_add(1_900), y.saturating_add(1_000));
-    svg.words(left, base, &style, words)?;
+    svg.words(left, base, &style, words);
     let width = 590u64.saturating_mul(words.len() as u64);
-    Ok(x.saturating_add(3_800).saturating_add(width))
+    x.saturating_add(3_800).saturating_add(width)
 }
 
 /// The first entries: whose the colours are.
-fn draw_owners(svg: &mut Svg, y: u64, lanes: u64, vm: Option<u32>) -> Result<u64, Memory> {
+fn draw_owners(svg: &mut Svg, y: u64, lanes: u64, vm: Option<u32>) -> u64 {
     if let Some(vm) = vm {
-        let x = draw_entry(svg, LEFT, y, Sample::Plain(Colour::of_vm(vm)), "the VM's")?;
+        let x = draw_entry(svg, LEFT, y, Sample::Plain(Colour::of_vm(vm)), "the VM's");
         return draw_entry(svg, x, y, Sample::Plain(FREE), "others'");
     }
-    let x = draw_entry(svg, LEFT, y, Sample::Plain(CORE), "core")?;
-    let x = draw_entry(svg, x, y, Sample::Plain(HOST), "host")?;
-    let x = draw_entry(svg, x, y, Sample::Plain(FREE), "free")?;
+    let x = draw_entry(svg, LEFT, y, Sample::Plain(CORE), "core");
+    let x = draw_entry(svg, x, y, Sample::Plain(HOST), "host");
+    let x = draw_entry(svg, x, y, Sample::Plain(FREE), "free");
     if lanes > 0 {
         return draw_entry(svg, x, y, Sample::Vms, "a VM's: the colour of its lane");
     }
-    Ok(x)
+    x
 }
 
 /// Draws what each colour and mark says.
-fn draw_legend(
-    svg: &mut Svg,
-    y: u64,
-    exact: bool,
-    lanes: u64,
-    vm: Option<u32>,
-) -> Result<(), Memory> {
-    let mut x = draw_owners(svg, y, lanes, vm)?;
+fn draw_legend(svg: &mut Svg, y: u64, exact: bool, lanes: u64, vm: Option<u32>) {
+    let mut x = draw_owners(svg, y, lanes, vm);
     if !exact && lanes > 0 && vm.is_none() {
-        x = draw_entry(svg, x, y, Sample::Plain(SEVERAL), "several VMs'")?;
+        x = draw_entry(svg, x, y, Sample::Plain(SEVERAL), "several VMs'");
     }
     if lanes > 0 {
-        x = draw_entry(svg, x, y, Sample::Shared, "shared with the host")?;
+        x = draw_entry(svg, x, y, Sample::Shared, "shared with the host");
     }
     if exact {
         let sample = Sample::Footed(HOST, 250);
-        draw_entry(svg, x, y, sample, "reached by the host")?;
+        draw_entry(svg, x, y, sample, "reached by the host");
     } else if lanes > 0 {
         let sample = Sample::Footed(Colour::of_vm(0).paler(50), 120);
-        draw_entry(svg, x, y, sample, "some of it shared")?;
+        draw_entry(svg, x, y, sample, "some of it shared");
     }
-    Ok(())
 }
 
 /// The custody of all frames through a trace of so many calls as one text of SVG 1.1, from its events and their bars; of
@@ -315,26 +300,28 @@ pub fn picture(
     // Whether each stretch of each frame has a bar of its own.
     let exact = frames <= EXACT_FRAMES && scale.last <= EXACT_LINES;
     let grid = cells::grid_of(frames, scale.last);
-    let frames_height = if exact {
-        frames.saturating_mul(exact::row_height(frames))
+    let (rows, height) = if exact {
+        (frames, exact::row_height(frames))
     } else {
-        grid.rows.saturating_mul(grid.height)
+        (grid.rows, grid.height)
     };
-    let layout = layout_of(extent.lanes, frames_height);
-    let title = title_of(alloc, frames, calls, extent.used, vm)?;
-    let mut svg = Svg::open(alloc, layout.height, &title)?;
+    let by_row = bars_by_row(alloc, bars, vm, rows, frames)?;
+    let layout = layout_of(extent.lanes, rows.saturating_mul(height));
+    let title = title_of(alloc, frames, calls, extent.used, vm);
+    let mut svg = Svg::open(alloc, layout.height, &title);
     if extent.lanes > 0 {
-        head_lanes(&mut svg, extent.top, vm)?;
+        head_lanes(&mut svg, vm);
+        explain_lanes(&mut svg, extent.top, vm);
         draw_lanes(&mut svg, scale, &layout, &lanes, vm, extent.top)?;
     }
     let base = layout.frames.saturating_sub(800);
-    svg.words(800, base, &HEADING, "Every frame, by number")?;
+    svg.words(800, base, &HEADING, "Every frame, by number");
     if exact {
-        exact::draw_frames(&mut svg, scale, layout.frames, frames, bars, vm)?;
+        exact::draw_frames(&mut svg, scale, layout.frames, bars, &by_row, vm);
     } else {
-        cells::draw_frames(&mut svg, &grid, layout.frames, bars, vm)?;
+        cells::draw_frames(&mut svg, &grid, layout.frames, bars, &by_row, vm)?;
     }
-    draw_axis(&mut svg, scale, layout.axis)?;
-    draw_legend(&mut svg, layout.legend, exact, extent.lanes, vm)?;
+    draw_axis(&mut svg, scale, layout.axis);
+    draw_legend(&mut svg, layout.legend, exact, extent.lanes, vm);
     svg.close()
 }

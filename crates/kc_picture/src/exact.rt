@@ -1,12 +1,10 @@
 //! Every frame by its number, a bar a stretch.
 use crate::colour::{Colour, FAINT, FREE, INK, LIFE};
-use crate::rows::bars_by_row;
 use crate::scale::{LEFT, Scale};
 use crate::svg::{Anchor, Area, PLAIN, REMARK, Style, Svg};
 use crate::titles::bar_title;
-use crate::words::push_number;
-use kc_types::{Bar, Custody, Memory, Owner};
-use std::alloc::Global;
+use crate::words::Text;
+use kc_types::{Bar, Custody, Owner};
 
 /// Rows and bars that are higher have larger words.
 const ROOMY: u64 = 1_400;
@@ -16,29 +14,27 @@ pub(crate) fn row_height(frames: u64) -> u64 {
     if frames <= 16 { 2_200 } else { 1_200 }
 }
 
-/// Appends where a VM sees a frame, and that it shares it.
-fn push_place(name: &mut String, custody: &Custody) -> Result<(), Memory> {
+/// Puts where a VM sees a frame, and that it shares it.
+fn put_place(name: &mut Text, custody: &Custody) {
     if let Some(gfn) = custody.gfn {
-        push_number(name, " @", u64::from(gfn.number()))?;
+        name.put_number(" @", u64::from(gfn.number()));
     }
     if custody.share > 0 {
-        name.push_str(" shared")?;
+        name.put(" shared");
     }
-    Ok(())
 }
 
-/// Appends the words on a bar.
-fn push_name(name: &mut String, custody: &Custody) -> Result<(), Memory> {
+/// Puts the words on a bar.
+fn put_name(name: &mut Text, custody: &Custody) {
     match custody.owner {
-        Owner::Core => name.push_str("core")?,
-        Owner::Host => name.push_str("host")?,
-        Owner::Free => name.push_str("free")?,
+        Owner::Core => name.put("core"),
+        Owner::Host => name.put("host"),
+        Owner::Free => name.put("free"),
         Owner::Vm(vm) => {
-            push_number(name, "vm ", vm.index() as u64)?;
-            push_place(name, custody)?;
+            name.put_number("vm ", vm.index() as u64);
+            put_place(name, custody);
         },
     }
-    Ok(())
 }
 
 /// Whether two bars of a frame have one name.
@@ -58,22 +54,22 @@ fn area_of(scale: Scale, top: u64, height: u64, from: u32, to: u32) -> Area {
 }
 
 /// Draws a bar, without its name.
-fn draw_bar(svg: &mut Svg, area: &Area, bar: &Bar) -> Result<(), Memory> {
-    let title = bar_title(svg.alloc(), bar)?;
-    svg.begin_titled(&title)?;
+fn draw_bar(svg: &mut Svg, area: &Area, bar: &Bar) {
+    let title = bar_title(svg.alloc(), bar);
+    svg.begin_titled(&title);
     let colour = Colour::of_owner(bar.custody.owner);
     if bar.custody.owner == Owner::Free {
-        svg.edged(area, FREE, LIFE)?;
+        svg.edged(area, FREE, LIFE);
     } else {
-        svg.rect(area, colour)?;
+        svg.rect(area, colour);
     }
     if bar.custody.share > 0 {
-        svg.hatched(area)?;
+        svg.hatched(area);
     }
     if bar.custody.present {
-        svg.foot(area, 250)?;
+        svg.foot(area, 250);
     }
-    svg.end_group()
+    svg.end_group();
 }
 
 /// How words on bars look where these are so high.
@@ -120,11 +116,11 @@ fn colour_of_words(custody: &Custody) -> Colour {
 }
 
 /// Writes words on a bar, and says whether there was room for them.
-fn write_on(svg: &mut Svg, area: &Area, custody: &Custody, words: &str) -> Result<bool, Memory> {
+fn write_on(svg: &mut Svg, area: &Area, custody: &Custody, words: &Text) -> bool {
     let lettering = lettering_of(area.height);
     let width = lettering.width.saturating_mul(words.len() as u64);
     if area.width < width.saturating_add(600) {
-        return Ok(false);
+        return false;
     }
     if custody.share > 0 {
         let ground = Area {
@@ -135,7 +131,7 @@ fn write_on(svg: &mut Svg, area: &Area, custody: &Custody, words: &str) -> Resul
                 .height
                 .saturating_sub(lettering.margin.saturating_mul(2)),
         };
-        svg.rect(&ground, FREE)?;
+        svg.rect(&ground, FREE);
     }
     let bottom = area.y.saturating_add(area.height);
     let base = bottom.saturating_sub(lettering.base);
@@ -144,25 +140,29 @@ fn write_on(svg: &mut Svg, area: &Area, custody: &Custody, words: &str) -> Resul
         colour: colour_of_words(custody),
         ..PLAIN
     };
-    svg.words(area.x.saturating_add(400), base, &style, words)?;
-    Ok(true)
+    svg.begin_words(area.x.saturating_add(400), base, &style);
+    svg.text.put_text(words);
+    svg.end_words();
+    true
 }
 
 /// Writes a bar's name on it, where there is room; of one that is shared at least that it is.
-fn name_bar(svg: &mut Svg, area: &Area, bar: &Bar) -> Result<bool, Memory> {
-    let mut name = String::new(svg.alloc());
-    push_name(&mut name, &bar.custody)?;
-    if write_on(svg, area, &bar.custody, &name)? {
-        return Ok(true);
+fn name_bar(svg: &mut Svg, area: &Area, bar: &Bar) -> bool {
+    let mut name = Text::new(svg.alloc());
+    put_name(&mut name, &bar.custody);
+    if write_on(svg, area, &bar.custody, &name) {
+        return true;
     }
     if bar.custody.share > 0 {
-        return write_on(svg, area, &bar.custody, "shared");
+        let mut shared = Text::new(svg.alloc());
+        shared.put("shared");
+        return write_on(svg, area, &bar.custody, &shared);
     }
-    Ok(false)
+    false
 }
 
 /// Writes the number of a frame beside its row.
-fn name_frame(svg: &mut Svg, frame: u64, top: u64, height: u64) -> Result<(), Memory> {
+fn name_frame(svg: &mut Svg, frame: u64, top: u64, height: u64) {
     let bottom = top.saturating_add(height);
     if height > ROOMY {
         let style = Style {
@@ -170,72 +170,58 @@ fn name_frame(svg: &mut Svg, frame: u64, top: u64, height: u64) -> Result<(), Me
             anchor: Anchor::End,
             ..PLAIN
         };
-        svg.numbered(
-            LEFT - 800,
-            bottom.saturating_sub(600),
-            &style,
-            "frame ",
-            frame,
-        )
+        let base = bottom.saturating_sub(600);
+        svg.numbered(LEFT - 800, base, &style, "frame ", frame);
     } else {
         let style = Style {
             size: 900,
             ..REMARK
         };
-        svg.numbered(LEFT - 800, bottom.saturating_sub(250), &style, "", frame)
+        let base = bottom.saturating_sub(250);
+        svg.numbered(LEFT - 800, base, &style, "", frame);
     }
 }
 
 /// Draws the bars of one frame, each with its name unless the one before it has the same.
-fn draw_row(
-    svg: &mut Svg,
-    scale: Scale,
-    top: u64,
-    height: u64,
-    bars: &[Bar],
-    row: &[usize],
-) -> Result<(), Memory> {
+fn draw_row(svg: &mut Svg, scale: Scale, top: u64, height: u64, bars: &[Bar], row: &[usize]) {
     let mut named: Option<Custody> = None;
     for i in row {
         if let Some(bar) = bars.get(*i) {
             let area = area_of(scale, top, height, bar.from, bar.to);
-            draw_bar(svg, &area, bar)?;
+            draw_bar(svg, &area, bar);
             let again = match &named {
                 Some(before) => same_name(before, &bar.custody),
                 None => false,
             };
             if !again {
                 named = None;
-                if name_bar(svg, &area, bar)? {
+                if name_bar(svg, &area, bar) {
                     named = Some(bar.custody);
                 }
             }
         }
     }
-    Ok(())
 }
 
-/// Draws all frames from a height on; where a VM is named its bars alone.
+/// Draws all frames from a height on, each by its bars; where a VM is named these are its alone.
 pub(crate) fn draw_frames(
     svg: &mut Svg,
     scale: Scale,
     top: u64,
-    frames: u64,
     bars: &[Bar],
+    by_frame: &[Vec<usize>],
     vm: Option<u32>,
-) -> Result<(), Memory> {
-    let height = row_height(frames);
-    let rows = bars_by_row(svg.alloc(), bars, vm, frames, frames)?;
+) {
+    let height = row_height(by_frame.len() as u64);
     let mut at = top;
     let mut frame = 0u64;
-    for row in &rows {
-        name_frame(svg, frame, at, height)?;
+    for row in by_frame {
+        name_frame(svg, frame, at, height);
         if vm.is_some() {
-            svg.edge(&area_of(scale, at, height, 1, scale.end()), LIFE)?;
+            svg.edge(&area_of(scale, at, height, 1, scale.end()), LIFE);
         }
-        draw_row(svg, scale, at, height, bars, row)?;
+        draw_row(svg, scale, at, height, bars, row);
         at = at.saturating_add(height);
         frame = frame.saturating_add(1);
     }
-    Ok(())
 }

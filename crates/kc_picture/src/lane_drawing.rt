@@ -4,7 +4,7 @@ use crate::scale::{LEFT, PLOT, Scale};
 use crate::svg::{Anchor, Area, HEADING, PLAIN, Style, Svg};
 use crate::titles::{stay_title, tick_title};
 use crate::vms::{Lane, Measured, Stay, Step};
-use crate::words::{push_length, push_number};
+use crate::words::Text;
 use kc_types::Memory;
 use std::alloc::Global;
 
@@ -43,33 +43,33 @@ struct Run {
 /// The outline of numbers over time so far, and whether it is above the base line.
 #[derive(Drop)]
 struct Outline {
-    path: String,
+    path: Text,
     above: bool,
 }
 
 /// Adds a stretch; where its number is 0 the outline comes down to the base line and breaks off.
-fn add_run(outline: &mut Outline, place: &LanePlace, run: &Run) -> Result<(), Memory> {
+fn add_run(outline: &mut Outline, place: &LanePlace, run: &Run) {
     if run.number == 0 {
-        return come_down(outline, place.base);
+        come_down(outline, place.base);
+        return;
     }
     if !outline.above {
-        push_length(&mut outline.path, "M", run.from)?;
-        push_length(&mut outline.path, " ", place.base)?;
+        outline.path.put_length("M", run.from);
+        outline.path.put_length(" ", place.base);
         outline.above = true;
     }
     let high = place.height.saturating_mul(run.number) / place.top.max(1);
     let top = place.base.saturating_sub(high.max(LOWEST));
-    push_length(&mut outline.path, "V", top)?;
-    push_length(&mut outline.path, "H", run.to)
+    outline.path.put_length("V", top);
+    outline.path.put_length("H", run.to);
 }
 
-fn come_down(outline: &mut Outline, base: u64) -> Result<(), Memory> {
+fn come_down(outline: &mut Outline, base: u64) {
     if outline.above {
-        push_length(&mut outline.path, "V", base)?;
-        outline.path.push_str("Z")?;
+        outline.path.put_length("V", base);
+        outline.path.put("Z");
         outline.above = false;
     }
-    Ok(())
 }
 
 /// Which number of a step is drawn.
@@ -95,14 +95,9 @@ fn end_of(steps: &[Step], i: usize, end: u32) -> u32 {
 }
 
 /// The outline of a number over time.
-fn outline_of(
-    alloc: Global,
-    place: &LanePlace,
-    steps: &[Step],
-    which: Which,
-) -> Result<String, Memory> {
+fn outline_of(alloc: Global, place: &LanePlace, steps: &[Step], which: Which) -> Text {
     let mut outline = Outline {
-        path: String::new(alloc),
+        path: Text::new(alloc),
         above: false,
     };
     let mut run = Run {
@@ -120,61 +115,54 @@ fn outline_of(
             if run.number == number || (narrow && run.number > 0) {
                 run.number = run.number.max(number);
             } else {
-                add_run(&mut outline, place, &run)?;
+                add_run(&mut outline, place, &run);
                 run.from = scale.x(step.line);
                 run.number = number;
             }
             run.to = to;
         }
     }
-    add_run(&mut outline, place, &run)?;
-    come_down(&mut outline, place.base)?;
+    add_run(&mut outline, place, &run);
+    come_down(&mut outline, place.base);
     let Outline { path, above: _ } = outline;
-    Ok(path)
+    path
 }
 
 /// The mark of a line, over a lane's height, with a title.
-fn tick(
-    svg: &mut Svg,
-    place: &LanePlace,
-    colour: Colour,
-    what: &str,
-    line: u32,
-) -> Result<(), Memory> {
-    let title = tick_title(svg.alloc(), place.vm, what, line)?;
-    svg.begin_titled(&title)?;
+fn tick(svg: &mut Svg, place: &LanePlace, colour: Colour, what: &str, line: u32) {
+    let title = tick_title(svg.alloc(), place.vm, what, line);
+    svg.begin_titled(&title);
     let area = Area {
         x: place.scale.x(line).saturating_sub(50),
         y: place.base.saturating_sub(place.height),
         width: 100,
         height: place.height,
     };
-    svg.rect(&area, colour)?;
-    svg.end_group()
+    svg.rect(&area, colour);
+    svg.end_group();
 }
 
 /// The marks of a stay.
-fn draw_ticks(svg: &mut Svg, place: &LanePlace, stay: &Stay) -> Result<(), Memory> {
-    tick(svg, place, EDGE, "registered", stay.registered)?;
+fn draw_ticks(svg: &mut Svg, place: &LanePlace, stay: &Stay) {
+    tick(svg, place, EDGE, "registered", stay.registered);
     match stay.measured {
         Measured::Not => {},
         Measured::Active(line) => {
-            tick(svg, place, INK, "measured and active", line)?;
-            name_measured(svg, place, line, "active")?;
+            tick(svg, place, INK, "measured and active", line);
+            name_measured(svg, place, line, "active");
         },
         Measured::Dead(line) => {
-            tick(svg, place, INK, "measured and dead", line)?;
-            name_measured(svg, place, line, "dead")?;
+            tick(svg, place, INK, "measured and dead", line);
+            name_measured(svg, place, line, "dead");
         },
     }
-    match stay.cleared {
-        Some(line) => tick(svg, place, INK, "cleared", line),
-        None => Ok(()),
+    if let Some(line) = stay.cleared {
+        tick(svg, place, INK, "cleared", line);
     }
 }
 
 /// Names the mark of measuring, where there is room.
-fn name_measured(svg: &mut Svg, place: &LanePlace, line: u32, name: &str) -> Result<(), Memory> {
+fn name_measured(svg: &mut Svg, place: &LanePlace, line: u32, name: &str) {
     if place.roomy {
         let x = place.scale.x(line).saturating_add(200);
         let y = place.base.saturating_sub(place.height).saturating_sub(100);
@@ -183,9 +171,8 @@ fn name_measured(svg: &mut Svg, place: &LanePlace, line: u32, name: &str) -> Res
             colour: FAINT,
             ..PLAIN
         };
-        svg.words(x, y, &style, name)?;
+        svg.words(x, y, &style, name);
     }
-    Ok(())
 }
 
 /// Stays that are drawn as one, by lines of the trace.
@@ -243,26 +230,17 @@ fn groups_of(alloc: Global, scale: Scale, stays: &[Stay]) -> Result<Vec<Group>, 
 
 fn group_title(alloc: Global, vm: u32, group: &Group) -> Result<String, Memory> {
     if group.count == 1 {
-        stay_title(alloc, vm, &group.stay)
-    } else {
-        let mut title = String::new(alloc);
-        push_number(&mut title, "vm ", u64::from(vm))?;
-        push_number(&mut title, ": ", group.count)?;
-        push_number(
-            &mut title,
-            " lives between lines ",
-            u64::from(group.stay.registered),
-        )?;
-        push_number(&mut title, " and ", u64::from(group.to))?;
-        Ok(title)
+        return stay_title(alloc, vm, &group.stay);
     }
+    let (count, from, to) = (group.count, group.stay.registered, group.to);
+    Ok(format!(in alloc; "vm {vm}: {count} lives between lines {from} and {to}")?)
 }
 
 /// The stretch of each group, with a title.
-fn draw_groups(svg: &mut Svg, place: &LanePlace, groups: &[Group]) -> Result<(), Memory> {
+fn draw_groups(svg: &mut Svg, place: &LanePlace, groups: &[Group]) {
     for group in groups {
-        let title = group_title(svg.alloc(), place.vm, group)?;
-        svg.begin_titled(&title)?;
+        let title = group_title(svg.alloc(), place.vm, group);
+        svg.begin_titled(&title);
         let x = place.scale.x(group.stay.registered);
         let area = Area {
             x,
@@ -270,31 +248,24 @@ fn draw_groups(svg: &mut Svg, place: &LanePlace, groups: &[Group]) -> Result<(),
             width: place.scale.x(group.to).saturating_sub(x),
             height: place.height,
         };
-        svg.rect(&area, LIFE)?;
-        svg.end_group()?;
+        svg.rect(&area, LIFE);
+        svg.end_group();
     }
-    Ok(())
 }
 
-fn draw_group_ticks(svg: &mut Svg, place: &LanePlace, groups: &[Group]) -> Result<(), Memory> {
+fn draw_group_ticks(svg: &mut Svg, place: &LanePlace, groups: &[Group]) {
     for group in groups {
         if group.count == 1 {
-            draw_ticks(svg, place, &group.stay)?;
+            draw_ticks(svg, place, &group.stay);
         }
     }
-    Ok(())
 }
 
-fn draw_numbers(svg: &mut Svg, place: &LanePlace, steps: &[Step]) -> Result<(), Memory> {
-    let all = outline_of(svg.alloc(), place, steps, Which::All)?;
-    if !all.is_empty() {
-        svg.path(&all, Colour::of_vm(place.vm))?;
-    }
-    let shared = outline_of(svg.alloc(), place, steps, Which::Shared)?;
-    if !shared.is_empty() {
-        svg.hatched_path(&shared)?;
-    }
-    Ok(())
+fn draw_numbers(svg: &mut Svg, place: &LanePlace, steps: &[Step]) {
+    let all = outline_of(svg.alloc(), place, steps, Which::All);
+    svg.path(&all, Colour::of_vm(place.vm));
+    let shared = outline_of(svg.alloc(), place, steps, Which::Shared);
+    svg.hatched_path(&shared);
 }
 
 /// Draws the lane of a VM, with its name.
@@ -304,16 +275,17 @@ pub(crate) fn draw_lane(svg: &mut Svg, place: &LanePlace, lane: &Lane) -> Result
         ..HEADING
     };
     let base = place.base.saturating_sub(100);
-    svg.numbered(LEFT - 800, base, &style, "vm ", u64::from(place.vm))?;
+    svg.numbered(LEFT - 800, base, &style, "vm ", u64::from(place.vm));
     let base = Area {
         x: LEFT,
         y: place.base,
         width: PLOT,
         height: 80,
     };
-    svg.rect(&base, EDGE)?;
+    svg.rect(&base, EDGE);
     let groups = groups_of(svg.alloc(), place.scale, &lane.stays)?;
-    draw_groups(svg, place, &groups)?;
-    draw_numbers(svg, place, &lane.steps)?;
-    draw_group_ticks(svg, place, &groups)
+    draw_groups(svg, place, &groups);
+    draw_numbers(svg, place, &lane.steps);
+    draw_group_ticks(svg, place, &groups);
+    Ok(())
 }

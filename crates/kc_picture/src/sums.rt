@@ -28,7 +28,7 @@ fn number_of(owner: Owner) -> usize {
     }
 }
 
-fn add(sums: &mut Vec<u64>, place: usize, by: u64) {
+fn add(sums: &mut [u64], place: usize, by: u64) {
     if let Some(sum) = sums.get_mut(place) {
         *sum = sum.wrapping_add(by);
     }
@@ -132,7 +132,7 @@ pub(crate) fn sums_of(
 }
 
 /// Brings up to a column what each owner has of it; `running` holds how many frames each has, in lines.
-pub(crate) fn weigh(sums: &Sums, running: &mut Vec<u64>, weights: &mut Vec<u64>, column: u64) {
+pub(crate) fn weigh(sums: &Sums, running: &mut [u64], weights: &mut [u64], column: u64) {
     for owner in 0..OWNERS {
         let place = place_of(column, owner);
         add(running, owner, at(&sums.wholes, place));

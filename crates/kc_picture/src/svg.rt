@@ -1,6 +1,6 @@
 //! A picture as a text of SVG 1.1. Lengths are in hundredths of a point, from the left and from above.
 use crate::colour::{Colour, FAINT, FREE, INK};
-use crate::words::{push_length, push_number};
+use crate::words::Text;
 use kc_types::Memory;
 use std::alloc::Global;
 
@@ -65,37 +65,39 @@ pub(crate) const REMARK: Style = Style {
     bold: false,
 };
 
-/// The text so far.
+/// The picture so far.
 #[derive(Drop)]
 pub(crate) struct Svg {
     alloc: Global,
-    text: String,
+    pub text: Text,
 }
 
 impl Svg {
     /// A white picture of this height with a title.
-    pub fn open(alloc: Global, height: u64, title: &str) -> Result<Svg, Memory> {
+    pub fn open(alloc: Global, height: u64, title: &Text) -> Svg {
         let mut svg = Svg {
             alloc,
-            text: String::new(alloc),
+            text: Text::new(alloc),
         };
-        svg.put_length(
+        svg.text.put_length(
             "<svg xmlns=\"http://www.w3.org/2000/svg\" version=\"1.1\" width=\"",
             WIDTH,
-        )?;
-        svg.put_length("\" height=\"", height)?;
-        svg.put_length("\" viewBox=\"0 0 ", WIDTH)?;
-        svg.put_length(" ", height)?;
-        svg.put("\" font-family=\"DejaVu Sans, Verdana, Arial, sans-serif\">\n<title>")?;
-        svg.put(title)?;
-        svg.put("</title>\n")?;
-        svg.put(STRIPES)?;
-        svg.put_length("<rect width=\"", WIDTH)?;
-        svg.put_length("\" height=\"", height)?;
-        svg.put_colour("\" fill=\"", FREE)?;
-        svg.put("\"/>\n")?;
-        svg.words(800, 2_200, &TITLE, title)?;
-        Ok(svg)
+        );
+        svg.text.put_length("\" height=\"", height);
+        svg.text.put_length("\" viewBox=\"0 0 ", WIDTH);
+        svg.text.put_length(" ", height);
+        svg.text.put("\" font-family=\"DejaVu Sans, Verdana, Arial, sans-serif\">\n<title>");
+        svg.text.put_text(title);
+        svg.text.put("</title>\n");
+        svg.text.put(STRIPES);
+        svg.text.put_length("<rect width=\"", WIDTH);
+        svg.text.put_length("\" height=\"", height);
+        svg.text.put_colour("\" fill=\"", FREE);
+        svg.text.put("\"/>\n");
+        svg.begin_words(800, 2_200, &TITLE);
+        svg.text.put_text(title);
+        svg.end_words();
+        svg
     }
 
     /// Where its memory comes from.
@@ -103,164 +105,159 @@ impl Svg {
         self.alloc
     }
 
-    /// The whole text.
+    /// The whole text, or `Memory` where a growth of it was refused.
     pub fn close(mut self) -> Result<Vec<u8>, Memory> {
-        self.put("</svg>\n")?;
+        self.text.put("</svg>\n");
         let Svg { alloc: _, text } = self;
-        Ok(text.into_bytes())
-    }
-
-    fn put(&mut self, words: &str) -> Result<(), Memory> {
-        self.text.push_str(words)?;
-        Ok(())
-    }
-
-    fn put_length(&mut self, words: &str, length: u64) -> Result<(), Memory> {
-        push_length(&mut self.text, words, length)
-    }
-
-    fn put_colour(&mut self, words: &str, colour: Colour) -> Result<(), Memory> {
-        self.put(words)?;
-        colour.push(&mut self.text)
+        Ok(text.finish()?.into_bytes())
     }
 
     /// What follows up to the group's end has this title.
-    pub fn begin_titled(&mut self, title: &str) -> Result<(), Memory> {
-        self.put("<g><title>")?;
-        self.put(title)?;
-        self.put("</title>")
+    pub fn begin_titled(&mut self, title: &Result<String, Memory>) {
+        self.text.put("<g><title>");
+        self.text.put_made(title);
+        self.text.put("</title>");
     }
 
     /// What follows up to the group's end are lines of this width.
-    pub fn begin_lines(&mut self, width: u64) -> Result<(), Memory> {
-        self.put_length("<g fill=\"none\" stroke-width=\"", width)?;
-        self.put("\" shape-rendering=\"crispEdges\">\n")
+    pub fn begin_lines(&mut self, width: u64) {
+        self.text
+            .put_length("<g fill=\"none\" stroke-width=\"", width);
+        self.text.put("\" shape-rendering=\"crispEdges\">\n");
     }
 
-    pub fn end_group(&mut self) -> Result<(), Memory> {
-        self.put("</g>\n")
+    pub fn end_group(&mut self) {
+        self.text.put("</g>\n");
     }
 
     /// A line to the right.
-    pub fn line(&mut self, x: u64, y: u64, width: u64, colour: Colour) -> Result<(), Memory> {
-        self.put_length("<path d=\"M", x)?;
-        self.put_length(" ", y)?;
-        self.put_length("h", width)?;
-        self.put_colour("\" stroke=\"", colour)?;
-        self.put("\"/>\n")
+    pub fn line(&mut self, x: u64, y: u64, width: u64, colour: Colour) {
+        self.text.put_length("<path d=\"M", x);
+        self.text.put_length(" ", y);
+        self.text.put_length("h", width);
+        self.text.put_colour("\" stroke=\"", colour);
+        self.text.put("\"/>\n");
     }
 
-    fn begin_rect(&mut self, area: &Area) -> Result<(), Memory> {
-        self.put_length("<rect x=\"", area.x)?;
-        self.put_length("\" y=\"", area.y)?;
-        self.put_length("\" width=\"", area.width)?;
-        self.put_length("\" height=\"", area.height)
+    fn begin_rect(&mut self, area: &Area) {
+        self.text.put_length("<rect x=\"", area.x);
+        self.text.put_length("\" y=\"", area.y);
+        self.text.put_length("\" width=\"", area.width);
+        self.text.put_length("\" height=\"", area.height);
     }
 
-    pub fn rect(&mut self, area: &Area, fill: Colour) -> Result<(), Memory> {
-        self.begin_rect(area)?;
-        self.put_colour("\" fill=\"", fill)?;
-        self.put("\"/>\n")
+    pub fn rect(&mut self, area: &Area, fill: Colour) {
+        self.begin_rect(area);
+        self.text.put_colour("\" fill=\"", fill);
+        self.text.put("\"/>\n");
     }
 
     /// A rectangle with an edge.
-    pub fn edged(&mut self, area: &Area, fill: Colour, edge: Colour) -> Result<(), Memory> {
-        self.begin_rect(area)?;
-        self.put_colour("\" fill=\"", fill)?;
-        self.put_colour("\" stroke=\"", edge)?;
-        self.put("\" stroke-width=\"0.6\"/>\n")
+    pub fn edged(&mut self, area: &Area, fill: Colour, edge: Colour) {
+        self.begin_rect(area);
+        self.text.put_colour("\" fill=\"", fill);
+        self.text.put_colour("\" stroke=\"", edge);
+        self.text.put("\" stroke-width=\"0.6\"/>\n");
     }
 
     /// An edge alone.
-    pub fn edge(&mut self, area: &Area, edge: Colour) -> Result<(), Memory> {
-        self.begin_rect(area)?;
-        self.put_colour("\" fill=\"none\" stroke=\"", edge)?;
-        self.put("\" stroke-width=\"0.6\"/>\n")
+    pub fn edge(&mut self, area: &Area, edge: Colour) {
+        self.begin_rect(area);
+        self.text.put_colour("\" fill=\"none\" stroke=\"", edge);
+        self.text.put("\" stroke-width=\"0.6\"/>\n");
     }
 
     /// A rectangle made paler and hatched.
-    pub fn hatched(&mut self, area: &Area) -> Result<(), Memory> {
-        self.begin_rect(area)?;
-        self.put_colour("\" fill=\"", FREE)?;
-        self.put("\" fill-opacity=\"0.55\"/>\n")?;
-        self.begin_rect(area)?;
-        self.put_colour("\" fill=\"url(#shared)\" stroke=\"", INK)?;
-        self.put("\" stroke-width=\"0.8\"/>\n")
+    pub fn hatched(&mut self, area: &Area) {
+        self.begin_rect(area);
+        self.text.put_colour("\" fill=\"", FREE);
+        self.text.put("\" fill-opacity=\"0.55\"/>\n");
+        self.begin_rect(area);
+        self.text
+            .put_colour("\" fill=\"url(#shared)\" stroke=\"", INK);
+        self.text.put("\" stroke-width=\"0.8\"/>\n");
     }
 
     /// A foot of this height in a rectangle.
-    pub fn foot(&mut self, area: &Area, height: u64) -> Result<(), Memory> {
+    pub fn foot(&mut self, area: &Area, height: u64) {
         let top = area.y.saturating_add(area.height).saturating_sub(height);
         let foot = Area {
             y: top,
             height,
             ..*area
         };
-        self.rect(&foot, INK)
+        self.rect(&foot, INK);
     }
 
-    /// A path's inside, with a thin edge.
-    pub fn path(&mut self, steps: &str, fill: Colour) -> Result<(), Memory> {
-        self.put("<path d=\"")?;
-        self.put(steps)?;
-        self.put_colour("\" fill=\"", fill)?;
-        self.put_colour("\" stroke=\"", INK)?;
-        self.put("\" stroke-width=\"0.4\"/>\n")
+    fn begin_path(&mut self, steps: &Text) {
+        self.text.put("<path d=\"");
+        self.text.put_text(steps);
     }
 
-    /// A path's inside, white and hatched.
-    pub fn hatched_path(&mut self, steps: &str) -> Result<(), Memory> {
-        self.put("<path d=\"")?;
-        self.put(steps)?;
-        self.put_colour("\" fill=\"url(#white)\" stroke=\"", INK)?;
-        self.put("\" stroke-width=\"0.6\"/>\n")
+    /// A path's inside, with a thin edge; nothing where the path has no step.
+    pub fn path(&mut self, steps: &Text, fill: Colour) {
+        if !steps.is_empty() {
+            self.begin_path(steps);
+            self.text.put_colour("\" fill=\"", fill);
+            self.text.put_colour("\" stroke=\"", INK);
+            self.text.put("\" stroke-width=\"0.4\"/>\n");
+        }
     }
 
-    /// Lines of this width along a path.
-    pub fn lines(&mut self, steps: &str, width: u64) -> Result<(), Memory> {
-        self.put("<path d=\"")?;
-        self.put(steps)?;
-        self.put_colour("\" stroke=\"", INK)?;
-        self.put_length("\" stroke-width=\"", width)?;
-        self.put("\"/>\n")
+    /// A path's inside, white and hatched; nothing where the path has no step.
+    pub fn hatched_path(&mut self, steps: &Text) {
+        if !steps.is_empty() {
+            self.begin_path(steps);
+            self.text
+                .put_colour("\" fill=\"url(#white)\" stroke=\"", INK);
+            self.text.put("\" stroke-width=\"0.6\"/>\n");
+        }
     }
 
-    fn begin_words(&mut self, x: u64, y: u64, style: &Style) -> Result<(), Memory> {
-        self.put_length("<text x=\"", x)?;
-        self.put_length("\" y=\"", y)?;
-        self.put_length("\" font-size=\"", style.size)?;
-        self.put(match style.anchor {
+    /// Lines of this width along a path; nothing where the path has no step.
+    pub fn lines(&mut self, steps: &Text, width: u64) {
+        if !steps.is_empty() {
+            self.begin_path(steps);
+            self.text.put_colour("\" stroke=\"", INK);
+            self.text.put_length("\" stroke-width=\"", width);
+            self.text.put("\"/>\n");
+        }
+    }
+
+    /// What follows up to the words' end are words of plain ASCII, without marks that SVG reads, on a base line.
+    pub fn begin_words(&mut self, x: u64, y: u64, style: &Style) {
+        self.text.put_length("<text x=\"", x);
+        self.text.put_length("\" y=\"", y);
+        self.text.put_length("\" font-size=\"", style.size);
+        self.text.put(match style.anchor {
             Anchor::Start => "\" text-anchor=\"start",
             Anchor::Middle => "\" text-anchor=\"middle",
             Anchor::End => "\" text-anchor=\"end",
-        })?;
-        self.put(if style.bold {
+        });
+        self.text.put(if style.bold {
             "\" font-weight=\"bold"
         } else {
             "\" font-weight=\"normal"
-        })?;
-        self.put_colour("\" fill=\"", style.colour)?;
-        self.put("\">")
+        });
+        self.text.put_colour("\" fill=\"", style.colour);
+        self.text.put("\">");
     }
 
-    /// Words of plain ASCII, without marks that SVG reads, on a base line.
-    pub fn words(&mut self, x: u64, y: u64, style: &Style, words: &str) -> Result<(), Memory> {
-        self.begin_words(x, y, style)?;
-        self.put(words)?;
-        self.put("</text>\n")
+    pub fn end_words(&mut self) {
+        self.text.put("</text>\n");
+    }
+
+    /// Such words.
+    pub fn words(&mut self, x: u64, y: u64, style: &Style, words: &str) {
+        self.begin_words(x, y, style);
+        self.text.put(words);
+        self.end_words();
     }
 
     /// Such words and a number behind them.
-    pub fn numbered(
-        &mut self,
-        x: u64,
-        y: u64,
-        style: &Style,
-        words: &str,
-        number: u64,
-    ) -> Result<(), Memory> {
-        self.begin_words(x, y, style)?;
-        push_number(&mut self.text, words, number)?;
-        self.put("</text>\n")
+    pub fn numbered(&mut self, x: u64, y: u64, style: &Style, words: &str, number: u64) {
+        self.begin_words(x, y, style);
+        self.text.put_number(words, number);
+        self.end_words();
     }
 }

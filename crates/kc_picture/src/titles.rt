@@ -4,7 +4,6 @@ ghost use Rattle.std.specs.String.{string_bytes};
 ghost use Rattle.kc_picture.specs.Titles.{place_words, owner_words, grant_words, reach_words, custody_words, bar_title, measured_words, cleared_words, stay_title, tick_title};
 
 use crate::vms::{Measured, Stay};
-use crate::words::push_number;
 use kc_types::{Bar, Custody, Gfn, Memory, Owner};
 use std::alloc::Global;
 
@@ -12,10 +11,10 @@ use std::alloc::Global;
 fn push_place(words: &mut String, gfn: Option<Gfn>) -> Result<(), Memory>
     ensures { OnOk result (string_bytes words.new ≡ string_bytes words.old ++ place_words gfn) }
 {
-    match gfn {
-        Some(gfn) => push_number(words, " at guest frame ", u64::from(gfn.number())),
-        None => Ok(()),
+    if let Some(gfn) = gfn {
+        write!(words, " at guest frame {}", gfn.number())?;
     }
+    Ok(())
 }
 
 /// Appends who owns a frame, and of a VM's at which guest frame.
@@ -27,7 +26,7 @@ fn push_owner(words: &mut String, owner: Owner, gfn: Option<Gfn>) -> Result<(), 
         Owner::Host => words.push_str("host")?,
         Owner::Free => words.push_str("free")?,
         Owner::Vm(vm) => {
-            push_number(words, "vm ", vm.index() as u64)?;
+            write!(words, "vm {}", vm.index())?;
             push_place(words, gfn)?;
         },
     }
@@ -41,10 +40,7 @@ fn push_grants(words: &mut String, grants: u32) -> Result<(), Memory>
     match grants {
         0 => {},
         1 => words.push_str(", 1 grant")?,
-        _ => {
-            push_number(words, ", ", u64::from(grants))?;
-            words.push_str(" grants")?;
-        },
+        _ => write!(words, ", {grants} grants")?,
     }
     Ok(())
 }
@@ -71,12 +67,8 @@ fn push_custody(words: &mut String, custody: &Custody) -> Result<(), Memory>
 pub(crate) fn bar_title(alloc: Global, bar: &Bar) -> Result<String, Memory>
     ensures { IfOk result (λ title. string_bytes title ≡ bar_title bar.now) }
 {
-    let last = bar.to.saturating_sub(1);
-    let mut title = String::new(alloc);
-    push_number(&mut title, "frame ", u64::from(bar.frame))?;
-    push_number(&mut title, ", lines ", u64::from(bar.from))?;
-    push_number(&mut title, " to ", u64::from(last))?;
-    title.push_str(": ")?;
+    let (frame, from, last) = (bar.frame, bar.from, bar.to.saturating_sub(1));
+    let mut title = format!(in alloc; "frame {frame}, lines {from} to {last}: ")?;
     push_custody(&mut title, &bar.custody)?;
     Ok(title)
 }
@@ -86,17 +78,11 @@ fn push_measured(words: &mut String, measured: Measured) -> Result<(), Memory>
     ensures { OnOk result (string_bytes words.new ≡ string_bytes words.old ++ measured_words measured) }
 {
     match measured {
-        Measured::Not => {
-            words.push_str(", never measured")?;
-            Ok(())
-        },
-        Measured::Active(line) => {
-            push_number(words, ", measured and active from line ", u64::from(line))
-        },
-        Measured::Dead(line) => {
-            push_number(words, ", measured and dead from line ", u64::from(line))
-        },
+        Measured::Not => words.push_str(", never measured")?,
+        Measured::Active(line) => write!(words, ", measured and active from line {line}")?,
+        Measured::Dead(line) => write!(words, ", measured and dead from line {line}")?,
     }
+    Ok(())
 }
 
 /// Appends at which line a life ended, if it did.
@@ -104,25 +90,18 @@ fn push_cleared(words: &mut String, cleared: Option<u32>) -> Result<(), Memory>
     ensures { OnOk result (string_bytes words.new ≡ string_bytes words.old ++ cleared_words cleared) }
 {
     match cleared {
-        Some(line) => push_number(words, ", cleared at line ", u64::from(line)),
-        None => {
-            words.push_str(", there at the end")?;
-            Ok(())
-        },
+        Some(line) => write!(words, ", cleared at line {line}")?,
+        None => words.push_str(", there at the end")?,
     }
+    Ok(())
 }
 
 /// All that a life tells: "vm 0: registered at line 4, measured and active from line 8, cleared at line 29".
 pub(crate) fn stay_title(alloc: Global, vm: u32, stay: &Stay) -> Result<String, Memory>
     ensures { IfOk result (λ title. string_bytes title ≡ stay_title vm stay.now) }
 {
-    let mut title = String::new(alloc);
-    push_number(&mut title, "vm ", u64::from(vm))?;
-    push_number(
-        &mut title,
-        ": registered at line ",
-        u64::from(stay.registered),
-    )?;
+    let registered = stay.registered;
+    let mut title = format!(in alloc; "vm {vm}: registered at line {registered}")?;
     push_measured(&mut title, stay.measured)?;
     push_cleared(&mut title, stay.cleared)?;
     Ok(title)
@@ -132,10 +111,5 @@ pub(crate) fn stay_title(alloc: Global, vm: u32, stay: &Stay) -> Result<String, 
 pub(crate) fn tick_title(alloc: Global, vm: u32, what: &str, line: u32) -> Result<String, Memory>
     ensures { IfOk result (λ title. string_bytes title ≡ tick_title vm what.now line) }
 {
-    let mut title = String::new(alloc);
-    push_number(&mut title, "vm ", u64::from(vm))?;
-    title.push_str(" ")?;
-    title.push_str(what)?;
-    push_number(&mut title, " at line ", u64::from(line))?;
-    Ok(title)
+    Ok(format!(in alloc; "vm {vm} {what} at line {line}")?)
 }

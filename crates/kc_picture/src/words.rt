@@ -1,60 +1,111 @@
-//! Numbers as a picture's texts spell them.
-ghost use Rattle.std.specs.Prelude.{◌≡◌, ◌++◌, OnOk};
-ghost use Rattle.std.specs.Fmt.{decimal};
-ghost use Rattle.std.specs.String.{string_bytes};
-
+//! The words and numbers of a picture's texts.
+use crate::colour::Colour;
 use kc_types::Memory;
+use std::alloc::Global;
 
-/// Appends some words and a number.
-pub(crate) fn push_number(text: &mut String, words: &str, number: u64) -> Result<(), Memory>
-    ensures { OnOk result (string_bytes text.new ≡ string_bytes text.old ++ (words.now ++ decimal number)) }
-{
-    write!(text, "{words}{number}")?;
-    Ok(())
+/// A text so far. Where a growth is refused it stays as it is from then on, and at its end there is `Memory` in its place.
+#[derive(Drop)]
+pub(crate) struct Text {
+    text: String,
+    refused: bool,
 }
 
-/// Appends some words and a length in hundredths of a point, which is spelt in points: 8650 as 86.5.
-pub(crate) fn push_length(text: &mut String, words: &str, length: u64) -> Result<(), Memory> {
-    push_number(text, words, length / 100)?;
-    let rest = length % 100;
-    if rest > 0 {
-        push_number(text, ".", rest / 10)?;
+impl Text {
+    pub fn new(alloc: Global) -> Text {
+        Text {
+            text: String::new(alloc),
+            refused: false,
+        }
     }
-    if rest % 10 > 0 {
-        push_number(text, "", rest % 10)?;
-    }
-    Ok(())
-}
 
-/// Appends a comma, and the last three digits of a number.
-fn push_last_three(text: &mut String, number: u64) -> Result<(), Memory> {
-    push_number(text, ",", number / 100 % 10)?;
-    push_number(text, "", number / 10 % 10)?;
-    push_number(text, "", number % 10)
-}
+    /// Whether it has no words; where its first were refused it has them.
+    pub fn is_empty(&self) -> bool {
+        self.text.is_empty() && !self.refused
+    }
 
-/// Appends a number with a comma between thousands: 65,536.
-fn push_grouped(text: &mut String, number: u64) -> Result<(), Memory> {
-    let thousands = number / 1_000;
-    if number < 1_000 {
-        return push_number(text, "", number);
+    /// The number of its bytes.
+    pub fn len(&self) -> usize {
+        self.text.len()
     }
-    if number < 1_000_000 {
-        push_number(text, "", thousands)?;
-    } else {
-        push_number(text, "", thousands / 1_000)?;
-        push_last_three(text, thousands)?;
-    }
-    push_last_three(text, number)
-}
 
-/// Appends so many of what has this name: 1 call, 65,536 calls.
-pub(crate) fn push_count(text: &mut String, count: u64, name: &str) -> Result<(), Memory> {
-    push_grouped(text, count)?;
-    text.push_str(" ")?;
-    text.push_str(name)?;
-    if count != 1 {
-        text.push_str("s")?;
+    pub fn put(&mut self, words: &str) {
+        self.refused = self.refused || self.text.push_str(words).is_err();
     }
-    Ok(())
+
+    /// Some words and a number.
+    pub fn put_number(&mut self, words: &str, number: u64) {
+        self.refused = self.refused || write!(self.text, "{words}{number}").is_err();
+    }
+
+    /// Some words and a length in hundredths of a point, which is spelt in points: 8650 as 86.5.
+    pub fn put_length(&mut self, words: &str, length: u64) {
+        self.put_number(words, length / 100);
+        let rest = length % 100;
+        if rest > 0 {
+            self.put_number(".", rest / 10);
+        }
+        if rest % 10 > 0 {
+            self.put_number("", rest % 10);
+        }
+    }
+
+    /// Some words and a colour.
+    pub fn put_colour(&mut self, words: &str, colour: Colour) {
+        self.put(words);
+        self.refused = self.refused || colour.push(&mut self.text).is_err();
+    }
+
+    /// A comma, and the last three digits of a number.
+    fn put_last_three(&mut self, number: u64) {
+        self.put_number(",", number / 100 % 10);
+        self.put_number("", number / 10 % 10);
+        self.put_number("", number % 10);
+    }
+
+    /// A number with a comma between thousands: 65,536.
+    fn put_grouped(&mut self, number: u64) {
+        let thousands = number / 1_000;
+        if number < 1_000 {
+            self.put_number("", number);
+        } else if number < 1_000_000 {
+            self.put_number("", thousands);
+            self.put_last_three(number);
+        } else {
+            self.put_number("", thousands / 1_000);
+            self.put_last_three(thousands);
+            self.put_last_three(number);
+        }
+    }
+
+    /// So many of what has this name: 1 call, 65,536 calls.
+    pub fn put_count(&mut self, count: u64, name: &str) {
+        self.put_grouped(count);
+        self.put(" ");
+        self.put(name);
+        if count != 1 {
+            self.put("s");
+        }
+    }
+
+    /// Another text, or where that was refused nothing more.
+    pub fn put_text(&mut self, other: &Text) {
+        self.put(&other.text);
+        self.refused = self.refused || other.refused;
+    }
+
+    /// Words that were made elsewhere, or where there was no memory for them nothing more.
+    pub fn put_made(&mut self, made: &Result<String, Memory>) {
+        match made {
+            Ok(words) => self.put(words),
+            Err(Memory) => self.refused = true,
+        }
+    }
+
+    pub fn finish(self) -> Result<String, Memory> {
+        let Text { text, refused } = self;
+        if refused {
+            return Err(Memory);
+        }
+        Ok(text)
+    }
 }

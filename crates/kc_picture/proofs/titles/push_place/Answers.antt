@@ -1,4 +1,4 @@
 use Rattle.kc_picture.proofs.titles.push_place.Goals as goal
 
-pub returns-in-Some : goal.returns-in-Some
-returns-in-Some c = rw (c.in-Some.is, ← c.number.ensures.value, ← c.from.ensures) c.push_number.ensures
+pub returns-in_ok-write : goal.returns-in_ok-write
+returns-in_ok-write c = rw (c.in-Some.is, ← c.number.ensures.value) c.in_ok-write.ensures.bytes
