@@ -2,6 +2,7 @@
 use Rattle.std.proofs.Common.{◌≡◌, ◌≢◌, ℕ, zero, suc, ◌+◌, ◌*◌, ◌<◌, ◌≤◌, ◌^◌, Bool, true, false, cond, ◌&&◌, ◌||◌, List, [], ◌∷◌, ◌++◌, length, get_or, set, take, replicate, refl, sym, ◌∙◌, ap, subst, arith, inl, inr, length-append}
 use Rattle.std.specs.Prelude.{eqb}
 use Rattle.std.specs.List.{IsDistinct}
+use Rattle.std.proofs.lemmas.Grind.{common_steps}
 use Rattle.std.proofs.lemmas.Bool.Decides.{nat_tests}
 use Rattle.std.proofs.lemmas.Cmp.{nat_eq_equiv}
 use Rattle.std.proofs.lemmas.List.{get_or-set_same, get_or-set_other, take-append-le, take_all}
@@ -10,38 +11,21 @@ use Rattle.std.proofs.lemmas.Map.Keys.{IsDistinct-push}
 use Rattle.std.proofs.lemmas.Nat.{same_from_place}
 use Rattle.std.proofs.Math.ListN.{length-set, length-replicate}
 use Rattle.std.proofs.Math.Bool.{or-false, or-true}
-use Rattle.std.proofs.lemmas.Bool.{and_from, and_parts, cases_eq, eq-eqb, eqb-true, ne_eqb}
+use Rattle.std.proofs.lemmas.Bool.{and_from, and_parts, cases_Bool, cases_eq, cond_both, eq-eqb, eqb-true, ne_eqb}
 use Rattle.kc_model.proofs.States.Slots.{get_or-same}
 use Rattle.kc_footprints.specs.Members.{has_member, with_member, AreFlags}
 
-added_by : (xs : List ℕ) (f : ℕ) (b : Bool) → has_member xs f ≡ b → (g : ℕ) → has_member (cond b xs (xs ++ f ∷ [])) g ≡ (has_member xs g || eqb f g)
-added_by xs f true has g = case (eqb f g) refl
-  where
-    case : (b : Bool) → eqb f g ≡ b → has_member xs g ≡ (has_member xs g || eqb f g)
-    case true e = let is : f ≡ g = eqb-true f g e in let there : has_member xs g ≡ true = subst (λ (x : ℕ). has_member xs x ≡ true) is has in rw there refl
-    case false e = rw e (sym (or-false (has_member xs g)))
-added_by xs f false has g = list_any-append (eqb g) xs (f ∷ []) ∙ ap (λ (b : Bool). has_member xs g || b) (last f g)
-  where
-    last : (f g : ℕ) → (eqb g f || false) ≡ eqb f g
-    last f g = grind (arith, nat_tests)
-
 pub is_in_added : (xs : List ℕ) (f g : ℕ) → has_member (with_member xs f) g ≡ (has_member xs g || eqb f g)
-is_in_added xs f g = added_by xs f (has_member xs f) refl g
+is_in_added xs f g = grind (arith, nat_tests, list_any-append (eqb g) xs (f ∷ []), cases_Bool (has_member xs f), cases_Bool (has_member xs g))
 
 pub added_once : (xs : List ℕ) (f : ℕ) → IsDistinct eqb xs → IsDistinct eqb (with_member xs f)
-added_once xs f once = by (has_member xs f) refl
-  where
-    by : (b : Bool) → has_member xs f ≡ b → IsDistinct eqb (cond b xs (xs ++ f ∷ []))
-    by true has = once
-    by false has = IsDistinct-push nat_eq_equiv xs f once has
+added_once xs f once = cond_both (has_member xs f) xs (xs ++ f ∷ []) (IsDistinct eqb) (λ has. once) (λ none. IsDistinct-push nat_eq_equiv xs f once none)
 
 -- a list keeps its front
 added_front : (xs : List ℕ) (f n : ℕ) → n ≤ length xs → (n ≤ length (with_member xs f)) × (take n (with_member xs f) ≡ take n xs)
-added_front xs f n low = by (has_member xs f)
-  where
-    by : (b : Bool) → (n ≤ length (cond b xs (xs ++ f ∷ []))) × (take n (cond b xs (xs ++ f ∷ [])) ≡ take n xs)
-    by true = (low, refl)
-    by false = (omega (arith, length-append xs (f ∷ [])), take-append-le n xs (f ∷ []) low)
+added_front xs f n low =
+    cond_both (has_member xs f) xs (xs ++ f ∷ []) (λ ys. (n ≤ length ys) × (take n ys ≡ take n xs)) (λ has. (low, refl))
+    (λ none. (omega (arith, length-append xs (f ∷ [])), take-append-le n xs (f ∷ []) low))
 
 -- one of several sets
 module _ (p f : ℕ) (a b : List (List ℕ)) (low : p < length a) (sets : b ≡ set a p (with_member (get_or a p []) f)) where
@@ -95,17 +79,7 @@ flags_added sets flags p f low room are =
     record { few = rw len are.few; has = λ q g there. rw len (each q g (rw len at there)) }
   where
     each : (q g : ℕ) → q < length sets → get_or (set flags (f * length sets + p) true) (g * length sets + q) false ≡ has_member (get_or (set sets p (with_member (get_or sets p []) f)) q []) g
-    each q g there = by (eqb p q && eqb f g) refl ∙ sym (set_has p f sets (set sets p (with_member (get_or sets p []) f)) low refl q g)
-      where
-        by : (b : Bool) → (eqb p q && eqb f g) ≡ b → get_or (set flags (f * length sets + p) true) (g * length sets + q) false ≡ (has_member (get_or sets q []) g || (eqb p q && eqb f g))
-        by true e =
-            let is_p : p ≡ q = eqb-true p q (and_parts (eqb p q) (eqb f g) e).0 in
-            let is_f : f ≡ g = eqb-true f g (and_parts (eqb p q) (eqb f g) e).1 in
-            rw (e, ← is_p, ← is_f) (get_or-set_same flags (f * length sets + p) true false room ∙ sym (or-true (has_member (get_or sets p []) f)))
-        by false e =
-            rw e
-            (get_or-set_other flags (f * length sets + p) (g * length sets + q) true false
-            (λ (same : g * length sets + q ≡ f * length sets + p).
-            let is = same_from_place g q f p (length sets) there low same in
-            let yes : (eqb p q && eqb f g) ≡ true = rw (is.0, is.1) (and_from (eqb p p) (eqb f f) (eq-eqb p p refl) (eq-eqb f f refl)) in cc)
-            ∙ are.has q g there ∙ sym (or-false (has_member (get_or sets q []) g)))
+    each q g there =
+        let apart : g * length sets + q ≡ f * length sets + p → (g ≡ f) × (q ≡ p) = same_from_place g q f p (length sets) there low in
+        let has = set_has p f sets (set sets p (with_member (get_or sets p []) f)) low refl q g in
+        grind (arith, nat_tests, common_steps, has, are.has q g there, cases_Bool (has_member (get_or sets q []) g))

@@ -1,10 +1,11 @@
 -- What the planner's numbers say is what the definitions say.
 use Rattle.std.proofs.Common.{◌≡◌, ℕ, zero, suc, ◌<◌, ◌≤◌, Bool, true, false, ◌&&◌, ◌||◌, nat_lt, cond, List, [], ◌∷◌, length, map, refl, sym, ◌∙◌, ap, arith, inl, inr}
 use Rattle.std.specs.Prelude.{eqb, Option, Some, None}
-use Rattle.std.proofs.lemmas.Bool.{ltb-true, eq-eqb}
+use Rattle.std.proofs.lemmas.Bool.{cond_both, ltb-true, eq-eqb}
 use Rattle.std.proofs.lemmas.Bool.Decides.{nat_tests}
-use Rattle.kc_waves.specs.Planned.{ComesJustAfter}
+use Rattle.std.proofs.lemmas.List.{get_or-map}
 use Rattle.std.proofs.Math.Bool.{or_assoc}
+use Rattle.kc_waves.specs.Planned.{ComesJustAfter}
 use Rattle.kc_types.specs.Configuration.{Configuration, slot_count}
 use Rattle.kc_types.specs.declared.call.Call.{Call}
 use Rattle.kc_types.specs.declared.call.Call.TheVariants.{Give, HostFault, HostRead, HostWrite, Remap, Map, Drop, Clear}
@@ -24,14 +25,7 @@ pub differs : (v n : ℕ) → v < n → eqb n v ≡ false
 differs v n low = grind (arith, nat_tests)
 
 pub at_below : (n x y : ℕ) → is_at (below n (Some x)) y ≡ (nat_lt x n && eqb x y)
-at_below n x y = by (nat_lt x n)
-  where
-    by : (b : Bool) → is_at (cond b (Some x) None) y ≡ (b && eqb x y)
-    by true = refl
-    by false = refl
-
-swapped : (n x y : ℕ) → (nat_lt x n && eqb x y) ≡ (eqb x y && nat_lt y n)
-swapped n x y = grind (arith, nat_tests)
+at_below n x y = cond_both (nat_lt x n) (Some x) None (λ o. is_at o y ≡ (nat_lt x n && eqb x y)) (λ less. rw less refl) (λ past. rw past refl)
 
 -- where the second is below, the first needs no asking
 pub low_too : (n x y : ℕ) → y < n → (nat_lt x n && eqb x y) ≡ eqb x y
@@ -40,59 +34,39 @@ low_too n x y low = grind (arith, nat_tests)
 -- nothing below n is n
 pub not_past : (n : ℕ) (o : Option ℕ) → is_at (below n o) n ≡ false
 not_past n None = refl
-not_past n (Some x) = at_below n x n ∙ at_end n x
-  where
-    at_end : (n x : ℕ) → (nat_lt x n && eqb x n) ≡ false
-    at_end n x = grind (arith, nat_tests)
+not_past n (Some x) = at_below n x n ∙ grind (arith, nat_tests)
 
 named_is : (n : ℕ) (call : Call) (f : ℕ) → is_at (below n (named_frame call)) f ≡ (names_frame call f && nat_lt f n)
-named_is n (Give g) f = at_below n g f ∙ swapped n g f
-named_is n (HostFault g) f = at_below n g f ∙ swapped n g f
-named_is n (HostRead g off len) f = at_below n g f ∙ swapped n g f
-named_is n (HostWrite g off bytes) f = at_below n g f ∙ swapped n g f
-named_is n (Remap v i g) f = at_below n g f ∙ swapped n g f
-named_is n (Map v c g) f = at_below n g f ∙ swapped n g f
+named_is n (Give g) f = grind (arith, nat_tests, at_below n g f)
+named_is n (HostFault g) f = grind (arith, nat_tests, at_below n g f)
+named_is n (HostRead g off len) f = grind (arith, nat_tests, at_below n g f)
+named_is n (HostWrite g off bytes) f = grind (arith, nat_tests, at_below n g f)
+named_is n (Remap v i g) f = grind (arith, nat_tests, at_below n g f)
+named_is n (Map v c g) f = grind (arith, nat_tests, at_below n g f)
 named_is n call f = refl
 
 module _ (config : Configuration) (held : Owner → ℕ → Bool) (r : ℕ → ℕ → Bool)
     (same_slot : (v f : ℕ) → v < slot_count config → r v f ≡ held (owner.Vm v) f) (same_free : (f : ℕ) → r (slot_count config) f ≡ held owner.Free f) where
-  slot_reach : (v f : ℕ) → reach_of r (below (slot_count config) (Some v)) f ≡ (nat_lt v (slot_count config) && held (owner.Vm v) f)
-  slot_reach v f = by (nat_lt v (slot_count config)) refl
-    where
-      by : (b : Bool) → nat_lt v (slot_count config) ≡ b → reach_of r (cond b (Some v) None) f ≡ (b && held (owner.Vm v) f)
-      by true e = same_slot v f (ltb-true v (slot_count config) e)
-      by false e = refl
-
   reach_is : (o : Option ℕ) (f : ℕ) → reach_of r (below (slot_count config) o) f ≡ of_slot config held o f
   reach_is None f = refl
-  reach_is (Some v) f = slot_reach v f
-
-  both_named : (v g w f : ℕ) → w < slot_count config → (is_at (below (slot_count config) (Some v)) w && is_at (below config.frames (Some g)) f) ≡ (eqb v w && (nat_lt g config.frames && eqb g f))
-  both_named v g w f low = rw (at_below (slot_count config) v w, low_too (slot_count config) v w low, at_below config.frames g f) refl
-
-  not_free : (w : ℕ) (b : Bool) → w < slot_count config → ((true && eqb (slot_count config) w) && b) ≡ false
-  not_free w b low = rw (differs w (slot_count config) low) refl
+  reach_is (Some v) f =
+      cond_both (nat_lt v (slot_count config)) (Some v) None (λ o. reach_of r o f ≡ (nat_lt v (slot_count config) && held (owner.Vm v) f))
+      (λ less. rw less (same_slot v f (ltb-true v (slot_count config) less))) (λ past. rw past refl)
 
   pub gains_slot : (call : Call) (w f : ℕ) → w < slot_count config → gains_by (slot_count config) r (names_of config call) (gain_of call) w f ≡ gains config held call (owner.Vm w) f
-  gains_slot (Give g) w f low = not_free w (is_at (below config.frames (Some g)) f) low
-  gains_slot (Remap v i g) w f low = both_named v g w f low
-  gains_slot (Map v c g) w f low = both_named v g w f low
-  gains_slot (Drop v c g) w f low = not_free w (reach_of r (below (slot_count config) (Some v)) f) low
-  gains_slot (Clear v) w f low = not_free w (reach_of r (below (slot_count config) (Some v)) f) low
+  gains_slot (Give g) w f low = grind (arith, nat_tests)
+  gains_slot (Remap v i g) w f low = grind (arith, nat_tests, at_below (slot_count config) v w, at_below config.frames g f)
+  gains_slot (Map v c g) w f low = grind (arith, nat_tests, at_below (slot_count config) v w, at_below config.frames g f)
+  gains_slot (Drop v c g) w f low = grind (arith, nat_tests)
+  gains_slot (Clear v) w f low = grind (arith, nat_tests)
   gains_slot call w f low = refl
 
-  is_free : (b : Bool) → ((true && eqb (slot_count config) (slot_count config)) && b) ≡ b
-  is_free b = rw (eq-eqb (slot_count config) (slot_count config) refl) refl
-
-  no_slot : (v : ℕ) (b : Bool) → (is_at (below (slot_count config) (Some v)) (slot_count config) && b) ≡ false
-  no_slot v b = rw (not_past (slot_count config) (Some v)) refl
-
   pub gains_free : (call : Call) (f : ℕ) → gains_by (slot_count config) r (names_of config call) (gain_of call) (slot_count config) f ≡ gains config held call owner.Free f
-  gains_free (Give g) f = is_free (is_at (below config.frames (Some g)) f) ∙ at_below config.frames g f
-  gains_free (Remap v i g) f = no_slot v (is_at (below config.frames (Some g)) f)
-  gains_free (Map v c g) f = no_slot v (is_at (below config.frames (Some g)) f)
-  gains_free (Drop v c g) f = is_free (reach_of r (below (slot_count config) (Some v)) f) ∙ slot_reach v f
-  gains_free (Clear v) f = is_free (reach_of r (below (slot_count config) (Some v)) f) ∙ slot_reach v f
+  gains_free (Give g) f = grind (arith, nat_tests, at_below config.frames g f)
+  gains_free (Remap v i g) f = rw (not_past (slot_count config) (Some v)) refl
+  gains_free (Map v c g) f = rw (not_past (slot_count config) (Some v)) refl
+  gains_free (Drop v c g) f = grind (arith, nat_tests, reach_is (Some v) f)
+  gains_free (Clear v) f = grind (arith, nat_tests, reach_is (Some v) f)
   gains_free call f = refl
 
   -- what is touched by the planner's numbers is what is touched
@@ -107,9 +81,7 @@ module _ (config : Configuration) (held : Owner → ℕ → Bool) (r : ℕ → �
   touched_is call resource.Free = refl
 
 pub names_are : (config : Configuration) (calls : List Call) (k : ℕ) → k < length calls → names_at (map (names_of config) calls) k ≡ names_of config (call_at calls k)
-names_are config [] k low = absurd (omega arith)
-names_are config (c ∷ cs) zero low = refl
-names_are config (c ∷ cs) (suc k) low = names_are config cs k (omega arith)
+names_are config calls k low = get_or-map (names_of config) calls k _ _ low
 
 module _ (m : State) (calls : List Call) (pairs : List (ℕ × ℕ)) (owned : IsOwned m pairs) where
   pub record IsSame (k : ℕ) : Type 0 where

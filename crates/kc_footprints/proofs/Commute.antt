@@ -34,8 +34,5 @@ pub is_commuting_linked : IsCommutingLinked
 is_commuting_linked m calls wave is plan =
     commutes (footprint m calls) wave (linked_part_at m calls) (length calls) plan
     (λ k r lt outside.
-    links-kept (state_at m calls k) (call_at calls k) (orderly-at m calls is k lt) (lists-all (state_at m calls k) (lawful-at m calls is k (before k lt))) r
+    links-kept (state_at m calls k) (call_at calls k) (orderly-at m calls is k lt) (lists-all (state_at m calls k) (lawful-at m calls is k (omega (arith, lt)))) r
     (not-held (need (state_at m calls k) (call_at calls k) r) (footprint m calls k r) (has_needs m calls is k lt r) outside))
-  where
-    before : (k : ℕ) → k < length calls → k ≤ length calls
-    before k lt = omega (arith, lt)

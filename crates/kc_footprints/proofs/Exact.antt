@@ -2,7 +2,9 @@
 use Rattle.std.proofs.Common.{◌≡◌, ℕ, ◌+◌, ◌<◌, ◌≤◌, Bool, true, false, ◌&&◌, ap, List, [], length, map, get_or, refl, sym, ◌∙◌, subst, arith}
 use Rattle.std.specs.List.{IsDistinct}
 use Rattle.std.specs.Prelude.{eqb, Option, Some, None, IfSome, is_some, if◌then◌else◌}
-use Rattle.std.proofs.lemmas.Bool.{eq-eqb}
+use Rattle.std.proofs.lemmas.Bool.Decides.{nat_tests}
+use Rattle.std.proofs.lemmas.Bool.{cond_both, eq-eqb}
+use Rattle.std.proofs.lemmas.List.{length-map}
 use Rattle.std.proofs.lemmas.List.Folds.{list_any_at}
 use Rattle.kc_types.specs.Limits.{frame_limit, slot_limit}
 use Rattle.kc_types.specs.Configuration.{Configuration, slot_count}
@@ -21,34 +23,13 @@ use Rattle.kc_footprints.specs.Planner.{has_pair, HaveFramesBelow}
 use Rattle.kc_footprints.specs.Rows.{has_frame, is_of, row_touches, no_row, free_of, IsSpan, IsSpanOf, IsRow, IsRowOf, AreRowsOf, AreRows}
 use Rattle.kc_footprints.proofs.Existing.{may_have_low}
 use Rattle.kc_footprints.proofs.Carried.{touches_is}
-use Rattle.kc_footprints.proofs.Waves.{length_names, names_range}
+use Rattle.kc_footprints.proofs.Waves.{names_range}
 
--- what a span of a principal says
-module _ (sets : List (List ℕ)) (before : ℕ → ℕ → Bool) where
-  frames_are : (o : Option ℕ) (span : Option Span) → IsSpanOf sets before o span → (f : ℕ) → has_frame sets span f ≡ reach_of before o f
-  frames_are None None is f = refl
-  frames_are (Some p) (Some s) is f = is.2 f
-  frames_are o span is f = absurd is
-
-  principal_is : (o : Option ℕ) (span : Option Span) → IsSpanOf sets before o span → (v : ℕ) → is_of span v ≡ is_at o v
-  principal_is None None is v = refl
-  principal_is (Some p) (Some s) is v = ap (λ x. eqb x v) is.0
-  principal_is o span is v = absurd is
-
-  there_is : (o : Option ℕ) (span : Option Span) → IsSpanOf sets before o span → is_some span ≡ is_some o
-  there_is None None is = refl
-  there_is (Some p) (Some s) is = refl
-  there_is o span is = absurd is
-
-  span_in : (o : Option ℕ) (span : Option Span) → IsSpanOf sets before o span → IfSome span (IsSpan sets)
-  span_in (Some p) (Some s) is = is.1
-  span_in o None is = tt
-  span_in o span is = absurd is
-
-  span_low : (n : ℕ) (o : Option ℕ) (span : Option Span) → IfSome o (λ p. p < n) → n ≤ slot_limit → IsSpanOf sets before o span → IfSome span (λ s. s.principal < slot_limit)
-  span_low n (Some p) (Some s) low few is = let e = is.0 in omega arith
-  span_low n o None low few is = tt
-  span_low n o span low few is = absurd is
+span_low : (sets : List (List ℕ)) (before : ℕ → ℕ → Bool) (n : ℕ) (o : Option ℕ) (span : Option Span) → IfSome o (λ p. p < n) → n ≤ slot_limit → IsSpanOf sets before o span
+    → IfSome span (λ s. s.principal < slot_limit)
+span_low sets before n (Some p) (Some s) low few is = grind (arith, nat_tests, is.principal p)
+span_low sets before n None (Some s) low few is = let none = is.there in cc
+span_low sets before n o None low few is = tt
 
 module _ (config : Configuration) (calls : List Call) (pairs : List (ℕ × ℕ)) (sets : List (List ℕ)) (rows : List Row)
     (are : AreRowsOf (slot_count config) (has_pair pairs) (map (names_of config) calls) sets rows) (count : length rows ≡ length calls) where
@@ -77,12 +58,12 @@ module _ (config : Configuration) (calls : List Call) (pairs : List (ℕ × ℕ)
           let row : Row = get_or rows k no_row in
           let n : Names = names_at (map (names_of config) calls) k in
           let before = may_have (slot_count config) (has_pair pairs) (map (names_of config) calls) k in
-          let range = names_range config calls k (let e = length_names config calls in omega arith) in
+          let range = names_range config calls k (let e = length-map calls (names_of config) in omega arith) in
           record {
             frame = frame_low config.frames frames n.frame row.frame is.frame range.frame;
-            slot = span_in sets before n.slot row.slot is.slot;
+            slot = is.slot.within;
             slot_low = span_low sets before (slot_count config) n.slot row.slot range.slot slots is.slot;
-            free = span_in sets before (free_of (slot_count config) n) row.free is.free;
+            free = is.free.within;
           }
 
 -- a row is the call's footprint
@@ -100,17 +81,11 @@ row_touches_is m calls pairs owned sets rows are count k x low = by x ∙ touche
     before : ℕ → ℕ → Bool
     before = may_have (slot_count m.config) (has_pair pairs) (map (names_of m.config) calls) k
 
-    free_reach : (free f : ℕ) (c : Bool) → reach_of before (if c then Some free else None) f ≡ (c && before free f)
-    free_reach free f true = refl
-    free_reach free f false = refl
-
-    free_there : (free : ℕ) (c : Bool) → is_some (if c then Some free else None) ≡ c
-    free_there free true = refl
-    free_there free false = refl
+    free_reach : (f : ℕ) → reach_of before (free_of (slot_count m.config) n) f ≡ (n.free && before (slot_count m.config) f)
+    free_reach f =
+        cond_both n.free (Some (slot_count m.config)) None (λ o. reach_of before o f ≡ (n.free && before (slot_count m.config) f)) (λ yes. rw yes refl) (λ no. rw no refl)
 
     by : (x : Resource) → row_touches sets (get_or rows k no_row) x ≡ touches (slot_count m.config) (has_pair pairs) (map (names_of m.config) calls) k x
-    by (resource.Frame f) =
-        let row : Row = get_or rows k no_row in
-        rw (is.frame, frames_are sets before n.slot row.slot is.slot f, frames_are sets before (free_of (slot_count m.config) n) row.free is.free f, free_reach (slot_count m.config) f n.free) refl
-    by (resource.Vm v) = principal_is sets before n.slot (get_or rows k no_row).slot is.slot v
-    by resource.Free = there_is sets before (free_of (slot_count m.config) n) (get_or rows k no_row).free is.free ∙ free_there (slot_count m.config) n.free
+    by (resource.Frame f) = rw (is.frame, is.slot.frames f, is.free.frames f, free_reach f) refl
+    by (resource.Vm v) = is.slot.principal v
+    by resource.Free = is.free.there ∙ cond_both n.free (Some (slot_count m.config)) None (λ o. is_some o ≡ n.free) (λ yes. sym yes) (λ no. sym no)

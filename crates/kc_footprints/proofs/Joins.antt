@@ -1,13 +1,13 @@
 -- A principal gets a frame, and the free list what a slot may have.
 use Rattle.std.proofs.Common.{◌≡◌, ℕ, ◌+◌, ◌<◌, ◌≤◌, Bool, true, false, ◌&&◌, ◌||◌, List, [], length, get_or, set, take, refl, sym, ◌∙◌, ap, subst, arith, inl, inr}
 use Rattle.std.specs.Prelude.{◌⊎◌, eqb}
-use Rattle.std.proofs.lemmas.Bool.{and_from, and_parts, cases_eq, cases_lt, eq-eqb, eqb-true, or_cases, or_left, or_right}
+use Rattle.std.proofs.lemmas.Bool.{and_from, and_parts, cases_Bool, cases_eq, cases_lt, eq-eqb, eqb-true, or_cases, or_left, or_right}
 use Rattle.std.proofs.lemmas.Bool.Decides.{nat_tests}
 use Rattle.std.proofs.lemmas.List.{get_or-set_same, get_or-set_other, length-set, take_all}
 use Rattle.std.proofs.lemmas.List.Folds.{list_any_more}
 use Rattle.kc_footprints.specs.Members.{has_member, with_member}
 use Rattle.kc_footprints.specs.Planner.{Reached, members_of, is_near, is_related, IsExact, IsGrown, IsRelated, IsJoined, IsWider}
-use Rattle.kc_footprints.proofs.Near.{near_same, near_related, near_back, near_cases}
+use Rattle.kc_footprints.proofs.Near.{near_is}
 use Rattle.kc_footprints.proofs.Added.{other_set, set_has, set_once, set_grown}
 
 -- the principal p is related to one more that may have the frame
@@ -18,16 +18,8 @@ related_more n p f a b near low has_p has_n is so_far = record {
   freed = so_far.freed;
   near_len = rw is (length-set b.near p (with_member (get_or b.near p []) n)) ∙ so_far.near_len;
   keeps = λ q r h. old q r (so_far.keeps q r h);
-  only = λ q r h.
-      elim (or_cases (is_related b q r) (eqb p q && eqb n r) (sym (raised q r) ∙ h)) [
-        | inl was ↦ so_far.only q r was
-        | inr new ↦ (let same = and_parts (eqb p q) (eqb n r) new in inr (of p q same.0 has_p, of n r same.1 has_n))
-      ];
-  there = λ q under h.
-      elim (cases_lt q n) [
-        | inl before ↦ old p q (so_far.there q before h)
-        | inr past ↦ (let last : n ≡ q = omega arith in raised p q ∙ or_right (is_related b p q) (eqb p p && eqb n q) (and_from (eqb p p) (eqb n q) (eq-eqb p p refl) (eq-eqb n q last)))
-      ];
+  only = λ q r h. grind (arith, nat_tests, raised q r, so_far.only q r, cases_Bool (is_related b q r));
+  there = λ q under h. grind (arith, nat_tests, raised p q, so_far.there q, cases_Bool (is_related b p q));
 }
   where
     raised : (q r : ℕ) → has_member (get_or near q []) r ≡ (is_related b q r || (eqb p q && eqb n r))
@@ -36,16 +28,11 @@ related_more n p f a b near low has_p has_n is so_far = record {
     old : (q r : ℕ) → is_related b q r ≡ true → has_member (get_or near q []) r ≡ true
     old q r h = raised q r ∙ or_left (is_related b q r) (eqb p q && eqb n r) h
 
-    of : (x q : ℕ) → eqb x q ≡ true → has_member (members_of a x) f ≡ true → has_member (members_of a q) f ≡ true
-    of x q e h = subst (λ (y : ℕ). has_member (members_of a y) f ≡ true) (eqb-true x q e) h
-
 -- principals are near while the same ones are related and more
 near_stays : (a b : Reached) → ((p q : ℕ) → is_related a p q ≡ true → is_related b p q ≡ true) → (p q : ℕ) → is_near a p q ≡ true → is_near b p q ≡ true
 near_stays a b more p q near =
-    elim (near_cases a p q near) [
-      | inl same ↦ near_same b p q same
-      | inr is ↦ elim is [ inl forth ↦ near_related b p q (more p q forth) | inr back ↦ near_back b p q (more q p back) ]
-    ]
+    let was : (eqb p q || (is_related a p q || is_related a q p)) ≡ true = sym (near_is a p q) ∙ near in
+    near_is b p q ∙ grind (arith, nat_tests, more p q, more q p, cases_Bool (is_related a p q), cases_Bool (is_related a q p), cases_Bool (is_related b p q))
 
 -- m has the frame in the set of p, and b has the principals related to p besides
 module _ (size free p f n : ℕ) (a m b : Reached) (low : p < size) (exact : IsExact size free a) (added : m.sets ≡ set a.sets p (with_member (members_of a p) f)) (near : m.near ≡ a.near) (freed : m.freed ≡ a.freed)
@@ -62,13 +49,6 @@ module _ (size free p f n : ℕ) (a m b : Reached) (low : p < size) (exact : IsE
   keeps : (q g : ℕ) → has_member (members_of a q) g ≡ true → has_member (members_of b q) g ≡ true
   keeps q g h = has q g ∙ or_left (has_member (members_of a q) g) (eqb p q && eqb f g) h
 
-  old_or_new : (q g : ℕ) → has_member (members_of b q) g ≡ true → (has_member (members_of a q) g ≡ true) ⊎ ((p ≡ q) × (f ≡ g))
-  old_or_new q g h =
-      elim (or_cases (has_member (members_of a q) g) (eqb p q && eqb f g) (sym (has q g) ∙ h)) [
-        | inl old ↦ inl old
-        | inr new ↦ (let is = and_parts (eqb p q) (eqb f g) new in inr (eqb-true p q is.0, eqb-true f g is.1))
-      ]
-
   grown : IsGrown a b
   grown = set_grown p f a.sets b.sets there sets
 
@@ -80,14 +60,12 @@ module _ (size free p f n : ℕ) (a m b : Reached) (low : p < size) (exact : IsE
 
   near_then : (q r g : ℕ) → q < size → r < size → has_member (members_of b q) g ≡ true → has_member (members_of b r) g ≡ true → is_near b q r ≡ true
   near_then q r g q_low r_low hq hr =
-      elim (old_or_new q g hq) [
-        | inl q_old ↦
-            elim (old_or_new r g hr) [
-              | inl r_old ↦ near_stays a b (λ x y was. related.keeps x y (rw near was)) q r (exact.shared q r g q_low r_low q_old r_old)
-              | inr new ↦ near_back b q r (subst (λ (x : ℕ). is_related b x q ≡ true) new.0 (related_p q g q_low new.1 hq))
-            ]
-        | inr new ↦ near_related b q r (subst (λ (x : ℕ). is_related b x r ≡ true) new.0 (related_p r g r_low new.1 hr))
-      ]
+      let had_q = cases_Bool (has_member (members_of a q) g) in
+      let had_r = cases_Bool (has_member (members_of a r) g) in
+      let stays : is_near a q r ≡ true → is_near b q r ≡ true = near_stays a b (λ x y was. related.keeps x y (rw near was)) q r in
+      let to_q : f ≡ g → is_related b p q ≡ true = λ is. related_p q g q_low is hq in
+      let to_r : f ≡ g → is_related b p r ≡ true = λ is. related_p r g r_low is hr in
+      grind (arith, nat_tests, has q g, has r g, exact.shared q r g q_low r_low, near_is b q r, cases_Bool (is_related b q r))
 
   pub joined : IsJoined size free p f a b
   joined = record {
@@ -123,16 +101,14 @@ pub record IsFreeing (size free v n : ℕ) (a b : Reached) : Type 0 where
 -- those that it has taken over already
 pub freeing_start : (size free v : ℕ) (a : Reached) → IsExact size free a → IsFreeing size free v (get_or a.freed v 0) a a
 freeing_start size free v a exact = record {
-  wider = record { exact = exact; sets = λ p f. by p f (eqb free p) refl (has_member (members_of a p) f) refl (has_member (take (get_or a.freed v 0) (members_of a v)) f) refl; grown = λ p n under. (under, refl) };
+  wider = record { exact = exact; sets = same; grown = λ p n under. (under, refl) };
   slot = refl;
   freed = refl;
 }
   where
-    by : (p f : ℕ) (e : Bool) → eqb free p ≡ e → (h : Bool) → has_member (members_of a p) f ≡ h → (t : Bool) → has_member (take (get_or a.freed v 0) (members_of a v)) f ≡ t → h ≡ (h || (e && t))
-    by p f e is true old t taken = refl
-    by p f false is false old t taken = refl
-    by p f true is false old false taken = refl
-    by p f true is false old true taken = let in_free : has_member (members_of a p) f ≡ true = subst (λ (x : ℕ). has_member (members_of a x) f ≡ true) (eqb-true free p is) (exact.freed_in v f taken) in sym old ∙ in_free
+    same : (p f : ℕ) → has_member (members_of a p) f ≡ (has_member (members_of a p) f || (eqb free p && has_member (take (get_or a.freed v 0) (members_of a v)) f))
+    same p f =
+        grind (arith, nat_tests, exact.freed_in v f, cases_Bool (has_member (members_of a p) f), cases_Bool (has_member (take (get_or a.freed v 0) (members_of a v)) f))
 
 -- one more of them
 pub freeing_more : (size free v n f : ℕ) (a b c : Reached) → v < free → n < length (members_of a v) → get_or (members_of a v) n 0 ≡ f → IsFreeing size free v n a b → IsJoined size free free f b c → IsFreeing size free v (n + 1) a c
@@ -141,7 +117,8 @@ freeing_more size free v n f a b c low under at so_far joined = record {
     exact = joined.wider.exact;
     sets = λ p g.
         joined.wider.sets p g ∙ ap (λ x. x || (eqb free p && eqb f g)) (so_far.wider.sets p g)
-        ∙ rw (list_any_more (eqb g) (members_of a v) n 0 under, at) (by (has_member (members_of a p) g) (eqb free p) (has_member (take n (members_of a v)) g) (eqb f g) (eqb g f) (grind (arith, nat_tests)));
+        ∙ rw (list_any_more (eqb g) (members_of a v) n 0 under, at)
+        (grind (arith, nat_tests, cases_Bool (has_member (members_of a p) g), cases_Bool (has_member (take n (members_of a v)) g)));
     grown = λ p m below.
         let first = so_far.wider.grown p m below in
         let second = joined.wider.grown p m first.0 in
@@ -150,11 +127,6 @@ freeing_more size free v n f a b c low under at so_far joined = record {
   slot = joined.others v (λ same. absurd (omega arith)) ∙ so_far.slot;
   freed = joined.freed ∙ so_far.freed;
 }
-  where
-    by : (h e x y z : Bool) → y ≡ z → ((h || (e && x)) || (e && y)) ≡ (h || (e && (x || z)))
-    by true e x y z is = refl
-    by false true x y z is = ap (λ b. x || b) is
-    by false false x y z is = refl
 
 -- and once all are there
 pub freed_all : (size free v n : ℕ) (a b : Reached) → v < free → free < size → length (members_of a v) ≤ n → IsFreeing size free v n a b

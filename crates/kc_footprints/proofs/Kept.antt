@@ -1,7 +1,7 @@
 -- Rows keep what calls touch while principals get more.
 use Rattle.std.proofs.Common.{◌≡◌, ℕ, ◌+◌, ◌<◌, Bool, true, false, List, [], ◌∷◌, ◌++◌, length, get_or, refl, sym, ◌∙◌, ap, subst, arith, inl, inr}
 use Rattle.std.specs.Prelude.{Option, Some, None, IfSome, option_map, if◌then◌else◌}
-use Rattle.std.proofs.lemmas.Bool.{cases_lt}
+use Rattle.std.proofs.lemmas.Bool.{cases_lt, cond_both}
 use Rattle.std.proofs.lemmas.List.{get_or_append_left, get_or_push, length_push, take_all}
 use Rattle.kc_footprints.specs.declared.names.Names.{Names}
 use Rattle.kc_footprints.specs.declared.rows.Row.{Row}
@@ -12,29 +12,38 @@ use Rattle.kc_footprints.specs.Rows.{IsSpanOf, IsRowOf, AreRowsOf, free_of, span
 
 module _ (a b : Reached) (grown : IsGrown a b) (size : length b.sets ≡ length a.sets) (before : ℕ → ℕ → Bool) where
   span_kept : (o : Option ℕ) (span : Option Span) → IsSpanOf a.sets before o span → IsSpanOf b.sets before o span
-  span_kept (Some p) (Some s) is =
-      let front = grown s.principal s.length is.1.within in
-      (is.0, record { principal = rw size is.1.principal; within = front.0 }, λ f. ap (λ (xs : List ℕ). has_member xs f) front.1 ∙ is.2 f)
-  span_kept o span is = is
+  span_kept o None is = record { there = is.there; principal = is.principal; frames = is.frames; within = tt }
+  span_kept o (Some s) is =
+      let front = grown s.principal s.length is.within.within in
+      record {
+        there = is.there;
+        principal = is.principal;
+        frames = λ f. ap (λ (xs : List ℕ). has_member xs f) front.1 ∙ is.frames f;
+        within = record { principal = rw size is.within.principal; within = front.0 };
+      }
 
   row_kept : (free : ℕ) (n : Names) (row : Row) → IsRowOf free before n a.sets row → IsRowOf free before n b.sets row
   row_kept free n row is = record { frame = is.frame; slot = span_kept n.slot row.slot is.slot; free = span_kept (free_of free n) row.free is.free }
 
 module _ (free : ℕ) (before : ℕ → ℕ → Bool) (sets : List (List ℕ)) (same : (p f : ℕ) → has_member (get_or sets p []) f ≡ before p f) (size : length sets ≡ free + 1) where
   span_new : (o : Option ℕ) → IfSome o (λ p. p < length sets) → IsSpanOf sets before o (option_map (span_of sets) o)
-  span_new None low = tt
-  span_new (Some p) low = (refl, record { principal = low; within = omega arith }, λ f. ap (λ (xs : List ℕ). has_member xs f) (take_all (length (get_or sets p [])) (get_or sets p []) (omega arith)) ∙ same p f)
+  span_new None low = record { there = refl; principal = λ p. refl; frames = λ f. refl; within = tt }
+  span_new (Some p) low = record {
+    there = refl;
+    principal = λ q. refl;
+    frames = λ f. ap (λ (xs : List ℕ). has_member xs f) (take_all (length (get_or sets p [])) (get_or sets p []) (omega arith)) ∙ same p f;
+    within = record { principal = low; within = omega arith };
+  }
 
   row_new : (n : Names) → IfSome n.slot (λ v. v < free) → IsRowOf free before n sets (row_of sets free n)
-  row_new n low = record { frame = refl; slot = span_new n.slot (slot_low n.slot low); free = span_new (free_of free n) (free_low n.free) }
+  row_new n low = record { frame = refl; slot = span_new n.slot (slot_low n.slot low); free = span_new (free_of free n) free_low }
     where
       slot_low : (o : Option ℕ) → IfSome o (λ v. v < free) → IfSome o (λ v. v < length sets)
       slot_low None low = tt
       slot_low (Some v) low = omega arith
 
-      free_low : (c : Bool) → IfSome (if c then Some free else None) (λ p. p < length sets)
-      free_low true = omega arith
-      free_low false = tt
+      free_low : IfSome (free_of free n) (λ p. p < length sets)
+      free_low = cond_both n.free (Some free) None (λ o. IfSome o (λ p. p < length sets)) (λ yes. omega arith) (λ no. tt)
 
 -- one call more
 pub rows_more : (free : ℕ) (start : ℕ → ℕ → Bool) (cs : List Names) (a b : Reached) (rows more : List Row) (n : Names) → n ≡ names_at cs (length rows) → IfSome n.slot (λ v. v < free)

@@ -1,7 +1,7 @@
 -- When principals are near each other.
-use Rattle.std.proofs.Common.{◌≡◌, ℕ, true, ◌||◌, inl, inr}
+use Rattle.std.proofs.Common.{◌≡◌, ℕ, true, ◌||◌, refl, inl, inr}
 use Rattle.std.specs.Prelude.{◌⊎◌, eqb}
-use Rattle.std.proofs.lemmas.Bool.{eq-eqb, eqb-true, or_cases, or_left, or_right}
+use Rattle.std.proofs.lemmas.Bool.{eq-eqb, eqb-true, or_cases, or_left}
 use Rattle.kc_footprints.specs.Planner.{Reached, is_near, is_related}
 
 module _ (h : Reached) (p q : ℕ) where
@@ -9,13 +9,9 @@ module _ (h : Reached) (p q : ℕ) where
   unfolding is_near
   near_same same = or_left (eqb p q) (is_related h p q || is_related h q p) (eq-eqb p q same)
 
-  pub near_related : is_related h p q ≡ true → is_near h p q ≡ true
+  pub near_is : is_near h p q ≡ (eqb p q || (is_related h p q || is_related h q p))
   unfolding is_near
-  near_related is = or_right (eqb p q) (is_related h p q || is_related h q p) (or_left (is_related h p q) (is_related h q p) is)
-
-  pub near_back : is_related h q p ≡ true → is_near h p q ≡ true
-  unfolding is_near
-  near_back is = or_right (eqb p q) (is_related h p q || is_related h q p) (or_right (is_related h p q) (is_related h q p) is)
+  near_is = refl
 
   pub near_cases : is_near h p q ≡ true → (p ≡ q) ⊎ ((is_related h p q ≡ true) ⊎ (is_related h q p ≡ true))
   unfolding is_near

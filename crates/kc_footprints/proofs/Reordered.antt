@@ -41,28 +41,29 @@ size-between m a b ma mb = record { config = mb.config ∙ sym ma.config; frames
 
 module _ (m : State) (calls : List Call) (is : IsLawful m) where
   -- the store has of each resource what the calls done so far leave
-  Holds : (ℕ → Bool) → State → Type 0
+  abbrev Holds : (ℕ → Bool) → State → Type 0
   Holds done store = IsSameSize m store × ((r : Resource) → part_of store r ≡ left_by (footprint m calls) (part_at m calls) done (length calls) r)
 
   still : (j : ℕ) (r : Resource) → j < length calls → footprint m calls j r ≡ false → part_at m calls (suc j) r ≡ part_at m calls j r
   still j r lt outside = footprint-keeps m calls is (orderly-at m calls is) j lt r outside
 
-  due-step : (done : ℕ → Bool) (k : ℕ) (store : State) → IsDue (footprint m calls) (length calls) done k → Holds done store → IsStep m calls k store
-  unfolding Holds
-  due-step done k store due holds = is_stepping m calls is k due.within store (record {
+  -- before a call that is due the store has the right parts in its footprint
+  agrees : (done : ℕ → Bool) (k : ℕ) (store : State) → IsDue (footprint m calls) (length calls) done k → Holds done store → AgreesOn (footprint m calls k) (state_at m calls k) store
+  agrees done k store due holds = record {
     size = size-between m (state_at m calls k) store (size-at m calls k) holds.0;
     parts = λ r here. holds.1 r ∙ due_finds (footprint m calls) (part_at m calls) (length calls) done k r still due here;
-  })
+  }
+
+  due-step : (done : ℕ → Bool) (k : ℕ) (store : State) → IsDue (footprint m calls) (length calls) done k → Holds done store → IsStep m calls k store
+  due-step done k store due holds = is_stepping m calls is k due.within store (agrees done k store due holds)
 
   by_touch : (done : ℕ → Bool) (k : ℕ) (store : State) (r : Resource) → IsDue (footprint m calls) (length calls) done k → Holds done store → IsStep m calls k store → (b : Bool) → footprint m calls k r ≡ b
       → part_of (next store (call_at calls k)).1 r ≡ left_by (footprint m calls) (part_at m calls) (with_number k done) (length calls) r
-  unfolding Holds
   by_touch done k store r due holds step true touched = step.here.parts r touched ∙ sym (due_leaves (footprint m calls) (part_at m calls) (length calls) done k r due touched)
   by_touch done k store r due holds step false outside = step.elsewhere r outside ∙ holds.1 r ∙ sym (due_keeps (footprint m calls) (part_at m calls) (length calls) done k r outside)
 
   -- and so it is after the next call
   holds-next : (done : ℕ → Bool) (k : ℕ) (store : State) → IsDue (footprint m calls) (length calls) done k → Holds done store → Holds (with_number k done) (next store (call_at calls k)).1
-  unfolding Holds
   holds-next done k store due holds = (
     sized-then m store (next store (call_at calls k)).1 holds.0 (sized-next store (call_at calls k)),
     λ r. by_touch done k store r due holds (due-step done k store due holds) (footprint m calls k r) refl,
@@ -78,7 +79,6 @@ module _ (m : State) (calls : List Call) (is : IsLawful m) where
       ((due-step done k store due.0 holds).reply, alike-after ks (with_number k done) final (next store (call_at calls k)).1 due.1 (holds-next done k store due.0 holds))
 
   holds-first : Holds (λ j. false) m
-  unfolding Holds
   holds-first = (size-at m calls zero, λ r. sym (rest (footprint m calls) (part_at m calls) (λ j. false) (length calls) zero r (omega arith) (λ j le lt t. refl)))
 
   -- after the calls of an order those that come next answer what they answer in the trace's order
@@ -88,21 +88,13 @@ module _ (m : State) (calls : List Call) (is : IsLawful m) where
 
   -- a call that is due needs no more than its footprint
   needs-due : (done : ℕ → Bool) (k : ℕ) (store : State) → IsDue (footprint m calls) (length calls) done k → Holds done store → IsWithin (need store (call_at calls k)) (footprint m calls k)
-  unfolding Holds
   needs-due done k store due holds r needed =
-      let agrees : AgreesOn (footprint m calls k) (state_at m calls k) store = record {
-        size = size-between m (state_at m calls k) store (size-at m calls k) holds.0;
-        parts = λ r here. holds.1 r ∙ due_finds (footprint m calls) (part_at m calls) (length calls) done k r still due here;
-      } in
       let within : IsWithin (need (state_at m calls k) (call_at calls k)) (footprint m calls k) = has_needs m calls is k due.within in
-      within r (sym (need-merged (footprint m calls k) (state_at m calls k) store (call_at calls k) within r) ∙ ap (λ s. need s (call_at calls k) r) (merged-agrees (footprint m calls k) (state_at m calls k) store agrees) ∙ needed)
-
-  pub ready : (order : List ℕ) (done : ℕ → Bool) (k : ℕ) → IsTaken (footprint m calls) (length calls) (λ j. false) order done → IsDue (footprint m calls) (length calls) done k → IsWithin (need (after_order calls m order) (call_at calls k)) (footprint m calls k)
-  ready order done k taken due = needs-due done k (after_order calls m order) due (holds-after order (λ j. false) done m taken holds-first)
+      within r (sym (need-merged (footprint m calls k) (state_at m calls k) store (call_at calls k) within r)
+      ∙ ap (λ s. need s (call_at calls k) r) (merged-agrees (footprint m calls k) (state_at m calls k) store (agrees done k store due holds)) ∙ needed)
 
   -- where all are done, each resource is as the trace's order leaves it
   same-end : (final : ℕ → Bool) (store : State) → ((j : ℕ) → j < length calls → final j ≡ true) → Holds final store → store ≡ state_at m calls (length calls)
-  unfolding Holds
   same-end final store all holds =
       same-state (state_at m calls (length calls)) store (size-between m (state_at m calls (length calls)) store (size-at m calls (length calls)) holds.0)
       (λ r. holds.1 r ∙ all_done (footprint m calls) (part_at m calls) final (length calls) r (λ j lt t. all j lt) (λ j lt t. still j r lt t))
@@ -120,4 +112,4 @@ pub is_wave_order_free : IsWaveOrderFree
 is_wave_order_free m calls wave order is plan each = reordered m calls is order (by_waves (footprint m calls) wave (length calls) (λ k. false) order plan each)
 
 pub is_ready : IsReadiness
-is_ready m calls order done k is taken due = ready m calls is order done k taken due
+is_ready m calls order done k is taken due = needs-due m calls is done k (after_order calls m order) due (holds-after m calls is order (λ j. false) done m taken (holds-first m calls is))

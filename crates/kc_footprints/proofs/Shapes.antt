@@ -2,7 +2,8 @@
 use Rattle.std.proofs.Common.{◌≡◌, ℕ, suc, ◌+◌, ◌<◌, ◌≤◌, Bool, true, ◌&&◌, ◌||◌, nat_lt, List, refl, sym, subst, arith, inl, inr}
 use Rattle.std.specs.Prelude.{◌⊎◌, eqb, Option, Some, None, IfSome}
 use Rattle.std.proofs.Math.Nat.{eq-or-lt_of_le}
-use Rattle.std.proofs.lemmas.Bool.{and_from, and_parts, eq-eqb, eqb-true, lt-ltb, ltb-true, or_cases, or_left, or_right}
+use Rattle.std.proofs.lemmas.Bool.Decides.{nat_tests}
+use Rattle.std.proofs.lemmas.Bool.{and_from, and_parts, cases_Bool, eq-eqb, eqb-true, lt-ltb, ltb-true, or_cases, or_left, or_right}
 use Rattle.kc_types.specs.declared.resource.Resource.TheVariants as resource
 use Rattle.kc_model.specs.Resources.{Resource}
 use Rattle.kc_footprints.specs.declared.names.Gain.{Gain}
@@ -14,43 +15,27 @@ use Rattle.kc_footprints.proofs.Tracked.{Shape}
 -- the principal that a call names, and what it may have
 named_reach : (free : ℕ) (r : ℕ → ℕ → Bool) (slot : Option ℕ) (named : Bool) (p f : ℕ) → (is_at slot p || (named && eqb free p)) ≡ true → r p f ≡ true
     → (reach_of r slot f || (named && r free f)) ≡ true
-named_reach free r slot named p f h has =
-    elim (or_cases (is_at slot p) (named && eqb free p) h) [
-      | inl is ↦ or_left (reach_of r slot f) (named && r free f) (by_slot slot is)
-      | inr is ↦
-          let e : free ≡ p = eqb-true free p (and_parts named (eqb free p) is).1 in
-          let g : r free f ≡ true = subst (λ (x : ℕ). r x f ≡ true) (sym e) has in
-          or_right (reach_of r slot f) (named && r free f) (and_from named (r free f) (and_parts named (eqb free p) is).0 g)
-    ]
-  where
-    by_slot : (s : Option ℕ) → is_at s p ≡ true → reach_of r s f ≡ true
-    by_slot None h = cc
-    by_slot (Some v) h = let e : v ≡ p = eqb-true v p h in subst (λ (x : ℕ). r x f ≡ true) (sym e) has
+named_reach free r None named p f h has = grind (arith, nat_tests, cases_Bool named)
+named_reach free r (Some v) named p f h has = grind (arith, nat_tests, cases_Bool named, cases_Bool (r v f))
 
 -- and the other way round
 reach_named : (free : ℕ) (r : ℕ → ℕ → Bool) (slot : Option ℕ) (named : Bool) (f : ℕ) → (reach_of r slot f || (named && r free f)) ≡ true
     → (p : ℕ) × ((is_at slot p || (named && eqb free p)) ≡ true) × (r p f ≡ true)
-reach_named free r slot named f h =
-    elim (or_cases (reach_of r slot f) (named && r free f) h) [
-      | inl is ↦ by_slot slot is
-      | inr is ↦ (free, or_right (is_at slot free) (named && eqb free free) (and_from named (eqb free free) (and_parts named (r free f) is).0 (eq-eqb free free refl)), (and_parts named (r free f) is).1)
+reach_named free r None named f h = (free, grind (arith, nat_tests, cases_Bool named), grind (arith, cases_Bool named))
+reach_named free r (Some v) named f h =
+    elim (or_cases (r v f) (named && r free f) h) [
+      | inl is ↦ (v, or_left (eqb v v) (named && eqb free v) (eq-eqb v v refl), is)
+      | inr is ↦ (free, grind (arith, nat_tests, cases_Bool named), (and_parts named (r free f) is).1)
     ]
-  where
-    by_slot : (s : Option ℕ) → reach_of r s f ≡ true → (p : ℕ) × ((is_at s p || (named && eqb free p)) ≡ true) × (r p f ≡ true)
-    by_slot None h = cc
-    by_slot (Some v) h = (v, or_left (eqb v v) (named && eqb free v) (eq-eqb v v refl), h)
 
 gained : (free : ℕ) (r : ℕ → ℕ → Bool) (n : Names) (g : Gain) (p f : ℕ) → gains_by free r n g p f ≡ true
     → (names_principal free n p ≡ true) × (touched_by free r n (resource.Frame f) ≡ true)
 gained free r n Nothing p f h = cc
-gained free r n SlotTakesFrame p f h =
-    (or_left (is_at n.slot p) _ (and_parts (is_at n.slot p) (is_at n.frame f) h).0, or_left (is_at n.frame f) _ (and_parts (is_at n.slot p) (is_at n.frame f) h).1)
-gained free r n FreeTakesFrame p f h =
-    (or_right (is_at n.slot p) (n.free && eqb free p) (and_parts (n.free && eqb free p) (is_at n.frame f) h).0, or_left (is_at n.frame f) _ (and_parts (n.free && eqb free p) (is_at n.frame f) h).1)
-gained free r n FreeTakesReach p f h = (
-  or_right (is_at n.slot p) (n.free && eqb free p) (and_parts (n.free && eqb free p) (reach_of r n.slot f) h).0,
-  or_right (is_at n.frame f) (reach_of r n.slot f || (n.free && r free f)) (or_left (reach_of r n.slot f) (n.free && r free f) (and_parts (n.free && eqb free p) (reach_of r n.slot f) h).1),
-)
+gained free r n SlotTakesFrame p f h = let by = and_parts (is_at n.slot p) (is_at n.frame f) h in (or_left (is_at n.slot p) _ by.0, or_left (is_at n.frame f) _ by.1)
+gained free r n FreeTakesFrame p f h = let by = and_parts (n.free && eqb free p) (is_at n.frame f) h in (or_right (is_at n.slot p) _ by.0, or_left (is_at n.frame f) _ by.1)
+gained free r n FreeTakesReach p f h =
+    let by = and_parts (n.free && eqb free p) (reach_of r n.slot f) h in
+    (or_right (is_at n.slot p) _ by.0, or_right (is_at n.frame f) _ (or_left (reach_of r n.slot f) (n.free && r free f) by.1))
 
 module _ (free : ℕ) where
   slot_below : (o : Option ℕ) (p : ℕ) → IfSome o (λ v. v < free) → is_at o p ≡ true → p < free
@@ -68,29 +53,13 @@ module _ (free : ℕ) where
 
   module _ (n : Names) (low : IfSome n.slot (λ v. v < free)) where
     pub named_low : (p : ℕ) → names_principal free n p ≡ true → p < free + 1
-    named_low p is =
-        elim (or_cases (is_at n.slot p) (n.free && eqb free p) is) [
-          | inl at ↦ (let l = slot_below n.slot p low at in omega arith)
-          | inr at ↦ (let e : free ≡ p = eqb-true free p (and_parts n.free (eqb free p) at).1 in omega arith)
-        ]
+    named_low p is = grind (arith, nat_tests, slot_below n.slot p low, cases_Bool (is_at n.slot p), cases_Bool n.free)
 
     module _ (reach : ℕ → ℕ → Bool) where
       by_part : (p : ℕ) (r : Resource) → names_principal free n p ≡ true → has_part free reach p r ≡ true → touched_by free reach n r ≡ true
       by_part p (resource.Frame f) named h = or_right (is_at n.frame f) (reach_of reach n.slot f || (n.free && reach free f)) (named_reach free reach n.slot n.free p f named h)
-      by_part p (resource.Vm v) named h =
-          let both = and_parts (eqb p v) (nat_lt v free) h in
-          let same : p ≡ v = eqb-true p v both.0 in
-          let less = ltb-true v free both.1 in
-          elim (or_cases (is_at n.slot p) (n.free && eqb free p) named) [
-            | inl at ↦ subst (λ (x : ℕ). is_at n.slot x ≡ true) same at
-            | inr at ↦ (let e : free ≡ p = eqb-true free p (and_parts n.free (eqb free p) at).1 in absurd (omega arith))
-          ]
-      by_part p resource.Free named h =
-          let same : free ≡ p = eqb-true free p h in
-          elim (or_cases (is_at n.slot p) (n.free && eqb free p) named) [
-            | inl at ↦ (let less = slot_below n.slot p low at in absurd (omega arith))
-            | inr at ↦ (and_parts n.free (eqb free p) at).0
-          ]
+      by_part p (resource.Vm v) named h = grind (arith, nat_tests, cases_Bool (is_at n.slot p), cases_Bool n.free)
+      by_part p resource.Free named h = grind (arith, nat_tests, slot_below n.slot p low, cases_Bool (is_at n.slot p), cases_Bool n.free)
 
       named_or_part : (r : Resource) → touched_by free reach n r ≡ true → ((f : ℕ) × (r ≡ resource.Frame f) × (is_at n.frame f ≡ true)) ⊎ ((p : ℕ) × (names_principal free n p ≡ true) × (has_part free reach p r ≡ true))
       named_or_part (resource.Frame f) h =

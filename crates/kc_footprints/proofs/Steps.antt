@@ -2,6 +2,8 @@
 use Rattle.std.proofs.Common.{◌≡◌, ℕ, zero, suc, ◌+◌, ◌-◌, ◌<◌, ◌≤◌, Bool, true, false, cond, refl, ap, arith, inl, inr}
 use Rattle.std.specs.Prelude.{◌⊎◌}
 use Rattle.std.proofs.Math.Nat.{eq-or-lt_of_le}
+use Rattle.std.proofs.lemmas.Bool.{cases_Bool}
+use Rattle.std.proofs.lemmas.Bool.Decides.{nat_tests}
 use Rattle.kc_waves.specs.Planned.{ComesJustAfter}
 use Rattle.kc_types.specs.declared.resource.Resource.TheVariants.{Frame}
 use Rattle.kc_model.specs.Resources.{Resource}
@@ -69,15 +71,9 @@ module _ (names_frame names_principal : ℕ → ℕ → Bool) (has : ℕ → ℕ
     bound : (name : ℕ → Bool) (before after : ℕ) → after ≡ cond (name k) w before → ((j : ℕ) → j < k → name j ≡ true → wave j ≤ before) → ((j : ℕ) → j < k → name j ≡ true → name k ≡ true → wave j < wave k)
         → (j : ℕ) → j < suc k → name j ≡ true → wave j ≤ after
     bound name before after now old rise j low nj =
-        let step : j ≤ k = omega arith in
-        elim (eq-or-lt_of_le step) [
-          | inl same ↦ (let yes : name k ≡ true = rw same at nj in let x : wave j ≡ wave k = ap wave same in let e = rw yes at now in omega arith)
-          | inr below ↦ earlier below (name k) refl
-        ]
-      where
-        earlier : j < k → (b : Bool) → name k ≡ b → wave j ≤ after
-        earlier below true nk = let e = rw nk at now in let x = rise j below nj nk in omega arith
-        earlier below false nk = let e = rw nk at now in let x = old j below nj in omega arith
+        let earlier : j < k → wave j ≤ before = λ below. old j below nj in
+        let raised : j < k → name k ≡ true → wave j < wave k = λ below. rise j below nj in
+        grind (arith, cases_Bool (name k))
 
     frame_bound : (j f : ℕ) → j < suc k → names_frame j f ≡ true → wave j ≤ frame_wave t f
     frame_bound j f = bound (λ i. names_frame i f) (frame_wave s f) (frame_wave t f) (noted.frame_is f) (λ i. tracked.frame_bound i f) (λ i low ni nk. planned.above i (Frame f) low (shape.by_name i f ni) (shape.by_name k f nk)) j

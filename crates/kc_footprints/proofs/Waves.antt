@@ -1,8 +1,8 @@
 -- The waves of the planner are those of the definitions.
 use Rattle.std.proofs.Common.{◌≡◌, ℕ, suc, ◌<◌, List, [], ◌∷◌, length, map, refl, ap, arith}
-use Rattle.std.specs.Prelude.{IfSome, Option, Some, None}
-use Rattle.std.proofs.lemmas.Bool.Decides.{nat_tests}
-use Rattle.std.specs.Prelude.{Bool, true, false, nat_lt, cond}
+use Rattle.std.specs.Prelude.{Bool, true, false, nat_lt, cond, IfSome, Option, Some, None}
+use Rattle.std.proofs.lemmas.Bool.{cond_both, ltb-true}
+use Rattle.std.proofs.lemmas.List.{length-map}
 use Rattle.kc_waves.specs.Planned.{ComesJustAfter}
 use Rattle.kc_waves.proofs.Plans.{is_plan}
 use Rattle.kc_types.specs.Configuration.{Configuration, slot_count}
@@ -19,20 +19,12 @@ use Rattle.kc_footprints.proofs.Carried.{names_are, carried}
 
 pub below_low : (n : ℕ) (o : Option ℕ) → IfSome (below n o) (λ x. x < n)
 below_low n None = tt
-below_low n (Some x) = by (nat_lt x n) refl
-  where
-    by : (b : Bool) → nat_lt x n ≡ b → IfSome (cond b (Some x) None) (λ y. y < n)
-    by true e = grind (arith, nat_tests)
-    by false e = tt
-
-pub length_names : (config : Configuration) (calls : List Call) → length (map (names_of config) calls) ≡ length calls
-length_names config [] = refl
-length_names config (c ∷ cs) = ap suc (length_names config cs)
+below_low n (Some x) = cond_both (nat_lt x n) (Some x) None (λ o. IfSome o (λ y. y < n)) (λ less. ltb-true x n less) (λ past. tt)
 
 -- the numbers that calls name are there
 pub names_range : (config : Configuration) (calls : List Call) (k : ℕ) → k < length (map (names_of config) calls) → IsInRange config.frames (slot_count config) (names_at (map (names_of config) calls) k)
 names_range config calls k low =
-    let below_calls : k < length calls = rw (length_names config calls) at low in
+    let below_calls : k < length calls = rw (length-map calls (names_of config)) at low in
     rw (names_are config calls k below_calls) record { frame = below_low config.frames (named_frame (call_at calls k)); slot = below_low (slot_count config) (slot_of (call_at calls k)) }
 
 pub waves_are : (m : State) (calls : List Call) (pairs : List (ℕ × ℕ)) (wave : ℕ → ℕ) → IsOwned m pairs
@@ -40,4 +32,4 @@ pub waves_are : (m : State) (calls : List Call) (pairs : List (ℕ × ℕ)) (wav
     → IsWaves m calls wave
 waves_are m calls pairs wave owned each =
     is_plan (footprint m calls) wave (λ k r. r) (length calls)
-    (λ k low. carried m calls pairs owned wave k low (each k (let e = length_names m.config calls in rw e low)))
+    (λ k low. carried m calls pairs owned wave k low (each k (rw (length-map calls (names_of m.config)) low)))

@@ -5,7 +5,7 @@ use Rattle.kc_model.specs.Resources.{Resource}
 use Rattle.kc_types.specs.declared.resource.Resource.TheVariants as resource
 use Rattle.std.specs.List.{IsDistinct, filter}
 use Rattle.kc_footprints.specs.declared.names.Names.{Names}
-use Rattle.kc_footprints.specs.Reach.{has_member, is_at, may_have, names_at}
+use Rattle.kc_footprints.specs.Reach.{has_member, is_at, reach_of, may_have, names_at}
 use Rattle.kc_footprints.specs.declared.rows.Row.{Row}
 use Rattle.kc_footprints.specs.declared.rows.Span.{Span}
 
@@ -65,13 +65,21 @@ frames_of sets frame other s = map resource.Frame (numbers_of sets frame other s
 abbrev pub frame_part : Option ℕ → List Resource
 frame_part frame = map resource.Frame (option_to_list frame)
 
+abbrev pub principal_part : List (List ℕ) → (Span → Resource) → Option ℕ → Option Span → Option Span → List Resource
+principal_part sets itself frame other None = []
+principal_part sets itself frame other (Some s) = itself s ∷ frames_of sets frame other s
+
+abbrev pub slot_itself : Span → Resource
+slot_itself s = resource.Vm s.principal
+
 abbrev pub slot_part : List (List ℕ) → Option ℕ → Option Span → List Resource
-slot_part sets frame None = []
-slot_part sets frame (Some s) = resource.Vm s.principal ∷ frames_of sets frame None s
+slot_part sets frame slot = principal_part sets slot_itself frame None slot
+
+abbrev pub free_itself : Span → Resource
+free_itself s = resource.Free
 
 abbrev pub free_part : List (List ℕ) → Option ℕ → Option Span → Option Span → List Resource
-free_part sets frame slot None = []
-free_part sets frame slot (Some s) = resource.Free ∷ frames_of sets frame slot s
+free_part sets frame slot free = principal_part sets free_itself frame slot free
 
 -- all that a principal may have
 abbrev pub span_of : List (List ℕ) → ℕ → Span
@@ -85,11 +93,11 @@ abbrev pub row_of : List (List ℕ) → ℕ → Names → Row
 row_of sets free n = record { frame = n.frame; slot = option_map (span_of sets) n.slot; free = option_map (span_of sets) (free_of free n) }
 
 -- the span is that of the principal, where there is one, and its frames are those that the principal may have by `before`
-abbrev pub IsSpanOf : List (List ℕ) → (ℕ → ℕ → Bool) → Option ℕ → Option Span → Type 0
-IsSpanOf sets before None None = Unit {0}
-IsSpanOf sets before None (Some s) = ⊥
-IsSpanOf sets before (Some p) None = ⊥
-IsSpanOf sets before (Some p) (Some s) = (s.principal ≡ p) × IsSpan sets s × ((f : ℕ) → has_frame sets (Some s) f ≡ before p f)
+pub record IsSpanOf (sets : List (List ℕ)) (before : ℕ → ℕ → Bool) (o : Option ℕ) (span : Option Span) : Type 0 where
+  pub there : is_some span ≡ is_some o
+  pub principal : (p : ℕ) → is_of span p ≡ is_at o p
+  pub frames : (f : ℕ) → has_frame sets span f ≡ reach_of before o f
+  pub within : IfSome span (IsSpan sets)
 
 -- the row says what a call of these names touches, where `before` says what principals may have before it
 pub record IsRowOf (end : ℕ) (before : ℕ → ℕ → Bool) (n : Names) (sets : List (List ℕ)) (row : Row) : Type 0 where

@@ -137,6 +137,7 @@ impl Footprints {
     }
 
     /// Whether a frame is among the first of what a principal may have.
+    #[tactic(auto, using(crate::proofs::Listed::places))]
     fn has(&self, span: Option<Span>, frame: u32) -> bool
         requires { IfSome span (λ s. IsSpan self.now.sets s) }
         ensures { result ≡ has_frame self.now.sets span frame }

@@ -13,4 +13,4 @@ returns-clause-members c = λ r.
 pub returns-clause-once : goal.returns-clause-once
 returns-clause-once c =
     let is : c.list_free.new.footprint.items ≡ row_items c.args.self.now.sets c.row-row.result = grind (arith, common_steps) in
-    rw is (members_once c.args.self.now.sets c.row-row.result c.row-row.ensures.row c.row-row.ensures.once)
+    rw is (members_once c.args.self.now.sets c.row-row.result c.row-row.ensures.once)
