@@ -1,5 +1,5 @@
 -- The law of waves, over the footprints of a trace.
-use Rattle.std.proofs.Common.{ℕ, ◌<◌, ◌≤◌, arith, length}
+use Rattle.std.proofs.Common.{arith, length}
 use Rattle.kc_model.specs.Resources.{need}
 use Rattle.kc_model.specs.Linked.{linked_part_at}
 use Rattle.kc_model.specs.Footprints.{call_at, state_at, part_at, footprint}

@@ -1,7 +1,7 @@
--- The rows say what the definitions say.
-use Rattle.std.proofs.Common.{◌≡◌, ℕ, ◌+◌, ◌<◌, ◌≤◌, Bool, true, false, ◌&&◌, ap, List, [], length, map, get_or, refl, sym, ◌∙◌, subst, arith}
+-- Footprints say what the definitions say.
+use Rattle.std.proofs.Common.{◌≡◌, ℕ, ◌+◌, ◌<◌, ◌≤◌, Bool, true, ◌&&◌, List, [], length, map, get_or, refl, sym, ◌∙◌, subst, arith}
 use Rattle.std.specs.List.{IsDistinct}
-use Rattle.std.specs.Prelude.{eqb, Option, Some, None, IfSome, is_some, if◌then◌else◌}
+use Rattle.std.specs.Prelude.{eqb, Option, Some, None, IfSome, is_some}
 use Rattle.std.proofs.lemmas.Bool.Decides.{nat_tests}
 use Rattle.std.proofs.lemmas.Bool.{cond_both, eq-eqb}
 use Rattle.std.proofs.lemmas.List.{length-map}
@@ -14,13 +14,13 @@ use Rattle.kc_model.specs.State.{State}
 use Rattle.kc_model.specs.Resources.{Resource}
 use Rattle.kc_model.specs.Footprints.{footprint}
 use Rattle.kc_footprints.specs.declared.names.Names.{Names}
-use Rattle.kc_footprints.specs.declared.rows.Row.{Row}
-use Rattle.kc_footprints.specs.declared.rows.Span.{Span}
+use Rattle.kc_footprints.specs.declared.footprints.Footprint.{Footprint}
+use Rattle.kc_footprints.specs.declared.footprints.Span.{Span}
 use Rattle.kc_footprints.specs.Naming.{names_of}
-use Rattle.kc_footprints.specs.Reach.{has_member, is_at, reach_of, may_have, names_at, touches}
+use Rattle.kc_footprints.specs.Reach.{has_member, reach_of, may_have, names_at, touches}
 use Rattle.kc_footprints.specs.Owned.{IsOwned}
 use Rattle.kc_footprints.specs.Planner.{has_pair, HaveFramesBelow}
-use Rattle.kc_footprints.specs.Rows.{has_frame, is_of, row_touches, no_row, free_of, IsSpan, IsSpanOf, IsRow, IsRowOf, AreRowsOf, AreRows}
+use Rattle.kc_footprints.specs.Spans.{footprint_has, no_footprint, free_of, IsSpanOf, IsThere, IsFootprintOf, AreFootprintsOf, AreThere}
 use Rattle.kc_footprints.proofs.Existing.{may_have_low}
 use Rattle.kc_footprints.proofs.Carried.{touches_is}
 use Rattle.kc_footprints.proofs.Waves.{names_range}
@@ -31,17 +31,17 @@ span_low sets before n (Some p) (Some s) low few is = grind (arith, nat_tests, i
 span_low sets before n None (Some s) low few is = let none = is.there in cc
 span_low sets before n o None low few is = tt
 
-module _ (config : Configuration) (calls : List Call) (pairs : List (ℕ × ℕ)) (sets : List (List ℕ)) (rows : List Row)
-    (are : AreRowsOf (slot_count config) (has_pair pairs) (map (names_of config) calls) sets rows) (count : length rows ≡ length calls) where
+module _ (config : Configuration) (calls : List Call) (pairs : List (ℕ × ℕ)) (sets : List (List ℕ)) (kept : List Footprint)
+    (are : AreFootprintsOf (slot_count config) (has_pair pairs) (map (names_of config) calls) sets kept) (count : length kept ≡ length calls) where
   frame_low : (n : ℕ) → n ≤ frame_limit → (o p : Option ℕ) → p ≡ o → IfSome o (λ f. f < n) → IfSome p (λ f. f < frame_limit)
   frame_low n few o None e low = tt
   frame_low n few o (Some f) e low = let l : f < n = subst (λ (q : Option ℕ). IfSome q (λ x. x < n)) (sym e) low in omega arith
 
-  -- the rows have only numbers of what can be, each once
-  pub rows_are : HaveFramesBelow config.frames pairs → config.frames ≤ frame_limit → slot_count config ≤ slot_limit → length sets ≡ slot_count config + 1
+  -- the footprints have only numbers of what can be, each once
+  pub are_there : HaveFramesBelow config.frames pairs → config.frames ≤ frame_limit → slot_count config ≤ slot_limit → length sets ≡ slot_count config + 1
       → ((p f : ℕ) → has_member (get_or sets p []) f ≡ may_have (slot_count config) (has_pair pairs) (map (names_of config) calls) (length (map (names_of config) calls)) p f)
-      → ((p : ℕ) → IsDistinct eqb (get_or sets p [])) → AreRows sets rows
-  rows_are exist frames slots size same once = record { low = low; once = once; each = each }
+      → ((p : ℕ) → IsDistinct eqb (get_or sets p [])) → AreThere sets kept
+  are_there exist frames slots size same once = record { low = low; once = once; each = each }
     where
       low : (p i : ℕ) → i < length (get_or sets p []) → get_or (get_or sets p []) i 0 < frame_limit
       low p i under =
@@ -52,27 +52,27 @@ module _ (config : Configuration) (calls : List Call) (pairs : List (ℕ × ℕ)
           (get_or (get_or sets p []) i 0) (omega arith) (sym (same p (get_or (get_or sets p []) i 0)) ∙ in_set) in
           omega arith
 
-      each : (k : ℕ) → k < length rows → IsRow sets (get_or rows k no_row)
+      each : (k : ℕ) → k < length kept → IsThere sets (get_or kept k no_footprint)
       each k under =
           let is = are k under in
-          let row : Row = get_or rows k no_row in
+          let found : Footprint = get_or kept k no_footprint in
           let n : Names = names_at (map (names_of config) calls) k in
           let before = may_have (slot_count config) (has_pair pairs) (map (names_of config) calls) k in
           let range = names_range config calls k (let e = length-map calls (names_of config) in omega arith) in
           record {
-            frame = frame_low config.frames frames n.frame row.frame is.frame range.frame;
+            frame = frame_low config.frames frames n.frame found.frame is.frame range.frame;
             slot = is.slot.within;
-            slot_low = span_low sets before (slot_count config) n.slot row.slot range.slot slots is.slot;
+            slot_low = span_low sets before (slot_count config) n.slot found.slot range.slot slots is.slot;
             free = is.free.within;
           }
 
--- a row is the call's footprint
-pub row_touches_is : (m : State) (calls : List Call) (pairs : List (ℕ × ℕ)) → IsOwned m pairs → (sets : List (List ℕ)) (rows : List Row)
-    → AreRowsOf (slot_count m.config) (has_pair pairs) (map (names_of m.config) calls) sets rows → length rows ≡ length calls
-    → (k : ℕ) (x : Resource) → k < length calls → row_touches sets (get_or rows k no_row) x ≡ footprint m calls k x
-row_touches_is m calls pairs owned sets rows are count k x low = by x ∙ touches_is m calls pairs owned k x low
+-- a footprint is the call's
+pub footprint_is : (m : State) (calls : List Call) (pairs : List (ℕ × ℕ)) → IsOwned m pairs → (sets : List (List ℕ)) (kept : List Footprint)
+    → AreFootprintsOf (slot_count m.config) (has_pair pairs) (map (names_of m.config) calls) sets kept → length kept ≡ length calls
+    → (k : ℕ) (x : Resource) → k < length calls → footprint_has sets (get_or kept k no_footprint) x ≡ footprint m calls k x
+footprint_is m calls pairs owned sets kept are count k x low = by x ∙ touches_is m calls pairs owned k x low
   where
-    is : IsRowOf (slot_count m.config) (may_have (slot_count m.config) (has_pair pairs) (map (names_of m.config) calls) k) (names_at (map (names_of m.config) calls) k) sets (get_or rows k no_row)
+    is : IsFootprintOf (slot_count m.config) (may_have (slot_count m.config) (has_pair pairs) (map (names_of m.config) calls) k) (names_at (map (names_of m.config) calls) k) sets (get_or kept k no_footprint)
     is = are k (rw count low)
 
     n : Names
@@ -85,7 +85,7 @@ row_touches_is m calls pairs owned sets rows are count k x low = by x ∙ touche
     free_reach f =
         cond_both n.free (Some (slot_count m.config)) None (λ o. reach_of before o f ≡ (n.free && before (slot_count m.config) f)) (λ yes. rw yes refl) (λ no. rw no refl)
 
-    by : (x : Resource) → row_touches sets (get_or rows k no_row) x ≡ touches (slot_count m.config) (has_pair pairs) (map (names_of m.config) calls) k x
+    by : (x : Resource) → footprint_has sets (get_or kept k no_footprint) x ≡ touches (slot_count m.config) (has_pair pairs) (map (names_of m.config) calls) k x
     by (resource.Frame f) = rw (is.frame, is.slot.frames f, is.free.frames f, free_reach f) refl
     by (resource.Vm v) = is.slot.principal v
     by resource.Free = is.free.there ∙ cond_both n.free (Some (slot_count m.config)) None (λ o. is_some o ≡ n.free) (λ yes. sym yes) (λ no. sym no)

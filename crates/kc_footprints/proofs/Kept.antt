@@ -1,14 +1,14 @@
--- Rows keep what calls touch while principals get more.
-use Rattle.std.proofs.Common.{◌≡◌, ℕ, ◌+◌, ◌<◌, Bool, true, false, List, [], ◌∷◌, ◌++◌, length, get_or, refl, sym, ◌∙◌, ap, subst, arith, inl, inr}
-use Rattle.std.specs.Prelude.{Option, Some, None, IfSome, option_map, if◌then◌else◌}
+-- Footprints stay what they are while principals get more.
+use Rattle.std.proofs.Common.{◌≡◌, ℕ, ◌+◌, ◌<◌, Bool, List, [], ◌∷◌, ◌++◌, length, get_or, refl, sym, ◌∙◌, ap, subst, arith, inl, inr}
+use Rattle.std.specs.Prelude.{Option, Some, None, IfSome, option_map}
 use Rattle.std.proofs.lemmas.Bool.{cases_lt, cond_both}
 use Rattle.std.proofs.lemmas.List.{get_or_append_left, get_or_push, length_push, take_all}
 use Rattle.kc_footprints.specs.declared.names.Names.{Names}
-use Rattle.kc_footprints.specs.declared.rows.Row.{Row}
-use Rattle.kc_footprints.specs.declared.rows.Span.{Span}
+use Rattle.kc_footprints.specs.declared.footprints.Footprint.{Footprint}
+use Rattle.kc_footprints.specs.declared.footprints.Span.{Span}
 use Rattle.kc_footprints.specs.Reach.{has_member, may_have, names_at}
 use Rattle.kc_footprints.specs.Planner.{Reached, members_of, IsGrown}
-use Rattle.kc_footprints.specs.Rows.{IsSpanOf, IsRowOf, AreRowsOf, free_of, span_of, row_of, no_row}
+use Rattle.kc_footprints.specs.Spans.{IsSpanOf, IsFootprintOf, AreFootprintsOf, free_of, span_of, footprint_of, no_footprint}
 
 module _ (a b : Reached) (grown : IsGrown a b) (size : length b.sets ≡ length a.sets) (before : ℕ → ℕ → Bool) where
   span_kept : (o : Option ℕ) (span : Option Span) → IsSpanOf a.sets before o span → IsSpanOf b.sets before o span
@@ -22,8 +22,8 @@ module _ (a b : Reached) (grown : IsGrown a b) (size : length b.sets ≡ length 
         within = record { principal = rw size is.within.principal; within = front.0 };
       }
 
-  row_kept : (free : ℕ) (n : Names) (row : Row) → IsRowOf free before n a.sets row → IsRowOf free before n b.sets row
-  row_kept free n row is = record { frame = is.frame; slot = span_kept n.slot row.slot is.slot; free = span_kept (free_of free n) row.free is.free }
+  footprint_kept : (free : ℕ) (n : Names) (footprint : Footprint) → IsFootprintOf free before n a.sets footprint → IsFootprintOf free before n b.sets footprint
+  footprint_kept free n footprint is = record { frame = is.frame; slot = span_kept n.slot footprint.slot is.slot; free = span_kept (free_of free n) footprint.free is.free }
 
 module _ (free : ℕ) (before : ℕ → ℕ → Bool) (sets : List (List ℕ)) (same : (p f : ℕ) → has_member (get_or sets p []) f ≡ before p f) (size : length sets ≡ free + 1) where
   span_new : (o : Option ℕ) → IfSome o (λ p. p < length sets) → IsSpanOf sets before o (option_map (span_of sets) o)
@@ -35,8 +35,8 @@ module _ (free : ℕ) (before : ℕ → ℕ → Bool) (sets : List (List ℕ)) (
     within = record { principal = low; within = omega arith };
   }
 
-  row_new : (n : Names) → IfSome n.slot (λ v. v < free) → IsRowOf free before n sets (row_of sets free n)
-  row_new n low = record { frame = refl; slot = span_new n.slot (slot_low n.slot low); free = span_new (free_of free n) free_low }
+  footprint_new : (n : Names) → IfSome n.slot (λ v. v < free) → IsFootprintOf free before n sets (footprint_of sets free n)
+  footprint_new n low = record { frame = refl; slot = span_new n.slot (slot_low n.slot low); free = span_new (free_of free n) free_low }
     where
       slot_low : (o : Option ℕ) → IfSome o (λ v. v < free) → IfSome o (λ v. v < length sets)
       slot_low None low = tt
@@ -46,22 +46,22 @@ module _ (free : ℕ) (before : ℕ → ℕ → Bool) (sets : List (List ℕ)) (
       free_low = cond_both n.free (Some free) None (λ o. IfSome o (λ p. p < length sets)) (λ yes. omega arith) (λ no. tt)
 
 -- one call more
-pub rows_more : (free : ℕ) (start : ℕ → ℕ → Bool) (cs : List Names) (a b : Reached) (rows more : List Row) (n : Names) → n ≡ names_at cs (length rows) → IfSome n.slot (λ v. v < free)
-    → ((p f : ℕ) → has_member (members_of a p) f ≡ may_have free start cs (length rows) p f)
-    → length a.sets ≡ free + 1 → length b.sets ≡ free + 1 → IsGrown a b → more ≡ rows ++ row_of a.sets free n ∷ []
-    → AreRowsOf free start cs a.sets rows → AreRowsOf free start cs b.sets more
-rows_more free start cs a b rows more n is low same size_a size_b grown pushed so_far = rw pushed each
+pub footprints_more : (free : ℕ) (start : ℕ → ℕ → Bool) (cs : List Names) (a b : Reached) (footprints more : List Footprint) (n : Names) → n ≡ names_at cs (length footprints) → IfSome n.slot (λ v. v < free)
+    → ((p f : ℕ) → has_member (members_of a p) f ≡ may_have free start cs (length footprints) p f)
+    → length a.sets ≡ free + 1 → length b.sets ≡ free + 1 → IsGrown a b → more ≡ footprints ++ footprint_of a.sets free n ∷ []
+    → AreFootprintsOf free start cs a.sets footprints → AreFootprintsOf free start cs b.sets more
+footprints_more free start cs a b footprints more n is low same size_a size_b grown pushed so_far = rw pushed each
   where
-    each : (k : ℕ) → k < length (rows ++ row_of a.sets free n ∷ []) → IsRowOf free (may_have free start cs k) (names_at cs k) b.sets (get_or (rows ++ row_of a.sets free n ∷ []) k no_row)
+    each : (k : ℕ) → k < length (footprints ++ footprint_of a.sets free n ∷ []) → IsFootprintOf free (may_have free start cs k) (names_at cs k) b.sets (get_or (footprints ++ footprint_of a.sets free n ∷ []) k no_footprint)
     each k under =
-        let len = length_push rows (row_of a.sets free n) in
-        elim (cases_lt k (length rows)) [
+        let len = length_push footprints (footprint_of a.sets free n) in
+        elim (cases_lt k (length footprints)) [
           | inl old ↦
-              rw (get_or_append_left rows (row_of a.sets free n ∷ []) no_row k old) (row_kept a b grown (size_b ∙ sym size_a) (may_have free start cs k) free (names_at cs k) (get_or rows k no_row) (so_far k old))
+              rw (get_or_append_left footprints (footprint_of a.sets free n ∷ []) no_footprint k old) (footprint_kept a b grown (size_b ∙ sym size_a) (may_have free start cs k) free (names_at cs k) (get_or footprints k no_footprint) (so_far k old))
           | inr past ↦
-              (let e : length rows ≡ k = omega arith in
-              subst (λ (x : ℕ). IsRowOf free (may_have free start cs x) (names_at cs x) b.sets (get_or (rows ++ row_of a.sets free n ∷ []) x no_row)) e
-              (rw (get_or_push rows (row_of a.sets free n) no_row (length rows) refl, sym is)
-              (row_kept a b grown (size_b ∙ sym size_a) (may_have free start cs (length rows)) free n (row_of a.sets free n)
-              (row_new free (may_have free start cs (length rows)) a.sets same size_a n low))))
+              (let e : length footprints ≡ k = omega arith in
+              subst (λ (x : ℕ). IsFootprintOf free (may_have free start cs x) (names_at cs x) b.sets (get_or (footprints ++ footprint_of a.sets free n ∷ []) x no_footprint)) e
+              (rw (get_or_push footprints (footprint_of a.sets free n) no_footprint (length footprints) refl, sym is)
+              (footprint_kept a b grown (size_b ∙ sym size_a) (may_have free start cs (length footprints)) free n (footprint_of a.sets free n)
+              (footprint_new free (may_have free start cs (length footprints)) a.sets same size_a n low))))
         ]

@@ -1,6 +1,6 @@
 -- What a footprint lists.
 use Rattle.std.proofs.Common.{◌≡◌, ℕ, zero, suc, ◌+◌, ◌<◌, ◌≤◌, Bool, true, false, not, ◌&&◌, ◌||◌, cond, nat_lt, List, [], ◌∷◌, ◌++◌, length, map, take, get_or, refl, sym, ◌∙◌, ap, arith}
-use Rattle.std.specs.Prelude.{eqb, Option, Some, None, IfSome, is_some, option_to_list, position}
+use Rattle.std.specs.Prelude.{eqb, Option, Some, None, is_some, option_to_list}
 use Rattle.std.specs.List.{AllByRecursion, IsDistinct, filter, list_any, position_or_len}
 use Rattle.std.proofs.lemmas.Bool.{eqb-true, eq-eqb, and_right, cases_Bool, cond_both, or_parts, or_from, or_left, or_right}
 use Rattle.std.proofs.Math.Bool.{or-false}
@@ -14,10 +14,10 @@ use Rattle.std.proofs.lemmas.Map.Views.{any-filter_same}
 use Rattle.indexmap.proofs.MapLemmas.{distinct-take}
 use Rattle.kc_types.specs.declared.resource.Resource.TheVariants as resource
 use Rattle.kc_model.specs.Resources.{Resource, is_wanted, same_resource}
-use Rattle.kc_footprints.specs.declared.rows.Row.{Row}
-use Rattle.kc_footprints.specs.declared.rows.Span.{Span}
+use Rattle.kc_footprints.specs.declared.footprints.Footprint.{Footprint}
+use Rattle.kc_footprints.specs.declared.footprints.Span.{Span}
 use Rattle.kc_footprints.specs.Reach.{has_member, is_at}
-use Rattle.kc_footprints.specs.Rows.{has_frame, is_of, row_touches, numbers_of, frames_of, frame_part, principal_part, slot_part, slot_itself, free_part, free_itself}
+use Rattle.kc_footprints.specs.Spans.{has_frame, is_of, footprint_has, numbers_of, frames_of, frame_part, principal_part, slot_part, slot_itself, free_part, free_itself}
 
 -- whether the first n hold f, by the place of f
 pub first_by_place : (xs : List ℕ) (f n : ℕ) → n ≤ length xs → has_member (take n xs) f ≡ nat_lt (position_or_len (eqb f) xs) n
@@ -133,48 +133,48 @@ module _ (sets : List (List ℕ)) where
       once_cons (itself s) (frames_of sets frame other s) (frames_wanted (numbers_of sets frame other s) (itself s) ∙ no_frame s (numbers_of sets frame other s))
       (once_frames (λ f. not (is_at frame f || has_frame sets other f)) (take s.length (get_or sets s.principal [])) front)
 
-  module _ (row : Row) where
+  module _ (footprint : Footprint) where
     abbrev first : List Resource
-    first = frame_part row.frame ++ slot_part sets row.frame row.slot
+    first = frame_part footprint.frame ++ slot_part sets footprint.frame footprint.slot
 
-    abbrev pub row_items : List Resource
-    row_items = first ++ free_part sets row.frame row.slot row.free
+    abbrev pub footprint_items : List Resource
+    footprint_items = first ++ free_part sets footprint.frame footprint.slot footprint.free
 
-    slot_has : (f : ℕ) → is_wanted (slot_part sets row.frame row.slot) (resource.Frame f) ≡ (not (is_at row.frame f || false) && has_frame sets row.slot f)
-    slot_has f = part_has slot_itself (λ s g. refl) row.frame None row.slot f
+    slot_has : (f : ℕ) → is_wanted (slot_part sets footprint.frame footprint.slot) (resource.Frame f) ≡ (not (is_at footprint.frame f || false) && has_frame sets footprint.slot f)
+    slot_has f = part_has slot_itself (λ s g. refl) footprint.frame None footprint.slot f
 
-    free_has : (f : ℕ) → is_wanted (free_part sets row.frame row.slot row.free) (resource.Frame f) ≡ (not (is_at row.frame f || has_frame sets row.slot f) && has_frame sets row.free f)
-    free_has f = part_has free_itself (λ s g. refl) row.frame row.slot row.free f
+    free_has : (f : ℕ) → is_wanted (free_part sets footprint.frame footprint.slot footprint.free) (resource.Frame f) ≡ (not (is_at footprint.frame f || has_frame sets footprint.slot f) && has_frame sets footprint.free f)
+    free_has f = part_has free_itself (λ s g. refl) footprint.frame footprint.slot footprint.free f
 
-    first_has : (r : Resource) → is_wanted first r ≡ (is_wanted (frame_part row.frame) r || is_wanted (slot_part sets row.frame row.slot) r)
-    first_has r = list_any-append (same_resource r) (frame_part row.frame) (slot_part sets row.frame row.slot)
+    first_has : (r : Resource) → is_wanted first r ≡ (is_wanted (frame_part footprint.frame) r || is_wanted (slot_part sets footprint.frame footprint.slot) r)
+    first_has r = list_any-append (same_resource r) (frame_part footprint.frame) (slot_part sets footprint.frame footprint.slot)
 
-    -- just what the row touches
-    pub members_are : (r : Resource) → is_wanted row_items r ≡ row_touches sets row r
-    members_are r = list_any-append (same_resource r) first (free_part sets row.frame row.slot row.free) ∙ ap (λ b. b || is_wanted (free_part sets row.frame row.slot row.free) r) (first_has r) ∙ by r
+    -- just what the footprint has
+    pub members_are : (r : Resource) → is_wanted footprint_items r ≡ footprint_has sets footprint r
+    members_are r = list_any-append (same_resource r) first (free_part sets footprint.frame footprint.slot footprint.free) ∙ ap (λ b. b || is_wanted (free_part sets footprint.frame footprint.slot footprint.free) r) (first_has r) ∙ by r
       where
-        by : (r : Resource) → ((is_wanted (frame_part row.frame) r || is_wanted (slot_part sets row.frame row.slot) r) || is_wanted (free_part sets row.frame row.slot row.free) r) ≡ row_touches sets row r
-        by (resource.Frame f) = rw (frame_has row.frame f, slot_has f, free_has f) (grind (arith, cases_Bool (is_at row.frame f), cases_Bool (has_frame sets row.slot f)))
+        by : (r : Resource) → ((is_wanted (frame_part footprint.frame) r || is_wanted (slot_part sets footprint.frame footprint.slot) r) || is_wanted (free_part sets footprint.frame footprint.slot footprint.free) r) ≡ footprint_has sets footprint r
+        by (resource.Frame f) = rw (frame_has footprint.frame f, slot_has f, free_has f) (grind (arith, cases_Bool (is_at footprint.frame f), cases_Bool (has_frame sets footprint.slot f)))
         by (resource.Vm v) =
-            rw (frames_wanted (option_to_list row.frame) (resource.Vm v), slot_slot row.frame row.slot v, free_slot row.frame row.slot row.free v) (or-false (is_of row.slot v))
-        by resource.Free = rw (frames_wanted (option_to_list row.frame) resource.Free, slot_free row.frame row.slot, free_free row.frame row.slot row.free) refl
+            rw (frames_wanted (option_to_list footprint.frame) (resource.Vm v), slot_slot footprint.frame footprint.slot v, free_slot footprint.frame footprint.slot footprint.free v) (or-false (is_of footprint.slot v))
+        by resource.Free = rw (frames_wanted (option_to_list footprint.frame) resource.Free, slot_free footprint.frame footprint.slot, free_free footprint.frame footprint.slot footprint.free) refl
 
     -- each once
-    pub members_once : ((p : ℕ) → IsDistinct eqb (get_or sets p [])) → IsDistinct same_resource row_items
+    pub members_once : ((p : ℕ) → IsDistinct eqb (get_or sets p [])) → IsDistinct same_resource footprint_items
     members_once once =
-        once_both first (free_part sets row.frame row.slot row.free)
-        (once_both (frame_part row.frame) (slot_part sets row.frame row.slot) (frame_once row.frame) (part_once once slot_itself (λ s xs. refl) row.frame None row.slot) no_more)
-        (part_once once free_itself (λ s xs. refl) row.frame row.slot row.free) none_more
+        once_both first (free_part sets footprint.frame footprint.slot footprint.free)
+        (once_both (frame_part footprint.frame) (slot_part sets footprint.frame footprint.slot) (frame_once footprint.frame) (part_once once slot_itself (λ s xs. refl) footprint.frame None footprint.slot) no_more)
+        (part_once once free_itself (λ s xs. refl) footprint.frame footprint.slot footprint.free) none_more
       where
-        no_more : (r : Resource) → is_wanted (frame_part row.frame) r ≡ true → is_wanted (slot_part sets row.frame row.slot) r ≡ false
-        no_more (resource.Frame f) h = slot_has f ∙ rw (sym (frame_has row.frame f) ∙ h) refl
-        no_more (resource.Vm v) h = let no = frames_wanted (option_to_list row.frame) (resource.Vm v) in cc
-        no_more resource.Free h = slot_free row.frame row.slot
+        no_more : (r : Resource) → is_wanted (frame_part footprint.frame) r ≡ true → is_wanted (slot_part sets footprint.frame footprint.slot) r ≡ false
+        no_more (resource.Frame f) h = slot_has f ∙ rw (sym (frame_has footprint.frame f) ∙ h) refl
+        no_more (resource.Vm v) h = let no = frames_wanted (option_to_list footprint.frame) (resource.Vm v) in cc
+        no_more resource.Free h = slot_free footprint.frame footprint.slot
 
-        none_more : (r : Resource) → is_wanted first r ≡ true → is_wanted (free_part sets row.frame row.slot row.free) r ≡ false
+        none_more : (r : Resource) → is_wanted first r ≡ true → is_wanted (free_part sets footprint.frame footprint.slot footprint.free) r ≡ false
         none_more (resource.Frame f) h =
-            let was = rw (frame_has row.frame f, slot_has f) at (sym (first_has (resource.Frame f)) ∙ h) in
-            free_has f ∙ grind (arith, cases_Bool (is_at row.frame f), cases_Bool (has_frame sets row.slot f))
-        none_more (resource.Vm v) h = free_slot row.frame row.slot row.free v
+            let was = rw (frame_has footprint.frame f, slot_has f) at (sym (first_has (resource.Frame f)) ∙ h) in
+            free_has f ∙ grind (arith, cases_Bool (is_at footprint.frame f), cases_Bool (has_frame sets footprint.slot f))
+        none_more (resource.Vm v) h = free_slot footprint.frame footprint.slot footprint.free v
         none_more resource.Free h =
-            let no : is_wanted first resource.Free ≡ false = first_has resource.Free ∙ rw (frames_wanted (option_to_list row.frame) resource.Free, slot_free row.frame row.slot) refl in cc
+            let no : is_wanted first resource.Free ≡ false = first_has resource.Free ∙ rw (frames_wanted (option_to_list footprint.frame) resource.Free, slot_free footprint.frame footprint.slot) refl in cc

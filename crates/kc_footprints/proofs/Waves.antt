@@ -1,6 +1,6 @@
 -- The waves of the planner are those of the definitions.
-use Rattle.std.proofs.Common.{◌≡◌, ℕ, suc, ◌<◌, List, [], ◌∷◌, length, map, refl, ap, arith}
-use Rattle.std.specs.Prelude.{Bool, true, false, nat_lt, cond, IfSome, Option, Some, None}
+use Rattle.std.proofs.Common.{ℕ, ◌<◌, List, length, map}
+use Rattle.std.specs.Prelude.{nat_lt, IfSome, Option, Some, None}
 use Rattle.std.proofs.lemmas.Bool.{cond_both, ltb-true}
 use Rattle.std.proofs.lemmas.List.{length-map}
 use Rattle.kc_waves.specs.Planned.{ComesJustAfter}

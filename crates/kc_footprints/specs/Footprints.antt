@@ -5,12 +5,12 @@ use Rattle.kc_model.specs.State.{State}
 use Rattle.kc_model.specs.Resources.{Resource}
 use Rattle.kc_model.specs.Footprints.{footprint}
 use Rattle.kc_footprints.specs.Commuting.{IsWaves}
-use Rattle.kc_footprints.specs.Rows.{Rows, row_touches, row_at}
+use Rattle.kc_footprints.specs.Spans.{Footprints, footprint_has, footprint_at}
 use Rattle.kc_footprints.specs.Plan.{wave_of}
 
--- the rows are the footprints of the calls, and the waves are theirs
-pub record AreFootprints (m : State) (calls : List Call) (footprints : Rows) : Type 0 where
-  pub count : length footprints.rows ≡ length calls
-  pub touches : (k : ℕ) (r : Resource) → k < length calls → row_touches footprints.sets (row_at footprints k) r ≡ footprint m calls k r
+-- they are the footprints of the calls, and the waves are theirs
+pub record AreFootprints (m : State) (calls : List Call) (footprints : Footprints) : Type 0 where
+  pub count : length footprints.calls ≡ length calls
+  pub touches : (k : ℕ) (r : Resource) → k < length calls → footprint_has footprints.sets (footprint_at footprints k) r ≡ footprint m calls k r
   pub waves_count : length footprints.waves ≡ length calls
   pub waves : IsWaves m calls (wave_of footprints.waves)

@@ -1,6 +1,7 @@
 //! What each call of a trace may touch, and the waves in which the calls are taken.
 #![tactic(auto)]
 
+mod footprints;
 pub mod laws;
 mod names;
 mod plan;
@@ -8,9 +9,8 @@ mod planner;
 mod reach_set;
 mod reach_sets;
 mod reaches;
-mod rows;
 mod trace;
 
+pub use footprints::Footprints;
 pub use plan::Plan;
-pub use rows::Footprints;
 pub use trace::footprints_from;

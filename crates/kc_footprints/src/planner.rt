@@ -3,14 +3,14 @@ ghost use Rattle.std.specs.Prelude.{◌≡◌, ℕ, ◌+◌, ◌<◌, ◌≤◌,
 ghost use Rattle.std.specs.Prelude.{IfOk, IfSome, MatchOption, ◌⊎◌, if◌then◌else◌};
 ghost use Rattle.std.specs.List.{IsDistinct};
 ghost use Rattle.kc_footprints.specs.Reach.{names_at};
-ghost use Rattle.kc_footprints.specs.Rows.{AreRowsOf};
+ghost use Rattle.kc_footprints.specs.Spans.{AreFootprintsOf};
 ghost use Rattle.kc_footprints.specs.Planner.{IsLastOf, IsHigh, IsTop, IsWritten, IsExact, IsInRange, set_at};
 ghost use Rattle.kc_footprints.specs.Planner.{AreBelow, HasOneOwnerEach, has_pair, ArePlanned, AreReached};
 
+use crate::footprints::Footprint;
 use crate::names::Names;
 use crate::reach_set::ReachSet;
 use crate::reaches::{Reaches, start};
-use crate::rows::Row;
 use std::alloc::{AllocError, Global};
 use std::marker::Model;
 
@@ -188,7 +188,7 @@ impl Planner {
 #[derive(Drop)]
 pub(crate) struct Walk {
     pub(crate) sets: Vec<ReachSet>,
-    pub(crate) rows: Vec<Row>,
+    pub(crate) footprints: Vec<Footprint>,
     pub(crate) waves: Vec<u32>,
 }
 
@@ -207,8 +207,8 @@ pub(crate) fn walk_calls(
     requires one { HasOneOwnerEach pairs.now }
     ensures len { IfOk result (λ w. length w.waves.items ≡ length calls.now) }
     ensures plan { IfOk result (λ w. ArePlanned free pairs.now calls.now w.waves.items) }
-    ensures count { IfOk result (λ w. length w.rows.items ≡ length calls.now) }
-    ensures rows { IfOk result (λ w. AreRowsOf free (has_pair pairs.now) calls.now w.sets.items w.rows.items) }
+    ensures count { IfOk result (λ w. length w.footprints.items ≡ length calls.now) }
+    ensures footprints { IfOk result (λ w. AreFootprintsOf free (has_pair pairs.now) calls.now w.sets.items w.footprints.items) }
     ensures sets { IfOk result (λ w. AreReached free pairs.now calls.now w.sets.items) }
     ensures size { IfOk result (λ w. length w.sets.items ≡ free + 1) }
     ensures once { IfOk result (λ w. (p : ℕ) → IsDistinct eqb (get_or w.sets.items p [])) }
@@ -216,18 +216,18 @@ pub(crate) fn walk_calls(
     let mut reaches = start(alloc, frames, free + 1, free, pairs)?;
     let mut planner = Planner::new(alloc, frames, free + 1)?;
     let mut waves = Vec::with_capacity(alloc, calls.len())?;
-    let mut rows = Vec::with_capacity(alloc, calls.len())?;
+    let mut footprints = Vec::with_capacity(alloc, calls.len())?;
     for names in calls {
         let wave = planner.highest(&reaches, free, names) + 1;
         planner.note(&reaches, free, names, wave);
-        let row = reaches.row(free, names);
+        let footprint = reaches.footprint(free, names);
         reaches.gain(free, names)?;
         waves.push(wave)?;
-        rows.push(row)?;
+        footprints.push(footprint)?;
     }
     Ok(Walk {
         sets: reaches.into_sets(),
-        rows,
+        footprints,
         waves,
     })
 }

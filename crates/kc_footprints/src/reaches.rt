@@ -1,13 +1,13 @@
 //! What each slot and the free list may have, and which of them may have a frame in common.
 ghost use Rattle.std.specs.Prelude.{◌≡◌, ℕ, ◌<◌, ◌^◌, ◌&&◌, true, length, IfOk, OnOk, IfSome, eqb};
 ghost use Rattle.kc_footprints.specs.Reach.{has_member, is_at, reach_of};
-ghost use Rattle.kc_footprints.specs.Rows.{span_of, row_of};
+ghost use Rattle.kc_footprints.specs.Spans.{span_of, footprint_of};
 ghost use Rattle.kc_footprints.specs.Planner.{is_near, is_hit, members_of, IsExact, IsJoined, AreGained, IsStart, AreBelow, HasOneOwnerEach, IsRelated, IsWider};
 
+use crate::footprints::{Footprint, Span};
 use crate::names::{Gain, Names};
 use crate::reach_set::ReachSet;
 use crate::reach_sets::ReachSets;
-use crate::rows::{Row, Span};
 use std::alloc::{AllocError, Global};
 use std::marker::Model;
 
@@ -88,11 +88,11 @@ impl Reaches {
     }
 
     /// What a call of these names may touch.
-    pub(crate) fn row(&self, free: usize, names: &Names) -> Row
+    pub(crate) fn footprint(&self, free: usize, names: &Names) -> Footprint
         requires free { free < length self.now.sets }
         requires few { free < 2 ^ 32 }
         requires slot { IfSome names.now.slot (λ v. v < length self.now.sets) }
-        ensures { result ≡ row_of self.now.sets free names.now }
+        ensures { result ≡ footprint_of self.now.sets free names.now }
     {
         let slot = match names.slot {
             Some(slot) => Some(self.span(slot)),
@@ -103,7 +103,7 @@ impl Reaches {
         } else {
             None
         };
-        Row {
+        Footprint {
             frame: names.frame,
             slot,
             free,

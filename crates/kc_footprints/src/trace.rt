@@ -7,9 +7,9 @@ ghost use Rattle.kc_footprints.specs.Naming.{names_of};
 ghost use Rattle.kc_footprints.specs.Owned.{IsOwned};
 ghost use Rattle.kc_footprints.specs.Planner.{AreBelow, HaveFramesBelow, HasOneOwnerEach};
 
+use crate::footprints::Footprints;
 use crate::names::{Names, names_of};
 use crate::planner::walk_calls;
-use crate::rows::Footprints;
 use kc_types::{Call, Config, Memory};
 use std::alloc::Global;
 

@@ -170,7 +170,7 @@ module _ (m : State) (calls : List Call) (is : IsLawful m) (wave : ℕ → ℕ) 
     up.state ∙ (is_order_free m calls up.order is (record { final = up.done; taken = up.taken; all = λ j low. up.below j low (last j low) })).1,
   )
 
-  module _ (footprints : ℕ → Resources) (rows : (k : ℕ) (r : Resource) → k < length calls → footprints k r ≡ footprint m calls k r) (w : ℕ) (store : State) (replies : List Reply) (up : IsUpTo m calls wave w store replies)
+  module _ (footprints : ℕ → Resources) (are_footprints : (k : ℕ) (r : Resource) → k < length calls → footprints k r ≡ footprint m calls k r) (w : ℕ) (store : State) (replies : List Reply) (up : IsUpTo m calls wave w store replies)
       (members : List ℕ) (are : AreCallsOf wave (length calls) (suc w) members) where
     fresh : (j : ℕ) → j < length calls → wave j ≡ suc w → up.done j ≡ false
     fresh j low at = false_from_ne_true (up.done j) (λ did. let le = up.above j low did in omega (arith, le, at))
@@ -199,7 +199,7 @@ module _ (m : State) (calls : List Call) (is : IsLawful m) (wave : ℕ → ℕ) 
     wave-next = subst (λ (s : State). IsWave s calls footprints members) (sym up.state) (record {
       lawful = lawful-taken (footprint m calls) calls up.order (λ j. false) up.done m up.taken is;
       within = are.calls.within;
-      apart = apart-in-wave m calls is wave up.order up.done footprints members (suc w) plan up.taken due-at are.same are.calls.once rows;
+      apart = apart-in-wave m calls is wave up.order up.done footprints members (suc w) plan up.taken due-at are.same are.calls.once are_footprints;
       once = are.calls.once;
     })
 

@@ -62,27 +62,27 @@ module _ (m : State) (calls : List Call) (is : IsLawful m) where
       → ((i j : ℕ) → i < length members → j < length members → i ≢ j → get_or members i 0 ≢ get_or members j 0)
       → ((k : ℕ) (r : Resource) → k < length calls → footprints k r ≡ footprint m calls k r)
       → AreApart (after_order calls m order) (wave_calls calls members) (footprints_at footprints members)
-  apart-in-wave wave order done footprints members w plan taken due same other rows = record {
+  apart-in-wave wave order done footprints members w plan taken due same other are_footprints = record {
     needs = λ i low r needed.
         let l = below i low in
-        row i l r ∙ is_ready m calls order done (get_or members i 0) is taken (due i l) r (ap (λ call. need (after_order calls m order) call r) (sym (wave-call calls members i l)) ∙ needed);
+        is_footprint i l r ∙ is_ready m calls order done (get_or members i 0) is taken (due i l) r (ap (λ call. need (after_order calls m order) call r) (sym (wave-call calls members i l)) ∙ needed);
     exist = λ i low r e.
         let l = below i low in
-        ap (λ config. exists_in config r) (config-order calls m order) ∙ footprint-exists (get_or members i 0) r (sym (row i l r) ∙ e);
+        ap (λ config. exists_in config r) (config-order calls m order) ∙ footprint-exists (get_or members i 0) r (sym (is_footprint i l r) ∙ e);
     slots = λ i v low e.
         let l = below i low in
-        ap (λ config. exists_slot config (slot_of (call_at (wave_calls calls members) i)) v) (config-order calls m order) ∙ ap (λ call. exists_slot m.config (slot_of call) v) (wave-call calls members i l) ∙ sym (row i l (resource.Vm v)) ∙ e;
-    free = λ i low e. let l = below i low in ap uses_free (wave-call calls members i l) ∙ sym (row i l resource.Free) ∙ e;
+        ap (λ config. exists_slot config (slot_of (call_at (wave_calls calls members) i)) v) (config-order calls m order) ∙ ap (λ call. exists_slot m.config (slot_of call) v) (wave-call calls members i l) ∙ sym (is_footprint i l (resource.Vm v)) ∙ e;
+    free = λ i low e. let l = below i low in ap uses_free (wave-call calls members i l) ∙ sym (is_footprint i l resource.Free) ∙ e;
     apart = λ i j r il jl differ ei ej.
         let li = below i il in let lj = below j jl in
-        side (get_or members i 0) (get_or members j 0) r (due i li).within (due j lj).within (other i j li lj differ) (same i li ∙ sym (same j lj)) (sym (row i li r) ∙ ei) (sym (row j lj r) ∙ ej);
+        side (get_or members i 0) (get_or members j 0) r (due i li).within (due j lj).within (other i j li lj differ) (same i li ∙ sym (same j lj)) (sym (is_footprint i li r) ∙ ei) (sym (is_footprint j lj r) ∙ ej);
   }
     where
       below : (i : ℕ) → i < length (wave_calls calls members) → i < length members
       below i low = rw (wave-length calls members) at low
 
-      row : (i : ℕ) → i < length members → (r : Resource) → footprints_at footprints members i r ≡ footprint m calls (get_or members i 0) r
-      row i l r = rows (get_or members i 0) r (due i l).within
+      is_footprint : (i : ℕ) → i < length members → (r : Resource) → footprints_at footprints members i r ≡ footprint m calls (get_or members i 0) r
+      is_footprint i l r = are_footprints (get_or members i 0) r (due i l).within
 
       side : (j k : ℕ) (r : Resource) → j < length calls → k < length calls → j ≢ k → wave j ≡ wave k → footprint m calls j r ≡ true → footprint m calls k r ≡ true → ⊥
       side j k r hj hk differ e tj tk =

@@ -11,7 +11,7 @@ use Rattle.kc_types.specs.declared.reply.Reply.{Reply}
 use Rattle.kc_types.specs.declared.reply.Reply.TheVariants.{Done}
 use Rattle.kc_model.specs.Lawful.{IsLawful}
 use Rattle.kc_model.specs.Footprints.{call_at, state_at, reply_at}
-use Rattle.kc_footprints.specs.Rows.{Rows, row_touches, row_at}
+use Rattle.kc_footprints.specs.Spans.{Footprints, footprint_has, footprint_at}
 use Rattle.kc_vms.specs.Vm.{VmSlot}
 use Rattle.kc_page.specs.declared.page.Page.{Page}
 use Rattle.kc_parts.specs.Parts.{Held, HasPlace, page_at, vm_at}
@@ -55,8 +55,8 @@ abbrev pub wave_calls : List Call → List ℕ → List Call
 wave_calls calls members = map (λ k. call_at calls k) members
 
 -- the footprint of each call of a trace
-abbrev pub footprint_of : Rows → ℕ → Resources
-footprint_of footprints k r = row_touches footprints.sets (row_at footprints k) r
+abbrev pub footprint_of : Footprints → ℕ → Resources
+footprint_of footprints k r = footprint_has footprints.sets (footprint_at footprints k) r
 
 -- the wave that starts in a state
 abbrev pub wave_from : State → WaveCalls → Wave

@@ -64,7 +64,7 @@ fn share_wave<R: Threads + Wait + Sync, G: Gate + Sync>(
     replies: &mut [Reply],
 ) -> Result<KCore, Failed>
     requires wave { IsWave core wave.now.calls.now (footprint_of wave.now.footprints.now) wave.now.members.now }
-    requires rows { length wave.now.footprints.now.rows ≡ length wave.now.calls.now }
+    requires footprints { length wave.now.footprints.now.calls ≡ length wave.now.calls.now }
     requires long { length replies.old ≡ length wave.now.calls.now }
     requires workers { 0 < workers }
     ensures replies { OnOk result (AreReplied core wave.now.calls.now wave.now.members.now replies.old replies.new) }
@@ -117,7 +117,7 @@ struct Work {
 impl Work {
     fn of(core: &KCore, wave: &WaveCalls) -> Work
         requires members { AreCallNumbers (length wave.now.calls.now) wave.now.members.now }
-        requires rows { length wave.now.footprints.now.rows ≡ length wave.now.calls.now }
+        requires footprints { length wave.now.footprints.now.calls ≡ length wave.now.calls.now }
     {
         let mut hashing: usize = 0;
         let mut frames: u32 = 0;
@@ -160,7 +160,7 @@ fn take_wave<R: Threads + Wait + Sync, G: Gate + Sync>(
     budget: &mut Budget,
 ) -> Result<KCore, Failed>
     requires wave { IsWave core wave.now.calls.now (footprint_of wave.now.footprints.now) wave.now.members.now }
-    requires rows { length wave.now.footprints.now.rows ≡ length wave.now.calls.now }
+    requires footprints { length wave.now.footprints.now.calls ≡ length wave.now.calls.now }
     requires members { AreCallNumbers (length wave.now.calls.now) wave.now.members.now }
     requires long { length replies.old ≡ length wave.now.calls.now }
     ensures replies { OnOk result (AreReplied core wave.now.calls.now wave.now.members.now replies.old replies.new) }

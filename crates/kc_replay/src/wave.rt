@@ -28,7 +28,7 @@ fn take_tasks(
 ) -> Result<Vec<Vec<Task>>, Memory>
     ghost start: { State }
     requires wave { IsWave start wave.now.calls.now (footprint_of wave.now.footprints.now) wave.now.members.now }
-    requires rows { length wave.now.footprints.now.rows ≡ length wave.now.calls.now }
+    requires footprints { length wave.now.footprints.now.calls ≡ length wave.now.calls.now }
     requires core { IsCore start.config store.old }
     requires state { state_of start.config store.old ≡ start }
     requires workers { 0 < workers }
@@ -92,7 +92,7 @@ fn share_out<R: Threads + Wait + Sync, G: Gate + Sync>(
     ghost seen: { Wave }
     requires seen { seen ≡ wave_from (state_of config.now store.old) wave.now }
     requires wave { IsWave seen.start seen.calls seen.footprints seen.members }
-    requires rows { length wave.now.footprints.now.rows ≡ length seen.calls }
+    requires footprints { length wave.now.footprints.now.calls ≡ length seen.calls }
     requires core { IsCore config.now store.old }
     requires long { length replies.old ≡ length seen.calls }
     requires workers { 0 < workers }
@@ -118,7 +118,7 @@ pub(crate) fn run_wave<R: Threads + Wait + Sync, G: Gate + Sync>(
     replies: &mut [Reply],
 ) -> Result<(), ReplayFault>
     requires wave { IsWave (state_of config.now store.old) wave.now.calls.now (footprint_of wave.now.footprints.now) wave.now.members.now }
-    requires rows { length wave.now.footprints.now.rows ≡ length wave.now.calls.now }
+    requires footprints { length wave.now.footprints.now.calls ≡ length wave.now.calls.now }
     requires core { IsCore config.now store.old }
     requires long { length replies.old ≡ length wave.now.calls.now }
     requires workers { 0 < workers }

@@ -4,7 +4,7 @@ use Rattle.kc_footprints.specs.declared.names.Names.{Names}
 use Rattle.kc_footprints.specs.Reach.{has_member, names_at, may_have}
 use Rattle.kc_footprints.specs.Planner.{IsHigh, IsWritten, AreGained, has_pair, members_of}
 use Rattle.kc_footprints.proofs.Plans.{going_start, going_more, high_low, in_range_all}
-use Rattle.kc_footprints.proofs.Kept.{rows_more}
+use Rattle.kc_footprints.proofs.Kept.{footprints_more}
 use Rattle.kc_footprints.proofs.planner.walk_calls.Goals as goal
 
 pub loop-names-init : goal.loop-names-init
@@ -13,7 +13,7 @@ loop-names-init c = record {
       rw c.in_ok-waves.ensures.items
       (going_start c.args.frames c.args.free c.args.pairs.now c.args.calls.now c.in_ok-reaches.reaches c.in_ok-planner.planner c.in_ok-reaches.ensures c.in_ok-planner.ensures.frame_waves c.in_ok-planner.ensures.principal_waves c.in_ok-planner.ensures.reach_waves);
   len = search rules;
-  rows = rw c.in_ok-rows.ensures.items (λ k low. absurd (omega arith));
+  footprints = rw c.in_ok-footprints.ensures.items (λ k low. absurd (omega arith));
   count = search rules;
 }
 
@@ -31,7 +31,7 @@ overflow_add-wave c =
 pub loop-names-preserved : goal.loop-names-preserved
 loop-names-preserved c =
     let waves : List ℕ = c.loop-names.waves.items in
-    let rows = c.loop-names.rows.items in
+    let footprints = c.loop-names.footprints.items in
     let high : ℕ = c.highest-wave.result in
     let start = has_pair c.args.pairs.now in
     let going = c.loop-names.invariant.going in
@@ -49,12 +49,12 @@ loop-names-preserved c =
           c.push.new.self.items c.gain.new.self c.note.new.self pushed written gained
           (c.note.ensures.frame_waves ∙ going.frame_len) (c.note.ensures.principal_waves ∙ going.principal_len) (c.note.ensures.reach_waves ∙ going.reach_len);
       len = rw pushed (length_push waves (suc high) ∙ omega arith);
-      rows = rows_more c.args.free start c.args.calls.now c.loop-names.reaches c.gain.new.self rows c.push-in-loop-names.new.self.items n
+      footprints = footprints_more c.args.free start c.args.calls.now c.loop-names.reaches c.gain.new.self footprints c.push-in-loop-names.new.self.items n
           (ap (names_at c.args.calls.now) (sym count)) (range c.loop-names.names-index).slot
           (λ p f. going.sets p f ∙ ap (λ (x : ℕ). may_have c.args.free start c.args.calls.now x p f) (len ∙ sym count))
           going.exact.sets_len gained.exact.sets_len gained.grown
-          (rw c.row-row.ensures at c.in_ok-push-2.ensures.items) c.loop-names.invariant.rows;
-      count = rw c.in_ok-push-2.ensures.items (length_push rows c.row-row.result ∙ ap (λ (x : ℕ). x + 1) count);
+          (rw c.footprint-footprint.ensures at c.in_ok-push-2.ensures.items) c.loop-names.invariant.footprints;
+      count = rw c.in_ok-push-2.ensures.items (length_push footprints c.footprint-footprint.result ∙ ap (λ (x : ℕ). x + 1) count);
     }
 
 pub returns-clause-plan : goal.returns-clause-plan
@@ -71,5 +71,5 @@ returns-clause-sets c = λ p f.
     rw c.into_sets.ensures
     (subst (λ (x : ℕ). has_member (members_of c.loop-names.reaches p) f ≡ may_have c.args.free (has_pair c.args.pairs.now) c.args.calls.now x p f) principal_waves (c.loop-names.invariant.going.sets p f))
 
-pub returns-clause-rows : goal.returns-clause-rows
-returns-clause-rows c = rw c.into_sets.ensures c.loop-names.invariant.rows
+pub returns-clause-footprints : goal.returns-clause-footprints
+returns-clause-footprints c = rw c.into_sets.ensures c.loop-names.invariant.footprints

@@ -7,18 +7,18 @@ use Rattle.kc_model.proofs.Blind.HostBlind.{shows_nothing}
 use Rattle.kc_footprints.specs.Commuting.{IsWaves}
 use Rattle.kc_footprints.specs.Plan.{wave_of, highest, AreCallsOf}
 use Rattle.kc_footprints.specs.Footprints.{AreFootprints}
-use Rattle.kc_footprints.specs.Rows.{Rows}
+use Rattle.kc_footprints.specs.Spans.{Footprints}
 use Rattle.kc_footprints.proofs.Listing.{at_most}
 use Rattle.kc_replay.specs.Wave.{IsWiped, footprint_of}
 use Rattle.kc_replay.proofs.Onward.{up-to-none, up-to-config, up-to-all, up-to-next, wave-next, written-whole}
 use Rattle.kc_replay.proofs.segment.replay_waves.Goals as goal
 
 -- the plan's waves are the longest chains
-longest : (m : State) (calls : List Call) (footprints : Rows) (plan : List ℕ) → AreFootprints m calls footprints → plan ≡ footprints.waves → IsWaves m calls (wave_of plan)
+longest : (m : State) (calls : List Call) (footprints : Footprints) (plan : List ℕ) → AreFootprints m calls footprints → plan ≡ footprints.waves → IsWaves m calls (wave_of plan)
 longest m calls footprints plan are is = subst (λ (waves : List ℕ). IsWaves m calls (wave_of waves)) (sym is) are.waves
 
 -- the calls of a wave
-in-wave : (m : State) (calls : List Call) (footprints : Rows) (plan : List ℕ) (done : ℕ) (members : List ℕ) → AreFootprints m calls footprints → plan ≡ footprints.waves → AreCallsOf (wave_of plan) (length plan) (done + 1) members
+in-wave : (m : State) (calls : List Call) (footprints : Footprints) (plan : List ℕ) (done : ℕ) (members : List ℕ) → AreFootprints m calls footprints → plan ≡ footprints.waves → AreCallsOf (wave_of plan) (length plan) (done + 1) members
     → AreCallsOf (wave_of plan) (length calls) (suc done) members
 in-wave m calls footprints plan done members are is of =
     let one : done + 1 ≡ suc done = omega arith in

@@ -28,7 +28,7 @@ take_tasks-requires g c =
     let config : c.args.config.now ≡ g.seen.start.config = its-config g.seen (state_of c.args.config.now c.args.store.now) given r.0 in (
       given-wave g.seen (state_of c.args.config.now c.args.store.now) given r.0 r.1.0,
       (
-        subst (λ (x : Wave). length given.footprints.now.rows ≡ length x.calls) r.0 r.1.1.0,
+        subst (λ (x : Wave). length given.footprints.now.calls ≡ length x.calls) r.0 r.1.1.0,
         (
           subst (λ (config : Configuration). IsCore config c.args.store.now) config r.1.1.1.0,
           (subst (λ (config : Configuration). state_of config c.args.store.now ≡ g.seen.start) config (sym (ap (λ (x : Wave). x.start) r.0)), r.1.1.1.1.1),

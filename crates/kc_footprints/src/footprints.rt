@@ -5,7 +5,7 @@ ghost use Rattle.kc_types.specs.declared.resource.Resource.TheVariants as resour
 ghost use Rattle.std.specs.List.{IsDistinct};
 ghost use Rattle.kc_model.specs.Resources.{is_wanted, same_resource};
 ghost use Rattle.kc_footprints.specs.Reach.{is_at};
-ghost use Rattle.kc_footprints.specs.Rows.{has_frame, row_touches, row_at, AreRows, IsRow, IsSpan, frames_of, frame_part, slot_part, free_part};
+ghost use Rattle.kc_footprints.specs.Spans.{has_frame, footprint_has, footprint_at, AreThere, IsThere, IsSpan, frames_of, frame_part, slot_part, free_part};
 
 use crate::planner::Walk;
 use crate::reach_set::ReachSet;
@@ -22,7 +22,7 @@ pub(crate) struct Span {
 
 /// What a call may touch.
 #[derive(Clone, Copy)]
-pub(crate) struct Row {
+pub(crate) struct Footprint {
     pub(crate) frame: Option<u32>,
     pub(crate) slot: Option<Span>,
     pub(crate) free: Option<Span>,
@@ -32,18 +32,18 @@ pub(crate) struct Row {
 #[derive(Drop)]
 pub struct Footprints {
     sets: Vec<ReachSet>,
-    rows: Vec<Row>,
+    calls: Vec<Footprint>,
     waves: Vec<u32>,
 }
 
 impl Model for Footprints {
-    ghost use Rattle.kc_footprints.specs.Rows.{Rows, AreRows};
+    ghost use Rattle.kc_footprints.specs.Spans.{Footprints, AreThere};
 
-    ghost Value = { Rows };
+    ghost Value = { Footprints };
 
-    ghost view = { λ f. record { sets = f.sets.items; rows = f.rows.items; waves = f.waves.items } };
+    ghost view = { λ f. record { sets = f.sets.items; calls = f.calls.items; waves = f.waves.items } };
 
-    ghost invariant = { λ f. AreRows f.sets.items f.rows.items };
+    ghost invariant = { λ f. AreThere f.sets.items f.calls.items };
 }
 
 fn is_frame(frame: Option<u32>, number: u32) -> bool
@@ -78,14 +78,14 @@ fn slot_of(number: u32) -> Resource
 impl Footprints {
     /// What a walk over the calls has found.
     pub(crate) fn of_walk(walk: Walk) -> Footprints
-        requires { AreRows walk.sets.items walk.rows.items }
+        requires { AreThere walk.sets.items walk.footprints.items }
         ensures sets { result.sets ≡ walk.sets.items }
-        ensures rows { result.rows ≡ walk.rows.items }
+        ensures calls { result.calls ≡ walk.footprints.items }
         ensures waves { result.waves ≡ walk.waves.items }
     {
         Footprints {
             sets: walk.sets,
-            rows: walk.rows,
+            calls: walk.footprints,
             waves: walk.waves,
         }
     }
@@ -99,30 +99,30 @@ impl Footprints {
 
     /// The number of calls.
     pub fn len(&self) -> usize
-        ensures { result ≡ length self.now.rows }
+        ensures { result ≡ length self.now.calls }
     {
-        self.rows.len()
+        self.calls.len()
     }
 
-    /// The row of a call.
-    fn row(&self, number: usize) -> Row
-        requires { number < length self.now.rows }
-        ensures value { result ≡ row_at self.now number }
-        ensures row { IsRow self.now.sets result }
+    /// What a call may touch, as it is kept.
+    fn footprint(&self, number: usize) -> Footprint
+        requires { number < length self.now.calls }
+        ensures value { result ≡ footprint_at self.now number }
+        ensures there { IsThere self.now.sets result }
         ensures once { (p : ℕ) → IsDistinct eqb (get_or self.now.sets p []) }
     {
-        self.rows[number]
+        self.calls[number]
     }
 
     /// How many parts a call may touch at most; one that it names and that a slot or the free list may have as well counts
     /// twice. Takes no longer for more of them.
     pub fn count_at_most(&self, number: usize) -> u32
         // No clause: whether threads are worth starting is weighed by it, and any number would do.
-        requires { number < length self.now.rows }
+        requires { number < length self.now.calls }
     {
-        let row = self.row(number);
-        let slot = Footprints::count_of(row.slot);
-        slot.saturating_add(Footprints::count_of(row.free))
+        let footprint = self.footprint(number);
+        let slot = Footprints::count_of(footprint.slot);
+        slot.saturating_add(Footprints::count_of(footprint.free))
             .saturating_add(1)
     }
 
@@ -162,14 +162,14 @@ impl Footprints {
     /// Lists the first of what a principal may have, but for the frame and for what the other principal has.
     fn list(
         &self,
-        footprint: &mut Vec<Resource>,
+        members: &mut Vec<Resource>,
         span: Span,
         frame: Option<u32>,
         other: Option<Span>,
     ) -> Result<(), AllocError>
         requires span { IsSpan self.now.sets span }
         requires other { IfSome other (IsSpan self.now.sets) }
-        ensures { OnOk result (footprint.new.items ≡ footprint.old.items ++ frames_of self.now.sets frame other span) }
+        ensures { OnOk result (members.new.items ≡ members.old.items ++ frames_of self.now.sets frame other span) }
     {
         let set = &self.sets[span.principal as usize];
         for place in 0..span.length {
@@ -177,7 +177,7 @@ impl Footprints {
                 unreachable!()
             };
             if !self.has_either(frame, other, member) {
-                footprint.push(frame_of(member))?;
+                members.push(frame_of(member))?;
             }
         }
         Ok(())
@@ -186,17 +186,17 @@ impl Footprints {
     /// Lists a slot and the first of what it may have, where the frame is listed already.
     fn list_slot(
         &self,
-        footprint: &mut Vec<Resource>,
+        members: &mut Vec<Resource>,
         slot: Option<Span>,
         frame: Option<u32>,
     ) -> Result<(), AllocError>
         requires slot { IfSome slot (IsSpan self.now.sets) }
         requires low { IfSome slot (λ s. s.principal < slot_limit) }
-        ensures { OnOk result (footprint.new.items ≡ footprint.old.items ++ slot_part self.now.sets frame slot) }
+        ensures { OnOk result (members.new.items ≡ members.old.items ++ slot_part self.now.sets frame slot) }
     {
         if let Some(span) = slot {
-            footprint.push(slot_of(span.principal))?;
-            self.list(footprint, span, frame, None)?;
+            members.push(slot_of(span.principal))?;
+            self.list(members, span, frame, None)?;
         }
         Ok(())
     }
@@ -204,28 +204,28 @@ impl Footprints {
     /// Lists the free list and the first of what it may have, where the frame is listed already, and what the slot may have.
     fn list_free(
         &self,
-        footprint: &mut Vec<Resource>,
+        members: &mut Vec<Resource>,
         free: Option<Span>,
         frame: Option<u32>,
         slot: Option<Span>,
     ) -> Result<(), AllocError>
         requires free { IfSome free (IsSpan self.now.sets) }
         requires slot { IfSome slot (IsSpan self.now.sets) }
-        ensures { OnOk result (footprint.new.items ≡ footprint.old.items ++ free_part self.now.sets frame slot free) }
+        ensures { OnOk result (members.new.items ≡ members.old.items ++ free_part self.now.sets frame slot free) }
     {
         if let Some(span) = free {
-            footprint.push(Resource::Free)?;
-            self.list(footprint, span, frame, slot)?;
+            members.push(Resource::Free)?;
+            self.list(members, span, frame, slot)?;
         }
         Ok(())
     }
 
-    fn list_frame(footprint: &mut Vec<Resource>, frame: Option<u32>) -> Result<(), AllocError>
+    fn list_frame(members: &mut Vec<Resource>, frame: Option<u32>) -> Result<(), AllocError>
         requires frame { IfSome frame (λ f. f < frame_limit) }
-        ensures { OnOk result (footprint.new.items ≡ footprint.old.items ++ frame_part frame) }
+        ensures { OnOk result (members.new.items ≡ members.old.items ++ frame_part frame) }
     {
         if let Some(frame) = frame {
-            footprint.push(frame_of(frame))?;
+            members.push(frame_of(frame))?;
         }
         Ok(())
     }
@@ -233,15 +233,20 @@ impl Footprints {
     /// What a call may touch, each member once, in no order to rely on. A call's number is its place in the trace, from 0.
     /// `Memory` where a growth was refused.
     pub fn of(&self, alloc: Global, number: usize) -> Result<Vec<Resource>, Memory>
-        requires { number < length self.now.rows }
-        ensures members { IfOk result (λ footprint. (r : _) → is_wanted footprint.items r ≡ row_touches self.now.sets (row_at self.now number) r) }
-        ensures once { IfOk result (λ footprint. IsDistinct same_resource footprint.items) }
+        requires { number < length self.now.calls }
+        ensures members { IfOk result (λ members. (r : _) → is_wanted members.items r ≡ footprint_has self.now.sets (footprint_at self.now number) r) }
+        ensures once { IfOk result (λ members. IsDistinct same_resource members.items) }
     {
-        let row = self.row(number);
-        let mut footprint = Vec::new(alloc);
-        Footprints::list_frame(&mut footprint, row.frame)?;
-        self.list_slot(&mut footprint, row.slot, row.frame)?;
-        self.list_free(&mut footprint, row.free, row.frame, row.slot)?;
-        Ok(footprint)
+        let footprint = self.footprint(number);
+        let mut members = Vec::new(alloc);
+        Footprints::list_frame(&mut members, footprint.frame)?;
+        self.list_slot(&mut members, footprint.slot, footprint.frame)?;
+        self.list_free(
+            &mut members,
+            footprint.free,
+            footprint.frame,
+            footprint.slot,
+        )?;
+        Ok(members)
     }
 }

@@ -1,4 +1,4 @@
--- Footprints as rows of lengths into what principals may have.
+-- Footprints as spans: the first of what principals may have.
 use Rattle.std.specs.Prelude.{◌≡◌, ℕ, ◌<◌, ◌≤◌, Bool, false, ◌||◌, not, eqb, List, [], ◌∷◌, map, length, get_or, take, Option, Some, None, IfSome, is_some, option_map, option_to_list, if◌then◌else◌}
 use Rattle.kc_types.specs.Limits.{frame_limit, slot_limit}
 use Rattle.kc_model.specs.Resources.{Resource}
@@ -6,20 +6,20 @@ use Rattle.kc_types.specs.declared.resource.Resource.TheVariants as resource
 use Rattle.std.specs.List.{IsDistinct, filter}
 use Rattle.kc_footprints.specs.declared.names.Names.{Names}
 use Rattle.kc_footprints.specs.Reach.{has_member, is_at, reach_of, may_have, names_at}
-use Rattle.kc_footprints.specs.declared.rows.Row.{Row}
-use Rattle.kc_footprints.specs.declared.rows.Span.{Span}
+use Rattle.kc_footprints.specs.declared.footprints.Footprint.{Footprint}
+use Rattle.kc_footprints.specs.declared.footprints.Span.{Span}
 
 -- what each principal may have at the end, and what each call touches of it
-pub record Rows : Type 0 where
+pub record Footprints : Type 0 where
   pub sets : List (List ℕ)
-  pub rows : List Row
+  pub calls : List Footprint
   pub waves : List ℕ
 
-abbrev pub no_row : Row
-no_row = record { frame = None; slot = None; free = None }
+abbrev pub no_footprint : Footprint
+no_footprint = record { frame = None; slot = None; free = None }
 
-abbrev pub row_at : Rows → ℕ → Row
-row_at footprints k = get_or footprints.rows k no_row
+abbrev pub footprint_at : Footprints → ℕ → Footprint
+footprint_at footprints k = get_or footprints.calls k no_footprint
 
 -- the frame is among the first of what the principal may have
 abbrev pub has_frame : List (List ℕ) → Option Span → ℕ → Bool
@@ -30,10 +30,11 @@ abbrev pub is_of : Option Span → ℕ → Bool
 is_of None v = false
 is_of (Some s) v = eqb s.principal v
 
-abbrev pub row_touches : List (List ℕ) → Row → Resource → Bool
-row_touches sets row (resource.Frame f) = is_at row.frame f || (has_frame sets row.slot f || has_frame sets row.free f)
-row_touches sets row (resource.Vm v) = is_of row.slot v
-row_touches sets row resource.Free = is_some row.free
+-- whether a call that has this footprint may touch the resource
+abbrev pub footprint_has : List (List ℕ) → Footprint → Resource → Bool
+footprint_has sets footprint (resource.Frame f) = is_at footprint.frame f || (has_frame sets footprint.slot f || has_frame sets footprint.free f)
+footprint_has sets footprint (resource.Vm v) = is_of footprint.slot v
+footprint_has sets footprint resource.Free = is_some footprint.free
 
 abbrev size_of : List ℕ → ℕ
 size_of xs = length xs
@@ -42,17 +43,18 @@ pub record IsSpan (sets : List (List ℕ)) (s : Span) : Type 0 where
   pub principal : s.principal < length sets
   pub within : s.length ≤ size_of (get_or sets s.principal [])
 
--- what the row says is there
-pub record IsRow (sets : List (List ℕ)) (row : Row) : Type 0 where
-  pub frame : IfSome row.frame (λ f. f < frame_limit)
-  pub slot : IfSome row.slot (IsSpan sets)
-  pub slot_low : IfSome row.slot (λ s. s.principal < slot_limit)
-  pub free : IfSome row.free (IsSpan sets)
+-- what the footprint says is there
+pub record IsThere (sets : List (List ℕ)) (footprint : Footprint) : Type 0 where
+  pub frame : IfSome footprint.frame (λ f. f < frame_limit)
+  pub slot : IfSome footprint.slot (IsSpan sets)
+  pub slot_low : IfSome footprint.slot (λ s. s.principal < slot_limit)
+  pub free : IfSome footprint.free (IsSpan sets)
 
-pub record AreRows (sets : List (List ℕ)) (rows : List Row) : Type 0 where
+-- so it is with each of them, no principal may have a frame twice, and frames have numbers of frames
+pub record AreThere (sets : List (List ℕ)) (footprints : List Footprint) : Type 0 where
   pub low : (p i : ℕ) → i < size_of (get_or sets p []) → get_or (get_or sets p []) i 0 < frame_limit
   pub once : (p : ℕ) → IsDistinct eqb (get_or sets p [])
-  pub each : (k : ℕ) → k < length rows → IsRow sets (get_or rows k no_row)
+  pub each : (k : ℕ) → k < length footprints → IsThere sets (get_or footprints k no_footprint)
 
 -- the first of what a principal may have, but for the frame and for what the other principal has
 abbrev pub numbers_of : List (List ℕ) → Option ℕ → Option Span → Span → List ℕ
@@ -89,8 +91,8 @@ span_of sets p = record { principal = p; length = size_of (get_or sets p []) }
 abbrev pub free_of : ℕ → Names → Option ℕ
 free_of free n = if n.free then Some free else None
 
-abbrev pub row_of : List (List ℕ) → ℕ → Names → Row
-row_of sets free n = record { frame = n.frame; slot = option_map (span_of sets) n.slot; free = option_map (span_of sets) (free_of free n) }
+abbrev pub footprint_of : List (List ℕ) → ℕ → Names → Footprint
+footprint_of sets free n = record { frame = n.frame; slot = option_map (span_of sets) n.slot; free = option_map (span_of sets) (free_of free n) }
 
 -- the span is that of the principal, where there is one, and its frames are those that the principal may have by `before`
 pub record IsSpanOf (sets : List (List ℕ)) (before : ℕ → ℕ → Bool) (o : Option ℕ) (span : Option Span) : Type 0 where
@@ -99,11 +101,11 @@ pub record IsSpanOf (sets : List (List ℕ)) (before : ℕ → ℕ → Bool) (o 
   pub frames : (f : ℕ) → has_frame sets span f ≡ reach_of before o f
   pub within : IfSome span (IsSpan sets)
 
--- the row says what a call of these names touches, where `before` says what principals may have before it
-pub record IsRowOf (end : ℕ) (before : ℕ → ℕ → Bool) (n : Names) (sets : List (List ℕ)) (row : Row) : Type 0 where
-  pub frame : row.frame ≡ n.frame
-  pub slot : IsSpanOf sets before n.slot row.slot
-  pub free : IsSpanOf sets before (free_of end n) row.free
+-- the footprint says what a call of these names touches, where `before` says what principals may have before it
+pub record IsFootprintOf (end : ℕ) (before : ℕ → ℕ → Bool) (n : Names) (sets : List (List ℕ)) (footprint : Footprint) : Type 0 where
+  pub frame : footprint.frame ≡ n.frame
+  pub slot : IsSpanOf sets before n.slot footprint.slot
+  pub free : IsSpanOf sets before (free_of end n) footprint.free
 
-abbrev pub AreRowsOf : ℕ → (ℕ → ℕ → Bool) → List Names → List (List ℕ) → List Row → Type 0
-AreRowsOf free start cs sets rows = (k : ℕ) → k < length rows → IsRowOf free (may_have free start cs k) (names_at cs k) sets (get_or rows k no_row)
+abbrev pub AreFootprintsOf : ℕ → (ℕ → ℕ → Bool) → List Names → List (List ℕ) → List Footprint → Type 0
+AreFootprintsOf free start cs sets footprints = (k : ℕ) → k < length footprints → IsFootprintOf free (may_have free start cs k) (names_at cs k) sets (get_or footprints k no_footprint)
