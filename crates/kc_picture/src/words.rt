@@ -3,7 +3,7 @@ use crate::colour::Colour;
 use kc_types::Memory;
 use std::alloc::Global;
 
-/// A text so far. Where a growth is refused it stays as it is from then on, and at its end there is `Memory` in its place.
+/// A text so far. Where a growth of memory is refused nothing more is put, and at its end there is `Memory` in its place.
 #[derive(Drop)]
 pub(crate) struct Text {
     text: String,
@@ -18,7 +18,7 @@ impl Text {
         }
     }
 
-    /// Whether it has no words; where its first were refused it has them.
+    /// Whether nothing was put; a text that was refused is not empty.
     pub fn is_empty(&self) -> bool {
         self.text.is_empty() && !self.refused
     }
@@ -87,13 +87,13 @@ impl Text {
         }
     }
 
-    /// Another text, or where that was refused nothing more.
+    /// Another text; where that was refused so is this one.
     pub fn put_text(&mut self, other: &Text) {
         self.put(&other.text);
         self.refused = self.refused || other.refused;
     }
 
-    /// Words that were made elsewhere, or where there was no memory for them nothing more.
+    /// Words that were made elsewhere; where there was no memory for them this text is refused.
     pub fn put_made(&mut self, made: &Result<String, Memory>) {
         match made {
             Ok(words) => self.put(words),
@@ -101,6 +101,7 @@ impl Text {
         }
     }
 
+    /// The whole text, or `Memory` where a growth of it was refused.
     pub fn finish(self) -> Result<String, Memory> {
         let Text { text, refused } = self;
         if refused {
