@@ -1,6 +1,7 @@
 -- A stream that is fed in pieces.
 use Rattle.std.proofs.Common.{◌≡◌, ◌≤◌, ◌<◌, ◌+◌, ℕ, Bool, true, false, List, [], ◌∷◌, ◌++◌, length, Option, Some, None, Result, Ok, Err, refl, ap, ◌∙◌, append_assoc, arith, inr, length-append}
 use Rattle.std.specs.Prelude.{MatchOption, IfSome, IfOk, OnOk, ◌==◌, nat_le, if◌then◌else◌}
+use Rattle.std.specs.List.{slice_split}
 use Rattle.std.proofs.lemmas.Bool.{leb-false}
 use Rattle.std.proofs.lemmas.List.{append-nil, nil_from_length}
 use Rattle.std.proofs.KnownBytes.{Consumes-nil, Consumes-trans}
@@ -12,7 +13,8 @@ use Rattle.kc_texts.specs.Ends.{ReadFailed}
 use Rattle.kc_trace.specs.declared.fault.TraceFault.{TraceFault}
 use Rattle.kc_trace.specs.declared.fault.TraceFault.TheVariants.{NoHeader, BadLine, NoNewline, TooManyCalls, Memory}
 use Rattle.kc_trace.specs.Trace.{IsTrace, IsRefused}
-use Rattle.kc_trace.specs.Machine.{◌>>=◌, Progress, Fails, start, with_byte, told, call_in, after_line, after_header_byte, after_byte, step, feed, fed, fed_after, ended, reading}
+use Rattle.kc_trace.specs.Machine.{◌>>=◌, Progress, Fails, start, longer, version_in, begins_header, call_in, after_line, begun_by, begun, after_header, line_ended_by, line_ended, last_begun, feed_lines, feed, fed, fed_after, ended, reading}
+use Rattle.kc_trace.proofs.Runs.{feed_nothing}
 use Rattle.kc_trace.proofs.Traces.{feed-append, and_then_feed, added, Reads, reading_reads}
 use Rattle.kc_texts.specs.Streamed.{Streamed, answer, HasRead, GoesOn}
 
@@ -33,10 +35,6 @@ fails_is NoNewline read other h = h
 fails_is TooManyCalls read other h = h
 fails_is Memory read other h = absurd (other refl)
 
-feed_nothing : (p : Progress) → feed p [] ≡ Ok (p, [])
-unfolding feed
-feed_nothing p = refl
-
 -- ---- how many calls came
 
 -- behind so many bytes the calls are counted, and there are not too many of them
@@ -47,33 +45,52 @@ line_counts : (p : Progress) (found : Option Call) → p.calls < call_limit → 
 line_counts p None lt = tt
 line_counts p (Some call) lt = (refl, omega (arith, lt))
 
-text_counts : (p : Progress) (byte : ℕ) (full newline : Bool) → nat_le call_limit p.calls ≡ full → p.calls ≤ call_limit
-    → IfOk (if full then Err TooManyCalls else if newline then after_line p (call_in p.version p.line) else Ok (record p { line = with_byte p.line byte }, [])) (Counts p)
-text_counts p byte true newline f le = tt
-text_counts p byte false true f le = line_counts p (call_in p.version p.line) (leb-false call_limit p.calls f)
-text_counts p byte false false f le = (omega arith, le)
+begun_counts : (version : Option Version) (p : Progress) → p.calls ≤ call_limit → IfOk (begun_by version p) (Counts p)
+begun_counts None p le = by_test (begins_header p.line)
+  where
+    by_test : (b : Bool) → IfOk (if b then Ok (p, []) else Err NoHeader) (Counts p)
+    by_test true = (omega arith, le)
+    by_test false = tt
+begun_counts (Some version) p le = by_test (nat_le call_limit p.calls)
+  where
+    by_test : (b : Bool) → IfOk (if b then Err TooManyCalls else Ok (p, [])) (Counts p)
+    by_test true = tt
+    by_test false = (omega arith, le)
 
-header_counts : (left : List ℕ) (p : Progress) (version : Option Version) → p.calls ≤ call_limit → IfOk (after_header_byte left p version) (Counts p)
-header_counts left p None le = tt
-header_counts left p (Some version) le = (omega arith, le)
+last_counts : (last : List ℕ) (p : Progress) → p.calls ≤ call_limit → IfOk (last_begun p last) (Counts p)
+last_counts [] p le = (omega arith, le)
+last_counts (byte ∷ bytes) p le = begun_counts p.version (longer p (byte ∷ bytes)) le
 
-byte_counts : (left : List ℕ) (p : Progress) (byte : ℕ) → p.calls ≤ call_limit → IfOk (after_byte left p byte) (Counts p)
-byte_counts [] p byte le = text_counts p byte (nat_le call_limit p.calls) (byte == 10) refl le
-byte_counts (next ∷ left) p byte le = header_counts left p (told next byte p.version) le
+ended_counts : (version : Option Version) (p : Progress) → p.calls ≤ call_limit → IfOk (line_ended_by version p) (Counts p)
+ended_counts None p le = by_version (version_in p.line)
+  where
+    by_version : (found : Option Version) → IfOk (after_header p found) (Counts p)
+    by_version None = tt
+    by_version (Some version) = (omega arith, le)
+ended_counts (Some version) p le = by_test (nat_le call_limit p.calls) refl
+  where
+    by_test : (b : Bool) → nat_le call_limit p.calls ≡ b → IfOk (if b then Err TooManyCalls else after_line p (call_in version p.line)) (Counts p)
+    by_test true h = tt
+    by_test false h = line_counts p (call_in version p.line) (leb-false call_limit p.calls h)
 
 rest_counts : (p p1 : Progress) (new : List Call) (rest : Result (Progress × List Call) TraceFault) → Counts p (p1, new) → IfOk rest (Counts p1) → IfOk (rest >>= λ others. Ok (others.0, new ++ others.1)) (Counts p)
 rest_counts p p1 new (Err f) one more = tt
 rest_counts p p1 new (Ok (p2, calls)) one more = (omega (arith, one.0, more.0, length-append new calls), more.1)
 
-first_counts : (p : Progress) (bytes : List ℕ) (first : Result (Progress × List Call) TraceFault) → IfOk first (Counts p) → ((p1 : Progress) → p1.calls ≤ call_limit → IfOk (feed p1 bytes) (Counts p1))
-    → IfOk (first >>= λ one. feed one.0 bytes >>= λ others. Ok (others.0, one.1 ++ others.1)) (Counts p)
-first_counts p bytes (Err f) one more = tt
-first_counts p bytes (Ok (p1, new)) one more = rest_counts p p1 new (feed p1 bytes) one (more p1 one.1)
+first_counts : (p : Progress) (lines : List (List ℕ)) (first : Result (Progress × List Call) TraceFault) → IfOk first (Counts p) → ((p1 : Progress) → p1.calls ≤ call_limit → IfOk (feed_lines p1 lines) (Counts p1))
+    → IfOk (first >>= λ one. feed_lines one.0 lines >>= λ others. Ok (others.0, one.1 ++ others.1)) (Counts p)
+first_counts p lines (Err f) one more = tt
+first_counts p lines (Ok (p1, new)) one more = rest_counts p p1 new (feed_lines p1 lines) one (more p1 one.1)
+
+lines_counts : (lines : List (List ℕ)) (p : Progress) → p.calls ≤ call_limit → IfOk (feed_lines p lines) (Counts p)
+unfolding feed_lines
+lines_counts [] p le = (omega arith, le)
+lines_counts (last ∷ []) p le = last_counts last p le
+lines_counts (line ∷ next ∷ lines) p le = first_counts p (next ∷ lines) (line_ended (longer p line)) (ended_counts p.version (longer p line) le) (λ p1 le1. lines_counts (next ∷ lines) p1 le1)
 
 feed_counts : (bytes : List ℕ) (p : Progress) → p.calls ≤ call_limit → IfOk (feed p bytes) (Counts p)
-unfolding feed step
-feed_counts [] p le = (omega arith, le)
-feed_counts (byte ∷ bytes) p le = first_counts p bytes (step p byte) (byte_counts p.header_left p byte le) (λ p1 le1. feed_counts bytes p1 le1)
+unfolding feed
+feed_counts bytes p le = lines_counts (slice_split (λ b. b == 10) bytes) p le
 
 -- ---- one more piece
 
@@ -137,14 +154,14 @@ all_read None now bytes p end = tt
 all_read (Some a) None bytes p end = absurd p
 all_read (Some a) (Some b) bytes p end = p ∙ ap (λ (t : List ℕ). bytes ++ t) end ∙ append-nil bytes
 
-reading_of : (text : List ℕ) (fault : Option TraceFault) (p : Progress) (calls : List Call) (r : Result (Unit {0}) TraceFault) → feed start text ≡ answer fault p calls → MatchOption fault (r ≡ ended p.header_left p.line) (λ f. r ≡ Err f) → reading text ≡ (r >>= λ e. Ok calls)
+reading_of : (text : List ℕ) (fault : Option TraceFault) (p : Progress) (calls : List Call) (r : Result (Unit {0}) TraceFault) → feed start text ≡ answer fault p calls → MatchOption fault (r ≡ ended p.version p.line) (λ f. r ≡ Err f) → reading text ≡ (r >>= λ e. Ok calls)
 unfolding reading
 reading_of text None p calls r h e = rw (h, e) refl
 reading_of text (Some f) p calls r h e = rw (h, e) refl
 
 -- the whole text is read
 finished : (stream : Streamed) (bytes : List ℕ) (calls : List Call) (first now : Option (List ℕ)) (result : Result (Unit {0}) TraceFault) → HasRead stream bytes calls first now → IsAtEnd now
-    → MatchOption stream.reader.fault (result ≡ ended stream.reader.progress.header_left stream.reader.progress.line) (λ f. result ≡ Err f) → IfSome first (λ text. reading text ≡ (result >>= λ e. Ok calls))
+    → MatchOption stream.reader.fault (result ≡ ended stream.reader.progress.version stream.reader.progress.line) (λ f. result ≡ Err f) → IfSome first (λ text. reading text ≡ (result >>= λ e. Ok calls))
 finished stream bytes calls None now result h end e = tt
 finished stream bytes calls (Some text) now result h end e =
     let same : text ≡ bytes = all_read (Some text) now bytes h.consumed end in
@@ -159,12 +176,12 @@ read_is_refused : (known : Option (List ℕ)) (fault : TraceFault) → IfSome kn
 read_is_refused None fault h = tt
 read_is_refused (Some text) fault h = let e : Reads text (Err fault) = rw h at (reading_reads text) in e
 
-pub ends_a_trace : (stream : Streamed) (result : Result (Unit {0}) TraceFault) → MatchOption stream.reader.fault (result ≡ ended stream.reader.progress.header_left stream.reader.progress.line) (λ f. result ≡ Err f)
+pub ends_a_trace : (stream : Streamed) (result : Result (Unit {0}) TraceFault) → MatchOption stream.reader.fault (result ≡ ended stream.reader.progress.version stream.reader.progress.line) (λ f. result ≡ Err f)
     → OnOk result ((bytes : List ℕ) (calls : List Call) (first now : Option (List ℕ)) → HasRead stream bytes calls first now → IsAtEnd now → IfSome first (λ text. IsTrace text calls))
 ends_a_trace stream (Ok u) e = λ bytes calls first now h end. read_is_trace first calls (finished stream bytes calls first now (Ok u) h end e)
 ends_a_trace stream (Err f) e = tt
 
-pub ends_refused : (stream : Streamed) (result : Result (Unit {0}) TraceFault) (fault : TraceFault) → MatchOption stream.reader.fault (result ≡ ended stream.reader.progress.header_left stream.reader.progress.line) (λ f. result ≡ Err f) → result ≡ Err fault
+pub ends_refused : (stream : Streamed) (result : Result (Unit {0}) TraceFault) (fault : TraceFault) → MatchOption stream.reader.fault (result ≡ ended stream.reader.progress.version stream.reader.progress.line) (λ f. result ≡ Err f) → result ≡ Err fault
     → (bytes : List ℕ) (calls : List Call) (first now : Option (List ℕ)) → HasRead stream bytes calls first now → IsAtEnd now → IfSome first (λ text. IsRefused text fault)
 ends_refused stream result fault e is bytes calls first now h end = read_is_refused first fault (rw is at (finished stream bytes calls first now result h end e))
 

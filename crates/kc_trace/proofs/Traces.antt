@@ -1,42 +1,30 @@
--- What is read byte after byte is the trace.
-use Rattle.std.proofs.Common.{◌≡◌, ◌⊎◌, ◌≤◌, ◌<◌, ◌+◌, ℕ, Bool, true, false, cond, List, [], ◌∷◌, ◌++◌, length, Option, Some, None, Result, Ok, Err, refl, sym, ap, subst, ◌∙◌, append_assoc, arith, inl, inr, length-append, zero-add}
+-- What is read line after line is the trace.
+use Rattle.std.proofs.Common.{◌≡◌, ◌⊎◌, ◌≤◌, ◌<◌, ◌+◌, ℕ, Bool, true, false, cond, List, [], ◌∷◌, ◌++◌, length, drop, Option, Some, None, Result, Ok, Err, refl, sym, ap, subst, ◌∙◌, append_assoc, arith, inl, inr, length-append, zero-add}
 use Rattle.std.specs.Global.{Vec}
-use Rattle.std.specs.Prelude.{codes, MatchResult, ◌==◌, not, nat_le}
-use Rattle.std.specs.List.{concat, list_all}
-use Rattle.std.proofs.lemmas.Bool.{and_parts, and_from, eqb-true, not-true, le-leb, lt-leb, lt-ltb, le-ltb, cases_lt, cases_eq, cases_Bool, eq-eqb, ne_eqb}
+use Rattle.std.specs.Prelude.{MatchResult, ◌==◌, not, nat_le}
+use Rattle.std.specs.List.{concat, list_all, slice_split, starts_with}
+use Rattle.std.specs.Str.{bytes_eq}
+use Rattle.std.proofs.lemmas.Bool.{and_parts, and_from, eqb-true, le-leb, lt-leb, leb-false, cases_lt, cases_Bool, or_cases, or_right, false_from_ne_true}
+use Rattle.std.proofs.lemmas.Bool.Decides.{Decides-eqb}
 use Rattle.std.proofs.lemmas.List.{append-nil}
 use Rattle.std.proofs.lemmas.List.Concat.{flat_map-cons}
+use Rattle.std.proofs.lemmas.List.Folds.{list_all-append}
+use Rattle.std.proofs.lemmas.Slice.Eq.{bytes_eq-Decides, starts_is}
 use Rattle.kc_types.specs.declared.version.Version.{Version}
 use Rattle.kc_types.specs.declared.version.Version.TheVariants.{One, Two}
 use Rattle.kc_types.specs.declared.call.Call.{Call}
 use Rattle.kc_types.specs.Limits.{line_limit}
 use Rattle.kc_trace.specs.declared.fault.TraceFault.{TraceFault}
 use Rattle.kc_trace.specs.declared.fault.TraceFault.TheVariants.{NoHeader, BadLine, NoNewline, TooManyCalls, Memory}
-use Rattle.kc_trace.specs.Spelling.{line_of, lines_of, trace_header, stands_in}
-use Rattle.kc_trace.specs.Machine.{◌>>=◌, Gives, Fails, Progress, start, with_byte, told, standing, call_of_kept, call_in, after_line, step, feed, feed_each, line_ended, ended, reading}
+use Rattle.kc_trace.specs.Spelling.{line_of, lines_of, header_line, trace_header, stands_in}
+use Rattle.kc_trace.specs.Machine.{◌>>=◌, Gives, Fails, Progress, start, kept, longer_line, longer, version_in, begins_header, standing, call_of_kept, call_in, after_line, begun, after_header, line_ended, with_front, feed, feed_each, nothing_begun, ended, reading}
 use Rattle.kc_lines.specs.Lines.{IsOneLine}
 use Rattle.kc_trace.specs.Trace.{IsCallOf, AreCalls, StopsAt, IsTrace, IsRefused}
 use Rattle.kc_trace.proofs.Lines.{line_fits, line_is_one, call_of-line_of}
+use Rattle.kc_trace.proofs.Runs.{is_newline, cut_first, feed_nothing, feed_begun, feed_ended}
 use Rattle.kc_trace.proofs.Spelled.{line_is_spelled}
 
 -- ---- a line that is kept
-
-abbrev kept : List ℕ → Option (List ℕ)
-kept line = cond (nat_le (length line) line_limit) (Some line) None
-
-length_pushed : (line : List ℕ) (byte : ℕ) → length (line ++ byte ∷ []) ≡ length line + 1
-length_pushed line byte = omega (arith, length-append line (byte ∷ []))
-
-longer-kept : (line : List ℕ) (byte : ℕ) → with_byte (kept line) byte ≡ kept (line ++ byte ∷ [])
-longer-kept line byte =
-    let more = length_pushed line byte in
-    elim (cases_lt (length line) line_limit) [
-      | inl lt ↦ rw (le-leb (length line) line_limit (omega arith), lt-ltb (length line) line_limit lt, le-leb (length (line ++ byte ∷ [])) line_limit (omega (arith, more))) refl
-      | inr le ↦ elim (cases_lt line_limit (length line)) [
-        | inl past ↦ rw (lt-leb (length line) line_limit past, lt-leb (length (line ++ byte ∷ [])) line_limit (omega (arith, more))) refl
-        | inr same ↦ rw (le-leb (length line) line_limit same, le-ltb (length line) line_limit le, lt-leb (length (line ++ byte ∷ [])) line_limit (omega (arith, more))) refl
-      ]
-    ]
 
 stood : (v : Version) (found : Option Call) (call : Call) → standing v found ≡ Some call → (found ≡ Some call) × (stands_in v call ≡ true)
 stood v None call e = cc
@@ -62,21 +50,17 @@ kept_is_none v line e call fits same =
 
 -- ---- the text behind the header
 
-abbrev at_line : Version → ℕ → List ℕ → Progress
-at_line v calls line = record { header_left = []; version = v; calls = calls; line = kept line }
+-- behind so many calls, in front of a line
+abbrev at_line : Version → ℕ → Progress
+at_line v calls = record { version = Some v; calls = calls; line = Some [] }
 
 -- the calls from there on
 abbrev outcome : Progress → List ℕ → Result (List Call) TraceFault
-outcome progress bytes = feed progress bytes >>= λ all. ended all.0.header_left all.0.line >>= λ end. Ok all.1
+outcome progress bytes = feed progress bytes >>= λ all. ended all.0.version all.0.line >>= λ end. Ok all.1
 
 abbrev Answers : Version → ℕ → List ℕ → Result (List Call) TraceFault → Type 0
 Answers v before text (Ok calls) = (text ≡ lines_of calls) × AreCalls v calls × (before + length calls ≤ 65536)
 Answers v before text (Err fault) = (calls : List Call) × (rest : List ℕ) × (text ≡ lines_of calls ++ rest) × AreCalls v calls × StopsAt v (before + length calls) rest fault
-
-record IsBegun (before : ℕ) (line : List ℕ) : Type 0 where
-  few : before ≤ 65536
-  room : 0 < length line → before < 65536
-  one_line : IsOneLine line
 
 abbrev onto : List Call → Result (List Call) TraceFault → Result (List Call) TraceFault
 onto new read = read >>= λ calls. Ok (new ++ calls)
@@ -88,31 +72,23 @@ through_end new calls (Err f) = refl
 abbrev pub added : List Call → Progress × List Call → Result (Progress × List Call) TraceFault
 added new x = Ok (x.0, new ++ x.1)
 
-through : (new : List Call) (read : Result (Progress × List Call) TraceFault) → ((read >>= added new) >>= λ all. ended all.0.header_left all.0.line >>= λ end. Ok all.1) ≡ onto new (read >>= λ all. ended all.0.header_left all.0.line >>= λ end. Ok all.1)
-through new (Ok x) = through_end new x.1 (ended x.0.header_left x.0.line)
+through : (new : List Call) (read : Result (Progress × List Call) TraceFault) → ((read >>= added new) >>= λ all. ended all.0.version all.0.line >>= λ end. Ok all.1) ≡ onto new (read >>= λ all. ended all.0.version all.0.line >>= λ end. Ok all.1)
+through new (Ok x) = through_end new x.1 (ended x.0.version x.0.line)
 through new (Err f) = refl
 
-outcome-cons : (p q : Progress) (byte : ℕ) (bytes : List ℕ) (new : List Call) → step p byte ≡ Ok (q, new) → outcome p (byte ∷ bytes) ≡ onto new (outcome q bytes)
-unfolding feed
-outcome-cons p q byte bytes new h = rw h (through new (feed q bytes))
+outcome-ended : (p q : Progress) (line rest : List ℕ) (new : List Call) → IsOneLine line → line_ended (longer p line) ≡ Ok (q, new) → outcome p (line ++ 10 ∷ rest) ≡ onto new (outcome q rest)
+outcome-ended p q line rest new one h = rw (feed_ended p line rest one, h) (through new (feed q rest))
 
-outcome-err : (p : Progress) (byte : ℕ) (bytes : List ℕ) (f : TraceFault) → step p byte ≡ Err f → outcome p (byte ∷ bytes) ≡ Err f
-unfolding feed
-outcome-err p byte bytes f h = rw h refl
+outcome-stuck : (p : Progress) (line rest : List ℕ) (f : TraceFault) → IsOneLine line → line_ended (longer p line) ≡ Err f → outcome p (line ++ 10 ∷ rest) ≡ Err f
+outcome-stuck p line rest f one h = rw (feed_ended p line rest one, h) refl
 
--- ---- each byte
+-- ---- each line
 
-too_many : (v : Version) (before : ℕ) (line : List ℕ) (byte : ℕ) → 65536 ≤ before → step (at_line v before line) byte ≡ Err TooManyCalls
-unfolding step
-too_many v before line byte le = rw (le-leb 65536 before le) refl
+too_many : (v : Version) (before : ℕ) (line : List ℕ) → 65536 ≤ before → line_ended (longer (at_line v before) line) ≡ Err TooManyCalls
+too_many v before line le = rw (le-leb 65536 before le) refl
 
-line_ends : (v : Version) (before : ℕ) (line : List ℕ) (byte : ℕ) → before < 65536 → byte ≡ 10 → step (at_line v before line) byte ≡ after_line (at_line v before line) (call_in v (kept line))
-unfolding step
-line_ends v before line byte lt e = rw (lt-leb 65536 before lt, e) refl
-
-line_grows : (v : Version) (before : ℕ) (line : List ℕ) (byte : ℕ) → before < 65536 → (byte == 10) ≡ false → step (at_line v before line) byte ≡ Ok (at_line v before (line ++ byte ∷ []), [])
-unfolding step
-line_grows v before line byte lt e = rw (lt-leb 65536 before lt, e, longer-kept line byte) refl
+line_ends : (v : Version) (before : ℕ) (line : List ℕ) → before < 65536 → line_ended (longer (at_line v before) line) ≡ after_line (longer (at_line v before) line) (call_in v (kept line))
+line_ends v before line lt = rw (lt-leb 65536 before lt) refl
 
 lift_call : (v : Version) (before : ℕ) (line : List ℕ) (call : Call) (bytes : List ℕ) (read : Result (List Call) TraceFault) → line ≡ line_of call → IsCallOf v call
     → Answers v (before + 1) bytes read → Answers v before (line ++ 10 ∷ bytes) (onto (call ∷ []) read)
@@ -132,149 +108,116 @@ one_line_pushed (x ∷ line) byte h e =
     let parts = and_parts (not (x == 10)) (list_all (λ b. not (b == 10)) line) h in
     and_from (not (x == 10)) (list_all (λ b. not (b == 10)) (line ++ byte ∷ [])) parts.0 (one_line_pushed line byte parts.1 e)
 
-ends_open : (byte : ℕ) (line : List ℕ) (b : Bool) → line_ended (cond b (Some (byte ∷ line)) None) ≡ Err NoNewline
+ends_open : (byte : ℕ) (line : List ℕ) (b : Bool) → nothing_begun (cond b (Some (byte ∷ line)) None) ≡ Err NoNewline
 ends_open byte line true = refl
 ends_open byte line false = refl
 
-at_end : (v : Version) (before : ℕ) (line : List ℕ) → IsBegun before line → Answers v before (line ++ []) (outcome (at_line v before line) [])
-unfolding feed
-at_end v before [] begun = (refl, tt, omega (arith, begun.few))
-at_end v before (x ∷ line) begun =
-    subst (λ (e : Result (Unit {0}) TraceFault). Answers v before ((x ∷ line) ++ []) (e >>= λ end. Ok [])) (sym (ends_open x line (nat_le (length (x ∷ line)) line_limit)))
-    ([], x ∷ line, append-nil (x ∷ line), tt, (let lt : before < 65536 = begun.room (omega arith) in omega arith, omega arith, begun.one_line))
+at_end : (v : Version) (before : ℕ) (line : List ℕ) → before ≤ 65536 → IsOneLine line → Answers v before line (outcome (at_line v before) line)
+at_end v before [] few one = rw (feed_nothing (at_line v before)) (refl, tt, omega (arith, few))
+at_end v before (byte ∷ line) few one = elim (cases_lt before 65536) [
+  | inl lt ↦
+      rw (feed_begun (at_line v before) (byte ∷ line) (omega arith) one, lt-leb 65536 before lt, ends_open byte line (nat_le (length (byte ∷ line)) line_limit))
+      ([], byte ∷ line, refl, tt, (omega (arith, lt), omega arith, one))
+  | inr le ↦
+      rw (feed_begun (at_line v before) (byte ∷ line) (omega arith) one, le-leb 65536 before le)
+      ([], byte ∷ line, refl, tt, (omega (arith, few, le), omega arith))
+]
 
 -- what a newline makes of the line before it
-at_newline : (v : Version) (before : ℕ) (line bytes : List ℕ) (found : Option Call) → call_in v (kept line) ≡ found → IsBegun before line → before < 65536
-    → ((call : Call) → Answers v (before + 1) bytes (outcome (at_line v (before + 1) []) bytes))
-    → Answers v before (line ++ 10 ∷ bytes) (outcome (at_line v before line) (10 ∷ bytes))
-at_newline v before line bytes None e begun lt later =
-    let refused : step (at_line v before line) 10 ≡ Err (BadLine (before + 2)) = line_ends v before line 10 lt refl ∙ ap (after_line (at_line v before line)) e in
-    rw (outcome-err (at_line v before line) 10 bytes (BadLine (before + 2)) refused)
-    ([], line ++ 10 ∷ bytes, refl, tt, (omega arith, omega arith, (line, bytes, refl, begun.one_line, kept_is_none v line e)))
-at_newline v before line bytes (Some call) e begun lt later =
+at_newline : (v : Version) (before : ℕ) (line bytes : List ℕ) (found : Option Call) → call_in v (kept line) ≡ found → IsOneLine line → before < 65536
+    → ((call : Call) → Answers v (before + 1) bytes (outcome (at_line v (before + 1)) bytes))
+    → Answers v before (line ++ 10 ∷ bytes) (outcome (at_line v before) (line ++ 10 ∷ bytes))
+at_newline v before line bytes None e one lt later =
+    rw (outcome-stuck (at_line v before) line bytes (BadLine (before + 2)) one (line_ends v before line lt ∙ ap (after_line (longer (at_line v before) line)) e))
+    ([], line ++ 10 ∷ bytes, refl, tt, (omega (arith, lt), omega arith, (line, bytes, refl, one, kept_is_none v line e)))
+at_newline v before line bytes (Some call) e one lt later =
     let parts = kept_is_call v line call e in
-    let taken : step (at_line v before line) 10 ≡ Ok (at_line v (before + 1) [], call ∷ []) = line_ends v before line 10 lt refl ∙ ap (after_line (at_line v before line)) e in
-    rw (outcome-cons (at_line v before line) (at_line v (before + 1) []) 10 bytes (call ∷ []) taken)
-    (lift_call v before line call bytes (outcome (at_line v (before + 1) []) bytes) parts.0 parts.1 (later call))
+    rw (outcome-ended (at_line v before) (at_line v (before + 1)) line bytes (call ∷ []) one (line_ends v before line lt ∙ ap (after_line (longer (at_line v before) line)) e))
+    (lift_call v before line call bytes (outcome (at_line v (before + 1)) bytes) parts.0 parts.1 (later call))
 
-answers : (v : Version) (bytes : List ℕ) (before : ℕ) (line : List ℕ) → IsBegun before line → Answers v before (line ++ bytes) (outcome (at_line v before line) bytes)
-answers v [] before line begun = at_end v before line begun
-answers v (byte ∷ bytes) before line begun =
-    elim (cases_lt before 65536) [
-      | inl lt ↦ elim (cases_Bool (byte == 10)) [
-        | inl newline ↦
-            let same : byte ≡ 10 = eqb-true _ _ newline in
-            rw same (at_newline v before line bytes (call_in v (kept line)) refl begun lt (λ call. answers v bytes (before + 1) [] (record { few = omega arith; room = λ some. absurd (omega arith); one_line = refl })))
-        | inr other ↦
-            let grown = line_grows v before line byte lt other in
-            let more = answers v bytes before (line ++ byte ∷ []) (record { few = begun.few; room = λ some. lt; one_line = one_line_pushed line byte begun.one_line other }) in
-            rw (outcome-cons (at_line v before line) (at_line v before (line ++ byte ∷ [])) byte bytes [] grown, onto_nothing (outcome (at_line v before (line ++ byte ∷ [])) bytes))
-            (rw append_assoc at more)
+answers : (v : Version) (bytes : List ℕ) (before : ℕ) (line : List ℕ) → before ≤ 65536 → IsOneLine line → Answers v before (line ++ bytes) (outcome (at_line v before) (line ++ bytes))
+answers v [] before line few one = rw (append-nil line) (at_end v before line few one)
+answers v (byte ∷ bytes) before line few one = elim (cases_Bool (byte == 10)) [
+  | inr other ↦ rw append_assoc at (answers v bytes before (line ++ byte ∷ []) few (one_line_pushed line byte one other))
+  | inl newline ↦
+      rw (eqb-true byte 10 newline)
+      elim (cases_lt before 65536) [
+        | inl lt ↦ at_newline v before line bytes (call_in v (kept line)) refl one lt (λ call. answers v bytes (before + 1) [] (omega (arith, lt)) refl)
+        | inr le ↦
+            rw (outcome-stuck (at_line v before) line bytes TooManyCalls one (too_many v before line le))
+            ([], line ++ 10 ∷ bytes, refl, tt, (omega (arith, few, le), omega (arith, length-append line (10 ∷ bytes))))
       ]
-      | inr le ↦
-          let full : before ≡ 65536 = let few = begun.few in omega arith in
-          rw (outcome-err (at_line v before line) byte bytes TooManyCalls (too_many v before line byte le))
-          ([], line ++ byte ∷ bytes, refl, tt, (omega arith, omega (arith, length-append line (byte ∷ bytes))))
-    ]
+]
 
 -- ---- the header
 
-abbrev in_header : Version → List ℕ → Progress
-in_header v left = record { header_left = left; version = v; calls = 0; line = Some [] }
+header_is_line : (v : Version) → IsOneLine (header_line v)
+header_is_line One = refl
+header_is_line Two = refl
 
-header_byte : (v w : Version) (left : List ℕ) (next byte : ℕ) → told next byte v ≡ Some w → step (in_header v (next ∷ left)) byte ≡ Ok (in_header w left, [])
-unfolding step
-header_byte v w left next byte tells = rw tells refl
+header_told : (v : Version) → version_in (kept (header_line v)) ≡ Some v
+header_told One = refl
+header_told Two = refl
 
-no_header_byte : (v : Version) (left : List ℕ) (next byte : ℕ) → told next byte v ≡ None → step (in_header v (next ∷ left)) byte ≡ Err NoHeader
-unfolding step
-no_header_byte v left next byte tells = rw tells refl
+header_cut : (v : Version) (rest : List ℕ) → trace_header v ++ rest ≡ header_line v ++ 10 ∷ rest
+header_cut v rest = append_assoc (header_line v) (10 ∷ []) rest
 
-next_told : (v w : Version) (left bytes : List ℕ) (next byte : ℕ) → told next byte v ≡ Some w → outcome (in_header v (next ∷ left)) (byte ∷ bytes) ≡ outcome (in_header w left) bytes
-next_told v w left bytes next byte tells = outcome-cons (in_header v (next ∷ left)) (in_header w left) byte bytes [] (header_byte v w left next byte tells) ∙ onto_nothing (outcome (in_header w left) bytes)
-
--- bytes of the header before or behind the digit
-abbrev is_plain : ℕ → Bool
-is_plain next = not (next == 49)
-
-plain_told : (v : Version) (next byte : ℕ) → is_plain next ≡ true → (byte ≡ next → ⊥) → told next byte v ≡ None
-plain_told v next byte plain other = rw (ne_eqb byte next other, not-true (next == 49) plain) refl
-
-abbrev PartCases : Version → List ℕ → List ℕ → List ℕ → Type 0
-PartCases v part left bytes =
-    ((rest : List ℕ) × (bytes ≡ part ++ rest) × (outcome (in_header v (part ++ left)) bytes ≡ outcome (in_header v left) rest))
-    ⊎ ((outcome (in_header v (part ++ left)) bytes ≡ Err NoHeader) × ((rest : List ℕ) → bytes ≡ part ++ rest → ⊥))
-
-through_part : (v : Version) (part left bytes : List ℕ) → list_all is_plain part ≡ true → PartCases v part left bytes
-unfolding feed
-through_part v [] left bytes plain = inl (bytes, refl, refl)
-through_part v (next ∷ part) left [] plain = inr (refl, λ rest e. cc)
-through_part v (next ∷ part) left (byte ∷ bytes) plain =
-    let parts = and_parts (is_plain next) (list_all is_plain part) plain in
-    elim (cases_eq byte next) [
-      | inl same ↦
-          let here = next_told v v (part ++ left) bytes next byte (rw (eq-eqb byte next same) refl) in
-          elim (through_part v part left bytes parts.1) [
-            | inl h ↦ inl (h.0, rw (same, h.1) refl, here ∙ h.2)
-            | inr h ↦ inr (here ∙ h.0, λ rest e. h.1 rest (let tail : bytes ≡ part ++ rest = cc in tail))
-          ]
-      | inr other ↦ inr (outcome-err (in_header v (next ∷ part ++ left)) byte bytes NoHeader (no_header_byte v (part ++ left) next byte (plain_told v next byte parts.0 other)), λ rest e. other (let head : byte ≡ next = cc in head))
-    ]
-
--- what stands behind the header's name: a digit and a newline
-abbrev digit : Version → ℕ
-digit One = 49
-digit Two = 50
-
-abbrev DigitCases : List ℕ → Type 0
-DigitCases bytes =
-    ((v : Version) × (rest : List ℕ) × (bytes ≡ digit v ∷ 10 ∷ rest) × (outcome (in_header One (49 ∷ 10 ∷ [])) bytes ≡ outcome (in_header v []) rest))
-    ⊎ ((outcome (in_header One (49 ∷ 10 ∷ [])) bytes ≡ Err NoHeader) × ((v : Version) (rest : List ℕ) → bytes ≡ digit v ∷ 10 ∷ rest → ⊥))
-
-behind_digit : (v : Version) (bytes : List ℕ) → outcome (in_header One (49 ∷ 10 ∷ [])) (digit v ∷ bytes) ≡ outcome (in_header v (10 ∷ [])) bytes → DigitCases (digit v ∷ bytes)
-behind_digit v bytes here = elim (through_part v (10 ∷ []) [] bytes refl) [
-  | inl h ↦ inl (v, h.0, rw h.1 refl, here ∙ h.2)
-  | inr h ↦ inr (here ∙ h.0, λ w rest e. h.1 rest (let tail : bytes ≡ 10 ∷ rest = cc in tail))
-]
-
-through_digit : (bytes : List ℕ) → DigitCases bytes
-unfolding feed
-through_digit [] = inr (refl, λ v rest e. cc)
-through_digit (byte ∷ bytes) = elim (cases_eq byte 49) [
-  | inl one ↦ rw one (behind_digit One bytes (next_told One One (10 ∷ []) bytes 49 49 refl))
-  | inr other ↦ elim (cases_eq byte 50) [
-    | inl two ↦ rw two (behind_digit Two bytes (next_told One Two (10 ∷ []) bytes 49 50 refl))
-    | inr neither ↦ inr (outcome-err (in_header One (49 ∷ 10 ∷ [])) byte bytes NoHeader (no_header_byte One (10 ∷ []) 49 byte (rw (ne_eqb byte 49 other, ne_eqb byte 50 neither) refl)), λ v rest e. no_digit v (let head : byte ≡ digit v = cc in head) other neither)
-  ]
-]
+version_of_line : (v : Version) (line : List ℕ) → version_in (Some line) ≡ Some v → line ≡ header_line v
+version_of_line v line = by_tests (bytes_eq line (header_line One)) (bytes_eq line (header_line Two)) refl refl
   where
-    no_digit : (v : Version) {byte : ℕ} → byte ≡ digit v → (byte ≡ 49 → ⊥) → (byte ≡ 50 → ⊥) → ⊥
-    no_digit One e other neither = other e
-    no_digit Two e other neither = neither e
+    by_tests : (one two : Bool) → bytes_eq line (header_line One) ≡ one → bytes_eq line (header_line Two) ≡ two → cond one (Some One) (cond two (Some Two) None) ≡ Some v → line ≡ header_line v
+    by_tests true two h k e = let same : One ≡ v = cc in subst (λ v. line ≡ header_line v) same ((bytes_eq-Decides line (header_line One)).0 h)
+    by_tests false true h k e = let same : Two ≡ v = cc in subst (λ v. line ≡ header_line v) same ((bytes_eq-Decides line (header_line Two)).0 k)
+    by_tests false false h k e = absurd cc
 
--- the header's name, in front of its digit
-abbrev name : List ℕ
-name = codes "kcore-trace "
+version_of_kept : (v : Version) (line : List ℕ) → version_in (kept line) ≡ Some v → line ≡ header_line v
+version_of_kept v line e = by_test (nat_le (length line) line_limit) e
+  where
+    by_test : (b : Bool) → version_in (cond b (Some line) None) ≡ Some v → line ≡ header_line v
+    by_test true e = version_of_line v line e
+    by_test false e = absurd cc
 
-header_is : (v : Version) (rest : List ℕ) → trace_header v ++ rest ≡ name ++ digit v ∷ 10 ∷ rest
-header_is One rest = refl
-header_is Two rest = refl
+-- two texts whose first lines end have the same first line
+same_line : (one two more rest : List ℕ) → IsOneLine one → IsOneLine two → one ++ 10 ∷ more ≡ two ++ 10 ∷ rest → one ≡ two
+same_line one two more rest h k e =
+    let cut : one ∷ slice_split is_newline more ≡ two ∷ slice_split is_newline rest = sym (cut_first one more h) ∙ ap (slice_split is_newline) e ∙ cut_first two rest k in
+    cc
+
+not_open : (line rest : List ℕ) (v : Version) → IsOneLine line → line ≡ header_line v ++ 10 ∷ rest → ⊥
+not_open line rest One one e = let no : IsOneLine (header_line One ++ 10 ∷ rest) = rw e at one in cc
+not_open line rest Two one e = let no : IsOneLine (header_line Two ++ 10 ∷ rest) = rw e at one in cc
 
 abbrev HeaderCases : List ℕ → Type 0
 HeaderCases text =
-    ((v : Version) × (rest : List ℕ) × (text ≡ trace_header v ++ rest) × (outcome start text ≡ outcome (in_header v []) rest))
+    ((v : Version) × (rest : List ℕ) × (text ≡ trace_header v ++ rest) × (outcome start text ≡ outcome (at_line v 0) rest))
     ⊎ ((outcome start text ≡ Err NoHeader) × ((v : Version) (rest : List ℕ) → text ≡ trace_header v ++ rest → ⊥))
 
-behind_name : (one two : List ℕ) → name ++ one ≡ name ++ two → one ≡ two
-behind_name one two e = cc
+-- a line that does not end is no header
+open_header : (line : List ℕ) → IsOneLine line → outcome start line ≡ Err NoHeader
+open_header [] one = rw (feed_nothing start) refl
+open_header (byte ∷ line) one = rw (feed_begun start (byte ∷ line) (omega arith) one) (by_test (begins_header (kept (byte ∷ line))))
+  where
+    by_test : (b : Bool) → (cond b (Ok (longer start (byte ∷ line), [])) (Err NoHeader) >>= λ (all : Progress × List Call). ended all.0.version all.0.line >>= λ end. Ok all.1) ≡ Err NoHeader
+    by_test true = refl
+    by_test false = refl
 
-through_header : (text : List ℕ) → HeaderCases text
-through_header text = elim (through_part One name (49 ∷ 10 ∷ []) text refl) [
-  | inr none ↦ inr (none.0, λ v rest e. none.1 (digit v ∷ 10 ∷ rest) (e ∙ header_is v rest))
-  | inl named ↦ elim (through_digit named.0) [
-    | inl h ↦ inl (h.0, h.1, named.1 ∙ ap (λ behind. name ++ behind) h.2 ∙ sym (header_is h.0 h.1), named.2 ∙ h.3)
-    | inr h ↦ inr (named.2 ∙ h.0, λ v rest e. h.1 v rest (behind_name named.0 (digit v ∷ 10 ∷ rest) (sym named.1 ∙ e ∙ header_is v rest)))
-  ]
+at_header : (line bytes : List ℕ) (found : Option Version) → version_in (kept line) ≡ found → IsOneLine line → HeaderCases (line ++ 10 ∷ bytes)
+at_header line bytes (Some v) e one =
+    let same = version_of_kept v line e in
+    inl (v, bytes, rw (same, header_cut v bytes) refl, outcome-ended start (at_line v 0) line bytes [] one (ap (after_header (longer start line)) e) ∙ onto_nothing (outcome (at_line v 0) bytes))
+at_header line bytes None e one =
+    inr (
+      outcome-stuck start line bytes NoHeader one (ap (after_header (longer start line)) e),
+      λ v rest is.
+          let same = same_line line (header_line v) bytes rest one (header_is_line v) (is ∙ header_cut v rest) in
+          let no : Some v ≡ None = sym (header_told v) ∙ ap (λ line. version_in (kept line)) (sym same) ∙ e in cc,
+    )
+
+through_header : (bytes line : List ℕ) → IsOneLine line → HeaderCases (line ++ bytes)
+through_header [] line one = rw (append-nil line) (inr (open_header line one, λ v rest e. not_open line rest v one (e ∙ header_cut v rest)))
+through_header (byte ∷ bytes) line one = elim (cases_Bool (byte == 10)) [
+  | inl newline ↦ rw (eqb-true byte 10 newline) (at_header line bytes (version_in (kept line)) refl one)
+  | inr other ↦ rw append_assoc at (through_header bytes (line ++ byte ∷ []) (one_line_pushed line byte one other))
 ]
 
 -- ---- the whole text
@@ -298,19 +241,12 @@ reading_is text = refl
 -- what reading answers is the trace, or the first reason why there is none
 pub reading_reads : (text : List ℕ) → Reads text (reading text)
 reading_reads text =
-    elim (through_header text) [
-      | inl h ↦ subst (Reads text) (sym (reading_is text ∙ h.3)) (behind_header h.0 text h.1 (outcome (in_header h.0 []) h.1) h.2 (answers h.0 h.1 0 [] (record { few = omega arith; room = λ some. absurd (omega arith); one_line = refl })))
+    elim (through_header text [] refl) [
+      | inl h ↦ subst (Reads text) (sym (reading_is text ∙ h.3)) (behind_header h.0 text h.1 (outcome (at_line h.0 0) h.1) h.2 (answers h.0 h.1 0 [] (omega arith) refl))
       | inr h ↦ subst (Reads text) (sym (reading_is text ∙ h.0)) h.1
     ]
 
--- ---- the other way: a trace is read again
-
-grows_by : (v : Version) (bytes : List ℕ) (before : ℕ) (line : List ℕ) → before < 65536 → IsOneLine bytes → feed (at_line v before line) bytes ≡ Ok (at_line v before (line ++ bytes), [])
-unfolding feed
-grows_by v [] before line lt h = rw (append-nil line) refl
-grows_by v (byte ∷ bytes) before line lt h =
-    let parts = and_parts (not (byte == 10)) (list_all (λ b. not (b == 10)) bytes) h in
-    rw (line_grows v before line byte lt (not-true (byte == 10) parts.0), grows_by v bytes before (line ++ byte ∷ []) lt parts.1, append_assoc line (byte ∷ []) bytes) refl
+-- ---- two pieces
 
 added_nothing : (read : Result (Progress × List Call) TraceFault) → read ≡ (read >>= added [])
 added_nothing (Ok x) = refl
@@ -327,16 +263,131 @@ regrouped_feeds : (two : List ℕ) (new : List Call) (read : Result (Progress ×
 regrouped_feeds two new (Ok y) = added_twice new y.1 (feed y.0 two)
 regrouped_feeds two new (Err f) = refl
 
+longer_twice : (p : Progress) (one two : List ℕ) → longer (longer p one) two ≡ longer p (one ++ two)
+longer_twice p one two = ap (λ line. record p { line = line }) (twice p.line)
+  where
+    short : (line : List ℕ) (b : Bool) → nat_le (length (line ++ one)) line_limit ≡ b → longer_line (cond b (Some (line ++ one)) None) two ≡ kept (line ++ (one ++ two))
+    short line true h = ap kept (append_assoc line one two)
+    short line false h =
+        let past = leb-false (length (line ++ one)) line_limit h in
+        let sizes = length-append (line ++ one) two in
+        let more : line_limit < length (line ++ (one ++ two)) = rw append_assoc at (let more : line_limit < length ((line ++ one) ++ two) = omega (arith, past, sizes) in more) in
+        rw (lt-leb (length (line ++ (one ++ two))) line_limit more) refl
+
+    twice : (line : Option (List ℕ)) → longer_line (longer_line line one) two ≡ longer_line line (one ++ two)
+    twice None = refl
+    twice (Some line) = short line (nat_le (length (line ++ one)) line_limit) refl
+
+starts_from : (header line rest : List ℕ) → header ≡ line ++ rest → starts_with ◌==◌ header line ≡ true
+starts_from header line rest e = (starts_is Decides-eqb header line (starts_with ◌==◌ header line) refl).1 rest e
+
+starts_back : (header line more : List ℕ) → starts_with ◌==◌ header (line ++ more) ≡ true → starts_with ◌==◌ header line ≡ true
+starts_back header line more h =
+    let is = (starts_is Decides-eqb header (line ++ more) (starts_with ◌==◌ header (line ++ more)) refl).0 h in
+    starts_from header line (more ++ drop (length (line ++ more)) header) (is ∙ append_assoc line more (drop (length (line ++ more)) header))
+
+begins_back : (line : Option (List ℕ)) (more : List ℕ) → begins_header (longer_line line more) ≡ true → begins_header line ≡ true
+begins_back None more h = h
+begins_back (Some line) more h = by_length (nat_le (length (line ++ more)) line_limit) h
+  where
+    by_length : (b : Bool) → begins_header (cond b (Some (line ++ more)) None) ≡ true → begins_header (Some line) ≡ true
+    by_length false h = absurd cc
+    by_length true h = elim (or_cases (starts_with ◌==◌ (header_line One) (line ++ more)) (starts_with ◌==◌ (header_line Two) (line ++ more)) h) [
+      | inl one ↦ rw (starts_back (header_line One) line more one) refl
+      | inr two ↦ or_right (starts_with ◌==◌ (header_line One) line) (starts_with ◌==◌ (header_line Two) line) (starts_back (header_line Two) line more two)
+    ]
+
+-- a header begins with its own line
+told_begins : (v : Version) (line : Option (List ℕ)) → version_in line ≡ Some v → begins_header line ≡ true
+told_begins v None e = absurd cc
+told_begins v (Some line) e = rw (version_of_line v line e) (own v)
+  where
+    own : (v : Version) → begins_header (Some (header_line v)) ≡ true
+    own One = refl
+    own Two = refl
+
+-- a line that has begun so, or one that no bytes make well
+abbrev BegunCases : Progress → Type 0
+BegunCases p = (begun p ≡ Ok (p, [])) ⊎ ((f : TraceFault) × (begun p ≡ Err f) × ((more : List ℕ) → begun (longer p more) ≡ Err f) × ((more : List ℕ) → line_ended (longer p more) ≡ Err f))
+
+begun_cases : (p : Progress) → BegunCases p
+begun_cases p = by_version p.version refl
+  where
+    no_version : (more : List ℕ) → begins_header p.line ≡ false → (found : Option Version) → version_in (longer_line p.line more) ≡ found → after_header (longer p more) found ≡ Err NoHeader
+    no_version more refused None e = refl
+    no_version more refused (Some v) e = let yes = begins_back p.line more (told_begins v (longer_line p.line more) e) in cc
+
+    still : (more : List ℕ) → begins_header p.line ≡ false → begins_header (longer_line p.line more) ≡ false
+    still more refused = false_from_ne_true (begins_header (longer_line p.line more)) (λ yes. let back = begins_back p.line more yes in cc)
+
+    by_version : (version : Option Version) → p.version ≡ version → BegunCases p
+    by_version None is = elim (cases_Bool (begins_header p.line)) [
+      | inl begins ↦ inl (rw (is, begins) refl)
+      | inr refused ↦ inr (NoHeader, rw (is, refused) refl, (λ more. rw (is, still more refused) refl), λ more. rw is (no_version more refused (version_in (longer_line p.line more)) refl))
+    ]
+    by_version (Some v) is = elim (cases_lt p.calls 65536) [
+      | inl lt ↦ inl (rw (is, lt-leb 65536 p.calls lt) refl)
+      | inr le ↦ inr (TooManyCalls, rw (is, le-leb 65536 p.calls le) refl, (λ more. rw (is, le-leb 65536 p.calls le) refl), λ more. rw (is, le-leb 65536 p.calls le) refl)
+    ]
+
+is_one_line : (one two : List ℕ) → IsOneLine one → IsOneLine two → IsOneLine (one ++ two)
+is_one_line one two h k = rw (list_all-append (λ b. not (b == 10)) one two, h, k) refl
+
+-- where a piece ends within a line, the next goes on with it
+module _ (p : Progress) (byte : ℕ) (bytes : List ℕ) (one : IsOneLine (byte ∷ bytes)) where
+  abbrev line : List ℕ
+  line = byte ∷ bytes
+
+  here : feed p line ≡ begun (longer p line)
+  here = feed_begun p line (omega arith) one
+
+  more_begun : (more : List ℕ) → IsOneLine more → feed p (line ++ more) ≡ and_then_feed more (feed p line)
+  more_begun [] h = rw (append-nil line, here) (by_cases (begun_cases (longer p line)))
+    where
+      by_cases : BegunCases (longer p line) → begun (longer p line) ≡ and_then_feed [] (begun (longer p line))
+      by_cases (inl so) = rw (so, feed_nothing (longer p line)) refl
+      by_cases (inr stuck) = rw stuck.1 refl
+  more_begun (next ∷ more) h =
+      feed_begun p (line ++ next ∷ more) (omega arith) (is_one_line line (next ∷ more) one h) ∙ ap begun (sym (longer_twice p line (next ∷ more))) ∙ rw here (by_cases (begun_cases (longer p line)))
+    where
+      by_cases : BegunCases (longer p line) → begun (longer (longer p line) (next ∷ more)) ≡ and_then_feed (next ∷ more) (begun (longer p line))
+      by_cases (inl so) = rw (so, feed_begun (longer p line) (next ∷ more) (omega arith) h) (added_nothing (begun (longer (longer p line) (next ∷ more))))
+      by_cases (inr stuck) = rw stuck.1 (stuck.2 (next ∷ more))
+
+  more_ended : (more rest : List ℕ) → IsOneLine more → feed p (line ++ (more ++ 10 ∷ rest)) ≡ and_then_feed (more ++ 10 ∷ rest) (feed p line)
+  more_ended more rest h =
+      ap (feed p) (sym (append_assoc line more (10 ∷ rest))) ∙ feed_ended p (line ++ more) rest (is_one_line line more one h)
+      ∙ ap (λ q. line_ended q >>= λ first. with_front first.1 (feed first.0 rest)) (sym (longer_twice p line more)) ∙ rw here (by_cases (begun_cases (longer p line)))
+    where
+      by_cases : BegunCases (longer p line) → (line_ended (longer (longer p line) more) >>= λ first. with_front first.1 (feed first.0 rest)) ≡ and_then_feed (more ++ 10 ∷ rest) (begun (longer p line))
+      by_cases (inl so) = rw (so, feed_ended (longer p line) more rest h) (added_nothing (line_ended (longer (longer p line) more) >>= λ first. with_front first.1 (feed first.0 rest)))
+      by_cases (inr stuck) = rw (stuck.1, stuck.3 more) refl
+
+  goes_on : (two more : List ℕ) → IsOneLine more → feed p (line ++ (more ++ two)) ≡ and_then_feed (more ++ two) (feed p line)
+  goes_on [] more h = rw (append-nil more) (more_begun more h)
+  goes_on (next ∷ two) more h = elim (cases_Bool (next == 10)) [
+    | inl newline ↦ rw (eqb-true next 10 newline) (more_ended more two h)
+    | inr other ↦ rw append_assoc at (goes_on two (more ++ next ∷ []) (one_line_pushed more next h other))
+  ]
+
 after_first : (one two : List ℕ) (first : Result (Progress × List Call) TraceFault) → ((p : Progress) → feed p (one ++ two) ≡ and_then_feed two (feed p one))
     → and_then_feed (one ++ two) first ≡ and_then_feed two (and_then_feed one first)
 after_first one two (Ok x) ih = ap (λ (read : Result (Progress × List Call) TraceFault). read >>= added x.1) (ih x.0) ∙ regrouped_feeds two x.1 (feed x.0 one)
 after_first one two (Err f) ih = refl
 
+feed_each_byte : (one two line : List ℕ) (p : Progress) → IsOneLine line → feed p (line ++ (one ++ two)) ≡ and_then_feed two (feed p (line ++ one))
+feed_each_byte [] two [] p h = rw (feed_nothing p) (added_nothing (feed p two))
+feed_each_byte [] two (byte ∷ bytes) p h = rw (append-nil (byte ∷ bytes)) (goes_on p byte bytes h two [] refl)
+feed_each_byte (byte ∷ one) two line p h = elim (cases_Bool (byte == 10)) [
+  | inl newline ↦
+      rw (eqb-true byte 10 newline, feed_ended p line (one ++ two) h, feed_ended p line one h)
+      (after_first one two (line_ended (longer p line)) (λ q. feed_each_byte one two [] q refl))
+  | inr other ↦ rw (append_assoc line (byte ∷ []) (one ++ two), append_assoc line (byte ∷ []) one) at (feed_each_byte one two (line ++ byte ∷ []) p (one_line_pushed line byte h other))
+]
+
 -- reading two pieces in turn is reading them as one
 pub feed-append : (one two : List ℕ) (p : Progress) → feed p (one ++ two) ≡ and_then_feed two (feed p one)
-unfolding feed
-feed-append [] two p = added_nothing (feed p two)
-feed-append (byte ∷ one) two p = after_first one two (step p byte) (λ q. feed-append one two q)
+feed-append one two p = feed_each_byte one two [] p refl
 
 fails_reads : (text : List ℕ) (fault : TraceFault) (read : Result (List Call) TraceFault) → Reads text read → Fails fault read → IsRefused text fault
 fails_reads text NoHeader read h e = let h2 : Reads text (Err NoHeader) = rw e at h in h2
@@ -356,36 +407,31 @@ piece_then pieces (Ok x) ih = ap (λ (read : Result (Progress × List Call) Trac
 piece_then pieces (Err f) ih = refl
 
 pub feed_each-concat : (p : Progress) (pieces : List (List ℕ)) → feed_each p pieces ≡ feed p (concat pieces)
-unfolding feed_each feed
-feed_each-concat p [] = refl
+unfolding feed_each
+feed_each-concat p [] = sym (feed_nothing p)
 feed_each-concat p (piece ∷ pieces) = piece_then pieces (feed p piece) (λ q. feed_each-concat q pieces) ∙ sym (feed-append piece (concat pieces) p)
 
 -- ---- a trace is read again
 
-skip : (one two : List ℕ) (p q : Progress) → feed p one ≡ Ok (q, []) → outcome p (one ++ two) ≡ outcome q two
-skip one two p q h = ap (λ (read : Result (Progress × List Call) TraceFault). read >>= λ all. ended all.0.header_left all.0.line >>= λ end. Ok all.1) (feed-append one two p ∙ ap (and_then_feed two) h ∙ sym (added_nothing (feed q two)))
-
-call_again : (v : Version) (before : ℕ) (call : Call) (rest : List ℕ) → before < 65536 → IsCallOf v call → outcome (at_line v before []) (line_of call ++ 10 ∷ rest) ≡ onto (call ∷ []) (outcome (at_line v (before + 1) []) rest)
+call_again : (v : Version) (before : ℕ) (call : Call) (rest : List ℕ) → before < 65536 → IsCallOf v call → outcome (at_line v before) (line_of call ++ 10 ∷ rest) ≡ onto (call ∷ []) (outcome (at_line v (before + 1)) rest)
 call_again v before call rest lt fits =
     let short : call_in v (kept (line_of call)) ≡ Some call = rw (le-leb (length (line_of call)) line_limit (line_fits call fits.0), call_of-line_of call fits.0, fits.1) refl in
-    let taken : step (at_line v before (line_of call)) 10 ≡ Ok (at_line v (before + 1) [], call ∷ []) = line_ends v before (line_of call) 10 lt refl ∙ ap (after_line (at_line v before (line_of call))) short in
-    skip (line_of call) (10 ∷ rest) (at_line v before []) (at_line v before (line_of call)) (grows_by v (line_of call) before [] lt (line_is_one call fits.0))
-    ∙ outcome-cons (at_line v before (line_of call)) (at_line v (before + 1) []) 10 rest (call ∷ []) taken
+    outcome-ended (at_line v before) (at_line v (before + 1)) (line_of call) rest (call ∷ []) (line_is_one call fits.0) (line_ends v before (line_of call) lt ∙ ap (after_line (longer (at_line v before) (line_of call))) short)
 
-lines_again : (v : Version) (calls : List Call) (before : ℕ) → AreCalls v calls → before + length calls ≤ 65536 → outcome (at_line v before []) (lines_of calls) ≡ Ok calls
-unfolding feed
-lines_again v [] before fits few = refl
+lines_again : (v : Version) (calls : List Call) (before : ℕ) → AreCalls v calls → before + length calls ≤ 65536 → outcome (at_line v before) (lines_of calls) ≡ Ok calls
+lines_again v [] before fits few = rw (feed_nothing (at_line v before)) refl
 lines_again v (call ∷ calls) before fits few =
     let more = lines_again v calls (before + 1) fits.1 (omega (arith, few)) in
     let cut : lines_of (call ∷ calls) ≡ line_of call ++ 10 ∷ lines_of calls = flat_map-cons (λ (c : Call). line_of c ++ 10 ∷ []) call calls ∙ append_assoc (line_of call) (10 ∷ []) (lines_of calls) in
-    ap (outcome (at_line v before [])) cut ∙ call_again v before call (lines_of calls) (omega (arith, few)) fits.0 ∙ ap (onto (call ∷ [])) more
+    ap (outcome (at_line v before)) cut ∙ call_again v before call (lines_of calls) (omega (arith, few)) fits.0 ∙ ap (onto (call ∷ [])) more
 
-header_again : (v : Version) → feed start (trace_header v) ≡ Ok (in_header v [], [])
-unfolding feed step
-header_again One = refl
-header_again Two = refl
+header_again : (v : Version) (rest : List ℕ) → outcome start (trace_header v ++ rest) ≡ outcome (at_line v 0) rest
+header_again v rest =
+    ap (outcome start) (header_cut v rest)
+    ∙ outcome-ended start (at_line v 0) (header_line v) rest [] (header_is_line v) (ap (after_header (longer start (header_line v))) (header_told v))
+    ∙ onto_nothing (outcome (at_line v 0) rest)
 
 -- a trace is read as its calls
 pub reading-trace : (text : List ℕ) (calls : List Call) → IsTrace text calls → reading text ≡ Ok calls
 reading-trace text calls h =
-    reading_is text ∙ ap (outcome start) h.whole ∙ skip (trace_header h.version) (lines_of calls) start (in_header h.version []) (header_again h.version) ∙ lines_again h.version calls 0 h.each (omega (arith, h.few))
+    reading_is text ∙ ap (outcome start) h.whole ∙ header_again h.version (lines_of calls) ∙ lines_again h.version calls 0 h.each (omega (arith, h.few))

@@ -1,12 +1,14 @@
--- Reading a trace byte after byte.
-use Rattle.std.specs.Prelude.{◌+◌, ◌==◌, ◌&&◌, nat_lt, nat_le, ℕ, List, [], ◌∷◌, ◌++◌, length, Option, Some, None, if◌then◌else◌, Result, Ok, Err, ◌≡◌}
+-- Reading a trace line after line, of which the first is its header.
+use Rattle.std.specs.Prelude.{◌+◌, ◌==◌, ◌||◌, Bool, false, nat_le, ℕ, List, [], ◌∷◌, ◌++◌, length, Option, Some, None, if◌then◌else◌, Result, Ok, Err, ◌≡◌}
+use Rattle.std.specs.List.{slice_split, starts_with}
+use Rattle.std.specs.Str.{bytes_eq}
 use Rattle.kc_types.specs.declared.version.Version.{Version}
 use Rattle.kc_types.specs.declared.version.Version.TheVariants.{One, Two}
 use Rattle.kc_types.specs.declared.call.Call.{Call}
 use Rattle.kc_trace.specs.declared.fault.TraceFault.{TraceFault}
 use Rattle.kc_trace.specs.declared.fault.TraceFault.TheVariants.{NoHeader, BadLine, NoNewline, TooManyCalls, Memory}
 use Rattle.kc_types.specs.Limits.{call_limit, line_limit}
-use Rattle.kc_trace.specs.Spelling.{trace_header, stands_in}
+use Rattle.kc_trace.specs.Spelling.{header_line, stands_in}
 use Rattle.kc_trace.specs.Reading.{call_of}
 
 -- the ? of the definitions
@@ -28,27 +30,39 @@ abbrev pub Gives : {X Y : Type 0} → (X → Y) → Result X TraceFault → Resu
 Gives view (Ok x) read = read ≡ Ok (view x)
 Gives view (Err e) read = Fails e read
 
--- how far a trace has been read: what is still to come of the header, the version that it tells, how many calls
--- came, and the line begun, or nothing where it is longer than any call
+-- how far a trace has been read: the version that its header told, once that was read, how many calls came, and the
+-- line begun, or nothing where it is longer than any call
 pub record Progress : Type 0 where
-  pub header_left : List ℕ
-  pub version : Version
+  pub version : Option Version
   pub calls : ℕ
   pub line : Option (List ℕ)
 
 -- in front of the header
 abbrev pub start : Progress
-start = record { header_left = trace_header One; version = One; calls = 0; line = Some [] }
+start = record { version = None; calls = 0; line = Some [] }
 
--- the line with one more byte
-abbrev pub with_byte : Option (List ℕ) → ℕ → Option (List ℕ)
-with_byte None byte = None
-with_byte (Some line) byte = if nat_lt (length line) line_limit then Some (line ++ byte ∷ []) else None
+-- a line, or nothing where it is longer than any call
+abbrev pub kept : List ℕ → Option (List ℕ)
+kept line = if nat_le (length line) line_limit then Some line else None
 
--- the same of some bytes
-abbrev pub longer_each : Option (List ℕ) → List ℕ → Option (List ℕ)
-longer_each line [] = line
-longer_each line (byte ∷ bytes) = longer_each (with_byte line byte) bytes
+-- the line begun with more bytes
+abbrev pub longer_line : Option (List ℕ) → List ℕ → Option (List ℕ)
+longer_line None bytes = None
+longer_line (Some line) bytes = kept (line ++ bytes)
+
+-- with more bytes of its line
+abbrev pub longer : Progress → List ℕ → Progress
+longer progress bytes = record progress { line = longer_line progress.line bytes }
+
+-- the version whose header a line is
+abbrev pub version_in : Option (List ℕ) → Option Version
+version_in None = None
+version_in (Some line) = if bytes_eq line (header_line One) then Some One else if bytes_eq line (header_line Two) then Some Two else None
+
+-- whether a header begins with the line
+abbrev pub begins_header : Option (List ℕ) → Bool
+begins_header None = false
+begins_header (Some line) = starts_with ◌==◌ (header_line One) line || starts_with ◌==◌ (header_line Two) line
 
 -- the call, if it may stand in a text of this version
 abbrev pub standing : Version → Option Call → Option Call
@@ -69,37 +83,44 @@ abbrev pub after_line : Progress → Option Call → Result (Progress × List Ca
 after_line progress None = Err (BadLine (progress.calls + 2))
 after_line progress (Some call) = Ok (record progress { calls = progress.calls + 1; line = Some [] }, call ∷ [])
 
--- a byte behind the header
-abbrev pub after_text_byte : Progress → ℕ → Result (Progress × List Call) TraceFault
-after_text_byte progress byte =
-    if nat_le call_limit progress.calls then Err TooManyCalls
-    else if byte == 10 then after_line progress (call_in progress.version progress.line)
-    else Ok (record progress { line = with_byte progress.line byte }, [])
+-- a line that has begun so and not ended: no header begins so, or there are calls enough
+abbrev pub begun_by : Option Version → Progress → Result (Progress × List Call) TraceFault
+begun_by None progress = if begins_header progress.line then Ok (progress, []) else Err NoHeader
+begun_by (Some version) progress = if nat_le call_limit progress.calls then Err TooManyCalls else Ok (progress, [])
 
--- the version that the header tells, where this byte is to come of the first version's: the digit 2 may stand for its 1
-abbrev pub told : ℕ → ℕ → Version → Option Version
-told next byte version = if byte == next then Some version else if next == 49 && byte == 50 then Some Two else None
+abbrev pub begun : Progress → Result (Progress × List Call) TraceFault
+begun progress = begun_by progress.version progress
 
-abbrev pub after_header_byte : List ℕ → Progress → Option Version → Result (Progress × List Call) TraceFault
-after_header_byte left progress None = Err NoHeader
-after_header_byte left progress (Some version) = Ok (record progress { header_left = left; version = version }, [])
+-- behind a header of this version, or none
+abbrev pub after_header : Progress → Option Version → Result (Progress × List Call) TraceFault
+after_header progress None = Err NoHeader
+after_header progress (Some version) = Ok (record progress { version = Some version; line = Some [] }, [])
 
--- a byte, where this is to come of the header
-abbrev pub after_byte : List ℕ → Progress → ℕ → Result (Progress × List Call) TraceFault
-after_byte [] progress byte = after_text_byte progress byte
-after_byte (next ∷ left) progress byte = after_header_byte left progress (told next byte progress.version)
+-- behind the newline of the line begun: the header's, or a call's
+abbrev pub line_ended_by : Option Version → Progress → Result (Progress × List Call) TraceFault
+line_ended_by None progress = after_header progress (version_in progress.line)
+line_ended_by (Some version) progress = if nat_le call_limit progress.calls then Err TooManyCalls else after_line progress (call_in version progress.line)
 
--- what one more byte makes of it, and the call that it ends
-unfoldable pub step : Progress → ℕ → Result (Progress × List Call) TraceFault
-step progress byte = after_byte progress.header_left progress byte
+abbrev pub line_ended : Progress → Result (Progress × List Call) TraceFault
+line_ended progress = line_ended_by progress.version progress
 
--- the same of some bytes, with the calls in order
-unfoldable pub feed : Progress → List ℕ → Result (Progress × List Call) TraceFault
-feed progress [] = Ok (progress, [])
-feed progress (byte ∷ bytes) = do
-  first ← step progress byte
-  others ← feed first.0 bytes
+-- what the last line of a piece makes of it, which has not ended and may have no byte
+abbrev pub last_begun : Progress → List ℕ → Result (Progress × List Call) TraceFault
+last_begun progress [] = Ok (progress, [])
+last_begun progress (byte ∷ bytes) = begun (longer progress (byte ∷ bytes))
+
+-- what the lines of a piece make of it, with the calls that they are
+unfoldable pub feed_lines : Progress → List (List ℕ) → Result (Progress × List Call) TraceFault
+feed_lines progress [] = Ok (progress, [])
+feed_lines progress (last ∷ []) = last_begun progress last
+feed_lines progress (line ∷ next ∷ lines) = do
+  first ← line_ended (longer progress line)
+  others ← feed_lines first.0 (next ∷ lines)
   Ok (others.0, first.1 ++ others.1)
+
+-- what a piece makes of it, with the calls whose lines it ends
+unfoldable pub feed : Progress → List ℕ → Result (Progress × List Call) TraceFault
+feed progress bytes = feed_lines progress (slice_split (λ b. b == 10) bytes)
 
 -- what is read behind some calls, with them
 abbrev pub with_front : List Call → Result (Progress × List Call) TraceFault → Result (Progress × List Call) TraceFault
@@ -107,21 +128,21 @@ with_front front read = do
   others ← read
   Ok (others.0, front ++ others.1)
 
-abbrev pub line_ended : Option (List ℕ) → Result (Unit {0}) TraceFault
-line_ended None = Err NoNewline
-line_ended (Some []) = Ok tt
-line_ended (Some (byte ∷ bytes)) = Err NoNewline
+abbrev pub nothing_begun : Option (List ℕ) → Result (Unit {0}) TraceFault
+nothing_begun None = Err NoNewline
+nothing_begun (Some []) = Ok tt
+nothing_begun (Some (byte ∷ bytes)) = Err NoNewline
 
 -- whether the text may end there
-abbrev pub ended : List ℕ → Option (List ℕ) → Result (Unit {0}) TraceFault
-ended [] line = line_ended line
-ended (next ∷ left) line = Err NoHeader
+abbrev pub ended : Option Version → Option (List ℕ) → Result (Unit {0}) TraceFault
+ended None line = Err NoHeader
+ended (Some version) line = nothing_begun line
 
 -- what a whole text is read as
 unfoldable pub reading : List ℕ → Result (List Call) TraceFault
 reading text = do
   all ← feed start text
-  end ← ended all.0.header_left all.0.line
+  end ← ended all.0.version all.0.line
   Ok all.1
 
 -- a reader: how far it has read, and the fault that it met

@@ -54,10 +54,14 @@ abbrev pub stands_in : Version → Call → Bool
 stands_in One call = not (is_new call)
 stands_in Two call = true
 
--- the first line of each trace, with its newline
+-- the first line of each trace, without its newline
+abbrev pub header_line : Version → List ℕ
+header_line One = codes "kcore-trace 1"
+header_line Two = codes "kcore-trace 2"
+
+-- the same with its newline
 abbrev pub trace_header : Version → List ℕ
-trace_header One = codes "kcore-trace 1" ++ 10 ∷ []
-trace_header Two = codes "kcore-trace 2" ++ 10 ∷ []
+trace_header version = header_line version ++ 10 ∷ []
 
 -- the text of some calls under the header of a version
 abbrev pub text_of : Version → List Call → List ℕ

@@ -4,7 +4,7 @@ ghost use Rattle.std.specs.Option.{option_to_list};
 ghost use Rattle.kc_types.specs.Limits.{call_limit};
 ghost use Rattle.kc_types.specs.declared.call.Call.{Call};
 ghost use Rattle.kc_trace.specs.Trace.{IsTrace, IsRefused};
-ghost use Rattle.kc_trace.specs.Machine.{Gives, Fails, start, with_front, feed, fed, ended, reading, told, standing, call_of_kept, call_in, longer_each};
+ghost use Rattle.kc_trace.specs.Machine.{Gives, Fails, start, longer, version_in, begins_header, begun, after_header, line_ended, with_front, feed, fed, ended, reading, standing, call_of_kept, call_in, kept};
 
 use crate::fault::TraceFault;
 use crate::line::{call_of_line, stands_in};
@@ -14,20 +14,24 @@ use kc_types::{CALL_LIMIT, Call, LINE_LIMIT, Version};
 use std::alloc::{AllocError, Global};
 use std::marker::Model;
 
-const HEADER: &[u8; 14] = b"kcore-trace 1\n";
-
-/// The version that the header tells, where this byte is to come of the first version's: the digit 2 may stand for
-/// its 1.
-fn told(next: u8, byte: u8, version: Version) -> Option<Version>
-    ensures { result ≡ told next byte version }
+/// The version whose header a line is.
+fn version_in(line: &[u8]) -> Option<Version>
+    ensures { result ≡ version_in (Some line.now) }
 {
-    if byte == next {
-        Some(version)
-    } else if next == b'1' && byte == b'2' {
+    if line == b"kcore-trace 1".as_slice() {
+        Some(Version::One)
+    } else if line == b"kcore-trace 2".as_slice() {
         Some(Version::Two)
     } else {
         None
     }
+}
+
+/// Whether a header begins with a line.
+fn begins_header(line: &[u8]) -> bool
+    ensures { result ≡ begins_header (Some line.now) }
+{
+    b"kcore-trace 1".starts_with(line) || b"kcore-trace 2".starts_with(line)
 }
 
 /// The call, if it may stand in a text of this version.
@@ -46,7 +50,7 @@ fn standing(version: Version, call: Option<Call>) -> Option<Call>
 
 /// The call that a line is, if it is one.
 fn call_of_whole(alloc: Global, line: &[u8]) -> Result<Option<Call>, AllocError>
-    ensures { IfOk result (λ call. call ≡ call_of_kept (longer_each (Some []) line.now)) }
+    ensures { IfOk result (λ call. call ≡ call_of_kept (kept line.now)) }
 {
     if line.len() > LINE_LIMIT {
         return Ok(None);
@@ -59,12 +63,11 @@ fn room_for(bytes: usize) -> usize {
     (bytes / 8).min(CALL_LIMIT)
 }
 
-/// How far a trace has been read: what is still to come of the header, the version that it tells, how many calls
-/// came, and the line begun.
+/// How far a trace has been read: the version that its header told, once that was read, how many calls came, and the line
+/// begun.
 #[derive(Drop)]
 struct Progress {
-    header_left: &'static [u8],
-    version: Version,
+    version: Option<Version>,
     calls: u32,
     line: ArrayVec<u8, LINE_LIMIT>,
     is_too_long: bool,
@@ -77,7 +80,7 @@ impl Model for Progress {
 
     ghost Value = { Seen };
 
-    ghost view = { λ p. record { header_left = p.header_left.now; version = p.version; calls = p.calls; line = if p.is_too_long then None else Some p.line.items } };
+    ghost view = { λ p. record { version = p.version; calls = p.calls; line = if p.is_too_long then None else Some p.line.items } };
 
     ghost invariant = { λ p. p.calls ≤ call_limit };
 }
@@ -87,8 +90,7 @@ impl Progress {
         ensures { result ≡ start }
     {
         Progress {
-            header_left: HEADER,
-            version: Version::One,
+            version: None,
             calls: 0,
             line: ArrayVec::new(),
             is_too_long: false,
@@ -102,7 +104,6 @@ impl Progress {
         let mut line = ArrayVec::new();
         line.try_extend_from_slice(self.line.as_slice()).unwrap();
         Progress {
-            header_left: self.header_left,
             version: self.version,
             calls: self.calls,
             line,
@@ -110,9 +111,9 @@ impl Progress {
         }
     }
 
-    /// More bytes of a line.
+    /// More bytes of the line.
     fn push_each(&mut self, run: &[u8])
-        ensures { self.new ≡ record self.old { line = longer_each self.old.line run.now } }
+        ensures { self.new ≡ longer self.old run.now }
     {
         if self.line.remaining_capacity() < run.len() {
             self.is_too_long = true;
@@ -121,31 +122,87 @@ impl Progress {
         }
     }
 
-    /// The call that the line is, whose last bytes these are. It is read where it lies, unless it began in an
-    /// earlier piece.
-    fn call(&mut self, alloc: Global, last: &[u8]) -> Result<Option<Call>, AllocError>
-        ensures call { IfOk result (λ call. call ≡ call_in self.old.version (longer_each self.old.line last.now)) }
+    /// The next line begins.
+    fn begin_line(&mut self)
+        ensures { self.new ≡ record self.old { line = Some [] } }
+    {
+        self.line.clear();
+        self.is_too_long = false;
+    }
+
+    /// Takes more bytes of a line that has not ended: no header begins so, or there are calls enough.
+    fn begin(&mut self, bytes: &[u8]) -> Result<(), TraceFault>
+        ensures { MatchResult result (λ nothing. begun (longer self.old bytes.now) ≡ Ok (self.new, [])) (λ fault. Fails fault (begun (longer self.old bytes.now))) }
+    {
+        self.push_each(bytes);
+        match self.version {
+            None => if self.is_too_long || !begins_header(self.line.as_slice()) {
+                Err(TraceFault::NoHeader)
+            } else {
+                Ok(())
+            },
+            Some(_) => if self.calls >= CALL_LIMIT as u32 {
+                Err(TraceFault::TooManyCalls)
+            } else {
+                Ok(())
+            },
+        }
+    }
+
+    /// Takes the last bytes of the header.
+    fn end_header(&mut self, last: &[u8]) -> Result<(), TraceFault>
+        ensures { MatchResult result (λ nothing. after_header (longer self.old last.now) (version_in (longer self.old last.now).line) ≡ Ok (self.new, [])) (λ fault. Fails fault (after_header (longer self.old last.now) (version_in (longer self.old last.now).line))) }
+    {
+        self.push_each(last);
+        if self.is_too_long {
+            return Err(TraceFault::NoHeader);
+        }
+        let Some(version) = version_in(self.line.as_slice()) else {
+            return Err(TraceFault::NoHeader);
+        };
+        self.version = Some(version);
+        self.begin_line();
+        Ok(())
+    }
+
+    /// The call that the line is, whose last bytes these are, in a trace of this version. It is read where it lies, unless it
+    /// began in an earlier piece.
+    fn call(
+        &mut self,
+        alloc: Global,
+        version: Version,
+        last: &[u8],
+    ) -> Result<Option<Call>, AllocError>
+        ensures call { IfOk result (λ call. call ≡ call_in version (longer self.old last.now).line) }
         ensures others { self.new ≡ record self.old { line = self.new.line } }
-        ensures line { (self.new.line ≡ self.old.line) ⊎ (self.new.line ≡ longer_each self.old.line last.now) }
     {
         if self.line.is_empty() && !self.is_too_long {
-            return Ok(standing(self.version, call_of_whole(alloc, last)?));
+            return Ok(standing(version, call_of_whole(alloc, last)?));
         }
         self.push_each(last);
         if self.is_too_long {
             return Ok(None);
         }
-        Ok(standing(self.version, call_of_line(alloc, self.line.as_slice())?))
+        Ok(standing(version, call_of_line(alloc, self.line.as_slice())?))
     }
 
-    /// The next line begins.
-    fn end_line(&mut self)
-        requires { self.old.calls < call_limit }
-        ensures { self.new ≡ record self.old { calls = self.old.calls + 1; line = Some [] } }
+    /// Takes the last bytes of a line, and gives the call that it is; the header is none.
+    fn end_line(&mut self, alloc: Global, last: &[u8]) -> Result<Option<Call>, TraceFault>
+        ensures { MatchResult result (λ call. line_ended (longer self.old last.now) ≡ Ok (self.new, option_to_list call)) (λ fault. Fails fault (line_ended (longer self.old last.now))) }
     {
+        let Some(version) = self.version else {
+            self.end_header(last)?;
+            return Ok(None);
+        };
+        if self.calls >= CALL_LIMIT as u32 {
+            return Err(TraceFault::TooManyCalls);
+        }
+        let Some(call) = self.call(alloc, version, last)? else {
+            return Err(TraceFault::BadLine(self.calls + 2));
+        };
         self.calls += 1;
-        self.line.clear();
-        self.is_too_long = false;
+        self.begin_line();
+        Ok(Some(call))
     }
 
     /// Takes a line up to its newline, with the call that it is, or what there is of it.
@@ -154,45 +211,16 @@ impl Progress {
         alloc: Global,
         bytes: &'a [u8],
     ) -> Result<(Option<Call>, &'a [u8]), TraceFault>
-        requires behind { self.old.header_left ≡ [] }
-        requires few { self.old.calls < call_limit }
         requires some { 0 < length bytes.now }
         ensures less { IfOk result (λ taken. length taken.1.now < length bytes.now) }
         ensures same { MatchResult result (λ taken. feed self.old bytes.now ≡ with_front (option_to_list taken.0) (feed self.new taken.1.now)) (λ fault. Fails fault (feed self.old bytes.now)) }
     {
         let Some((line, rest)) = split_line(bytes) else {
-            self.push_each(bytes);
+            self.begin(bytes)?;
             return Ok((None, &bytes[bytes.len()..]));
         };
-        let Some(call) = self.call(alloc, line)? else {
-            return Err(TraceFault::BadLine(self.calls + 2));
-        };
-        self.end_line();
-        Ok((Some(call), rest))
-    }
-
-    /// Takes some bytes from the front: one of the header, or those of a line.
-    fn take_some<'a>(
-        &mut self,
-        alloc: Global,
-        bytes: &'a [u8],
-    ) -> Result<(Option<Call>, &'a [u8]), TraceFault>
-        requires some { 0 < length bytes.now }
-        ensures less { IfOk result (λ taken. length taken.1.now < length bytes.now) }
-        ensures same { MatchResult result (λ taken. feed self.old bytes.now ≡ with_front (option_to_list taken.0) (feed self.new taken.1.now)) (λ fault. Fails fault (feed self.old bytes.now)) }
-    {
-        if let [next, left @ ..] = self.header_left {
-            let Some(version) = told(*next, bytes[0], self.version) else {
-                return Err(TraceFault::NoHeader);
-            };
-            self.header_left = left;
-            self.version = version;
-            return Ok((None, &bytes[1..]));
-        }
-        if self.calls >= CALL_LIMIT as u32 {
-            return Err(TraceFault::TooManyCalls);
-        }
-        self.take_line(alloc, bytes)
+        let call = self.end_line(alloc, line)?;
+        Ok((call, rest))
     }
 
     /// Takes some bytes, and gives the calls that they end.
@@ -202,7 +230,7 @@ impl Progress {
         let mut calls = Vec::with_capacity(alloc, room_for(bytes.len()))?;
         let mut rest = bytes;
         while !rest.is_empty() {
-            let (call, left) = self.take_some(alloc, rest)?;
+            let (call, left) = self.take_line(alloc, rest)?;
             if let Some(call) = call {
                 calls.push(call)?;
             }
@@ -213,9 +241,9 @@ impl Progress {
 
     /// Whether the text may end here.
     fn end(&self) -> Result<(), TraceFault>
-        ensures { result ≡ ended self.now.header_left self.now.line }
+        ensures { result ≡ ended self.now.version self.now.line }
     {
-        if !self.header_left.is_empty() {
+        if self.version.is_none() {
             return Err(TraceFault::NoHeader);
         }
         if self.is_too_long || !self.line.is_empty() {
@@ -242,7 +270,7 @@ pub fn read_trace(alloc: Global, text: &[u8]) -> Result<Vec<Call>, TraceFault>
     // A trace is read as its calls, unless memory runs out.
     ensures only { (calls : List Call) → IsTrace text.now calls → Gives (λ calls. calls.items) result (Ok calls) }
 
-    // What reading byte after byte answers.
+    // What reading line after line answers.
     ensures exact { Gives (λ calls. calls.items) result (reading text.now) }
 {
     read_all(alloc, text)
@@ -310,7 +338,7 @@ impl TraceReader {
     /// Whether the text may end here. It is the fault met before, else `NoHeader` within the header and
     /// `NoNewline` within a line.
     pub fn finish(self) -> Result<(), TraceFault>
-        ensures fault { MatchOption self.fault (result ≡ ended self.progress.header_left self.progress.line) (λ fault. result ≡ Err fault) }
+        ensures fault { MatchOption self.fault (result ≡ ended self.progress.version self.progress.line) (λ fault. result ≡ Err fault) }
         ensures told { result ≢ Err TraceFault.Memory }
     {
         match self.fault {
