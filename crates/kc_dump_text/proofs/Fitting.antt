@@ -1,27 +1,57 @@
--- A line that may stand somewhere has numbers that words can hold.
-use Rattle.std.proofs.Common.{ℕ, zero, suc, ◌≡◌, ◌<◌, ◌≤◌, ◌+◌, ◌^◌, true, ◌&&◌, ◌||◌, nat_lt, nat_le, List, [], ◌∷◌, length, get_or, Option, Some, None, arith, inl, inr}
-use Rattle.std.specs.Prelude.{◌==◌, if◌then◌else◌}
+-- The lines of a dump have numbers that words can hold.
+use Rattle.std.proofs.Common.{ℕ, zero, suc, ◌≡◌, ◌<◌, ◌≤◌, ◌+◌, true, ◌&&◌, nat_lt, nat_le, List, [], ◌∷◌, ◌++◌, length, get_or, Option, Some, None, arith, sym, subst}
+use Rattle.std.specs.Prelude.{◌==◌}
 use Rattle.std.specs.List.{list_all}
-use Rattle.std.proofs.lemmas.Bool.{and_parts, or_cases, eqb-true, ltb-true, leb-true}
-use Rattle.kc_types.specs.Limits.{byte_limit, frame_limit, leaf_limit, leaf_entries, gfn_limit, share_limit}
-use Rattle.kc_types.specs.Configuration.{most_frames, slots_of}
+use Rattle.std.proofs.lemmas.Bool.{and_parts, eqb-true, ltb-true, leb-true}
+use Rattle.kc_types.specs.Limits.{frame_limit, slot_limit, gfn_limit, share_limit}
+use Rattle.kc_types.specs.Configuration.{slots_of}
 use Rattle.kc_types.specs.declared.version.Version.{Version}
 use Rattle.kc_types.specs.declared.link.Ends.{Ends}
 use Rattle.kc_types.specs.declared.owner.Owner.{Owner}
 use Rattle.kc_types.specs.declared.owner.Owner.TheVariants.{Core, Host, Free, Vm}
 use Rattle.kc_dump.specs.declared.line.FrameLine.{FrameLine}
-use Rattle.kc_dump.specs.Ranges.{is_below, are_ends, is_entry, is_owner, is_frame}
-use Rattle.kc_dump.specs.Dump.{Dumped, slot_dump_at}
+use Rattle.kc_dump.specs.Ranges.{is_below, are_ends, is_entry, is_owner, is_frame, IsDump}
+use Rattle.kc_dump.specs.Dump.{Dumped, SlotDump, empty_dump, absent_line}
 use Rattle.kc_dump_text.specs.declared.dump_line.DumpLine.{DumpLine}
-use Rattle.kc_dump_text.specs.declared.dump_line.DumpLine.TheVariants.{SizeOf, FreeOf, VmOf, LeafOf, EntryOf, FrameOf}
-use Rattle.kc_dump_text.specs.declared.stage.Stage.{Stage}
-use Rattle.kc_dump_text.specs.declared.stage.Stage.TheVariants.{AtSize, AtFree, AtVm, AtLeaf, AtEntry, AtFrame}
-use Rattle.kc_dump_text.specs.Grammar.{after}
-use Rattle.kc_dump_text.specs.Building.{Built}
+use Rattle.kc_dump_text.specs.declared.dump_line.DumpLine.TheVariants.{LeafOf, EntryOf, FrameOf}
+use Rattle.kc_dump_text.specs.DumpText.{made, vm_of, leaves_of, entries_of, dump_lines}
+use Rattle.kc_dump_text.proofs.Gathered.{gather, leaves-gathered, entries-gathered}
 use Rattle.kc_dump_text.proofs.Limits.{few-frames, few-slots}
 use Rattle.kc_dump_text.proofs.ReadWords.{DashFits, OwnerFits, EndsFit}
 use Rattle.kc_dump_text.proofs.ReadLines.{FrameFits, Fits}
-use Rattle.kc_dump_text.proofs.Steps.{passed}
+
+-- all lines fit
+abbrev pub AllFit : List DumpLine → Type 0
+AllFit [] = Unit {0}
+AllFit (l ∷ lines) = Fits l × AllFit lines
+
+pub both-fit : (xs ys : List DumpLine) → AllFit xs → AllFit ys → AllFit (xs ++ ys)
+both-fit [] ys a b = b
+both-fit (x ∷ xs) ys a b = (a.0, both-fit xs ys a.1 b)
+
+pub first-fit : (xs ys : List DumpLine) → AllFit (xs ++ ys) → AllFit xs
+first-fit [] ys a = tt
+first-fit (x ∷ xs) ys a = (a.0, first-fit xs ys a.1)
+
+pub second-fit : (xs ys : List DumpLine) → AllFit (xs ++ ys) → AllFit ys
+second-fit [] ys a = a
+second-fit (x ∷ xs) ys a = second-fit xs ys a.1
+
+made-fit : {X : Type 0} (make : ℕ → X → DumpLine) (d : X) (i : ℕ) (xs : List X) → ((k : ℕ) → k < length xs → Fits (make (i + k) (get_or xs k d))) → AllFit (made make i xs)
+made-fit make d i [] each = tt
+made-fit make d i (x ∷ xs) each =
+    let z : i + 0 ≡ i = omega arith in
+    (subst (λ n. Fits (make n x)) z (each 0 (omega arith)), made-fit make d (i + 1) xs (λ k low. subst (λ n. Fits (make n (get_or xs k d))) (let e : i + suc k ≡ i + 1 + k = omega arith in e) (each (suc k) (omega (arith, low)))))
+
+-- the lines of something of each slot
+gathered-fit : {X : Type 0} (pick : SlotDump → List X) (make : ℕ → ℕ → X → DumpLine) (d : X) (v : ℕ) (slots : List SlotDump)
+    → ((k i : ℕ) → k < length slots → i < length (pick (get_or slots k empty_dump)) → Fits (make (v + k) i (get_or (pick (get_or slots k empty_dump)) i d))) → AllFit (gather pick make v slots)
+gathered-fit pick make d v [] each = tt
+gathered-fit pick make d v (slot ∷ slots) each =
+    let z : v + 0 ≡ v = omega arith in
+    both-fit (made (make v) 0 (pick slot)) (gather pick make (v + 1) slots)
+    (made-fit (make v) d 0 (pick slot) (λ i low. subst (λ n. Fits (make n (0 + i) (get_or (pick slot) i d))) z (subst (λ j. Fits (make (v + 0) j (get_or (pick slot) i d))) (let e : i ≡ 0 + i = omega arith in e) (each 0 i (omega arith) low))))
+    (gathered-fit pick make d (v + 1) slots (λ k i low l. subst (λ n. Fits (make n i (get_or (pick (get_or slots k empty_dump)) i d))) (let e : v + suc k ≡ v + 1 + k = omega arith in e) (each (suc k) i (omega (arith, low)) l)))
 
 dash-of : (limit f : ℕ) (o : Option ℕ) → f ≤ limit → is_below f o ≡ true → DashFits limit o
 dash-of limit f None le e = tt
@@ -70,100 +100,23 @@ module _ (version : Version) where
       let c = ltb-true e.1 f p.1 in
       (let few = few-slots version in omega (arith, a, few), ltb-true e.0 gfn_limit q.1, omega (arith, c, le))
 
-  first-of : (f g : ℕ) (line : FrameLine) → f ≤ frame_limit → ((g == 0) && is_frame version f line) ≡ true → Fits (FrameOf g line)
-  first-of f g line le h =
-      let p = and_parts (g == 0) (is_frame version f line) h in
-      let z = eqb-true g 0 p.0 in
-      (omega (arith, z), frame-of f line le p.1)
-
-  size-fits : (l : DumpLine) (lines : List DumpLine) (d : Dumped) (next : Stage) → Built version AtSize lines d → length lines ≤ byte_limit → after version AtSize l ≡ Some next → Fits l
-  size-fits (SizeOf f c x) lines d next b few h =
-      let t = passed (nat_lt 0 f && nat_le f (most_frames version) && nat_le c f && nat_lt 0 x && nat_le x leaf_limit) (AtFree f) next h in
-      let p = and_parts (nat_lt 0 f && nat_le f (most_frames version) && nat_le c f && nat_lt 0 x) (nat_le x leaf_limit) t.0 in
-      let q = and_parts (nat_lt 0 f && nat_le f (most_frames version) && nat_le c f) (nat_lt 0 x) p.0 in
-      let r = and_parts (nat_lt 0 f && nat_le f (most_frames version)) (nat_le c f) q.0 in
-      let u = and_parts (nat_lt 0 f) (nat_le f (most_frames version)) r.0 in
-      let a = few-frames version f (leb-true f (most_frames version) u.1) in
-      let e = leb-true c f r.1 in
-      let g = leb-true x leaf_limit p.1 in
-      (omega (arith, a), omega (arith, a, e), omega (arith, g))
-  size-fits (FreeOf ends) lines d next b few h = absurd cc
-  size-fits (VmOf w p ends) lines d next b few h = absurd cc
-  size-fits (LeafOf w k root) lines d next b few h = absurd cc
-  size-fits (EntryOf w e) lines d next b few h = absurd cc
-  size-fits (FrameOf g line) lines d next b few h = absurd cc
-
-  free-fits : (f : ℕ) (l : DumpLine) (lines : List DumpLine) (d : Dumped) (next : Stage) → Built version (AtFree f) lines d → length lines ≤ byte_limit → after version (AtFree f) l ≡ Some next → Fits l
-  free-fits f (FreeOf ends) lines d next b few h = ends-of f ends (few-frames version f b.small) (passed (are_ends f ends) (AtVm f 0) next h).0
-  free-fits f (SizeOf a c x) lines d next b few h = absurd cc
-  free-fits f (VmOf w p ends) lines d next b few h = absurd cc
-  free-fits f (LeafOf w k root) lines d next b few h = absurd cc
-  free-fits f (EntryOf w e) lines d next b few h = absurd cc
-  free-fits f (FrameOf g line) lines d next b few h = absurd cc
-
-  vm-fits : (f v : ℕ) (l : DumpLine) (lines : List DumpLine) (d : Dumped) (next : Stage) → Built version (AtVm f v) lines d → length lines ≤ byte_limit → after version (AtVm f v) l ≡ Some next → Fits l
-  vm-fits f v (VmOf w p ends) lines d next b few h =
-      let t = passed ((w == v) && are_ends f ends) (if v + 1 == slots_of version then AtLeaf f 0 0 else AtVm f (v + 1)) next h in
-      let u = and_parts (w == v) (are_ends f ends) t.0 in
-      let same : w ≡ v = eqb-true w v u.0 in
-      let low : v < slots_of version = b.shape.1 in
-      let few_slots = few-slots version in
-      (omega (arith, same, low, few_slots), ends-of f ends (few-frames version f b.small) u.1)
-  vm-fits f v (SizeOf a c x) lines d next b few h = absurd cc
-  vm-fits f v (FreeOf ends) lines d next b few h = absurd cc
-  vm-fits f v (LeafOf w k root) lines d next b few h = absurd cc
-  vm-fits f v (EntryOf w e) lines d next b few h = absurd cc
-  vm-fits f v (FrameOf g line) lines d next b few h = absurd cc
-
-  leaf-fits : (f v n : ℕ) (l : DumpLine) (lines : List DumpLine) (d : Dumped) (next : Stage) → Built version (AtLeaf f v n) lines d → length lines ≤ byte_limit → after version (AtLeaf f v n) l ≡ Some next → Fits l
-  leaf-fits f v n (LeafOf w k root) lines d next b few h =
-      let t = passed ((nat_lt w (slots_of version) && nat_lt root leaf_entries) && (((w == v) && (k == n)) || (nat_lt v w && (k == 0)))) (AtLeaf f w (k + 1)) next h in
-      let u = and_parts (nat_lt w (slots_of version) && nat_lt root leaf_entries) (((w == v) && (k == n)) || (nat_lt v w && (k == 0))) t.0 in
-      let p = and_parts (nat_lt w (slots_of version)) (nat_lt root leaf_entries) u.0 in
-      let a = ltb-true w (slots_of version) p.0 in
-      let c = ltb-true root leaf_entries p.1 in
-      let size = b.few v in
-      let is : length (slot_dump_at d v).leaves ≡ n = b.shape.1 in
-      let small : k < 2 ^ 32 = elim (or_cases ((w == v) && (k == n)) (nat_lt v w && (k == 0)) u.1) [
-        | inl y ↦ let z = eqb-true k n (and_parts (w == v) (k == n) y).1 in omega (arith, z, size, is, few)
-        | inr y ↦ let z = eqb-true k 0 (and_parts (nat_lt v w) (k == 0) y).1 in omega (arith, z)
-      ] in
-      (let few_slots = few-slots version in omega (arith, a, few_slots), small, omega (arith, c))
-  leaf-fits f v n (EntryOf w e) lines d next b few h = entry-of f w e (few-frames version f b.small) (passed (is_entry version f w e) (AtEntry f w (e.0 + 1)) next h).0
-  leaf-fits f v n (FrameOf g line) lines d next b few h = first-of f g line (few-frames version f b.small) (passed ((g == 0) && is_frame version f line) (AtFrame f 1) next h).0
-  leaf-fits f v n (SizeOf a c x) lines d next b few h = absurd cc
-  leaf-fits f v n (FreeOf ends) lines d next b few h = absurd cc
-  leaf-fits f v n (VmOf w p ends) lines d next b few h = absurd cc
-
-  entry-fits : (f v least : ℕ) (l : DumpLine) (lines : List DumpLine) (d : Dumped) (next : Stage) → Built version (AtEntry f v least) lines d → length lines ≤ byte_limit → after version (AtEntry f v least) l ≡ Some next → Fits l
-  entry-fits f v least (EntryOf w e) lines d next b few h =
-      let t = passed (is_entry version f w e && (nat_lt v w || ((w == v) && nat_le least e.0))) (AtEntry f w (e.0 + 1)) next h in
-      entry-of f w e (few-frames version f b.small) (and_parts (is_entry version f w e) (nat_lt v w || ((w == v) && nat_le least e.0)) t.0).0
-  entry-fits f v least (FrameOf g line) lines d next b few h = first-of f g line (few-frames version f b.small) (passed ((g == 0) && is_frame version f line) (AtFrame f 1) next h).0
-  entry-fits f v least (SizeOf a c x) lines d next b few h = absurd cc
-  entry-fits f v least (FreeOf ends) lines d next b few h = absurd cc
-  entry-fits f v least (VmOf w p ends) lines d next b few h = absurd cc
-  entry-fits f v least (LeafOf w k root) lines d next b few h = absurd cc
-
-  frame-fits : (f n : ℕ) (l : DumpLine) (lines : List DumpLine) (d : Dumped) (next : Stage) → Built version (AtFrame f n) lines d → length lines ≤ byte_limit → after version (AtFrame f n) l ≡ Some next → Fits l
-  frame-fits f n (FrameOf g line) lines d next b few h =
-      let t = passed ((g == n) && nat_lt n f && is_frame version f line) (AtFrame f (n + 1)) next h in
-      let u = and_parts ((g == n) && nat_lt n f) (is_frame version f line) t.0 in
-      let p = and_parts (g == n) (nat_lt n f) u.0 in
-      let same = eqb-true g n p.0 in
-      let low = ltb-true n f p.1 in
-      let small = few-frames version f b.small in
-      (omega (arith, same, low, small), frame-of f line (few-frames version f b.small) u.1)
-  frame-fits f n (SizeOf a c x) lines d next b few h = absurd cc
-  frame-fits f n (FreeOf ends) lines d next b few h = absurd cc
-  frame-fits f n (VmOf w p ends) lines d next b few h = absurd cc
-  frame-fits f n (LeafOf w k root) lines d next b few h = absurd cc
-  frame-fits f n (EntryOf w e) lines d next b few h = absurd cc
-
-  pub fits-of : (stage : Stage) (l : DumpLine) (lines : List DumpLine) (d : Dumped) (next : Stage) → Built version stage lines d → length lines ≤ byte_limit → after version stage l ≡ Some next → Fits l
-  fits-of AtSize l lines d next b few h = size-fits l lines d next b few h
-  fits-of (AtFree f) l lines d next b few h = free-fits f l lines d next b few h
-  fits-of (AtVm f v) l lines d next b few h = vm-fits f v l lines d next b few h
-  fits-of (AtLeaf f v n) l lines d next b few h = leaf-fits f v n l lines d next b few h
-  fits-of (AtEntry f v least) l lines d next b few h = entry-fits f v least l lines d next b few h
-  fits-of (AtFrame f n) l lines d next b few h = frame-fits f n l lines d next b few h
+-- the lines of a dump
+pub dump-fits : (d : Dumped) → IsDump d → AllFit (dump_lines d)
+dump-fits d is =
+    let n = length d.frames in
+    let few = few-frames d.version n is.few_frames in
+    let slots = (let a = is.slots in let b = few-slots d.version in let c : length d.slots ≤ slot_limit = omega (arith, a, b) in c) in
+    let core = is.core in
+    let leaves = is.few_leaves in (
+      (omega (arith, few), omega (arith, core, few), omega (arith, leaves)),
+      (
+        ends-of n d.free few is.free,
+        both-fit (made vm_of 0 d.slots) _ (made-fit vm_of empty_dump 0 d.slots (λ v low. (omega (arith, low, slots), ends-of n (get_or d.slots v empty_dump).list few (is.lists v low))))
+            (both-fit (leaves_of 0 d.slots) _
+            (subst AllFit (sym (leaves-gathered 0 d.slots)) (gathered-fit (λ (s : SlotDump). s.leaves) LeafOf 0 0 d.slots (λ v i low l. (omega (arith, low, slots), (let few = is.leaves v in omega (arith, few, l)), (let r = is.roots v i low l in omega (arith, r))))))
+            (both-fit (entries_of 0 d.slots) _
+            (subst AllFit (sym (entries-gathered 0 d.slots)) (gathered-fit (λ (s : SlotDump). s.entries) (λ v i e. EntryOf v e) (0, 0) 0 d.slots
+            (λ v i low l. entry-of d.version n (0 + v) _ few (subst (λ w. is_entry d.version n w (get_or (get_or d.slots v empty_dump).entries i (0, 0)) ≡ true) (let e : v ≡ 0 + v = omega arith in e) (is.entries v i low l)))))
+            (made-fit FrameOf absent_line 0 d.frames (λ f low. (omega (arith, low, few), frame-of d.version n (get_or d.frames f absent_line) few (is.frames f low)))))),
+      ),
+    )

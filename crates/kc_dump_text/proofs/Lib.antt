@@ -1,17 +1,16 @@
 mod Spelled
 pub mod Limits
-mod Runs
-pub mod Ordered
 pub mod DigestWords
 mod LongLines
 pub mod ReadWords
 pub mod ReadLines
+mod FirstLine
 mod Gathered
-mod Bytes
-mod Steps
-pub mod Fitting
-mod LinesRead
-pub mod Ranged
-mod WholeText
-mod Told
+mod Growing
+mod Split
+mod Fitting
+mod Completed
+mod Newlines
+mod Stopped
 pub mod Followed
+mod Bytes

@@ -1,45 +1,56 @@
--- What a line adds to the dump begun.
-use Rattle.std.specs.Prelude.{ℕ, ◌<◌, ◌≤◌, [], ◌∷◌, ◌++◌, length, slice_set}
-use Rattle.kc_types.specs.Limits.{byte_limit, slot_limit}
+-- A dump of which some lines were read.
+use Rattle.std.specs.Prelude.{ℕ, ◌≡◌, ◌<◌, ◌≤◌, suc, true, List, [], ◌∷◌, ◌++◌, length, slice_set, slice_index_or}
+use Rattle.kc_types.specs.Limits.{byte_limit, leaf_limit, leaf_entries}
+use Rattle.kc_types.specs.Configuration.{most_frames, slots_of}
 use Rattle.kc_types.specs.declared.version.Version.{Version}
-use Rattle.kc_dump.specs.Dump.{Dumped, SlotDump, slot_dump_at, no_ends}
+use Rattle.kc_types.specs.declared.link.Ends.{Ends}
+use Rattle.kc_types.specs.declared.slot.Phase.{Phase}
+use Rattle.kc_dump.specs.declared.line.FrameLine.{FrameLine}
+use Rattle.kc_dump.specs.Dump.{Dumped, SlotDump, slot_dump_at, line_at}
+use Rattle.kc_dump.specs.Ranges.{are_ends, is_entry, is_frame}
 use Rattle.kc_dump_text.specs.declared.dump_line.DumpLine.{DumpLine}
-use Rattle.kc_dump_text.specs.declared.dump_line.DumpLine.TheVariants.{SizeOf, FreeOf, VmOf, LeafOf, EntryOf, FrameOf}
-use Rattle.kc_dump_text.specs.declared.stage.Stage.{Stage}
-use Rattle.kc_dump_text.specs.declared.stage.Stage.TheVariants.{AtSize, AtFree, AtVm, AtLeaf, AtEntry, AtFrame}
+use Rattle.kc_dump_text.specs.declared.dump_line.DumpLine.TheVariants.{SizeOf, FreeOf}
+use Rattle.kc_dump_text.specs.DumpText.{rest_of}
 
--- the numbers of a stage are small enough to count on
-abbrev pub IsStage : Stage → Type 0
-IsStage AtSize = Unit {0}
-IsStage (AtFree frames) = Unit {0}
-IsStage (AtVm frames v) = v < slot_limit
-IsStage (AtLeaf frames v n) = n ≤ byte_limit
-IsStage (AtEntry frames v least) = Unit {0}
-IsStage (AtFrame frames n) = Unit {0}
+-- no line of a slot yet
+abbrev pub nothing : Version → ℕ → ℕ → Ends → Dumped
+nothing version core leaves free = record { version = version; core = core; leaves = leaves; free = free; slots = []; frames = [] }
 
--- no line yet
-abbrev pub nothing : Version → Dumped
-nothing version = record { version = version; core = 0; leaves = 0; free = no_ends; slots = []; frames = [] }
+-- what each line adds
+abbrev pub with_vm : Dumped → Phase → Ends → Dumped
+with_vm d phase ends = record d { slots = d.slots ++ record { phase = phase; list = ends; leaves = []; entries = [] } ∷ [] }
 
-abbrev pub with_leaf_line : SlotDump → ℕ → SlotDump
-with_leaf_line slot root = record slot { leaves = slot.leaves ++ root ∷ [] }
+abbrev pub with_leaf : Dumped → ℕ → ℕ → Dumped
+with_leaf d v root = record d { slots = slice_set d.slots v (record (slot_dump_at d v) { leaves = (slot_dump_at d v).leaves ++ root ∷ [] }) }
 
-abbrev pub with_entry_line : SlotDump → ℕ × ℕ → SlotDump
-with_entry_line slot entry = record slot { entries = slot.entries ++ entry ∷ [] }
+abbrev pub with_entry : Dumped → ℕ → ℕ × ℕ → Dumped
+with_entry d v entry = record d { slots = slice_set d.slots v (record (slot_dump_at d v) { entries = (slot_dump_at d v).entries ++ entry ∷ [] }) }
 
-abbrev pub with_line : Dumped → DumpLine → Dumped
-with_line d (SizeOf frames core leaves) = record d { core = core; leaves = leaves }
-with_line d (FreeOf ends) = record d { free = ends }
-with_line d (VmOf v phase ends) = record d { slots = d.slots ++ record { phase = phase; list = ends; leaves = []; entries = [] } ∷ [] }
-with_line d (LeafOf v n root) = record d { slots = slice_set d.slots v (with_leaf_line (slot_dump_at d v) root) }
-with_line d (EntryOf v entry) = record d { slots = slice_set d.slots v (with_entry_line (slot_dump_at d v) entry) }
-with_line d (FrameOf f line) = record d { frames = d.frames ++ line ∷ [] }
+abbrev pub with_frame : Dumped → FrameLine → Dumped
+with_frame d line = record d { frames = d.frames ++ line ∷ [] }
 
--- a line names only slots that are there
-abbrev pub HasSlot : Dumped → DumpLine → Type 0
-HasSlot d (SizeOf frames core leaves) = Unit {0}
-HasSlot d (FreeOf ends) = Unit {0}
-HasSlot d (VmOf v phase ends) = Unit {0}
-HasSlot d (LeafOf v n root) = v < length d.slots
-HasSlot d (EntryOf v entry) = v < length d.slots
-HasSlot d (FrameOf f line) = Unit {0}
+-- a slot of a dump of so many frames
+pub record IsSlot (version : Version) (frames : ℕ) (v : ℕ) (slot : SlotDump) : Type 0 where
+  pub list : are_ends frames slot.list ≡ true
+  pub leaves : length slot.leaves ≤ byte_limit
+  pub roots : (n : ℕ) → n < length slot.leaves → slice_index_or slot.leaves n 0 < leaf_entries
+  pub entries : (n : ℕ) → n < length slot.entries → is_entry version frames v (slice_index_or slot.entries n (0, 0)) ≡ true
+  pub rising : (n : ℕ) → suc n < length slot.entries → (slice_index_or slot.entries n (0, 0)).0 < (slice_index_or slot.entries (suc n) (0, 0)).0
+
+-- the numbers of a dump begun that is to have so many frames
+pub record IsBegun (version : Version) (n : ℕ) (d : Dumped) : Type 0 where
+  pub same : d.version ≡ version
+  pub some_frames : 0 < n
+  pub few_frames : n ≤ most_frames version
+  pub core : d.core ≤ n
+  pub some_leaves : 0 < d.leaves
+  pub few_leaves : d.leaves ≤ leaf_limit
+  pub free : are_ends n d.free ≡ true
+  pub few_slots : length d.slots ≤ slots_of version
+  pub slots : (v : ℕ) → v < length d.slots → IsSlot version n v (slot_dump_at d v)
+  pub few : length d.frames ≤ n
+  pub frames : (f : ℕ) → f < length d.frames → is_frame version n (line_at d.frames f) ≡ true
+
+-- its lines
+abbrev pub begun_lines : ℕ → Dumped → List DumpLine
+begun_lines frames d = SizeOf frames d.core d.leaves ∷ FreeOf d.free ∷ rest_of d

@@ -4,5 +4,5 @@ pub mod Refused
 pub mod Words
 pub mod Lines
 pub mod Begun
-pub mod Building
+pub mod Sections
 pub mod Faults

@@ -1,44 +1,54 @@
 -- Why a text is no dump.
-use Rattle.std.specs.Prelude.{ℕ, ◌≡◌, ◌+◌, List, [], ◌++◌, length, Some}
+use Rattle.std.specs.Prelude.{ℕ, ◌≡◌, ◌<◌, ◌+◌, ◌⊎◌, true, List, [], ◌∷◌, ◌++◌, length}
 use Rattle.std.specs.List.{flat_map}
+use Rattle.kc_types.specs.declared.version.Version.{Version}
+use Rattle.kc_dump.specs.declared.line.FrameLine.{FrameLine}
+use Rattle.kc_dump.specs.Dump.{Dumped}
+use Rattle.kc_dump.specs.Ranges.{is_frame, IsDump}
 use Rattle.kc_dump_text.specs.declared.dump_line.DumpLine.{DumpLine}
-use Rattle.kc_dump_text.specs.declared.stage.Stage.{Stage}
-use Rattle.kc_dump_text.specs.declared.stage.Stage.TheVariants.{AtSize, AtFree, AtVm, AtLeaf, AtEntry, AtFrame}
+use Rattle.kc_dump_text.specs.declared.dump_line.DumpLine.TheVariants.{FrameOf}
 use Rattle.kc_dump_text.specs.declared.fault.DumpFault.{DumpFault}
 use Rattle.kc_dump_text.specs.declared.fault.DumpFault.TheVariants.{NoHeader, BadLine, Frame, Memory}
-use Rattle.kc_types.specs.declared.version.Version.{Version}
-use Rattle.kc_dump_text.specs.DumpText.{dump_header, spell}
-use Rattle.kc_dump_text.specs.Grammar.{runs, LacksFrame, HasNoLine}
+use Rattle.kc_dump_text.specs.DumpText.{dump_header, spell, dump_lines}
 
--- the text may end there
-abbrev pub IsEnd : Stage → Type 0
-IsEnd AtSize = ⊥
-IsEnd (AtFree frames) = ⊥
-IsEnd (AtVm frames v) = ⊥
-IsEnd (AtLeaf frames v n) = ⊥
-IsEnd (AtEntry frames v least) = ⊥
-IsEnd (AtFrame frames n) = n ≡ frames
+-- the lines of this dump of the version are these, and then those
+pub record GoesOn (version : Version) (lines : List DumpLine) (d : Dumped) (next : List DumpLine) : Type 0 where
+  pub range : IsDump d
+  pub same : d.version ≡ version
+  pub spelled : dump_lines d ≡ lines ++ next
 
--- the text behind the header begins with these lines, which lead to this stage, and no line that may stand there follows
-pub record DumpStopsAt (version : Version) (text : List ℕ) (lines : List DumpLine) (stage : Stage) (rest : List ℕ) : Type 0 where
+-- the rest begins with the first of these lines, or ends where there is none
+abbrev pub Starts : List ℕ → List DumpLine → Type 0
+Starts rest [] = rest ≡ []
+Starts rest (l ∷ lines) = (more : List ℕ) × (rest ≡ spell l ++ more)
+
+-- the text behind the header begins with these lines, which some dump begins with, and however a dump goes on behind them, the rest does not
+pub record DumpStopsAt (version : Version) (text : List ℕ) (lines : List DumpLine) (rest : List ℕ) : Type 0 where
   pub whole : text ≡ flat_map spell lines ++ rest
-  pub reached : runs version (Some AtSize) lines ≡ Some stage
-  pub stuck : HasNoLine version stage rest
+  pub begun : (d : Dumped) × (next : List DumpLine) × GoesOn version lines d next
+  pub stuck : (d : Dumped) (next : List DumpLine) → GoesOn version lines d next → Starts rest next → ⊥
+
+-- a dump may go on with the line of this frame, and there is no rest, or it begins with the line of another of the frames
+pub record LacksFrame (version : Version) (lines : List DumpLine) (rest : List ℕ) (f : ℕ) : Type 0 where
+  pub dump : Dumped
+  pub frame : FrameLine
+  pub next : List DumpLine
+  pub due : GoesOn version lines dump (FrameOf f frame ∷ next)
+  pub why : (rest ≡ []) ⊎ ((other : ℕ) × (line : FrameLine) × (more : List ℕ) × (rest ≡ spell (FrameOf other line) ++ more) × (other < length dump.frames) × (is_frame version (length dump.frames) line ≡ true) × (other ≡ f → ⊥))
 
 -- the rest goes on with no line, for this reason
-abbrev pub Stuck : Version → ℕ → Stage → List ℕ → DumpFault → Type 0
-Stuck version before stage rest NoHeader = ⊥
-Stuck version before stage rest (BadLine n) = (n ≡ before + 2) × ((f : ℕ) → LacksFrame version stage rest f → ⊥) × (rest ≡ [] → IsEnd stage → ⊥)
-Stuck version before stage rest (Frame f) = LacksFrame version stage rest f
-Stuck version before stage rest Memory = ⊥
+abbrev pub Stuck : Version → List DumpLine → List ℕ → DumpFault → Type 0
+Stuck version lines rest NoHeader = ⊥
+Stuck version lines rest (BadLine n) = (n ≡ length lines + 2) × ((f : ℕ) → LacksFrame version lines rest f → ⊥)
+Stuck version lines rest (Frame f) = LacksFrame version lines rest f
+Stuck version lines rest Memory = ⊥
 
 -- the text behind the header is the lines of no dump, and this is the first reason
 pub record DumpStopsFor (version : Version) (text : List ℕ) (fault : DumpFault) : Type 0 where
   pub lines : List DumpLine
-  pub stage : Stage
   pub rest : List ℕ
-  pub stops : DumpStopsAt version text lines stage rest
-  pub why : Stuck version (length lines) stage rest fault
+  pub stops : DumpStopsAt version text lines rest
+  pub why : Stuck version lines rest fault
 
 -- the text is no dump, and this is the first reason
 abbrev pub IsRefusedDump : List ℕ → DumpFault → Type 0

@@ -6,8 +6,10 @@ mod dump_line;
 mod fault;
 mod line_reader;
 mod lines;
+mod next;
+mod ranges;
 mod reader;
-mod stage;
+mod sections;
 mod words;
 mod writer;
 

@@ -1,130 +1,102 @@
-//! Reading a dump.
-ghost use Rattle.std.specs.Prelude.{ℕ, List, ◌≡◌, ◌≤◌, ◌++◌, length, MatchOption, MatchResult};
+//! Reading a dump, section by section.
+ghost use Rattle.std.specs.Prelude.{ℕ, List, ◌≡◌, ◌≤◌, ◌+◌, ◌==◌, ◌&&◌, ◌++◌, length, MatchOption, MatchResult};
 ghost use Rattle.kc_types.specs.Limits.{byte_limit};
 ghost use Rattle.kc_types.specs.declared.version.Version.{Version};
 ghost use Rattle.kc_dump.specs.Dump.{Dumped};
 ghost use Rattle.kc_dump_text.specs.declared.fault.DumpFault.TheVariants.{Memory};
 ghost use Rattle.kc_dump_text.specs.DumpText.{dump_header};
-ghost use Rattle.kc_dump_text.specs.Grammar.{due, frames_at, IsDumpText};
-ghost use Rattle.kc_dump_text.specs.Building.{IsTextOf, IsStuck, end_fault, due_fault, line_fault};
+ghost use Rattle.kc_dump_text.specs.Grammar.{IsDumpText};
+ghost use Rattle.kc_dump_text.specs.Sections.{newlines, has_other, lacks_frame, IsTextOf, IsStuck};
 ghost use Rattle.kc_dump_text.specs.Refused.{IsRefusedDump};
 
-use crate::begun::Begun;
+use crate::begun::{Begun, Sizes};
 use crate::dump_line::DumpLine;
 use crate::fault::DumpFault;
-use crate::line_reader::read_line;
-use crate::stage::{Stage, after, is_frame};
+use crate::next::{next_free, next_line, next_size};
+use crate::ranges::is_frame;
+use crate::sections::{read_behind_vms, read_vms};
 use kc_dump::Dump;
-use kc_lines::split_line;
 use kc_types::Version;
 use std::alloc::Global;
 
-/// The frame whose line is due, where no other line but a leaf's or an entry's may stand.
-fn due(stage: &Stage) -> Option<u32>
-    ensures { result ≡ due stage.now }
+fn count_newlines(bytes: &[u8]) -> u32
+    requires { length bytes.now ≤ byte_limit }
+    ensures value { result ≡ newlines bytes.now }
+    ensures few { result ≤ length bytes.now }
 {
-    match *stage {
-        Stage::AtLeaf(_, _, _) => Some(0),
-        Stage::AtEntry(_, _, _) => Some(0),
-        Stage::AtFrame(frames, next) => { if next < frames { Some(next) } else { None } }
-        _ => None,
-    }
-}
-
-fn frames_at(stage: &Stage) -> u32
-    ensures { result ≡ frames_at stage.now }
-{
-    match *stage {
-        Stage::AtSize => 0,
-        Stage::AtFree(frames) => frames,
-        Stage::AtVm(frames, _) => frames,
-        Stage::AtLeaf(frames, _, _) => frames,
-        Stage::AtEntry(frames, _, _) => frames,
-        Stage::AtFrame(frames, _) => frames,
-    }
-}
-
-/// What is wrong where the text ends behind so many lines.
-fn end_fault(stage: &Stage, lines: u32) -> Option<DumpFault>
-    requires { lines ≤ byte_limit }
-    ensures { result ≡ end_fault stage.now lines }
-{
-    match *stage {
-        Stage::AtLeaf(_, _, _) => Some(DumpFault::Frame(0)),
-        Stage::AtEntry(_, _, _) => Some(DumpFault::Frame(0)),
-        Stage::AtFrame(frames, next) => {
-            if next < frames {
-                Some(DumpFault::Frame(next))
-            } else {
-                None
-            }
+    let mut count = 0;
+    for i in 0..bytes.len() {
+        if bytes[i] == b'\n' {
+            count += 1;
         }
-        _ => Some(DumpFault::BadLine(lines + 2)),
     }
+    count
 }
 
-fn due_fault(due: Option<u32>, number: u32, lines: u32) -> DumpFault
-    requires { lines ≤ byte_limit }
-    ensures { result ≡ due_fault due number lines }
+/// The number of the first line of the rest, where the text is what stands behind the header.
+fn line_number(text: &[u8], rest: &[u8]) -> u32
+    requires few { length text.now ≤ byte_limit }
+    requires within { length rest.now ≤ length text.now }
+    ensures { (before : List ℕ) → text.now ≡ before ++ rest.now → result ≡ newlines before + 2 }
 {
-    match due {
-        Some(frame) => {
-            if number == frame {
-                DumpFault::BadLine(lines + 2)
-            } else {
-                DumpFault::Frame(frame)
-            }
-        }
-        None => DumpFault::BadLine(lines + 2),
-    }
+    count_newlines(&text[..text.len() - rest.len()]) + 2
 }
 
-/// What is wrong where this line cannot stand behind so many lines.
-fn line_fault(version: Version, stage: &Stage, line: &DumpLine, lines: u32) -> DumpFault
-    requires { lines ≤ byte_limit }
-    ensures { result ≡ line_fault version stage.now line.now lines }
+/// Whether the rest begins with the line of a frame in range, but not of this one.
+fn has_other(sizes: Sizes, next: u32, rest: &[u8]) -> bool
+    ensures { result ≡ has_other sizes.version sizes.frames next rest.now }
 {
+    let Some((line, _)) = next_line(rest) else {
+        return false;
+    };
     match line {
-        DumpLine::FrameOf(number, frame) => {
-            let frames = frames_at(stage);
-            if *number < frames && is_frame(version, frames, frame) {
-                due_fault(due(stage), *number, lines)
-            } else {
-                DumpFault::BadLine(lines + 2)
-            }
+        DumpLine::FrameOf(other, frame) => {
+            other != next && other < sizes.frames && is_frame(sizes.version, sizes.frames, &frame)
         }
-        _ => DumpFault::BadLine(lines + 2),
+        _ => false,
     }
+}
+
+/// Whether this frame is due, and there is no rest, or it begins with the line of another.
+fn lacks_frame(sizes: Sizes, next: u32, rest: &[u8]) -> bool
+    ensures { result ≡ lacks_frame sizes.version sizes.frames next rest.now }
+{
+    next < sizes.frames && (rest.is_empty() || has_other(sizes, next, rest))
+}
+
+/// Whether all frames were read, and there is no rest.
+fn is_whole(sizes: Sizes, next: u32, rest: &[u8]) -> bool
+    ensures { result ≡ (next == sizes.frames && length rest.now == 0) }
+{
+    next == sizes.frames && rest.is_empty()
 }
 
 /// The dump whose lines these are.
-fn read_lines(alloc: Global, version: Version, text: &[u8]) -> Result<Begun, DumpFault>
+fn read_sections(alloc: Global, version: Version, text: &[u8]) -> Result<Begun, DumpFault>
     requires { length text.now ≤ byte_limit }
     ensures { MatchResult result (λ begun. IsTextOf version text.now begun) (λ fault. IsStuck version text.now fault) }
 {
-    let mut begun = Begun::new(alloc, version);
-    let mut stage = Stage::AtSize;
-    let mut lines: u32 = 0;
-    let mut rest = text;
-    while !rest.is_empty() {
-        let Some((bytes, more)) = split_line(rest) else {
-            return Err(DumpFault::BadLine(lines + 2));
-        };
-        let Some(line) = read_line(bytes) else {
-            return Err(DumpFault::BadLine(lines + 2));
-        };
-        let Some(next) = after(version, &stage, &line) else {
-            return Err(line_fault(version, &stage, &line, lines));
-        };
-        begun.add(alloc, line)?;
-        stage = next;
-        lines += 1;
-        rest = more;
+    let Some((frames, core, leaves, behind)) = next_size(version, text) else {
+        return Err(DumpFault::BadLine(2));
+    };
+    let Some((free, behind)) = next_free(frames, behind) else {
+        return Err(DumpFault::BadLine(3));
+    };
+    let sizes = Sizes { version, frames };
+    let mut begun = Begun::new(alloc, version, core, leaves, free);
+    let rest = read_vms(alloc, sizes, &mut begun, behind)?;
+    if begun.slots() < version.slots() as usize {
+        return Err(DumpFault::BadLine(line_number(text, rest)));
     }
-    match end_fault(&stage, lines) {
-        Some(fault) => Err(fault),
-        None => Ok(begun),
+    let rest = read_behind_vms(sizes, &mut begun, rest)?;
+    let next = begun.frames();
+    if is_whole(sizes, next, rest) {
+        return Ok(begun);
     }
+    if lacks_frame(sizes, next, rest) {
+        return Err(DumpFault::Frame(next));
+    }
+    Err(DumpFault::BadLine(line_number(text, rest)))
 }
 
 /// The version of the dump and what stands behind its header, if the text begins with one.
@@ -156,7 +128,7 @@ pub fn read_dump(alloc: Global, text: &[u8]) -> Result<Dump, DumpFault>
     let Some((version, rest)) = behind_header(text) else {
         return Err(DumpFault::NoHeader);
     };
-    match read_lines(alloc, version, rest) {
+    match read_sections(alloc, version, rest) {
         Ok(begun) => Ok(begun.into_dump()),
         Err(fault) => Err(fault),
     }

@@ -16,7 +16,6 @@ use Rattle.kc_dump_text.specs.DumpText.{dump_text}
 use Rattle.kc_dump_text.specs.Grammar.{IsDumpText}
 use Rattle.kc_dump_text.specs.Refused.{IsRefusedDump}
 use Rattle.kc_dump_text.proofs.Limits.{few-slots}
-use Rattle.kc_dump_text.proofs.Ordered.{in-order}
 use Rattle.kc_dump_text.proofs.Followed.{one-dump, not-refused}
 use Rattle.kc_state.specs.Dumping.{dump_of}
 use Rattle.kc_state.specs.Told.{Told, SlotRest, slot_rest, rest_of, told_of}
@@ -155,7 +154,7 @@ module _ (m : State) (is : IsCoreState m) where
   front-whole = record { approved = refl; slots = refl; pages = refl }
 
   dumped : IsDumpText (dump_text (dump_of m)) (dump_of m)
-  dumped = record { whole = refl; ordered = in-order (dump_of m) (dump-in-range m is.lawful) }
+  dumped = record { whole = refl; range = dump-in-range m is.lawful }
 
   dump-short : length (state_text m) ≤ byte_limit → length (dump_text (dump_of m)) ≤ byte_limit
   dump-short short = let a = length-append (front_text state-front) (dump_text (dump_of m)) in omega (arith, short, a)

@@ -1,0 +1,47 @@
+-- The first line of a text.
+use Rattle.std.proofs.Common.{ℕ, ◌≡◌, inl, inr, ◌<◌, length, length-append, arith, List, [], ◌∷◌, ◌++◌, Some, None, refl, sym, ap, ◌∙◌, append_assoc}
+use Rattle.std.specs.Prelude.{◌==◌, not, option_map}
+use Rattle.std.specs.List.{list_all}
+use Rattle.std.proofs.lemmas.Bool.{and_parts, not-true, eqb-true}
+use Rattle.kc_lines.specs.Lines.{IsOneLine}
+use Rattle.kc_lines.proofs.Words.{chosen}
+use Rattle.kc_dump_text.specs.declared.dump_line.DumpLine.{DumpLine}
+use Rattle.kc_dump_text.specs.DumpText.{spell}
+use Rattle.kc_dump_text.specs.Lines.{line_read}
+use Rattle.kc_dump_text.specs.Sections.{first_bytes, first_line}
+use Rattle.kc_dump_text.proofs.ReadWords.{map_some, then_some}
+use Rattle.kc_dump_text.proofs.ReadLines.{Fits, bare, spell-bare, bare-one-line, line-to, line-from}
+
+pub none-first : (bytes : List ℕ) → IsOneLine bytes → first_bytes bytes ≡ None
+none-first [] one = refl
+none-first (b ∷ bytes) one = let p = and_parts (not (b == 10)) (list_all (λ b. not (b == 10)) bytes) one in rw (not-true (b == 10) p.0, none-first bytes p.1) refl
+
+pub cut-first : (bytes rest : List ℕ) → IsOneLine bytes → first_bytes (bytes ++ 10 ∷ rest) ≡ Some bytes
+cut-first [] rest one = refl
+cut-first (b ∷ bytes) rest one = let p = and_parts (not (b == 10)) (list_all (λ b. not (b == 10)) bytes) one in rw (not-true (b == 10) p.0, cut-first bytes rest p.1) refl
+
+pub spelled-cut : (l : DumpLine) (rest : List ℕ) → spell l ++ rest ≡ bare l ++ 10 ∷ rest
+spelled-cut l rest = ap (λ (s : List ℕ). s ++ rest) (spell-bare l) ∙ append_assoc (bare l) (10 ∷ []) rest
+
+-- the line that a text begins with is its first
+pub first-spelled : (l : DumpLine) (rest : List ℕ) → Fits l → first_line (spell l ++ rest) ≡ Some l
+first-spelled l rest fits = ap first_line (spelled-cut l rest) ∙ rw (cut-first (bare l) rest (bare-one-line l fits)) (line-to l fits)
+
+pub read-first : (bytes rest : List ℕ) (l : DumpLine) → line_read bytes ≡ Some l → bytes ++ 10 ∷ rest ≡ spell l ++ rest
+read-first bytes rest l read = ap (λ (b : List ℕ). b ++ 10 ∷ rest) (line-from bytes l read) ∙ sym (spelled-cut l rest)
+
+bytes-from : (text bytes : List ℕ) → first_bytes text ≡ Some bytes → (rest : List ℕ) × (text ≡ bytes ++ 10 ∷ rest)
+bytes-from [] bytes e = absurd cc
+bytes-from (b ∷ text) bytes e =
+    elim (chosen (b == 10) (Some []) (option_map (λ more. b ∷ more) (first_bytes text)) (Some bytes) e) [
+      | inl h ↦ let none : [] ≡ bytes = cc in (text, ap (λ c. c ∷ text) (eqb-true b 10 h.0) ∙ ap (λ (l : List ℕ). l ++ 10 ∷ text) none)
+      | inr h ↦ let m = map_some (λ more. b ∷ more) (first_bytes text) bytes h.1 in let rest = bytes-from text m.0 m.1 in (rest.0, ap (λ l. b ∷ l) rest.1 ∙ ap (λ (l : List ℕ). l ++ 10 ∷ rest.0) m.2)
+    ]
+
+-- a text begins with its first line
+pub first-from : (text : List ℕ) (l : DumpLine) → first_line text ≡ Some l → (rest : List ℕ) × (text ≡ spell l ++ rest)
+first-from text l e = let b = then_some line_read (first_bytes text) l e in let cut = bytes-from text b.0 b.1 in (cut.0, cut.1 ∙ read-first b.0 cut.0 l b.2)
+
+-- a line has a byte at least
+pub line-bytes : (l : DumpLine) (rest text : List ℕ) → text ≡ spell l ++ rest → length rest < length text
+line-bytes l rest text e = let a = ap length (e ∙ spelled-cut l rest) in let b = length-append (bare l) (10 ∷ rest) in omega (arith, a, b)
