@@ -31,56 +31,32 @@ newlines (b ∷ bytes) = (if b == 10 then 1 else 0) + newlines bytes
 -- the line of sizes
 abbrev pub is_size : Version → DumpLine → Bool
 is_size version (SizeOf frames core leaves) = nat_lt 0 frames && nat_le frames (most_frames version) && nat_le core frames && nat_lt 0 leaves && nat_le leaves leaf_limit
-is_size version (FreeOf ends) = false
-is_size version (VmOf v phase ends) = false
-is_size version (LeafOf v n root) = false
-is_size version (EntryOf v entry) = false
-is_size version (FrameOf f frame) = false
+is_size version _ = false
 
 -- the line of the free list
 abbrev pub is_free : ℕ → DumpLine → Bool
 is_free frames (FreeOf ends) = are_ends frames ends
-is_free frames (SizeOf n core leaves) = false
-is_free frames (VmOf v phase ends) = false
-is_free frames (LeafOf v n root) = false
-is_free frames (EntryOf v entry) = false
-is_free frames (FrameOf f frame) = false
+is_free frames _ = false
 
 -- the line of this slot
 abbrev pub is_vm : Version → ℕ → ℕ → DumpLine → Bool
 is_vm version frames v (VmOf w phase ends) = w == v && nat_lt v (slots_of version) && are_ends frames ends
-is_vm version frames v (SizeOf n core leaves) = false
-is_vm version frames v (FreeOf ends) = false
-is_vm version frames v (LeafOf w n root) = false
-is_vm version frames v (EntryOf w entry) = false
-is_vm version frames v (FrameOf f frame) = false
+is_vm version frames v _ = false
 
 -- a leaf behind those of this slot, which has so many
 abbrev pub is_leaf : Version → ℕ → ℕ → DumpLine → Bool
 is_leaf version v n (LeafOf w k root) = nat_lt w (slots_of version) && nat_lt root leaf_entries && ((w == v && k == n) || (nat_lt v w && k == 0))
-is_leaf version v n (SizeOf frames core leaves) = false
-is_leaf version v n (FreeOf ends) = false
-is_leaf version v n (VmOf w phase ends) = false
-is_leaf version v n (EntryOf w entry) = false
-is_leaf version v n (FrameOf f frame) = false
+is_leaf version v n _ = false
 
 -- an entry behind those of this slot, at this guest frame or above it
 abbrev pub is_next_entry : Version → ℕ → ℕ → ℕ → DumpLine → Bool
 is_next_entry version frames v least (EntryOf w entry) = is_entry version frames w entry && (nat_lt v w || (w == v && nat_le least entry.0))
-is_next_entry version frames v least (SizeOf n core leaves) = false
-is_next_entry version frames v least (FreeOf ends) = false
-is_next_entry version frames v least (VmOf w phase ends) = false
-is_next_entry version frames v least (LeafOf w n root) = false
-is_next_entry version frames v least (FrameOf f frame) = false
+is_next_entry version frames v least _ = false
 
 -- the line of this frame
 abbrev pub is_frame_of : Version → ℕ → ℕ → DumpLine → Bool
 is_frame_of version frames f (FrameOf g frame) = g == f && nat_lt f frames && is_frame version frames frame
-is_frame_of version frames f (SizeOf n core leaves) = false
-is_frame_of version frames f (FreeOf ends) = false
-is_frame_of version frames f (VmOf v phase ends) = false
-is_frame_of version frames f (LeafOf v n root) = false
-is_frame_of version frames f (EntryOf v entry) = false
+is_frame_of version frames f _ = false
 
 -- the first line of the text is such a one
 abbrev pub begins : (DumpLine → Bool) → Option DumpLine → Bool
@@ -90,11 +66,7 @@ begins may (Some l) = may l
 -- the line of a frame in range with another number
 abbrev pub is_other : Version → ℕ → ℕ → DumpLine → Bool
 is_other version frames f (FrameOf g frame) = not (g == f) && nat_lt g frames && is_frame version frames frame
-is_other version frames f (SizeOf n core leaves) = false
-is_other version frames f (FreeOf ends) = false
-is_other version frames f (VmOf v phase ends) = false
-is_other version frames f (LeafOf v n root) = false
-is_other version frames f (EntryOf v entry) = false
+is_other version frames f _ = false
 
 -- the text goes on with no such line
 abbrev pub HasNone : (DumpLine → Bool) → List ℕ → Type 0
