@@ -1,8 +1,8 @@
 -- Each dump begun is the beginning of a dump.
-use Rattle.std.proofs.Common.{ℕ, zero, suc, ◌≡◌, ◌<◌, ◌≤◌, ◌+◌, ◌-◌, true, List, [], ◌∷◌, ◌++◌, length, get_or, replicate, refl, sym, ap, subst, ◌∙◌, append_assoc, arith, length-append, inl, inr, nat_lt}
-use Rattle.std.proofs.lemmas.Bool.{le-leb, ltb-true, ltb-false, cases_Bool}
+use Rattle.std.proofs.Common.{ℕ, zero, suc, ◌≡◌, ◌<◌, ◌≤◌, ◌+◌, ◌-◌, ◌&&◌, nat_le, true, List, [], ◌∷◌, ◌++◌, length, get_or, replicate, refl, sym, ap, subst, ◌∙◌, append_assoc, arith, length-append, inl, inr, nat_lt}
+use Rattle.std.proofs.lemmas.Bool.{and_parts, leb-true, le-leb, ltb-true, ltb-false, cases_Bool}
 use Rattle.std.proofs.lemmas.List.{append-nil, get_or_past}
-use Rattle.kc_types.specs.Limits.{byte_limit}
+use Rattle.kc_types.specs.Limits.{byte_limit, leaf_limit}
 use Rattle.kc_types.specs.Configuration.{slots_of, most_frames}
 use Rattle.kc_types.specs.declared.version.Version.{Version}
 use Rattle.kc_types.specs.declared.slot.Phase.TheVariants.{Empty}
@@ -10,8 +10,8 @@ use Rattle.kc_dump.specs.declared.line.FrameLine.{FrameLine}
 use Rattle.kc_dump.specs.Ranges.{is_entry, is_frame, IsDump}
 use Rattle.kc_dump.specs.Dump.{Dumped, slot_dump_at, empty_dump, no_ends, absent_line, line_at}
 use Rattle.kc_dump_text.specs.declared.dump_line.DumpLine.{DumpLine}
-use Rattle.kc_dump_text.specs.declared.dump_line.DumpLine.TheVariants.{VmOf, FrameOf}
-use Rattle.kc_dump_text.specs.Begun.{with_vm, with_frame, IsBegun, begun_lines}
+use Rattle.kc_dump_text.specs.declared.dump_line.DumpLine.TheVariants.{SizeOf, VmOf, FrameOf}
+use Rattle.kc_dump_text.specs.Begun.{with_vm, with_frame, is_size, IsBegun, begun_lines}
 use Rattle.kc_dump_text.specs.Refused.{GoesOn}
 use Rattle.kc_dump_text.specs.Sections.{NoLeaves, NoEntries}
 use Rattle.kc_dump_text.proofs.Growing.{begun-vm, begun-frame, vm-bare, lines-vm, lines-frame}
@@ -25,6 +25,22 @@ module _ (version : Version) (n : ℕ) where
   abbrev pub Goes : List DumpLine → Type 0
   Goes lines = (e : Dumped) × (next : List DumpLine) × GoesOn version lines e next
 
+  -- what the line of sizes may say
+  pub record Sizes (core leaves m : ℕ) : Type 0 where
+    pub some_frames : 0 < m
+    pub few_frames : m ≤ most_frames version
+    pub core_within : core ≤ m
+    pub some_leaves : 0 < leaves
+    pub few_leaves : leaves ≤ leaf_limit
+
+  pub sizes-are : (m core leaves : ℕ) → is_size version (SizeOf m core leaves) ≡ true → Sizes core leaves m
+  sizes-are m core leaves size =
+      let p = and_parts (nat_lt 0 m && nat_le m (most_frames version) && nat_le core m && nat_lt 0 leaves) (nat_le leaves leaf_limit) size in
+      let q = and_parts (nat_lt 0 m && nat_le m (most_frames version) && nat_le core m) (nat_lt 0 leaves) p.0 in
+      let r = and_parts (nat_lt 0 m && nat_le m (most_frames version)) (nat_le core m) q.0 in
+      let u = and_parts (nat_lt 0 m) (nat_le m (most_frames version)) r.0 in
+      record { some_frames = ltb-true 0 m u.0; few_frames = leb-true m (most_frames version) u.1; core_within = leb-true core m r.1; some_leaves = ltb-true 0 leaves q.1; few_leaves = leb-true leaves leaf_limit p.1 }
+
   -- a dump begun is a dump once it has all slots and frames
   pub is-dump : (d : Dumped) → IsBegun version n d → length d.slots ≡ slots_of version → length d.frames ≡ n → IsDump d
   is-dump d b slots frames = made (subst (λ m. IsBegun version m d) (sym frames) b)
@@ -36,12 +52,12 @@ module _ (version : Version) (n : ℕ) where
       ]
 
       made : IsBegun version (length d.frames) d → IsDump d
-      made b = record {
-        some_frames = b.some_frames;
-        few_frames = subst (λ v. length d.frames ≤ most_frames v) (sym b.same) b.few_frames;
-        core = b.core;
-        some_leaves = b.some_leaves;
-        few_leaves = b.few_leaves;
+      made b = let z = sizes-are (length d.frames) d.core d.leaves b.sizes in record {
+        some_frames = z.some_frames;
+        few_frames = subst (λ v. length d.frames ≤ most_frames v) (sym b.same) z.few_frames;
+        core = z.core_within;
+        some_leaves = z.some_leaves;
+        few_leaves = z.few_leaves;
         slots = slots ∙ ap slots_of (sym b.same);
         free = b.free;
         lists = λ v low. (b.slots v low).list;

@@ -30,18 +30,6 @@ first-spelled l rest fits = ap first_line (spelled-cut l rest) ∙ rw (cut-first
 pub read-first : (bytes rest : List ℕ) (l : DumpLine) → line_read bytes ≡ Some l → bytes ++ 10 ∷ rest ≡ spell l ++ rest
 read-first bytes rest l read = ap (λ (b : List ℕ). b ++ 10 ∷ rest) (line-from bytes l read) ∙ sym (spelled-cut l rest)
 
-bytes-from : (text bytes : List ℕ) → first_bytes text ≡ Some bytes → (rest : List ℕ) × (text ≡ bytes ++ 10 ∷ rest)
-bytes-from [] bytes e = absurd cc
-bytes-from (b ∷ text) bytes e =
-    elim (chosen (b == 10) (Some []) (option_map (λ more. b ∷ more) (first_bytes text)) (Some bytes) e) [
-      | inl h ↦ let none : [] ≡ bytes = cc in (text, ap (λ c. c ∷ text) (eqb-true b 10 h.0) ∙ ap (λ (l : List ℕ). l ++ 10 ∷ text) none)
-      | inr h ↦ let m = map_some (λ more. b ∷ more) (first_bytes text) bytes h.1 in let rest = bytes-from text m.0 m.1 in (rest.0, ap (λ l. b ∷ l) rest.1 ∙ ap (λ (l : List ℕ). l ++ 10 ∷ rest.0) m.2)
-    ]
-
--- a text begins with its first line
-pub first-from : (text : List ℕ) (l : DumpLine) → first_line text ≡ Some l → (rest : List ℕ) × (text ≡ spell l ++ rest)
-first-from text l e = let b = then_some line_read (first_bytes text) l e in let cut = bytes-from text b.0 b.1 in (cut.0, cut.1 ∙ read-first b.0 cut.0 l b.2)
-
 -- a line has a byte at least
 pub line-bytes : (l : DumpLine) (rest text : List ℕ) → text ≡ spell l ++ rest → length rest < length text
 line-bytes l rest text e = let a = ap length (e ∙ spelled-cut l rest) in let b = length-append (bare l) (10 ∷ rest) in omega (arith, a, b)

@@ -124,11 +124,7 @@ module _ (version : Version) (n : ℕ) where
   pub begun-vm : (d : Dumped) (p : Phase) (e : Ends) → IsBegun version n d → length d.slots < slots_of version → are_ends n e ≡ true → IsBegun version n (with_vm d p e)
   begun-vm d p e b low ends = record {
     same = b.same;
-    some_frames = b.some_frames;
-    few_frames = b.few_frames;
-    core = b.core;
-    some_leaves = b.some_leaves;
-    few_leaves = b.few_leaves;
+    sizes = b.sizes;
     free = b.free;
     few_slots = (let a = length-append d.slots (new-slot p e ∷ []) in omega (arith, a, low));
     slots = push-each (IsSlot version n) d.slots (new-slot p e) empty_dump b.slots (record { list = ends; leaves = omega arith; roots = λ k l. absurd (omega (arith, l)); entries = λ k l. absurd (omega (arith, l)); rising = λ k l. absurd (omega (arith, l)) });
@@ -139,11 +135,7 @@ module _ (version : Version) (n : ℕ) where
   begun-set : (d : Dumped) (v : ℕ) (slot : SlotDump) → IsBegun version n d → v < length d.slots → IsSlot version n v slot → IsBegun version n (record d { slots = set d.slots v slot })
   begun-set d v slot b low is = record {
     same = b.same;
-    some_frames = b.some_frames;
-    few_frames = b.few_frames;
-    core = b.core;
-    some_leaves = b.some_leaves;
-    few_leaves = b.few_leaves;
+    sizes = b.sizes;
     free = b.free;
     few_slots = (let a = length-set d.slots v slot in let few = b.few_slots in omega (arith, a, few));
     slots = set-each (IsSlot version n) d.slots v slot empty_dump low b.slots is;
@@ -176,11 +168,7 @@ module _ (version : Version) (n : ℕ) where
   pub begun-frame : (d : Dumped) (line : FrameLine) → IsBegun version n d → length d.frames < n → is_frame version n line ≡ true → IsBegun version n (with_frame d line)
   begun-frame d line b low is = record {
     same = b.same;
-    some_frames = b.some_frames;
-    few_frames = b.few_frames;
-    core = b.core;
-    some_leaves = b.some_leaves;
-    few_leaves = b.few_leaves;
+    sizes = b.sizes;
     free = b.free;
     few_slots = b.few_slots;
     slots = b.slots;

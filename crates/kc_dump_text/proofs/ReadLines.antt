@@ -101,19 +101,9 @@ args-are-words (FreeOf ends) fits = ends-are-words ends fits
 args-are-words (VmOf v p ends) fits = (decimal_is_word v fits.0, (phase-is-word p, ends-are-words ends fits.1))
 args-are-words (LeafOf v n r) fits = three-words v n r fits.0 fits.1 fits.2
 args-are-words (EntryOf v e) fits = three-words v e.0 e.1 fits.0 (omega (arith, fits.1)) (omega (arith, fits.2))
-args-are-words (FrameOf f l) fits = (
-  decimal_is_word f fits.0,
-  (
-    owner-is-word l.owner fits.1.owner,
-    (
-      decimal_is_word l.share fits.1.share,
-      (
-        dash-word gfn_limit l.gfn (omega arith) fits.1.gfn,
-        (bit-word l.present, (dash-word frame_limit l.prev (omega arith) fits.1.prev, (dash-word frame_limit l.next (omega arith) fits.1.next, (digest-word l.digest fits.1.digest, tt)))),
-      ),
-    ),
-  ),
-)
+args-are-words (FrameOf f l) fits =
+    let rest : EachWord (frame_rest l) = (dash-word gfn_limit l.gfn (omega arith) fits.1.gfn, (bit-word l.present, (dash-word frame_limit l.prev (omega arith) fits.1.prev, (dash-word frame_limit l.next (omega arith) fits.1.next, (digest-word l.digest fits.1.digest, tt))))) in
+    (decimal_is_word f fits.0, (owner-is-word l.owner fits.1.owner, (decimal_is_word l.share fits.1.share, rest)))
 
 name-is-word : (l : DumpLine) → is_word (name_of l) ≡ true
 name-is-word (SizeOf f c l) = refl

@@ -1,6 +1,6 @@
 -- Where no section goes on, no dump does.
 use Rattle.std.proofs.Common.{ℕ, ◌≡◌, ◌<◌, ◌≤◌, ◌+◌, ◌-◌, true, false, ◌&&◌, ◌||◌, nat_lt, nat_le, List, [], ◌∷◌, ◌++◌, length, get_or, Option, Some, None, refl, sym, ap, subst, ◌∙◌, append_assoc, arith, inl, inr, length-append, eq-eqb, suc, Bool}
-use Rattle.std.specs.Prelude.{◌==◌, not}
+use Rattle.std.specs.Prelude.{◌==◌, ◌⊎◌, not}
 use Rattle.std.specs.List.{flat_map}
 use Rattle.std.proofs.lemmas.Bool.{and_parts, and_from, or_cases, eqb-true, lt-ltb, le-leb, leb-true, eqb-false, ne_eqb, not-true, ltb-true, ltb-false, cases_Bool, cases_eq}
 use Rattle.std.proofs.lemmas.List.{append-nil, get_or_append_left}
@@ -18,14 +18,14 @@ use Rattle.kc_dump_text.specs.declared.dump_line.DumpLine.TheVariants.{SizeOf, F
 use Rattle.kc_dump_text.specs.declared.fault.DumpFault.TheVariants.{BadLine, Frame}
 use Rattle.kc_dump_text.specs.DumpText.{spell, made, vm_of, dump_lines, rest_of}
 use Rattle.kc_dump_text.specs.Refused.{GoesOn, Starts, DumpStopsFor, LacksFrame}
-use Rattle.kc_dump_text.specs.Begun.{nothing, IsBegun, begun_lines}
-use Rattle.kc_dump_text.specs.Sections.{first_line, newlines, begins, is_size, is_free, is_vm, is_leaf, is_next_entry, is_frame_of, is_other, has_other, lacks_frame, HasNone, NoLeaves, NoEntries, LastLeaf, LastEntry, ReadsOn, VmsRead, FramesRead, IsTextOf}
+use Rattle.kc_dump_text.specs.Begun.{is_size, nothing, IsBegun, begun_lines}
+use Rattle.kc_dump_text.specs.Sections.{first_line, newlines, begins, is_free, is_vm, is_leaf, is_next_entry, is_frame_of, is_other, HasNone, HasOther, NoLeaves, NoEntries, LastLeaf, LastEntry, ReadsOn, VmsRead, FramesRead, IsTextOf}
 use Rattle.kc_dump_text.proofs.Limits.{few-frames}
-use Rattle.kc_dump_text.proofs.FirstLine.{first-spelled, first-from}
+use Rattle.kc_dump_text.proofs.FirstLine.{first-spelled}
 use Rattle.kc_dump_text.proofs.Fitting.{AllFit, first-fit, second-fit, dump-fits, frame-of}
 use Rattle.kc_dump_text.proofs.Newlines.{line-newlines}
 use Rattle.kc_dump_text.proofs.Growing.{no-leaf-lines, no-entry-lines}
-use Rattle.kc_dump_text.proofs.Completed.{Goes, zero-frame, frame-due, goes-frames, with-slots, is-dump}
+use Rattle.kc_dump_text.proofs.Completed.{Goes, zero-frame, frame-due, goes-frames, with-slots, is-dump, sizes-are}
 use Rattle.kc_dump_text.proofs.Split.{Next, done, leaf, entry, frame, next-line, sizes-alike, vm-due}
 
 clash : (b : Bool) → b ≡ true → b ≡ false → ⊥
@@ -58,17 +58,9 @@ size-is d is = let n = length d.frames in
 -- no slot yet
 pub begun-none : (version : Version) (n core leaves : ℕ) (free : Ends) → is_size version (SizeOf n core leaves) ≡ true → are_ends n free ≡ true → IsBegun version n (nothing version core leaves free)
 begun-none version n core leaves free size ends =
-    let p = and_parts (nat_lt 0 n && nat_le n (most_frames version) && nat_le core n && nat_lt 0 leaves) (nat_le leaves leaf_limit) size in
-    let q = and_parts (nat_lt 0 n && nat_le n (most_frames version) && nat_le core n) (nat_lt 0 leaves) p.0 in
-    let r = and_parts (nat_lt 0 n && nat_le n (most_frames version)) (nat_le core n) q.0 in
-    let u = and_parts (nat_lt 0 n) (nat_le n (most_frames version)) r.0 in
     record {
       same = refl;
-      some_frames = ltb-true 0 n u.0;
-      few_frames = leb-true n (most_frames version) u.1;
-      core = leb-true core n r.1;
-      some_leaves = ltb-true 0 leaves q.1;
-      few_leaves = leb-true leaves leaf_limit p.1;
+      sizes = size;
       free = ends;
       few_slots = omega arith;
       slots = λ v low. absurd (omega (arith, low));
@@ -122,27 +114,17 @@ entry-ahead slots v least k y more es last bare e rising =
         let q = ap (λ (z : ℕ × ℕ). z.0) at_next in
         omega (arith, a, r, p, q)
 
--- the line of another frame
-other-line : (version : Version) (n f : ℕ) (rest : List ℕ) → has_other version n f rest ≡ true → (g : ℕ) × (line : FrameLine) × (first_line rest ≡ Some (FrameOf g line)) × (g < n) × (is_frame version n line ≡ true) × (g ≡ f → ⊥)
-other-line version n f rest is = by_line (first_line rest) refl is
-  where
-    by_line : (o : Option DumpLine) → first_line rest ≡ o → begins (is_other version n f) o ≡ true → (g : ℕ) × (line : FrameLine) × (first_line rest ≡ Some (FrameOf g line)) × (g < n) × (is_frame version n line ≡ true) × (g ≡ f → ⊥)
-    by_line None first is = absurd cc
-    by_line (Some (FrameOf g line)) first is =
-        let p = and_parts (not (g == f) && nat_lt g n) (is_frame version n line) is in
-        let q = and_parts (not (g == f)) (nat_lt g n) p.0 in
-        (g, line, first, ltb-true g n q.1, p.1, eqb-false g f (not-true (g == f) q.0))
-    by_line (Some (SizeOf k core leaves)) first is = absurd cc
-    by_line (Some (FreeOf ends)) first is = absurd cc
-    by_line (Some (VmOf v phase ends)) first is = absurd cc
-    by_line (Some (LeafOf v k root)) first is = absurd cc
-    by_line (Some (EntryOf v e)) first is = absurd cc
-
 module _ (version : Version) (text : List ℕ) where
-  -- no line of a frame is due, and no line that is due follows
-  stops-at : (lines : List DumpLine) (rest : List ℕ) (m : ℕ) → text ≡ flat_map spell lines ++ rest → ((d : Dumped) × (next : List DumpLine) × GoesOn version lines d next) → ((d : Dumped) (next : List DumpLine) → GoesOn version lines d next → Starts rest next → ⊥)
-      → m ≡ length lines + 2 → ((f : ℕ) → LacksFrame version lines rest f → ⊥) → DumpStopsFor version text (BadLine m)
-  stops-at lines rest m whole goes stuck count none = record { lines = lines; rest = rest; stops = record { whole = whole; begun = goes; stuck = stuck }; why = (count, none) }
+  -- a dump goes on with such a line alone, and it is of no frame
+  stops-by : (lines : List DumpLine) (rest : List ℕ) (m : ℕ) (may : DumpLine → Bool) → ((f : ℕ) (line : FrameLine) → may (FrameOf f line) ≡ false) → text ≡ flat_map spell lines ++ rest → ((d : Dumped) × (next : List DumpLine) × GoesOn version lines d next) → HasNone may rest
+      → ((d : Dumped) (next : List DumpLine) → GoesOn version lines d next → (l : DumpLine) × (ls : List DumpLine) × (next ≡ l ∷ ls) × (may l ≡ true)) → m ≡ length lines + 2 → DumpStopsFor version text (BadLine m)
+  stops-by lines rest m may no-frame whole goes none due count = record { lines = lines; rest = rest; stops = record { whole = whole; begun = goes; stuck = stuck }; why = (count, lacks) }
+    where
+      stuck : (d : Dumped) (next : List DumpLine) → GoesOn version lines d next → Starts rest next → ⊥
+      stuck d next on s = let x = due d next on in none-such may rest x.0 none (first-is version lines d x.0 x.1 rest (subst (GoesOn version lines d) x.2 on) (subst (Starts rest) x.2 s)) x.3
+
+      lacks : (f : ℕ) → LacksFrame version lines rest f → ⊥
+      lacks f l = let x = due l.dump (FrameOf f l.frame ∷ l.next) l.due in let e = x.2 in let same : FrameOf f l.frame ≡ x.0 = cc in clash (may x.0) x.3 (subst (λ k. may k ≡ false) same (no-frame f l.frame))
 
   -- lines that some dump begins with have as many newlines
   counted : (lines : List DumpLine) (m : ℕ) → ((d : Dumped) × (next : List DumpLine) × GoesOn version lines d next) → m ≡ newlines (flat_map spell lines) + 2 → m ≡ length lines + 2
@@ -154,37 +136,21 @@ module _ (version : Version) (text : List ℕ) where
   empty-goes n core leaves size =
       with-slots version n (slots_of version) (nothing version core leaves no_ends) (begun-none version n core leaves no_ends size (le-leb 0 n (omega arith))) (omega arith) (λ k l. refl) (λ k l. refl) refl
 
+  smallest : (v : Version) → is_size v (SizeOf 1 0 1) ≡ true
+  smallest One = refl
+  smallest Two = refl
+
   pub no-size : HasNone (is_size version) text → DumpStopsFor version text (BadLine 2)
-  no-size none = stops-at [] text 2 refl (g.0, dump_lines g.0, record { range = g.2.range; same = g.2.same; spelled = refl }) stuck refl (λ f l. (let e = l.due.spelled in absurd cc))
-    where
-      smallest : (v : Version) → is_size v (SizeOf 1 0 1) ≡ true
-      smallest One = refl
-      smallest Two = refl
-
-      g : Goes version 1 (begun_lines 1 (nothing version 0 1 no_ends))
-      g = empty-goes 1 0 1 (smallest version)
-
-      stuck : (d : Dumped) (next : List DumpLine) → GoesOn version [] d next → Starts text next → ⊥
-      stuck d next on s =
-          let size = SizeOf (length d.frames) d.core d.leaves in
-          let rest = FreeOf d.free ∷ rest_of d in
-          none-such (is_size version) text size none (first-is version [] d size rest text (subst (GoesOn version [] d) (sym on.spelled) on) (subst (Starts text) (sym on.spelled) s)) (subst (λ v. is_size v size ≡ true) on.same (size-is d on.range))
+  no-size none =
+      let g = empty-goes 1 0 1 (smallest version) in
+      stops-by [] text 2 (is_size version) (λ f line. refl) refl (g.0, dump_lines g.0, record { range = g.2.range; same = g.2.same; spelled = refl }) none
+      (λ d next on. (SizeOf (length d.frames) d.core d.leaves, FreeOf d.free ∷ rest_of d, sym on.spelled, subst (λ v. is_size v (SizeOf (length d.frames) d.core d.leaves) ≡ true) on.same (size-is d on.range))) refl
 
   pub no-free : (n core leaves : ℕ) (rest : List ℕ) → text ≡ spell (SizeOf n core leaves) ++ rest → is_size version (SizeOf n core leaves) ≡ true → HasNone (is_free n) rest → DumpStopsFor version text (BadLine 3)
   no-free n core leaves rest whole size none =
-      stops-at lines rest 3 (whole ∙ ap (λ (s : List ℕ). s ++ rest) (sym (append-nil (spell (SizeOf n core leaves))))) (g.0, FreeOf no_ends ∷ g.1, record { range = g.2.range; same = g.2.same; spelled = g.2.spelled }) stuck refl (λ f l. (let e = l.due.spelled in absurd cc))
-    where
-      lines : List DumpLine
-      lines = SizeOf n core leaves ∷ []
-
-      g : Goes version n (begun_lines n (nothing version core leaves no_ends))
-      g = empty-goes n core leaves size
-
-      stuck : (d : Dumped) (next : List DumpLine) → GoesOn version (SizeOf n core leaves ∷ []) d next → Starts rest next → ⊥
-      stuck d next on s =
-          let same : length d.frames ≡ n = (let e = on.spelled in cc) in
-          let behind : next ≡ FreeOf d.free ∷ rest_of d = (let e = on.spelled in cc) in
-          none-such (is_free n) rest (FreeOf d.free) none (first-is version (SizeOf n core leaves ∷ []) d (FreeOf d.free) (rest_of d) rest (subst (GoesOn version (SizeOf n core leaves ∷ []) d) behind on) (subst (Starts rest) behind s)) (subst (λ m. are_ends m d.free ≡ true) same on.range.free)
+      let g = empty-goes n core leaves size in
+      stops-by (SizeOf n core leaves ∷ []) rest 3 (is_free n) (λ f line. refl) (whole ∙ ap (λ (s : List ℕ). s ++ rest) (sym (append-nil (spell (SizeOf n core leaves))))) (g.0, FreeOf no_ends ∷ g.1, record { range = g.2.range; same = g.2.same; spelled = g.2.spelled }) none
+      (λ d next on. (let e = on.spelled in let same : length d.frames ≡ n = cc in (FreeOf d.free, rest_of d, cc, subst (λ m. are_ends m d.free ≡ true) same on.range.free))) refl
 
   -- ---- the slots
 
@@ -195,27 +161,23 @@ module _ (version : Version) (text : List ℕ) where
     pub no-vm : (m : ℕ) → VmsRead version n p rest → length p.slots < slots_of version → m ≡ newlines (flat_map spell (begun_lines n p)) + 2 → DumpStopsFor version text (BadLine m)
     no-vm m read low count =
         let goes = with-slots version n (slots_of version - length p.slots) p read.begun (let few = read.begun.few_slots in omega (arith, few)) read.leaves read.entries read.frames in
-        stops-at (begun_lines n p) rest m whole goes stuck (counted (begun_lines n p) m goes count)
-        (λ f l. (let e = (due l.dump _ l.due).1 in absurd cc))
+        stops-by (begun_lines n p) rest m (is_vm version n (length p.slots)) (λ f line. refl) whole goes read.none due (counted (begun_lines n p) m goes count)
       where
-        due : (d : Dumped) (next : List DumpLine) → On d next → (r : List DumpLine) × (next ≡ VmOf (0 + length p.slots) (slot_dump_at d (length p.slots)).phase (slot_dump_at d (length p.slots)).list ∷ r)
+        due : (d : Dumped) (next : List DumpLine) → On d next → (l : DumpLine) × (ls : List DumpLine) × (next ≡ l ∷ ls) × (is_vm version n (length p.slots) l ≡ true)
         due d next on =
+            let k = length p.slots in
+            let slot = slot_dump_at d k in
             let bare : rest_of p ≡ made vm_of 0 p.slots = rw (no-leaf-lines p.slots read.leaves, no-entry-lines p.slots read.entries, read.frames) (append-nil (made vm_of 0 p.slots)) in
             let long = on.range.slots in
             let v = ap slots_of on.same in
-            vm-due 0 p.slots d.slots next _ (omega (arith, low, long, v)) (ap (λ (ls : List DumpLine). ls ++ next) (sym bare) ∙ (sizes-alike n p d next on.spelled).4)
-
-        stuck : (d : Dumped) (next : List DumpLine) → On d next → Starts rest next → ⊥
-        stuck d next on s =
-            let x = due d next on in
-            let slot = slot_dump_at d (length p.slots) in
-            let place : 0 + length p.slots ≡ length p.slots = omega arith in
-            let line = VmOf (0 + length p.slots) slot.phase slot.list in
-            let same : length d.frames ≡ n = (sizes-alike n p d next on.spelled).0 in
-            let long = on.range.slots in
-            let v = ap slots_of on.same in
-            none-such (is_vm version n (length p.slots)) rest line read.none (first-is version (begun_lines n p) d line x.0 rest (subst (On d) x.1 on) (subst (Starts rest) x.1 s))
-            (and_from _ _ (and_from _ _ (eq-eqb (0 + length p.slots) (length p.slots) place) (lt-ltb (length p.slots) (slots_of version) low)) (subst (λ m. are_ends m slot.list ≡ true) same (on.range.lists (length p.slots) (omega (arith, low, long, v)))))
+            let alike = sizes-alike n p d next on.spelled in
+            let x = vm-due 0 p.slots d.slots next _ (omega (arith, low, long, v)) (ap (λ (ls : List DumpLine). ls ++ next) (sym bare) ∙ alike.4) in
+            (
+              VmOf (0 + k) slot.phase slot.list,
+              x.0,
+              x.1,
+              and_from _ _ (and_from _ _ (eq-eqb (0 + k) k (omega arith)) (lt-ltb k (slots_of version) low)) (subst (λ m. are_ends m slot.list ≡ true) alike.0 (on.range.lists k (omega (arith, low, long, v)))),
+            )
 
     -- ---- leaves, entries and frames
 
@@ -276,33 +238,41 @@ module _ (version : Version) (text : List ℕ) where
             same = read.begun.same;
           }
 
+      goes : (d : Dumped) × (next : List DumpLine) × On d next
+      goes = goes-frames version n p read.begun read.slots
+
       -- the line of the next frame is due
-      pub frame-missing : lacks_frame version n (length p.frames) rest ≡ true → DumpStopsFor version text (Frame (length p.frames))
-      frame-missing is =
-          let lacks = and_parts (nat_lt (length p.frames) n) (length rest == 0 || has_other version n (length p.frames) rest) is in
-          let low = ltb-true (length p.frames) n lacks.0 in
+      pub frame-missing : length p.frames < n → (rest ≡ []) ⊎ HasOther version n (length p.frames) rest → DumpStopsFor version text (Frame (length p.frames))
+      frame-missing low why =
           let due = frame-due version n p read.begun read.slots low in
           let size = sized due.0 (FrameOf (length p.frames) zero-frame ∷ due.1) due.2 in
           record {
             lines = begun_lines n p;
             rest = rest;
-            stops = record { whole = whole; begun = goes-frames version n p read.begun read.slots; stuck = stuck (λ all none. omega (arith, all, low)) };
+            stops = record { whole = whole; begun = goes; stuck = stuck (λ all none. omega (arith, all, low)) };
             why = record {
               dump = due.0;
               frame = zero-frame;
               next = due.1;
               due = due.2;
-              why = elim (or_cases (length rest == 0) (has_other version n (length p.frames) rest) lacks.1) [
-                | inl none ↦ inl (length-zero rest (eqb-true (length rest) 0 none))
-                | inr other ↦ let x = other-line version n (length p.frames) rest other in let cut = first-from rest (FrameOf x.0 x.1) x.2 in inr (x.0, x.1, cut.0, cut.1, omega (arith, size, x.3), subst (λ m. is_frame version m x.1 ≡ true) (sym size) x.4, x.5)
+              why = elim why [
+                | inl none ↦ inl none
+                | inr x ↦
+                    let t = and_parts (not (x.0 == length p.frames) && nat_lt x.0 n) (is_frame version n x.1) x.4 in
+                    let u = and_parts (not (x.0 == length p.frames)) (nat_lt x.0 n) t.0 in
+                    let within = ltb-true x.0 n u.1 in
+                    inr (x.0, x.1, x.2, x.3, omega (arith, size, within), subst (λ m. is_frame version m x.1 ≡ true) (sym size) t.1, eqb-false x.0 (length p.frames) (not-true (x.0 == length p.frames) u.0))
               ];
             };
           }
 
-      pub bad-line : (m : ℕ) → m ≡ newlines (flat_map spell (begun_lines n p)) + 2 → (length p.frames == n && length rest == 0) ≡ false → lacks_frame version n (length p.frames) rest ≡ false → DumpStopsFor version text (BadLine m)
-      bad-line m count more none =
-          let goes = goes-frames version n p read.begun read.slots in
-          stops-at (begun_lines n p) rest m whole goes (stuck (λ all end. clash _ (and_from _ _ (eq-eqb (length p.frames) n all) (eq-eqb (length rest) 0 (ap length end))) more)) (counted (begun_lines n p) m goes count) lacks
+      pub bad-line : (m : ℕ) → m ≡ newlines (flat_map spell (begun_lines n p)) + 2 → (length p.frames == n && length rest == 0) ≡ false → (length p.frames < n → (rest ≡ [] → ⊥) × HasNone (is_other version n (length p.frames)) rest) → DumpStopsFor version text (BadLine m)
+      bad-line m count more none = record {
+        lines = begun_lines n p;
+        rest = rest;
+        stops = record { whole = whole; begun = goes; stuck = stuck (λ all end. clash _ (and_from _ _ (eq-eqb (length p.frames) n all) (eq-eqb (length rest) 0 (ap length end))) more) };
+        why = (counted (begun_lines n p) m goes count, lacks);
+      }
         where
           lacks : (f : ℕ) → LacksFrame version (begun_lines n p) rest f → ⊥
           lacks f l = by_next (behind l.dump (FrameOf f l.frame ∷ l.next) l.due)
@@ -314,16 +284,16 @@ module _ (version : Version) (text : List ℕ) where
               by_next (frame y more r e q) =
                   let low = low-frame l.dump (FrameOf f l.frame ∷ l.next) y more l.due e in
                   let size = sized l.dump (FrameOf f l.frame ∷ l.next) l.due in
-                  let few = few-frames version n read.begun.few_frames in
+                  let few = few-frames version n (sizes-are version n n p.core p.leaves read.begun.sizes).few_frames in
                   let place : f ≡ length p.frames = cc in
-                  clash _ (and_from _ _ (lt-ltb (length p.frames) n low) (elim l.why [
-                    | inl end ↦ either-first _ _ (eq-eqb (length rest) 0 (ap length end))
+                  elim l.why [
+                    | inl end ↦ (none low).0 end
                     | inr x ↦
                         let is : is_frame version n x.1 ≡ true = subst (λ m. is_frame version m x.1 ≡ true) size x.5 in
                         let within : x.0 < n = (let a = x.4 in omega (arith, size, a)) in
-                        let first = ap first_line x.3 ∙ first-spelled (FrameOf x.0 x.1) x.2 (omega (arith, within, few), frame-of version n x.1 few is) in
-                        either-second _ _ (ap (begins (is_other version n (length p.frames))) first ∙ and_from _ _ (and_from _ _ (ap not (ne_eqb x.0 (length p.frames) (λ e. x.6 (e ∙ sym place)))) (lt-ltb x.0 n within)) is)
-                  ])) none
+                        none-such (is_other version n (length p.frames)) rest (FrameOf x.0 x.1) (none low).1 (ap first_line x.3 ∙ first-spelled (FrameOf x.0 x.1) x.2 (omega (arith, within, few), frame-of version n x.1 few is))
+                        (and_from _ _ (and_from _ _ (ap not (ne_eqb x.0 (length p.frames) (λ e. x.6 (e ∙ sym place)))) (lt-ltb x.0 n within)) is)
+                  ]
 
 -- what was read behind the two first lines
 pub read-whole : (n core leaves : ℕ) (free : Ends) (version : Version) (text behind more rest : List ℕ) (p : Dumped) → text ≡ spell (SizeOf n core leaves) ++ behind → behind ≡ spell (FreeOf free) ++ more

@@ -1,5 +1,5 @@
 -- A dump of which some lines were read.
-use Rattle.std.specs.Prelude.{ℕ, ◌≡◌, ◌<◌, ◌≤◌, suc, true, List, [], ◌∷◌, ◌++◌, length, slice_set, slice_index_or}
+use Rattle.std.specs.Prelude.{ℕ, ◌≡◌, ◌<◌, ◌≤◌, ◌&&◌, nat_lt, nat_le, suc, Bool, true, false, List, [], ◌∷◌, ◌++◌, length, slice_set, slice_index_or}
 use Rattle.kc_types.specs.Limits.{byte_limit, leaf_limit, leaf_entries}
 use Rattle.kc_types.specs.Configuration.{most_frames, slots_of}
 use Rattle.kc_types.specs.declared.version.Version.{Version}
@@ -29,6 +29,11 @@ with_entry d v entry = record d { slots = slice_set d.slots v (record (slot_dump
 abbrev pub with_frame : Dumped → FrameLine → Dumped
 with_frame d line = record d { frames = d.frames ++ line ∷ [] }
 
+-- the line of sizes
+abbrev pub is_size : Version → DumpLine → Bool
+is_size version (SizeOf frames core leaves) = nat_lt 0 frames && nat_le frames (most_frames version) && nat_le core frames && nat_lt 0 leaves && nat_le leaves leaf_limit
+is_size version _ = false
+
 -- a slot of a dump of so many frames
 pub record IsSlot (version : Version) (frames : ℕ) (v : ℕ) (slot : SlotDump) : Type 0 where
   pub list : are_ends frames slot.list ≡ true
@@ -40,11 +45,7 @@ pub record IsSlot (version : Version) (frames : ℕ) (v : ℕ) (slot : SlotDump)
 -- the numbers of a dump begun that is to have so many frames
 pub record IsBegun (version : Version) (n : ℕ) (d : Dumped) : Type 0 where
   pub same : d.version ≡ version
-  pub some_frames : 0 < n
-  pub few_frames : n ≤ most_frames version
-  pub core : d.core ≤ n
-  pub some_leaves : 0 < d.leaves
-  pub few_leaves : d.leaves ≤ leaf_limit
+  pub sizes : is_size version (SizeOf n d.core d.leaves) ≡ true
   pub free : are_ends n d.free ≡ true
   pub few_slots : length d.slots ≤ slots_of version
   pub slots : (v : ℕ) → v < length d.slots → IsSlot version n v (slot_dump_at d v)

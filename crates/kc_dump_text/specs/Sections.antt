@@ -1,9 +1,10 @@
 -- Which line may come next, section by section.
-use Rattle.std.specs.Prelude.{ℕ, ◌≡◌, ◌<◌, ◌≤◌, ◌+◌, ◌==◌, ◌&&◌, ◌||◌, ◌⊎◌, suc, not, nat_lt, nat_le, Bool, false, List, [], ◌∷◌, ◌++◌, length, slice_index_or, Option, Some, None, option_map, option_and_then, if◌then◌else◌}
+use Rattle.std.specs.Prelude.{ℕ, ◌≡◌, ◌<◌, ◌≤◌, ◌+◌, ◌==◌, ◌&&◌, ◌||◌, ◌⊎◌, suc, not, nat_lt, nat_le, Bool, true, false, List, [], ◌∷◌, ◌++◌, length, slice_index_or, Option, Some, None, option_map, option_and_then, if◌then◌else◌}
 use Rattle.std.specs.List.{flat_map}
 use Rattle.kc_types.specs.Limits.{leaf_limit, leaf_entries}
 use Rattle.kc_types.specs.Configuration.{most_frames, slots_of}
 use Rattle.kc_types.specs.declared.version.Version.{Version}
+use Rattle.kc_dump.specs.declared.line.FrameLine.{FrameLine}
 use Rattle.kc_dump.specs.Dump.{Dumped, SlotDump, empty_dump}
 use Rattle.kc_dump.specs.Ranges.{are_ends, is_entry, is_frame, IsDump}
 use Rattle.kc_dump_text.specs.declared.fault.DumpFault.{DumpFault}
@@ -27,11 +28,6 @@ first_line text = option_and_then line_read (first_bytes text)
 abbrev pub newlines : List ℕ → ℕ
 newlines [] = 0
 newlines (b ∷ bytes) = (if b == 10 then 1 else 0) + newlines bytes
-
--- the line of sizes
-abbrev pub is_size : Version → DumpLine → Bool
-is_size version (SizeOf frames core leaves) = nat_lt 0 frames && nat_le frames (most_frames version) && nat_le core frames && nat_lt 0 leaves && nat_le leaves leaf_limit
-is_size version _ = false
 
 -- the line of the free list
 abbrev pub is_free : ℕ → DumpLine → Bool
@@ -73,12 +69,8 @@ abbrev pub HasNone : (DumpLine → Bool) → List ℕ → Type 0
 HasNone may text = begins may (first_line text) ≡ false
 
 -- the text goes on with the line of such a frame
-abbrev pub has_other : Version → ℕ → ℕ → List ℕ → Bool
-has_other version frames f text = begins (is_other version frames f) (first_line text)
-
--- this frame is due, and there is no rest, or it begins with the line of another
-abbrev pub lacks_frame : Version → ℕ → ℕ → List ℕ → Bool
-lacks_frame version frames f rest = nat_lt f frames && (length rest == 0 || has_other version frames f rest)
+abbrev pub HasOther : Version → ℕ → ℕ → List ℕ → Type 0
+HasOther version frames f text = (g : ℕ) × (frame : FrameLine) × (more : List ℕ) × (text ≡ spell (FrameOf g frame) ++ more) × (is_other version frames f (FrameOf g frame) ≡ true)
 
 -- a dump begun and the text behind it, and the same further on
 abbrev pub ReadsOn : ℕ → Dumped → List ℕ → Dumped → List ℕ → Type 0

@@ -2,7 +2,8 @@
 ghost use Rattle.std.specs.Prelude.{◌≡◌, ◌++◌, true, None, Some, MatchOption};
 ghost use Rattle.kc_dump.specs.Ranges.{are_ends, is_frame};
 ghost use Rattle.kc_dump_text.specs.DumpText.{spell};
-ghost use Rattle.kc_dump_text.specs.Sections.{first_line, HasNone, is_size, is_free, is_vm, is_leaf, is_next_entry, is_frame_of};
+ghost use Rattle.kc_dump_text.specs.Begun.{is_size};
+ghost use Rattle.kc_dump_text.specs.Sections.{first_line, HasNone, is_free, is_vm, is_leaf, is_next_entry, is_frame_of, is_other};
 ghost use Rattle.kc_dump_text.specs.declared.dump_line.DumpLine.TheVariants.{SizeOf, FreeOf, VmOf, LeafOf, EntryOf, FrameOf};
 
 use crate::dump_line::DumpLine;
@@ -155,6 +156,31 @@ pub fn next_frame(
         DumpLine::FrameOf(other, frame) => {
             if other == number && number < frames && is_frame(version, frames, &frame) {
                 Some((frame, rest))
+            } else {
+                None
+            }
+        }
+        _ => None,
+    }
+}
+
+/// The line of a frame in range, but not of this one.
+pub fn next_other(
+    version: Version,
+    frames: u32,
+    number: u32,
+    text: &[u8],
+) -> Option<(u32, FrameLine, &[u8])>
+    ensures { MatchOption result (HasNone (is_other version frames number) text.now)
+        (λ cut. (text.now ≡ spell (FrameOf cut.0 cut.1) ++ cut.2.now) × (is_other version frames number (FrameOf cut.0 cut.1) ≡ true)) }
+{
+    let Some((line, rest)) = next_line(text) else {
+        return None;
+    };
+    match line {
+        DumpLine::FrameOf(other, frame) => {
+            if other != number && other < frames && is_frame(version, frames, &frame) {
+                Some((other, frame, rest))
             } else {
                 None
             }

@@ -1,19 +1,19 @@
 //! Reading a dump, section by section.
-ghost use Rattle.std.specs.Prelude.{ℕ, List, ◌≡◌, ◌≤◌, ◌+◌, ◌==◌, ◌&&◌, ◌++◌, length, MatchOption, MatchResult};
+ghost use Rattle.std.specs.Prelude.{ℕ, List, ◌≡◌, ◌<◌, ◌≤◌, ◌+◌, ◌==◌, ◌&&◌, ◌⊎◌, ◌++◌, [], true, false, length, MatchOption, MatchResult};
+ghost use Rattle.std.specs.List.{flat_map};
 ghost use Rattle.kc_types.specs.Limits.{byte_limit};
 ghost use Rattle.kc_types.specs.declared.version.Version.{Version};
 ghost use Rattle.kc_dump.specs.Dump.{Dumped};
 ghost use Rattle.kc_dump_text.specs.declared.fault.DumpFault.TheVariants.{Memory};
-ghost use Rattle.kc_dump_text.specs.DumpText.{dump_header};
+ghost use Rattle.kc_dump_text.specs.DumpText.{dump_header, spell};
+ghost use Rattle.kc_dump_text.specs.Begun.{begun_lines};
 ghost use Rattle.kc_dump_text.specs.Grammar.{IsDumpText};
-ghost use Rattle.kc_dump_text.specs.Sections.{newlines, has_other, lacks_frame, IsTextOf, IsStuck};
+ghost use Rattle.kc_dump_text.specs.Sections.{newlines, is_other, HasNone, HasOther, FramesRead, IsTextOf, IsStuck};
 ghost use Rattle.kc_dump_text.specs.Refused.{IsRefusedDump};
 
 use crate::begun::{Begun, Sizes};
-use crate::dump_line::DumpLine;
 use crate::fault::DumpFault;
-use crate::next::{next_free, next_line, next_size};
-use crate::ranges::is_frame;
+use crate::next::{next_free, next_other, next_size};
 use crate::sections::{read_behind_vms, read_vms};
 use kc_dump::Dump;
 use kc_types::Version;
@@ -42,26 +42,21 @@ fn line_number(text: &[u8], rest: &[u8]) -> u32
     count_newlines(&text[..text.len() - rest.len()]) + 2
 }
 
-/// Whether the rest begins with the line of a frame in range, but not of this one.
-fn has_other(sizes: Sizes, next: u32, rest: &[u8]) -> bool
-    ensures { result ≡ has_other sizes.version sizes.frames next rest.now }
-{
-    let Some((line, _)) = next_line(rest) else {
-        return false;
-    };
-    match line {
-        DumpLine::FrameOf(other, frame) => {
-            other != next && other < sizes.frames && is_frame(sizes.version, sizes.frames, &frame)
-        }
-        _ => false,
-    }
-}
-
 /// Whether this frame is due, and there is no rest, or it begins with the line of another.
 fn lacks_frame(sizes: Sizes, next: u32, rest: &[u8]) -> bool
-    ensures { result ≡ lacks_frame sizes.version sizes.frames next rest.now }
+    ensures yes { result ≡ true → (next < sizes.frames) × ((rest.now ≡ []) ⊎ HasOther sizes.version sizes.frames next rest.now) }
+    ensures no { result ≡ false → next < sizes.frames → (rest.now ≡ [] → ⊥) × HasNone (is_other sizes.version sizes.frames next) rest.now }
 {
-    next < sizes.frames && (rest.is_empty() || has_other(sizes, next, rest))
+    if sizes.frames <= next {
+        return false;
+    }
+    if rest.is_empty() {
+        return true;
+    }
+    let Some(_other) = next_other(sizes.version, sizes.frames, next, rest) else {
+        return false;
+    };
+    true
 }
 
 /// Whether all frames were read, and there is no rest.
@@ -69,6 +64,23 @@ fn is_whole(sizes: Sizes, next: u32, rest: &[u8]) -> bool
     ensures { result ≡ (next == sizes.frames && length rest.now == 0) }
 {
     next == sizes.frames && rest.is_empty()
+}
+
+/// The dump begun, where it is whole, and else what is wrong behind it.
+fn finish(sizes: Sizes, begun: Begun, text: &[u8], rest: &[u8]) -> Result<Begun, DumpFault>
+    requires read { FramesRead sizes.version sizes.frames begun rest.now }
+    requires whole { text.now ≡ flat_map spell (begun_lines sizes.frames begun) ++ rest.now }
+    requires few { length text.now ≤ byte_limit }
+    ensures { MatchResult result (λ begun. IsTextOf sizes.version text.now begun) (λ fault. IsStuck sizes.version text.now fault) }
+{
+    let next = begun.frames();
+    if is_whole(sizes, next, rest) {
+        return Ok(begun);
+    }
+    if lacks_frame(sizes, next, rest) {
+        return Err(DumpFault::Frame(next));
+    }
+    Err(DumpFault::BadLine(line_number(text, rest)))
 }
 
 /// The dump whose lines these are.
@@ -89,14 +101,7 @@ fn read_sections(alloc: Global, version: Version, text: &[u8]) -> Result<Begun, 
         return Err(DumpFault::BadLine(line_number(text, rest)));
     }
     let rest = read_behind_vms(sizes, &mut begun, rest)?;
-    let next = begun.frames();
-    if is_whole(sizes, next, rest) {
-        return Ok(begun);
-    }
-    if lacks_frame(sizes, next, rest) {
-        return Err(DumpFault::Frame(next));
-    }
-    Err(DumpFault::BadLine(line_number(text, rest)))
+    finish(sizes, begun, text, rest)
 }
 
 /// The version of the dump and what stands behind its header, if the text begins with one.

@@ -2,7 +2,7 @@ use Rattle.std.proofs.Common.{length, ap, sym, ◌∙◌, arith, length-append}
 use Rattle.std.specs.List.{flat_map}
 use Rattle.kc_dump_text.specs.DumpText.{spell}
 use Rattle.kc_dump_text.specs.Begun.{begun_lines}
-use Rattle.kc_dump_text.proofs.Stopped.{no-size, no-free, no-vm, all-read, frame-missing, bad-line, read-whole}
+use Rattle.kc_dump_text.proofs.Stopped.{no-size, no-free, no-vm, read-whole}
 use Rattle.kc_dump_text.proofs.reader.read_sections.Goals as goal
 
 pub returns-in_default : goal.returns-in_default
@@ -19,38 +19,7 @@ returns-then-slots c =
     let whole = read-whole n c.in-Some.core c.in-Some.leaves c.in-Some-next_free.free c.args.version c.args.text.now c.in-Some.behind.now c.in-Some-next_free.behind.now rest p c.in-Some.ensures.0 c.in-Some-next_free.ensures.0 (rw c.new-begun.ensures at c.in_ok-rest.ensures.1) in
     no-vm c.args.version c.args.text.now n p rest whole c.line_number.result c.in_ok-rest.ensures.0 (omega (arith, c.if-slots.true, c.slots.ensures, c.slots-2.ensures.value)) (c.line_number.ensures (flat_map spell (begun_lines n p)) whole)
 
-pub returns-then-is_whole : goal.returns-then-is_whole
-returns-then-is_whole c =
-    let p = c.read_behind_vms.new.begun in
-    let n = c.in-Some.frames in
-    let rest = c.in_ok-rest-2.rest.now in
-    let whole = read-whole n c.in-Some.core c.in-Some.leaves c.in-Some-next_free.free c.args.version c.args.text.now c.in-Some.behind.now c.in-Some-next_free.behind.now rest p c.in-Some.ensures.0 c.in-Some-next_free.ensures.0
-    (c.in_ok-rest-2.ensures.1 ∙ rw c.new-begun.ensures at c.in_ok-rest.ensures.1) in
-    all-read c.args.version c.args.text.now n p rest whole c.in_ok-rest-2.ensures.0 (rw c.frames-next.ensures at (sym c.is_whole.ensures ∙ c.if-is_whole.true))
-
-pub returns-then-lacks_frame : goal.returns-then-lacks_frame
-returns-then-lacks_frame c =
-    let p = c.read_behind_vms.new.begun in
-    let n = c.in-Some.frames in
-    let rest = c.in_ok-rest-2.rest.now in
-    let whole = read-whole n c.in-Some.core c.in-Some.leaves c.in-Some-next_free.free c.args.version c.args.text.now c.in-Some.behind.now c.in-Some-next_free.behind.now rest p c.in-Some.ensures.0 c.in-Some-next_free.ensures.0
-    (c.in_ok-rest-2.ensures.1 ∙ rw c.new-begun.ensures at c.in_ok-rest.ensures.1) in
-    rw c.frames-next.ensures (frame-missing c.args.version c.args.text.now n p rest whole c.in_ok-rest-2.ensures.0 (rw c.frames-next.ensures at (sym c.lacks_frame.ensures ∙ c.if-lacks_frame.true)))
-
-pub line_number-requires-2-clause-within : goal.line_number-requires-2-clause-within
-line_number-requires-2-clause-within c =
-    let p = c.read_behind_vms.new.begun in
-    let n = c.in-Some.frames in
-    let rest = c.in_ok-rest-2.rest.now in
-    let whole = read-whole n c.in-Some.core c.in-Some.leaves c.in-Some-next_free.free c.args.version c.args.text.now c.in-Some.behind.now c.in-Some-next_free.behind.now rest p c.in-Some.ensures.0 c.in-Some-next_free.ensures.0
-    (c.in_ok-rest-2.ensures.1 ∙ rw c.new-begun.ensures at c.in_ok-rest.ensures.1) in
-    (let a = length-append (flat_map spell (begun_lines n p)) rest in let b = ap length whole in omega (arith, a, b))
-
-pub returns : goal.returns
-returns c =
-    let p = c.read_behind_vms.new.begun in
-    let n = c.in-Some.frames in
-    let rest = c.in_ok-rest-2.rest.now in
-    let whole = read-whole n c.in-Some.core c.in-Some.leaves c.in-Some-next_free.free c.args.version c.args.text.now c.in-Some.behind.now c.in-Some-next_free.behind.now rest p c.in-Some.ensures.0 c.in-Some-next_free.ensures.0
-    (c.in_ok-rest-2.ensures.1 ∙ rw c.new-begun.ensures at c.in_ok-rest.ensures.1) in
-    bad-line c.args.version c.args.text.now n p rest whole c.in_ok-rest-2.ensures.0 c.line_number-2.result (c.line_number-2.ensures (flat_map spell (begun_lines n p)) whole) (rw c.frames-next.ensures at (sym c.is_whole.ensures ∙ c.if-is_whole.false)) (rw c.frames-next.ensures at (sym c.lacks_frame.ensures ∙ c.if-lacks_frame.false))
+pub finish-requires-clause-whole : goal.finish-requires-clause-whole
+finish-requires-clause-whole c =
+    read-whole c.in-Some.frames c.in-Some.core c.in-Some.leaves c.in-Some-next_free.free c.args.version c.args.text.now c.in-Some.behind.now c.in-Some-next_free.behind.now c.in_ok-rest-2.rest.now c.read_behind_vms.new.begun c.in-Some.ensures.0 c.in-Some-next_free.ensures.0
+    (c.in_ok-rest-2.ensures.1 ∙ rw c.new-begun.ensures at c.in_ok-rest.ensures.1)
