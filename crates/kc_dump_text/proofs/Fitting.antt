@@ -14,8 +14,7 @@ use Rattle.kc_dump.specs.Ranges.{is_below, are_ends, is_entry, is_owner, is_fram
 use Rattle.kc_dump.specs.Dump.{Dumped, SlotDump, empty_dump, absent_line}
 use Rattle.kc_dump_text.specs.declared.dump_line.DumpLine.{DumpLine}
 use Rattle.kc_dump_text.specs.declared.dump_line.DumpLine.TheVariants.{LeafOf, EntryOf, FrameOf}
-use Rattle.kc_dump_text.specs.DumpText.{made, vm_of, leaves_of, entries_of, dump_lines}
-use Rattle.kc_dump_text.proofs.Gathered.{gather, leaves-gathered, entries-gathered}
+use Rattle.kc_dump_text.specs.DumpText.{made, gather, vm_of, leaves_of, entries_of, dump_lines}
 use Rattle.kc_dump_text.proofs.Limits.{few-frames, few-slots}
 use Rattle.kc_dump_text.proofs.ReadWords.{DashFits, OwnerFits, EndsFit}
 use Rattle.kc_dump_text.proofs.ReadLines.{FrameFits, Fits}
@@ -107,16 +106,11 @@ dump-fits d is =
     let few = few-frames d.version n is.few_frames in
     let slots = (let a = is.slots in let b = few-slots d.version in let c : length d.slots ≤ slot_limit = omega (arith, a, b) in c) in
     let core = is.core in
-    let leaves = is.few_leaves in (
-      (omega (arith, few), omega (arith, core, few), omega (arith, leaves)),
-      (
-        ends-of n d.free few is.free,
-        both-fit (made vm_of 0 d.slots) _ (made-fit vm_of empty_dump 0 d.slots (λ v low. (omega (arith, low, slots), ends-of n (get_or d.slots v empty_dump).list few (is.lists v low))))
-            (both-fit (leaves_of 0 d.slots) _
-            (subst AllFit (sym (leaves-gathered 0 d.slots)) (gathered-fit (λ (s : SlotDump). s.leaves) LeafOf 0 0 d.slots (λ v i low l. (omega (arith, low, slots), (let few = is.leaves v in omega (arith, few, l)), (let r = is.roots v i low l in omega (arith, r))))))
-            (both-fit (entries_of 0 d.slots) _
-            (subst AllFit (sym (entries-gathered 0 d.slots)) (gathered-fit (λ (s : SlotDump). s.entries) (λ v i e. EntryOf v e) (0, 0) 0 d.slots
-            (λ v i low l. entry-of d.version n (0 + v) _ few (subst (λ w. is_entry d.version n w (get_or (get_or d.slots v empty_dump).entries i (0, 0)) ≡ true) (let e : v ≡ 0 + v = omega arith in e) (is.entries v i low l)))))
-            (made-fit FrameOf absent_line 0 d.frames (λ f low. (omega (arith, low, few), frame-of d.version n (get_or d.frames f absent_line) few (is.frames f low)))))),
-      ),
-    )
+    let leaves = is.few_leaves in
+    let vms = made-fit vm_of empty_dump 0 d.slots (λ v low. (omega (arith, low, slots), ends-of n (get_or d.slots v empty_dump).list few (is.lists v low))) in
+    let roots = gathered-fit (λ (s : SlotDump). s.leaves) LeafOf 0 0 d.slots (λ v i low l. (omega (arith, low, slots), (let few = is.leaves v in omega (arith, few, l)), (let r = is.roots v i low l in omega (arith, r)))) in
+    let entries = gathered-fit (λ (s : SlotDump). s.entries) (λ v i e. EntryOf v e) (0, 0) 0 d.slots
+        (λ v i low l. entry-of d.version n (0 + v) _ few (subst (λ w. is_entry d.version n w (get_or (get_or d.slots v empty_dump).entries i (0, 0)) ≡ true) (let e : v ≡ 0 + v = omega arith in e) (is.entries v i low l))) in
+    let frames = made-fit FrameOf absent_line 0 d.frames (λ f low. (omega (arith, low, few), frame-of d.version n (get_or d.frames f absent_line) few (is.frames f low))) in
+    let rest = both-fit (made vm_of 0 d.slots) _ vms (both-fit (leaves_of 0 d.slots) _ roots (both-fit (entries_of 0 d.slots) _ entries frames)) in
+    ((omega (arith, few), omega (arith, core, few), omega (arith, leaves)), (ends-of n d.free few is.free, rest))

@@ -1,7 +1,7 @@
 -- A text has the lines of one dump at most, and no dump's text is refused.
 use Rattle.std.proofs.Common.{ℕ, ◌≡◌, ◌≤◌, List, [], ◌∷◌, ◌++◌, length, get_or, Some, refl, sym, ap, subst, ◌∙◌, append_assoc, arith}
 use Rattle.std.specs.List.{flat_map}
-use Rattle.std.proofs.lemmas.List.{append-nil}
+use Rattle.std.proofs.lemmas.List.{append-nil, append_cancel_left}
 use Rattle.kc_types.specs.Limits.{byte_limit}
 use Rattle.kc_types.specs.Configuration.{slots_of}
 use Rattle.kc_types.specs.declared.version.Version.{Version}
@@ -18,10 +18,6 @@ use Rattle.kc_dump_text.proofs.FirstLine.{first-spelled, line-bytes}
 use Rattle.kc_dump_text.proofs.Fitting.{AllFit, first-fit, dump-fits}
 use Rattle.kc_dump_text.proofs.Split.{Next, done, leaf, entry, frame, next-line}
 
-cancel : (a b c : List ℕ) → a ++ b ≡ a ++ c → b ≡ c
-cancel [] b c e = e
-cancel (x ∷ a) b c e = cancel a b c (let t : a ++ b ≡ a ++ c = cc in t)
-
 -- lines whose text another's begins with are its first lines
 follow : (xs ys : List DumpLine) (r : List ℕ) → AllFit xs → AllFit ys → flat_map spell xs ++ r ≡ flat_map spell ys → (zs : List DumpLine) × (ys ≡ xs ++ zs) × (r ≡ flat_map spell zs)
 follow [] ys r a b e = (ys, refl, e)
@@ -30,13 +26,13 @@ follow (x ∷ xs) (y ∷ ys) r a b e =
     let other : spell x ++ (flat_map spell xs ++ r) ≡ spell y ++ flat_map spell ys = sym (append_assoc (spell x) (flat_map spell xs) r) ∙ e in
     let both : Some x ≡ Some y = sym (first-spelled x (flat_map spell xs ++ r) a.0) ∙ ap first_line other ∙ first-spelled y (flat_map spell ys) b.0 in
     let same : x ≡ y = cc in
-    let rest = follow xs ys r a.1 b.1 (cancel (spell x) (flat_map spell xs ++ r) (flat_map spell ys) (other ∙ ap (λ (l : DumpLine). spell l ++ flat_map spell ys) (sym same))) in
+    let rest = follow xs ys r a.1 b.1 (append_cancel_left (spell x) (flat_map spell xs ++ r) (flat_map spell ys) (other ∙ ap (λ (l : DumpLine). spell l ++ flat_map spell ys) (sym same))) in
     (rest.0, ap (λ (l : DumpLine). l ∷ ys) (sym same) ∙ ap (λ (ls : List DumpLine). x ∷ ls) rest.1, rest.2)
 
 -- a text has one header at most
 header-same : (v w : Version) (a b : List ℕ) → dump_header v ++ a ≡ dump_header w ++ b → (v ≡ w) × (a ≡ b)
-header-same One One a b e = (refl, cancel (dump_header One) a b e)
-header-same Two Two a b e = (refl, cancel (dump_header Two) a b e)
+header-same One One a b e = (refl, append_cancel_left (dump_header One) a b e)
+header-same Two Two a b e = (refl, append_cancel_left (dump_header Two) a b e)
 header-same One Two a b e = (let digits : ◌≡◌ {A = ℕ} 49 50 = ap (λ (l : List ℕ). get_or l 11 0) e in absurd (omega (arith, digits)))
 header-same Two One a b e = (let digits : ◌≡◌ {A = ℕ} 50 49 = ap (λ (l : List ℕ). get_or l 11 0) e in absurd (omega (arith, digits)))
 

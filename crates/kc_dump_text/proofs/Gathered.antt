@@ -3,27 +3,14 @@ use Rattle.std.proofs.Common.{ℕ, zero, suc, ◌≡◌, ◌<◌, ◌≤◌, ◌
 use Rattle.std.proofs.lemmas.List.{append-nil}
 use Rattle.kc_dump.specs.Dump.{SlotDump, empty_dump}
 use Rattle.kc_dump_text.specs.declared.dump_line.DumpLine.{DumpLine}
-use Rattle.kc_dump_text.specs.declared.dump_line.DumpLine.TheVariants.{VmOf, LeafOf, EntryOf}
-use Rattle.kc_dump_text.specs.DumpText.{made, vm_of, leaves_of, entries_of}
+use Rattle.kc_dump_text.specs.declared.dump_line.DumpLine.TheVariants.{VmOf}
+use Rattle.kc_dump_text.specs.DumpText.{made, vm_of, gather}
 
 pub made-push : {X : Type 0} (make : ℕ → X → DumpLine) (i : ℕ) (xs : List X) (x : X) → made make i (xs ++ x ∷ []) ≡ made make i xs ++ make (i + length xs) x ∷ []
 made-push make i [] x = let e : i ≡ i + 0 = omega arith in ap (λ n. make n x ∷ []) e
 made-push make i (y ∷ xs) x =
     let e : i + 1 + length xs ≡ i + length (y ∷ xs) = omega arith in
     ap (λ (l : List DumpLine). make i y ∷ l) (made-push make (i + 1) xs x ∙ ap (λ n. made make (i + 1) xs ++ make n x ∷ []) e)
-
--- the lines of something of each slot
-abbrev pub gather : {X : Type 0} → (SlotDump → List X) → (ℕ → ℕ → X → DumpLine) → ℕ → List SlotDump → List DumpLine
-gather pick make v [] = []
-gather pick make v (slot ∷ slots) = made (make v) 0 (pick slot) ++ gather pick make (v + 1) slots
-
-pub leaves-gathered : (v : ℕ) (slots : List SlotDump) → leaves_of v slots ≡ gather (λ (s : SlotDump). s.leaves) LeafOf v slots
-leaves-gathered v [] = refl
-leaves-gathered v (slot ∷ slots) = ap (λ (l : List DumpLine). made (LeafOf v) 0 slot.leaves ++ l) (leaves-gathered (v + 1) slots)
-
-pub entries-gathered : (v : ℕ) (slots : List SlotDump) → entries_of v slots ≡ gather (λ (s : SlotDump). s.entries) (λ v i e. EntryOf v e) v slots
-entries-gathered v [] = refl
-entries-gathered v (slot ∷ slots) = ap (λ (l : List DumpLine). made (λ i e. EntryOf v e) 0 slot.entries ++ l) (entries-gathered (v + 1) slots)
 
 -- from this slot on they have none
 abbrev pub Bare : {X : Type 0} → (SlotDump → List X) → ℕ → List SlotDump → Type 0

@@ -18,7 +18,7 @@ use Rattle.kc_dump_text.specs.declared.dump_line.DumpLine.TheVariants.{SizeOf, F
 use Rattle.kc_dump_text.specs.DumpText.{spell, made, vm_of, leaves_of, entries_of, rest_of}
 use Rattle.kc_dump_text.specs.Begun.{with_vm, with_leaf, with_entry, with_frame, IsSlot, IsBegun, begun_lines}
 use Rattle.kc_dump_text.specs.Sections.{is_vm, is_leaf, is_next_entry, is_frame_of, ReadsOn, NoLeaves, NoEntries, LastLeaf, LastEntry}
-use Rattle.kc_dump_text.proofs.Gathered.{made-push, leaves-gathered, entries-gathered, gather-bare, gather-push, gather-same, vms-same, bare-push}
+use Rattle.kc_dump_text.proofs.Gathered.{made-push, gather-bare, gather-push, gather-same, vms-same, bare-push}
 
 -- ---- each element, with one more or another
 
@@ -60,10 +60,10 @@ abbrev vms_of : List SlotDump → List DumpLine
 vms_of slots = made vm_of 0 slots
 
 pub no-leaf-lines : (slots : List SlotDump) → NoLeaves 0 slots → leaves_of 0 slots ≡ []
-no-leaf-lines slots none = leaves-gathered 0 slots ∙ gather-bare (λ (s : SlotDump). s.leaves) LeafOf 0 slots none
+no-leaf-lines slots none = gather-bare (λ (s : SlotDump). s.leaves) LeafOf 0 slots none
 
 pub no-entry-lines : (slots : List SlotDump) → NoEntries 0 slots → entries_of 0 slots ≡ []
-no-entry-lines slots none = entries-gathered 0 slots ∙ gather-bare (λ (s : SlotDump). s.entries) (λ v i e. EntryOf v e) 0 slots none
+no-entry-lines slots none = gather-bare (λ (s : SlotDump). s.entries) (λ v i e. EntryOf v e) 0 slots none
 
 abbrev new-slot : Phase → Ends → SlotDump
 new-slot p e = record { phase = p; list = e; leaves = []; entries = [] }
@@ -86,10 +86,8 @@ rest-leaf d v root low leaves entries none =
     let new : SlotDump = record (slot_dump_at d v) { leaves = (slot_dump_at d v).leaves ++ root ∷ [] } in
     let place : 0 + v ≡ v = omega arith in
     let pushed : leaves_of 0 (set slots v new) ≡ leaves_of 0 slots ++ LeafOf v (length (slot_dump_at d v).leaves) root ∷ [] =
-    leaves-gathered 0 (set slots v new) ∙ gather-push (λ (s : SlotDump). s.leaves) LeafOf 0 v slots new root low leaves refl
-    ∙ ap (λ (ls : List DumpLine). ls ++ LeafOf (0 + v) (length (slot_dump_at d v).leaves) root ∷ []) (sym (leaves-gathered 0 slots)) ∙ ap (λ w. leaves_of 0 slots ++ LeafOf w (length (slot_dump_at d v).leaves) root ∷ []) place in
-    let same : entries_of 0 (set slots v new) ≡ entries_of 0 slots =
-    entries-gathered 0 (set slots v new) ∙ gather-same (λ (s : SlotDump). s.entries) (λ v i e. EntryOf v e) 0 v slots new low refl ∙ sym (entries-gathered 0 slots) in
+        gather-push (λ (s : SlotDump). s.leaves) LeafOf 0 v slots new root low leaves refl ∙ ap (λ w. leaves_of 0 slots ++ LeafOf w (length (slot_dump_at d v).leaves) root ∷ []) place in
+    let same : entries_of 0 (set slots v new) ≡ entries_of 0 slots = gather-same (λ (s : SlotDump). s.entries) (λ v i e. EntryOf v e) 0 v slots new low refl in
     rw (vms-same 0 v slots new low refl refl, same, no-entry-lines slots entries, pushed, none) (simp (append_assoc, append-nil))
 
 rest-entry : (d : Dumped) (v : ℕ) (e : ℕ × ℕ) → v < length d.slots → NoEntries (v + 1) d.slots → d.frames ≡ [] → rest_of (with_entry d v e) ≡ rest_of d ++ EntryOf v e ∷ []
@@ -98,10 +96,8 @@ rest-entry d v e low entries none =
     let new : SlotDump = record (slot_dump_at d v) { entries = (slot_dump_at d v).entries ++ e ∷ [] } in
     let place : 0 + v ≡ v = omega arith in
     let pushed : entries_of 0 (set slots v new) ≡ entries_of 0 slots ++ EntryOf v e ∷ [] =
-    entries-gathered 0 (set slots v new) ∙ gather-push (λ (s : SlotDump). s.entries) (λ v i e. EntryOf v e) 0 v slots new e low entries refl
-    ∙ ap (λ (ls : List DumpLine). ls ++ EntryOf (0 + v) e ∷ []) (sym (entries-gathered 0 slots)) ∙ ap (λ w. entries_of 0 slots ++ EntryOf w e ∷ []) place in
-    let same : leaves_of 0 (set slots v new) ≡ leaves_of 0 slots =
-    leaves-gathered 0 (set slots v new) ∙ gather-same (λ (s : SlotDump). s.leaves) LeafOf 0 v slots new low refl ∙ sym (leaves-gathered 0 slots) in
+        gather-push (λ (s : SlotDump). s.entries) (λ v i e. EntryOf v e) 0 v slots new e low entries refl ∙ ap (λ w. entries_of 0 slots ++ EntryOf w e ∷ []) place in
+    let same : leaves_of 0 (set slots v new) ≡ leaves_of 0 slots = gather-same (λ (s : SlotDump). s.leaves) LeafOf 0 v slots new low refl in
     rw (vms-same 0 v slots new low refl refl, same, pushed, none) (simp (append_assoc, append-nil))
 
 rest-frame : (d : Dumped) (line : FrameLine) → rest_of (with_frame d line) ≡ rest_of d ++ FrameOf (length d.frames) line ∷ []

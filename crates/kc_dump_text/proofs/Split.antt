@@ -6,10 +6,9 @@ use Rattle.kc_dump.specs.declared.line.FrameLine.{FrameLine}
 use Rattle.kc_dump.specs.Dump.{Dumped, SlotDump, empty_dump, slot_dump_at}
 use Rattle.kc_dump_text.specs.declared.dump_line.DumpLine.{DumpLine}
 use Rattle.kc_dump_text.specs.declared.dump_line.DumpLine.TheVariants.{LeafOf, EntryOf, FrameOf}
-use Rattle.kc_dump_text.specs.DumpText.{made, vm_of, leaves_of, entries_of, rest_of, dump_lines}
+use Rattle.kc_dump_text.specs.DumpText.{made, gather, vm_of, leaves_of, entries_of, rest_of, dump_lines}
 use Rattle.kc_dump_text.specs.Begun.{begun_lines}
 use Rattle.kc_dump_text.specs.Sections.{NoLeaves, NoEntries}
-use Rattle.kc_dump_text.proofs.Gathered.{gather, leaves-gathered, entries-gathered}
 
 -- lists of lines made of something, with what follows, are the same: so are both parts, or one goes on with the next of the other
 data Split {X : Type 0} (make : ℕ → X → DumpLine) (i : ℕ) (xs ys : List X) (s t : List DumpLine) : Type 0 where
@@ -139,7 +138,7 @@ frames-head (x ∷ xs) ls r l other e = absurd (other x (let h : FrameOf 0 x ≡
 -- entries and frames are no leaves
 tables-head : (slots : List SlotDump) (frames : List FrameLine) (ls r : List DumpLine) (w i x : ℕ) → entries_of 0 slots ++ (made FrameOf 0 frames ++ ls) ≡ LeafOf w i x ∷ r → NoEntries 0 slots × (frames ≡ []) × (ls ≡ LeafOf w i x ∷ r)
 tables-head slots frames ls r w i x e =
-    elim (heads (λ (s : SlotDump). s.entries) refl (λ v i e. EntryOf v e) entry-one 0 slots (made FrameOf 0 frames ++ ls) r (LeafOf w i x) (ap (λ (l : List DumpLine). l ++ (made FrameOf 0 frames ++ ls)) (sym (entries-gathered 0 slots)) ∙ e)) [
+    elim (heads (λ (s : SlotDump). s.entries) refl (λ v i e. EntryOf v e) entry-one 0 slots (made FrameOf 0 frames ++ ls) r (LeafOf w i x) e) [
       | inl h ↦ let z : EntryOf h.0 h.2 ≡ LeafOf w i x = h.4 in absurd cc
       | inr h ↦ let f = frames-head frames ls r (LeafOf w i x) (λ x z. absurd cc) h.1 in (λ k l. h.0 k, f.0, f.1)
     ]
@@ -175,7 +174,7 @@ module _ (d e : Dumped) (version : d.version ≡ e.version) (long : length d.slo
   entries-next ls core leaves free fronts roots h =
       by_case (split-all (λ (s : SlotDump). s.entries) refl (λ v i e. EntryOf v e) entry-one 0 d.slots e.slots (made FrameOf 0 d.frames ++ ls) (made FrameOf 0 e.frames) long
       (λ w i x r z. (let f = frames-head e.frames [] r (EntryOf w x) (λ x z. absurd cc) (append-nil (made FrameOf 0 e.frames) ∙ z) in let g = f.1 in absurd cc))
-      (ap (λ (l : List DumpLine). l ++ (made FrameOf 0 d.frames ++ ls)) (sym (entries-gathered 0 d.slots)) ∙ h ∙ ap (λ (l : List DumpLine). l ++ made FrameOf 0 e.frames) (entries-gathered 0 e.slots)))
+      h)
     where
       by_case : SplitAll (λ (s : SlotDump). s.entries) refl (λ v i e. EntryOf v e) entry-one 0 d.slots e.slots (made FrameOf 0 d.frames ++ ls) (made FrameOf 0 e.frames) → Next d e ls
       by_case (all-same f q) = frames-next ls core leaves free fronts roots f q
@@ -190,7 +189,7 @@ module _ (d e : Dumped) (version : d.version ≡ e.version) (long : length d.slo
       let v = vms-alike 0 d.slots e.slots (leaves_of 0 d.slots ++ (entries_of 0 d.slots ++ (made FrameOf 0 d.frames ++ ls))) (leaves_of 0 e.slots ++ (entries_of 0 e.slots ++ made FrameOf 0 e.frames)) long whole in
       by_case a.1 a.2 a.3 v.0 (split-all (λ (s : SlotDump). s.leaves) refl LeafOf leaf-one 0 d.slots e.slots (entries_of 0 d.slots ++ (made FrameOf 0 d.frames ++ ls)) (entries_of 0 e.slots ++ made FrameOf 0 e.frames) long
       (λ w i x r z. (let f = tables-head e.slots e.frames [] r w i x (ap (λ (l : List DumpLine). entries_of 0 e.slots ++ l) (append-nil (made FrameOf 0 e.frames)) ∙ z) in let g = f.2 in absurd cc))
-      (ap (λ (l : List DumpLine). l ++ (entries_of 0 d.slots ++ (made FrameOf 0 d.frames ++ ls))) (sym (leaves-gathered 0 d.slots)) ∙ v.1 ∙ ap (λ (l : List DumpLine). l ++ (entries_of 0 e.slots ++ made FrameOf 0 e.frames)) (leaves-gathered 0 e.slots)))
+      v.1)
     where
       regrouped : (a b c f l : List DumpLine) → a ++ (b ++ (c ++ (f ++ l))) ≡ (a ++ (b ++ (c ++ f))) ++ l
       regrouped a b c f l = simp append_assoc

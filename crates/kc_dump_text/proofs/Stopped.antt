@@ -2,8 +2,8 @@
 use Rattle.std.proofs.Common.{ℕ, ◌≡◌, ◌<◌, ◌≤◌, ◌+◌, ◌-◌, true, false, ◌&&◌, ◌||◌, nat_lt, nat_le, List, [], ◌∷◌, ◌++◌, length, get_or, Option, Some, None, refl, sym, ap, subst, ◌∙◌, append_assoc, arith, inl, inr, length-append, eq-eqb, suc, Bool}
 use Rattle.std.specs.Prelude.{◌==◌, ◌⊎◌, not}
 use Rattle.std.specs.List.{flat_map}
-use Rattle.std.proofs.lemmas.Bool.{and_parts, and_from, or_cases, eqb-true, lt-ltb, le-leb, leb-true, eqb-false, ne_eqb, not-true, ltb-true, ltb-false, cases_Bool, cases_eq}
-use Rattle.std.proofs.lemmas.List.{append-nil, get_or_append_left}
+use Rattle.std.proofs.lemmas.Bool.{or_left, or_right, and_parts, and_from, or_cases, eqb-true, lt-ltb, le-leb, leb-true, eqb-false, ne_eqb, not-true, ltb-true, ltb-false, cases_Bool, cases_eq}
+use Rattle.std.proofs.lemmas.List.{append-nil, nil_from_length, get_or_append_left}
 use Rattle.std.proofs.Math.Seq.{get_or-append_seam}
 use Rattle.kc_types.specs.Limits.{leaf_limit, leaf_entries}
 use Rattle.kc_types.specs.Configuration.{most_frames, slots_of}
@@ -31,10 +31,6 @@ use Rattle.kc_dump_text.proofs.Split.{Next, done, leaf, entry, frame, next-line,
 clash : (b : Bool) → b ≡ true → b ≡ false → ⊥
 clash b holds fails = (let e : true ≡ false = sym holds ∙ fails in absurd cc)
 
-length-zero : (xs : List ℕ) → length xs ≡ 0 → xs ≡ []
-length-zero [] e = refl
-length-zero (x ∷ xs) e = absurd (omega (arith, e))
-
 -- a text that goes on with no such line does not begin with one
 none-such : (may : DumpLine → Bool) (rest : List ℕ) (l : DumpLine) → HasNone may rest → first_line rest ≡ Some l → may l ≡ true → ⊥
 none-such may rest l none first is = clash (may l) is (ap (begins may) (sym first) ∙ none)
@@ -42,14 +38,6 @@ none-such may rest l none first is = clash (may l) is (ap (begins may) (sym firs
 -- the line that a dump goes on with is the first of the text that begins with it
 first-is : (version : Version) (lines : List DumpLine) (d : Dumped) (l : DumpLine) (ls : List DumpLine) (rest : List ℕ) → GoesOn version lines d (l ∷ ls) → Starts rest (l ∷ ls) → first_line rest ≡ Some l
 first-is version lines d l ls rest g s = ap first_line s.1 ∙ first-spelled l s.0 (second-fit lines (l ∷ ls) (subst AllFit g.spelled (dump-fits d g.range))).0
-
-either-first : (a b : Bool) → a ≡ true → (a || b) ≡ true
-either-first true b e = refl
-either-first false b e = absurd cc
-
-either-second : (a b : Bool) → b ≡ true → (a || b) ≡ true
-either-second true b e = refl
-either-second false b e = e
 
 size-is : (d : Dumped) → IsDump d → is_size d.version (SizeOf (length d.frames) d.core d.leaves) ≡ true
 size-is d is = let n = length d.frames in
@@ -73,9 +61,9 @@ leaf-ahead : (slots : List SlotDump) (v m k : ℕ) → LastLeaf slots v m → No
     → ((k == v) && (length (get_or slots k empty_dump).leaves == m)) || (nat_lt v k && (length (get_or slots k empty_dump).leaves == 0)) ≡ true
 leaf-ahead slots v m k last bare =
     elim (cases_eq k v) [
-      | inl here ↦ either-first _ _ (and_from _ _ (eq-eqb k v here) (eq-eqb _ m (ap (λ j. length (get_or slots j empty_dump).leaves) here ∙ last.count)))
+      | inl here ↦ or_left _ _ (and_from _ _ (eq-eqb k v here) (eq-eqb _ m (ap (λ j. length (get_or slots j empty_dump).leaves) here ∙ last.count)))
       | inr apart ↦ elim (cases_Bool (nat_lt v k)) [
-        | inl past ↦ either-second _ _ (and_from _ _ past (eq-eqb _ 0 (ap length (last.bare k (let a = ltb-true v k past in omega (arith, a))))))
+        | inl past ↦ or_right _ _ (and_from _ _ past (eq-eqb _ 0 (ap length (last.bare k (let a = ltb-true v k past in omega (arith, a))))))
         | inr before ↦
             let high = ltb-false v k before in
             let none : m ≡ 0 = sym last.count ∙ ap length (bare v (omega (arith, apart, high))) in
@@ -91,9 +79,9 @@ entry-ahead : (slots : List SlotDump) (v least k : ℕ) (y : ℕ × ℕ) (more e
     → ((i : ℕ) → suc i < length es → (get_or es i (0, 0)).0 < (get_or es (suc i) (0, 0)).0) → nat_lt v k || ((k == v) && nat_le least y.0) ≡ true
 entry-ahead slots v least k y more es last bare e rising =
     elim (cases_eq k v) [
-      | inl here ↦ either-second _ _ (and_from _ _ (eq-eqb k v here) (le-leb least y.0 (high (get_or slots v empty_dump).entries refl (e ∙ ap (λ j. (get_or slots j empty_dump).entries ++ y ∷ more) here))))
+      | inl here ↦ or_right _ _ (and_from _ _ (eq-eqb k v here) (le-leb least y.0 (high (get_or slots v empty_dump).entries refl (e ∙ ap (λ j. (get_or slots j empty_dump).entries ++ y ∷ more) here))))
       | inr apart ↦ elim (cases_Bool (nat_lt v k)) [
-        | inl past ↦ either-first _ _ past
+        | inl past ↦ or_left _ _ past
         | inr before ↦ let at_or_before = ltb-false v k before in let z = (last.first (bare v (omega (arith, apart, at_or_before)))).0 in absurd (omega (arith, z, apart, at_or_before))
       ]
     ]
@@ -231,7 +219,7 @@ module _ (version : Version) (text : List ℕ) where
       all-read is =
           let both = and_parts (length p.frames == n) (length rest == 0) is in
           let all = eqb-true (length p.frames) n both.0 in
-          let none = length-zero rest (eqb-true (length rest) 0 both.1) in
+          let none = nil_from_length rest (eqb-true (length rest) 0 both.1) in
           record {
             whole = whole ∙ ap (λ (r : List ℕ). flat_map spell (begun_lines n p) ++ r) none ∙ append-nil (flat_map spell (begun_lines n p)) ∙ ap (λ m. flat_map spell (begun_lines m p)) (sym all);
             range = is-dump version n p read.begun read.slots all;

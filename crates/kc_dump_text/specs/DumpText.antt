@@ -74,15 +74,18 @@ made make i (x ∷ xs) = make i x ∷ made make (i + 1) xs
 abbrev pub vm_of : ℕ → SlotDump → DumpLine
 vm_of v slot = VmOf v slot.phase slot.list
 
--- the leaves of these slots, of which the first has this number
-abbrev pub leaves_of : ℕ → List SlotDump → List DumpLine
-leaves_of v [] = []
-leaves_of v (slot ∷ slots) = made (LeafOf v) 0 slot.leaves ++ leaves_of (v + 1) slots
+-- the lines of something of each of these slots, of which the first has this number
+abbrev pub gather : {X : Type 0} → (SlotDump → List X) → (ℕ → ℕ → X → DumpLine) → ℕ → List SlotDump → List DumpLine
+gather pick make v [] = []
+gather pick make v (slot ∷ slots) = made (make v) 0 (pick slot) ++ gather pick make (v + 1) slots
 
--- the same of their entries
+-- their leaves
+abbrev pub leaves_of : ℕ → List SlotDump → List DumpLine
+leaves_of v slots = gather (λ slot. slot.leaves) LeafOf v slots
+
+-- their entries
 abbrev pub entries_of : ℕ → List SlotDump → List DumpLine
-entries_of v [] = []
-entries_of v (slot ∷ slots) = made (λ i entry. EntryOf v entry) 0 slot.entries ++ entries_of (v + 1) slots
+entries_of v slots = gather (λ slot. slot.entries) (λ v i entry. EntryOf v entry) v slots
 
 -- the lines of a dump behind that of the free list
 abbrev pub rest_of : Dumped → List DumpLine
