@@ -4,7 +4,7 @@ ghost use Rattle.std.specs.Option.{option_to_list};
 ghost use Rattle.kc_types.specs.Limits.{call_limit};
 ghost use Rattle.kc_types.specs.declared.call.Call.{Call};
 ghost use Rattle.kc_trace.specs.Trace.{IsTrace, IsRefused};
-ghost use Rattle.kc_trace.specs.Machine.{Gives, Fails, start, longer, version_in, begins_header, begun, after_header, line_ended, with_front, feed, fed, ended, reading, standing, call_of_kept, call_in, kept};
+ghost use Rattle.kc_trace.specs.Machine.{Gives, Fails, start, longer, version_in, begins_header, begun, line_ended_by, line_ended, with_front, feed, fed, ended, reading, standing, call_of_kept, call_in, kept};
 
 use crate::fault::TraceFault;
 use crate::line::{call_of_line, stands_in};
@@ -130,7 +130,8 @@ impl Progress {
         self.is_too_long = false;
     }
 
-    /// Takes more bytes of a line that has not ended: no header begins so, or there are calls enough.
+    /// Takes more bytes of a line that has not ended. `NoHeader` where no header begins so, `TooManyCalls` behind the last call
+    /// that may stand in a trace.
     fn begin(&mut self, bytes: &[u8]) -> Result<(), TraceFault>
         ensures { MatchResult result (λ nothing. begun (longer self.old bytes.now) ≡ Ok (self.new, [])) (λ fault. Fails fault (begun (longer self.old bytes.now))) }
     {
@@ -149,9 +150,9 @@ impl Progress {
         }
     }
 
-    /// Takes the last bytes of the header.
+    /// Takes the last bytes of the header; `NoHeader` where it is none.
     fn end_header(&mut self, last: &[u8]) -> Result<(), TraceFault>
-        ensures { MatchResult result (λ nothing. after_header (longer self.old last.now) (version_in (longer self.old last.now).line) ≡ Ok (self.new, [])) (λ fault. Fails fault (after_header (longer self.old last.now) (version_in (longer self.old last.now).line))) }
+        ensures { MatchResult result (λ nothing. line_ended_by None (longer self.old last.now) ≡ Ok (self.new, [])) (λ fault. Fails fault (line_ended_by None (longer self.old last.now))) }
     {
         self.push_each(last);
         if self.is_too_long {
