@@ -270,33 +270,31 @@ fn explain(svg: &mut Svg, top: u64, grid: &Grid, vm: Option<u32>) {
 }
 
 /// Draws one row, which begins at this height.
-fn draw_row(svg: &mut Svg, sums: &Sums, size: u64, top: u64, height: u64) -> Result<(), Memory> {
-    let cells = cells_of(svg.alloc(), sums, size)?;
-    draw_cells(svg, sums.columns, &cells, top.saturating_add(height / 2));
-    draw_edges(svg, sums.columns, &cells, top, height);
+fn draw_row(svg: &mut Svg, sums: &Sums, size: u64, top: u64, height: u64) {
+    match cells_of(svg.alloc(), sums, size) {
+        Ok(cells) => {
+            draw_cells(svg, sums.columns, &cells, top.saturating_add(height / 2));
+            draw_edges(svg, sums.columns, &cells, top, height);
+        },
+        Err(Memory) => svg.text.refuse(),
+    }
     draw_shared(svg, sums, top.saturating_add(height).saturating_sub(60));
-    Ok(())
 }
 
 /// Draws the rows of cells from a height on.
-fn draw_rows(
-    svg: &mut Svg,
-    grid: &Grid,
-    top: u64,
-    bars: &[Bar],
-    by_row: &[Vec<usize>],
-) -> Result<(), Memory> {
+fn draw_rows(svg: &mut Svg, grid: &Grid, top: u64, bars: &[Bar], by_row: &[Vec<usize>]) {
     let mut row = 0u64;
     for list in by_row {
-        let sums = sums_of(svg.alloc(), grid.columns, grid.lines, bars, list)?;
         // All frames of the row through all lines of a column.
         let frames = frames_of_row(row, grid.rows, grid.frames);
         let size = frames.saturating_mul(grid.lines);
         let at = top.saturating_add(row.saturating_mul(grid.height));
-        draw_row(svg, &sums, size, at, grid.height)?;
+        match sums_of(svg.alloc(), grid.columns, grid.lines, bars, list) {
+            Ok(sums) => draw_row(svg, &sums, size, at, grid.height),
+            Err(Memory) => svg.text.refuse(),
+        }
         row = row.saturating_add(1);
     }
-    Ok(())
 }
 
 /// Draws the cells of all frames from a height on; where a VM is named its weight alone.
@@ -307,11 +305,11 @@ pub(crate) fn draw_frames(
     bars: &[Bar],
     by_row: &[Vec<usize>],
     vm: Option<u32>,
-) -> Result<(), Memory> {
+) {
     explain(svg, top, grid, vm);
     name_rows(svg, top, grid);
     svg.begin_lines(grid.height);
-    draw_rows(svg, grid, top, bars, by_row)?;
+    draw_rows(svg, grid, top, bars, by_row);
     svg.end_group();
     let area = Area {
         x: LEFT,
@@ -320,5 +318,4 @@ pub(crate) fn draw_frames(
         height: grid.rows.saturating_mul(grid.height),
     };
     svg.edge(&area, EDGE);
-    Ok(())
 }

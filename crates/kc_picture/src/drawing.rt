@@ -137,7 +137,7 @@ fn draw_lanes(
     lanes: &[Lane],
     vm: Option<u32>,
     top: u64,
-) -> Result<(), Memory> {
+) {
     let height = layout.lane_height;
     let mut place = LanePlace {
         scale,
@@ -149,12 +149,11 @@ fn draw_lanes(
     };
     for lane in lanes {
         if has_lane(lane, place.vm, vm) {
-            draw_lane(svg, &place, lane)?;
+            draw_lane(svg, &place, lane);
             place.base = place.base.saturating_add(height);
         }
         place.vm = place.vm.saturating_add(1);
     }
-    Ok(())
 }
 
 /// Draws a mark of the axis with its line.
@@ -312,14 +311,14 @@ pub fn picture(
     if extent.lanes > 0 {
         head_lanes(&mut svg, vm);
         explain_lanes(&mut svg, extent.top, vm);
-        draw_lanes(&mut svg, scale, &layout, &lanes, vm, extent.top)?;
+        draw_lanes(&mut svg, scale, &layout, &lanes, vm, extent.top);
     }
     let base = layout.frames.saturating_sub(800);
     svg.words(800, base, &HEADING, "Every frame, by number");
     if exact {
         exact::draw_frames(&mut svg, scale, layout.frames, bars, &by_row, vm);
     } else {
-        cells::draw_frames(&mut svg, &grid, layout.frames, bars, &by_row, vm)?;
+        cells::draw_frames(&mut svg, &grid, layout.frames, bars, &by_row, vm);
     }
     draw_axis(&mut svg, scale, layout.axis);
     draw_legend(&mut svg, layout.legend, exact, extent.lanes, vm);

@@ -269,7 +269,7 @@ fn draw_numbers(svg: &mut Svg, place: &LanePlace, steps: &[Step]) {
 }
 
 /// Draws the lane of a VM, with its name.
-pub(crate) fn draw_lane(svg: &mut Svg, place: &LanePlace, lane: &Lane) -> Result<(), Memory> {
+pub(crate) fn draw_lane(svg: &mut Svg, place: &LanePlace, lane: &Lane) {
     let style = Style {
         anchor: Anchor::End,
         ..HEADING
@@ -283,9 +283,12 @@ pub(crate) fn draw_lane(svg: &mut Svg, place: &LanePlace, lane: &Lane) -> Result
         height: 80,
     };
     svg.rect(&base, EDGE);
-    let groups = groups_of(svg.alloc(), place.scale, &lane.stays)?;
-    draw_groups(svg, place, &groups);
-    draw_numbers(svg, place, &lane.steps);
-    draw_group_ticks(svg, place, &groups);
-    Ok(())
+    match groups_of(svg.alloc(), place.scale, &lane.stays) {
+        Ok(groups) => {
+            draw_groups(svg, place, &groups);
+            draw_numbers(svg, place, &lane.steps);
+            draw_group_ticks(svg, place, &groups);
+        },
+        Err(Memory) => svg.text.refuse(),
+    }
 }

@@ -97,8 +97,13 @@ impl Text {
     pub fn put_made(&mut self, made: &Result<String, Memory>) {
         match made {
             Ok(words) => self.put(words),
-            Err(Memory) => self.refused = true,
+            Err(Memory) => self.refuse(),
         }
+    }
+
+    /// There was no memory for something that was to be put here.
+    pub fn refuse(&mut self) {
+        self.refused = true;
     }
 
     /// The whole text, or `Memory` where a growth of it was refused.
