@@ -1,15 +1,13 @@
 -- The first line of a text.
-use Rattle.std.proofs.Common.{ℕ, ◌≡◌, inl, inr, ◌<◌, length, length-append, arith, List, [], ◌∷◌, ◌++◌, Some, None, refl, sym, ap, ◌∙◌, append_assoc}
-use Rattle.std.specs.Prelude.{◌==◌, not, option_map}
+use Rattle.std.proofs.Common.{ℕ, ◌≡◌, ◌<◌, length, length-append, arith, List, [], ◌∷◌, ◌++◌, Some, None, refl, sym, ap, ◌∙◌, append_assoc}
+use Rattle.std.specs.Prelude.{◌==◌, not}
 use Rattle.std.specs.List.{list_all}
-use Rattle.std.proofs.lemmas.Bool.{and_parts, not-true, eqb-true}
+use Rattle.std.proofs.lemmas.Bool.{and_parts, not-true}
 use Rattle.kc_lines.specs.Lines.{IsOneLine}
-use Rattle.kc_lines.proofs.Words.{chosen}
 use Rattle.kc_dump_text.specs.declared.dump_line.DumpLine.{DumpLine}
 use Rattle.kc_dump_text.specs.DumpText.{spell}
 use Rattle.kc_dump_text.specs.Lines.{line_read}
 use Rattle.kc_dump_text.specs.Sections.{first_bytes, first_line}
-use Rattle.kc_dump_text.proofs.ReadWords.{map_some, then_some}
 use Rattle.kc_dump_text.proofs.ReadLines.{Fits, bare, spell-bare, bare-one-line, line-to, line-from}
 
 pub none-first : (bytes : List ℕ) → IsOneLine bytes → first_bytes bytes ≡ None

@@ -1,5 +1,5 @@
 -- The lines of a dump have numbers that words can hold.
-use Rattle.std.proofs.Common.{ℕ, zero, suc, ◌≡◌, ◌<◌, ◌≤◌, ◌+◌, true, ◌&&◌, nat_lt, nat_le, List, [], ◌∷◌, ◌++◌, length, get_or, Option, Some, None, arith, sym, subst}
+use Rattle.std.proofs.Common.{ℕ, zero, suc, ◌≡◌, ◌<◌, ◌≤◌, ◌+◌, true, ◌&&◌, nat_lt, nat_le, List, [], ◌∷◌, ◌++◌, length, get_or, Option, Some, None, arith, subst}
 use Rattle.std.specs.Prelude.{◌==◌}
 use Rattle.std.specs.List.{list_all}
 use Rattle.std.proofs.lemmas.Bool.{and_parts, eqb-true, ltb-true, leb-true}
@@ -110,7 +110,7 @@ dump-fits d is =
     let vms = made-fit vm_of empty_dump 0 d.slots (λ v low. (omega (arith, low, slots), ends-of n (get_or d.slots v empty_dump).list few (is.lists v low))) in
     let roots = gathered-fit (λ (s : SlotDump). s.leaves) LeafOf 0 0 d.slots (λ v i low l. (omega (arith, low, slots), (let few = is.leaves v in omega (arith, few, l)), (let r = is.roots v i low l in omega (arith, r)))) in
     let entries = gathered-fit (λ (s : SlotDump). s.entries) (λ v i e. EntryOf v e) (0, 0) 0 d.slots
-        (λ v i low l. entry-of d.version n (0 + v) _ few (subst (λ w. is_entry d.version n w (get_or (get_or d.slots v empty_dump).entries i (0, 0)) ≡ true) (let e : v ≡ 0 + v = omega arith in e) (is.entries v i low l))) in
+    (λ v i low l. entry-of d.version n (0 + v) _ few (subst (λ w. is_entry d.version n w (get_or (get_or d.slots v empty_dump).entries i (0, 0)) ≡ true) (let e : v ≡ 0 + v = omega arith in e) (is.entries v i low l))) in
     let frames = made-fit FrameOf absent_line 0 d.frames (λ f low. (omega (arith, low, few), frame-of d.version n (get_or d.frames f absent_line) few (is.frames f low))) in
     let rest = both-fit (made vm_of 0 d.slots) _ vms (both-fit (leaves_of 0 d.slots) _ roots (both-fit (entries_of 0 d.slots) _ entries frames)) in
     ((omega (arith, few), omega (arith, core, few), omega (arith, leaves)), (ends-of n d.free few is.free, rest))

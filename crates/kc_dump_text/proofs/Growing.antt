@@ -86,7 +86,7 @@ rest-leaf d v root low leaves entries none =
     let new : SlotDump = record (slot_dump_at d v) { leaves = (slot_dump_at d v).leaves ++ root ∷ [] } in
     let place : 0 + v ≡ v = omega arith in
     let pushed : leaves_of 0 (set slots v new) ≡ leaves_of 0 slots ++ LeafOf v (length (slot_dump_at d v).leaves) root ∷ [] =
-        gather-push (λ (s : SlotDump). s.leaves) LeafOf 0 v slots new root low leaves refl ∙ ap (λ w. leaves_of 0 slots ++ LeafOf w (length (slot_dump_at d v).leaves) root ∷ []) place in
+    gather-push (λ (s : SlotDump). s.leaves) LeafOf 0 v slots new root low leaves refl ∙ ap (λ w. leaves_of 0 slots ++ LeafOf w (length (slot_dump_at d v).leaves) root ∷ []) place in
     let same : entries_of 0 (set slots v new) ≡ entries_of 0 slots = gather-same (λ (s : SlotDump). s.entries) (λ v i e. EntryOf v e) 0 v slots new low refl in
     rw (vms-same 0 v slots new low refl refl, same, no-entry-lines slots entries, pushed, none) (simp (append_assoc, append-nil))
 
@@ -96,7 +96,7 @@ rest-entry d v e low entries none =
     let new : SlotDump = record (slot_dump_at d v) { entries = (slot_dump_at d v).entries ++ e ∷ [] } in
     let place : 0 + v ≡ v = omega arith in
     let pushed : entries_of 0 (set slots v new) ≡ entries_of 0 slots ++ EntryOf v e ∷ [] =
-        gather-push (λ (s : SlotDump). s.entries) (λ v i e. EntryOf v e) 0 v slots new e low entries refl ∙ ap (λ w. entries_of 0 slots ++ EntryOf w e ∷ []) place in
+    gather-push (λ (s : SlotDump). s.entries) (λ v i e. EntryOf v e) 0 v slots new e low entries refl ∙ ap (λ w. entries_of 0 slots ++ EntryOf w e ∷ []) place in
     let same : leaves_of 0 (set slots v new) ≡ leaves_of 0 slots = gather-same (λ (s : SlotDump). s.leaves) LeafOf 0 v slots new low refl in
     rw (vms-same 0 v slots new low refl refl, same, pushed, none) (simp (append_assoc, append-nil))
 

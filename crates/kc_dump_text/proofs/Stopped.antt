@@ -1,8 +1,8 @@
 -- Where no section goes on, no dump does.
-use Rattle.std.proofs.Common.{ℕ, ◌≡◌, ◌<◌, ◌≤◌, ◌+◌, ◌-◌, true, false, ◌&&◌, ◌||◌, nat_lt, nat_le, List, [], ◌∷◌, ◌++◌, length, get_or, Option, Some, None, refl, sym, ap, subst, ◌∙◌, append_assoc, arith, inl, inr, length-append, eq-eqb, suc, Bool}
+use Rattle.std.proofs.Common.{ℕ, ◌≡◌, ◌<◌, ◌≤◌, ◌+◌, ◌-◌, true, false, ◌&&◌, ◌||◌, nat_lt, nat_le, List, [], ◌∷◌, ◌++◌, length, get_or, Some, refl, sym, ap, subst, ◌∙◌, append_assoc, arith, inl, inr, length-append, eq-eqb, suc, Bool}
 use Rattle.std.specs.Prelude.{◌==◌, ◌⊎◌, not}
 use Rattle.std.specs.List.{flat_map}
-use Rattle.std.proofs.lemmas.Bool.{or_left, or_right, and_parts, and_from, or_cases, eqb-true, lt-ltb, le-leb, leb-true, eqb-false, ne_eqb, not-true, ltb-true, ltb-false, cases_Bool, cases_eq}
+use Rattle.std.proofs.lemmas.Bool.{or_left, or_right, and_parts, and_from, eqb-true, lt-ltb, le-leb, eqb-false, ne_eqb, not-true, ltb-true, ltb-false, cases_Bool, cases_eq}
 use Rattle.std.proofs.lemmas.List.{append-nil, nil_from_length, get_or_append_left}
 use Rattle.std.proofs.Math.Seq.{get_or-append_seam}
 use Rattle.kc_types.specs.Limits.{leaf_limit, leaf_entries}
@@ -159,8 +159,7 @@ module _ (version : Version) (text : List ℕ) where
             let long = on.range.slots in
             let v = ap slots_of on.same in
             let alike = sizes-alike n p d next on.spelled in
-            let x = vm-due 0 p.slots d.slots next _ (omega (arith, low, long, v)) (ap (λ (ls : List DumpLine). ls ++ next) (sym bare) ∙ alike.4) in
-            (
+            let x = vm-due 0 p.slots d.slots next _ (omega (arith, low, long, v)) (ap (λ (ls : List DumpLine). ls ++ next) (sym bare) ∙ alike.4) in (
               VmOf (0 + k) slot.phase slot.list,
               x.0,
               x.1,

@@ -1,8 +1,8 @@
 -- Which line may come next, section by section.
 use Rattle.std.specs.Prelude.{ℕ, ◌≡◌, ◌<◌, ◌≤◌, ◌+◌, ◌==◌, ◌&&◌, ◌||◌, ◌⊎◌, suc, not, nat_lt, nat_le, Bool, true, false, List, [], ◌∷◌, ◌++◌, length, slice_index_or, Option, Some, None, option_map, option_and_then, if◌then◌else◌}
 use Rattle.std.specs.List.{flat_map}
-use Rattle.kc_types.specs.Limits.{leaf_limit, leaf_entries}
-use Rattle.kc_types.specs.Configuration.{most_frames, slots_of}
+use Rattle.kc_types.specs.Limits.{leaf_entries}
+use Rattle.kc_types.specs.Configuration.{slots_of}
 use Rattle.kc_types.specs.declared.version.Version.{Version}
 use Rattle.kc_dump.specs.declared.line.FrameLine.{FrameLine}
 use Rattle.kc_dump.specs.Dump.{Dumped, SlotDump, empty_dump}
@@ -11,7 +11,7 @@ use Rattle.kc_dump_text.specs.declared.fault.DumpFault.{DumpFault}
 use Rattle.kc_dump_text.specs.declared.fault.DumpFault.TheVariants.{NoHeader, BadLine, Frame, Memory}
 use Rattle.kc_dump_text.specs.Refused.{DumpStopsFor}
 use Rattle.kc_dump_text.specs.declared.dump_line.DumpLine.{DumpLine}
-use Rattle.kc_dump_text.specs.declared.dump_line.DumpLine.TheVariants.{SizeOf, FreeOf, VmOf, LeafOf, EntryOf, FrameOf}
+use Rattle.kc_dump_text.specs.declared.dump_line.DumpLine.TheVariants.{FreeOf, VmOf, LeafOf, EntryOf, FrameOf}
 use Rattle.kc_dump_text.specs.DumpText.{spell, dump_lines}
 use Rattle.kc_dump_text.specs.Lines.{line_read}
 use Rattle.kc_dump_text.specs.Begun.{IsBegun, begun_lines}

@@ -1,4 +1,4 @@
-use Rattle.std.proofs.Common.{length, ap, sym, ◌∙◌, arith, length-append}
+use Rattle.std.proofs.Common.{sym, ◌∙◌}
 use Rattle.std.specs.List.{flat_map}
 use Rattle.kc_dump_text.specs.DumpText.{spell}
 use Rattle.kc_dump_text.specs.Begun.{begun_lines}
