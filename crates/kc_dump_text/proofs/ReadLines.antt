@@ -188,8 +188,7 @@ four-from name a b c l e =
           let x = then_some (λ x. option_and_then (λ y. option_and_then (with_three name x y) (number_in c)) (number_in b)) (number_in a) l h.1 in
           let y = then_some (λ y. option_and_then (with_three name x.0 y) (number_in c)) (number_in b) l x.2 in
           let z = then_some (with_three name x.0 y.0) (number_in c) l y.2 in
-          ap (λ (w : List ℕ). name ∷ w ∷ b ∷ c ∷ []) (number-from a x.0 x.1) ∙ ap (λ (w : List ℕ). name ∷ decimal x.0 ∷ w ∷ c ∷ []) (number-from b y.0 y.1)
-          ∙ ap (λ (w : List ℕ). name ∷ decimal x.0 ∷ decimal y.0 ∷ w ∷ []) (number-from c z.0 z.1) ∙ three-from name x.0 y.0 z.0 l z.2
+          simp (number-from a x.0 x.1, number-from b y.0 y.1, number-from c z.0 z.1) (three-from name x.0 y.0 z.0 l z.2)
     ]
 
 six-from : (name v p h t n : List ℕ) (l : DumpLine) → line_of_six name v p h t n ≡ Some l → Spells (name ∷ v ∷ p ∷ h ∷ t ∷ n ∷ []) l
@@ -200,9 +199,7 @@ six-from name v p h t n l e =
           let x = then_some (λ v. option_and_then (λ p. option_map (VmOf v p) (ends_of_words h t n)) (phase_of p)) (number_in v) l k.1 in
           let y = then_some (λ p. option_map (VmOf x.0 p) (ends_of_words h t n)) (phase_of p) l x.2 in
           let z = map_some (VmOf x.0 y.0) (ends_of_words h t n) l y.2 in
-          head-name name (codes "vm") (v ∷ p ∷ h ∷ t ∷ n ∷ []) k.0 ∙ ap (λ (w : List ℕ). codes "vm" ∷ w ∷ p ∷ h ∷ t ∷ n ∷ []) (number-from v x.0 x.1)
-          ∙ ap (λ (w : List ℕ). codes "vm" ∷ decimal x.0 ∷ w ∷ h ∷ t ∷ n ∷ []) (phase-from p y.0 y.1) ∙ ap (λ (ws : List (List ℕ)). codes "vm" ∷ decimal x.0 ∷ phase_word y.0 ∷ ws) (ends-from h t n z.0 z.1)
-          ∙ ap (λ l. name_of l ∷ args_of l) z.2
+          simp (sym z.2, name_is name (codes "vm") k.0, number-from v x.0 x.1, phase-from p y.0 y.1) (ap (λ (ws : List (List ℕ)). codes "vm" ∷ decimal x.0 ∷ phase_word y.0 ∷ ws) (ends-from h t n z.0 z.1))
       | inr k ↦ absurd cc
     ]
 
@@ -227,10 +224,7 @@ frame-from owner share gfn present prev next digest l e =
     let a = then_some (λ a. option_and_then (λ b. option_and_then (λ c. rest_of_words a b c present prev next digest) (or_dash_of gfn_limit gfn)) (number_in share)) (owner_of owner) l e in
     let b = then_some (λ b. option_and_then (λ c. rest_of_words a.0 b c present prev next digest) (or_dash_of gfn_limit gfn)) (number_in share) l a.2 in
     let c = then_some (λ c. rest_of_words a.0 b.0 c present prev next digest) (or_dash_of gfn_limit gfn) l b.2 in
-    ap (λ (w : List ℕ). w ∷ share ∷ gfn ∷ present ∷ prev ∷ next ∷ digest ∷ []) (owner-from owner a.0 a.1)
-    ∙ ap (λ (w : List ℕ). owner_word a.0 ∷ w ∷ gfn ∷ present ∷ prev ∷ next ∷ digest ∷ []) (number-from share b.0 b.1)
-    ∙ ap (λ (w : List ℕ). owner_word a.0 ∷ decimal b.0 ∷ w ∷ present ∷ prev ∷ next ∷ digest ∷ []) (dash-from gfn_limit gfn c.0 c.1)
-    ∙ rest-from a.0 b.0 c.0 present prev next digest l c.2
+    simp (owner-from owner a.0 a.1, number-from share b.0 b.1, dash-from gfn_limit gfn c.0 c.1) (rest-from a.0 b.0 c.0 present prev next digest l c.2)
 
 nine-from : (name f owner share gfn present prev next digest : List ℕ) (l : DumpLine) → nine_words name f owner share gfn present prev next digest ≡ Some l
     → Spells (name ∷ f ∷ owner ∷ share ∷ gfn ∷ present ∷ prev ∷ next ∷ digest ∷ []) l
@@ -240,10 +234,7 @@ nine-from name f owner share gfn present prev next digest l e =
       | inl k ↦
           let x = then_some (λ f. option_map (FrameOf f) (frame_of_words owner share gfn present prev next digest)) (number_in f) l k.1 in
           let y = map_some (FrameOf x.0) (frame_of_words owner share gfn present prev next digest) l x.2 in
-          head-name name (codes "frame") (f ∷ owner ∷ share ∷ gfn ∷ present ∷ prev ∷ next ∷ digest ∷ []) k.0
-          ∙ ap (λ (w : List ℕ). codes "frame" ∷ w ∷ owner ∷ share ∷ gfn ∷ present ∷ prev ∷ next ∷ digest ∷ []) (number-from f x.0 x.1)
-          ∙ ap (λ (ws : List (List ℕ)). codes "frame" ∷ decimal x.0 ∷ ws) (frame-from owner share gfn present prev next digest y.0 y.1)
-          ∙ ap (λ l. name_of l ∷ args_of l) y.2
+          simp (sym y.2, name_is name (codes "frame") k.0, number-from f x.0 x.1) (ap (λ (ws : List (List ℕ)). codes "frame" ∷ decimal x.0 ∷ ws) (frame-from owner share gfn present prev next digest y.0 y.1))
       | inr k ↦ absurd cc
     ]
 
