@@ -1,9 +1,24 @@
 use Rattle.std.proofs.Common.{Err, ap, refl}
 use Rattle.std.proofs.lemmas.Result.{err_from_is_err_and}
-use Rattle.kc_texts.proofs.Told.{texts_start}
+use Rattle.kc_replay.specs.Replayer.{Replaying}
+use Rattle.kc_texts.proofs.Told.{texts_start, texts_trace}
+use Rattle.kc_cli.proofs.Fed.{replayed}
+use Rattle.kc_cli.proofs.Replayed.{are_replayed}
 use Rattle.kc_cli.proofs.replaying.replay_texts.Goals as goal
 
 pub returns-in_err-core-clause-texts : goal.returns-in_err-core-clause-texts
 returns-in_err-core-clause-texts g c =
     let made = err_from_is_err_and c.from_residual.result c.from_residual.ensures.1 in
     rw (made.1, made.2) (texts_start _ _ _ _ c.in_err-core.field-0.0 (λ said same. c.in_err-core.ensures.config said (ap Err same)) (λ said same. c.in_err-core.ensures.state said (ap Err same)) c.in_err-core.ensures.fault refl)
+
+pub returns-in-Ok-finish-clause-ok : goal.returns-in-Ok-finish-clause-ok
+returns-in-Ok-finish-clause-ok g c =
+    let made =
+    replayed (g.T.Source.left c.args.trace.now) c.in_ok-core.core c.in-Ok.replayer c.feed_source.new.replayer c.in-Ok-feed_source.replies.items c.in-Ok-finish.core
+    c.in_ok-core.ensures.lawful (ap (λ (r : Replaying). r.state) c.in-Ok.ensures.start) c.in-Ok-finish.ensures.core c.in-Ok-feed_source.ensures.ok in
+    are_replayed c.args.order.origin (g.C.Source.left c.args.start.now) (g.T.Source.left c.args.trace.now) c.in_ok-core.core c.in-Ok-feed_source.replies.items c.in-Ok-finish.core c.in_ok-core.ensures.ok made
+
+pub returns-in-Err-clause-texts : goal.returns-in-Err-clause-texts
+returns-in-Err-clause-texts g c =
+    let is = c.in-Err.ensures.fault in
+    texts_trace c.args.order.origin _ _ _ c.in_ok-core.core c.in-Err.fault c.in_ok-core.ensures.ok (λ said same. c.in-Err.ensures.trace said (ap Err same)) is.config is.state is.told
