@@ -1,6 +1,6 @@
 -- Marks on the frames of one slot more.
 use Rattle.std.proofs.Common.{ℕ, ◌≡◌, ◌<◌, ◌≤◌, ◌+◌, inl, inr, Bool, true, false, ◌||◌, ◌&&◌, List, length, get_or, Some, nat_eq, eq-eqb, refl, sym, ap, ◌∙◌, arith}
-use Rattle.std.proofs.lemmas.Bool.{cases_lt, ne_eqb}
+use Rattle.std.proofs.lemmas.Bool.{and_from, cases_lt, ne_eqb}
 use Rattle.std.proofs.lemmas.List.{get_or_past, get_or_default}
 use Rattle.kc_types.specs.declared.owner.Owner.TheVariants.{Vm}
 use Rattle.kc_model.specs.Lawful.{same_owner}
@@ -15,11 +15,7 @@ pub record MarkedTo (d : Dumped) (marks : List Bool) (i : ℕ) : Type 0 where
   pub left : (f v : ℕ) → line_owner d.frames f ≡ Vm v → i ≤ v → get_or marks f false ≡ false
 
 pub says-true : (lines : List FrameLine) (v g f : ℕ) → line_owner lines f ≡ Vm v → (line_at lines f).gfn ≡ Some g → says lines v g f ≡ true
-says-true lines v g f owner gfn = ap (λ o. same_owner o (Vm v) && is_gfn (line_at lines f).gfn g) owner ∙ ap (λ h. nat_eq v v && is_gfn h g) gfn ∙ both (nat_eq v v) (nat_eq g g) (eq-eqb v v refl) (eq-eqb g g refl)
-  where
-    both : (a b : Bool) → a ≡ true → b ≡ true → (a && b) ≡ true
-    both true b x y = y
-    both false b x y = x
+says-true lines v g f owner gfn = ap (λ o. same_owner o (Vm v) && is_gfn (line_at lines f).gfn g) owner ∙ ap (λ h. nat_eq v v && is_gfn h g) gfn ∙ and_from (nat_eq v v) (nat_eq g g) (eq-eqb v v refl) (eq-eqb g g refl)
 
 other-slot : (lines : List FrameLine) (f v w : ℕ) → line_owner lines f ≡ Vm v → (v ≡ w → ⊥) → same_owner (line_owner lines f) (Vm w) ≡ false
 other-slot lines f v w owner other = ap (λ o. same_owner o (Vm w)) owner ∙ ne_eqb v w other

@@ -1,7 +1,7 @@
 -- What it says of a list of findings that it is empty.
 use Rattle.std.proofs.Common.{ℕ, zero, suc, ◌≡◌, ◌<◌, ◌≤◌, ◌+◌, inl, inr, Bool, true, false, ◌&&◌, ◌||◌, cond, List, [], ◌∷◌, ◌++◌, length, get_or, nat_eq, refl, sym, ap, ◌∙◌, arith}
 use Rattle.std.specs.Prelude.{◌/◌}
-use Rattle.std.proofs.lemmas.Bool.{cases_eq, cases_lt}
+use Rattle.std.proofs.lemmas.Bool.{and_from, cases_eq, cases_lt}
 use Rattle.kc_model.specs.Lawful.{times_in, has_leaf}
 use Rattle.kc_model.specs.Resources.{is_in}
 use Rattle.kc_model.proofs.States.Members.{held-times_in, times_in-held}
@@ -105,8 +105,4 @@ rooted-each leaves (e ∷ es) (suc k) d all low = rooted-each leaves es k d (sec
 
 pub each-rooted : (leaves : List ℕ) (es : List (ℕ × ℕ)) (d : ℕ × ℕ) → ((k : ℕ) → k < length es → has_leaf leaves (get_or es k d).0 ≡ true) → all_rooted leaves es ≡ true
 each-rooted leaves [] d each = refl
-each-rooted leaves (e ∷ es) d each = both (is_in leaves (e.0 / 512)) (all_rooted leaves es) (sym (leaf-in leaves e.0) ∙ each 0 (omega arith)) (each-rooted leaves es d (λ k low. each (suc k) (omega (arith, low))))
-  where
-    both : (a b : Bool) → a ≡ true → b ≡ true → (a && b) ≡ true
-    both true b x y = y
-    both false b x y = x
+each-rooted leaves (e ∷ es) d each = and_from (is_in leaves (e.0 / 512)) (all_rooted leaves es) (sym (leaf-in leaves e.0) ∙ each 0 (omega arith)) (each-rooted leaves es d (λ k low. each (suc k) (omega (arith, low))))

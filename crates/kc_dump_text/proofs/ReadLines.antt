@@ -15,13 +15,13 @@ use Rattle.kc_dump.specs.declared.line.FrameLine.{FrameLine}
 use Rattle.kc_lines.specs.Words.{number_in}
 use Rattle.kc_lines.specs.Lines.{IsOneLine}
 use Rattle.kc_lines.proofs.Numbers.{number_of-decimal}
-use Rattle.kc_lines.proofs.Words.{is_space, is_word, chosen, split_join, join_is_one_line, decimal_is_word}
+use Rattle.kc_lines.proofs.Words.{is_space, is_word, chosen, map_some, then_some, name_is, split_join, join_is_one_line, decimal_is_word}
 use Rattle.kc_dump_text.specs.DumpText.{spaced, line, or_dash, bit, phase_word, owner_word, ends_words, frame_rest, spell}
 use Rattle.kc_dump_text.specs.declared.dump_line.DumpLine.{DumpLine}
 use Rattle.kc_dump_text.specs.declared.dump_line.DumpLine.TheVariants.{SizeOf, FreeOf, VmOf, LeafOf, EntryOf, FrameOf}
 use Rattle.kc_dump_text.specs.Words.{under, or_dash_of, bit_of, phase_of, owner_of, digest_in, ends_of_words}
 use Rattle.kc_dump_text.specs.Lines.{entry_of_numbers, with_three, line_of_four, line_of_six, rest_of_words, frame_of_words, nine_words, line_of_words, line_read}
-use Rattle.kc_dump_text.proofs.ReadWords.{map_some, then_some, name_is, number-from, under-to, under-from, DashFits, dash-to, dash-from, dash-word, bit-to, bit-from, bit-word, phase-to, phase-from, phase-is-word, OwnerFits, owner-to, owner-from, owner-is-word, DigestFits, digest-to, digest-from, digest-word, EndsFit, ends-to, ends-from}
+use Rattle.kc_dump_text.proofs.ReadWords.{number-from, under-to, under-from, DashFits, dash-to, dash-from, dash-word, bit-to, bit-from, bit-word, phase-to, phase-from, phase-is-word, OwnerFits, owner-to, owner-from, owner-is-word, DigestFits, digest-to, digest-from, digest-word, EndsFit, ends-to, ends-from}
 
 abbrev pub name_of : DumpLine → List ℕ
 name_of (SizeOf f c l) = codes "size"

@@ -4,7 +4,6 @@ use Rattle.std.specs.Prelude.{◌==◌, nat_lt, codes, option_map, option_and_th
 use Rattle.std.specs.Str.{bytes_eq}
 use Rattle.std.specs.Fmt.{decimal}
 use Rattle.std.proofs.lemmas.Bool.{lt-ltb, cases_Bool}
-use Rattle.std.proofs.lemmas.Slice.Eq.{bytes_eq-Decides}
 use Rattle.hex.specs.Hex.{encode_lower, lower_digits}
 use Rattle.hex.proofs.HexLemmas.{length-encode_with}
 use Rattle.kc_types.specs.Limits.{frame_limit, slot_limit}
@@ -17,21 +16,10 @@ use Rattle.kc_types.specs.declared.slot.Phase.TheVariants.{Empty, Booting, Activ
 use Rattle.kc_lines.specs.Words.{number_in, data_of}
 use Rattle.kc_lines.proofs.Numbers.{number_of-decimal, number_is_decimal}
 use Rattle.kc_lines.proofs.Digits.{data_is_spelled}
-use Rattle.kc_lines.proofs.Words.{is_word, chosen, decimal_is_word, encoded_is_word}
+use Rattle.kc_lines.proofs.Words.{is_word, chosen, map_some, then_some, name_is, decimal_is_word, encoded_is_word}
 use Rattle.kc_dump_text.specs.DumpText.{or_dash, bit, phase_word, owner_word, ends_words}
 use Rattle.kc_dump_text.specs.Words.{under, below_of, or_dash_of, bit_of, phase_of, owner_of, digest_in, ends_of_words}
 use Rattle.kc_dump_text.proofs.DigestWords.{digest-read}
-
-pub map_some : {A B : Type 0} (f : A → B) (o : Option A) (y : B) → option_map f o ≡ Some y → (x : A) × (o ≡ Some x) × (f x ≡ y)
-map_some f (Some x) y e = (x, refl, cc)
-map_some f None y e = absurd cc
-
-pub then_some : {A B : Type 0} (f : A → Option B) (o : Option A) (y : B) → option_and_then f o ≡ Some y → (x : A) × (o ≡ Some x) × (f x ≡ Some y)
-then_some f (Some x) y e = (x, refl, e)
-then_some f None y e = absurd cc
-
-pub name_is : (name text : List ℕ) → bytes_eq name text ≡ true → name ≡ text
-name_is name text e = (bytes_eq-Decides name text).0 e
 
 -- ---- numbers
 

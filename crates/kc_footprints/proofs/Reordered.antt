@@ -31,7 +31,7 @@ merged-all m other = rw (pick-all (untouched Core) m.frames other.frames, pick-a
 same-state : (m other : State) → IsSameSize m other → ((r : Resource) → part_of other r ≡ part_of m r) → other ≡ m
 same-state m other size parts = sym (merged-agrees (λ r. true) m other (record { size = size; parts = λ r yes. parts r })) ∙ merged-all m other
 
-size-at : (m : State) (calls : List Call) (k : ℕ) → IsSameSize m (state_at m calls k)
+pub size-at : (m : State) (calls : List Call) (k : ℕ) → IsSameSize m (state_at m calls k)
 size-at m calls zero = record { config = refl; frames = refl; slots = refl }
 size-at m calls (suc k) = sized-then m (state_at m calls k) (state_at m calls (suc k)) (size-at m calls k) (sized-next (state_at m calls k) (call_at calls k))
 

@@ -1,21 +1,38 @@
 -- Words joined by spaces, and cut at them again.
 use Rattle.std.proofs.Common.{◌≡◌, ◌⊎◌, ◌<◌, ◌+◌, ◌-◌, ℕ, suc, Bool, true, false, cond, List, [], ◌∷◌, ◌++◌, length, get_or, take, drop, Option, Some, None, refl, sym, ap, ◌∙◌, arith, inl, inr, length-append}
-use Rattle.std.specs.Prelude.{◌^◌, ◌&&◌, ◌==◌, not, nat_le, position, nat_lt}
+use Rattle.std.specs.Prelude.{◌^◌, ◌&&◌, ◌==◌, not, nat_le, position, nat_lt, option_map, option_and_then}
 use Rattle.std.specs.List.{list_all, slice_split, join_with_byte, position_or_len}
 use Rattle.std.specs.Char.{is_ascii_digit}
 use Rattle.std.specs.Fmt.{decimal}
+use Rattle.std.specs.Str.{bytes_eq}
 use Rattle.std.proofs.lemmas.Bool.{and_parts, and_from, not-true, ne_eqb, leb-true, or_cases, ltb-true, ltb-false}
 use Rattle.std.proofs.lemmas.List.{take-append-drop, take_all, length-drop}
 use Rattle.std.proofs.Math.Seq.{drop-cons}
 use Rattle.std.proofs.lemmas.List.Splits.{slice_split_first, slice_split_none}
 use Rattle.std.proofs.lemmas.List.Sums.{fails_before_first}
 use Rattle.std.proofs.lemmas.Fmt.{digits_decimal}
+use Rattle.std.proofs.lemmas.Slice.Eq.{bytes_eq-Decides}
 use Rattle.hex.specs.Hex.{encode_lower}
 use Rattle.kc_types.specs.Bytes.{IsData}
 use Rattle.kc_lines.specs.Words.{is_lower_digit, number_in, IsLastNumber, IsFirstNumber}
 use Rattle.kc_lines.specs.Lines.{IsOneLine}
 use Rattle.kc_lines.proofs.Numbers.{own}
 use Rattle.kc_lines.proofs.Digits.{encoded_is_lower}
+
+-- ---- what a reader of words found
+
+pub map_some : {A B : Type 0} (f : A → B) (o : Option A) (y : B) → option_map f o ≡ Some y → (x : A) × (o ≡ Some x) × (f x ≡ y)
+map_some f (Some x) y e = (x, refl, cc)
+map_some f None y e = absurd cc
+
+pub then_some : {A B : Type 0} (f : A → Option B) (o : Option A) (y : B) → option_and_then f o ≡ Some y → (x : A) × (o ≡ Some x) × (f x ≡ Some y)
+then_some f (Some x) y e = (x, refl, e)
+then_some f None y e = absurd cc
+
+pub name_is : (name text : List ℕ) → bytes_eq name text ≡ true → name ≡ text
+name_is name text e = (bytes_eq-Decides name text).0 e
+
+-- ---- words of a line
 
 abbrev pub is_space : ℕ → Bool
 is_space b = b == 32

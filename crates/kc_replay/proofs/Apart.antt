@@ -1,24 +1,21 @@
 -- Calls whose footprints share nothing do on their own parts what they do one after another.
-use Rattle.std.proofs.Common.{ℕ, zero, suc, ◌≡◌, ◌≢◌, ◌<◌, ◌≤◌, ◌+◌, ◌-◌, Bool, true, false, cond, ◌&&◌, ◌||◌, nat_lt, nat_eq, eqb-true, List, ◌∷◌, length, Option, Some, None, refl, sym, ap, ◌∙◌, subst, arith}
+use Rattle.std.proofs.Common.{ℕ, zero, suc, ◌≡◌, ◌≢◌, ◌<◌, ◌≤◌, ◌+◌, ◌-◌, Bool, true, false, cond, ◌||◌, List, ◌∷◌, length, Option, Some, None, refl, sym, ap, ◌∙◌, subst, arith}
 use Rattle.std.specs.Option.{option_map}
-use Rattle.std.proofs.lemmas.Bool.{and_parts, and_from}
-use Rattle.kc_types.specs.Configuration.{slot_count}
 use Rattle.kc_types.specs.declared.call.Call.{Call}
 use Rattle.kc_types.specs.declared.owner.Owner.{Owner}
 use Rattle.kc_types.specs.declared.owner.Owner.TheVariants.{Core, Host, Free, Vm}
 use Rattle.kc_types.specs.declared.resource.Resource.TheVariants as resource
-use Rattle.kc_model.specs.State.{State, slot_at}
+use Rattle.kc_model.specs.State.{State}
 use Rattle.kc_model.specs.Lawful.{IsLawful}
-use Rattle.kc_model.specs.Resources.{Resource, Resources, IsWithin, is_in, names_frame, slot_of, uses_free, of_slot, exists_slot, listed_in, need}
-use Rattle.kc_model.specs.Local.{IsSameSize, AgreesOn}
+use Rattle.kc_model.specs.Resources.{Resource, Resources, IsWithin, is_in, need}
+use Rattle.kc_model.specs.Local.{AgreesOn}
 use Rattle.kc_model.specs.Links.{list_of}
 use Rattle.kc_model.specs.Linked.{LinkedPart, linked_part_of}
 use Rattle.kc_model.specs.Footprints.{call_at, state_at}
-use Rattle.kc_model.proofs.States.Sizes.{sized-next, sized-then}
 use Rattle.kc_model.proofs.Local.Agreeing.{merged-agrees, keeps-others}
 use Rattle.kc_model.proofs.Local.Parts.{need-merged}
-use Rattle.kc_model.proofs.Local.LinksKept.{links-kept}
-use Rattle.kc_model.proofs.Local.Needs.{by_slot, by_free}
+use Rattle.kc_model.proofs.Local.LinksKept.{links-kept, needs-free, needs-slot}
+use Rattle.kc_footprints.proofs.Reordered.{size-at}
 use Rattle.kc_model.proofs.Lawful.LawfulTraces.{lawful-at, orderly-at, lists-all}
 use Rattle.kc_vms.specs.Vm.{VmSlot}
 use Rattle.kc_parts.specs.Parts.{Held, vm_at}
@@ -26,23 +23,6 @@ use Rattle.kc_parts.specs.Cuts.{HeldPart, held_at, IsSplit, IsJoin, either}
 use Rattle.kc_parts.specs.Cuts.HeldPart.{slot_part}
 use Rattle.kc_parts.specs.Restricted.{seen_part, seen_at, exists_in, has_ends, IsRestricted, IsClosed}
 use Rattle.kc_replay.specs.Wave.{AreApart, out, IsRest}
-
-size-at : (m : State) (calls : List Call) (k : ℕ) → IsSameSize m (state_at m calls k)
-size-at m calls zero = record { config = refl; frames = refl; slots = refl }
-size-at m calls (suc k) = sized-then m (state_at m calls k) (state_at m calls (suc k)) (size-at m calls k) (sized-next (state_at m calls k) (call_at calls k))
-
-needs-free : (m : State) (call : Call) (f : ℕ) → uses_free call ≡ true → is_in m.free f ≡ true → need m call (resource.Frame f) ≡ true
-needs-free m call f uses listed = by_free (names_frame call f) (nat_lt f m.config.frames) (of_slot m.config (listed_in m) (slot_of call) f) (uses_free call && is_in m.free f) (and_from (uses_free call) (is_in m.free f) uses listed)
-
-of-named : (m : State) (named : Option ℕ) (v f : ℕ) → exists_slot m.config named v ≡ true → is_in (slot_at m v).frames f ≡ true → of_slot m.config (listed_in m) named f ≡ true
-of-named m None v f names listed = cc
-of-named m (Some w) v f names listed =
-    let parts = and_parts (nat_lt w (slot_count m.config)) (nat_eq w v) names in
-    let same : w ≡ v = eqb-true w v parts.1 in
-    and_from (nat_lt w (slot_count m.config)) (is_in (slot_at m w).frames f) parts.0 (subst (λ x. is_in (slot_at m x).frames f ≡ true) (sym same) listed)
-
-needs-slot : (m : State) (call : Call) (v f : ℕ) → need m call (resource.Vm v) ≡ true → is_in (slot_at m v).frames f ≡ true → need m call (resource.Frame f) ≡ true
-needs-slot m call v f names listed = by_slot (names_frame call f) (nat_lt f m.config.frames) (of_slot m.config (listed_in m) (slot_of call) f) (uses_free call && is_in m.free f) (of-named m (slot_of call) v f names listed)
 
 from-need : (a b : Bool) → (a ≡ true → b ≡ true) → b ≡ false → a ≡ false
 from-need true b le none = let yes = le refl in let no = rw none at yes in cc

@@ -1,7 +1,7 @@
 -- The dump of a lawful state has its numbers in range and in order.
-use Rattle.std.proofs.Common.{ℕ, zero, suc, ◌≡◌, ◌<◌, ◌≤◌, Bool, true, false, ◌&&◌, cond, nat_lt, nat_eq, List, [], ◌∷◌, length, get_or, Option, Some, None, refl, sym, ap, subst, ◌∙◌, arith, inl, inr}
+use Rattle.std.proofs.Common.{ℕ, zero, suc, ◌≡◌, ◌<◌, ◌≤◌, Bool, true, false, cond, nat_lt, nat_eq, List, [], ◌∷◌, length, get_or, Option, Some, None, refl, sym, ap, subst, ◌∙◌, arith, inl, inr}
 use Rattle.std.specs.Prelude.{T}
-use Rattle.std.proofs.lemmas.Bool.{lt-ltb, le-leb, eq-eqb, cases_lt}
+use Rattle.std.proofs.lemmas.Bool.{and_from, lt-ltb, le-leb, eq-eqb, cases_lt}
 use Rattle.std.proofs.lemmas.List.{get_or_past}
 use Rattle.std.proofs.lemmas.List.Elements.{All-get_or}
 use Rattle.std.specs.Ordering.{nat_cmp}
@@ -28,10 +28,6 @@ use Rattle.kc_state.proofs.Digests.{digest-bytes}
 use Rattle.kc_state.proofs.Drawn.{long, line-low, slot-low, slots, below, member, at-most}
 use Rattle.kc_dump.specs.Ranges.{is_below, are_ends, is_entry, is_owner, is_frame, IsDump}
 
-both : (a b : Bool) → a ≡ true → b ≡ true → (a && b) ≡ true
-both true b x y = y
-both false b x y = x
-
 -- all numbers of the list are below this
 abbrev AreBelow : ℕ → List ℕ → Type 0
 AreBelow limit fs = (f : ℕ) → 0 < times_in fs f → f < limit
@@ -54,7 +50,7 @@ ends-in : (limit : ℕ) (fs : List ℕ) → AreBelow limit fs → ((f : ℕ) →
 ends-in limit fs low once =
     let all = sum-times fs limit low in
     let most = sum-ones (times_in fs) limit once in
-    both _ _ (both _ _ (first-below limit fs low) (last-below limit None fs refl low)) (le-leb (length fs) limit (omega (arith, all, most)))
+    and_from _ _ (and_from _ _ (first-below limit fs low) (last-below limit None fs refl low)) (le-leb (length fs) limit (omega (arith, all, most)))
 
 -- the neighbours of a frame are below
 record NearBelow (limit : ℕ) (link : Link) : Type 0 where
@@ -110,7 +106,7 @@ module _ (m : State) (is : IsLawful m) where
       let there = (entry-get (slot_at m v).mapped e.0 e.1).0 (place-entry (entries (slot_at m v).mapped) n (0, 0) within) in
       let frame = (is.mapped v e.0 e.1 low).0 there in
       let exists = below m is e.1 (λ core. let clash : Vm v ≡ Core = sym frame.0 ∙ core in cc) in
-      both _ _ (both _ _ (lt-ltb v (slots_of m.config.version) low) (lt-ltb e.0 gfn_limit ((is.each_frame e.1 (rw is.frames exists)).gfn e.0 frame.1))) (lt-ltb e.1 m.config.frames exists)
+      and_from _ _ (and_from _ _ (lt-ltb v (slots_of m.config.version) low) (lt-ltb e.0 gfn_limit ((is.each_frame e.1 (rw is.frames exists)).gfn e.0 frame.1))) (lt-ltb e.1 m.config.frames exists)
 
   pub dump-in-range : IsDump (dump_of m)
   unfolding slot_count
@@ -147,5 +143,5 @@ module _ (m : State) (is : IsLawful m) where
       line-in f low =
           let frame = is.each_frame f (rw is.frames low) in
           let links = near-of f (frame_at m f).owner refl low in
-          both _ _ (both _ _ (both _ _ (both _ _ (both _ _ (both _ _ (owner-in f (frame_at m f).owner refl low) (le-leb (frame_at m f).share 100 frame.shared)) (gfn-in f (frame_at m f).gfn refl low)) links.prev) links.next)
+          and_from _ _ (and_from _ _ (and_from _ _ (and_from _ _ (and_from _ _ (and_from _ _ (owner-in f (frame_at m f).owner refl low) (le-leb (frame_at m f).share 100 frame.shared)) (gfn-in f (frame_at m f).gfn refl low)) links.prev) links.next)
           (eq-eqb (length (sha256 (frame_at m f).bytes)) 32 (length-sha256 (frame_at m f).bytes))) (digest-bytes (frame_at m f).bytes)

@@ -1,6 +1,6 @@
 -- A table that maps each page of some images, and nothing else.
-use Rattle.std.proofs.Common.{ℕ, zero, suc, ◌≡◌, ◌<◌, ◌≤◌, ◌+◌, ◌-◌, ◌&&◌, Bool, true, false, nat_le, nat_lt, List, [], ◌∷◌, length, get_or, is_some, All, eq-eqb, refl, sym, ap, subst, ◌∙◌, inl, inr, arith}
-use Rattle.std.specs.Prelude.{◌==◌, ◌↔◌}
+use Rattle.std.proofs.Common.{ℕ, suc, ◌≡◌, ◌<◌, ◌+◌, ◌-◌, Bool, true, nat_le, nat_lt, List, [], ◌∷◌, get_or, is_some, All, eq-eqb, refl, sym, ap, ◌∙◌, inl, inr, arith}
+use Rattle.std.specs.Prelude.{◌==◌}
 use Rattle.std.specs.List.{list_any}
 use Rattle.std.specs.Ordering.{nat_cmp}
 use Rattle.std.specs.FinMap as finite
@@ -11,11 +11,7 @@ use Rattle.std.proofs.lemmas.List.Folds.{list_any_at}
 use Rattle.kc_model.specs.State.{Image}
 use Rattle.kc_model.specs.Lawful.{holds}
 use Rattle.kc_vms.proofs.Maps.{keys-same, keys-other}
-
-bool-same : (a b : Bool) → (a ≡ true → b ≡ true) → (b ≡ true → a ≡ true) → a ≡ b
-bool-same true b f g = sym (f refl)
-bool-same false true f g = g refl
-bool-same false false f g = refl
+use Rattle.kc_parts.proofs.Filled.{bool-same}
 
 -- whether the guest frame is mapped
 abbrev pub has : List (ℕ × ℕ) → ℕ → Bool

@@ -12,7 +12,7 @@ use Rattle.kc_model.proofs.States.Pages.{as_bytes-same}
 use Rattle.kc_model.proofs.States.ZeroPage.{zero_page-replicate, length-zero_page, zero_page-is}
 use Rattle.kc_lines.specs.Words.{is_lower_digit, data_of}
 use Rattle.kc_lines.proofs.Digits.{data_of-encode_lower, no_digits}
-use Rattle.kc_dump_text.proofs.ReadWords.{name_is}
+use Rattle.kc_lines.proofs.Words.{name_is}
 use Rattle.kc_state_text.specs.StateText.{is_zero, page_word, page_words, page_line}
 use Rattle.kc_state_text.specs.Words.{words_in}
 use Rattle.kc_state_text.proofs.Lines.{begins}

@@ -12,11 +12,11 @@ use Rattle.kc_types.specs.Limits.{frame_limit, slot_limit, gfn_limit, digest_lim
 use Rattle.kc_model.specs.State.{Vcpu, Image}
 use Rattle.kc_model.specs.Lawful.{IsPage}
 use Rattle.kc_lines.specs.Words.{number_in, data_of}
-use Rattle.kc_lines.proofs.Words.{is_word, chosen, decimal_is_word, encoded_is_word}
+use Rattle.kc_lines.proofs.Words.{is_word, chosen, map_some, then_some, name_is, decimal_is_word, encoded_is_word}
 use Rattle.kc_lines.proofs.Numbers.{number_of-decimal}
 use Rattle.kc_lines.proofs.Digits.{data_of-encode_lower}
 use Rattle.kc_dump_text.specs.Words.{below_of, under, digest_in}
-use Rattle.kc_dump_text.proofs.ReadWords.{map_some, then_some, name_is, number-from, under-from, under-to, digest-to}
+use Rattle.kc_dump_text.proofs.ReadWords.{number-from, under-from, under-to, digest-to}
 use Rattle.kc_state.specs.Told.{SlotRest}
 use Rattle.kc_model.specs.Volumes.{IsDigest}
 use Rattle.kc_state_text.specs.declared.sizes.Sizes.{Sizes}

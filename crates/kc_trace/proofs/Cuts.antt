@@ -7,9 +7,8 @@ use Rattle.std.proofs.lemmas.List.Splits.{length-slice_split}
 use Rattle.kc_types.specs.declared.call.Call.{Call}
 use Rattle.kc_types.specs.declared.call.Call.TheVariants.{HostWrite}
 use Rattle.kc_lines.specs.Words.{number_in, data_of, IsLastNumber, IsFirstNumber}
-use Rattle.kc_lines.proofs.Words.{is_space}
+use Rattle.kc_lines.proofs.Words.{is_space, name_is}
 use Rattle.kc_trace.specs.Reading.{one_word, with_one_number, with_two_numbers, with_three_numbers, with_four_numbers, read_guest_access, call_of_words, call_of}
-use Rattle.kc_trace.proofs.Spelled.{name_is}
 
 pub one_word_read : (line : List ℕ) → slice_split is_space line ≡ line ∷ [] → one_word line ≡ call_of line
 unfolding call_of_words

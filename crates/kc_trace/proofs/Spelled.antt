@@ -4,7 +4,6 @@ use Rattle.std.specs.Prelude.{codes, option_map, option_and_then}
 use Rattle.std.specs.List.{slice_split, join_with_byte}
 use Rattle.std.specs.Str.{bytes_eq}
 use Rattle.std.specs.Fmt.{decimal}
-use Rattle.std.proofs.lemmas.Slice.Eq.{bytes_eq-Decides}
 use Rattle.std.proofs.lemmas.List.Splits.{join_with_byte-slice_split, length-slice_split}
 use Rattle.hex.specs.Hex.{encode_lower}
 use Rattle.kc_types.specs.Bytes.{IsData}
@@ -16,23 +15,12 @@ use Rattle.kc_lines.specs.Words.{number_in, data_of}
 use Rattle.kc_trace.specs.Reading.{one_word, with_one_number, with_two_numbers, with_three_numbers, with_four_numbers, host_access, read_guest_access, two_words, three_words, four_words, five_words, six_words, call_of_words, call_of}
 use Rattle.kc_lines.proofs.Numbers.{number_is_decimal}
 use Rattle.kc_lines.proofs.Digits.{data_is_spelled}
-use Rattle.kc_lines.proofs.Words.{is_space, chosen}
+use Rattle.kc_lines.proofs.Words.{is_space, chosen, map_some, then_some, name_is}
 
 -- these are the words of the call, and it is in range
 record IsSpelled (words : List (List ℕ)) (call : Call) : Type 0 where
   words_are : words ≡ words_of call
   ranged : IsRanged call
-
-map_some : {A B : Type 0} (f : A → B) (o : Option A) (y : B) → option_map f o ≡ Some y → (x : A) × (o ≡ Some x) × (f x ≡ y)
-map_some f (Some x) y e = (x, refl, cc)
-map_some f None y e = absurd cc
-
-then_some : {A B : Type 0} (f : A → Option B) (o : Option A) (y : B) → option_and_then f o ≡ Some y → (x : A) × (o ≡ Some x) × (f x ≡ Some y)
-then_some f (Some x) y e = (x, refl, e)
-then_some f None y e = absurd cc
-
-pub name_is : (name text : List ℕ) → bytes_eq name text ≡ true → name ≡ text
-name_is name text e = (bytes_eq-Decides name text).0 e
 
 is_named : (name text : List ℕ) (arguments : List (List ℕ)) (call : Call) → bytes_eq name text ≡ true → words_of call ≡ text ∷ arguments → IsRanged call → IsSpelled (name ∷ arguments) call
 is_named name text arguments call e spelled fits = record { words_are = ap (λ (n : List ℕ). n ∷ arguments) (name_is name text e) ∙ sym spelled; ranged = fits }
