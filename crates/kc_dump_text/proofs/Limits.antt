@@ -1,5 +1,5 @@
 -- The limits of a version are within those of the numbers.
-use Rattle.std.proofs.Common.{ℕ, ◌<◌, ◌≤◌, arith}
+use Rattle.std.proofs.Common.{ℕ, ◌≤◌, arith}
 use Rattle.kc_types.specs.Limits.{frame_limit, slot_limit}
 use Rattle.kc_types.specs.Configuration.{most_frames, slots_of}
 use Rattle.kc_types.specs.declared.version.Version.{Version}
@@ -12,7 +12,3 @@ few-frames Two n few = few
 pub few-slots : (version : Version) → slots_of version ≤ slot_limit
 few-slots One = omega arith
 few-slots Two = omega arith
-
-pub some-slots : (version : Version) → 0 < slots_of version
-some-slots One = omega arith
-some-slots Two = omega arith

@@ -1,256 +1,178 @@
--- A line is read as what it spells, and nothing else is.
-use Rattle.std.proofs.Common.{ℕ, ◌≡◌, ◌<◌, ◌^◌, true, false, List, [], ◌∷◌, ◌++◌, Option, Some, None, refl, sym, ap, ◌∙◌, append_assoc, arith, inl, inr}
+-- A line is read as what it spells, and nothing else is; and so is the first line of a text.
+use Rattle.std.proofs.Common.{ℕ, zero, suc, ◌≡◌, ◌<◌, ◌≤◌, true, ◌&&◌, nat_lt, nat_le, List, [], ◌∷◌, ◌++◌, length, get_or, Option, Some, refl, sym, ap, ◌∙◌, append_assoc, arith, inl, inr, ◌+◌, length-append, None}
 use Rattle.std.proofs.lemmas.List.{append-nil}
-use Rattle.std.specs.Prelude.{codes, option_map, option_and_then}
-use Rattle.std.specs.Str.{bytes_eq}
-use Rattle.std.specs.List.{list_all, slice_split, join_with_byte}
-use Rattle.std.specs.Fmt.{decimal}
-use Rattle.std.proofs.lemmas.Bool.{and_from}
+use Rattle.std.specs.List.{list_all, slice_split, join_with_byte, flat_map}
 use Rattle.std.proofs.lemmas.List.Splits.{join_with_byte-slice_split}
-use Rattle.hex.specs.Hex.{encode_lower}
-use Rattle.kc_types.specs.Limits.{frame_limit, gfn_limit}
+use Rattle.std.specs.Prelude.{◌==◌, not}
+use Rattle.std.specs.Fmt.{decimal}
+use Rattle.std.proofs.lemmas.Bool.{and_parts, and_from, ltb-true, lt-ltb, leb-true, eqb-true, not-true}
+use Rattle.kc_types.specs.Limits.{frame_limit, gfn_limit, share_limit, byte_limit, leaf_limit, leaf_entries}
+use Rattle.kc_types.specs.Configuration.{most_frames, slots_of}
+use Rattle.kc_types.specs.declared.version.Version.{Version}
 use Rattle.kc_types.specs.declared.link.Ends.{Ends}
-use Rattle.kc_types.specs.declared.owner.Owner.{Owner}
-use Rattle.kc_dump.specs.declared.line.FrameLine.{FrameLine}
 use Rattle.kc_lines.specs.Words.{number_in}
 use Rattle.kc_lines.specs.Lines.{IsOneLine}
-use Rattle.kc_lines.proofs.Numbers.{number_of-decimal}
-use Rattle.kc_lines.proofs.Words.{is_space, is_word, chosen, map_some, then_some, name_is, split_join, join_is_one_line, decimal_is_word}
-use Rattle.kc_dump_text.specs.DumpText.{spaced, line, or_dash, bit, phase_word, owner_word, ends_words, frame_rest, spell}
+use Rattle.kc_lines.proofs.Words.{is_space, is_word, chosen, then_some, name_is, split_join, join_is_one_line}
+use Rattle.kc_dump.specs.declared.line.FrameLine.{FrameLine}
+use Rattle.kc_dump.specs.Ranges.{is_below, are_ends, is_owner, is_frame}
+use Rattle.kc_dump_text.specs.DumpText.{spaced, ends_words, frame_words, name_of, words_of, spell}
 use Rattle.kc_dump_text.specs.declared.dump_line.DumpLine.{DumpLine}
 use Rattle.kc_dump_text.specs.declared.dump_line.DumpLine.TheVariants.{SizeOf, FreeOf, VmOf, LeafOf, EntryOf, FrameOf}
-use Rattle.kc_dump_text.specs.Words.{under, or_dash_of, bit_of, phase_of, owner_of, digest_in, ends_of_words}
-use Rattle.kc_dump_text.specs.Lines.{entry_of_numbers, with_three, line_of_four, line_of_six, rest_of_words, frame_of_words, nine_words, line_of_words, line_read}
-use Rattle.kc_dump_text.proofs.ReadWords.{number-from, under-to, under-from, DashFits, dash-to, dash-from, dash-word, bit-to, bit-from, bit-word, phase-to, phase-from, phase-is-word, OwnerFits, owner-to, owner-from, owner-is-word, DigestFits, digest-to, digest-from, digest-word, EndsFit, ends-to, ends-from}
-
-abbrev pub name_of : DumpLine → List ℕ
-name_of (SizeOf f c l) = codes "size"
-name_of (FreeOf ends) = codes "free"
-name_of (VmOf v p ends) = codes "vm"
-name_of (LeafOf v n r) = codes "leaf"
-name_of (EntryOf v e) = codes "entry"
-name_of (FrameOf f l) = codes "frame"
-
-abbrev pub args_of : DumpLine → List (List ℕ)
-args_of (SizeOf f c l) = decimal f ∷ decimal c ∷ decimal l ∷ []
-args_of (FreeOf ends) = ends_words ends
-args_of (VmOf v p ends) = decimal v ∷ phase_word p ∷ ends_words ends
-args_of (LeafOf v n r) = decimal v ∷ decimal n ∷ decimal r ∷ []
-args_of (EntryOf v e) = decimal v ∷ decimal e.0 ∷ decimal e.1 ∷ []
-args_of (FrameOf f l) = decimal f ∷ owner_word l.owner ∷ decimal l.share ∷ frame_rest l
+use Rattle.kc_dump_text.specs.Lines.{then_word, no_more, size_line, ends_of, free_line, vm_line, leaf_line, entry_line, record_of, frame_line, named, line_of_words, line_read}
+use Rattle.kc_dump_text.specs.Places.{in_range}
+use Rattle.kc_dump_text.specs.Begun.{first_bytes, first_line, newlines}
+use Rattle.kc_dump_text.proofs.ReadWords.{Reads, From, mapped-to, mapped-from, nothing-from, number-to, number-spelled, below-to, below-from, dash-to, dash-from, bit-to, bit-from, phase-to, phase-from, owner-to, owner-from, digest-reads, digest-from}
+use Rattle.kc_dump_text.proofs.Limits.{few-frames, few-slots}
 
 -- a line without its newline
 abbrev pub bare : DumpLine → List ℕ
-bare l = join_with_byte 32 (name_of l ∷ args_of l)
+bare l = join_with_byte 32 (name_of l ∷ words_of l)
 
 joined-spaced : (name : List ℕ) (words : List (List ℕ)) → join_with_byte 32 (name ∷ words) ≡ name ++ spaced words
 joined-spaced name [] = sym (append-nil name)
 joined-spaced name (word ∷ words) = ap (λ (l : List ℕ). name ++ 32 ∷ l) (joined-spaced word words)
 
-line-bare : (name : List ℕ) (words : List (List ℕ)) → line name words ≡ join_with_byte 32 (name ∷ words) ++ 10 ∷ []
-line-bare name words = sym (append_assoc name (spaced words) (10 ∷ [])) ∙ ap (λ (l : List ℕ). l ++ 10 ∷ []) (sym (joined-spaced name words))
-
 pub spell-bare : (l : DumpLine) → spell l ≡ bare l ++ 10 ∷ []
-spell-bare (SizeOf f c l) = line-bare (codes "size") (args_of (SizeOf f c l))
-spell-bare (FreeOf ends) = line-bare (codes "free") (ends_words ends)
-spell-bare (VmOf v p ends) = line-bare (codes "vm") (args_of (VmOf v p ends))
-spell-bare (LeafOf v n r) = line-bare (codes "leaf") (args_of (LeafOf v n r))
-spell-bare (EntryOf v e) = line-bare (codes "entry") (args_of (EntryOf v e))
-spell-bare (FrameOf f l) = line-bare (codes "frame") (args_of (FrameOf f l))
-
--- ---- numbers that words can hold
-
-pub record FrameFits (l : FrameLine) : Type 0 where
-  pub owner : OwnerFits l.owner
-  pub share : l.share < 2 ^ 32
-  pub gfn : DashFits gfn_limit l.gfn
-  pub prev : DashFits frame_limit l.prev
-  pub next : DashFits frame_limit l.next
-  pub digest : DigestFits l.digest
-
-abbrev pub Fits : DumpLine → Type 0
-Fits (SizeOf f c l) = (f < 2 ^ 32) × (c < 2 ^ 32) × (l < 2 ^ 32)
-Fits (FreeOf ends) = EndsFit ends
-Fits (VmOf v p ends) = (v < 2 ^ 32) × EndsFit ends
-Fits (LeafOf v n r) = (v < 2 ^ 32) × (n < 2 ^ 32) × (r < 2 ^ 32)
-Fits (EntryOf v e) = (v < 2 ^ 32) × (e.0 < gfn_limit) × (e.1 < frame_limit)
-Fits (FrameOf f l) = (f < 2 ^ 32) × FrameFits l
-
--- ---- each line's words are words
-
-abbrev AreWords : List (List ℕ) → Type 0
-AreWords words = list_all is_word words ≡ true
-
-abbrev EachWord : List (List ℕ) → Type 0
-EachWord [] = Unit {0}
-EachWord (word ∷ words) = (is_word word ≡ true) × EachWord words
-
-each-word : (words : List (List ℕ)) → EachWord words → AreWords words
-each-word [] h = refl
-each-word (word ∷ words) h = and_from (is_word word) (list_all is_word words) h.0 (each-word words h.1)
-
-three-words : (a b c : ℕ) → a < 2 ^ 32 → b < 2 ^ 32 → c < 2 ^ 32 → EachWord (decimal a ∷ decimal b ∷ decimal c ∷ [])
-three-words a b c x y z = (decimal_is_word a x, (decimal_is_word b y, (decimal_is_word c z, tt)))
-
-ends-are-words : (ends : Ends) → EndsFit ends → EachWord (ends_words ends)
-ends-are-words ends fits = (dash-word frame_limit ends.head (omega arith) fits.head, (dash-word frame_limit ends.tail (omega arith) fits.tail, (decimal_is_word ends.count fits.count, tt)))
-
-args-are-words : (l : DumpLine) → Fits l → EachWord (args_of l)
-args-are-words (SizeOf f c l) fits = three-words f c l fits.0 fits.1 fits.2
-args-are-words (FreeOf ends) fits = ends-are-words ends fits
-args-are-words (VmOf v p ends) fits = (decimal_is_word v fits.0, (phase-is-word p, ends-are-words ends fits.1))
-args-are-words (LeafOf v n r) fits = three-words v n r fits.0 fits.1 fits.2
-args-are-words (EntryOf v e) fits = three-words v e.0 e.1 fits.0 (omega (arith, fits.1)) (omega (arith, fits.2))
-args-are-words (FrameOf f l) fits =
-    let rest : EachWord (frame_rest l) = (dash-word gfn_limit l.gfn (omega arith) fits.1.gfn, (bit-word l.present, (dash-word frame_limit l.prev (omega arith) fits.1.prev, (dash-word frame_limit l.next (omega arith) fits.1.next, (digest-word l.digest fits.1.digest, tt))))) in
-    (decimal_is_word f fits.0, (owner-is-word l.owner fits.1.owner, (decimal_is_word l.share fits.1.share, rest)))
-
-name-is-word : (l : DumpLine) → is_word (name_of l) ≡ true
-name-is-word (SizeOf f c l) = refl
-name-is-word (FreeOf ends) = refl
-name-is-word (VmOf v p ends) = refl
-name-is-word (LeafOf v n r) = refl
-name-is-word (EntryOf v e) = refl
-name-is-word (FrameOf f l) = refl
-
-are-words : (l : DumpLine) → Fits l → AreWords (name_of l ∷ args_of l)
-are-words l fits = each-word (name_of l ∷ args_of l) (name-is-word l, args-are-words l fits)
-
-pub bare-one-line : (l : DumpLine) → Fits l → IsOneLine (bare l)
-bare-one-line l fits = join_is_one_line (name_of l) (args_of l) (are-words l fits)
+spell-bare l = sym (append_assoc (name_of l) (spaced (words_of l)) (10 ∷ [])) ∙ ap (λ (l : List ℕ). l ++ 10 ∷ []) (sym (joined-spaced (name_of l) (words_of l)))
 
 -- ---- a line that is spelled is read
 
-three-to : (name : List ℕ) (a b c : ℕ) → bytes_eq name (codes "free") ≡ false → a < 2 ^ 32 → b < 2 ^ 32 → c < 2 ^ 32 → line_of_four name (decimal a) (decimal b) (decimal c) ≡ with_three name a b c
-unfolding line_of_four
-three-to name a b c other x y z = rw (other, number_of-decimal a x, number_of-decimal b y, number_of-decimal c z) refl
+end-to : {Y : Type 0} (y : Y) → Reads (list_all is_word) (no_more y) [] y
+end-to y = record { passes = refl; found = refl }
 
-entry-to : (v g f : ℕ) → g < gfn_limit → f < frame_limit → entry_of_numbers v g f ≡ Some (EntryOf v (g, f))
-entry-to v g f x y = rw (under-to gfn_limit g x, under-to frame_limit f y) refl
+word-to : {X Y : Type 0} {read : List ℕ → Option X} {word : List ℕ} {words : List (List ℕ)} {x : X} {y : Y} (next : X → List (List ℕ) → Option Y) → Reads is_word read word x → Reads (list_all is_word) (next x) words y → Reads (list_all is_word) (then_word read next) (word ∷ words) y
+word-to next h k = record { passes = rw h.passes k.passes; found = rw h.found k.found }
 
-rest-to : (l : FrameLine) → FrameFits l → rest_of_words l.owner l.share l.gfn (bit l.present) (or_dash l.prev) (or_dash l.next) (encode_lower l.digest) ≡ Some l
-unfolding rest_of_words
-rest-to l fits = rw (bit-to l.present, dash-to frame_limit l.prev (omega arith) fits.prev, dash-to frame_limit l.next (omega arith) fits.next, digest-to l.digest fits.digest) refl
+name-to : {name : List ℕ} {words : List (List ℕ)} {l : DumpLine} (read : List (List ℕ) → Option DumpLine) → is_word name ≡ true → line_of_words (name ∷ words) ≡ read words → Reads (list_all is_word) read words l → Reads (list_all is_word) line_of_words (name ∷ words) l
+name-to read is same h = record { passes = rw is h.passes; found = same ∙ h.found }
 
-frame-to : (l : FrameLine) → FrameFits l → frame_of_words (owner_word l.owner) (decimal l.share) (or_dash l.gfn) (bit l.present) (or_dash l.prev) (or_dash l.next) (encode_lower l.digest) ≡ Some l
-unfolding frame_of_words
-frame-to l fits = rw (owner-to l.owner fits.owner, number_of-decimal l.share fits.share, dash-to gfn_limit l.gfn (omega arith) fits.gfn) (rest-to l fits)
+bytes-of : (xs : List ℕ) → list_all (λ b. nat_lt b 256) xs ≡ true → (k d : ℕ) → k < length xs → get_or xs k d < 256
+bytes-of [] e k d lt = absurd (omega (arith, lt))
+bytes-of (x ∷ xs) e zero d lt = ltb-true x 256 (and_parts (nat_lt x 256) _ e).0
+bytes-of (x ∷ xs) e (suc k) d lt = bytes-of xs (and_parts (nat_lt x 256) _ e).1 k d (omega (arith, lt))
 
-words-to : (l : DumpLine) → Fits l → line_of_words (name_of l ∷ args_of l) ≡ Some l
-unfolding line_of_words line_of_four with_three line_of_six nine_words
-words-to (SizeOf f c l) fits = three-to (codes "size") f c l refl fits.0 fits.1 fits.2
-words-to (FreeOf ends) fits = ap (option_map FreeOf) (ends-to ends fits)
-words-to (VmOf v p ends) fits = rw (number_of-decimal v fits.0, phase-to p, ends-to ends fits.1) refl
-words-to (LeafOf v n r) fits = three-to (codes "leaf") v n r refl fits.0 fits.1 fits.2
-words-to (EntryOf v e) fits = three-to (codes "entry") v e.0 e.1 refl fits.0 (omega (arith, fits.1)) (omega (arith, fits.2)) ∙ entry-to v e.0 e.1 fits.1 fits.2
-words-to (FrameOf f l) fits = rw (number_of-decimal f fits.0, frame-to l fits.1) refl
+pub all-bytes : (xs : List ℕ) → ((k : ℕ) → get_or xs k 0 < 256) → list_all (λ b. nat_lt b 256) xs ≡ true
+all-bytes [] h = refl
+all-bytes (x ∷ xs) h = and_from _ _ (lt-ltb x 256 (h 0)) (all-bytes xs (λ k. h (suc k)))
 
-pub line-to : (l : DumpLine) → Fits l → line_read (bare l) ≡ Some l
-line-to l fits = ap line_of_words (split_join (name_of l) (args_of l) (are-words l fits)) ∙ words-to l fits
+-- each line with numbers in range, in a dump of so many frames
+module _ (version : Version) (n : ℕ) (few : n ≤ frame_limit) where
+  ends-to : (ends : Ends) → are_ends n ends ≡ true → Reads (list_all is_word) ends_of (ends_words ends) ends
+  ends-to ends is =
+      let p = and_parts (is_below n ends.head && is_below n ends.tail) (nat_le ends.count n) is in
+      let q = and_parts (is_below n ends.head) (is_below n ends.tail) p.0 in
+      word-to _ (dash-to frame_limit n ends.head (omega arith) few q.0) (word-to _ (dash-to frame_limit n ends.tail (omega arith) few q.1) (word-to _ (number-to ends.count (omega (arith, leb-true ends.count n p.1, few))) (end-to _)))
+
+  frame-to : (l : FrameLine) → is_frame version n l ≡ true → Reads (list_all is_word) record_of (frame_words l) l
+  frame-to l is =
+      let bytes = and_parts (is_owner version l.owner && nat_le l.share share_limit && is_below gfn_limit l.gfn && is_below n l.prev && is_below n l.next && (length l.digest == 32)) _ is in
+      let long = and_parts (is_owner version l.owner && nat_le l.share share_limit && is_below gfn_limit l.gfn && is_below n l.prev && is_below n l.next) (length l.digest == 32) bytes.0 in
+      let next = and_parts (is_owner version l.owner && nat_le l.share share_limit && is_below gfn_limit l.gfn && is_below n l.prev) (is_below n l.next) long.0 in
+      let prev = and_parts (is_owner version l.owner && nat_le l.share share_limit && is_below gfn_limit l.gfn) (is_below n l.prev) next.0 in
+      let gfn = and_parts (is_owner version l.owner && nat_le l.share share_limit) (is_below gfn_limit l.gfn) prev.0 in
+      let share = and_parts (is_owner version l.owner) (nat_le l.share share_limit) gfn.0 in
+      word-to _ (owner-to version l.owner share.0) (word-to _ (number-to l.share (omega (arith, leb-true l.share share_limit share.1))) (word-to _ (dash-to gfn_limit gfn_limit l.gfn (omega arith) (omega arith) gfn.1) (word-to _ (bit-to l.present)
+      (word-to _ (dash-to frame_limit n l.prev (omega arith) few prev.1) (word-to _ (dash-to frame_limit n l.next (omega arith) few next.1) (word-to _ (digest-reads l.digest (record { long = eqb-true (length l.digest) 32 long.1; each = bytes-of l.digest bytes.1 })) (end-to _)))))))
+
+  slot-to : (v : ℕ) → nat_lt v (slots_of version) ≡ true → Reads is_word number_in (decimal v) v
+  slot-to v is = number-to v (omega (arith, ltb-true v (slots_of version) is, few-slots version))
+
+  words-to : (l : DumpLine) → in_range version n l ≡ true → Reads (list_all is_word) line_of_words (name_of l ∷ words_of l) l
+  unfolding line_of_words
+  words-to (SizeOf f c l) is =
+      let leaves = and_parts (nat_lt 0 f && nat_le f (most_frames version) && nat_le c f && nat_lt 0 l) (nat_le l leaf_limit) is in
+      let core = and_parts (nat_lt 0 f && nat_le f (most_frames version)) (nat_le c f) (and_parts (nat_lt 0 f && nat_le f (most_frames version) && nat_le c f) (nat_lt 0 l) leaves.0).0 in
+      let frames : f ≤ frame_limit = few-frames version f (leb-true f (most_frames version) (and_parts (nat_lt 0 f) _ core.0).1) in
+      name-to size_line refl refl (word-to _ (number-to f (omega (arith, frames))) (word-to _ (number-to c (omega (arith, leb-true c f core.1, frames))) (word-to _ (number-to l (omega (arith, leb-true l leaf_limit leaves.1))) (end-to _))))
+  words-to (FreeOf ends) is = name-to free_line refl refl (mapped-to FreeOf (ends-to ends is))
+  words-to (VmOf v p ends) is = let q = and_parts (nat_lt v (slots_of version)) _ is in name-to vm_line refl refl (word-to _ (slot-to v q.0) (word-to _ (phase-to p) (mapped-to (VmOf v p) (ends-to ends q.1))))
+  words-to (LeafOf v i r) is =
+      let p = and_parts (nat_lt v (slots_of version) && nat_lt i byte_limit) (nat_lt r leaf_entries) is in
+      let q = and_parts (nat_lt v (slots_of version)) (nat_lt i byte_limit) p.0 in
+      name-to leaf_line refl refl (word-to _ (slot-to v q.0) (word-to _ (number-to i (omega (arith, ltb-true i byte_limit q.1))) (word-to _ (number-to r (omega (arith, ltb-true r leaf_entries p.1))) (end-to _))))
+  words-to (EntryOf v e) is =
+      let p = and_parts (nat_lt v (slots_of version) && nat_lt e.0 gfn_limit) (nat_lt e.1 n) is in
+      let q = and_parts (nat_lt v (slots_of version)) (nat_lt e.0 gfn_limit) p.0 in
+      name-to entry_line refl refl (word-to _ (slot-to v q.0) (word-to _ (below-to gfn_limit e.0 (omega arith) (ltb-true e.0 gfn_limit q.1)) (word-to _ (below-to frame_limit e.1 (omega arith) (omega (arith, ltb-true e.1 n p.1, few))) (end-to _))))
+  words-to (FrameOf f l) is = let q = and_parts (nat_lt f n) _ is in name-to frame_line refl refl (word-to _ (number-to f (omega (arith, ltb-true f n q.0, few))) (mapped-to (FrameOf f) (frame-to l q.1)))
+
+  pub bare-one-line : (l : DumpLine) → in_range version n l ≡ true → IsOneLine (bare l)
+  bare-one-line l is = join_is_one_line (name_of l) (words_of l) (words-to l is).passes
+
+  pub line-to : (l : DumpLine) → in_range version n l ≡ true → line_read (bare l) ≡ Some l
+  line-to l is = let h = words-to l is in ap line_of_words (split_join (name_of l) (words_of l) h.passes) ∙ h.found
 
 -- ---- what is read was spelled
 
-abbrev Spells : List (List ℕ) → DumpLine → Type 0
-Spells words l = words ≡ name_of l ∷ args_of l
+end-from : {Y : Type 0} {spelled : Y → List (List ℕ)} {before : List (List ℕ) → List (List ℕ)} {y : Y} → before [] ≡ spelled y → From spelled before (no_more y)
+end-from {Y} {spelled} {before} {y} is = record { same = elim [ [] ↦ λ z e. let same : y ≡ z = cc in is ∙ ap spelled same | word ∷ words ↦ λ z e. absurd cc ] }
 
-entry-from : (v g f : ℕ) (l : DumpLine) → entry_of_numbers v g f ≡ Some l → EntryOf v (g, f) ≡ l
-entry-from v g f l e =
-    let a = then_some (λ gfn. option_map (λ frame. EntryOf v (gfn, frame)) (under frame_limit f)) (under gfn_limit g) l e in
-    let b = map_some {B = DumpLine} (λ frame. EntryOf v (a.0, frame)) (under frame_limit f) l a.2 in
-    ap (λ x. EntryOf v (x, f)) (under-from gfn_limit g a.0 a.1) ∙ ap (λ y. EntryOf v (a.0, y)) (under-from frame_limit f b.0 b.1) ∙ b.2
+word-from : {X Y : Type 0} {word : X → List ℕ} {read : List ℕ → Option X} {spelled : Y → List (List ℕ)} {before : List (List ℕ) → List (List ℕ)} {next : X → List (List ℕ) → Option Y}
+    → From word (λ w. w) read → ((x : X) → From spelled (λ ws. before (word x ∷ ws)) (next x)) → From spelled before (then_word read next)
+word-from {X} {Y} {word} {read} {spelled} {before} {next} from then = record {
+  same = elim [ [] ↦ λ y e. absurd cc | w ∷ ws ↦ λ y e. let r = then_some (λ x. next x ws) (read w) y e in ap (λ w. before (w ∷ ws)) (from.same w r.0 r.1) ∙ (then r.0).same ws y r.2 ];
+}
 
-head-name : (name text : List ℕ) (words : List (List ℕ)) → bytes_eq name text ≡ true → name ∷ words ≡ text ∷ words
-head-name name text words e = ap (λ (n : List ℕ). n ∷ words) (name_is name text e)
+named-from : {Y : Type 0} {name : List ℕ} {spelled : Y → List (List ℕ)} {read rest : List (List ℕ) → Option Y} → From spelled (λ ws. name ∷ ws) read → From spelled (λ ws. ws) rest → From spelled (λ ws. ws) (named name read rest)
+named-from {Y} {name} {spelled} {read} {rest} from others = record {
+  same = elim [ [] ↦ λ y e. absurd cc | w ∷ ws ↦ λ y e. elim (chosen _ (read ws) (rest (w ∷ ws)) (Some y) e) [ inl h ↦ ap (λ w. w ∷ ws) (name_is w name h.0) ∙ from.same ws y h.1 | inr h ↦ others.same (w ∷ ws) y h.1 ] ];
+}
 
-three-from : (name : List ℕ) (a b c : ℕ) (l : DumpLine) → with_three name a b c ≡ Some l → Spells (name ∷ decimal a ∷ decimal b ∷ decimal c ∷ []) l
-unfolding with_three
-three-from name a b c l e =
-    let words = decimal a ∷ decimal b ∷ decimal c ∷ [] in
-    elim (chosen (bytes_eq name (codes "size")) (Some (SizeOf a b c)) _ (Some l) e) [
-      | inl h ↦ let same : SizeOf a b c ≡ l = cc in head-name name (codes "size") words h.0 ∙ ap (λ l. name_of l ∷ args_of l) same
-      | inr h ↦ elim (chosen (bytes_eq name (codes "leaf")) (Some (LeafOf a b c)) _ (Some l) h.1) [
-        | inl g ↦ let same : LeafOf a b c ≡ l = cc in head-name name (codes "leaf") words g.0 ∙ ap (λ l. name_of l ∷ args_of l) same
-        | inr g ↦ elim (chosen (bytes_eq name (codes "entry")) (entry_of_numbers a b c) None (Some l) g.1) [
-          | inl k ↦ head-name name (codes "entry") words k.0 ∙ ap (λ l. name_of l ∷ args_of l) (entry-from a b c l k.1)
-          | inr k ↦ absurd cc
-        ]
-      ]
-    ]
+ends-from : From ends_words (λ ws. ws) ends_of
+ends-from = word-from (dash-from frame_limit) (λ head. word-from (dash-from frame_limit) (λ tail. word-from number-spelled (λ count. end-from refl)))
 
-four-from : (name a b c : List ℕ) (l : DumpLine) → line_of_four name a b c ≡ Some l → Spells (name ∷ a ∷ b ∷ c ∷ []) l
-unfolding line_of_four
-four-from name a b c l e =
-    elim (chosen (bytes_eq name (codes "free")) (option_map FreeOf (ends_of_words a b c)) _ (Some l) e) [
-      | inl h ↦
-          let r = map_some FreeOf (ends_of_words a b c) l h.1 in
-          head-name name (codes "free") (a ∷ b ∷ c ∷ []) h.0 ∙ ap (λ (ws : List (List ℕ)). codes "free" ∷ ws) (ends-from a b c r.0 r.1) ∙ ap (λ l. name_of l ∷ args_of l) r.2
-      | inr h ↦
-          let x = then_some (λ x. option_and_then (λ y. option_and_then (with_three name x y) (number_in c)) (number_in b)) (number_in a) l h.1 in
-          let y = then_some (λ y. option_and_then (with_three name x.0 y) (number_in c)) (number_in b) l x.2 in
-          let z = then_some (with_three name x.0 y.0) (number_in c) l y.2 in
-          simp (number-from a x.0 x.1, number-from b y.0 y.1, number-from c z.0 z.1) (three-from name x.0 y.0 z.0 l z.2)
-    ]
+frame-from : From frame_words (λ ws. ws) record_of
+frame-from =
+    word-from owner-from (λ owner. word-from number-spelled (λ share. word-from (dash-from gfn_limit) (λ gfn. word-from bit-from (λ present.
+    word-from (dash-from frame_limit) (λ prev. word-from (dash-from frame_limit) (λ next. word-from (record { same = digest-from }) (λ digest. end-from refl)))))))
 
-six-from : (name v p h t n : List ℕ) (l : DumpLine) → line_of_six name v p h t n ≡ Some l → Spells (name ∷ v ∷ p ∷ h ∷ t ∷ n ∷ []) l
-unfolding line_of_six
-six-from name v p h t n l e =
-    elim (chosen (bytes_eq name (codes "vm")) (option_and_then (λ v. option_and_then (λ p. option_map (VmOf v p) (ends_of_words h t n)) (phase_of p)) (number_in v)) None (Some l) e) [
-      | inl k ↦
-          let x = then_some (λ v. option_and_then (λ p. option_map (VmOf v p) (ends_of_words h t n)) (phase_of p)) (number_in v) l k.1 in
-          let y = then_some (λ p. option_map (VmOf x.0 p) (ends_of_words h t n)) (phase_of p) l x.2 in
-          let z = map_some (VmOf x.0 y.0) (ends_of_words h t n) l y.2 in
-          simp (sym z.2, name_is name (codes "vm") k.0, number-from v x.0 x.1, phase-from p y.0 y.1) (ap (λ (ws : List (List ℕ)). codes "vm" ∷ decimal x.0 ∷ phase_word y.0 ∷ ws) (ends-from h t n z.0 z.1))
-      | inr k ↦ absurd cc
-    ]
-
-four-same : {a b c d x y z w : List ℕ} → a ≡ x → b ≡ y → c ≡ z → d ≡ w → a ∷ b ∷ c ∷ d ∷ [] ≡ x ∷ y ∷ z ∷ w ∷ []
-four-same p q r s = rw (p, q, r, s) refl
-
-rest-from : (owner : Owner) (share : ℕ) (gfn : Option ℕ) (present prev next digest : List ℕ) (l : FrameLine) → rest_of_words owner share gfn present prev next digest ≡ Some l
-    → (owner_word owner ∷ decimal share ∷ or_dash gfn ∷ present ∷ prev ∷ next ∷ digest ∷ []) ≡ owner_word l.owner ∷ decimal l.share ∷ frame_rest l
-unfolding rest_of_words
-rest-from owner share gfn present prev next digest l e =
-    let a = then_some (λ a. option_and_then (λ b. option_and_then (λ c. option_map (λ d. record { owner = owner; share = share; gfn = gfn; present = a; prev = b; next = c; digest = d }) (digest_in digest)) (or_dash_of frame_limit next)) (or_dash_of frame_limit prev)) (bit_of present) l e in
-    let b = then_some (λ b. option_and_then (λ c. option_map (λ d. record { owner = owner; share = share; gfn = gfn; present = a.0; prev = b; next = c; digest = d }) (digest_in digest)) (or_dash_of frame_limit next)) (or_dash_of frame_limit prev) l a.2 in
-    let c = then_some (λ c. option_map (λ d. record { owner = owner; share = share; gfn = gfn; present = a.0; prev = b.0; next = c; digest = d }) (digest_in digest)) (or_dash_of frame_limit next) l b.2 in
-    let d = map_some {B = FrameLine} (λ d. record { owner = owner; share = share; gfn = gfn; present = a.0; prev = b.0; next = c.0; digest = d }) (digest_in digest) l c.2 in
-    ap (λ (ws : List (List ℕ)). owner_word owner ∷ decimal share ∷ or_dash gfn ∷ ws) (four-same (bit-from present a.0 a.1) (dash-from frame_limit prev b.0 b.1) (dash-from frame_limit next c.0 c.1) (digest-from digest d.0 d.1))
-    ∙ ap (λ (l : FrameLine). owner_word l.owner ∷ decimal l.share ∷ frame_rest l) d.2
-
-frame-from : (owner share gfn present prev next digest : List ℕ) (l : FrameLine) → frame_of_words owner share gfn present prev next digest ≡ Some l
-    → (owner ∷ share ∷ gfn ∷ present ∷ prev ∷ next ∷ digest ∷ []) ≡ owner_word l.owner ∷ decimal l.share ∷ frame_rest l
-unfolding frame_of_words
-frame-from owner share gfn present prev next digest l e =
-    let a = then_some (λ a. option_and_then (λ b. option_and_then (λ c. rest_of_words a b c present prev next digest) (or_dash_of gfn_limit gfn)) (number_in share)) (owner_of owner) l e in
-    let b = then_some (λ b. option_and_then (λ c. rest_of_words a.0 b c present prev next digest) (or_dash_of gfn_limit gfn)) (number_in share) l a.2 in
-    let c = then_some (λ c. rest_of_words a.0 b.0 c present prev next digest) (or_dash_of gfn_limit gfn) l b.2 in
-    simp (owner-from owner a.0 a.1, number-from share b.0 b.1, dash-from gfn_limit gfn c.0 c.1) (rest-from a.0 b.0 c.0 present prev next digest l c.2)
-
-nine-from : (name f owner share gfn present prev next digest : List ℕ) (l : DumpLine) → nine_words name f owner share gfn present prev next digest ≡ Some l
-    → Spells (name ∷ f ∷ owner ∷ share ∷ gfn ∷ present ∷ prev ∷ next ∷ digest ∷ []) l
-unfolding nine_words
-nine-from name f owner share gfn present prev next digest l e =
-    elim (chosen (bytes_eq name (codes "frame")) (option_and_then (λ f. option_map (FrameOf f) (frame_of_words owner share gfn present prev next digest)) (number_in f)) None (Some l) e) [
-      | inl k ↦
-          let x = then_some (λ f. option_map (FrameOf f) (frame_of_words owner share gfn present prev next digest)) (number_in f) l k.1 in
-          let y = map_some (FrameOf x.0) (frame_of_words owner share gfn present prev next digest) l x.2 in
-          simp (sym y.2, name_is name (codes "frame") k.0, number-from f x.0 x.1) (ap (λ (ws : List (List ℕ)). codes "frame" ∷ decimal x.0 ∷ ws) (frame-from owner share gfn present prev next digest y.0 y.1))
-      | inr k ↦ absurd cc
-    ]
-
-words-from : (words : List (List ℕ)) (l : DumpLine) → line_of_words words ≡ Some l → Spells words l
+words-from : From (λ l. name_of l ∷ words_of l) (λ ws. ws) line_of_words
 unfolding line_of_words
-words-from [] l e = absurd cc
-words-from (a ∷ []) l e = absurd cc
-words-from (a ∷ b ∷ []) l e = absurd cc
-words-from (a ∷ b ∷ c ∷ []) l e = absurd cc
-words-from (a ∷ b ∷ c ∷ d ∷ []) l e = four-from a b c d l e
-words-from (a ∷ b ∷ c ∷ d ∷ f ∷ []) l e = absurd cc
-words-from (a ∷ b ∷ c ∷ d ∷ f ∷ g ∷ []) l e = six-from a b c d f g l e
-words-from (a ∷ b ∷ c ∷ d ∷ f ∷ g ∷ h ∷ []) l e = absurd cc
-words-from (a ∷ b ∷ c ∷ d ∷ f ∷ g ∷ h ∷ i ∷ []) l e = absurd cc
-words-from (a ∷ b ∷ c ∷ d ∷ f ∷ g ∷ h ∷ i ∷ j ∷ []) l e = nine-from a b c d f g h i j l e
-words-from (a ∷ b ∷ c ∷ d ∷ f ∷ g ∷ h ∷ i ∷ j ∷ k ∷ more) l e = absurd cc
+words-from =
+    named-from (word-from number-spelled (λ f. mapped-from (FrameOf f) (λ l. refl) frame-from))
+    (named-from (word-from number-spelled (λ v. word-from (below-from gfn_limit) (λ g. word-from (below-from frame_limit) (λ f. end-from refl))))
+    (named-from (word-from number-spelled (λ v. word-from number-spelled (λ n. word-from number-spelled (λ r. end-from refl))))
+    (named-from (word-from number-spelled (λ v. word-from phase-from (λ p. mapped-from (VmOf v p) (λ ends. refl) ends-from)))
+    (named-from (mapped-from FreeOf (λ ends. refl) ends-from)
+    (named-from (word-from number-spelled (λ f. word-from number-spelled (λ c. word-from number-spelled (λ l. end-from refl))))
+    nothing-from)))))
 
 pub line-from : (bytes : List ℕ) (l : DumpLine) → line_read bytes ≡ Some l → bytes ≡ bare l
-line-from bytes l e = sym (join_with_byte-slice_split 32 bytes) ∙ ap (join_with_byte 32) (words-from (slice_split is_space bytes) l e)
+line-from bytes l e = sym (join_with_byte-slice_split 32 bytes) ∙ ap (join_with_byte 32) (words-from.same (slice_split is_space bytes) l e)
+
+-- ---- the first line of a text
+
+pub none-first : (bytes : List ℕ) → IsOneLine bytes → first_bytes bytes ≡ None
+none-first [] one = refl
+none-first (b ∷ bytes) one = let p = and_parts (not (b == 10)) (list_all (λ b. not (b == 10)) bytes) one in rw (not-true (b == 10) p.0, none-first bytes p.1) refl
+
+pub cut-first : (bytes rest : List ℕ) → IsOneLine bytes → first_bytes (bytes ++ 10 ∷ rest) ≡ Some bytes
+cut-first [] rest one = refl
+cut-first (b ∷ bytes) rest one = let p = and_parts (not (b == 10)) (list_all (λ b. not (b == 10)) bytes) one in rw (not-true (b == 10) p.0, cut-first bytes rest p.1) refl
+
+pub spelled-cut : (l : DumpLine) (rest : List ℕ) → spell l ++ rest ≡ bare l ++ 10 ∷ rest
+spelled-cut l rest = ap (λ (s : List ℕ). s ++ rest) (spell-bare l) ∙ append_assoc (bare l) (10 ∷ []) rest
+
+-- the line that a text begins with is its first
+pub first-spelled : (version : Version) (n : ℕ) (l : DumpLine) (rest : List ℕ) → n ≤ frame_limit → in_range version n l ≡ true → first_line (spell l ++ rest) ≡ Some l
+first-spelled version n l rest few is = ap first_line (spelled-cut l rest) ∙ rw (cut-first (bare l) rest (bare-one-line version n few l is)) (line-to version n few l is)
+
+pub read-first : (bytes rest : List ℕ) (l : DumpLine) → line_read bytes ≡ Some l → bytes ++ 10 ∷ rest ≡ spell l ++ rest
+read-first bytes rest l read = ap (λ (b : List ℕ). b ++ 10 ∷ rest) (line-from bytes l read) ∙ sym (spelled-cut l rest)
+
+-- a line has a byte at least
+pub line-bytes : (l : DumpLine) (rest text : List ℕ) → text ≡ spell l ++ rest → length rest < length text
+line-bytes l rest text e = let a = ap length (e ∙ spelled-cut l rest) in let b = length-append (bare l) (10 ∷ rest) in omega (arith, a, b)
+
+-- the newlines of a text are those of its lines
+one-newline : (bytes rest : List ℕ) → IsOneLine bytes → newlines (bytes ++ 10 ∷ rest) ≡ newlines rest + 1
+one-newline [] rest one = omega arith
+one-newline (b ∷ bytes) rest one = let p = and_parts (not (b == 10)) (list_all (λ b. not (b == 10)) bytes) one in rw (not-true (b == 10) p.0) (let h = one-newline bytes rest p.1 in omega (arith, h))
+
+pub line-newlines : (version : Version) (n : ℕ) (lines : List DumpLine) → n ≤ frame_limit → list_all (in_range version n) lines ≡ true → newlines (flat_map spell lines) ≡ length lines
+line-newlines version n [] few each = refl
+line-newlines version n (l ∷ lines) few each =
+    let p = and_parts (in_range version n l) _ each in
+    let a : newlines (spell l ++ flat_map spell lines) ≡ newlines (flat_map spell lines) + 1 = ap newlines (spelled-cut l (flat_map spell lines)) ∙ one-newline (bare l) (flat_map spell lines) (bare-one-line version n few l p.0) in
+    let b = line-newlines version n lines few p.1 in
+    omega (arith, a, b)

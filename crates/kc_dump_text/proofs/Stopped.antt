@@ -1,128 +1,103 @@
--- Where no section goes on, no dump does.
-use Rattle.std.proofs.Common.{ℕ, ◌≡◌, ◌<◌, ◌≤◌, ◌+◌, ◌-◌, true, false, ◌&&◌, ◌||◌, nat_lt, nat_le, List, [], ◌∷◌, ◌++◌, length, get_or, Some, refl, sym, ap, subst, ◌∙◌, append_assoc, arith, inl, inr, length-append, eq-eqb, suc, Bool}
+-- Where no line may come, no dump goes on.
+use Rattle.std.proofs.Common.{ℕ, zero, suc, ◌≡◌, ◌<◌, ◌≤◌, ◌+◌, ◌-◌, Bool, true, false, ◌&&◌, nat_lt, List, [], ◌∷◌, ◌++◌, length, replicate, Some, refl, sym, ap, subst, ◌∙◌, append_assoc, arith, inl, inr, eq-eqb}
 use Rattle.std.specs.Prelude.{◌==◌, ◌⊎◌, not}
-use Rattle.std.specs.List.{flat_map}
-use Rattle.std.proofs.lemmas.Bool.{or_left, or_right, and_parts, and_from, eqb-true, lt-ltb, le-leb, eqb-false, ne_eqb, not-true, ltb-true, ltb-false, cases_Bool, cases_eq}
-use Rattle.std.proofs.lemmas.List.{append-nil, nil_from_length, get_or_append_left}
-use Rattle.std.proofs.Math.Seq.{get_or-append_seam}
-use Rattle.kc_types.specs.Limits.{leaf_limit, leaf_entries}
-use Rattle.kc_types.specs.Configuration.{most_frames, slots_of}
+use Rattle.std.specs.List.{flat_map, list_all, filter_map}
+use Rattle.std.proofs.lemmas.Bool.{and_parts, and_from, eqb-true, lt-ltb, le-leb, eqb-false, ne_eqb, not-true, ltb-true, ltb-false, cases_Bool}
+use Rattle.std.proofs.lemmas.List.{append-nil, nil_from_length}
+use Rattle.kc_types.specs.Limits.{frame_limit}
+use Rattle.kc_types.specs.Configuration.{slots_of}
 use Rattle.kc_types.specs.declared.version.Version.{Version}
 use Rattle.kc_types.specs.declared.version.Version.TheVariants.{One, Two}
 use Rattle.kc_types.specs.declared.link.Ends.{Ends}
+use Rattle.kc_types.specs.declared.slot.Phase.TheVariants.{Empty}
 use Rattle.kc_dump.specs.declared.line.FrameLine.{FrameLine}
-use Rattle.kc_dump.specs.Ranges.{are_ends, is_entry, is_frame, IsDump}
-use Rattle.kc_dump.specs.Dump.{Dumped, SlotDump, slot_dump_at, empty_dump, no_ends, absent_line}
+use Rattle.kc_dump.specs.Ranges.{are_ends, is_frame}
+use Rattle.kc_dump.specs.Dump.{Dumped, absent_line, no_ends}
+use Rattle.kc_dump_text.specs.declared.place.Place.{Place}
 use Rattle.kc_dump_text.specs.declared.dump_line.DumpLine.{DumpLine}
-use Rattle.kc_dump_text.specs.declared.dump_line.DumpLine.TheVariants.{SizeOf, FreeOf, VmOf, LeafOf, EntryOf, FrameOf}
+use Rattle.kc_dump_text.specs.declared.dump_line.DumpLine.TheVariants.{SizeOf, FreeOf, VmOf, FrameOf}
 use Rattle.kc_dump_text.specs.declared.fault.DumpFault.TheVariants.{BadLine, Frame}
-use Rattle.kc_dump_text.specs.DumpText.{spell, made, vm_of, dump_lines, rest_of}
-use Rattle.kc_dump_text.specs.Refused.{GoesOn, Starts, DumpStopsFor, LacksFrame}
-use Rattle.kc_dump_text.specs.Begun.{is_size, nothing, IsBegun, begun_lines}
-use Rattle.kc_dump_text.specs.Sections.{first_line, newlines, begins, is_free, is_vm, is_leaf, is_next_entry, is_frame_of, is_other, HasNone, HasOther, NoLeaves, NoEntries, LastLeaf, LastEntry, ReadsOn, VmsRead, FramesRead, IsTextOf}
-use Rattle.kc_dump_text.proofs.Limits.{few-frames}
-use Rattle.kc_dump_text.proofs.FirstLine.{first-spelled}
-use Rattle.kc_dump_text.proofs.Fitting.{AllFit, first-fit, second-fit, dump-fits, frame-of}
-use Rattle.kc_dump_text.proofs.Newlines.{line-newlines}
-use Rattle.kc_dump_text.proofs.Growing.{no-leaf-lines, no-entry-lines}
-use Rattle.kc_dump_text.proofs.Completed.{Goes, zero-frame, frame-due, goes-frames, with-slots, is-dump, sizes-are}
-use Rattle.kc_dump_text.proofs.Split.{Next, done, leaf, entry, frame, next-line, sizes-alike, vm-due}
+use Rattle.kc_dump_text.specs.DumpText.{spell, dump_lines, rest_of}
+use Rattle.kc_dump_text.specs.Places.{is_size, is_free, in_range, is_other, may, behind, start, chain, end}
+use Rattle.kc_dump_text.specs.Refused.{GoesOn, Starts, DumpStopsAt, DumpStopsFor, LacksFrame}
+use Rattle.kc_dump_text.specs.Begun.{first_line, newlines, begins, HasNone, HasOther, nothing, with_line, begun_lines, IsPlace, IsAt, IsBegun, IsTextOf}
+use Rattle.kc_dump_text.proofs.ReadLines.{first-spelled, line-newlines}
+use Rattle.kc_dump_text.proofs.Chains.{may-parts, may-from, chain-range, chain-behind, all-behind, few-of, dump-range, dump-chain, is-dump}
+use Rattle.kc_dump_text.proofs.Growing.{begun-more}
+use Rattle.kc_dump_text.proofs.Followed.{frame, frames-picked}
 
-clash : (b : Bool) → b ≡ true → b ≡ false → ⊥
-clash b holds fails = (let e : true ≡ false = sym holds ∙ fails in absurd cc)
+-- ---- each dump begun is the beginning of a dump
+
+-- a frame of the core, all zeros
+abbrev zero-frame : FrameLine
+zero-frame = record absent_line { digest = replicate 32 0 }
+
+module _ (version : Version) (n : ℕ) where
+  abbrev pub Goes : List DumpLine → Type 0
+  Goes lines = (d : Dumped) × (next : List DumpLine) × GoesOn version lines d next
+
+  -- with one line more, and what follows that
+  more : (d : Dumped) (place : Place) (l : DumpLine) → IsBegun version n d place → may version n place l ≡ true → (IsBegun version n (with_line d l) (behind place l) → Goes (begun_lines n (with_line d l))) → (e : Dumped) × (next : List DumpLine) × GoesOn version (begun_lines n d) e (l ∷ next)
+  more d place l b is rest =
+      let a = begun-more version n d place l b is in
+      let g = rest a.0 in
+      (g.0, g.1, record { range = g.2.range; same = g.2.same; spelled = g.2.spelled ∙ ap (λ (ls : List DumpLine). ls ++ g.1) a.1 ∙ append_assoc (begun_lines n d) (l ∷ []) g.1 })
+
+  zero-may : (d : Dumped) (place : Place) → IsBegun version n d place → place.vm ≡ slots_of version → place.frame < n → may version n place (FrameOf place.frame zero-frame) ≡ true
+  zero-may d place b all low = may-from version n place (FrameOf place.frame zero-frame) b.right.order (and_from _ _ (eq-eqb _ _ all) (eq-eqb _ _ refl)) (and_from _ _ (lt-ltb place.frame n low) refl)
+
+  -- with slots without a VM, and then frames of the core, so many lines
+  goes : (k : ℕ) (d : Dumped) (place : Place) → IsBegun version n d place → (slots_of version - place.vm) + (n - place.frame) ≡ k → Goes (begun_lines n d)
+  goes zero d place b left =
+      let few = b.right.slots in
+      let frames : length d.frames ≡ n = (let f = b.right.frames in let a = b.here.frames in omega (arith, f, left, a)) in
+      (d, [], record { range = is-dump version n d b.same frames b.sizes b.free (b.here.slots ∙ omega (arith, few, left)) b.chain; same = b.same; spelled = ap (λ m. begun_lines m d) frames ∙ sym (append-nil (begun_lines n d)) })
+  goes (suc k) d place b left = elim (cases_Bool (nat_lt place.vm (slots_of version))) [
+    | inl h ↦
+        let l : DumpLine = VmOf place.vm Empty no_ends in
+        let low = ltb-true place.vm (slots_of version) h in
+        let order = b.right.early low in
+        let g = more d place l b (may-from version n place l (omega (arith, order)) (eq-eqb _ _ refl) (and_from _ _ h (le-leb 0 n (omega arith)))) (λ c. goes k (with_line d l) (behind place l) c (omega (arith, left, low))) in
+        (g.0, l ∷ g.1, g.2)
+    | inr h ↦
+        let l : DumpLine = FrameOf place.frame zero-frame in
+        let all : place.vm ≡ slots_of version = (let few = b.right.slots in let a = ltb-false place.vm (slots_of version) h in omega (arith, a, few)) in
+        let low : place.frame < n = omega (arith, all, left) in
+        let g = more d place l b (zero-may d place b all low) (λ c. goes k (with_line d l) (behind place l) c (omega (arith, left, low))) in
+        (g.0, l ∷ g.1, g.2)
+  ]
+
+-- ---- where no dump goes on
 
 -- a text that goes on with no such line does not begin with one
-none-such : (may : DumpLine → Bool) (rest : List ℕ) (l : DumpLine) → HasNone may rest → first_line rest ≡ Some l → may l ≡ true → ⊥
-none-such may rest l none first is = clash (may l) is (ap (begins may) (sym first) ∙ none)
-
--- the line that a dump goes on with is the first of the text that begins with it
-first-is : (version : Version) (lines : List DumpLine) (d : Dumped) (l : DumpLine) (ls : List DumpLine) (rest : List ℕ) → GoesOn version lines d (l ∷ ls) → Starts rest (l ∷ ls) → first_line rest ≡ Some l
-first-is version lines d l ls rest g s = ap first_line s.1 ∙ first-spelled l s.0 (second-fit lines (l ∷ ls) (subst AllFit g.spelled (dump-fits d g.range))).0
-
-size-is : (d : Dumped) → IsDump d → is_size d.version (SizeOf (length d.frames) d.core d.leaves) ≡ true
-size-is d is = let n = length d.frames in
-    and_from _ _ (and_from _ _ (and_from _ _ (and_from _ _ (lt-ltb 0 n is.some_frames) (le-leb n (most_frames d.version) is.few_frames)) (le-leb d.core n is.core)) (lt-ltb 0 d.leaves is.some_leaves)) (le-leb d.leaves leaf_limit is.few_leaves)
-
--- no slot yet
-pub begun-none : (version : Version) (n core leaves : ℕ) (free : Ends) → is_size version (SizeOf n core leaves) ≡ true → are_ends n free ≡ true → IsBegun version n (nothing version core leaves free)
-begun-none version n core leaves free size ends =
-    record {
-      same = refl;
-      sizes = size;
-      free = ends;
-      few_slots = omega arith;
-      slots = λ v low. absurd (omega (arith, low));
-      few = omega arith;
-      frames = λ f low. absurd (omega (arith, low));
-    }
-
--- a leaf that follows the others is one that may come next
-leaf-ahead : (slots : List SlotDump) (v m k : ℕ) → LastLeaf slots v m → NoLeaves (k + 1) slots
-    → ((k == v) && (length (get_or slots k empty_dump).leaves == m)) || (nat_lt v k && (length (get_or slots k empty_dump).leaves == 0)) ≡ true
-leaf-ahead slots v m k last bare =
-    elim (cases_eq k v) [
-      | inl here ↦ or_left _ _ (and_from _ _ (eq-eqb k v here) (eq-eqb _ m (ap (λ j. length (get_or slots j empty_dump).leaves) here ∙ last.count)))
-      | inr apart ↦ elim (cases_Bool (nat_lt v k)) [
-        | inl past ↦ or_right _ _ (and_from _ _ past (eq-eqb _ 0 (ap length (last.bare k (let a = ltb-true v k past in omega (arith, a))))))
-        | inr before ↦
-            let high = ltb-false v k before in
-            let none : m ≡ 0 = sym last.count ∙ ap length (bare v (omega (arith, apart, high))) in
-            elim last.some [
-              | inl zero_v ↦ absurd (omega (arith, zero_v, apart, high))
-              | inr some ↦ absurd (omega (arith, none, some))
-            ]
-      ]
-    ]
-
--- the same of an entry
-entry-ahead : (slots : List SlotDump) (v least k : ℕ) (y : ℕ × ℕ) (more es : List (ℕ × ℕ)) → LastEntry slots v least → NoEntries (k + 1) slots → es ≡ (get_or slots k empty_dump).entries ++ y ∷ more
-    → ((i : ℕ) → suc i < length es → (get_or es i (0, 0)).0 < (get_or es (suc i) (0, 0)).0) → nat_lt v k || ((k == v) && nat_le least y.0) ≡ true
-entry-ahead slots v least k y more es last bare e rising =
-    elim (cases_eq k v) [
-      | inl here ↦ or_right _ _ (and_from _ _ (eq-eqb k v here) (le-leb least y.0 (high (get_or slots v empty_dump).entries refl (e ∙ ap (λ j. (get_or slots j empty_dump).entries ++ y ∷ more) here))))
-      | inr apart ↦ elim (cases_Bool (nat_lt v k)) [
-        | inl past ↦ or_left _ _ past
-        | inr before ↦ let at_or_before = ltb-false v k before in let z = (last.first (bare v (omega (arith, apart, at_or_before)))).0 in absurd (omega (arith, z, apart, at_or_before))
-      ]
-    ]
-  where
-    high : (xs : List (ℕ × ℕ)) → (get_or slots v empty_dump).entries ≡ xs → es ≡ (get_or slots v empty_dump).entries ++ y ∷ more → least ≤ y.0
-    high [] is e = let z = (last.first is).1 in omega (arith, z)
-    high (x ∷ xs) is e =
-        let m = length xs in
-        let ys = (get_or slots v empty_dump).entries in
-        let long : suc m ≡ length ys = sym (ap length is) in
-        let a = last.last m long in
-        let b = length-append ys (y ∷ more) in
-        let c = ap length e in
-        let at_m : get_or es m (0, 0) ≡ get_or ys m (0, 0) = ap (λ (zs : List (ℕ × ℕ)). get_or zs m (0, 0)) e ∙ get_or_append_left ys (y ∷ more) (0, 0) m (omega (arith, long)) in
-        let at_next : get_or es (suc m) (0, 0) ≡ y = ap (λ (zs : List (ℕ × ℕ)). get_or zs (suc m) (0, 0)) e ∙ ap (λ i. get_or (ys ++ y ∷ more) i (0, 0)) long ∙ get_or-append_seam ys y more (0, 0) in
-        let r = rising m (omega (arith, long, b, c)) in
-        let p = ap (λ (z : ℕ × ℕ). z.0) at_m in
-        let q = ap (λ (z : ℕ × ℕ). z.0) at_next in
-        omega (arith, a, r, p, q)
+none-such : (is : DumpLine → Bool) (rest : List ℕ) (l : DumpLine) → HasNone is rest → first_line rest ≡ Some l → is l ≡ true → ⊥
+none-such is rest l none first holds = let e : true ≡ false = sym holds ∙ ap (begins is) (sym first) ∙ none in absurd cc
 
 module _ (version : Version) (text : List ℕ) where
-  -- a dump goes on with such a line alone, and it is of no frame
-  stops-by : (lines : List DumpLine) (rest : List ℕ) (m : ℕ) (may : DumpLine → Bool) → ((f : ℕ) (line : FrameLine) → may (FrameOf f line) ≡ false) → text ≡ flat_map spell lines ++ rest → ((d : Dumped) × (next : List DumpLine) × GoesOn version lines d next) → HasNone may rest
-      → ((d : Dumped) (next : List DumpLine) → GoesOn version lines d next → (l : DumpLine) × (ls : List DumpLine) × (next ≡ l ∷ ls) × (may l ≡ true)) → m ≡ length lines + 2 → DumpStopsFor version text (BadLine m)
-  stops-by lines rest m may no-frame whole goes none due count = record { lines = lines; rest = rest; stops = record { whole = whole; begun = goes; stuck = stuck }; why = (count, lacks) }
-    where
-      stuck : (d : Dumped) (next : List DumpLine) → GoesOn version lines d next → Starts rest next → ⊥
-      stuck d next on s = let x = due d next on in none-such may rest x.0 none (first-is version lines d x.0 x.1 rest (subst (GoesOn version lines d) x.2 on) (subst (Starts rest) x.2 s)) x.3
-
-      lacks : (f : ℕ) → LacksFrame version lines rest f → ⊥
-      lacks f l = let x = due l.dump (FrameOf f l.frame ∷ l.next) l.due in let e = x.2 in let same : FrameOf f l.frame ≡ x.0 = cc in clash (may x.0) x.3 (subst (λ k. may k ≡ false) same (no-frame f l.frame))
-
-  -- lines that some dump begins with have as many newlines
-  counted : (lines : List DumpLine) (m : ℕ) → ((d : Dumped) × (next : List DumpLine) × GoesOn version lines d next) → m ≡ newlines (flat_map spell lines) + 2 → m ≡ length lines + 2
-  counted lines m goes is = let a = line-newlines lines (first-fit lines goes.1 (subst AllFit goes.2.spelled (dump-fits goes.0 goes.2.range))) in omega (arith, a, is)
+  -- a dump goes on with such a line, or with nothing where there is more
+  stops : (n : ℕ) (lines : List DumpLine) (rest : List ℕ) (is : DumpLine → Bool) → text ≡ flat_map spell lines ++ rest → Goes version n lines → HasNone is rest
+      → ((d : Dumped) (next : List DumpLine) → GoesOn version lines d next → ((next ≡ []) × (rest ≡ [] → ⊥)) ⊎ ((l : DumpLine) × (ls : List DumpLine) × (next ≡ l ∷ ls) × (is l ≡ true))) → DumpStopsAt version text lines rest
+  stops n lines rest is whole goes none due = record {
+    whole = whole;
+    begun = goes;
+    stuck = λ d next on s. elim (due d next on) [
+      | inl h ↦ h.1 (subst (Starts rest) h.0 s)
+      | inr h ↦
+          let t = subst (Starts rest) h.2 s in
+          none-such is rest h.0 none (ap first_line t.1 ∙ first-spelled d.version (length d.frames) h.0 t.0 (few-of d on.range) (and_parts (in_range d.version (length d.frames) h.0) _ (all-behind _ lines (h.0 ∷ h.1) (subst (λ ls. list_all (in_range d.version (length d.frames)) ls ≡ true) (on.spelled ∙ ap (λ (ls : List DumpLine). lines ++ ls) h.2) (dump-range d on.range)))).0) h.3
+    ];
+  }
 
   -- ---- the two first lines
 
-  empty-goes : (n core leaves : ℕ) → is_size version (SizeOf n core leaves) ≡ true → Goes version n (begun_lines n (nothing version core leaves no_ends))
-  empty-goes n core leaves size =
-      with-slots version n (slots_of version) (nothing version core leaves no_ends) (begun-none version n core leaves no_ends size (le-leb 0 n (omega arith))) (omega arith) (λ k l. refl) (λ k l. refl) refl
+  pub begun-none : (n core leaves : ℕ) (ends : Ends) → is_size version (SizeOf n core leaves) ≡ true → are_ends n ends ≡ true → IsBegun version n (nothing version core leaves ends) start
+  begun-none n core leaves ends size free =
+      let right : IsPlace version n start = record { order = omega arith; slots = omega arith; frames = omega arith; early = λ l. refl } in
+      let here : IsAt (nothing version core leaves ends) start = record { slots = refl; leaves = λ k l. refl; count = refl; entries = λ k l. refl; frames = refl; before_leaves = λ s k l. refl; before_entries = λ s k l. refl; before_frames = λ s. refl } in
+      record { same = refl; sizes = size; free = free; chain = refl; behind = refl; right = right; here = here }
+
+  bare-goes : (n core leaves : ℕ) → is_size version (SizeOf n core leaves) ≡ true → Goes version n (begun_lines n (nothing version core leaves no_ends))
+  bare-goes n core leaves size = goes version n _ (nothing version core leaves no_ends) start (begun-none n core leaves no_ends size (le-leb 0 n (omega arith))) refl
 
   smallest : (v : Version) → is_size v (SizeOf 1 0 1) ≡ true
   smallest One = refl
@@ -130,162 +105,106 @@ module _ (version : Version) (text : List ℕ) where
 
   pub no-size : HasNone (is_size version) text → DumpStopsFor version text (BadLine 2)
   no-size none =
-      let g = empty-goes 1 0 1 (smallest version) in
-      stops-by [] text 2 (is_size version) (λ f line. refl) refl (g.0, dump_lines g.0, record { range = g.2.range; same = g.2.same; spelled = refl }) none
-      (λ d next on. (SizeOf (length d.frames) d.core d.leaves, FreeOf d.free ∷ rest_of d, sym on.spelled, subst (λ v. is_size v (SizeOf (length d.frames) d.core d.leaves) ≡ true) on.same (size-is d on.range))) refl
+      let g = bare-goes 1 0 1 (smallest version) in
+      let stuck = stops 1 [] text (is_size version) refl (g.0, dump_lines g.0, record { range = g.2.range; same = g.2.same; spelled = refl }) none
+      (λ d next on. inr (SizeOf (length d.frames) d.core d.leaves, FreeOf d.free ∷ rest_of d, sym on.spelled, subst (λ v. is_size v (SizeOf (length d.frames) d.core d.leaves) ≡ true) on.same (and_parts (is_size d.version (SizeOf (length d.frames) d.core d.leaves)) _ (dump-range d on.range)).0)) in
+      record { lines = []; rest = text; stops = stuck; why = (refl, λ f l. (let e = l.due.spelled in absurd cc)) }
 
   pub no-free : (n core leaves : ℕ) (rest : List ℕ) → text ≡ spell (SizeOf n core leaves) ++ rest → is_size version (SizeOf n core leaves) ≡ true → HasNone (is_free n) rest → DumpStopsFor version text (BadLine 3)
   no-free n core leaves rest whole size none =
-      let g = empty-goes n core leaves size in
-      stops-by (SizeOf n core leaves ∷ []) rest 3 (is_free n) (λ f line. refl) (whole ∙ ap (λ (s : List ℕ). s ++ rest) (sym (append-nil (spell (SizeOf n core leaves))))) (g.0, FreeOf no_ends ∷ g.1, record { range = g.2.range; same = g.2.same; spelled = g.2.spelled }) none
-      (λ d next on. (let e = on.spelled in let same : length d.frames ≡ n = cc in (FreeOf d.free, rest_of d, cc, subst (λ m. are_ends m d.free ≡ true) same on.range.free))) refl
+      let g = bare-goes n core leaves size in
+      let lines = SizeOf n core leaves ∷ [] in
+      let stuck = stops n lines rest (is_free n) (whole ∙ ap (λ (s : List ℕ). s ++ rest) (sym (append-nil (spell (SizeOf n core leaves))))) (g.0, FreeOf no_ends ∷ g.1, record { range = g.2.range; same = g.2.same; spelled = g.2.spelled }) none
+      (λ d next on. (let e = on.spelled in let same : length d.frames ≡ n = cc in inr (FreeOf d.free, rest_of d, cc, subst (λ m. are_ends m d.free ≡ true) same on.range.free))) in
+      record { lines = lines; rest = rest; stops = stuck; why = (refl, λ f l. (let e = l.due.spelled in absurd cc)) }
 
-  -- ---- the slots
+  -- ---- the lines behind them
 
-  module _ (n : ℕ) (p : Dumped) (rest : List ℕ) (whole : text ≡ flat_map spell (begun_lines n p) ++ rest) where
-    abbrev On : Dumped → List DumpLine → Type 0
-    On d next = GoesOn version (begun_lines n p) d next
+  module _ (n : ℕ) (p : Dumped) (place : Place) (rest : List ℕ) (b : IsBegun version n p place) (whole : text ≡ flat_map spell (begun_lines n p) ++ rest) where
+    -- a dump that goes on has as many frames, and its next lines may come
+    goes-on : (d : Dumped) (next : List DumpLine) → GoesOn version (begun_lines n p) d next → (length d.frames ≡ n) × (rest_of d ≡ rest_of p ++ next) × (chain version n place next ≡ true)
+    goes-on d next on =
+        let e = on.spelled in
+        let long : length d.frames ≡ n = cc in
+        let lines : rest_of d ≡ rest_of p ++ next = cc in
+        let all : chain version n start (rest_of d) ≡ true = subst (λ w. chain w n start (rest_of d) ≡ true) on.same (subst (λ m. chain d.version m start (rest_of d) ≡ true) long (dump-chain d on.range)) in
+        (long, lines, rw b.behind at (chain-behind version n start (rest_of p) next (subst (λ ls. chain version n start ls ≡ true) lines all)))
 
-    pub no-vm : (m : ℕ) → VmsRead version n p rest → length p.slots < slots_of version → m ≡ newlines (flat_map spell (begun_lines n p)) + 2 → DumpStopsFor version text (BadLine m)
-    no-vm m read low count =
-        let goes = with-slots version n (slots_of version - length p.slots) p read.begun (let few = read.begun.few_slots in omega (arith, few)) read.leaves read.entries read.frames in
-        stops-by (begun_lines n p) rest m (is_vm version n (length p.slots)) (λ f line. refl) whole goes read.none due (counted (begun_lines n p) m goes count)
-      where
-        due : (d : Dumped) (next : List DumpLine) → On d next → (l : DumpLine) × (ls : List DumpLine) × (next ≡ l ∷ ls) × (is_vm version n (length p.slots) l ≡ true)
-        due d next on =
-            let k = length p.slots in
-            let slot = slot_dump_at d k in
-            let bare : rest_of p ≡ made vm_of 0 p.slots = rw (no-leaf-lines p.slots read.leaves, no-entry-lines p.slots read.entries, read.frames) (append-nil (made vm_of 0 p.slots)) in
-            let long = on.range.slots in
-            let v = ap slots_of on.same in
-            let alike = sizes-alike n p d next on.spelled in
-            let x = vm-due 0 p.slots d.slots next _ (omega (arith, low, long, v)) (ap (λ (ls : List DumpLine). ls ++ next) (sym bare) ∙ alike.4) in (
-              VmOf (0 + k) slot.phase slot.list,
-              x.0,
-              x.1,
-              and_from _ _ (and_from _ _ (eq-eqb (0 + k) k (omega arith)) (lt-ltb k (slots_of version) low)) (subst (λ m. are_ends m slot.list ≡ true) alike.0 (on.range.lists k (omega (arith, low, long, v)))),
-            )
+    -- one that ends there has no slot and no frame more
+    ended : (d : Dumped) → GoesOn version (begun_lines n p) d [] → (place.vm ≡ slots_of version) × (place.frame ≡ n)
+    ended d on =
+        let g = goes-on d [] on in
+        let size = g.0 in
+        let some = on.range.some_frames in
+        let frames : d.frames ≡ p.frames = sym (frames-picked d) ∙ ap (filter_map frame) (g.1 ∙ append-nil (rest_of p)) ∙ frames-picked p in
+        let all : place.vm ≡ slots_of version = elim (cases_Bool (nat_lt place.vm (slots_of version))) [ inl h ↦ let z = b.right.early (ltb-true place.vm (slots_of version) h) in let none : length d.frames ≡ 0 = ap length (frames ∙ b.here.before_frames (omega (arith, z))) in absurd (omega (arith, none, some)) | inr h ↦ omega (arith, b.right.slots, ltb-false place.vm (slots_of version) h) ] in
+        (all, sym b.here.frames ∙ ap length (sym frames) ∙ size)
 
-    -- ---- leaves, entries and frames
-
-    module _ (read : FramesRead version n p rest) where
-      behind : (d : Dumped) (next : List DumpLine) → On d next → Next p d next
-      behind d next on = next-line p d (read.begun.same ∙ sym on.same) (read.slots ∙ ap slots_of (sym on.same) ∙ sym on.range.slots) n next on.spelled
-
-      sized : (d : Dumped) (next : List DumpLine) → On d next → length d.frames ≡ n
-      sized d next on = (sizes-alike n p d next on.spelled).0
-
-      low-frame : (d : Dumped) (next : List DumpLine) (y : FrameLine) (more : List FrameLine) → On d next → d.frames ≡ p.frames ++ y ∷ more → length p.frames < n
-      low-frame d next y more on e = let a = sized d next on in let b = ap length e in let c = length-append p.frames (y ∷ more) in omega (arith, a, b, c)
-
-      -- a dump goes on with no line that the rest begins with
-      pub stuck : ((length p.frames ≡ n) → rest ≡ [] → ⊥) → (d : Dumped) (next : List DumpLine) → On d next → Starts rest next → ⊥
-      stuck more-to-come d next on s = by_next (behind d next on)
+    module _ (none : HasNone (may version n place) rest) where
+      none-goes : Goes version n (begun_lines n p) → (place.vm ≡ slots_of version → place.frame ≡ n → rest ≡ [] → ⊥) → DumpStopsAt version text (begun_lines n p) rest
+      none-goes goes more = stops n (begun_lines n p) rest (may version n place) whole goes none due
         where
-          first : (l : DumpLine) (r : List DumpLine) → next ≡ l ∷ r → first_line rest ≡ Some l
-          first l r e = first-is version (begun_lines n p) d l r rest (subst (On d) e on) (subst (Starts rest) e s)
-
-          in-slots : (k : ℕ) → k < length p.slots → k < length d.slots
-          in-slots k low = let a = on.range.slots in let b = ap slots_of on.same in let c = read.slots in omega (arith, low, a, b, c)
-
-          by_next : Next p d next → ⊥
-          by_next (done none alike) = more-to-come (ap (λ (e : Dumped). length e.frames) alike ∙ sized d next on) (subst (Starts rest) none s)
-          by_next (frame y more r e q) =
-              let f = length p.frames in
-              let low = low-frame d next y more on e in
-              let here : get_or d.frames f absent_line ≡ y = ap (λ (fs : List FrameLine). get_or fs f absent_line) e ∙ get_or-append_seam p.frames y more absent_line in
-              let is : is_frame d.version (length d.frames) (get_or d.frames f absent_line) ≡ true = on.range.frames f (let a = sized d next on in omega (arith, a, low)) in
-              none-such (is_frame_of version n f) rest (FrameOf f y) read.frame (first _ r q)
-              (and_from _ _ (and_from _ _ (eq-eqb f f refl) (lt-ltb f n low)) (rw (sym here, sym on.same, sym (sized d next on)) is))
-          by_next (leaf k y more r low e bare none frames q) =
-              let x = read.leaf frames none in
-              let m = length (slot_dump_at p k).leaves in
-              let small : get_or (slot_dump_at d k).leaves m 0 < leaf_entries = on.range.roots k m (in-slots k low) (let b = ap length e in let c = length-append (slot_dump_at p k).leaves (y ∷ more) in omega (arith, b, c)) in
-              let here : get_or (slot_dump_at d k).leaves m 0 ≡ y = ap (λ (ys : List ℕ). get_or ys m 0) e ∙ get_or-append_seam (slot_dump_at p k).leaves y more 0 in
-              none-such (is_leaf version x.0 x.1) rest (LeafOf k m y) x.3 (first _ r q)
-              (and_from _ _ (and_from _ _ (lt-ltb k (slots_of version) (let c = read.slots in omega (arith, low, c))) (lt-ltb y leaf_entries (subst (λ z. z < leaf_entries) here small))) (leaf-ahead p.slots x.0 x.1 k x.2 bare))
-          by_next (entry k y more r low e bare frames q) =
-              let x = read.entry frames in
-              let m = length (slot_dump_at p k).entries in
-              let long = (let b = ap length e in let c = length-append (slot_dump_at p k).entries (y ∷ more) in let l : m < length (slot_dump_at d k).entries = omega (arith, b, c) in l) in
-              let here : get_or (slot_dump_at d k).entries m (0, 0) ≡ y = ap (λ (ys : List (ℕ × ℕ)). get_or ys m (0, 0)) e ∙ get_or-append_seam (slot_dump_at p k).entries y more (0, 0) in
-              let is : is_entry d.version (length d.frames) k (get_or (slot_dump_at d k).entries m (0, 0)) ≡ true = on.range.entries k m (in-slots k low) long in
-              none-such (is_next_entry version n x.0 x.1) rest (EntryOf k y) x.3 (first _ r q)
-              (and_from _ _ (rw (sym here, sym on.same, sym (sized d next on)) is) (entry-ahead p.slots x.0 x.1 k y more (slot_dump_at d k).entries x.2 bare e (λ i l. on.range.rising k i (in-slots k low) l)))
-
-      -- nothing is missing
-      pub all-read : (length p.frames == n && length rest == 0) ≡ true → IsTextOf version text p
-      all-read is =
-          let both = and_parts (length p.frames == n) (length rest == 0) is in
-          let all = eqb-true (length p.frames) n both.0 in
-          let none = nil_from_length rest (eqb-true (length rest) 0 both.1) in
-          record {
-            whole = whole ∙ ap (λ (r : List ℕ). flat_map spell (begun_lines n p) ++ r) none ∙ append-nil (flat_map spell (begun_lines n p)) ∙ ap (λ m. flat_map spell (begun_lines m p)) (sym all);
-            range = is-dump version n p read.begun read.slots all;
-            same = read.begun.same;
-          }
-
-      goes : (d : Dumped) × (next : List DumpLine) × On d next
-      goes = goes-frames version n p read.begun read.slots
+          due : (d : Dumped) (next : List DumpLine) → GoesOn version (begun_lines n p) d next → ((next ≡ []) × (rest ≡ [] → ⊥)) ⊎ ((l : DumpLine) × (ls : List DumpLine) × (next ≡ l ∷ ls) × (may version n place l ≡ true))
+          due d [] on = let e = ended d on in inl (refl, more e.0 e.1)
+          due d (l ∷ ls) on = inr (l, ls, refl, (and_parts (may version n place l) _ (goes-on d (l ∷ ls) on).2).0)
 
       -- the line of the next frame is due
-      pub frame-missing : length p.frames < n → (rest ≡ []) ⊎ HasOther version n (length p.frames) rest → DumpStopsFor version text (Frame (length p.frames))
-      frame-missing low why =
-          let due = frame-due version n p read.begun read.slots low in
-          let size = sized due.0 (FrameOf (length p.frames) zero-frame ∷ due.1) due.2 in
-          record {
-            lines = begun_lines n p;
-            rest = rest;
-            stops = record { whole = whole; begun = goes; stuck = stuck (λ all none. omega (arith, all, low)) };
-            why = record {
-              dump = due.0;
-              frame = zero-frame;
-              next = due.1;
-              due = due.2;
-              why = elim why [
-                | inl none ↦ inl none
-                | inr x ↦
-                    let t = and_parts (not (x.0 == length p.frames) && nat_lt x.0 n) (is_frame version n x.1) x.4 in
-                    let u = and_parts (not (x.0 == length p.frames)) (nat_lt x.0 n) t.0 in
-                    let within = ltb-true x.0 n u.1 in
-                    inr (x.0, x.1, x.2, x.3, omega (arith, size, within), subst (λ m. is_frame version m x.1 ≡ true) (sym size) t.1, eqb-false x.0 (length p.frames) (not-true (x.0 == length p.frames) u.0))
-              ];
-            };
-          }
+      pub frame-missing : place.vm ≡ slots_of version → place.frame < n → (rest ≡ []) ⊎ HasOther version n place.frame rest → DumpStopsFor version text (Frame place.frame)
+      frame-missing all low why =
+          let f = place.frame in
+          let next = more version n p place (FrameOf f zero-frame) b (zero-may version n p place b all low) (λ c. goes version n _ (with_line p (FrameOf f zero-frame)) (behind place (FrameOf f zero-frame)) c refl) in
+          let size = (goes-on next.0 (FrameOf f zero-frame ∷ next.1) next.2).0 in
+          let why : (rest ≡ []) ⊎ ((other : ℕ) × (line : FrameLine) × (more : List ℕ) × (rest ≡ spell (FrameOf other line) ++ more) × (other < length next.0.frames) × (is_frame version (length next.0.frames) line ≡ true) × (other ≡ f → ⊥)) = elim why [
+            | inl end ↦ inl end
+            | inr x ↦
+                let t = and_parts (not (x.0 == f) && nat_lt x.0 n) (is_frame version n x.1) x.4 in
+                let u = and_parts (not (x.0 == f)) (nat_lt x.0 n) t.0 in
+                inr (x.0, x.1, x.2, x.3, omega (arith, size, ltb-true x.0 n u.1), subst (λ m. is_frame version m x.1 ≡ true) (sym size) t.1, eqb-false x.0 f (not-true (x.0 == f) u.0))
+          ] in
+          record { lines = begun_lines n p; rest = rest; stops = none-goes (next.0, FrameOf f zero-frame ∷ next.1, next.2) (λ all end none. omega (arith, end, low)); why = record { dump = next.0; frame = zero-frame; next = next.1; due = next.2; why = why } }
 
-      pub bad-line : (m : ℕ) → m ≡ newlines (flat_map spell (begun_lines n p)) + 2 → (length p.frames == n && length rest == 0) ≡ false → (length p.frames < n → (rest ≡ [] → ⊥) × HasNone (is_other version n (length p.frames)) rest) → DumpStopsFor version text (BadLine m)
-      bad-line m count more none = record {
-        lines = begun_lines n p;
-        rest = rest;
-        stops = record { whole = whole; begun = goes; stuck = stuck (λ all end. clash _ (and_from _ _ (eq-eqb (length p.frames) n all) (eq-eqb (length rest) 0 (ap length end))) more) };
-        why = (counted (begun_lines n p) m goes count, lacks);
-      }
+      -- none is, or the rest is of another kind
+      pub bad-line : (m : ℕ) → m ≡ newlines (flat_map spell (begun_lines n p)) + 2 → (place.vm == slots_of version && place.frame == n && length rest == 0) ≡ false
+          → (place.vm ≡ slots_of version → place.frame < n → (rest ≡ [] → ⊥) × HasNone (is_other version n place.frame) rest) → DumpStopsFor version text (BadLine m)
+      bad-line m count more others =
+          let g = goes version n _ p place b refl in
+          let size = (goes-on g.0 g.1 g.2).0 in
+          let few : n ≤ frame_limit = (let a = few-of g.0 g.2.range in omega (arith, a, size)) in
+          let lines = line-newlines version n (begun_lines n p) few (and_from _ _ b.sizes (and_from _ _ b.free (chain-range version n start (rest_of p) b.chain))) in
+          let stuck = none-goes g (λ all frames end. (let holds : true ≡ false = sym (and_from _ _ (and_from _ _ (eq-eqb place.vm (slots_of version) all) (eq-eqb place.frame n frames)) (eq-eqb (length rest) 0 (ap length end))) ∙ more in absurd cc)) in
+          record { lines = begun_lines n p; rest = rest; stops = stuck; why = (omega (arith, lines, count), lacks) }
         where
           lacks : (f : ℕ) → LacksFrame version (begun_lines n p) rest f → ⊥
-          lacks f l = by_next (behind l.dump (FrameOf f l.frame ∷ l.next) l.due)
-            where
-              by_next : Next p l.dump (FrameOf f l.frame ∷ l.next) → ⊥
-              by_next (done end alike) = absurd cc
-              by_next (leaf k y more r low e bare entries frames q) = absurd cc
-              by_next (entry k y more r low e bare frames q) = absurd cc
-              by_next (frame y more r e q) =
-                  let low = low-frame l.dump (FrameOf f l.frame ∷ l.next) y more l.due e in
-                  let size = sized l.dump (FrameOf f l.frame ∷ l.next) l.due in
-                  let few = few-frames version n (sizes-are version n n p.core p.leaves read.begun.sizes).few_frames in
-                  let place : f ≡ length p.frames = cc in
-                  elim l.why [
-                    | inl end ↦ (none low).0 end
-                    | inr x ↦
-                        let is : is_frame version n x.1 ≡ true = subst (λ m. is_frame version m x.1 ≡ true) size x.5 in
-                        let within : x.0 < n = (let a = x.4 in omega (arith, size, a)) in
-                        none-such (is_other version n (length p.frames)) rest (FrameOf x.0 x.1) (none low).1 (ap first_line x.3 ∙ first-spelled (FrameOf x.0 x.1) x.2 (omega (arith, within, few), frame-of version n x.1 few is))
-                        (and_from _ _ (and_from _ _ (ap not (ne_eqb x.0 (length p.frames) (λ e. x.6 (e ∙ sym place)))) (lt-ltb x.0 n within)) is)
-                  ]
+          lacks f l =
+              let g = goes-on l.dump (FrameOf f l.frame ∷ l.next) l.due in
+              let m = may-parts version n place (FrameOf f l.frame) (and_parts (may version n place (FrameOf f l.frame)) _ g.2).0 in
+              let q = and_parts (place.vm == slots_of version) (f == place.frame) m.next in
+              let at = eqb-true f place.frame q.1 in
+              let low = ltb-true f n (and_parts (nat_lt f n) _ m.range).0 in
+              let none = others (eqb-true place.vm (slots_of version) q.0) (omega (arith, at, low)) in
+              let size = g.0 in
+              let few : n ≤ frame_limit = (let a = few-of l.dump l.due.range in omega (arith, a, size)) in
+              elim l.why [
+                | inl end ↦ none.0 end
+                | inr y ↦
+                    let is : is_frame version n y.1 ≡ true = subst (λ m. is_frame version m y.1 ≡ true) size y.5 in
+                    let within : nat_lt y.0 n ≡ true = lt-ltb y.0 n (let a = y.4 in omega (arith, size, a)) in
+                    none-such (is_other version n place.frame) rest (FrameOf y.0 y.1) none.1 (ap first_line y.3 ∙ first-spelled version n (FrameOf y.0 y.1) y.2 few (and_from _ _ within is))
+                    (and_from _ _ (and_from _ _ (ap not (ne_eqb y.0 place.frame (λ e. y.6 (e ∙ sym at)))) within) is)
+              ]
 
--- what was read behind the two first lines
-pub read-whole : (n core leaves : ℕ) (free : Ends) (version : Version) (text behind more rest : List ℕ) (p : Dumped) → text ≡ spell (SizeOf n core leaves) ++ behind → behind ≡ spell (FreeOf free) ++ more
-    → ReadsOn n (nothing version core leaves free) more p rest → text ≡ flat_map spell (begun_lines n p) ++ rest
-read-whole n core leaves free version text behind more rest p a b reads = a ∙ ap (λ (s : List ℕ). spell (SizeOf n core leaves) ++ s) b ∙ regrouped (spell (SizeOf n core leaves)) (spell (FreeOf free)) more ∙ sym reads
-  where
-    regrouped : (a b c : List ℕ) → a ++ (b ++ c) ≡ (a ++ (b ++ [])) ++ c
-    regrouped a b c = simp (append_assoc, append-nil)
+    -- nothing is missing
+    pub all-read : (place.vm == slots_of version && place.frame == n && length rest == 0) ≡ true → IsTextOf version text p
+    all-read is =
+        let u = and_parts (place.vm == slots_of version && place.frame == n) (length rest == 0) is in
+        let q = and_parts (place.vm == slots_of version) (place.frame == n) u.0 in
+        let all = b.here.frames ∙ eqb-true place.frame n q.1 in
+        record {
+          whole = whole ∙ ap (λ (r : List ℕ). flat_map spell (begun_lines n p) ++ r) (nil_from_length rest (eqb-true (length rest) 0 u.1)) ∙ append-nil (flat_map spell (begun_lines n p)) ∙ ap (λ m. flat_map spell (begun_lines m p)) (sym all);
+          range = is-dump version n p b.same all b.sizes b.free (b.here.slots ∙ eqb-true place.vm (slots_of version) q.0) b.chain;
+          same = b.same;
+        }
+
+-- the two first lines of a text
+pub two-lines : (size free text behind more : List ℕ) → text ≡ size ++ behind → behind ≡ free ++ more → text ≡ (size ++ (free ++ [])) ++ more
+two-lines size free text behind more a b = a ∙ ap (λ (s : List ℕ). size ++ s) b ∙ simp (append_assoc, append-nil)

@@ -1,5 +1,5 @@
 -- How a dump is spelled.
-use Rattle.std.specs.Prelude.{ℕ, ◌+◌, Bool, true, false, List, [], ◌∷◌, ◌++◌, length, codes, Option, Some, None}
+use Rattle.std.specs.Prelude.{ℕ, ◌≡◌, ◌+◌, Bool, true, false, List, [], ◌∷◌, ◌++◌, length, drop, codes, Option, Some, None}
 use Rattle.std.specs.Fmt.{decimal}
 use Rattle.std.specs.List.{flat_map}
 use Rattle.hex.specs.Hex.{encode_lower}
@@ -29,22 +29,26 @@ abbrev pub or_dash : Option ℕ → List ℕ
 or_dash None = codes "-"
 or_dash (Some n) = decimal n
 
+-- one or zero
 abbrev pub bit : Bool → List ℕ
 bit true = codes "1"
 bit false = codes "0"
 
+-- the name of a phase
 abbrev pub phase_word : Phase → List ℕ
 phase_word Empty = codes "empty"
 phase_word Booting = codes "booting"
 phase_word Active = codes "active"
 phase_word Dead = codes "dead"
 
+-- the name of an owner, or the number of its slot
 abbrev pub owner_word : Owner → List ℕ
 owner_word Core = codes "core"
 owner_word Host = codes "host"
 owner_word Free = codes "free"
 owner_word (Vm v) = decimal v
 
+-- the words of a list's ends
 abbrev pub ends_words : Ends → List (List ℕ)
 ends_words ends = or_dash ends.head ∷ or_dash ends.tail ∷ decimal ends.count ∷ []
 
@@ -57,20 +61,38 @@ dump_header Two = codes "kcore-dump 2" ++ 10 ∷ []
 abbrev pub frame_rest : FrameLine → List (List ℕ)
 frame_rest frame = or_dash frame.gfn ∷ bit frame.present ∷ or_dash frame.prev ∷ or_dash frame.next ∷ encode_lower frame.digest ∷ []
 
+-- the words of a frame's line behind its number
+abbrev pub frame_words : FrameLine → List (List ℕ)
+frame_words frame = owner_word frame.owner ∷ decimal frame.share ∷ frame_rest frame
+
+-- the word that a line begins with
+abbrev pub name_of : DumpLine → List ℕ
+name_of (SizeOf frames core leaves) = codes "size"
+name_of (FreeOf ends) = codes "free"
+name_of (VmOf v phase ends) = codes "vm"
+name_of (LeafOf v n root) = codes "leaf"
+name_of (EntryOf v entry) = codes "entry"
+name_of (FrameOf f frame) = codes "frame"
+
+-- the words behind it
+abbrev pub words_of : DumpLine → List (List ℕ)
+words_of (SizeOf frames core leaves) = decimal frames ∷ decimal core ∷ decimal leaves ∷ []
+words_of (FreeOf ends) = ends_words ends
+words_of (VmOf v phase ends) = decimal v ∷ phase_word phase ∷ ends_words ends
+words_of (LeafOf v n root) = decimal v ∷ decimal n ∷ decimal root ∷ []
+words_of (EntryOf v entry) = decimal v ∷ decimal entry.0 ∷ decimal entry.1 ∷ []
+words_of (FrameOf f frame) = decimal f ∷ frame_words frame
+
 -- the text of a line
 abbrev pub spell : DumpLine → List ℕ
-spell (SizeOf frames core leaves) = line (codes "size") (decimal frames ∷ decimal core ∷ decimal leaves ∷ [])
-spell (FreeOf ends) = line (codes "free") (ends_words ends)
-spell (VmOf v phase ends) = line (codes "vm") (decimal v ∷ phase_word phase ∷ ends_words ends)
-spell (LeafOf v n root) = line (codes "leaf") (decimal v ∷ decimal n ∷ decimal root ∷ [])
-spell (EntryOf v entry) = line (codes "entry") (decimal v ∷ decimal entry.0 ∷ decimal entry.1 ∷ [])
-spell (FrameOf f frame) = line (codes "frame") (decimal f ∷ owner_word frame.owner ∷ decimal frame.share ∷ frame_rest frame)
+spell l = line (name_of l) (words_of l)
 
 -- a line each, by number from this one on
 abbrev pub made : {X : Type 0} → (ℕ → X → DumpLine) → ℕ → List X → List DumpLine
 made make i [] = []
 made make i (x ∷ xs) = make i x ∷ made make (i + 1) xs
 
+-- the line of a slot
 abbrev pub vm_of : ℕ → SlotDump → DumpLine
 vm_of v slot = VmOf v slot.phase slot.list
 
@@ -98,3 +120,7 @@ dump_lines d = SizeOf (length d.frames) d.core d.leaves ∷ FreeOf d.free ∷ re
 -- the one spelling of a dump
 abbrev pub dump_text : Dumped → List ℕ
 dump_text d = dump_header d.version ++ flat_map spell (dump_lines d)
+
+-- the text with the lines of what is left, from this number on, is what was there with all lines
+abbrev pub Writes : {X : Type 0} → (ℕ → List X → List DumpLine) → ℕ → List X → List ℕ → List ℕ → Type 0
+Writes lines i xs old text = text ++ flat_map spell (lines i (drop i xs)) ≡ old ++ flat_map spell (lines 0 xs)

@@ -3,6 +3,6 @@ pub mod Grammar
 pub mod Refused
 pub mod Words
 pub mod Lines
+pub mod Places
 pub mod Begun
-pub mod Sections
 pub mod Faults

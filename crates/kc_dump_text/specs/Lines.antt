@@ -1,56 +1,69 @@
 -- What a line of words is read as.
-use Rattle.std.specs.Prelude.{ℕ, ◌==◌, List, [], ◌∷◌, codes, Option, Some, None, option_map, option_and_then, if◌then◌else◌}
+use Rattle.std.specs.Prelude.{ℕ, ◌==◌, List, [], ◌∷◌, codes, Option, None, option_map, option_and_then, if◌then◌else◌}
 use Rattle.std.specs.List.{slice_split}
 use Rattle.std.specs.Str.{bytes_eq}
 use Rattle.kc_types.specs.Limits.{frame_limit, gfn_limit}
-use Rattle.kc_types.specs.declared.owner.Owner.{Owner}
+use Rattle.kc_types.specs.declared.link.Ends.{Ends}
 use Rattle.kc_dump.specs.declared.line.FrameLine.{FrameLine}
-use Rattle.kc_lines.specs.Words.{number_in}
+use Rattle.kc_lines.specs.Words.{number_in, at_end}
 use Rattle.kc_dump_text.specs.declared.dump_line.DumpLine.{DumpLine}
 use Rattle.kc_dump_text.specs.declared.dump_line.DumpLine.TheVariants.{SizeOf, FreeOf, VmOf, LeafOf, EntryOf, FrameOf}
-use Rattle.kc_dump_text.specs.Words.{under, or_dash_of, bit_of, phase_of, owner_of, digest_in, ends_of_words}
+use Rattle.kc_dump_text.specs.Words.{nothing, below_of, or_dash_of, bit_of, phase_of, owner_of, digest_in}
 
--- an entry of this slot
-abbrev pub entry_of_numbers : ℕ → ℕ → ℕ → Option DumpLine
-entry_of_numbers v g f = option_and_then (λ gfn. option_map (λ frame. EntryOf v (gfn, frame)) (under frame_limit f)) (under gfn_limit g)
+-- the first word read, and the words behind it as its value wants
+abbrev pub then_word : {X Y : Type 0} → (List ℕ → Option X) → (X → List (List ℕ) → Option Y) → List (List ℕ) → Option Y
+then_word read next [] = None
+then_word read next (word ∷ words) = option_and_then (λ x. next x words) (read word)
 
-unfoldable pub with_three : List ℕ → ℕ → ℕ → ℕ → Option DumpLine
-with_three name a b c =
-    if bytes_eq name (codes "size") then Some (SizeOf a b c)
-    else if bytes_eq name (codes "leaf") then Some (LeafOf a b c)
-    else if bytes_eq name (codes "entry") then entry_of_numbers a b c
-    else None
+-- this value, if no word is left
+abbrev pub no_more : {Y : Type 0} → Y → List (List ℕ) → Option Y
+no_more y words = option_map (λ done. y) (at_end words)
 
-unfoldable pub line_of_four : List ℕ → List ℕ → List ℕ → List ℕ → Option DumpLine
-line_of_four name a b c =
-    if bytes_eq name (codes "free") then option_map FreeOf (ends_of_words a b c)
-    else option_and_then (λ x. option_and_then (λ y. option_and_then (with_three name x y) (number_in c)) (number_in b)) (number_in a)
+-- the sizes of a machine
+abbrev pub size_line : List (List ℕ) → Option DumpLine
+size_line = then_word number_in (λ frames. then_word number_in (λ core. then_word number_in (λ leaves. no_more (SizeOf frames core leaves))))
 
-unfoldable pub line_of_six : List ℕ → List ℕ → List ℕ → List ℕ → List ℕ → List ℕ → Option DumpLine
-line_of_six name v phase head tail count =
-    if bytes_eq name (codes "vm") then option_and_then (λ v. option_and_then (λ p. option_map (VmOf v p) (ends_of_words head tail count)) (phase_of phase)) (number_in v)
-    else None
+-- the ends of a list, behind which nothing stands
+abbrev pub ends_of : List (List ℕ) → Option Ends
+ends_of = then_word (or_dash_of frame_limit) (λ head. then_word (or_dash_of frame_limit) (λ tail. then_word number_in (λ count. no_more (record { head = head; tail = tail; count = count }))))
 
--- what stands in a frame's line behind its guest frame
-unfoldable pub rest_of_words : Owner → ℕ → Option ℕ → List ℕ → List ℕ → List ℕ → List ℕ → Option FrameLine
-rest_of_words owner share gfn present prev next digest =
-    option_and_then (λ a. option_and_then (λ b. option_and_then (λ c. option_map (λ d. record { owner = owner; share = share; gfn = gfn; present = a; prev = b; next = c; digest = d }) (digest_in digest)) (or_dash_of frame_limit next)) (or_dash_of frame_limit prev)) (bit_of present)
+-- the ends of the free list
+abbrev pub free_line : List (List ℕ) → Option DumpLine
+free_line words = option_map FreeOf (ends_of words)
 
-unfoldable pub frame_of_words : List ℕ → List ℕ → List ℕ → List ℕ → List ℕ → List ℕ → List ℕ → Option FrameLine
-frame_of_words owner share gfn present prev next digest =
-    option_and_then (λ a. option_and_then (λ b. option_and_then (λ c. rest_of_words a b c present prev next digest) (or_dash_of gfn_limit gfn)) (number_in share)) (owner_of owner)
+-- a slot
+abbrev pub vm_line : List (List ℕ) → Option DumpLine
+vm_line = then_word number_in (λ v. then_word phase_of (λ phase words. option_map (VmOf v phase) (ends_of words)))
 
-unfoldable pub nine_words : List ℕ → List ℕ → List ℕ → List ℕ → List ℕ → List ℕ → List ℕ → List ℕ → List ℕ → Option DumpLine
-nine_words name f owner share gfn present prev next digest =
-    if bytes_eq name (codes "frame") then option_and_then (λ f. option_map (FrameOf f) (frame_of_words owner share gfn present prev next digest)) (number_in f)
-    else None
+-- a leaf of a slot
+abbrev pub leaf_line : List (List ℕ) → Option DumpLine
+leaf_line = then_word number_in (λ v. then_word number_in (λ n. then_word number_in (λ root. no_more (LeafOf v n root))))
 
--- by the number of words, and then by the name
+-- an entry of a slot
+abbrev pub entry_line : List (List ℕ) → Option DumpLine
+entry_line = then_word number_in (λ v. then_word (below_of gfn_limit) (λ gfn. then_word (below_of frame_limit) (λ frame. no_more (EntryOf v (gfn, frame)))))
+
+-- the record of a frame, behind which nothing stands
+abbrev pub record_of : List (List ℕ) → Option FrameLine
+record_of =
+    then_word owner_of (λ owner. then_word number_in (λ share. then_word (or_dash_of gfn_limit) (λ gfn. then_word bit_of (λ present.
+    then_word (or_dash_of frame_limit) (λ prev. then_word (or_dash_of frame_limit) (λ next. then_word digest_in (λ digest.
+    no_more (record { owner = owner; share = share; gfn = gfn; present = present; prev = prev; next = next; digest = digest }))))))))
+
+-- a frame
+abbrev pub frame_line : List (List ℕ) → Option DumpLine
+frame_line = then_word number_in (λ f words. option_map (FrameOf f) (record_of words))
+
+-- the words behind this name as they are read here, and words that begin with another as the rest reads them
+abbrev pub named : {Y : Type 0} → List ℕ → (List (List ℕ) → Option Y) → (List (List ℕ) → Option Y) → List (List ℕ) → Option Y
+named name read rest [] = None
+named name read rest (word ∷ words) = if bytes_eq word name then read words else rest (word ∷ words)
+
+-- a line's words, by the name that they begin with
 unfoldable pub line_of_words : List (List ℕ) → Option DumpLine
-line_of_words (name ∷ a ∷ b ∷ c ∷ []) = line_of_four name a b c
-line_of_words (name ∷ a ∷ b ∷ c ∷ d ∷ e ∷ []) = line_of_six name a b c d e
-line_of_words (name ∷ a ∷ b ∷ c ∷ d ∷ e ∷ f ∷ g ∷ h ∷ []) = nine_words name a b c d e f g h
-line_of_words _ = None
+line_of_words =
+    named (codes "frame") frame_line (named (codes "entry") entry_line (named (codes "leaf") leaf_line
+    (named (codes "vm") vm_line (named (codes "free") free_line (named (codes "size") size_line nothing)))))
 
 -- the line that these bytes are, without its newline
 abbrev pub line_read : List ℕ → Option DumpLine

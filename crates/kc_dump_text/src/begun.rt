@@ -1,20 +1,13 @@
 //! A dump of which some lines were read.
-ghost use Rattle.std.specs.Prelude.{◌≡◌, ◌<◌, ◌≤◌, length, OnOk};
-ghost use Rattle.kc_types.specs.Limits.{frame_limit};
+ghost use Rattle.std.specs.Prelude.{◌≡◌, OnOk};
 ghost use Rattle.kc_dump.specs.Ranges.{IsDump};
-ghost use Rattle.kc_dump_text.specs.Begun.{nothing, with_vm, with_leaf, with_entry, with_frame};
+ghost use Rattle.kc_dump_text.specs.Begun.{nothing, with_line, HasSlot};
 
+use crate::dump_line::DumpLine;
 use kc_dump::{Dump, FrameLine, SlotDump};
-use kc_types::{Ends, FrameNo, Gfn, Memory, Phase, Version};
+use kc_types::{Ends, Memory, Version};
 use std::alloc::Global;
 use std::marker::Model;
-
-/// The version, and how many frames there are to be.
-#[derive(Clone, Copy, Debug)]
-pub struct Sizes {
-    pub version: Version,
-    pub frames: u32,
-}
 
 /// The parts of the dump so far.
 #[derive(Drop)]
@@ -50,64 +43,24 @@ impl Begun {
         }
     }
 
-    /// One more slot.
-    pub fn push_vm(&mut self, alloc: Global, phase: Phase, ends: Ends) -> Result<(), Memory>
-        ensures { OnOk result (self.new ≡ with_vm self.old phase ends) }
+    /// Takes what a line says. `Memory` where a growth was refused.
+    pub fn push(&mut self, alloc: Global, line: DumpLine) -> Result<(), Memory>
+        requires { HasSlot self.old.slots line }
+        ensures { OnOk result (self.new ≡ with_line self.old line) }
     {
-        let slot = SlotDump::new(phase, ends, Vec::new(alloc), Vec::new(alloc));
-        self.slots.push(slot)?;
+        match line {
+            DumpLine::VmOf(_, phase, ends) => {
+                let slot = SlotDump::new(phase, ends, Vec::new(alloc), Vec::new(alloc));
+                self.slots.push(slot)?;
+            }
+            DumpLine::LeafOf(vm, _, root) => self.slots[vm as usize].push_leaf(root)?,
+            DumpLine::EntryOf(vm, (gfn, frame)) => {
+                self.slots[vm as usize].push_entry(gfn, frame)?
+            }
+            DumpLine::FrameOf(_, frame) => self.frames.push(frame)?,
+            _ => {}
+        }
         Ok(())
-    }
-
-    /// One more leaf of a slot.
-    pub fn push_leaf(&mut self, vm: u32, root: u32) -> Result<(), Memory>
-        requires { vm < length self.old.slots }
-        ensures { OnOk result (self.new ≡ with_leaf self.old vm root) }
-    {
-        self.slots[vm as usize].push_leaf(root)?;
-        Ok(())
-    }
-
-    /// One more entry of a slot.
-    pub fn push_entry(&mut self, vm: u32, entry: (Gfn, FrameNo)) -> Result<(), Memory>
-        requires { vm < length self.old.slots }
-        ensures { OnOk result (self.new ≡ with_entry self.old vm entry) }
-    {
-        let (gfn, frame) = entry;
-        self.slots[vm as usize].push_entry(gfn, frame)?;
-        Ok(())
-    }
-
-    /// One more frame.
-    pub fn push_frame(&mut self, line: FrameLine) -> Result<(), Memory>
-        ensures { OnOk result (self.new ≡ with_frame self.old line) }
-    {
-        let digest = line.digest;
-        self.frames.push(FrameLine {
-            owner: line.owner,
-            share: line.share,
-            gfn: line.gfn,
-            present: line.present,
-            prev: line.prev,
-            next: line.next,
-            digest,
-        })?;
-        Ok(())
-    }
-
-    /// How many slots it has.
-    pub fn slots(&self) -> usize
-        ensures { result ≡ length self.now.slots }
-    {
-        self.slots.len()
-    }
-
-    /// How many frames it has.
-    pub fn frames(&self) -> u32
-        requires { length self.now.frames ≤ frame_limit }
-        ensures { result ≡ length self.now.frames }
-    {
-        self.frames.len() as u32
     }
 
     /// The dump of these parts.

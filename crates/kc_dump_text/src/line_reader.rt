@@ -1,89 +1,83 @@
 //! One line of a dump's text.
-ghost use Rattle.std.specs.Prelude.{◌≡◌, ◌==◌, ◌∷◌};
-ghost use Rattle.std.specs.List.{slice_split};
-ghost use Rattle.kc_dump_text.specs.Lines.{entry_of_numbers, with_three, line_of_four, line_of_six, rest_of_words, frame_of_words, nine_words, line_of_words, line_read};
+ghost use Rattle.std.specs.Prelude.{◌≡◌};
+ghost use Rattle.kc_dump_text.specs.Lines.{size_line, ends_of, free_line, vm_line, leaf_line, entry_line, record_of, frame_line, line_of_words, line_read};
 
 use crate::dump_line::DumpLine;
 use crate::words::{
-    frame_of_number, gfn_of_number, read_bit, read_digest, read_ends, read_frame, read_gfn,
-    read_owner, read_phase,
+    read_bit, read_digest, read_frame, read_frame_or_dash, read_gfn, read_gfn_or_dash, read_owner,
+    read_phase,
 };
 use kc_dump::FrameLine;
-use kc_lines::{read_number, split_word};
-use kc_types::{Gfn, Owner};
+use kc_lines::{LineWords, read_number};
+use kc_types::Ends;
 
-fn entry_of_numbers(vm: u32, gfn: u32, frame: u32) -> Option<DumpLine>
-    ensures { result ≡ entry_of_numbers vm gfn frame }
+fn read_size_line(mut words: LineWords) -> Option<DumpLine>
+    ensures { result ≡ size_line words.entry }
 {
-    let gfn = gfn_of_number(gfn)?;
-    let frame = frame_of_number(frame)?;
+    let frames = read_number(words.next()?)?;
+    let core = read_number(words.next()?)?;
+    let leaves = read_number(words.next()?)?;
+    words.end()?;
+    Some(DumpLine::SizeOf(frames, core, leaves))
+}
+
+/// The ends of a list, behind which nothing stands.
+fn read_ends(mut words: LineWords) -> Option<Ends>
+    ensures { result ≡ ends_of words.entry }
+{
+    let head = read_frame_or_dash(words.next()?)?;
+    let tail = read_frame_or_dash(words.next()?)?;
+    let count = read_number(words.next()?)?;
+    words.end()?;
+    Some(Ends { head, tail, count })
+}
+
+fn read_free_line(words: LineWords) -> Option<DumpLine>
+    ensures { result ≡ free_line words.entry }
+{
+    Some(DumpLine::FreeOf(read_ends(words)?))
+}
+
+fn read_vm_line(mut words: LineWords) -> Option<DumpLine>
+    ensures { result ≡ vm_line words.entry }
+{
+    let vm = read_number(words.next()?)?;
+    let phase = read_phase(words.next()?)?;
+    Some(DumpLine::VmOf(vm, phase, read_ends(words)?))
+}
+
+fn read_leaf_line(mut words: LineWords) -> Option<DumpLine>
+    ensures { result ≡ leaf_line words.entry }
+{
+    let vm = read_number(words.next()?)?;
+    let place = read_number(words.next()?)?;
+    let root = read_number(words.next()?)?;
+    words.end()?;
+    Some(DumpLine::LeafOf(vm, place, root))
+}
+
+fn read_entry_line(mut words: LineWords) -> Option<DumpLine>
+    ensures { result ≡ entry_line words.entry }
+{
+    let vm = read_number(words.next()?)?;
+    let gfn = read_gfn(words.next()?)?;
+    let frame = read_frame(words.next()?)?;
+    words.end()?;
     Some(DumpLine::EntryOf(vm, (gfn, frame)))
 }
 
-#[tactic(auto, unfolding(crate::specs::Lines::with_three))]
-fn with_three(name: &[u8], first: u32, second: u32, third: u32) -> Option<DumpLine>
-    ensures { result ≡ with_three name.now first second third }
+/// The record of a frame, behind which nothing stands.
+fn read_record(mut words: LineWords) -> Option<FrameLine>
+    ensures { result ≡ record_of words.entry }
 {
-    if name == b"size".as_slice() {
-        Some(DumpLine::SizeOf(first, second, third))
-    } else if name == b"leaf".as_slice() {
-        Some(DumpLine::LeafOf(first, second, third))
-    } else if name == b"entry".as_slice() {
-        entry_of_numbers(first, second, third)
-    } else {
-        None
-    }
-}
-
-#[tactic(auto, unfolding(crate::specs::Lines::line_of_four))]
-fn read_four_words(name: &[u8], first: &[u8], second: &[u8], third: &[u8]) -> Option<DumpLine>
-    ensures { result ≡ line_of_four name.now first.now second.now third.now }
-{
-    if name == b"free".as_slice() {
-        return Some(DumpLine::FreeOf(read_ends(first, second, third)?));
-    }
-    let first = read_number(first)?;
-    let second = read_number(second)?;
-    let third = read_number(third)?;
-    with_three(name, first, second, third)
-}
-
-#[tactic(auto, unfolding(crate::specs::Lines::line_of_six))]
-fn read_six_words(
-    name: &[u8],
-    vm: &[u8],
-    phase: &[u8],
-    head: &[u8],
-    tail: &[u8],
-    count: &[u8],
-) -> Option<DumpLine>
-    ensures { result ≡ line_of_six name.now vm.now phase.now head.now tail.now count.now }
-{
-    if name != b"vm".as_slice() {
-        return None;
-    }
-    let vm = read_number(vm)?;
-    let phase = read_phase(phase)?;
-    Some(DumpLine::VmOf(vm, phase, read_ends(head, tail, count)?))
-}
-
-/// The record of a frame, of which the words behind its guest frame are to be read.
-#[tactic(auto, unfolding(crate::specs::Lines::rest_of_words))]
-fn read_rest(
-    owner: Owner,
-    share: u32,
-    gfn: Option<Gfn>,
-    present: &[u8],
-    prev: &[u8],
-    next: &[u8],
-    digest: &[u8],
-) -> Option<FrameLine>
-    ensures { result ≡ rest_of_words owner share gfn present.now prev.now next.now digest.now }
-{
-    let present = read_bit(present)?;
-    let prev = read_frame(prev)?;
-    let next = read_frame(next)?;
-    let digest = read_digest(digest)?;
+    let owner = read_owner(words.next()?)?;
+    let share = read_number(words.next()?)?;
+    let gfn = read_gfn_or_dash(words.next()?)?;
+    let present = read_bit(words.next()?)?;
+    let prev = read_frame_or_dash(words.next()?)?;
+    let next = read_frame_or_dash(words.next()?)?;
+    let digest = read_digest(words.next()?)?;
+    words.end()?;
     Some(FrameLine {
         owner,
         share,
@@ -95,71 +89,11 @@ fn read_rest(
     })
 }
 
-#[tactic(auto, unfolding(crate::specs::Lines::frame_of_words))]
-fn read_record(
-    owner: &[u8],
-    share: &[u8],
-    gfn: &[u8],
-    present: &[u8],
-    prev: &[u8],
-    next: &[u8],
-    digest: &[u8],
-) -> Option<FrameLine>
-    ensures { result ≡ frame_of_words owner.now share.now gfn.now present.now prev.now next.now digest.now }
+fn read_frame_line(mut words: LineWords) -> Option<DumpLine>
+    ensures { result ≡ frame_line words.entry }
 {
-    let owner = read_owner(owner)?;
-    let share = read_number(share)?;
-    let gfn = read_gfn(gfn)?;
-    read_rest(owner, share, gfn, present, prev, next, digest)
-}
-
-#[tactic(auto, unfolding(crate::specs::Lines::nine_words))]
-fn read_nine_words(
-    name: &[u8],
-    frame: &[u8],
-    owner: &[u8],
-    share: &[u8],
-    gfn: &[u8],
-    present: &[u8],
-    prev: &[u8],
-    next: &[u8],
-    digest: &[u8],
-) -> Option<DumpLine>
-    ensures { result ≡ nine_words name.now frame.now owner.now share.now gfn.now present.now prev.now next.now digest.now }
-{
-    if name != b"frame".as_slice() {
-        return None;
-    }
-    let number = read_number(frame)?;
-    let line = read_record(owner, share, gfn, present, prev, next, digest)?;
-    Some(DumpLine::FrameOf(number, line))
-}
-
-/// A line of which three words were read, and more than six are there.
-#[tactic(auto, unfolding(crate::specs::Lines::line_of_words))]
-fn read_long_line(
-    name: &[u8],
-    first: &[u8],
-    second: &[u8],
-    third: &[u8],
-    fourth: &[u8],
-    fifth: &[u8],
-    rest: &[u8],
-) -> Option<DumpLine>
-    ensures { result ≡ line_of_words (name.now ∷ first.now ∷ second.now ∷ third.now ∷ fourth.now ∷ fifth.now ∷ slice_split (λ b. b == 32) rest.now) }
-{
-    let Some((sixth, rest)) = split_word(rest) else {
-        return None;
-    };
-    let Some((seventh, rest)) = split_word(rest) else {
-        return None;
-    };
-    let None = split_word(rest) else {
-        return None;
-    };
-    read_nine_words(
-        name, first, second, third, fourth, fifth, sixth, seventh, rest,
-    )
+    let number = read_number(words.next()?)?;
+    Some(DumpLine::FrameOf(number, read_record(words)?))
 }
 
 /// The line that these bytes are, without its newline.
@@ -167,23 +101,21 @@ fn read_long_line(
 pub fn read_line(line: &[u8]) -> Option<DumpLine>
     ensures { result ≡ line_read line.now }
 {
-    let Some((name, rest)) = split_word(line) else {
-        return None;
-    };
-    let Some((first, rest)) = split_word(rest) else {
-        return None;
-    };
-    let Some((second, rest)) = split_word(rest) else {
-        return None;
-    };
-    let Some((third, rest)) = split_word(rest) else {
-        return read_four_words(name, first, second, rest);
-    };
-    let Some((fourth, rest)) = split_word(rest) else {
-        return None;
-    };
-    let Some((fifth, rest)) = split_word(rest) else {
-        return read_six_words(name, first, second, third, fourth, rest);
-    };
-    read_long_line(name, first, second, third, fourth, fifth, rest)
+    let mut words = LineWords::new(line);
+    let name = words.next()?;
+    if name == b"frame".as_slice() {
+        read_frame_line(words)
+    } else if name == b"entry".as_slice() {
+        read_entry_line(words)
+    } else if name == b"leaf".as_slice() {
+        read_leaf_line(words)
+    } else if name == b"vm".as_slice() {
+        read_vm_line(words)
+    } else if name == b"free".as_slice() {
+        read_free_line(words)
+    } else if name == b"size".as_slice() {
+        read_size_line(words)
+    } else {
+        None
+    }
 }

@@ -1,17 +1,20 @@
-//! The next line of a dump's text, where it is of the kind that is due.
-ghost use Rattle.std.specs.Prelude.{◌≡◌, ◌++◌, true, None, Some, MatchOption};
-ghost use Rattle.kc_dump.specs.Ranges.{are_ends, is_frame};
+//! The next line of a dump's text, where it is one that may come.
+ghost use Rattle.std.specs.Prelude.{◌≡◌, ◌++◌, true, None, Some, IfOk, MatchOption};
+ghost use Rattle.kc_dump.specs.Ranges.{are_ends};
 ghost use Rattle.kc_dump_text.specs.DumpText.{spell};
-ghost use Rattle.kc_dump_text.specs.Begun.{is_size};
-ghost use Rattle.kc_dump_text.specs.Sections.{first_line, HasNone, is_free, is_vm, is_leaf, is_next_entry, is_frame_of, is_other};
-ghost use Rattle.kc_dump_text.specs.declared.dump_line.DumpLine.TheVariants.{SizeOf, FreeOf, VmOf, LeafOf, EntryOf, FrameOf};
+ghost use Rattle.kc_dump_text.specs.Places.{is_size, is_free, is_other, start, may, behind};
+ghost use Rattle.kc_dump_text.specs.Begun.{first_line, HasNone, ReadsOn, IsBegun};
+ghost use Rattle.kc_dump_text.specs.declared.dump_line.DumpLine.TheVariants.{SizeOf, FreeOf, FrameOf};
 
+use crate::begun::Begun;
 use crate::dump_line::DumpLine;
 use crate::line_reader::read_line;
-use crate::ranges::{are_ends, are_sizes, is_entry, is_frame};
+use crate::place::{Place, Sizes};
+use crate::ranges::{are_ends, are_sizes, is_frame};
 use kc_dump::FrameLine;
 use kc_lines::split_line;
-use kc_types::{Ends, FrameNo, Gfn, LEAF_ENTRIES, Phase, Version};
+use kc_types::{Ends, Memory, Version};
+use std::alloc::Global;
 
 /// The first line, where it is one of a dump, and what stands behind it.
 pub fn next_line(text: &[u8]) -> Option<(DumpLine, &[u8])>
@@ -65,121 +68,54 @@ pub fn next_free(frames: u32, text: &[u8]) -> Option<(Ends, &[u8])>
     }
 }
 
-/// The line of this slot.
-pub fn next_vm(version: Version, frames: u32, vm: u32, text: &[u8]) -> Option<(Phase, Ends, &[u8])>
-    ensures { MatchOption result (HasNone (is_vm version frames vm) text.now)
-        (λ cut. (text.now ≡ spell (VmOf vm cut.0 cut.1) ++ cut.2.now) × (is_vm version frames vm (VmOf vm cut.0 cut.1) ≡ true)) }
+/// The line that may come at this place, and the place behind it.
+fn next_at(sizes: Sizes, place: Place, text: &[u8]) -> Option<(DumpLine, Place, &[u8])>
+    ensures { MatchOption result (HasNone (may sizes.version sizes.frames place) text.now)
+        (λ cut. (text.now ≡ spell cut.0 ++ cut.2.now) × (may sizes.version sizes.frames place cut.0 ≡ true) × (cut.1 ≡ behind place cut.0)) }
 {
     let Some((line, rest)) = next_line(text) else {
         return None;
     };
-    match line {
-        DumpLine::VmOf(other, phase, ends) => {
-            if other == vm && vm < version.slots() && are_ends(frames, &ends) {
-                Some((phase, ends, rest))
-            } else {
-                None
-            }
-        }
-        _ => None,
-    }
+    let Some(next) = place.behind(sizes, &line) else {
+        return None;
+    };
+    Some((line, next, rest))
 }
 
-/// The line of a leaf, where the last one was of this slot, which has so many: its slot, its place there, and its root slot.
-pub fn next_leaf(
-    version: Version,
-    vm: u32,
-    count: u32,
-    text: &[u8],
-) -> Option<(u32, u32, u32, &[u8])>
-    ensures { MatchOption result (HasNone (is_leaf version vm count) text.now)
-        (λ cut. (text.now ≡ spell (LeafOf cut.0 cut.1 cut.2) ++ cut.3.now) × (is_leaf version vm count (LeafOf cut.0 cut.1 cut.2) ≡ true)) }
+/// Reads the lines behind the two first, as long as one may come, and answers the place behind them and the rest.
+pub fn read_lines<'a>(
+    alloc: Global,
+    sizes: Sizes,
+    begun: &mut Begun,
+    text: &'a [u8],
+) -> Result<(Place, &'a [u8]), Memory>
+    requires { IsBegun sizes.version sizes.frames begun.old start }
+    ensures { IfOk result (λ cut. IsBegun sizes.version sizes.frames begun.new cut.0 × ReadsOn sizes.frames begun.old text.now begun.new cut.1.now × HasNone (may sizes.version sizes.frames cut.0) cut.1.now) }
 {
-    let Some((line, rest)) = next_line(text) else {
-        return None;
-    };
-    match line {
-        DumpLine::LeafOf(other, place, root) => {
-            let next = (other == vm && place == count) || (vm < other && place == 0);
-            if other < version.slots() && root < LEAF_ENTRIES as u32 && next {
-                Some((other, place, root, rest))
-            } else {
-                None
-            }
-        }
-        _ => None,
+    let mut place = Place::start();
+    let mut rest = text;
+    while let Some((line, next, more)) = next_at(sizes, place, rest) {
+        begun.push(alloc, line)?;
+        place = next;
+        rest = more;
     }
-}
-
-/// The line of an entry, where the last one was of this slot, and the next there is this guest frame or one above it: its
-/// slot, the number of its guest frame, and both frames.
-pub fn next_entry(
-    version: Version,
-    frames: u32,
-    vm: u32,
-    least: u32,
-    text: &[u8],
-) -> Option<(u32, u32, (Gfn, FrameNo), &[u8])>
-    ensures { MatchOption result (HasNone (is_next_entry version frames vm least) text.now)
-        (λ cut. (text.now ≡ spell (EntryOf cut.0 cut.2) ++ cut.3.now) × (is_next_entry version frames vm least (EntryOf cut.0 cut.2) ≡ true) × (cut.1 ≡ cut.2.0)) }
-{
-    let Some((line, rest)) = next_line(text) else {
-        return None;
-    };
-    match line {
-        DumpLine::EntryOf(other, (gfn, frame)) => {
-            let next = vm < other || (other == vm && least <= gfn.number());
-            if is_entry(version, frames, other, gfn, frame) && next {
-                Some((other, gfn.number(), (gfn, frame), rest))
-            } else {
-                None
-            }
-        }
-        _ => None,
-    }
-}
-
-/// The line of this frame.
-pub fn next_frame(
-    version: Version,
-    frames: u32,
-    number: u32,
-    text: &[u8],
-) -> Option<(FrameLine, &[u8])>
-    ensures { MatchOption result (HasNone (is_frame_of version frames number) text.now)
-        (λ cut. (text.now ≡ spell (FrameOf number cut.0) ++ cut.1.now) × (is_frame_of version frames number (FrameOf number cut.0) ≡ true)) }
-{
-    let Some((line, rest)) = next_line(text) else {
-        return None;
-    };
-    match line {
-        DumpLine::FrameOf(other, frame) => {
-            if other == number && number < frames && is_frame(version, frames, &frame) {
-                Some((frame, rest))
-            } else {
-                None
-            }
-        }
-        _ => None,
-    }
+    Ok((place, rest))
 }
 
 /// The line of a frame in range, but not of this one.
-pub fn next_other(
-    version: Version,
-    frames: u32,
-    number: u32,
-    text: &[u8],
-) -> Option<(u32, FrameLine, &[u8])>
-    ensures { MatchOption result (HasNone (is_other version frames number) text.now)
-        (λ cut. (text.now ≡ spell (FrameOf cut.0 cut.1) ++ cut.2.now) × (is_other version frames number (FrameOf cut.0 cut.1) ≡ true)) }
+pub fn next_other(sizes: Sizes, number: u32, text: &[u8]) -> Option<(u32, FrameLine, &[u8])>
+    ensures { MatchOption result (HasNone (is_other sizes.version sizes.frames number) text.now)
+        (λ cut. (text.now ≡ spell (FrameOf cut.0 cut.1) ++ cut.2.now) × (is_other sizes.version sizes.frames number (FrameOf cut.0 cut.1) ≡ true)) }
 {
     let Some((line, rest)) = next_line(text) else {
         return None;
     };
     match line {
         DumpLine::FrameOf(other, frame) => {
-            if other != number && other < frames && is_frame(version, frames, &frame) {
+            if other != number
+                && other < sizes.frames
+                && is_frame(sizes.version, sizes.frames, &frame)
+            {
                 Some((other, frame, rest))
             } else {
                 None

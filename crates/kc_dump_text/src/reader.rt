@@ -1,20 +1,21 @@
-//! Reading a dump, section by section.
+//! Reading a dump.
 ghost use Rattle.std.specs.Prelude.{ℕ, List, ◌≡◌, ◌<◌, ◌≤◌, ◌+◌, ◌==◌, ◌&&◌, ◌⊎◌, ◌++◌, [], true, false, length, MatchOption, MatchResult};
 ghost use Rattle.std.specs.List.{flat_map};
 ghost use Rattle.kc_types.specs.Limits.{byte_limit};
+ghost use Rattle.kc_types.specs.Configuration.{slots_of};
 ghost use Rattle.kc_types.specs.declared.version.Version.{Version};
 ghost use Rattle.kc_dump.specs.Dump.{Dumped};
 ghost use Rattle.kc_dump_text.specs.declared.fault.DumpFault.TheVariants.{Memory};
 ghost use Rattle.kc_dump_text.specs.DumpText.{dump_header, spell};
-ghost use Rattle.kc_dump_text.specs.Begun.{begun_lines};
 ghost use Rattle.kc_dump_text.specs.Grammar.{IsDumpText};
-ghost use Rattle.kc_dump_text.specs.Sections.{newlines, is_other, HasNone, HasOther, FramesRead, IsTextOf, IsStuck};
+ghost use Rattle.kc_dump_text.specs.Places.{is_other, may};
+ghost use Rattle.kc_dump_text.specs.Begun.{newlines, HasNone, HasOther, begun_lines, IsBegun, IsTextOf, IsStuck};
 ghost use Rattle.kc_dump_text.specs.Refused.{IsRefusedDump};
 
-use crate::begun::{Begun, Sizes};
+use crate::begun::Begun;
 use crate::fault::DumpFault;
-use crate::next::{next_free, next_other, next_size};
-use crate::sections::{read_behind_vms, read_vms};
+use crate::next::{next_free, next_other, next_size, read_lines};
+use crate::place::{Place, Sizes};
 use kc_dump::Dump;
 use kc_types::Version;
 use std::alloc::Global;
@@ -42,51 +43,57 @@ fn line_number(text: &[u8], rest: &[u8]) -> u32
     count_newlines(&text[..text.len() - rest.len()]) + 2
 }
 
-/// Whether this frame is due, and there is no rest, or it begins with the line of another.
-fn lacks_frame(sizes: Sizes, next: u32, rest: &[u8]) -> bool
-    ensures yes { result ≡ true → (next < sizes.frames) × ((rest.now ≡ []) ⊎ HasOther sizes.version sizes.frames next rest.now) }
-    ensures no { result ≡ false → next < sizes.frames → (rest.now ≡ [] → ⊥) × HasNone (is_other sizes.version sizes.frames next) rest.now }
+/// Whether a frame is due at this place, and there is no rest, or it begins with the line of another.
+fn lacks_frame(sizes: Sizes, place: Place, rest: &[u8]) -> bool
+    ensures yes { result ≡ true → (place.vm ≡ slots_of sizes.version) × (place.frame < sizes.frames) × ((rest.now ≡ []) ⊎ HasOther sizes.version sizes.frames place.frame rest.now) }
+    ensures no { result ≡ false → place.vm ≡ slots_of sizes.version → place.frame < sizes.frames → (rest.now ≡ [] → ⊥) × HasNone (is_other sizes.version sizes.frames place.frame) rest.now }
 {
-    if sizes.frames <= next {
+    if place.vm != sizes.version.slots() || sizes.frames <= place.frame {
         return false;
     }
     if rest.is_empty() {
         return true;
     }
-    let Some(_other) = next_other(sizes.version, sizes.frames, next, rest) else {
+    let Some(_other) = next_other(sizes, place.frame, rest) else {
         return false;
     };
     true
 }
 
-/// Whether all frames were read, and there is no rest.
-fn is_whole(sizes: Sizes, next: u32, rest: &[u8]) -> bool
-    ensures { result ≡ (next == sizes.frames && length rest.now == 0) }
+/// Whether all slots and frames were read, and there is no rest.
+fn is_whole(sizes: Sizes, place: Place, rest: &[u8]) -> bool
+    ensures { result ≡ (place.vm == slots_of sizes.version && place.frame == sizes.frames && length rest.now == 0) }
 {
-    next == sizes.frames && rest.is_empty()
+    place.vm == sizes.version.slots() && place.frame == sizes.frames && rest.is_empty()
 }
 
 /// The dump begun, where it is whole, and else what is wrong behind it.
-fn finish(sizes: Sizes, begun: Begun, text: &[u8], rest: &[u8]) -> Result<Begun, DumpFault>
-    requires read { FramesRead sizes.version sizes.frames begun rest.now }
+fn finish(
+    sizes: Sizes,
+    begun: Begun,
+    place: Place,
+    text: &[u8],
+    rest: &[u8],
+) -> Result<Dump, DumpFault>
+    requires begun { IsBegun sizes.version sizes.frames begun place }
     requires whole { text.now ≡ flat_map spell (begun_lines sizes.frames begun) ++ rest.now }
+    requires none { HasNone (may sizes.version sizes.frames place) rest.now }
     requires few { length text.now ≤ byte_limit }
-    ensures { MatchResult result (λ begun. IsTextOf sizes.version text.now begun) (λ fault. IsStuck sizes.version text.now fault) }
+    ensures { MatchResult result (λ dump. IsTextOf sizes.version text.now dump) (λ fault. IsStuck sizes.version text.now fault) }
 {
-    let next = begun.frames();
-    if is_whole(sizes, next, rest) {
-        return Ok(begun);
+    if is_whole(sizes, place, rest) {
+        return Ok(begun.into_dump());
     }
-    if lacks_frame(sizes, next, rest) {
-        return Err(DumpFault::Frame(next));
+    if lacks_frame(sizes, place, rest) {
+        return Err(DumpFault::Frame(place.frame));
     }
     Err(DumpFault::BadLine(line_number(text, rest)))
 }
 
 /// The dump whose lines these are.
-fn read_sections(alloc: Global, version: Version, text: &[u8]) -> Result<Begun, DumpFault>
+fn read_behind_header(alloc: Global, version: Version, text: &[u8]) -> Result<Dump, DumpFault>
     requires { length text.now ≤ byte_limit }
-    ensures { MatchResult result (λ begun. IsTextOf version text.now begun) (λ fault. IsStuck version text.now fault) }
+    ensures { MatchResult result (λ dump. IsTextOf version text.now dump) (λ fault. IsStuck version text.now fault) }
 {
     let Some((frames, core, leaves, behind)) = next_size(version, text) else {
         return Err(DumpFault::BadLine(2));
@@ -96,12 +103,8 @@ fn read_sections(alloc: Global, version: Version, text: &[u8]) -> Result<Begun, 
     };
     let sizes = Sizes { version, frames };
     let mut begun = Begun::new(alloc, version, core, leaves, free);
-    let rest = read_vms(alloc, sizes, &mut begun, behind)?;
-    if begun.slots() < version.slots() as usize {
-        return Err(DumpFault::BadLine(line_number(text, rest)));
-    }
-    let rest = read_behind_vms(sizes, &mut begun, rest)?;
-    finish(sizes, begun, text, rest)
+    let (place, rest) = read_lines(alloc, sizes, &mut begun, behind)?;
+    finish(sizes, begun, place, text, rest)
 }
 
 /// The version of the dump and what stands behind its header, if the text begins with one.
@@ -133,8 +136,5 @@ pub fn read_dump(alloc: Global, text: &[u8]) -> Result<Dump, DumpFault>
     let Some((version, rest)) = behind_header(text) else {
         return Err(DumpFault::NoHeader);
     };
-    match read_sections(alloc, version, rest) {
-        Ok(begun) => Ok(begun.into_dump()),
-        Err(fault) => Err(fault),
-    }
+    read_behind_header(alloc, version, rest)
 }

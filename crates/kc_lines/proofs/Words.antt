@@ -8,7 +8,7 @@ use Rattle.std.specs.Str.{bytes_eq}
 use Rattle.std.proofs.lemmas.Bool.{and_parts, and_from, not-true, ne_eqb, leb-true, or_cases, ltb-true, ltb-false}
 use Rattle.std.proofs.lemmas.List.{take-append-drop, take_all, length-drop}
 use Rattle.std.proofs.Math.Seq.{drop-cons}
-use Rattle.std.proofs.lemmas.List.Splits.{slice_split_first, slice_split_none}
+use Rattle.std.proofs.lemmas.List.Splits.{slice_split_first, slice_split_none, length-slice_split}
 use Rattle.std.proofs.lemmas.List.Sums.{fails_before_first}
 use Rattle.std.proofs.lemmas.Fmt.{digits_decimal}
 use Rattle.std.proofs.lemmas.Slice.Eq.{bytes_eq-Decides}
@@ -82,6 +82,10 @@ split_join word [] e = split_last word (and_parts (is_word word) true e).0
 split_join word (next ∷ words) e =
     let parts = and_parts (is_word word) (list_all is_word (next ∷ words)) e in
     split_word word (join_with_byte 32 (next ∷ words)) parts.0 ∙ ap (λ ws. word ∷ ws) (split_join next words parts.1)
+
+-- a line has a word at least
+pub some_word : (line : List ℕ) → slice_split is_space line ≡ [] → ⊥
+some_word line e = omega (arith, length-slice_split is_space line, ap length e)
 
 one_line_append : (one two : List ℕ) → IsOneLine one → IsOneLine two → IsOneLine (one ++ two)
 one_line_append [] two h g = g

@@ -42,3 +42,13 @@ is_data_word word = list_all is_lower_digit word && not (length word == 0) && na
 -- from 1 to 4,096 bytes, in lower case digits
 unfoldable pub data_of : List ℕ → Option (List ℕ)
 data_of word = if is_data_word word then result_ok (decode_of word) else None
+
+-- the words of a text, if there is one
+abbrev pub words_left : Option (List ℕ) → List (List ℕ)
+words_left None = []
+words_left (Some text) = slice_split (λ b. b == 32) text
+
+-- something where no word is left
+abbrev pub at_end : List (List ℕ) → Option (Unit {0})
+at_end [] = Some tt
+at_end (word ∷ words) = None

@@ -1,31 +1,26 @@
 -- Words that are taken one after another.
-use Rattle.std.proofs.Common.{ℕ, ◌≡◌, ◌<◌, ◌^◌, inl, inr, Bool, true, false, List, [], ◌∷◌, length, Option, Some, None, sym, ap, ◌∙◌, arith}
+use Rattle.std.proofs.Common.{ℕ, ◌≡◌, ◌<◌, ◌^◌, inl, inr, List, [], ◌∷◌, length, Option, Some, None, sym, ap, ◌∙◌, arith}
 use Rattle.std.specs.Prelude.{◌==◌, MatchOption}
 use Rattle.std.proofs.lemmas.Bool.{eqb-true}
 use Rattle.hex.specs.Hex.{lower_digits}
 use Rattle.hex.proofs.HexLemmas.{length-encode_with}
 use Rattle.std.specs.Fmt.{decimal}
-use Rattle.std.proofs.lemmas.List.Splits.{length-slice_split}
 use Rattle.hex.specs.Hex.{encode_lower}
 use Rattle.kc_types.specs.Limits.{frame_limit, slot_limit, digest_limit}
 use Rattle.kc_model.specs.State.{Vcpu}
 use Rattle.kc_lines.specs.Words.{number_in, data_of}
-use Rattle.kc_lines.proofs.Words.{is_space, chosen}
+use Rattle.kc_lines.proofs.Words.{chosen}
 use Rattle.kc_lines.proofs.Numbers.{number_of-decimal, number_is_decimal}
 use Rattle.kc_dump_text.specs.Words.{digest_in}
 use Rattle.kc_dump_text.proofs.ReadWords.{digest-from}
 use Rattle.kc_lines.proofs.Digits.{data_is_spelled}
 use Rattle.kc_model.specs.Volumes.{IsDigest}
 use Rattle.kc_state_text.specs.declared.sizes.Sizes.{Sizes}
-use Rattle.kc_state_text.specs.Words.{words_left, vcpu_in}
+use Rattle.kc_state_text.specs.Words.{vcpu_in}
 use Rattle.kc_state_text.specs.StateText.{sizes_words, approved_words, vcpu_word, vcpu_words}
 use Rattle.kc_state_text.specs.Refused.{AreSizes, IsVcpuWord}
 use Rattle.kc_state_text.specs.Reading.{IsNumber, IsAtMost, number_words, behind, LacksFirst, LacksWhole, BeginsAs, IsWhole}
 use Rattle.kc_state_text.proofs.Spelled.{decimal-same, vcpu-to, vcpu-from, approved-to, rest-same}
-
-pub words-some : (is_end : Bool) (line : List ℕ) → is_end ≡ false → words_left is_end line ≡ [] → ⊥
-words-some true line p e = absurd cc
-words-some false line p e = let l = length-slice_split is_space line in let none = ap length e in omega (arith, l, none)
 
 first-same : {X : Type 0} (x y : X) (xs ys : List X) → x ∷ xs ≡ y ∷ ys → x ≡ y
 first-same x y xs ys e = cc

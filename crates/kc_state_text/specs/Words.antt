@@ -1,5 +1,5 @@
 -- The words of a line.
-use Rattle.std.specs.Prelude.{ℕ, ◌==◌, Bool, true, false, List, [], codes, Option, Some, None, option_map, if◌then◌else◌}
+use Rattle.std.specs.Prelude.{ℕ, ◌==◌, true, false, List, codes, Option, Some, None, option_map, if◌then◌else◌}
 use Rattle.std.specs.List.{slice_split}
 use Rattle.std.specs.Str.{bytes_eq}
 use Rattle.kc_types.specs.Limits.{gfn_limit}
@@ -8,10 +8,6 @@ use Rattle.kc_dump_text.specs.Words.{below_of}
 
 abbrev pub words_in : List ℕ → List (List ℕ)
 words_in line = slice_split (λ b. b == 32) line
-
--- none behind the last word
-abbrev pub words_left : Bool → List ℕ → List (List ℕ)
-words_left is_end line = if is_end then [] else words_in line
 
 -- one that is registered
 abbrev pub waiting : Option ℕ → Vcpu

@@ -1,7 +1,6 @@
 //! What a line before the dump says.
 ghost use Rattle.std.specs.Prelude.{ℕ, List, ◌≡◌, ◌∷◌, [], codes, MatchOption};
 ghost use Rattle.kc_model.specs.State.{Vcpu};
-ghost use Rattle.kc_dump_text.specs.Words.{digest_in};
 ghost use Rattle.kc_model.specs.Volumes.{IsDigest};
 ghost use Rattle.kc_state_text.specs.Words.{words_in, vcpu_in};
 ghost use Rattle.kc_state_text.specs.StateText.{sizes_words, approved_words, vcpu_words, image_words, vcpus_words, images_words, slot_words};
@@ -9,9 +8,10 @@ ghost use Rattle.kc_state_text.specs.Reading.{LacksFirst, LacksWhole, BeginsAs, 
 ghost use Rattle.kc_state_text.specs.Refused.{AreSizes, IsVcpuWord, AreImageWords, IsSlotLine};
 
 use crate::sizes::Sizes;
-use crate::words::Words;
+use crate::words::{take_name, take_number, take_number_to};
 use arrayvec::ArrayVec;
-use kc_lines::{decode_into, read_number};
+use kc_dump_text::read_digest;
+use kc_lines::{LineWords, read_number};
 use kc_state::SlotRest;
 use kc_types::{
     DIGEST_LIMIT, FRAME_LIMIT, GFN_LIMIT, IMAGE_LIMIT, Image, SLOT_LIMIT, VCPU_LIMIT, Vcpu,
@@ -23,12 +23,12 @@ pub fn read_sizes(line: &[u8]) -> Option<Sizes>
         (LacksWhole AreSizes (behind (codes "config") sizes_words) (words_in line.now))
         (λ sizes. IsWhole AreSizes (behind (codes "config") sizes_words) (words_in line.now) sizes) }
 {
-    let mut words = Words::new(line);
-    words.name(b"config")?;
-    let slots = words.number_to(SLOT_LIMIT)?;
-    let frames = words.number_to(FRAME_LIMIT)?;
-    let host = words.number_to(FRAME_LIMIT)?;
-    let approved = words.number_to(DIGEST_LIMIT as u32)?;
+    let mut words = LineWords::new(line);
+    take_name(&mut words, b"config")?;
+    let slots = take_number_to(&mut words, SLOT_LIMIT)?;
+    let frames = take_number_to(&mut words, FRAME_LIMIT)?;
+    let host = take_number_to(&mut words, FRAME_LIMIT)?;
+    let approved = take_number_to(&mut words, DIGEST_LIMIT as u32)?;
     words.end()?;
     Some(Sizes {
         slots,
@@ -38,30 +38,14 @@ pub fn read_sizes(line: &[u8]) -> Option<Sizes>
     })
 }
 
-/// The 32 bytes that 64 lower case digits are.
-#[tactic(auto, unfolding(kc_dump_text::specs::Words::digest_in))]
-fn read_digest(word: &[u8]) -> Option<[u8; 32]>
-    ensures { result ≡ digest_in word.now }
-{
-    if word.len() != 64 {
-        return None;
-    }
-    let mut digest = [0; 32];
-    if decode_into(word, &mut digest) {
-        Some(digest)
-    } else {
-        None
-    }
-}
-
 /// The line of an approved digest.
 pub fn read_approved(line: &[u8]) -> Option<[u8; 32]>
     ensures { MatchOption result
         (LacksWhole IsDigest (behind (codes "approved") approved_words) (words_in line.now))
         (λ digest. IsWhole IsDigest (behind (codes "approved") approved_words) (words_in line.now) digest) }
 {
-    let mut words = Words::new(line);
-    words.name(b"approved")?;
+    let mut words = LineWords::new(line);
+    take_name(&mut words, b"approved")?;
     let digest = read_digest(words.next()?)?;
     words.end()?;
     Some(digest)
@@ -96,7 +80,7 @@ fn vcpu_of(word: &[u8]) -> Option<Vcpu>
 }
 
 /// The next virtual processor.
-fn read_vcpu(words: &mut Words) -> Option<Vcpu>
+fn read_vcpu(words: &mut LineWords) -> Option<Vcpu>
     ensures { MatchOption result
         (LacksFirst IsVcpuWord vcpu_words words.old)
         (λ vcpu. BeginsAs IsVcpuWord vcpu_words words.old vcpu words.new) }
@@ -105,7 +89,7 @@ fn read_vcpu(words: &mut Words) -> Option<Vcpu>
 }
 
 /// The next 8 virtual processors.
-fn read_vcpus(words: &mut Words) -> Option<ArrayVec<Vcpu, VCPU_LIMIT>>
+fn read_vcpus(words: &mut LineWords) -> Option<ArrayVec<Vcpu, VCPU_LIMIT>>
     ensures { MatchOption result
         (LacksFirst AreVcpus vcpus_words words.old)
         (λ vcpus. BeginsAs AreVcpus vcpus_words words.old vcpus.items words.new) }
@@ -118,19 +102,19 @@ fn read_vcpus(words: &mut Words) -> Option<ArrayVec<Vcpu, VCPU_LIMIT>>
 }
 
 /// The next image.
-fn read_image(words: &mut Words) -> Option<Image>
+fn read_image(words: &mut LineWords) -> Option<Image>
     ensures { MatchOption result
         (LacksFirst AreImageWords image_words words.old)
         (λ image. BeginsAs AreImageWords image_words words.old image words.new) }
 {
-    let base = words.number()?;
-    let len = words.number()?;
-    let pages = words.number()?;
+    let base = take_number(words)?;
+    let len = take_number(words)?;
+    let pages = take_number(words)?;
     Some(Image { base, len, pages })
 }
 
 /// The images that the words left are, at most 4.
-fn read_images(words: &mut Words) -> Option<ArrayVec<Image, IMAGE_LIMIT>>
+fn read_images(words: &mut LineWords) -> Option<ArrayVec<Image, IMAGE_LIMIT>>
     ensures { MatchOption result
         (LacksWhole AreImages images_words words.old)
         (λ images. IsWhole AreImages images_words words.old images.items) }
@@ -152,8 +136,8 @@ pub fn read_slot(line: &[u8]) -> Option<SlotRest>
         (LacksWhole IsSlotLine (behind (codes "slot") slot_words) (words_in line.now))
         (λ slot. IsWhole IsSlotLine (behind (codes "slot") slot_words) (words_in line.now) slot) }
 {
-    let mut words = Words::new(line);
-    words.name(b"slot")?;
+    let mut words = LineWords::new(line);
+    take_name(&mut words, b"slot")?;
     let vcpus = read_vcpus(&mut words)?;
     let images = read_images(&mut words)?;
     Some(SlotRest { vcpus, images })
@@ -165,8 +149,8 @@ pub fn page_word(line: &[u8]) -> Option<&[u8]>
         ((word : List ℕ) → words_in line.now ≡ codes "page" ∷ word ∷ [] → ⊥)
         (λ word. words_in line.now ≡ codes "page" ∷ word.now ∷ []) }
 {
-    let mut words = Words::new(line);
-    words.name(b"page")?;
+    let mut words = LineWords::new(line);
+    take_name(&mut words, b"page")?;
     let word = words.next()?;
     words.end()?;
     Some(word)

@@ -1,8 +1,8 @@
 use Rattle.std.proofs.Common.{ap, sym, ◌∙◌}
 use Rattle.std.specs.Prelude.{option_and_then}
 use Rattle.kc_dump_text.specs.Lines.{line_read}
-use Rattle.kc_dump_text.specs.Sections.{first_line}
-use Rattle.kc_dump_text.proofs.FirstLine.{none-first, cut-first, read-first}
+use Rattle.kc_dump_text.specs.Begun.{first_line}
+use Rattle.kc_dump_text.proofs.ReadLines.{none-first, cut-first, read-first}
 use Rattle.kc_dump_text.proofs.next.next_line.Goals as goal
 
 pub returns-in_default : goal.returns-in_default

@@ -1,5 +1,5 @@
 use Rattle.std.proofs.Common.{sym, arith}
-use Rattle.kc_dump_text.proofs.Bytes.{all-bytes}
+use Rattle.kc_dump_text.proofs.ReadLines.{all-bytes}
 use Rattle.kc_dump_text.proofs.ranges.are_bytes.Goals as goal
 
 pub returns : goal.returns

@@ -1,5 +1,5 @@
 use Rattle.std.proofs.Common.{◌≡◌, ◌≤◌, ◌+◌, drop}
-use Rattle.kc_dump_text.specs.Sections.{newlines}
+use Rattle.kc_dump_text.specs.Begun.{newlines}
 use Rattle.kc_dump_text.proofs.reader.count_newlines.Given as goal
 
 abbrev pub invariant-loop-i : goal.invariant-loop-i

@@ -1,9 +1,8 @@
-use Rattle.std.proofs.Common.{◌∙◌}
-use Rattle.kc_dump_text.proofs.Followed.{one-dump, not-refused, whole-text, refused}
+use Rattle.kc_dump_text.proofs.Followed.{read-found, read-only}
 use Rattle.kc_dump_text.proofs.reader.read_dump.Goals as goal
 
-pub returns-in-Ok-clause-only : goal.returns-in-Ok-clause-only
-returns-in-Ok-clause-only c dump other = c.into_dump.ensures ∙ one-dump c.args.text.now c.in-Ok.begun dump c.requires (whole-text c.in-Some.version c.args.text.now c.in-Some.rest.now c.in-Ok.begun c.in-Some.ensures c.in-Ok.ensures) other
+pub returns-clause-found : goal.returns-clause-found
+returns-clause-found c = read-found c.in-Some.version c.args.text.now c.in-Some.rest.now c.read_behind_header.result c.in-Some.ensures c.read_behind_header.ensures
 
-pub returns-in-Err-clause-only : goal.returns-in-Err-clause-only
-returns-in-Err-clause-only c dump other = not-refused c.args.text.now dump c.in-Err.fault c.requires other (refused c.in-Some.version c.args.text.now c.in-Some.rest.now c.in-Err.fault c.in-Some.ensures c.in-Err.ensures)
+pub returns-clause-only : goal.returns-clause-only
+returns-clause-only c dump is = read-only c.args.text.now c.read_behind_header.result dump c.requires (read-found c.in-Some.version c.args.text.now c.in-Some.rest.now c.read_behind_header.result c.in-Some.ensures c.read_behind_header.ensures) is

@@ -1,4 +1,4 @@
-use Rattle.std.proofs.Common.{sym, ◌∙◌, arith}
+use Rattle.std.proofs.Common.{◌∙◌, arith}
 use Rattle.kc_lines.proofs.Values.{digits_numeral, value_is, no_value, not_numeral}
 use Rattle.kc_lines.proofs.reading.read_digits.Goals as goal
 

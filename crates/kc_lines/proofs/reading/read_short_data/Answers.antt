@@ -1,4 +1,4 @@
-use Rattle.std.proofs.Common.{arith, ap, sym, ◌∙◌, Some, List, ℕ, ◌≡◌, length}
+use Rattle.std.proofs.Common.{arith, ap, sym, ◌∙◌, Some}
 use Rattle.kc_lines.proofs.Digits.{read_as_spelled, no_digits}
 use Rattle.kc_lines.proofs.reading.read_short_data.Goals as goal
 

@@ -1,4 +1,4 @@
-use Rattle.std.proofs.Common.{arith, sym}
+use Rattle.std.proofs.Common.{arith}
 use Rattle.kc_lines.proofs.Words.{last_number, first_number}
 use Rattle.kc_lines.proofs.reading.split_number.Goals as goal
 

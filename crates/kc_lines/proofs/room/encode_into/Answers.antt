@@ -1,5 +1,4 @@
-use Rattle.std.proofs.Common.{arith}
-use Rattle.kc_lines.proofs.Encoded.{none_encoded, next_encoded, all_encoded}
+use Rattle.kc_lines.proofs.Encoded.{none_encoded, next_encoded}
 use Rattle.kc_lines.proofs.room.encode_into.Goals as goal
 
 pub loop-i-init : goal.loop-i-init

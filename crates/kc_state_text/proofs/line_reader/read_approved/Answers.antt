@@ -7,8 +7,8 @@ use Rattle.kc_state_text.proofs.line_reader.read_approved.Goals as goal
 pub returns-in_err-digest : goal.returns-in_err-digest
 returns-in_err-digest c =
     rw c.from_residual-in_err-digest.ensures
-    (no-digest-word (codes "approved") (words_in c.args.line.now) c.in_ok-next.field-0.now c.name.new.self c.next.new.self (sym c.new-words.ensures ∙ c.in_ok-name.ensures) c.in_ok-next.ensures (sym c.in_err-digest.ensures))
+    (no-digest-word (codes "approved") (words_in c.args.line.now) c.in_ok-next.field-0.now c.take_name.new.words c.next.new.self (sym c.new-words.ensures ∙ c.in_ok-take_name.ensures) c.in_ok-next.ensures (sym c.in_err-digest.ensures))
 
 pub returns : goal.returns
-returns c = digest-is-read (codes "approved") (words_in c.args.line.now) c.in_ok-digest.digest c.in_ok-next.field-0.now c.name.new.self c.next.new.self (sym c.new-words.ensures ∙ c.in_ok-name.ensures) c.in_ok-next.ensures c.in_ok-end.ensures
+returns c = digest-is-read (codes "approved") (words_in c.args.line.now) c.in_ok-digest.digest c.in_ok-next.field-0.now c.take_name.new.words c.next.new.self (sym c.new-words.ensures ∙ c.in_ok-take_name.ensures) c.in_ok-next.ensures c.in_ok-end.ensures.ended
     (sym c.in_ok-digest.ensures)

@@ -1,4 +1,4 @@
-use Rattle.std.proofs.Common.{◌≡◌, ◌++◌, ◌∙◌, sym, ap}
+use Rattle.std.proofs.Common.{◌++◌, ◌∙◌, sym, ap}
 use Rattle.kc_state_text.specs.Pieces.{to_come}
 use Rattle.kc_state_text.proofs.ToCome.{rest_after}
 use Rattle.kc_state_text.proofs.pieces.is_rest.Goals as goal

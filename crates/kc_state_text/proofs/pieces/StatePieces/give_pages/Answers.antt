@@ -1,5 +1,4 @@
-use Rattle.std.proofs.Common.{◌≡◌, ◌<◌, ◌∙◌, ◌++◌, length, sym, ap, refl, arith, rules}
-use Rattle.kc_model.specs.State.{frame_at}
+use Rattle.std.proofs.Common.{◌<◌, ◌∙◌, ◌++◌, length, ap, refl, arith, rules}
 use Rattle.kc_state_text.specs.Pieces.{to_come}
 use Rattle.kc_state_text.proofs.ToCome.{page_given, bytes_there}
 use Rattle.kc_state_text.proofs.pieces.StatePieces.give_pages.Goals as goal

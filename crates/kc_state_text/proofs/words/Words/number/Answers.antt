@@ -1,5 +1,0 @@
-use Rattle.kc_state_text.proofs.Taken.{number-read}
-use Rattle.kc_state_text.proofs.words.Words.number.Goals as goal
-
-pub returns : goal.returns
-returns c = number-read c.read_number.result c.args.self.now c.in_ok-next.field-0.now c.next.new.self c.in_ok-next.ensures c.read_number.ensures
