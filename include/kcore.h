@@ -1,6 +1,7 @@
 /* The trusted core in a program of your own: link with -lkcore. docs/EMBED.md says more.
  *
- * What each function does is proved, for a caller that keeps to this, which nothing checks:
+ * What each function says below of its status, of *used and of the buffer is proved, for a caller that keeps to this, which
+ * nothing checks:
  *  - a pointer and the length behind it are bytes of the caller's, `used` is one number, and nothing else uses them
  *    while the call runs; buffers, `used` and session do not overlap;
  *  - a session begins as {0}, and then only these functions change it; it is not copied while it is open;
@@ -49,13 +50,14 @@ size_t kcore_longest_line(void);
 uint32_t kcore_boot(kcore *core, const uint8_t *config, size_t config_length);
 
 /* Answers the call that a line is, given without its newline. The reply's line, with its newline, is the first *used
- * bytes of the buffer, which has room for kcore_longest_reply() bytes. Where it does not answer, nothing has changed,
- * and *used is 0; after KCORE_MEMORY the same line may be asked again. */
+ * bytes of the buffer, which has room for kcore_longest_reply() bytes; the bytes after them stay. If it does not answer,
+ * session and buffer stay as they are, and *used is 0; after KCORE_MEMORY the same line may be asked again. */
 uint32_t kcore_call(kcore *core, const uint8_t *line, size_t line_length, uint8_t *out, size_t out_length,
                     size_t *used);
 
 /* Tells a line of the volume's trace, by its place from 0, with its newline: the header, then a line for each call that
- * was answered. The lines from 0 to KCORE_NO_SUCH_LINE, one behind the other, are the trace. */
+ * was answered. The lines from 0 to KCORE_NO_SUCH_LINE, one after the other, are the trace. The bytes after the first *used
+ * stay; if no line is given, *used is 0. */
 uint32_t kcore_line(kcore *core, size_t number, uint8_t *out, size_t out_length, size_t *used);
 
 /* Begins the next volume, with the core as it is: calls and lines from then on are of the next one, and those of the last

@@ -1,6 +1,6 @@
 -- A beginning of a live run's text is given.
 use Rattle.std.proofs.Common.{ℕ, ◌≡◌, ◌≤◌, List, length, Option, Some, None, Err, take, refl, arith}
-use Rattle.std.specs.Prelude.{IfSome, ◌≢◌}
+use Rattle.std.specs.Prelude.{IfSome}
 use Rattle.std.specs.Io.KnownBytes.{Appends}
 use Rattle.kc_types.specs.Configuration.{Configuration}
 use Rattle.kc_types.specs.declared.call.Call.{Call}

@@ -1,5 +1,5 @@
 -- Calls that are fed after others.
-use Rattle.std.proofs.Common.{◌≡◌, ◌++◌, ◌∷◌, ◌∙◌, ℕ, List, [], Option, Some, None, refl, ap, sym, arith, length-append}
+use Rattle.std.proofs.Common.{◌≡◌, ◌++◌, ◌∙◌, ℕ, List, [], Option, Some, None, refl, ap, sym, arith, length-append}
 use Rattle.std.specs.Prelude.{IsSome, IfSome}
 use Rattle.kc_types.specs.declared.call.Call.{Call}
 use Rattle.kc_types.specs.declared.reply.Reply.{Reply}

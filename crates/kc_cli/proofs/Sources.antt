@@ -1,5 +1,5 @@
 -- What is told of two sources where there is a third.
-use Rattle.std.proofs.Common.{◌≡◌, ◌⊎◌, Bool, true, false, List, [], ◌∷◌, Result, Ok, Err, inl, inr}
+use Rattle.std.proofs.Common.{◌≡◌, true, false, [], ◌∷◌, Result, Ok, Err, inl, inr}
 use Rattle.kc_texts.specs.Ends.{ReadFailed}
 use Rattle.kc_texts.specs.Outcomes.{Seen, HasFailedRead, HasFailed, TellsSources}
 use Rattle.kc_texts.specs.declared.fault.TextFault.{TextFault}

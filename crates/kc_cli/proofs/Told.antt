@@ -1,5 +1,5 @@
 -- What is told of calls that come after others, and what the sink takes of it.
-use Rattle.std.proofs.Common.{ℕ, ◌≡◌, ◌+◌, ◌++◌, List, [], ◌∷◌, length, take, map, refl, ap, ap₂, sym, ◌∙◌, Option, Some, None, subst, arith, inl, inr, append_assoc}
+use Rattle.std.proofs.Common.{ℕ, ◌≡◌, ◌+◌, ◌++◌, List, [], length, take, map, refl, ap, ap₂, sym, ◌∙◌, Option, Some, None, Err, subst, arith, inl, inr, append_assoc}
 use Rattle.std.proofs.lemmas.Bool.{cases_lt}
 use Rattle.std.proofs.lemmas.List.{take_all, length-map, append-nil}
 use Rattle.std.proofs.Math.Seq.{take-append-add, take-append-le}
@@ -23,10 +23,12 @@ use Rattle.kc_model.proofs.Custody.Bars.{bars_are}
 use Rattle.kc_model.proofs.Custody.Laws.{custody_is}
 use Rattle.kc_model.proofs.States.Runs.{state_after-append}
 use Rattle.kc_trace.specs.CustodyText.{change_line, event_line, header_line, end_line, custody_text_of}
+use Rattle.kc_texts.specs.declared.fault.TextFault.{TextFault}
+use Rattle.kc_texts.specs.declared.fault.TextFault.TheVariants as texts
 use Rattle.kc_texts.specs.declared.origin.Origin.{Origin}
 use Rattle.kc_texts.specs.Reading.{BeginsIn, Writes, Begins}
 use Rattle.kc_cli.specs.declared.account.CustodyForm.{CustodyForm}
-use Rattle.kc_cli.specs.Custody.{AreEventsOf, IsCustodyTold, IsAccount, IsCustodyText}
+use Rattle.kc_cli.specs.Custody.{AreEventsOf, IsCustodyTold, IsAccount, IsCustodyText, TellsCustody, origin_of}
 
 -- the events of calls behind those so far
 pub told_more : (m old : State) (xs ys : List Call) (line : ℕ) (told now : List Event) → told ≡ events m xs → old ≡ state_after m xs → line ≡ first_line + length xs → now ≡ told ++ events_from line old ys → now ≡ events m (xs ++ ys)
@@ -65,19 +67,30 @@ abbrev pub WasTold : Origin → Option (List ℕ) → Option (List ℕ) → Conf
 WasTold origin start trace config count told = (m : State) × IfSome start (λ text. BeginsIn origin text m) × (config ≡ m.config) × IsCustodyTold m trace count told
 
 -- what was written is made of what was told of both texts
-pub gives_custody : (origin : Origin) (form : CustodyForm) (vm : Option ℕ) (start trace old new : Option (List ℕ)) (config : Configuration) (count : ℕ) (told : List Event) → WasTold origin start trace config count told
-    → ((text : List ℕ) × IsAccount form vm config count told text × Appends old new text) → Writes (IsCustodyText origin form vm) start trace old new
-gives_custody origin form vm None trace old new config count told h given = tt
-gives_custody origin form vm (Some start) None old new config count told h given = tt
-gives_custody origin form vm (Some start) (Some trace) old new config count told h given =
+pub gives_custody : (form : CustodyForm) (vm : Option ℕ) (start trace old new : Option (List ℕ)) (config : Configuration) (count : ℕ) (told : List Event) → WasTold (origin_of form) start trace config count told
+    → ((text : List ℕ) × IsAccount form vm config count told text × Appends old new text) → Writes (IsCustodyText form vm) start trace old new
+gives_custody form vm None trace old new config count told h given = tt
+gives_custody form vm (Some start) None old new config count told h given = tt
+gives_custody form vm (Some start) (Some trace) old new config count told h given =
     (given.0, (h.0, count, told, h.1, h.3, subst (λ c. IsAccount form vm c count told given.0) h.2 given.1), given.2)
 
-pub begins_custody : (origin : Origin) (form : CustodyForm) (vm : Option ℕ) (start trace old new : Option (List ℕ)) (config : Configuration) (count : ℕ) (told : List Event) → WasTold origin start trace config count told
-    → ((text : List ℕ) × (n : ℕ) × IsAccount form vm config count told text × Appends old new (take n text)) → Begins (IsCustodyText origin form vm) start trace old new
-begins_custody origin form vm None trace old new config count told h given = tt
-begins_custody origin form vm (Some start) None old new config count told h given = tt
-begins_custody origin form vm (Some start) (Some trace) old new config count told h given =
+pub begins_custody : (form : CustodyForm) (vm : Option ℕ) (start trace old new : Option (List ℕ)) (config : Configuration) (count : ℕ) (told : List Event) → WasTold (origin_of form) start trace config count told
+    → ((text : List ℕ) × (n : ℕ) × IsAccount form vm config count told text × Appends old new (take n text)) → Begins (IsCustodyText form vm) start trace old new
+begins_custody form vm None trace old new config count told h given = tt
+begins_custody form vm (Some start) None old new config count told h given = tt
+begins_custody form vm (Some start) (Some trace) old new config count told h given =
     (given.0, given.1, (h.0, count, told, h.1, h.3, subst (λ c. IsAccount form vm c count told given.0) h.2 given.2), given.3)
+
+-- a fault from which nothing was written
+pub custody_err : {A B : Type 0} (slot : Option ℕ) (origin : Origin) (start : Option (List ℕ)) (unread : Type 0) (f : TextFault) → TellsCustody {A = A} slot origin start unread (Err f) → TellsCustody {A = B} slot origin start unread (Err f)
+custody_err slot origin start unread f h = record {
+  named = tt;
+  lacking = λ n e. h.lacking n (let same : f ≡ texts.NoSlot n = cc in cc);
+  workers = λ e. h.workers (let same : f ≡ texts.Workers = cc in cc);
+  started = λ e. h.started (let same : f ≡ texts.Start = cc in cc);
+  settled = λ e. h.settled (let same : f ≡ texts.Unsettled = cc in cc);
+  actor = λ p e. h.actor p (let same : f ≡ texts.BadActor p = cc in cc);
+}
 
 cut_first : (xs ys : List ℕ) (n : ℕ) → (m : ℕ) × (take n xs ≡ take m (xs ++ ys))
 cut_first xs ys n =

@@ -1,7 +1,7 @@
 -- What the engine of custody writes of what its sources held.
-use Rattle.std.specs.Prelude.{◌≡◌, ◌≤◌, ℕ, List, length, Option, Some, IfSome}
+use Rattle.std.specs.Prelude.{◌≡◌, ◌≢◌, ◌<◌, ◌≤◌, ℕ, List, length, Option, Some, Result, Err, IfSome, OnOk}
 use Rattle.kc_types.specs.Limits.{call_limit}
-use Rattle.kc_types.specs.Configuration.{Configuration}
+use Rattle.kc_types.specs.Configuration.{Configuration, slot_count}
 use Rattle.kc_types.specs.declared.call.Call.{Call}
 use Rattle.kc_types.specs.declared.custody.Event.{Event}
 use Rattle.kc_model.specs.State.{State}
@@ -15,7 +15,10 @@ use Rattle.kc_custody.specs.Selected.{selected}
 use Rattle.kc_trace.specs.Trace.{IsTrace}
 use Rattle.kc_trace.specs.CustodyText.{custody_text_of}
 use Rattle.kc_trace.specs.SummaryText.{summary_text_of}
+use Rattle.kc_texts.specs.declared.fault.TextFault.{TextFault}
+use Rattle.kc_texts.specs.declared.fault.TextFault.TheVariants as texts
 use Rattle.kc_texts.specs.declared.origin.Origin.{Origin}
+use Rattle.kc_texts.specs.declared.origin.Origin.TheVariants as origins
 use Rattle.kc_texts.specs.Reading.{BeginsIn}
 use Rattle.kc_cli.specs.declared.account.CustodyForm.{CustodyForm}
 use Rattle.kc_cli.specs.declared.account.CustodyForm.TheVariants.{Changes, Summary, Picture}
@@ -42,11 +45,35 @@ pub record IsCustodyTold (m : State) (source : Option (List ℕ)) (count : ℕ) 
 
 -- the text is that of the changes of all frames and slots, or of one slot's VM; that of the lives of all VMs, or of one slot's; or a picture, of whose bytes nothing is said
 abbrev pub IsAccount : CustodyForm → Option ℕ → Configuration → ℕ → List Event → List ℕ → Type 0
-IsAccount Changes vm config count told text = text ≡ custody_text_of config count (selected vm (changes_in told))
+IsAccount (Changes origin) vm config count told text = text ≡ custody_text_of config count (selected vm (changes_in told))
 IsAccount Summary vm config count told text = text ≡ summary_text_of config count (selected_lives vm (lives told))
 IsAccount Picture vm config count told text = Unit {0}
 
+-- what the calls begin with: lives and pictures begin at boot
+abbrev pub origin_of : CustodyForm → Origin
+origin_of (Changes origin) = origin
+origin_of Summary = origins.Boot
+origin_of Picture = origins.Boot
+
 -- the text is made of the events of the trace from the state on that the first text tells
-abbrev pub IsCustodyText : Origin → CustodyForm → Option ℕ → List ℕ → List ℕ → List ℕ → Type 0
-IsCustodyText origin form vm start_text trace_text text =
-    (m : State) × (count : ℕ) × (told : List Event) × BeginsIn origin start_text m × IsCustodyTold m (Some trace_text) count told × IsAccount form vm m.config count told text
+abbrev pub IsCustodyText : CustodyForm → Option ℕ → List ℕ → List ℕ → List ℕ → Type 0
+IsCustodyText form vm start_text trace_text text =
+    (m : State) × (count : ℕ) × (told : List Event) × BeginsIn (origin_of form) start_text m × IsCustodyTold m (Some trace_text) count told × IsAccount form vm m.config count told text
+
+-- the machine that calls begin on has the slot of this number, or has not
+abbrev pub HasSlot : Origin → List ℕ → ℕ → Type 0
+HasSlot origin text number = (m : State) × BeginsIn origin text m × (number < slot_count m.config)
+
+abbrev pub LacksSlot : Origin → List ℕ → ℕ → Type 0
+LacksSlot origin text number = (m : State) × BeginsIn origin text m × (slot_count m.config ≤ number)
+
+-- what an account of custody, of one slot where it is named, may be refused for after this start
+pub record TellsCustody {A : Type 0} (slot : Option ℕ) (origin : Origin) (start : Option (List ℕ)) (unread : Type 0) (result : Result A TextFault) : Type 0 where
+  -- a slot that the machine lacks is refused before the trace is read, and no other slot is
+  pub named : OnOk result (IfSome slot (λ number. IfSome start (λ text. HasSlot origin text number)))
+  pub lacking : (number : ℕ) → result ≡ Err (texts.NoSlot number) → (slot ≡ Some number) × IfSome start (λ text. LacksSlot origin text number) × unread
+  -- no fault of workers or of a live run comes
+  pub workers : result ≢ Err texts.Workers
+  pub started : result ≢ Err texts.Start
+  pub settled : result ≢ Err texts.Unsettled
+  pub actor : (program : ℕ) → result ≢ Err (texts.BadActor program)

@@ -30,6 +30,7 @@ pub record IsReplayFault (fault : TextFault) : Type 0 where
   pub workers : fault ≢ texts.Workers
   pub unsettled : fault ≢ texts.Unsettled
   pub actor : (program : ℕ) → fault ≢ texts.BadActor program
+  pub slot : (number : ℕ) → fault ≢ texts.NoSlot number
   pub write : fault ≢ texts.Write
   pub config : (said : ConfigTextFault) → fault ≢ texts.Config said
   pub state : (said : StateFault) → fault ≢ texts.State said

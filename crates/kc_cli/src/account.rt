@@ -12,11 +12,11 @@ ghost use Rattle.kc_trace.specs.CustodyText.{event_line, custody_text_of};
 ghost use Rattle.kc_trace.specs.SummaryText.{summary_text_of};
 ghost use Rattle.kc_trace.specs.Spelling.{longest_call};
 ghost use Rattle.kc_texts.specs.Outcomes.{TellsSink};
-ghost use Rattle.kc_cli.specs.Custody.{IsAccount};
+ghost use Rattle.kc_cli.specs.Custody.{IsAccount, origin_of};
 
 use kc_custody::{lives, select, select_lives};
 use kc_picture::{bars, picture};
-use kc_texts::{Failed, Sink, TextFault, empty_piece, give_lines, write_whole};
+use kc_texts::{Failed, Origin, Sink, TextFault, empty_piece, give_lines, write_whole};
 use kc_trace::{push_custody_end, push_custody_header, summary_text};
 use kc_types::{Config, Event, Memory};
 use std::alloc::Global;
@@ -27,12 +27,25 @@ pub(crate) const FIRST_LINE: u32 = 2;
 /// What is written of what happened.
 #[derive(Clone, Copy, Debug, PartialEq, Eq)]
 pub enum CustodyForm {
-    /// Every change of a frame or slot, a line each.
-    Changes,
-    /// Each life of a VM, a line each.
+    /// Every change of a frame or slot, a line each, from where the calls begin.
+    Changes(Origin),
+    /// Each life of a VM, a line each. Calls begin in a configuration's boot state: lives that are under way in the state of a
+    /// text began before it.
     Summary,
-    /// A picture, SVG 1.1.
+    /// A picture, SVG 1.1. Calls begin in a configuration's boot state, since frames are drawn from their owners there on.
     Picture,
+}
+
+impl CustodyForm {
+    /// What the calls begin with.
+    pub fn origin(self) -> Origin
+        ensures { result ≡ origin_of self }
+    {
+        match self {
+            CustodyForm::Changes(origin) => origin,
+            CustodyForm::Summary | CustodyForm::Picture => Origin::Boot,
+        }
+    }
 }
 
 /// What was told of a trace.
@@ -154,7 +167,7 @@ pub(crate) fn give_told<K: Sink>(
     ensures fault { IfErr result (λ fault. (fault ≡ TextFault.Memory) ⊎ (fault ≡ TextFault.Write)) }
 {
     match form {
-        CustodyForm::Changes => give_changes(alloc, told, vm, out),
+        CustodyForm::Changes(_) => give_changes(alloc, told, vm, out),
         CustodyForm::Summary => {
             let Told {
                 config,

@@ -1,16 +1,17 @@
 //! The engine that tells what happened to each frame and slot, over any sources and any sink.
-ghost use Rattle.std.specs.Prelude.{◌≡◌, ◌≢◌, ◌<◌, ◌≤◌, ◌+◌, ◌^◌, ◌∷◌, [], ℕ, List, All, length, take, false, true, IfOk, IfErr, IfSome, OnOk, Err};
+ghost use Rattle.std.specs.Prelude.{◌≡◌, ◌≢◌, ◌<◌, ◌≤◌, ◌+◌, ◌^◌, ◌∷◌, [], ℕ, List, All, length, take, false, true, Some, None, IfOk, IfErr, IfSome, OnOk, Err};
 ghost use Rattle.std.specs.Io.KnownBytes.{Appends, IsAtEnd};
 ghost use Rattle.kc_types.specs.Limits.{call_limit};
+ghost use Rattle.kc_types.specs.Configuration.{slot_count};
 ghost use Rattle.kc_trace.specs.declared.fault.TraceFault.{TraceFault};
 ghost use Rattle.kc_trace.specs.Trace.{IsRefused};
 ghost use Rattle.kc_texts.specs.Ends.{ReadFailed};
 ghost use Rattle.kc_model.specs.Lawful.{IsLawful};
 ghost use Rattle.kc_model.specs.State.{State};
 ghost use Rattle.kc_texts.specs.Reading.{BeginsIn, Writes, Begins};
-ghost use Rattle.kc_texts.specs.Outcomes.{seen, TellsSources, TellsTexts, TellsReplay, TellsSink};
+ghost use Rattle.kc_texts.specs.Outcomes.{seen, TellsSources, TellsTexts, TellsSink};
 ghost use Rattle.kc_cli.specs.Engine.{IsReplayFault};
-ghost use Rattle.kc_cli.specs.Custody.{AreEventsOf, IsCustodyTold, IsCustodyText};
+ghost use Rattle.kc_cli.specs.Custody.{AreEventsOf, IsCustodyTold, IsCustodyText, TellsCustody, origin_of};
 
 use crate::account::{CustodyForm, FIRST_LINE, Told, give_told};
 use crate::starting::read_start;
@@ -91,6 +92,19 @@ fn told_source<T: Source>(
     }
 }
 
+/// The slot that is named, if the core lacks it.
+fn missing(core: &KCore, vm: Option<u32>) -> Option<u32>
+    ensures some { IfSome result (λ slot. (vm ≡ Some slot) × (slot_count core.now.config ≤ slot)) }
+    ensures none { result ≡ None → IfSome vm (λ slot. slot < slot_count core.now.config) }
+{
+    let slot = vm?;
+    if slot < core.config().slots() {
+        None
+    } else {
+        Some(slot)
+    }
+}
+
 /// Reads what the calls begin with to its end and a trace as its calls are made: their events.
 fn told_texts<C: Source, T: Source>(
     rt: &(impl Threads + Sync),
@@ -101,32 +115,33 @@ fn told_texts<C: Source, T: Source>(
 ) -> Result<Told, TextFault>
     requires start { C.failed start.old ≡ false }
     requires trace { T.failed trace.old ≡ false }
-    ensures ok { IfOk result (λ told. (m : State) × IfSome (C.left start.old) (λ text. BeginsIn order.origin text m) × (told.config ≡ m.config) × IsCustodyTold m (T.left trace.old) told.calls told.events.items) }
+    ensures ok { IfOk result (λ told. (m : State) × IfSome (C.left start.old) (λ text. BeginsIn (origin_of order.form) text m) × (told.config ≡ m.config) × IsCustodyTold m (T.left trace.old) told.calls told.events.items) }
     ensures sources { TellsSources (seen (C.failed start.new) (C.left start.old) (C.left start.new) ∷ seen (T.failed trace.new) (T.left trace.old) (T.left trace.new) ∷ []) result }
-    ensures texts { TellsTexts order.origin (seen (C.failed start.new) (C.left start.old) (C.left start.new)) (seen (T.failed trace.new) (T.left trace.old) (T.left trace.new)) (trace.new ≡ trace.old) result }
-    ensures replay { TellsReplay 1 order.origin (C.left start.old) result }
+    ensures texts { TellsTexts (origin_of order.form) (seen (C.failed start.new) (C.left start.old) (C.left start.new)) (seen (T.failed trace.new) (T.left trace.old) (T.left trace.new)) (trace.new ≡ trace.old) result }
+    ensures custody { TellsCustody order.vm (origin_of order.form) (C.left start.old) (trace.new ≡ trace.old) result }
     ensures write { result ≢ Err TextFault.Write }
 {
-    let core = read_start(rt, alloc, start, order.origin, order.lanes)?;
+    let mut core = read_start(rt, alloc, start, order.form.origin(), order.lanes)?;
+    if let Some(slot) = missing(&core, order.vm) {
+        core.wipe(rt);
+        return Err(TextFault::NoSlot(slot));
+    }
     told_source(rt, alloc, core, trace)
 }
 
 /// How what happened is told.
 #[derive(Clone, Copy)]
 pub struct CustodyOrder {
-    /// What the calls begin with.
-    pub origin: Origin,
+    /// What is written, and what the calls begin with.
+    pub form: CustodyForm,
     /// How many pages are hashed at once.
     pub lanes: Lanes,
-    /// What is written.
-    pub form: CustodyForm,
-    /// The slot whose VM alone is told of, 0 to 63, where one is named.
+    /// The slot whose VM alone is reported, if one is named.
     pub vm: Option<u32>,
 }
 
 /// Reads what the calls begin with and a trace, each to its end, makes the trace's calls on one thread as they are read, and
-/// writes what happened to each frame and slot. A summary has the lives that begin in the trace. A picture shows each frame
-/// from its owner at boot on, whatever the calls begin with.
+/// writes what happened to each frame and slot. A slot that the machine lacks is `NoSlot`, before the trace is read.
 ///
 /// Nothing is written but after the whole trace was read and answered. A source that fails, or that has more than
 /// 1,073,741,824 bytes, is `Read`, also where its bytes so far are refused already. Out of memory comes before a fault of
@@ -144,11 +159,11 @@ pub fn custody_text<C: Source, T: Source, K: Sink>(
     requires out { K.failed out.old ≡ false }
 
     // What is written is made of the events of the trace.
-    ensures ok { OnOk result (Writes (IsCustodyText order.origin order.form order.vm) (C.left start.old) (T.left trace.old) (K.taken out.old) (K.taken out.new)) }
+    ensures ok { OnOk result (Writes (IsCustodyText order.form order.vm) (C.left start.old) (T.left trace.old) (K.taken out.old) (K.taken out.new)) }
     ensures sources { TellsSources (seen (C.failed start.new) (C.left start.old) (C.left start.new) ∷ seen (T.failed trace.new) (T.left trace.old) (T.left trace.new) ∷ []) result }
-    ensures texts { TellsTexts order.origin (seen (C.failed start.new) (C.left start.old) (C.left start.new)) (seen (T.failed trace.new) (T.left trace.old) (T.left trace.new)) (trace.new ≡ trace.old) result }
-    ensures replay { TellsReplay 1 order.origin (C.left start.old) result }
-    ensures sink { TellsSink (K.failed out.new) (Begins (IsCustodyText order.origin order.form order.vm) (C.left start.old) (T.left trace.old) (K.taken out.old) (K.taken out.new)) (out.new ≡ out.old) result }
+    ensures texts { TellsTexts (origin_of order.form) (seen (C.failed start.new) (C.left start.old) (C.left start.new)) (seen (T.failed trace.new) (T.left trace.old) (T.left trace.new)) (trace.new ≡ trace.old) result }
+    ensures custody { TellsCustody order.vm (origin_of order.form) (C.left start.old) (trace.new ≡ trace.old) result }
+    ensures sink { TellsSink (K.failed out.new) (Begins (IsCustodyText order.form order.vm) (C.left start.old) (T.left trace.old) (K.taken out.old) (K.taken out.new)) (out.new ≡ out.old) result }
 {
     let told = told_texts(rt, alloc, start, trace, order)?;
     give_told(alloc, told, order.form, order.vm, out)

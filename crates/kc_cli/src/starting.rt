@@ -95,8 +95,9 @@ pub(crate) fn read_start<C: Source>(
     ensures lawful { IfOk result IsLawful }
     ensures ended { OnOk result (IsAtEnd (C.left start.new)) }
     ensures mark { OnOk result (C.failed start.new ≡ false) }
-    ensures config { (fault : ConfigTextFault) → result ≡ Err (TextFault.Config fault) → IfSome (C.left start.old) (λ text. config_in text ≡ Err fault) × IsAtEnd (C.left start.new) }
-    ensures state { (fault : StateFault) → result ≡ Err (TextFault.State fault) → IfSome (C.left start.old) (λ text. IsRefusedState text fault) × IsAtEnd (C.left start.new) }
+    // The fault is of what the bytes are read as.
+    ensures config { (fault : ConfigTextFault) → result ≡ Err (TextFault.Config fault) → (origin ≡ Origin.Boot) × IfSome (C.left start.old) (λ text. config_in text ≡ Err fault) × IsAtEnd (C.left start.new) }
+    ensures state { (fault : StateFault) → result ≡ Err (TextFault.State fault) → (origin ≡ Origin.State) × IfSome (C.left start.old) (λ text. IsRefusedState text fault) × IsAtEnd (C.left start.new) }
     ensures read { result ≡ Err TextFault.Read → ReadFailed (C.failed start.new) (C.left start.old) (C.left start.new) }
     ensures source { C.failed start.new ≡ true → result ≡ Err TextFault.Read }
     ensures fault { IfErr result IsStartFault }

@@ -41,7 +41,7 @@ pub record IsMadeFrom (start : State) (v : VolumeView) : Type 0 where
   pub replies : IsLegalHistory start (calls_of v.entries) (replies_of v.entries)
   pub safe : IsSafe start (calls_of v.entries)
 
--- a volume of this number may start here: the first one in the boot state of a configuration, and another where the calls of those before it lead
+-- a volume of this number may start here: the first one in a configuration's boot state, and a later one in a state that some calls leave of one; that these are the calls of the volumes before it is `next_volume`'s to say
 pub record MayStart (number : ℕ) (start : State) : Type 0 where
   pub lawful : IsLawful start
   pub config : Configuration

@@ -33,9 +33,9 @@ texts_after origin start trace unread x (Err f) h (inl memory) = record { config
 texts_after origin start trace unread x (Err f) h (inr write) = record { config_fault = λ g e. absurd cc; state_fault = λ g e. absurd cc; trace_fault = λ g e. absurd cc; behind = h.behind; begun = λ g e. absurd cc; told = (λ e. cc, λ e. cc, λ e. cc, λ d e. cc) }
 
 pub replay_after : {A B : Type 0} (workers : ℕ) (origin : Origin) (start : Option (List ℕ)) (x : A) (last : Result B TextFault) → TellsReplay workers origin start (Ok x) → IfErr last IsLastFault → TellsReplay workers origin start last
-replay_after workers origin start x (Ok y) h fault = record { judged = (λ e. absurd cc, λ bad. let e = h.judged.1 bad in absurd cc); started = λ e. absurd cc; settled = λ e. cc; actor = λ p e. cc }
-replay_after workers origin start x (Err f) h (inl memory) = record { judged = (λ e. absurd cc, λ bad. let e = h.judged.1 bad in absurd cc); started = λ e. absurd cc; settled = λ e. cc; actor = λ p e. cc }
-replay_after workers origin start x (Err f) h (inr write) = record { judged = (λ e. absurd cc, λ bad. let e = h.judged.1 bad in absurd cc); started = λ e. absurd cc; settled = λ e. cc; actor = λ p e. cc }
+replay_after workers origin start x (Ok y) h fault = record { judged = (λ e. absurd cc, λ bad. let e = h.judged.1 bad in absurd cc); started = λ e. absurd cc; settled = λ e. cc; actor = λ p e. cc; slot = λ n e. cc }
+replay_after workers origin start x (Err f) h (inl memory) = record { judged = (λ e. absurd cc, λ bad. let e = h.judged.1 bad in absurd cc); started = λ e. absurd cc; settled = λ e. cc; actor = λ p e. cc; slot = λ n e. cc }
+replay_after workers origin start x (Err f) h (inr write) = record { judged = (λ e. absurd cc, λ bad. let e = h.judged.1 bad in absurd cc); started = λ e. absurd cc; settled = λ e. cc; actor = λ p e. cc; slot = λ n e. cc }
 
 -- a fault from which nothing was written
 pub sources_err : {A B : Type 0} (sources : List Seen) (f : TextFault) → TellsSources {A = A} sources (Err f) → TellsSources {A = B} sources (Err f)
@@ -57,6 +57,7 @@ replay_err workers origin start f h = record {
   started = λ e. h.started (let same : f ≡ texts.Start = cc in cc);
   settled = λ e. h.settled (let same : f ≡ texts.Unsettled = cc in cc);
   actor = λ p e. h.actor p (let same : f ≡ texts.BadActor p = cc in cc);
+  slot = λ n e. h.slot n (let same : f ≡ texts.NoSlot n = cc in cc);
 }
 
 -- the sink took a beginning of what stands for more
@@ -78,11 +79,11 @@ pub texts_ok : {A : Type 0} (origin : Origin) (start trace : Seen) (unread : Typ
 texts_ok origin start trace unread m x known = record { config_fault = λ f e. absurd cc; state_fault = λ f e. absurd cc; trace_fault = λ f e. absurd cc; behind = inr (begun_is origin start.had m known); begun = λ f e. absurd cc; told = tt }
 
 -- what the calls begin with was refused
-pub texts_start : {A : Type 0} (origin : Origin) (start trace : Seen) (unread : Type 0) (f : TextFault) → ((said : ConfigTextFault) → f ≡ texts.Config said → IfSome start.had (λ text. config_in text ≡ Err said) × IsAtEnd start.has)
-    → ((said : StateFault) → f ≡ texts.State said → IfSome start.had (λ text. IsRefusedState text said) × IsAtEnd start.has) → IsStartFault f → unread → TellsTexts {A = A} origin start trace unread (Err f)
+pub texts_start : {A : Type 0} (origin : Origin) (start trace : Seen) (unread : Type 0) (f : TextFault) → ((said : ConfigTextFault) → f ≡ texts.Config said → (origin ≡ origins.Boot) × IfSome start.had (λ text. config_in text ≡ Err said) × IsAtEnd start.has)
+    → ((said : StateFault) → f ≡ texts.State said → (origin ≡ origins.State) × IfSome start.had (λ text. IsRefusedState text said) × IsAtEnd start.has) → IsStartFault f → unread → TellsTexts {A = A} origin start trace unread (Err f)
 texts_start origin start trace unread f config state fault none = record {
-  config_fault = λ said e. let is = config said (let same : f ≡ texts.Config said = cc in same) in (is.0, is.1, none);
-  state_fault = λ said e. let is = state said (let same : f ≡ texts.State said = cc in same) in (is.0, is.1, none);
+  config_fault = λ said e. let is = config said (let same : f ≡ texts.Config said = cc in same) in (is.0, is.1, is.2, none);
+  state_fault = λ said e. let is = state said (let same : f ≡ texts.State said = cc in same) in (is.0, is.1, is.2, none);
   trace_fault = λ said e. absurd (fault.trace said (let same : f ≡ texts.Trace said = cc in same));
   behind = inl none;
   begun = λ said e. absurd (fault.trace said (let same : f ≡ texts.Trace said = cc in same));

@@ -59,6 +59,7 @@ status_of texts.Memory = 3
 status_of texts.Start = 3
 status_of texts.Unsettled = 3
 status_of (texts.BadActor program) = 2
+status_of (texts.NoSlot slot) = 2
 status_of texts.Read = 3
 status_of texts.Write = 3
 
@@ -73,16 +74,18 @@ fault_words texts.Memory = codes "out of memory"
 fault_words texts.Start = codes "a worker could not be started"
 fault_words texts.Unsettled = codes "history not settled"
 fault_words (texts.BadActor program) = codes "bad actor of program "
+fault_words (texts.NoSlot slot) = codes "the machine has no slot "
 fault_words texts.Read = codes "read failed"
 fault_words texts.Write = codes "write failed"
 
--- the number of a line, a frame or a program
+-- the number of a line, a frame, a program or a slot
 abbrev pub fault_number : TextFault → Option ℕ
 fault_number (texts.Trace (traces.BadLine number)) = Some number
 fault_number (texts.Dump (dumps.BadLine number)) = Some number
 fault_number (texts.Dump (dumps.Frame frame)) = Some frame
 fault_number (texts.State fault) = state_fault_number fault
 fault_number (texts.BadActor program) = Some program
+fault_number (texts.NoSlot slot) = Some slot
 fault_number fault = None
 
 abbrev pub numeral_of : Option ℕ → List ℕ

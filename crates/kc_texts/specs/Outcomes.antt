@@ -11,6 +11,7 @@ use Rattle.kc_texts.specs.Ends.{ReadFailed}
 use Rattle.kc_state_text.specs.declared.fault.StateFault.{StateFault}
 use Rattle.kc_state_text.specs.Refused.{IsRefusedState}
 use Rattle.kc_texts.specs.declared.origin.Origin.{Origin}
+use Rattle.kc_texts.specs.declared.origin.Origin.TheVariants as origins
 use Rattle.kc_texts.specs.Reading.{IsBegun, IsTold}
 use Rattle.kc_texts.specs.declared.fault.TextFault.{TextFault}
 use Rattle.kc_texts.specs.declared.fault.TextFault.TheVariants as texts
@@ -43,9 +44,9 @@ pub record TellsSources {A : Type 0} (sources : List Seen) (result : Result A Te
 
 -- `start` is the source of what the calls begin with, `unread` says that nothing was read of the trace
 pub record TellsTexts {A : Type 0} (origin : Origin) (start trace : Seen) (unread : Type 0) (result : Result A TextFault) : Type 0 where
-  -- the fault of a text is that of all the bytes that its source held
-  pub config_fault : (fault : ConfigTextFault) → result ≡ Err (texts.Config fault) → IfSome start.had (λ text. config_in text ≡ Err fault) × IsAtEnd start.has × unread
-  pub state_fault : (fault : StateFault) → result ≡ Err (texts.State fault) → IfSome start.had (λ text. IsRefusedState text fault) × IsAtEnd start.has × unread
+  -- the fault of a text is that of all the bytes that its source held, read as what the origin says that they are
+  pub config_fault : (fault : ConfigTextFault) → result ≡ Err (texts.Config fault) → (origin ≡ origins.Boot) × IfSome start.had (λ text. config_in text ≡ Err fault) × IsAtEnd start.has × unread
+  pub state_fault : (fault : StateFault) → result ≡ Err (texts.State fault) → (origin ≡ origins.State) × IfSome start.had (λ text. IsRefusedState text fault) × IsAtEnd start.has × unread
   pub trace_fault : (fault : TraceFault) → result ≡ Err (texts.Trace fault) → IfSome trace.had (λ text. IsRefused text fault) × IsAtEnd trace.has
   -- the trace is read and judged only behind a start
   pub behind : unread ⊎ IsBegun origin start.had
@@ -58,9 +59,10 @@ pub record TellsReplay {A : Type 0} (workers : ℕ) (origin : Origin) (start : O
   pub judged : IsErrOf result texts.Workers ↔ ((workers ≡ 0) ⊎ (worker_limit < workers))
   -- a worker is started only where there is more than one
   pub started : result ≡ Err texts.Start → (1 < workers) × IsBegun origin start
-  -- no fault of a live run comes
+  -- no fault of a live run comes, and none of a slot
   pub settled : result ≢ Err texts.Unsettled
   pub actor : (program : ℕ) → result ≢ Err (texts.BadActor program)
+  pub slot : (number : ℕ) → result ≢ Err (texts.NoSlot number)
 
 -- `begun` says that the sink took a beginning of what is written, and `untouched` that it is as it was
 pub record TellsSink {A : Type 0} (failed : Bool) (begun untouched : Type 0) (result : Result A TextFault) : Type 0 where

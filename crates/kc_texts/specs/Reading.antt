@@ -20,11 +20,6 @@ use Rattle.kc_texts.specs.declared.origin.Origin.TheVariants as origins
 use Rattle.kc_texts.specs.declared.fault.TextFault.{TextFault}
 use Rattle.kc_texts.specs.declared.fault.TextFault.TheVariants as texts
 
--- the text is that of a configuration, where the source tells it
-abbrev pub IsConfigured : Option (List ℕ) → Type 0
-IsConfigured None = Unit {0}
-IsConfigured (Some text) = (config : Configuration) × (config_in text ≡ Ok config)
-
 -- calls begin in this state: the boot state of the configuration that the text is, or the one whose text it is
 abbrev pub BeginsIn : Origin → List ℕ → State → Type 0
 BeginsIn origins.Boot text m = (config : Configuration) × (config_in text ≡ Ok config) × (m ≡ boot config)
@@ -55,6 +50,7 @@ pub record IsReadingFault (fault : TextFault) : Type 0 where
   pub start : fault ≢ texts.Start
   pub unsettled : fault ≢ texts.Unsettled
   pub actor : (program : ℕ) → fault ≢ texts.BadActor program
+  pub slot : (number : ℕ) → fault ≢ texts.NoSlot number
   pub write : fault ≢ texts.Write
   pub told : IsTold fault
 

@@ -31,6 +31,8 @@ pub enum TextFault {
     Unsettled,
     /// The actor of this program, counted from 0, is none of the core's.
     BadActor(usize),
+    /// The machine has no slot of this number.
+    NoSlot(u32),
     /// A source failed, or had too many bytes.
     Read,
     /// A sink failed.
@@ -108,7 +110,8 @@ impl TextFault {
             | TextFault::Dump(_)
             | TextFault::State(_)
             | TextFault::Workers
-            | TextFault::BadActor(_) => 2,
+            | TextFault::BadActor(_)
+            | TextFault::NoSlot(_) => 2,
             TextFault::Memory
             | TextFault::Start
             | TextFault::Unsettled
@@ -132,6 +135,7 @@ impl TextFault {
             TextFault::Start => "a worker could not be started",
             TextFault::Unsettled => "history not settled",
             TextFault::BadActor(_) => "bad actor of program ",
+            TextFault::NoSlot(_) => "the machine has no slot ",
             TextFault::Read => "read failed",
             TextFault::Write => "write failed",
         }
@@ -147,6 +151,7 @@ impl TextFault {
             TextFault::Dump(DumpFault::Frame(frame)) => Some(*frame as usize),
             TextFault::State(fault) => fault.number(),
             TextFault::BadActor(program) => Some(*program),
+            TextFault::NoSlot(slot) => Some(*slot as usize),
             _ => None,
         }
     }

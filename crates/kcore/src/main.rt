@@ -176,9 +176,8 @@ fn run_in<C: Source, R: Threads + Wait + Sync>(
         )?,
         Wanted::Custody(form, vm) => {
             let plan = CustodyOrder {
-                origin: order.origin,
-                lanes: order.lanes,
                 form,
+                lanes: order.lanes,
                 vm,
             };
             custody_text(threads, alloc, start, trace, &mut out, plan)?
@@ -332,9 +331,9 @@ fn refuse_words(rt: &HostRuntime, error: &Error) -> u8 {
 }
 
 /// What is written of custody, by two flags; nothing where both stand among the words.
-fn form_of(summary: bool, svg: bool) -> Option<CustodyForm> {
+fn form_of(summary: bool, svg: bool, origin: Origin) -> Option<CustodyForm> {
     match (summary, svg) {
-        (false, false) => Some(CustodyForm::Changes),
+        (false, false) => Some(CustodyForm::Changes(origin)),
         (true, false) => Some(CustodyForm::Summary),
         (false, true) => Some(CustodyForm::Picture),
         (true, true) => None,
@@ -437,14 +436,14 @@ fn run_job<R: Threads + Wait + Sync>(
             svg,
             explain,
         } => {
-            let Some(form) = form_of(summary, svg) else {
-                return refuse_both(rt, "custody", "--summary", "--svg");
-            };
             let Some((start, origin)) = start_of(config, from) else {
                 return refuse_both(rt, "custody", "--config", "--from");
             };
+            let Some(form) = form_of(summary, svg, origin) else {
+                return refuse_both(rt, "custody", "--summary", "--svg");
+            };
             // What came before the state that calls begin in is told by its text no more.
-            if origin == Origin::State && form != CustodyForm::Changes {
+            if origin != form.origin() {
                 let flag = if summary { "--summary" } else { "--svg" };
                 return refuse_both(rt, "custody", "--from", flag);
             }

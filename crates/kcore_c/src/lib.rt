@@ -2,7 +2,9 @@
 //! that it needs but the pointers themselves; what C owes stands in `kcore.h`.
 #![tactic(auto)]
 
-ghost use Rattle.std.specs.Prelude.{◌≡◌, ◌≤◌, None, length, take};
+ghost use Rattle.std.specs.Prelude.{◌≡◌, ◌≢◌, ◌≤◌, None, length, take, drop};
+ghost use Rattle.kc_trace.specs.ReplyText.{longest_reply};
+ghost use Rattle.kc_trace.specs.Spelling.{longest_call};
 ghost use Rattle.kcore_c.specs.Status.{IsCode, BootSays, CallSays, LineSays, TurnSays, EndSays};
 
 mod handle;
@@ -16,13 +18,17 @@ use std::alloc::Global;
 
 /// How many bytes the longest reply has, with its newline: as much room `kcore_call` wants.
 #[unsafe(no_mangle)]
-pub extern "C" fn kcore_longest_reply() -> usize {
+pub extern "C" fn kcore_longest_reply() -> usize
+    ensures { result ≡ longest_reply }
+{
     LONGEST_REPLY
 }
 
 /// How many bytes the longest line of a trace has, with its newline.
 #[unsafe(no_mangle)]
-pub extern "C" fn kcore_longest_line() -> usize {
+pub extern "C" fn kcore_longest_line() -> usize
+    ensures { result ≡ longest_call }
+{
     LONGEST_CALL
 }
 
@@ -36,7 +42,8 @@ pub extern "C" fn kcore_boot(alloc: Global, core: &mut Handle, config: &[u8]) ->
 }
 
 /// Answers the call that a line is, given without its newline: the first `used` bytes of the buffer are the reply's
-/// line, with its newline. Where it is not answered, nothing has changed and `used` is 0.
+/// line, with its newline, and the bytes after them stay. If it is not answered, the session and the buffer stay as they
+/// are and `used` is 0.
 #[unsafe(no_mangle)]
 pub extern "C" fn kcore_call(
     alloc: Global,
@@ -47,12 +54,15 @@ pub extern "C" fn kcore_call(
 ) -> u32
     ensures says { IsCode (CallSays core.old.held.session core.new.held.session line.now (length out.old) (take used.new out.new)) result }
     ensures within { used.new ≤ length out.new }
+    ensures rest { drop used.new out.new ≡ drop used.new out.old }
+    ensures nothing { result ≢ 0 → used.new ≡ 0 }
 {
     session::call(alloc, core, line, out, used).code()
 }
 
 /// Tells a line of the volume's trace, by its place from 0, with its newline: the header, then a line for each call that was
-/// answered, so that all lines, one behind the other, are the trace.
+/// answered, so that all lines, one after the other, are the trace. The bytes after the first `used` stay; if no line is
+/// given, `used` is 0.
 #[unsafe(no_mangle)]
 pub extern "C" fn kcore_line(
     alloc: Global,
@@ -63,6 +73,8 @@ pub extern "C" fn kcore_line(
 ) -> u32
     ensures says { IsCode (LineSays core.old.held.session number (length out.old) (take used.new out.new)) result }
     ensures within { used.new ≤ length out.new }
+    ensures rest { drop used.new out.new ≡ drop used.new out.old }
+    ensures nothing { result ≢ 0 → used.new ≡ 0 }
     ensures same { core.new.held.session ≡ core.old.held.session }
 {
     session::line(alloc, core, number, out, used).code()

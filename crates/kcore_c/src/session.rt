@@ -1,5 +1,5 @@
 //! What is done with the session behind a handle.
-ghost use Rattle.std.specs.Prelude.{◌≡◌, ◌≤◌, Some, None, length, take, IfOk, IfErr};
+ghost use Rattle.std.specs.Prelude.{◌≡◌, ◌≢◌, ◌≤◌, Some, None, length, take, drop, IfOk, IfErr};
 ghost use Rattle.kc_trace.specs.ConfigText.{config_in, ConfigFails};
 ghost use Rattle.kcore_c.specs.Status.{BootSays, CallSays, LineSays, TurnSays, EndSays, IsBooted};
 
@@ -49,6 +49,8 @@ pub fn call(
 ) -> Status
     ensures says { CallSays core.old.held.session core.new.held.session line.now (length out.old) (take used.new out.new) result }
     ensures within { used.new ≤ length out.new }
+    ensures rest { drop used.new out.new ≡ drop used.new out.old }
+    ensures nothing { result ≢ Status.Done → used.new ≡ 0 }
 {
     *used = 0;
     let Some(session) = core.take(alloc) else {
@@ -81,6 +83,8 @@ pub fn line(
 ) -> Status
     ensures says { LineSays core.old.held.session number (length out.old) (take used.new out.new) result }
     ensures within { used.new ≤ length out.new }
+    ensures rest { drop used.new out.new ≡ drop used.new out.old }
+    ensures nothing { result ≢ Status.Done → used.new ≡ 0 }
     ensures same { core.new.held.session ≡ core.old.held.session }
 {
     *used = 0;

@@ -86,6 +86,7 @@ fn shows_other_faults(rt: HostRuntime) {
         (TextFault::Start, "a worker could not be started"),
         (TextFault::Unsettled, "history not settled"),
         (TextFault::BadActor(12), "bad actor of program 12"),
+        (TextFault::NoSlot(16), "the machine has no slot 16"),
         (TextFault::Read, "read failed"),
         (TextFault::Write, "write failed"),
     ] {

@@ -5,7 +5,7 @@ use Rattle.kc_custody.specs.Within.{IsWithin}
 use Rattle.kc_custody.proofs.Traced.{events-within}
 use Rattle.kc_texts.proofs.Told.{sources_err, texts_err, sink_more}
 use Rattle.kc_types.specs.declared.custody.Event.{Event}
-use Rattle.kc_cli.proofs.Told.{gives_custody, begins_custody}
+use Rattle.kc_cli.proofs.Told.{gives_custody, begins_custody, custody_err}
 use Rattle.kc_cli.proofs.custody.custody_text.Goals as goal
 
 pub returns-in_err-told-clause-texts : goal.returns-in_err-told-clause-texts
@@ -14,15 +14,20 @@ returns-in_err-told-clause-texts g c =
     rw (made.1, made.2) (texts_err _ _ _ _ c.in_err-told.field-0.0 c.in_err-told.ensures.texts)
 
 pub returns-clause-ok : goal.returns-clause-ok
-returns-clause-ok g c = on_ok_weaker c.give_told.result (λ given. gives_custody _ _ _ _ _ _ _ _ _ _ c.in_ok-told.ensures.ok given) c.give_told.ensures.ok
+returns-clause-ok g c = on_ok_weaker c.give_told.result (λ given. gives_custody _ _ _ _ _ _ _ _ _ c.in_ok-told.ensures.ok given) c.give_told.ensures.ok
 
 pub returns-clause-sink : goal.returns-clause-sink
-returns-clause-sink g c = sink_more _ _ _ _ _ (λ begun. begins_custody _ _ _ _ _ _ _ _ _ _ c.in_ok-told.ensures.ok begun) c.give_told.ensures.sink
+returns-clause-sink g c = sink_more _ _ _ _ _ (λ begun. begins_custody _ _ _ _ _ _ _ _ _ c.in_ok-told.ensures.ok begun) c.give_told.ensures.sink
 
 pub returns-in_err-told-clause-sources : goal.returns-in_err-told-clause-sources
 returns-in_err-told-clause-sources g c =
     let made = err_from_is_err_and c.from_residual.result c.from_residual.ensures.1 in
     rw (made.1, made.2) (sources_err _ c.in_err-told.field-0.0 c.in_err-told.ensures.sources)
+
+pub returns-in_err-told-clause-custody : goal.returns-in_err-told-clause-custody
+returns-in_err-told-clause-custody g c =
+    let made = err_from_is_err_and c.from_residual.result c.from_residual.ensures.1 in
+    rw (made.1, made.2) (custody_err _ _ _ _ c.in_err-told.field-0.0 c.in_err-told.ensures.custody)
 
 pub give_told-requires-clause-within : goal.give_told-requires-clause-within
 give_told-requires-clause-within g c =

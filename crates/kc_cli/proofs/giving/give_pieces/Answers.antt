@@ -1,8 +1,7 @@
-use Rattle.std.proofs.Common.{◌≡◌, ◌++◌, ◌∙◌, [], Result, Ok, Err, refl, sym, arith}
+use Rattle.std.proofs.Common.{◌++◌, ◌∙◌, [], Result, Ok, Err, refl, sym, arith}
 use Rattle.std.proofs.lemmas.Bool.{eqb-true}
 use Rattle.std.proofs.lemmas.List.{nil_from_length}
 use Rattle.std.specs.Prelude.{OnErr}
-use Rattle.kc_state_text.specs.Pieces.{to_come}
 use Rattle.kc_cli.proofs.Told.{nothing_given, piece_given, piece_cut, all_given}
 use Rattle.kc_cli.proofs.giving.give_pieces.Goals as goal
 

@@ -7,7 +7,7 @@ use Rattle.kc_texts.proofs.reading.read_both.Goals as goal
 pub returns-in_err-config-clause-texts : goal.returns-in_err-config-clause-texts
 returns-in_err-config-clause-texts g c =
     let made = err_from_is_err_and c.from_residual.result c.from_residual.ensures.1 in
-    rw (made.1, made.2) (texts_start _ _ _ _ c.in_err-config.field-0.0 (λ said same. c.in_err-config.ensures.config said (ap Err same)) (λ said same. absurd (c.in_err-config.ensures.fault.state said same)) c.in_err-config.ensures.fault.start refl)
+    rw (made.1, made.2) (texts_start _ _ _ _ c.in_err-config.field-0.0 (λ said same. let is = c.in_err-config.ensures.config said (ap Err same) in (refl, is.0, is.1)) (λ said same. absurd (c.in_err-config.ensures.fault.state said same)) c.in_err-config.ensures.fault.start refl)
 
 pub returns-in_err-calls-clause-texts : goal.returns-in_err-calls-clause-texts
 returns-in_err-calls-clause-texts g c =
