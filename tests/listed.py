@@ -7,6 +7,8 @@ from cited import QUOTED, rows_of
 from document_tree import words_of
 
 OPTION = re.compile(r"--[a-z][a-z-]*")
+# What crates.txt has beside the names of crates: a kind of library, and the standard library's own parts.
+BUILT_IN = {"staticlib", "std_alloc", "std_heap"}
 COMMANDS = "replay", "live", "custody", "audit"
 
 
@@ -39,6 +41,17 @@ def check_crates(tree):
     for crate in sorted(rows.keys() & tree.crates.keys()):
         wrong = differing(QUOTED.findall(rows[crate][2]), direct(tree, crate))
         yield f"docs/MAP.md: what {crate} depends on", wrong
+
+
+def check_trusted(tree):
+    """ASSURANCE names every crate with definitions, and every crate of the toolchain's, among what is trusted."""
+    trusted = set(QUOTED.findall(section(tree.text("docs/ASSURANCE.md"), "What is trusted")))
+    defining = {crate for crate in tree.crates if tree.below(f"crates/{crate}/specs")}
+    yield "docs/ASSURANCE.md: whose definitions are trusted", differing(trusted & set(tree.crates), defining)
+    lines = [line for line in tree.text("crates.txt").splitlines() if not line.startswith("#")]
+    named = words_of("\n".join(lines))
+    foreign = named - set(tree.crates) - BUILT_IN
+    yield "docs/ASSURANCE.md: which crates of the toolchain are trusted", differing(trusted & named - set(tree.crates), foreign)
 
 
 # Calls
