@@ -2,9 +2,9 @@
 import hashlib
 import json
 import re
-import subprocess
 import tempfile
 
+from common import run
 from listed import rows_of, section
 
 PAGE = 4096
@@ -34,22 +34,18 @@ def machine(frames=8, leaves=1, version=1, approved=(1,)):
     return {"frames": frames, "core": 1, "host": frames - 1, "leaves": leaves, "approved": digests, "version": version}
 
 
-def run(program, text, *words):
-    return subprocess.run([program, *words], input=text, capture_output=True, text=True)
-
-
 def replayed(program, config, calls, *words):
     """The replies to some calls, or the fault."""
     with tempfile.NamedTemporaryFile("w", suffix=".json") as file:
         json.dump(config, file)
         file.flush()
         text = "\n".join(["kcore-trace 2", *calls]) + "\n"
-        ran = run(program, text, "replay", "--config", file.name, *words)
-    return ran.stdout.splitlines() if ran.returncode == 0 else ran.stderr.splitlines()[:1]
+        status, replies, error = run(["replay", "--config", file.name, *words], text, program)
+    return replies.splitlines() if status == 0 else error.splitlines()[:1]
 
 
 def replies_to(program, trace):
-    return run(program, trace).stdout.splitlines()
+    return run([], trace, program)[1].splitlines()
 
 
 def left_by(program, config=None):
@@ -58,8 +54,7 @@ def left_by(program, config=None):
         file.write(config or "")
         file.flush()
         words = ["--config", file.name] if config else []
-        ran = run(program, "kcore-trace 1\n", "replay", "--state", *words)
-    return ran.stdout, ran.returncode
+        return run(["replay", "--state", *words], "kcore-trace 1\n", program)
 
 
 def booted(*images, frame=1):

@@ -91,8 +91,10 @@ def check_calls(tree):
     lines = rows_of(texts.partition("| call | its lines")[2].partition("\n\n")[0])
     yield "docs/TEXTS.md: the lines of custody of each call", differing(first_names(lines), calls)
     yield "kc_explain: each call with its words", differing(explained(tree), counted)
-    for script in scripts_with_calls(tree):
-        yield f"{script}: each call", differing(words_of(tree.text(script)) & set(calls), calls)
+    forms = re.findall(r'"(\w+)((?: \{\w+\})*)"', tree.text("tests/calls.py"))
+    known = {f"{name} {words.count('{')}" for name, words in forms}
+    yield "tests/calls.py: each call with its words", differing(known & counted, counted)
+    yield "tests/rules.py: each call", differing(words_of(tree.text("tests/rules.py")) & set(calls), calls)
 
 
 def explained(tree):
@@ -100,11 +102,6 @@ def explained(tree):
     text = tree.text("crates/kc_explain/src/trace_line.rt")
     found = re.findall(r"is_among\(\s*name,\s*&\[(.*?)\],?\s*\) \{\s*Some\(\((\d+), \w+\)\)", text, re.S)
     return {f"{name} {count}" for names, count in found for name in re.findall(r'"(\w+)"', names)}
-
-
-def scripts_with_calls(tree):
-    """The scripts that make or answer calls of every kind."""
-    return [file for file in ("tests/calls.py", "tests/rules.py", "tests/fuzz") if tree.has(file)]
 
 
 # Refusals and faults
