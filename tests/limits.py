@@ -163,12 +163,15 @@ class Trials:
             yield [line.partition(" '")[0] for line in said], ["error: invalid value"]
 
 
-def check_limits(tree, program):
-    limits = limits_of(tree)
+def check_limits(tree, program, known=None):
+    """Each row of the table; not those whose numbers are known."""
+    limits, known = limits_of(tree), known or {}
     for number, size in sizes_in(tree):
         yield f"docs/RULES.md: {number} pages are {size} bytes", "" if number * PAGE == size else "they are not"
     trials = Trials(program, limits)
     for what, numbers in limits.items():
+        if known.get(what) == numbers:
+            continue
         tried = getattr(trials, re.sub(r"\W+", "_", what), None)
         if not tried:
             yield f"docs/RULES.md, limit: {what}", "nothing tries it"
