@@ -2,6 +2,7 @@
 import hashlib
 import json
 import re
+import subprocess
 import tempfile
 
 from common import run
@@ -13,7 +14,9 @@ UNITS = {"MiB": 2**20, "GiB": 2**30}
 
 
 def numbers_in(cell):
-    return [int(number.replace(",", "")) for number in re.findall(r"\b\d[\d,]*\b", re.sub(r"\(.*?\)", "", cell))]
+    """The numbers in a cell, but for sizes in units."""
+    bare = re.sub(r"\(.*?\)|\d+ [MG]iB", "", cell)
+    return [int(number.replace(",", "")) for number in re.findall(r"\b\d[\d,]*\b", bare)]
 
 
 def limits_of(tree):
@@ -154,6 +157,13 @@ class Trials:
     def calls_of_a_trace_or_of_a_volume(self, most):
         yield self.last(machine(), ["hfault 1"] * most, most), ["done"] * most
         yield self.last(machine(), ["hfault 1"] * (most + 1)), ["kcore: too many calls"]
+
+    def bytes_of_a_text_that_is_read(self, most):
+        for length, meant in ((most, "kcore: no trace header"), (most + 1, "kcore: read failed")):
+            with tempfile.TemporaryFile() as file:
+                file.truncate(length)
+                said = subprocess.run([self.program], stdin=file, capture_output=True, text=True).stderr
+            yield said.splitlines(), [meant]
 
     def workers_of_a_replay(self, least, most):
         for workers in (least, most):
