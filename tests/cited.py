@@ -80,9 +80,11 @@ class Contracts:
 
     def fault_of_clause(self, name):
         self.is_begun = False
-        has = any(name in function.clauses for function in self.functions)
-        functions = ", ".join(sorted({function.name for function in self.functions}))
-        return "" if has else f"no clause of {functions or 'no function'} in {self.crate}"
+        # Functions of one name may be those of several types.
+        lacking = [same[0].name for same in self.functions if all(name not in one.clauses for one in same)]
+        if self.functions and not lacking:
+            return ""
+        return f"no clause of {', '.join(lacking) or 'no function'}"
 
     def fault_of_definition(self, name):
         crates = {self.crate, *self.tree.reached(self.crate)} if self.crate else set()
@@ -99,7 +101,7 @@ class Contracts:
         if not self.is_begun:
             self.functions = []
         if named := self.tree.code(self.crate).named(name) if self.crate else []:
-            self.functions, self.is_begun = [*self.functions, *named], True
+            self.functions, self.is_begun = [*self.functions, named], True
             return ""
         if self.crate and (name in self.tree.code(self.crate).types or name in bodies_of(self.tree, self.crate)):
             return ""

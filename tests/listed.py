@@ -49,9 +49,8 @@ def check_trusted(tree):
     defining = {crate for crate in tree.crates if tree.below(f"crates/{crate}/specs")}
     yield "docs/ASSURANCE.md: whose definitions are trusted", differing(trusted & set(tree.crates), defining)
     lines = [line for line in tree.text("crates.txt").splitlines() if not line.startswith("#")]
-    named = words_of("\n".join(lines))
-    foreign = named - set(tree.crates) - BUILT_IN
-    yield "docs/ASSURANCE.md: which crates of the toolchain are trusted", differing(trusted & named - set(tree.crates), foreign)
+    foreign = words_of("\n".join(lines)) - set(tree.crates) - BUILT_IN
+    yield "docs/ASSURANCE.md: which crates of the toolchain are trusted", differing(trusted & foreign, foreign)
 
 
 # Calls

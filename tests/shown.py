@@ -3,13 +3,14 @@ import dataclasses
 import os
 import pathlib
 import re
+import shlex
 import shutil
 import subprocess
 
-from listed import section_of_page, plain
+from listed import plain, section_of_page
 
 # Standard input is empty, and what is shown of standard error comes with standard output.
-STEP = "{{ {command}\n}} > {work}/printed.{number} 2>&1 < /dev/null\necho $? > {work}/status.{number}\n"
+STEP = "{{ {command}\n}} > {printed} 2>&1 < /dev/null\necho $? > {printed}.status\n"
 SECONDS = 120
 
 
@@ -53,26 +54,31 @@ def lay_out(tree, folder, program):
         if script != "bin/kcore":
             (folder / script).symlink_to(tree.top / script)
     launcher = folder / "bin" / "kcore"
-    launcher.write_text(f"#!/bin/sh\nexec '{program}' \"$@\"\n")
+    launcher.write_text(f'#!/bin/sh\nexec {shlex.quote(os.path.abspath(program))} "$@"\n')
     launcher.chmod(0o755)
 
 
 def run_all(steps, folder, work):
     """Has one shell make all commands, one after another."""
-    script = "".join(STEP.format(command=step.command, work=work, number=number) for number, step in enumerate(steps))
+    printed = [shlex.quote(str(work / str(number))) for number in range(len(steps))]
+    script = "".join(STEP.format(command=step.command, printed=file) for step, file in zip(steps, printed))
     names = {name: value for name, value in os.environ.items() if name not in ("CDPATH", "KCORE", "BASH_ENV")}
     names |= {"PATH": f"{folder}/bin:{os.environ['PATH']}", "LC_ALL": "C.UTF-8", "KCORE": f"{folder}/bin/kcore"}
-    subprocess.run(["bash", "--norc", "-c", script], cwd=folder, env=names, timeout=SECONDS, capture_output=True)
+    try:
+        subprocess.run(["bash", "--norc", "-c", script], cwd=folder, env=names, timeout=SECONDS, capture_output=True)
+    except subprocess.TimeoutExpired:
+        pass
     for number, step in enumerate(steps):
-        printed, status = pathlib.Path(f"{work}/printed.{number}"), pathlib.Path(f"{work}/status.{number}")
-        step.printed = printed.read_text().splitlines() if printed.exists() else None
-        step.status = int(status.read_text()) if status.exists() else None
+        status = work / f"{number}.status"
+        if status.exists():
+            step.printed = (work / str(number)).read_text(errors="replace").splitlines()
+            step.status = int(status.read_text())
 
 
 def fault_of(step, shows_all):
     """What a command did otherwise than shown. Of a command without output a page that does not show all promises only
     that its status is 0."""
-    if step.printed is None or step.status is None:
+    if step.status is None:
         return "it was not reached, or did not end"
     if not shows_all and not step.shown:
         return "" if step.status == 0 else f"status {step.status}: {' '.join(step.printed)[:200]}"
