@@ -65,6 +65,7 @@ MISTAKES = (
     Mistake("limits", "docs/RULES.md", "at most 32,768", "at most 32,767"),
     Mistake("limits", "docs/RULES.md", "(256 MiB)", "(512 MiB)"),
     Mistake("limits", "docs/RULES.md", "| 0 to 100 |", "| 0 to 101 |"),
+    Mistake("examples", "examples/README.md", "| `two-frames` |", "| `three-frames` |"),
     Mistake("the first table", "README.md", "`refused not-present`", "`refused protected`"),
     Mistake("the configuration without --config", "docs/TEXTS.md", '"host":4,"leaves":1', '"host":5,"leaves":1'),
 )
