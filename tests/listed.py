@@ -3,7 +3,7 @@ yields what it says and what is wrong about it, '' if it holds."""
 import re
 import subprocess
 
-from cited import QUOTED, rows_of
+from cited import QUOTED, paragraphs_of, rows_of
 from document_tree import words_of
 
 OPTION = re.compile(r"--[a-z][a-z-]*")
@@ -181,6 +181,16 @@ def help_of(program, *words):
     return subprocess.run([program, *words, "--help"], capture_output=True, text=True).stdout
 
 
+def check_called(tree, known):
+    """Each call of the program within a sentence has options that its command knows."""
+    for document in tree.documents():
+        paragraphs = paragraphs_of(tree.text(document))
+        for line, name in [(line, name) for line, paragraph in paragraphs for name in QUOTED.findall(paragraph)]:
+            for command, words in re.findall(r"\bkcore (replay|live|custody|audit)\b([^|]*)", name):
+                wrong = differing(set(OPTION.findall(words)) - known[command], ())
+                yield f"{document}:{line}: `{name}`", wrong
+
+
 def check_options(tree, program):
     page = plain(tree.text("docs/kcore.1"))
     explained = set(re.findall(r"^(?:-\w, )?(--[a-z-]+)", section_of_page(page, "OPTIONS"), re.M))
@@ -193,6 +203,7 @@ def check_options(tree, program):
         yield f"docs/kcore.1: synopsis of {command}", differing(OPTION.findall("".join(begun)), helped - {"--help"})
         yield f"completions: the options of {command}", differing(completed(tree, command, "--"), helped)
     yield "docs/kcore.1: options", differing(explained, every)
+    yield from check_called(tree, {command: set(OPTION.findall(help_of(program, command))) for command in COMMANDS})
     top = help_of(program)
     commands = re.findall(r"^  ([a-z]+) ", top.partition("Commands:")[2].partition("Options:")[0], re.M)
     yield "completions: commands and their options", differing(completed(tree, ""), [*commands, *OPTION.findall(top)])

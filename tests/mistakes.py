@@ -62,10 +62,12 @@ MISTAKES = (
     Mistake("faults", "docs/kcore.1", "no state header", "no header of a state"),
     Mistake("options", "docs/kcore.1", '.BI \\-\\-from " PATH"', '.BI \\-\\-begin " PATH"'),
     Mistake("options", "completions/kcore.bash", "--vm --summary", "--summary"),
+    Mistake("options", "README.md", "`kcore replay --workers 8`", "`kcore replay --threads 8`"),
     Mistake("limits", "docs/RULES.md", "at most 32,768", "at most 32,767"),
     Mistake("limits", "docs/RULES.md", "(256 MiB)", "(512 MiB)"),
     Mistake("limits", "docs/RULES.md", "| 0 to 100 |", "| 0 to 101 |"),
     Mistake("examples", "examples/README.md", "| `two-frames` |", "| `three-frames` |"),
+    Mistake("examples", "docs/TEXTS.md", '{"finding":"chain 1"}', '{"finding":"chain 3"}'),
     Mistake("the first table", "README.md", "`refused not-present`", "`refused protected`"),
     Mistake("the configuration without --config", "docs/TEXTS.md", '"host":4,"leaves":1', '"host":5,"leaves":1'),
 )
