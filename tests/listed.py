@@ -129,19 +129,19 @@ def faults_of(tree):
 
 def check_faults(tree):
     faults = faults_of(tree)
-    page = plain(tree.text("docs/kcore.1"))
-    shown = {fault for fault in faults - {"bad number of workers"}}
+    shown = faults - {"bad number of workers"}
     heads = ("TEXTS", "What the program says of faults", faults), ("OPERATE", "A line on standard error", shown)
     for document, head, meant in heads:
         rows = [QUOTED.findall(cells[0]) for _, cells in rows_of(section(tree.text(f"docs/{document}.md"), head))]
         names = {name.removeprefix("kcore: ") for row in rows for name in row}
+        # The first fault of a configuration is named whole, the others perhaps by their last words.
         names |= {f"configuration refused: {name}" for name in names}
-        yield f"docs/{document}.md: each fault", differing(
-            {fault for fault in meant if any(name.startswith(fault) for name in names)}, meant)
+        found = {fault for fault in meant if any(name.startswith(fault) for name in names)}
+        yield f"docs/{document}.md: each fault", differing(found, meant)
         first = {row[0].removeprefix("kcore: ") for row in rows if row and row[0] != "kcore:"}
-        yield f"docs/{document}.md: no fault that the program has not", differing(
-            {name for name in first if not name.startswith(tuple(faults))}, ())
-    lines = section_of_page(page, "FAULTS")
+        unknown = {name for name in first if not name.startswith(tuple(faults))}
+        yield f"docs/{document}.md: only faults of the program", differing(unknown, ())
+    lines = section_of_page(plain(tree.text("docs/kcore.1")), "FAULTS")
     lines += "".join(f"\nconfiguration refused: {name}" for name in re.findall(r"\((.*)\)", lines)[0].split(", "))
     yield "docs/kcore.1: each fault", differing({fault for fault in shown if f"\n{fault}" in lines}, shown)
 
@@ -152,7 +152,7 @@ def plain(page):
     """A man page without its marks, a word of its macros beside the next."""
     lines = []
     for line in page.split("\n"):
-        if macro := re.match(r"\.([BI]R?|RB|RI|IR|BI) (.*)", line):
+        if macro := re.match(r"\.(B|I|BI|BR|IR|RB|RI) (.*)", line):
             words = re.findall(r'"([^"]*)"|(\S+)', macro[2])
             line = ("" if len(macro[1]) == 2 else " ").join(quoted or word for quoted, word in words)
         elif re.match(r"\.(SH|TP|br|PP|EX|EE|TH)", line):
@@ -195,18 +195,15 @@ def check_options(tree, program):
     page = plain(tree.text("docs/kcore.1"))
     explained = set(re.findall(r"^(?:-\w, )?(--[a-z-]+)", section_of_page(page, "OPTIONS"), re.M))
     synopsis = re.split(r"^kcore ?", section_of_page(page, "SYNOPSIS"), flags=re.M)
-    every = {"--help", "--version"}
-    for command in COMMANDS:
-        helped = set(OPTION.findall(help_of(program, command)))
-        every |= helped
+    known = {command: set(OPTION.findall(help_of(program, command))) for command in COMMANDS}
+    for command, helped in known.items():
         begun = [part for part in synopsis if re.match(rf"\s*\[? ?{command}\b", part)]
         yield f"docs/kcore.1: synopsis of {command}", differing(OPTION.findall("".join(begun)), helped - {"--help"})
         yield f"completions: the options of {command}", differing(completed(tree, command, "--"), helped)
-    yield "docs/kcore.1: options", differing(explained, every)
-    yield from check_called(tree, {command: set(OPTION.findall(help_of(program, command))) for command in COMMANDS})
+    yield from check_called(tree, known)
     top = help_of(program)
+    yield "docs/kcore.1: options", differing(explained, set(OPTION.findall(top)).union(*known.values()))
     commands = re.findall(r"^  ([a-z]+) ", top.partition("Commands:")[2].partition("Options:")[0], re.M)
     yield "completions: commands and their options", differing(completed(tree, ""), [*commands, *OPTION.findall(top)])
-    yield "docs/kcore.1: commands", differing(
-        [command for command in commands if re.search(rf"^{command}$", section_of_page(page, "DESCRIPTION"), re.M)],
-        set(commands) - {"help"})
+    described = [command for command in commands if f"\n{command}\n" in section_of_page(page, "DESCRIPTION")]
+    yield "docs/kcore.1: commands", differing(described, set(commands) - {"help"})
