@@ -68,6 +68,8 @@ MISTAKES = (
     Mistake("limits", "docs/RULES.md", "| 0 to 100 |", "| 0 to 101 |"),
     Mistake("examples", "examples/README.md", "| `two-frames` |", "| `three-frames` |"),
     Mistake("examples", "docs/TEXTS.md", '{"finding":"chain 1"}', '{"finding":"chain 3"}'),
+    Mistake("functions", "docs/EMBED.md", "| `kcore_turn` |", "| `kcore_next` |"),
+    Mistake("functions", "include/kcore.h", "uint32_t kcore_turn(", "uint32_t kcore_next("),
     Mistake("the first table", "README.md", "`refused not-present`", "`refused protected`"),
     Mistake("the configuration without --config", "docs/TEXTS.md", '"host":4,"leaves":1', '"host":5,"leaves":1'),
 )
