@@ -89,11 +89,21 @@ def check_calls(tree):
     yield "docs/RULES.md: the conditions of each call", differing(first_names(conditions), calls)
     lines = rows_of(texts.partition("| call | its lines")[2].partition("\n\n")[0])
     yield "docs/TEXTS.md: the lines of custody of each call", differing(first_names(lines), calls)
+    adding = section(tree.text("docs/ADDING.md"), "A call")
+    cited = {name.rpartition("/")[2] for name in QUOTED.findall(adding)}
+    yield "docs/ADDING.md: each file that knows its example by name", differing(files_with(tree, "Revoke") - cited, ())
     yield "kc_explain: each call with its words", differing(explained(tree), counted)
     forms = re.findall(r'"(\w+)((?: \{\w+\})*)"', tree.text("tests/calls.py"))
     known = {f"{name} {words.count('{')}" for name, words in forms}
     yield "tests/calls.py: each call with its words", differing(known & counted, counted)
     yield "tests/rules.py: each call", differing(words_of(tree.text("tests/rules.py")) & set(calls), calls)
+
+
+def files_with(tree, variant):
+    """The names of the files of src/ and specs/ that have a variant of the type of calls."""
+    folders = [f"crates/{crate}/{part}" for crate in tree.crates for part in ("src", "specs")]
+    files = [file for folder in folders for file in tree.below(folder)]
+    return {file.rpartition("/")[2] for file in files if variant in words_of(tree.text(file))}
 
 
 def explained(tree):
