@@ -201,19 +201,35 @@ def check_called(tree, known):
                 yield f"{document}:{line}: `{name}`", wrong
 
 
-def check_options(tree, program):
+def check_page(tree, known, commands, every):
+    """The man page has each command with its options, and no other."""
     page = plain(tree.text("docs/kcore.1"))
-    explained = set(re.findall(r"^(?:-\w, )?(--[a-z-]+)", section_of_page(page, "OPTIONS"), re.M))
     synopsis = re.split(r"^kcore ?", section_of_page(page, "SYNOPSIS"), flags=re.M)
-    known = {command: set(OPTION.findall(help_of(program, command))) for command in COMMANDS}
     for command, helped in known.items():
         begun = [part for part in synopsis if re.match(rf"\s*\[? ?{command}\b", part)]
         yield f"docs/kcore.1: synopsis of {command}", differing(OPTION.findall("".join(begun)), helped - {"--help"})
-        yield f"completions: the options of {command}", differing(completed(tree, command, "--"), helped)
-    yield from check_called(tree, known)
-    top = help_of(program)
-    yield "docs/kcore.1: options", differing(explained, set(OPTION.findall(top)).union(*known.values()))
-    commands = re.findall(r"^  ([a-z]+) ", top.partition("Commands:")[2].partition("Options:")[0], re.M)
-    yield "completions: commands and their options", differing(completed(tree, ""), [*commands, *OPTION.findall(top)])
+    explained = set(re.findall(r"^(?:-\w, )?(--[a-z-]+)", section_of_page(page, "OPTIONS"), re.M))
+    yield "docs/kcore.1: options", differing(explained, every)
     described = [command for command in commands if f"\n{command}\n" in section_of_page(page, "DESCRIPTION")]
     yield "docs/kcore.1: commands", differing(described, set(commands) - {"help"})
+
+
+def check_completions(tree, known, commands, top):
+    """Completions offer each command with its options, and no other; those of other shells than bash name each option."""
+    for command, helped in known.items():
+        yield f"completions: the options of {command}", differing(completed(tree, command, "--"), helped)
+    yield "completions: commands and their options", differing(completed(tree, ""), [*commands, *top])
+    every = set(top).union(*known.values())
+    for file in tree.below("completions"):
+        found = {option for option in every if option.strip("-") in tree.text(file)}
+        yield f"{file}: each option", differing(found, every)
+
+
+def check_options(tree, program):
+    known = {command: set(OPTION.findall(help_of(program, command))) for command in COMMANDS}
+    top = help_of(program)
+    commands = re.findall(r"^  ([a-z]+) ", top.partition("Commands:")[2].partition("Options:")[0], re.M)
+    yield "docs: the commands of the program", differing(COMMANDS, set(commands) - {"help"})
+    yield from check_page(tree, known, commands, set(OPTION.findall(top)).union(*known.values()))
+    yield from check_completions(tree, known, commands, OPTION.findall(top))
+    yield from check_called(tree, known)
