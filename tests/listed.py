@@ -215,7 +215,7 @@ def check_page(tree, known, commands, every):
 
 
 def check_completions(tree, known, commands, top):
-    """Completions offer each command with its options, and no other; those of other shells than bash name each option."""
+    """Completions of bash offer each command with its options, and no other; those of any shell name each option."""
     for command, helped in known.items():
         yield f"completions: the options of {command}", differing(completed(tree, command, "--"), helped)
     yield "completions: commands and their options", differing(completed(tree, ""), [*commands, *top])
