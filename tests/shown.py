@@ -24,9 +24,10 @@ class Step:
     printed: list = None
     status: int = None
 
-    def tool(self):
-        """The program of the command that may be missing here."""
-        return next((tool for tool in ("jq", "parallel", "cc") if re.search(rf"(^|\| ?){tool} ", self.command)), None)
+    def lacks(self):
+        """The program of the command that is not here."""
+        tools = [tool for tool in ("jq", "parallel", "cc") if re.search(rf"(^|\| ?){tool} ", self.command)]
+        return next((tool for tool in tools if not shutil.which(tool)), None)
 
 
 def steps_of(text, indent):
@@ -89,19 +90,28 @@ def fault_of(step, shows_all):
     return f"it prints {printed[:200]!r}, and not {shown[:200]!r}"
 
 
+def steps_in(tree, document):
+    if document.endswith(".1"):
+        return steps_of(section_of_page(plain(tree.text(document)), "EXAMPLES"), "")
+    return steps_of(tree.text(document), "    ")
+
+
+def lacking(tree, documents):
+    """The programs of commands that are not here."""
+    return sorted({step.lacks() for document in documents for step in steps_in(tree, document)} - {None})
+
+
 def tried(tree, document, program, base):
     """The commands of a document, after they were run in a folder of its own."""
-    page = document.endswith(".1")
-    text = section_of_page(plain(tree.text(document)), "EXAMPLES") if page else tree.text(document)
-    steps = steps_of(text, "" if page else "    ")
+    steps = steps_in(tree, document)
     folder, work = base / "top", base / "work"
     folder.mkdir(parents=True)
     work.mkdir()
     lay_out(tree, folder, program)
-    if page:
+    if document.endswith(".1"):
         for name, example in PAGE_FILES.items():
             shutil.copy(tree.top / "examples" / example, folder / name)
-    run_all([step for step in steps if not step.tool() or shutil.which(step.tool())], folder, work)
+    run_all([step for step in steps if not step.lacks()], folder, work)
     return steps
 
 
