@@ -1,13 +1,13 @@
 """The text of a state, written out once more in another language: how one is written, and why a text is none.
 
-What is written is asked of a core of tests/fuzz. What is wrong with a text is the first that applies, as kcore says it."""
+What is written is asked of a core of rules.py. What is wrong with a text is the first that applies, as kcore says it."""
 import hashlib
 import operator
 import re
 
-PAGE, GUEST_FRAMES, IMAGE_BYTES, LEAF, SHARES = 4096, 262144, 1048576, 512, 100
+from rules import FRAMES, GUEST_FRAMES, IMAGE_BYTES, LEAF, PAGE, SHARES, SLOTS
+
 VCPUS, IMAGES, LEAVES, DIGESTS = 8, 4, 64, 64
-SLOTS, FRAMES = {1: 16, 2: 64}, {1: 8192, 2: 65536}
 ZERO_PAGE = bytes(PAGE)
 ZEROS = hashlib.sha256(ZERO_PAGE).hexdigest()
 DIGEST, DIGITS = re.compile("[0-9a-f]{64}"), re.compile("[0-9a-f]{%d}" % (2 * PAGE))

@@ -1,25 +1,30 @@
-"""Volumes for tests/fuzz: a trace that is cut at any places, each piece replayed by itself, in any order, from the text of
-the state before it to that of the state behind it; and such texts damaged."""
+"""Volumes for tests/fuzz: a trace that is cut at any places, each piece replayed by itself, in any order, from the text
+of the state before it to that of the state after it; and such texts damaged."""
 import hashlib
 import re
 
-from states import PAGE, fault_of, state_text
+import calls
+from common import run
+from rules import PAGE
+from states import fault_of, state_text
 
 WORKERS = (1, 2, 64)
 # How often a trace is cut: seldom often, since each volume takes a run. One of a large core is cut once.
 CUTS, LARGE = [1] * 14 + [2] * 4 + [7, 20], 1024
 ANOTHER = "kcore: another state\n"
 # What may take the place of a digit, and of a word.
-SIGNS, WORDS = "0123456789abcdefA-. \r", ["-", ".", "0", "1", "7", "16", "64", "262143", "262144", "4294967295", "4294967296", "active", "booting", "host", "free"]
+SIGNS = "0123456789abcdefA-. \r"
+WORDS = ["-", ".", "0", "1", "7", "16", "64", "262143", "262144", "4294967295", "4294967296"]
+WORDS += ["active", "booting", "host", "free"]
 
 
 class Volume:
-    """Some calls in order with their replies and what custody tells of them, and the texts of the states before and behind
-    them, as the rules have them."""
+    """Some calls in order with their replies and what custody reports of them, and the texts of the states before and
+    after them, as the rules have them."""
 
     def __init__(self, core, lines, told, before):
         self.lines, self.before = lines, before
-        self.replies = "".join(core.answer(line) + "\n" for line in lines)
+        self.replies = "".join(f"{core.answer(line)}\n" for line in lines)
         self.custody = core.custody_text(len(lines), told)
         self.behind = state_text(core)
         self.dump = self.behind[self.behind.index("kcore-dump "):]
@@ -69,10 +74,11 @@ def sections_of(text):
 
 
 def other_word(rng, place, words, section):
-    """A word for one of a line's: one near to it, one from its place in another line of the section, of the line, or any."""
+    """A word for one of a line's: one near to it, from its place in another line of the section, of the line, or any."""
     lines = [line[:-1].split(" ") for line in section]
     some = [line[place] for line in rng.sample(lines, min(4, len(lines))) if place < len(line)]
-    some += [str(max(0, int(words[place]) + step)) for step in (-1, 1)] if re.fullmatch("[0-9]{1,9}", words[place]) else []
+    if re.fullmatch("[0-9]{1,9}", words[place]):
+        some += [str(max(0, int(words[place]) + step)) for step in (-1, 1)]
     return rng.choice(some * 2 + [rng.choice(words), rng.choice(WORDS), "0" + words[place]])
 
 
@@ -132,63 +138,67 @@ def damaged(rng, text):
 class Program:
     """The program on the traces of one configuration, with files for what it reads beside them."""
 
-    def __init__(self, run, trace_of, config, path):
-        self.run, self.trace_of, self.config, self.path = run, trace_of, config, path
+    def __init__(self, config, path):
+        self.config, self.path = config, path
+
+    def path_of(self, end):
+        return self.path.with_name(f"state.{end}")
 
     def file(self, end, text):
-        with open(self.path + end, "w", newline="") as out:
-            out.write(text)
-        return self.path + end
+        self.path_of(end).write_text(text, newline="")
+        return self.path_of(end)
 
     def ran(self, lines, *words):
-        return self.run(words, self.trace_of(self.config, lines))
+        return run(words, calls.trace_of(lines, self.config["calls_on_ranges"]))
 
 
 def volume_differs(rng, program, volume):
     """What differs in a volume that is replayed by itself, or None."""
-    start = ["--from", program.file(".from", volume.before)]
+    start = ["--from", program.file("from", volume.before)]
     if rng.random() < 0.15:
         return None if program.ran(volume.lines, "custody", *start) == (0, volume.custody, "") else "its custody"
-    form, wanted = rng.choice([([], volume.replies), ([], volume.replies), (["--state"], volume.behind), (["--dump"], volume.dump)])
-    words, workers = [*start, "--to", program.file(".to", volume.behind)], str(rng.choice(WORKERS))
+    plain = [], volume.replies
+    form, wanted = rng.choice([plain, plain, (["--state"], volume.behind), (["--dump"], volume.dump)])
+    words, workers = [*start, "--to", program.file("to", volume.behind)], str(rng.choice(WORKERS))
     if program.ran(volume.lines, "replay", *form, *words, "--workers", workers) != (0, wanted, ""):
-        return "%s with %s workers" % (form[0] if form else "its replies", workers)
+        return f"{form[0] if form else 'its replies'} with {workers} workers"
     return None
 
 
 def end_differs(rng, program, volume):
     """What differs where a volume is compared with another text than that of the state it leaves, or None."""
     other = volume.before if volume.before != volume.behind and rng.random() < 0.3 else damaged(rng, volume.behind)
-    words = ["replay", "--from", program.file(".from", volume.before), "--to", program.file(".to", other)]
+    words = ["replay", "--from", program.file("from", volume.before), "--to", program.file("to", other)]
     return None if program.ran(volume.lines, *words) == (1, volume.replies, ANOTHER) else "compared with another text"
 
 
 def damage_differs(rng, program, volume):
-    """What differs where a text is damaged, or None: it is refused for what is wrong with it, or is another state's own."""
+    """What differs where a text is damaged, or None: it is refused for what is wrong with it, or is another state's."""
     text = damaged(rng, volume.before)
-    fault, start = fault_of(text), ["--from", program.file(".from", text)]
+    fault, start = fault_of(text), ["--from", program.file("from", text)]
     if fault is None:
-        return None if program.ran([], "replay", "--state", *start) == (0, text, "") else "begun with another state's text"
+        is_same = program.ran([], "replay", "--state", *start) == (0, text, "")
+        return None if is_same else "begun with another state's text"
     words = rng.choice([["replay"], ["replay", "--state"], ["replay", "--workers", "64"], ["custody"]])
-    return None if program.ran(volume.lines, *words, *start) == (2, "", "kcore: %s\n" % fault) else "begun with a damaged text (%s)" % fault
+    is_refused = program.ran(volume.lines, *words, *start) == (2, "", f"kcore: {fault}\n")
+    return None if is_refused else f"begun with a damaged text ({fault})"
 
 
 def difference(rng, program, core, lines, told):
     """What differs in a trace, of which custody tells this, that begins in a core and is cut into volumes, or None."""
     volumes = volumes_of(rng, core, lines, told)
-    of_volume = "volume %d of %d (of " + ", ".join(str(len(it.lines)) for it in volumes) + " calls): %s"
     words = ["replay", "--config", program.path, "--state", "--workers", str(rng.choice(WORKERS))]
     if program.ran(lines, *words) != (0, volumes[-1].behind, ""):
         return "the text of the state"
-    order = list(enumerate(volumes, 1))
+    order, sizes = list(enumerate(volumes, 1)), ", ".join(str(len(it.lines)) for it in volumes)
     rng.shuffle(order)
     for number, volume in order:
         differs = volume_differs(rng, program, volume)
         if differs:
-            return of_volume % (number, len(volumes), differs)
+            return f"volume {number} of {len(volumes)} (of {sizes} calls): {differs}"
     for look in [damage_differs] + rng.sample([end_differs, damage_differs], 1):
         number, volume = rng.choice(order)
         differs = look(rng, program, volume)
         if differs:
-            return of_volume % (number, len(volumes), differs)
+            return f"volume {number} of {len(volumes)} (of {sizes} calls): {differs}"
     return None

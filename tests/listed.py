@@ -1,0 +1,235 @@
+"""Lists that documents and scripts have of what the code defines: crates, calls, refusals, faults, options. Each check
+yields what it says and what is wrong about it, '' if it holds."""
+import re
+import subprocess
+
+from cited import QUOTED, paragraphs_of, rows_of
+from document_tree import words_of
+
+OPTION = re.compile(r"--[a-z][a-z-]*")
+# What crates.txt has beside the names of crates: a kind of library, and the standard library's own parts.
+BUILT_IN = {"staticlib", "std_alloc", "std_heap"}
+COMMANDS = "replay", "live", "custody", "audit"
+
+
+def differing(listed, meant):
+    """What one list lacks of another, and what it has beyond it."""
+    lacks, beyond = sorted(set(meant) - set(listed)), sorted(set(listed) - set(meant))
+    return "; ".join([f"lacks {', '.join(lacks)}"] * bool(lacks) + [f"has {', '.join(beyond)}"] * bool(beyond))
+
+
+def section(text, head):
+    """What stands below a heading, up to the next one."""
+    return re.split(r"^#+ ", text.partition(f"# {head}\n")[2], maxsplit=1, flags=re.M)[0]
+
+
+# Crates
+
+def direct(tree, crate):
+    """The crates that one depends on, but for those that come with others of them."""
+    own = tree.crates[crate]
+    return own - set().union(*(tree.reached(below) for below in own))
+
+
+def check_crates(tree):
+    text = tree.text("docs/MAP.md")
+    rows = {QUOTED.findall(cells[0])[0]: cells for _, cells in rows_of(section(text, "Crates")) if "`" in cells[0]}
+    yield "docs/MAP.md: its table has the crates of crates.txt", differing(rows, tree.crates)
+    drawn = words_of(text.partition("\n| word")[0])
+    yield "docs/MAP.md: its picture has the crates of crates.txt", differing(drawn & set(tree.crates), {
+        crate for crate in tree.crates if crate not in ("test_libraries", "plan_lister")})
+    for crate in sorted(rows.keys() & tree.crates.keys()):
+        wrong = differing(QUOTED.findall(rows[crate][2]), direct(tree, crate))
+        yield f"docs/MAP.md: what {crate} depends on", wrong
+
+
+def check_trusted(tree):
+    """ASSURANCE names every crate with definitions, and every crate of the toolchain's, among what is trusted."""
+    trusted = set(QUOTED.findall(section(tree.text("docs/ASSURANCE.md"), "What is trusted")))
+    defining = {crate for crate in tree.crates if tree.below(f"crates/{crate}/specs")}
+    yield "docs/ASSURANCE.md: whose definitions are trusted", differing(trusted & set(tree.crates), defining)
+    lines = [line for line in tree.text("crates.txt").splitlines() if not line.startswith("#")]
+    foreign = words_of("\n".join(lines)) - set(tree.crates) - BUILT_IN
+    yield "docs/ASSURANCE.md: which crates of the toolchain are trusted", differing(trusted & foreign, foreign)
+
+
+# Calls
+
+def spelled(tree):
+    """How the definition spells each call: the variant of the type, its words, and its name."""
+    text = tree.text("crates/kc_trace/specs/Spelling.antt")
+    return re.findall(r"^words_of \(?(\w+)([\w ]*)\)? = codes \"(\w+)\"", text, re.M)
+
+
+def calls_of(tree):
+    """Each call's name in texts, with the number of its words."""
+    return {name: len(words.split()) for _, words, name in spelled(tree)}
+
+
+def forms_in(text, head):
+    """The calls that tables below a heading spell with their words: `hread f off len`."""
+    forms = [form.split(" ") for _, cells in rows_of(section(text, head)) for form in QUOTED.findall(cells[0])]
+    return {f"{name} {len(words)}" for name, *words in forms if name.isalpha()}
+
+
+def first_names(rows):
+    return [name for _, cells in rows for name in QUOTED.findall(cells[0])]
+
+
+def check_calls(tree):
+    calls = calls_of(tree)
+    counted = {f"{name} {count}" for name, count in calls.items()}
+    fields = tree.text("crates/kc_types/src/call.rt").partition("pub enum Call {")[2].partition("\n}")[0]
+    variants = re.findall(r"^    (\w+)(?:,| \{)", fields, re.M)
+    yield "Spelling.antt: each call of the type", differing([variant for variant, _, _ in spelled(tree)], variants)
+    rules, texts = tree.text("docs/RULES.md"), tree.text("docs/TEXTS.md")
+    yield "docs/RULES.md: each call with its words", differing(forms_in(rules, "Calls"), counted)
+    yield "docs/TEXTS.md: each call with its words", differing(forms_in(texts, "Trace"), counted)
+    conditions = rows_of(rules.rpartition("| call | its conditions")[2])
+    yield "docs/RULES.md: the conditions of each call", differing(first_names(conditions), calls)
+    lines = rows_of(texts.partition("| call | its lines")[2].partition("\n\n")[0])
+    yield "docs/TEXTS.md: the lines of custody of each call", differing(first_names(lines), calls)
+    adding = section(tree.text("docs/ADDING.md"), "A call")
+    cited = {name.rpartition("/")[2] for name in QUOTED.findall(adding)}
+    yield "docs/ADDING.md: each file that knows its example by name", differing(files_with(tree, "Revoke") - cited, ())
+    yield "kc_explain: each call with its words", differing(explained(tree), counted)
+    forms = re.findall(r'"(\w+)((?: \{\w+\})*)"', tree.text("tests/calls.py"))
+    known = {f"{name} {words.count('{')}" for name, words in forms}
+    yield "tests/calls.py: each call with its words", differing(known & counted, counted)
+    yield "tests/rules.py: each call", differing(words_of(tree.text("tests/rules.py")) & set(calls), calls)
+
+
+def files_with(tree, variant):
+    """The names of the files of src/ and specs/ that have a variant of the type of calls."""
+    folders = [f"crates/{crate}/{part}" for crate in tree.crates for part in ("src", "specs")]
+    files = [file for folder in folders for file in tree.below(folder)]
+    return {file.rpartition("/")[2] for file in files if variant in words_of(tree.text(file))}
+
+
+def explained(tree):
+    """The calls that kc_explain knows, with the number of their words."""
+    text = tree.text("crates/kc_explain/src/trace_line.rt")
+    found = re.findall(r"is_among\(\s*name,\s*&\[(.*?)\],?\s*\) \{\s*Some\(\((\d+), \w+\)\)", text, re.S)
+    return {f"{name} {count}" for names, count in found for name in re.findall(r'"(\w+)"', names)}
+
+
+# Refusals and faults
+
+def check_refusals(tree):
+    source = tree.text("crates/kc_types/src/refusal.rt")
+    numbers = dict(re.findall(r"Refusal::(\w+) => (\d+)", source))
+    names = {int(numbers[variant]): name for variant, name in re.findall(r'Refusal::(\w+) => "([\w-]+)"', source)}
+    rules = tree.text("docs/RULES.md")
+    rows = [cells for _, cells in rows_of(section(rules, "Refusals"))]
+    listed = {int(cells[0]): cells[1].strip("`") for cells in rows if cells[0].isdigit()}
+    yield "docs/RULES.md: each refusal with its number", differing(map(str, listed.items()), map(str, names.items()))
+    used = {name for cells in rows if "`" in cells[0] for name in QUOTED.findall(" ".join(cells[1:]))}
+    unknown = used - set(names.values()) - calls_of(tree).keys()
+    yield "docs/RULES.md: what a call's conditions name is a refusal", differing(unknown, ())
+    operate = section(tree.text("docs/OPERATE.md"), "A reply that refuses")
+    named = {name for _, cells in rows_of(operate) for name in QUOTED.findall(cells[0])}
+    yield "docs/OPERATE.md: where to look, for each refusal", differing(named, names.values())
+
+
+def faults_of(tree):
+    """The words of each fault's line, up to a number."""
+    sources = [tree.text(file) for crate in tree.crates for file in tree.below(f"crates/{crate}/specs", "Faults.antt")]
+    return {words.strip() for source in sources for words in re.findall(r'codes "(\w[^"]*)"', source)} - {"kcore:"}
+
+
+def check_faults(tree):
+    faults = faults_of(tree)
+    shown = faults - {"bad number of workers"}
+    heads = ("TEXTS", "What the program says of faults", faults), ("OPERATE", "A line on standard error", shown)
+    for document, head, meant in heads:
+        rows = [QUOTED.findall(cells[0]) for _, cells in rows_of(section(tree.text(f"docs/{document}.md"), head))]
+        names = {name.removeprefix("kcore: ") for row in rows for name in row}
+        # The first fault of a configuration is named whole, the others perhaps by their last words.
+        names |= {f"configuration refused: {name}" for name in names}
+        found = {fault for fault in meant if any(name.startswith(fault) for name in names)}
+        yield f"docs/{document}.md: each fault", differing(found, meant)
+        first = {row[0].removeprefix("kcore: ") for row in rows if row and row[0] != "kcore:"}
+        unknown = {name for name in first if not name.startswith(tuple(faults))}
+        yield f"docs/{document}.md: only faults of the program", differing(unknown, ())
+    lines = section_of_page(plain(tree.text("docs/kcore.1")), "FAULTS")
+    lines += "".join(f"\nconfiguration refused: {name}" for name in re.findall(r"\((.*)\)", lines)[0].split(", "))
+    yield "docs/kcore.1: each fault", differing({fault for fault in shown if f"\n{fault}" in lines}, shown)
+
+
+# The man page, help and completions
+
+def plain(page):
+    """A man page without its marks, a word of its macros beside the next."""
+    lines = []
+    for line in page.split("\n"):
+        if macro := re.match(r"\.(B|I|BI|BR|IR|RB|RI) (.*)", line):
+            words = re.findall(r'"([^"]*)"|(\S+)', macro[2])
+            line = ("" if len(macro[1]) == 2 else " ").join(quoted or word for quoted, word in words)
+        elif re.match(r"\.(SH|TP|br|PP|EX|EE|TH)", line):
+            line = f"# {line[4:]}" if line.startswith(".SH") else ""
+        lines.append(line)
+    text = "\n".join(lines)
+    for mark, sign in (("\\-", "-"), ("\\(aq", "'"), ("\\e", "\\")):
+        text = text.replace(mark, sign)
+    return text
+
+
+def section_of_page(page, head):
+    return page.partition(f"# {head}\n")[2].partition("\n# ")[0]
+
+
+def completed(tree, *words):
+    """What completions offer for the last of some words."""
+    script = """. "$1"; shift; COMP_WORDS=(kcore "$@"); COMP_CWORD=$#
+        _kcore kcore "${!#}" "${COMP_WORDS[COMP_CWORD - 1]}"; printf "%s\\n" "${COMPREPLY[@]}" """
+    words = ["bash", "--norc", "-c", script, "-", "/dev/stdin", *words]
+    ran = subprocess.run(words, input=tree.text("completions/kcore.bash"), capture_output=True, text=True)
+    return set(ran.stdout.split())
+
+
+def help_of(program, *words):
+    return subprocess.run([program, *words, "--help"], capture_output=True, text=True).stdout
+
+
+def check_called(tree, known):
+    """Each call of the program within a sentence has options that its command knows."""
+    for document in tree.documents():
+        paragraphs = paragraphs_of(tree.text(document))
+        for line, name in [(line, name) for line, paragraph in paragraphs for name in QUOTED.findall(paragraph)]:
+            for command, words in re.findall(r"\bkcore (replay|live|custody|audit)\b([^|]*)", name):
+                wrong = differing(set(OPTION.findall(words)) - known[command], ())
+                yield f"{document}:{line}: `{name}`", wrong
+
+
+def check_page(tree, known, commands, every):
+    """The man page has each command with its options, and no other."""
+    page = plain(tree.text("docs/kcore.1"))
+    synopsis = re.split(r"^kcore ?", section_of_page(page, "SYNOPSIS"), flags=re.M)
+    for command, helped in known.items():
+        begun = [part for part in synopsis if re.match(rf"\s*\[? ?{command}\b", part)]
+        yield f"docs/kcore.1: synopsis of {command}", differing(OPTION.findall("".join(begun)), helped - {"--help"})
+    explained = set(re.findall(r"^(?:-\w, )?(--[a-z-]+)", section_of_page(page, "OPTIONS"), re.M))
+    yield "docs/kcore.1: options", differing(explained, every)
+    described = [command for command in commands if f"\n{command}\n" in section_of_page(page, "DESCRIPTION")]
+    yield "docs/kcore.1: commands", differing(described, set(commands) - {"help"})
+
+
+def check_completions(tree, known, commands, top):
+    """Completions of bash offer each command with its options, and no other; those of any shell name each option."""
+    for command, helped in known.items():
+        yield f"completions: the options of {command}", differing(completed(tree, command, "--"), helped)
+    yield "completions: commands and their options", differing(completed(tree, ""), [*commands, *top])
+    every = set(top).union(*known.values())
+    for file in tree.below("completions"):
+        found = {option for option in every if option.strip("-") in tree.text(file)}
+        yield f"{file}: each option", differing(found, every)
+
+
+def check_options(tree, program):
+    known = {command: set(OPTION.findall(help_of(program, command))) for command in COMMANDS}
+    top = help_of(program)
+    commands = re.findall(r"^  ([a-z]+) ", top.partition("Commands:")[2].partition("Options:")[0], re.M)
+    yield "docs: the commands of the program", differing(COMMANDS, set(commands) - {"help"})
+    yield from check_page(tree, known, commands, set(OPTION.findall(top)).union(*known.values()))
+    yield from check_completions(tree, known, commands, OPTION.findall(top))
+    yield from check_called(tree, known)

@@ -1,0 +1,76 @@
+"""Mistakes in documents and in sources, each with the check of tests/documents that has to see it."""
+import dataclasses
+
+from document_tree import Tree
+
+
+@dataclasses.dataclass(frozen=True)
+class Mistake:
+    """A file in which a text becomes another one everywhere, or which gets another name."""
+
+    check: str
+    file: str
+    old: str = ""
+    new: str = ""
+
+    def __str__(self):
+        change = f"{self.old!r} becomes {self.new!r}" if self.old else f"has the name {self.new}"
+        return f"the check of {self.check} sees that in {self.file} {change}".replace("in ", "", not self.old)
+
+    def made(self, top):
+        """The repository with the mistake, or none where the file has no such text any more."""
+        text = Tree(top).text(self.file)
+        if not self.old:
+            return Tree(top, {self.file: None, self.new: text})
+        return Tree(top, {self.file: text.replace(self.old, self.new)}) if self.old in text else None
+
+
+MISTAKES = (
+    Mistake("commands", "docs/OPERATE.md", '    {"findings":0,', '    {"findings":2,'),
+    Mistake("commands", "docs/AUDIT.md", "    3 0 1 7 0\n", ""),
+    Mistake("commands", "docs/kcore.1", "data aa\n", "data aa\ndone\n"),
+    Mistake("commands", "docs/kcore.1", "state2 < trace2", "state1 < trace2"),
+    Mistake("contracts", "crates/kc_core/src/dispatch.rt", "ensures reply {", "ensures answered {"),
+    Mistake("contracts", "crates/kc_cli/src/custody.rt", "ensures texts {", "ensures faults {"),
+    Mistake("contracts", "crates/kc_links/src/list.rt", "fn splice", "fn join"),
+    Mistake("contracts", "crates/kc_model/specs/CustodyLaws.antt", "pub stays :", "pub keeps :"),
+    Mistake("contracts", "crates/kc_model/specs/Safety.antt", "IsSafe", "IsSecure"),
+    Mistake("contracts", "crates/kc_core/wrong-bodies/freeing.edits", "drop_keeps_bytes", "drop_leaves_bytes"),
+    Mistake("contracts", "crates/kcore_c/src/handle.rt", "ghost agrees:", "ghost fits:"),
+    Mistake("contracts", "docs/ASSURANCE.md", "| `kc_state`, `dump`", "| `kc_cli`, `dump`"),
+    Mistake("contracts", "docs/ASSURANCE.md", "field `waves` of", "field `kc_waves` of"),
+    Mistake("contracts", "docs/ASSURANCE.md", "(`test_libraries`, `volumes.rt`)", "(`test_libraries`, `volume.rt`)"),
+    Mistake("names", "crates/kc_core/src/shares.rt", "", "crates/kc_core/src/sharing.rt"),
+    Mistake("names", "docs/two-vms.svg", "", "docs/two-guests.svg"),
+    Mistake("names", "docs/MAP.md", "`unshared_frame`", "`unshared_frame_of`"),
+    Mistake("scripts", "bin/library", "", "bin/libraries"),
+    Mistake("scripts", "docs/FLEET.md", "fleet/audit --by parallel", "fleet/audit --using parallel"),
+    Mistake("crates", "crates.txt", "kc_picture: kc_types", "kc_picture: kc_lines"),
+    Mistake("crates", "docs/MAP.md", "| `kc_state_text` |", "| `kc_states_text` |"),
+    Mistake("crates", "docs/MAP.md", "kc_picture: bars", "bars"),
+    Mistake("trusted crates", "docs/ASSURANCE.md", "of `kc_state` and `kc_state_text`", "of `kc_state_text`"),
+    Mistake("calls", "crates/kc_explain/src/trace_line.rt", '"revoker"', '"revoked"'),
+    Mistake("calls", "crates/kc_explain/src/trace_line.rt", "Some((5, false))", "Some((4, false))"),
+    Mistake("calls", "crates/kc_types/src/call.rt", "    Take,\n", "    Take,\n    Swap,\n"),
+    Mistake("calls", "tests/calls.py", "grantr {v} {c} {g} {n}", "grantr {v} {c} {g}"),
+    Mistake("calls", "tests/rules.py", "def revoker(", "def revoke_range("),
+    Mistake("calls", "docs/ADDING.md", "`kc_footprints/src/names.rt`", "`kc_footprints`"),
+    Mistake("calls", "docs/RULES.md", "| `revoker v c g n` |", "| `revoker v c g` |"),
+    Mistake("calls", "docs/TEXTS.md", "`grantr`, `revoker` | each", "`grantr` | each"),
+    Mistake("refusals", "docs/RULES.md", "| 22 | `tables-full` |", "| 22 | `table-full` |"),
+    Mistake("refusals", "docs/OPERATE.md", "| `tables-full` |", "| `tables` |"),
+    Mistake("faults", "docs/OPERATE.md", "`bad actor of program N`", "`bad actor`"),
+    Mistake("faults", "docs/kcore.1", "no state header", "no header of a state"),
+    Mistake("options", "docs/kcore.1", '.BI \\-\\-from " PATH"', '.BI \\-\\-begin " PATH"'),
+    Mistake("options", "completions/kcore.bash", "--vm --summary", "--summary"),
+    Mistake("options", "README.md", "`kcore replay --workers 8`", "`kcore replay --threads 8`"),
+    Mistake("limits", "docs/RULES.md", "at most 32,768", "at most 32,767"),
+    Mistake("limits", "docs/RULES.md", "(256 MiB)", "(512 MiB)"),
+    Mistake("limits", "docs/RULES.md", "| 0 to 100 |", "| 0 to 101 |"),
+    Mistake("examples", "examples/README.md", "| `two-frames` |", "| `three-frames` |"),
+    Mistake("examples", "docs/TEXTS.md", '{"finding":"chain 1"}', '{"finding":"chain 3"}'),
+    Mistake("functions", "docs/EMBED.md", "| `kcore_turn` |", "| `kcore_next` |"),
+    Mistake("functions", "include/kcore.h", "uint32_t kcore_turn(", "uint32_t kcore_next("),
+    Mistake("the first table", "README.md", "`refused not-present`", "`refused protected`"),
+    Mistake("the configuration without --config", "docs/TEXTS.md", '"host":4,"leaves":1', '"host":5,"leaves":1'),
+)

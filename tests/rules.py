@@ -1,0 +1,389 @@
+"""The rules written out once more in another language: what a core keeps, why a call is refused and what it does; and
+what custody, a summary and a dump say of it."""
+import hashlib
+import itertools
+import json
+import operator
+
+import calls
+
+PAGE, GUEST_FRAMES, IMAGE_BYTES, LEAF, SHARES, RANGE = 4096, 262144, 1048576, 512, 100, 64
+SLOTS, FRAMES = {1: 16, 2: 64}, {1: 8192, 2: 65536}
+# What is said of a frame, in the order in which it is told.
+CUSTODY = [operator.attrgetter(name) for name in ("owner", "gfn", "share", "present")]
+# The configuration that the program has where none is named.
+DEFAULT = {
+    "version": 1, "frames": 8, "core": 1, "host": 4, "leaves": 1, "approved": [hashlib.sha256(b"abc").hexdigest()],
+}
+
+
+class Refused(Exception):
+    pass
+
+
+class Frame:
+    __slots__ = "owner", "share", "gfn", "present", "page"
+
+    def __init__(self, owner):
+        self.owner, self.share, self.gfn, self.present, self.page = owner, 0, None, False, bytearray(PAGE)
+
+
+class Slot:
+    def __init__(self):
+        self.phase, self.vcpus, self.images, self.list, self.table, self.leaves = "empty", {}, [], [], {}, []
+
+
+class Life:
+    """What a summary tells of a VM, from the call that registers it on."""
+
+    def __init__(self, v, line):
+        self.told = {"vm": v, "registered": line, "active": None, "dead": None, "cleared": None, "images": []}
+        self.told |= dict.fromkeys(("frames", "most", "left", "returned", "reads", "writes"), 0) | {"shared": []}
+        self.ever, self.last, self.open = set(), set(), {}
+
+    def look(self, line, table):
+        """Looks at the frames that it has behind the call on this line."""
+        now = set(table.values())
+        self.ever |= now
+        self.told |= {"frames": len(self.ever), "most": max(self.told["most"], len(now)), "left": len(now)}
+        self.told["returned"] += len(self.last - now)
+        self.last = now
+
+    def look_at_shares(self, line, table, shared):
+        """Looks at those of them that it shares."""
+        for f in [f for f in self.open if f not in shared]:
+            self.open.pop(f)["to"] = line
+        gfns = {f: g for g, f in table.items()}
+        for f in sorted(set(shared) - self.open.keys()):
+            self.open[f] = {"frame": f, "gfn": gfns[f], "from": line, "to": None}
+            self.told["shared"].append(self.open[f])
+
+
+def pages_of(length):
+    return (length + PAGE - 1) // PAGE
+
+
+def ask(*conditions):
+    """Refused for the first condition that holds; each is a function, so that none is asked too early."""
+    for holds, name in conditions:
+        if holds():
+            raise Refused(name)
+
+
+class Core:
+    """The rules: what is kept, why a call is refused, what it does."""
+
+    def __init__(self, config):
+        self.config = config
+        owners = ["core"] * config["core"] + ["host"] * config["host"]
+        owners += ["free"] * (config["frames"] - len(owners))
+        self.frames = [Frame(owner) for owner in owners]
+        self.slots = [Slot() for _ in range(SLOTS[config["version"]])]
+        self.free = [f for f, owner in enumerate(owners) if owner == "free"]
+
+    def answer(self, line):
+        name, *words = line.split(" ")
+        words = [word if letter == "data" else int(word) for letter, word in zip(calls.WORDS[name], words, strict=True)]
+        try:
+            return getattr(self, name)(*words)
+        except Refused as refusal:
+            return f"refused {refusal}"
+
+    # Conditions: each is a function, and the name of the refusal.
+    def bad_vm(self, v): return lambda: v >= len(self.slots), "bad-vm"
+    def bad_vcpu(self, c): return lambda: c > 7, "bad-vcpu"
+    def bad_frame(self, f): return lambda: f >= len(self.frames), "bad-frame"
+    def bad_gfn(self, g, n=1): return lambda: g >= GUEST_FRAMES or g + n > GUEST_FRAMES, "bad-gfn"
+    def bad_range(self, offset, length): return lambda: length == 0 or offset + length > PAGE, "bad-range"
+    def no_vm(self, v): return lambda: self.slots[v].phase == "empty", "no-vm"
+    def not_in(self, v, phase): return lambda: self.slots[v].phase != phase, "wrong-phase"
+    def no_vcpu(self, v, c): return lambda: c not in self.slots[v].vcpus, "no-vcpu"
+    def not_host(self, f): return lambda: self.frames[f].owner != "host", "not-host"
+    def not_present(self, f): return lambda: not self.frames[f].present, "not-present"
+
+    def not_mapped(self, v, g, n=1):
+        return lambda: any(h not in self.slots[v].table for h in range(g, g + n)), "not-mapped"
+
+    def share_is(self, v, g, n, share, name):
+        return lambda: any(self.at(v, h).share == share for h in range(g, g + n)), name
+
+    def tables_full(self, v, gfn):
+        leaves = lambda: self.slots[v].leaves
+        return lambda: gfn() // LEAF not in leaves() and len(leaves()) >= self.config["leaves"], "tables-full"
+
+    def guest(self, v, c):
+        return self.no_vm(v), self.not_in(v, "active"), self.no_vcpu(v, c)
+
+    # What several calls do.
+    def at(self, v, g):
+        return self.frames[self.slots[v].table[g]]
+
+    def hand(self, v, g, f):
+        slot, frame = self.slots[v], self.frames[f]
+        if g // LEAF not in slot.leaves:
+            slot.leaves.append(g // LEAF)
+        slot.table[g] = f
+        slot.list.append(f)
+        frame.owner, frame.gfn, frame.present = v, g, False
+
+    def measured(self, v):
+        """The images of a slot, each with the digest of its bytes."""
+        held = lambda base, pages: b"".join(self.at(v, base + n).page for n in range(pages))
+        images = [(base, length, held(base, pages)[:length]) for base, length, pages in self.slots[v].images]
+        return [(base, length, hashlib.sha256(image).hexdigest()) for base, length, image in images]
+
+    def release(self, f):
+        self.frames[f] = Frame("free")
+        self.free.append(f)
+
+    # The host's calls.
+    def take(self):
+        ask((lambda: not self.free, "no-free"))
+        f = self.free.pop(0)
+        self.frames[f].owner = "host"
+        return f"frame {f}"
+
+    def give(self, f):
+        ask(self.bad_frame(f), self.not_host(f))
+        self.release(f)
+        return "done"
+
+    def hfault(self, f):
+        ask(self.bad_frame(f), (lambda: self.frames[f].owner != "host" and self.frames[f].share == 0, "protected"))
+        self.frames[f].present = True
+        return "done"
+
+    def hread(self, f, offset, length):
+        ask(self.bad_frame(f), self.bad_range(offset, length), self.not_present(f))
+        return f"data {self.frames[f].page[offset:offset + length].hex()}"
+
+    def hwrite(self, f, offset, data):
+        data = bytes.fromhex(data)
+        ask(self.bad_frame(f), self.bad_range(offset, len(data)), self.not_present(f))
+        self.frames[f].page[offset:offset + len(data)] = data
+        return "done"
+
+    def regvm(self, v):
+        ask(self.bad_vm(v), (lambda: self.slots[v].phase != "empty", "slot-used"))
+        self.slots[v].phase = "booting"
+        return "done"
+
+    def regvcpu(self, v, c):
+        is_used = lambda: c in self.slots[v].vcpus
+        ask(self.bad_vm(v), self.bad_vcpu(c), self.no_vm(v), self.not_in(v, "booting"), (is_used, "vcpu-used"))
+        self.slots[v].vcpus[c] = None
+        return "done"
+
+    def setboot(self, v, base, length):
+        pages, images = pages_of(length), lambda: self.slots[v].images
+        meets = lambda: any(base < first + pages_of(size) and first < base + pages for first, size, _ in images())
+        ask(self.bad_vm(v), self.bad_gfn(base, pages), (lambda: length == 0 or length > IMAGE_BYTES, "bad-range"),
+            self.no_vm(v), self.not_in(v, "booting"), (lambda: len(images()) >= 4, "images-full"), (meets, "overlap"))
+        self.slots[v].images.append([base, length, 0])
+        return f"image {len(self.slots[v].images) - 1}"
+
+    def remap(self, v, i, f):
+        image = lambda: self.slots[v].images[i]
+        next_gfn = lambda: image()[0] + image()[2]
+        is_full = lambda: image()[2] >= pages_of(image()[1])
+        ask(self.bad_vm(v), self.bad_frame(f), self.no_vm(v), self.not_in(v, "booting"),
+            (lambda: i >= len(self.slots[v].images), "no-image"), (is_full, "image-full"), self.not_host(f),
+            self.tables_full(v, next_gfn))
+        self.hand(v, next_gfn(), f)
+        image()[2] += 1
+        return "done"
+
+    def verify(self, v):
+        short = lambda: not self.slots[v].images or any(image[2] < pages_of(image[1]) for image in self.slots[v].images)
+        ask(self.bad_vm(v), self.no_vm(v), self.not_in(v, "booting"), (short, "image-short"))
+        slot = self.slots[v]
+        for i, (base, length, digest) in enumerate(self.measured(v)):
+            if digest not in self.config["approved"]:
+                slot.phase = "dead"
+                return f"rejected {i}"
+        for base, length, pages in slot.images:
+            past = pages * PAGE - length
+            self.at(v, base + pages - 1).page[PAGE - past:] = bytes(past)
+        slot.phase = "active"
+        return "done"
+
+    def map(self, v, c, f):
+        waits = lambda: self.slots[v].vcpus[c]
+        ask(self.bad_vm(v), self.bad_vcpu(c), self.bad_frame(f), *self.guest(v, c),
+            (lambda: waits() is None, "no-fault"), (lambda: waits() in self.slots[v].table, "mapped"),
+            self.not_host(f), self.tables_full(v, waits))
+        self.hand(v, waits(), f)
+        self.slots[v].vcpus[c] = None
+        return "done"
+
+    def clear(self, v):
+        ask(self.bad_vm(v), self.no_vm(v))
+        for f in self.slots[v].list:
+            self.release(f)
+        self.slots[v] = Slot()
+        return "done"
+
+    # A virtual processor's calls.
+    def reach(self, v, c, g, offset, length):
+        """The page at a guest frame; none where it is not mapped, and then the virtual processor waits for it."""
+        ask(self.bad_vm(v), self.bad_vcpu(c), self.bad_gfn(g), self.bad_range(offset, length), *self.guest(v, c))
+        is_mapped = g in self.slots[v].table
+        self.slots[v].vcpus[c] = None if is_mapped else g
+        return self.at(v, g).page if is_mapped else None
+
+    def gread(self, v, c, g, offset, length):
+        page = self.reach(v, c, g, offset, length)
+        return f"fault {g}" if page is None else f"data {page[offset:offset + length].hex()}"
+
+    def gwrite(self, v, c, g, offset, data):
+        data = bytes.fromhex(data)
+        page = self.reach(v, c, g, offset, len(data))
+        if page is None:
+            return f"fault {g}"
+        page[offset:offset + len(data)] = data
+        return "done"
+
+    def grant(self, v, c, g):
+        ask(self.bad_vm(v), self.bad_vcpu(c), self.bad_gfn(g), *self.guest(v, c), self.not_mapped(v, g),
+            self.share_is(v, g, 1, SHARES, "share-full"))
+        return self.share(v, g, 1, 1)
+
+    def revoke(self, v, c, g):
+        ask(self.bad_vm(v), self.bad_vcpu(c), self.bad_gfn(g), *self.guest(v, c), self.not_mapped(v, g),
+            self.share_is(v, g, 1, 0, "not-shared"))
+        return self.share(v, g, 1, -1)
+
+    def grantr(self, v, c, g, n):
+        many = (lambda: n == 0 or n > RANGE, "bad-range")
+        ask(self.bad_vm(v), self.bad_vcpu(c), self.bad_gfn(g, n), many, *self.guest(v, c), self.not_mapped(v, g, n),
+            self.share_is(v, g, n, SHARES, "share-full"))
+        return self.share(v, g, n, 1)
+
+    def revoker(self, v, c, g, n):
+        many = (lambda: n == 0 or n > RANGE, "bad-range")
+        ask(self.bad_vm(v), self.bad_vcpu(c), self.bad_gfn(g, n), many, *self.guest(v, c), self.not_mapped(v, g, n),
+            self.share_is(v, g, n, 0, "not-shared"))
+        return self.share(v, g, n, -1)
+
+    def share(self, v, g, n, change):
+        for h in range(g, g + n):
+            frame = self.at(v, h)
+            frame.share += change
+            frame.present = frame.present and frame.share > 0
+        return "done"
+
+    def drop(self, v, c, g):
+        shared = (lambda: self.at(v, g).share > 0, "shared")
+        ask(self.bad_vm(v), self.bad_vcpu(c), self.bad_gfn(g), *self.guest(v, c), self.not_mapped(v, g), shared)
+        f = self.slots[v].table.pop(g)
+        self.slots[v].list.remove(f)
+        self.release(f)
+        return "done"
+
+    def seen(self):
+        """What custody tells of all frames, a list for each word, and of all slots."""
+        return [list(map(word, self.frames)) for word in CUSTODY], [slot.phase for slot in self.slots]
+
+    def custody(self, lines):
+        """The replies to these calls of a trace, and all that is told of them: whose VMs' line it is, and the line."""
+        replies, told, before = [], [], self.seen()
+        for number, line in enumerate(lines, 2):
+            # Measured before the call, which may change its pages.
+            slot = int(line.split(" ")[1]) if line.startswith("verify ") else len(self.slots)
+            images = self.measured(slot) if before[1][slot : slot + 1] == ["booting"] else []
+            replies.append(self.answer(line))
+            after = self.seen()
+            told += self.moved(number, before[0], after[0]) + self.turned(number, before[1], after[1], images)
+            before = after
+        return replies, told
+
+    def moved(self, number, before, after):
+        """What is told of the frames that a call changes."""
+        words = [(old, new) for old, new in zip(before, after) if old != new]
+        differing = lambda old, new: itertools.compress(range(len(old)), map(operator.ne, old, new))
+        told = []
+        for f in sorted({f for old, new in words for f in differing(old, new)}):
+            old, new = ([word[f] for word in seen] for seen in (before, after))
+            line = {"line": number, "frame": f, "from": custody_of(*old), "to": custody_of(*new)}
+            told.append(((old[0], new[0]), line))
+        return told
+
+    def turned(self, number, before, after, images):
+        """What is told of the slots whose phase a call turns, and which measured these images."""
+        told = []
+        for v, (old, new) in enumerate(zip(before, after)):
+            if old != new:
+                measured = [image_of(*image) for image in images] if new in ("active", "dead") else []
+                told.append(((v,), {"line": number, "vm": v, "phase": new, "images": measured}))
+        return told
+
+    def lives(self, lines):
+        """The lives of VMs through these calls of a trace, in the order of registering; after each call the frames that
+        each VM has, and shares, are looked at."""
+        lives = []
+        for number, line in enumerate(lines, 2):
+            name, *words = line.split(" ")
+            at = int(words[0]) if words else 0
+            reply = self.answer(line)
+            is_served = not reply.startswith(("refused", "fault"))
+            if is_served and name == "regvm":
+                lives.append(Life(at, number))
+            # Of a slot the last one is not over, if any.
+            current = {life.told["vm"]: life for life in lives if life.told["cleared"] is None}
+            if is_served and name == "verify":
+                current[at].told["active" if reply == "done" else "dead"] = number
+                current[at].told["images"] = [image_of(*image) for image in self.measured(at)]
+            if is_served and name in ("hread", "hwrite") and self.frames[at].owner in current:
+                current[self.frames[at].owner].told["reads" if name == "hread" else "writes"] += 1
+            for v, life in current.items():
+                life.look(number, self.slots[v].table)
+                shared = [f for f in self.slots[v].list if self.frames[f].share > 0]
+                life.look_at_shares(number, self.slots[v].table, shared)
+            if is_served and name == "clear":
+                current[at].told["cleared"] = number
+        return [life.told for life in lives]
+
+    def text(self, kind, calls, counted, lines):
+        """The text of what is told of so many calls, its first line and its last with it."""
+        header = {kind: 1, "frames": len(self.frames), "core": self.config["core"], "host": self.config["host"]}
+        header["slots"] = len(self.slots)
+        lines = [header, *lines, {"calls": calls, counted: len(lines)}]
+        return "".join(json.dumps(line, separators=(",", ":")) + "\n" for line in lines)
+
+    def custody_text(self, calls, told, vm=None):
+        """The text of custody, perhaps of one slot's VM alone."""
+        return self.text("custody", calls, "lines", [line for vms, line in told if vm is None or vm in vms])
+
+    def summary_text(self, calls, lives, vm=None):
+        """The text of the summary, perhaps of one slot's VM alone."""
+        return self.text("summary", calls, "lives", [life for life in lives if vm is None or life["vm"] == vm])
+
+    def dump(self):
+        """The text of a dump."""
+        ends = lambda frames: f"{frames[0]} {frames[-1]} {len(frames)}" if frames else "- - 0"
+        dash = lambda number: "-" if number is None else number
+        config, slots = self.config, list(enumerate(self.slots))
+        lines = [f"kcore-dump {config['version']}", f"size {len(self.frames)} {config['core']} {config['leaves']}"]
+        lines.append(f"free {ends(self.free)}")
+        lines += [f"vm {v} {slot.phase} {ends(slot.list)}" for v, slot in slots]
+        lines += [f"leaf {v} {n} {root}" for v, slot in slots for n, root in enumerate(slot.leaves)]
+        lines += [f"entry {v} {g} {slot.table[g]}" for v, slot in slots for g in sorted(slot.table)]
+        before, behind = {}, {}
+        for frames in [self.free] + [slot.list for slot in self.slots]:
+            before.update(zip(frames[1:], frames))
+            behind.update(zip(frames, frames[1:]))
+        for f, frame in enumerate(self.frames):
+            digest = hashlib.sha256(frame.page).hexdigest()
+            links = dash(before.get(f)), dash(behind.get(f))
+            words = [f, frame.owner, frame.share, dash(frame.gfn), int(frame.present), *links, digest]
+            lines.append(" ".join(map(str, ["frame", *words])))
+        return "\n".join(lines) + "\n"
+
+
+def custody_of(owner, gfn, share, present):
+    owner = f"vm{owner}" if isinstance(owner, int) else owner
+    return {"owner": owner, "gfn": gfn, "share": share, "present": present}
+
+
+def image_of(base, length, digest):
+    return {"base": base, "len": length, "sha256": digest}

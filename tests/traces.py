@@ -1,0 +1,202 @@
+"""Random traces that mean something: their calls are chosen by the state that those before them leave."""
+import hashlib
+
+import calls
+from rules import FRAMES, GUEST_FRAMES, IMAGE_BYTES, PAGE, RANGE, SHARES, SLOTS, Core, pages_of
+
+LENGTHS = [1, 3, 4095, 4096, 4097, 8192]
+APPROVED = [b"abc"] + [bytes(length) for length in LENGTHS if length != 4095]
+# The program starts threads for a wave in which the calls but the longest hash so many frames.
+FRAMES_WORTH_A_THREAD = 32
+
+
+def digest(data):
+    return hashlib.sha256(data).hexdigest()
+
+
+def random_bytes(rng, length):
+    return rng.getrandbits(8 * length).to_bytes(length, "little")
+
+
+def some_call(rng, core):
+    """A call that may well be served."""
+    slots, numbered = core.slots, list(enumerate(core.frames))
+    host = [f for f, frame in numbered if frame.owner == "host"]
+    shared = [f for f, frame in numbered if frame.share]
+    present = [f for f, frame in numbered if frame.present]
+    f, near, seen = (rng.choice(some or [0]) for some in (host, host + shared, present))
+    offset = rng.choice([0, 0, 1, 4095, rng.randrange(PAGE)])
+    length = min(rng.choice([1, 3, rng.randrange(1, PAGE + 1)]), PAGE - offset)
+    data = rng.choice([b"abc"[:length], bytes(length), random_bytes(rng, min(length, 8))]).hex()
+    lines = ["take"] * (1 if host else 6) + [f"give {f}", f"hfault {near}", f"hread {seen} {offset} {length}"]
+    lines += [f"hwrite {seen} {offset} {data}", f"hwrite {seen} 0 616263"]
+    v = rng.choice([0, 0, 0, 1, 1, 2, len(slots) - 1])
+    slot, c = slots[v], rng.choice([0, 0, 1, 7])
+    if slot.phase == "empty":
+        return rng.choice(lines + [f"regvm {v}"] * 8)
+    if slot.phase == "booting":
+        return rng.choice(lines + boot_calls(rng, v, slot, c, f))
+    if slot.phase == "dead":
+        return rng.choice(lines + [f"clear {v}"] * 2)
+    lines += guest_calls(rng, core, v, f, offset, length, data)
+    return rng.choice(lines + [f"clear {v}"] * (rng.random() < 0.2))
+
+
+def boot_calls(rng, v, slot, c, f):
+    """Calls on a slot that boots, some of them several times."""
+    short = [i for i, image in enumerate(slot.images) if image[2] < pages_of(image[1])]
+    base, length = rng.choice([0, 3, 510, 511, 512, 1022]), rng.choice(LENGTHS)
+    lines = [f"setboot {v} {base} {length}"] * (1 if slot.images else 4)
+    lines += [f"regvcpu {v} {c}"] * (1 if c in slot.vcpus else 8) + [f"remap {v} {rng.randrange(4)} {f}"]
+    if short:
+        return lines + [f"remap {v} {rng.choice(short)} {f}"] * 8
+    return lines + [f"verify {v}"] * (6 if slot.images else 0)
+
+
+def guest_calls(rng, core, v, f, offset, length, data):
+    """Calls on a slot that runs."""
+    slot = core.slots[v]
+    g = rng.choice(list(slot.table) or [0])
+    new = rng.choice([0, 1, 7, 7, 511, 512, 1023, 262143, rng.randrange(1100)])
+    c, n = rng.choice(list(slot.vcpus) or [0]), rng.choice([1, 1, 2, 3])
+    lines = [f"gread {v} {c} {g} {offset} {length}", f"gwrite {v} {c} {g} {offset} {data}"]
+    lines += [f"grant {v} {c} {g}"] * 2 + [f"revoke {v} {c} {g}", f"drop {v} {c} {g}"]
+    lines += [f"gread {v} {c} {new} 0 1", f"gwrite {v} {c} {new} 0 2a", f"map {v} {c} {f}"]
+    waiting = [c for c, gfn in slot.vcpus.items() if gfn is not None]
+    lines += [f"map {v} {rng.choice(waiting)} {f}"] * 6 if waiting else []
+    if core.config["calls_on_ranges"]:
+        lines += [f"grantr {v} {c} {g} {n}"] * 2 + [f"revoker {v} {c} {g} {n}"]
+    return lines
+
+
+def any_call(rng, core):
+    """A call with any numbers, many of which exist."""
+
+    def some(limit):
+        near = [rng.randrange(limit), rng.randrange(limit), 0, limit - 1, limit]
+        return rng.choice([*near, rng.randrange(2 ** 32), 2 ** 32 - 1])
+
+    words = {"v": some(len(core.slots)), "c": some(8), "f": some(len(core.frames))}
+    words |= {"g": rng.choice([some(GUEST_FRAMES), some(1024)]), "i": some(4)}
+    words |= {"offset": some(PAGE), "length": some(PAGE)}
+    words |= {"data": random_bytes(rng, rng.choice([1, 2, PAGE])).hex(), "size": some(IMAGE_BYTES + 1)}
+    lines = calls.lines(**words)
+    if core.config["calls_on_ranges"]:
+        lines += calls.range_lines(some(RANGE + 1), some(RANGE + 1), **words)
+    return rng.choice(lines)
+
+
+def boot_of(rng, v, frames):
+    """The lines that boot slot v from these frames, each with whether it names the slot, and the digests of the images
+    that are meant: now and then one is made with another byte, or lacks a page."""
+    lines, pages, digests, base = [(True, f"regvm {v}")], [], [], rng.choice([0, 500, 512])
+    turned, lacking = (rng.choice(frames) if rng.random() < chance else None for chance in (0.15, 0.1))
+    sizes = [len(frames)] if len(frames) == 1 or rng.random() < 0.6 else [1, len(frames) - 1]
+    for i, size in enumerate(sizes):
+        length, image = size * PAGE - rng.choice([0, 0, 1, rng.randrange(PAGE)]), b""
+        lines.append((True, f"setboot {v} {base} {length}"))
+        for f in frames[sum(sizes[:i]):][:size]:
+            offset, data = rng.randrange(PAGE - 8), rng.choice([b"", b"abc", random_bytes(rng, 8)])
+            image += bytes(offset) + data + bytes(PAGE - offset - len(data))
+            # The first byte of a page is always one of the image.
+            writes = [(offset, data)] * bool(data) + [(0, b"\xff")] * (f == turned)
+            pages += [(False, f"hfault {f}")] * bool(writes)
+            pages += [(False, f"hwrite {f} {at} {some.hex()}") for at, some in writes]
+            pages += [(True, f"remap {v} {i} {f}")] * (f != lacking)
+        digests.append(digest(image[:length]))
+        base += size
+    return lines + pages, digests
+
+
+def boots_case(rng, count=None):
+    """A configuration, perhaps of count frames in the second version, the lines of a trace that verifies several VMs in
+    one wave, beside other calls, and whether the program has workers to start for that."""
+    a_size = lambda: rng.choice([rng.randrange(1, 71), rng.randrange(1, 71), rng.randrange(1, 9)])
+    sizes = [a_size() for _ in range(rng.randrange(2, 7))]
+    version, host, free = rng.choice([1, 2]), sum(sizes) + 2, rng.choice([rng.randrange(6), 100])
+    if count:
+        version, free = 2, count - host - 1
+    config = {"version": version, "frames": 1 + host + free, "core": 1, "host": host, "leaves": rng.choice([2, 64])}
+    config |= {"approved": [], "calls_on_ranges": rng.random() < 0.6}
+    frames, slots, boots = rng.sample(range(1, 1 + host), host), rng.sample(range(SLOTS[version]), len(sizes) + 1), []
+    for v, size in zip(slots, sizes):
+        lines, digests = boot_of(rng, v, [frames.pop() for _ in range(size)])
+        boots.append((v, lines))
+        config["approved"] += digests
+    turns = shuffled(rng, boot_orders(rng, boots, frames.pop(), slots[-1]))
+    state, lines, hashed = Core(config), [], []
+    for line in turns:
+        slot = state.slots[int(line.split(" ")[1])] if line.startswith("verify") else None
+        hashed.append(len(slot.list) if slot and slot.phase == "booting" else 0)
+        lines.append(line)
+        state.answer(line)
+    for _ in range(rng.randrange(30)):
+        lines.append(some_call(rng, state))
+        state.answer(lines[-1])
+    return config, lines, sum(hashed) - max(hashed) >= FRAMES_WORTH_A_THREAD
+
+
+def boot_orders(rng, boots, f, v):
+    """Lines of calls that each keep their order: of each slot as many name it before its verify as name the others, so
+    that all of these come in one wave; beside them takes, calls on frame f and on slot v, mostly up to that wave."""
+    before, orders = 4 + max(sum(names_it for names_it, _ in lines) for _, lines in boots), []
+    for vm, lines in boots:
+        for _ in range(before - sum(names_it for names_it, _ in lines)):
+            at, more = rng.randrange(1, 4), [f"regvcpu {vm} {rng.randrange(9)}", f"regvm {vm}"]
+            lines.insert(at, (True, rng.choice(more)))
+        orders.append([line for _, line in lines] + [f"verify {vm}"])
+    on_frame = [f"hfault {f}", f"hwrite {f} 0 616263", f"hread {f} 0 3"]
+    on_slot = [f"regvm {v}", f"regvcpu {v} 0", f"setboot {v} 3 4097", f"verify {v}"]
+    for some in (["take"], on_frame, on_slot):
+        count = rng.choice([rng.randrange(before), before + 1, before + 1])
+        orders.append([rng.choice(some) for _ in range(count)])
+    return orders
+
+
+def shuffled(rng, orders):
+    """All of these lines in a random order that keeps each one's own."""
+    turns = [turn for order in orders for turn in [iter(order)] * len(order)]
+    rng.shuffle(turns)
+    return map(next, turns)
+
+
+def random_case(rng):
+    """A configuration and the lines of a trace."""
+    frames = rng.choice([rng.randrange(1, 9), rng.randrange(6, 25)])
+    core = rng.choice([0, 1, 1, rng.randrange(frames + 1)])
+    config = {"version": rng.choice([1, 2]), "frames": frames, "core": core, "host": rng.randrange(frames - core + 1)}
+    config |= {"leaves": rng.choice([1, 2, 3, 64]), "approved": list(map(digest, APPROVED))}
+    config["calls_on_ranges"] = rng.random() < 0.6
+    state, lines = Core(config), []
+    for _ in range(rng.choice([rng.randrange(20), rng.randrange(200)])):
+        line = (some_call if rng.random() < 0.9 else any_call)(rng, state)
+        # Now and then a grant is made until the frame cannot be shared once more.
+        for _ in range(SHARES + 1 if line.startswith("grant") and rng.random() < 0.02 else 1):
+            lines.append(line)
+            state.answer(line)
+    return config, lines
+
+
+def large_boots_case(rng):
+    """The same as boots_case, in a core of as many frames as there may be."""
+    return boots_case(rng, FRAMES[2])
+
+
+def shares_case():
+    """A configuration, and the lines of a trace in which a VM shares three frames again and again."""
+    config = {"version": 2, "frames": 4, "core": 0, "host": 4, "leaves": 1, "approved": [digest(b"abc")]}
+    lines = ["hfault 2", "hwrite 2 0 616263", "regvm 63", "regvcpu 63 7", "setboot 63 5 3", "remap 63 0 2", "verify 63"]
+    lines += ["gread 63 7 6 0 1", "map 63 7 3", "gread 63 7 7 0 1", "map 63 7 1"]
+    return config | {"calls_on_ranges": True}, lines + ["grantr 63 7 5 3", "revoker 63 7 5 3"] * 600
+
+
+def slot_of(rng, lines):
+    """A slot that the program may be asked about: one that the calls name, or any."""
+    named = [int(line.split(" ")[1]) for line in lines if line.startswith("regvm ")]
+    return rng.choice([v for v in named if v < 64] + [rng.randrange(64)])
+
+
+def has_actors(config, lines):
+    """Whether a live run may have these calls: each has an actor that is there."""
+    actors = filter(None, map(calls.actor_of, lines))
+    return all(int(v) < SLOTS[config["version"]] and int(c) < 8 for v, c in actors)
