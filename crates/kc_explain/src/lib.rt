@@ -5,12 +5,14 @@
 
 mod config_key;
 mod look;
+mod masked;
 mod noted;
 mod shown;
 mod trace_line;
 
 pub use config_key::explain_config;
-pub use look::look_of;
+pub use look::{Kind, Look, look_of};
+pub use masked::{Masked, Shortened};
 pub use noted::Noted;
 pub use shown::Shown;
-pub use trace_line::{LineFault, Shortened, fault_of_line};
+pub use trace_line::{LineFault, fault_of_line};

@@ -1,6 +1,76 @@
 //! What a text without its header looks like.
+use kc_lines::{read_number, split_line, split_word};
+use std::fmt;
 
-use kc_lines::{split_line, split_word};
+/// A kind of text that begins with a header of its own, which names its version.
+#[derive(Clone, Copy, Debug, PartialEq, Eq)]
+pub enum Kind {
+    Trace,
+    Dump,
+    /// None: a configuration has no header.
+    Config,
+}
+
+/// What a text looks like that is not of the kind that was wanted.
+#[derive(Clone, Copy, Debug, PartialEq, Eq)]
+pub enum Look {
+    Empty,
+    ByteOrderMark,
+    Utf16,
+    Gzip,
+    Xz,
+    Zstd,
+    CarriageReturn,
+    /// The header that is wanted, without its newline.
+    Unended,
+    /// The header of a version that this program does not read.
+    Newer(u32),
+    /// The name of the header that is wanted, and something else than a version after it.
+    NoVersion,
+    Trace,
+    Dump,
+    State,
+    Report,
+    Custody,
+    Config,
+    Replies,
+    Other,
+}
+
+impl fmt::Display for Look {
+    fn fmt<W: fmt::Write>(&self, f: &mut fmt::Formatter<W>) -> fmt::Result {
+        f.write_str(match self {
+            Look::Empty => "it is empty",
+            Look::ByteOrderMark => "it begins with a byte order mark",
+            Look::Utf16 => "it looks like UTF-16",
+            Look::Gzip => "it looks like gzip",
+            Look::Xz => "it looks like xz",
+            Look::Zstd => "it looks like zstd",
+            Look::CarriageReturn => "its first line ends with CR and LF",
+            Look::Unended => "its first line does not end",
+            Look::Newer(version) => {
+                return write!(f, "version {version}: a newer kcore reads it");
+            },
+            Look::NoVersion => "its first line does not end with a version, 1 or 2",
+            Look::Trace => "it looks like a trace",
+            Look::Dump => "it looks like a dump",
+            Look::State => "it looks like a state's text",
+            Look::Report => "it looks like an audit's report",
+            Look::Custody => "it looks like the output of custody",
+            Look::Config => "it looks like a configuration",
+            Look::Replies => "it looks like replies",
+            Look::Other => "its first line is another",
+        })
+    }
+}
+
+/// The first line of a text, or what there is of it.
+fn first_line(text: &[u8]) -> &[u8] {
+    match split_line(text) {
+        Some((line, _)) => line,
+        None => text,
+    }
+}
 
 /// Whether the text's first line ends with CR and LF.
 fn has_crlf(text: &[u8]) -> bool {
@@ -12,10 +82,7 @@ fn has_crlf(text: &[u8]) -> bool {
 
 /// Whether the text begins with the name of a reply.
 fn begins_as_reply(text: &[u8]) -> bool {
-    let line = match split_line(text) {
-        Some((line, _)) => line,
-        None => text,
-    };
+    let line = first_line(text);
     let name = match split_word(line) {
         Some((name, _)) => name,
         None => line,
@@ -30,43 +97,73 @@ fn begins_as_reply(text: &[u8]) -> bool {
 }
 
 /// What the first bytes say that other programs wrote, if they do.
-fn foreign(text: &[u8]) -> Option<&'static str> {
+fn foreign(text: &[u8]) -> Option<Look> {
     if text.starts_with(&[239, 187, 191]) {
-        Some("it begins with a byte order mark")
+        Some(Look::ByteOrderMark)
     } else if text.starts_with(&[255, 254]) || text.starts_with(&[254, 255]) {
-        Some("it looks like UTF-16")
+        Some(Look::Utf16)
     } else if text.starts_with(&[31, 139]) {
-        Some("it looks like gzip")
+        Some(Look::Gzip)
     } else if text.starts_with(&[253, 55, 122, 88, 90]) {
-        Some("it looks like xz")
+        Some(Look::Xz)
     } else if text.starts_with(&[40, 181, 47, 253]) {
-        Some("it looks like zstd")
+        Some(Look::Zstd)
     } else {
         None
     }
 }
 
-/// What a text looks like that has not the header that is wanted, by its first 64 bytes or more.
-pub fn look_of(text: &[u8]) -> &'static str {
+/// What is wrong with a header that has the name that is wanted, by what follows the name.
+fn header(version: &[u8]) -> Look {
+    match read_number(first_line(version)) {
+        Some(1) | Some(2) => Look::Unended,
+        Some(number) if number > 2 => Look::Newer(number),
+        _ => Look::NoVersion,
+    }
+}
+
+/// What a text of ours looks like by the name that it begins with, if it is one.
+fn ours(text: &[u8], wanted: Kind) -> Option<Look> {
+    if let Some(version) = text.strip_prefix(b"kcore-trace ") {
+        Some(match wanted {
+            Kind::Trace => header(version),
+            _ => Look::Trace,
+        })
+    } else if let Some(version) = text.strip_prefix(b"kcore-dump ") {
+        Some(match wanted {
+            Kind::Dump => header(version),
+            _ => Look::Dump,
+        })
+    } else if text.starts_with(b"kcore-state ") {
+        Some(Look::State)
+    } else {
+        None
+    }
+}
+
+/// What a text looks like that is not of the kind that is wanted, by its first 64 bytes or more.
+pub fn look_of(text: &[u8], wanted: Kind) -> Look {
     if text.is_empty() {
-        return "it is empty";
+        return Look::Empty;
     }
     if let Some(look) = foreign(text) {
         return look;
     }
     if has_crlf(text) {
-        "its first line ends with CR and LF"
-    } else if text.starts_with(b"kcore-dump ") {
-        "it looks like a dump"
-    } else if text.starts_with(b"kcore-trace ") {
-        "it looks like a trace"
-    } else if text.starts_with(b"{\"findings\":") || text.starts_with(b"{\"finding\":") {
-        "it looks like an audit's report"
+        return Look::CarriageReturn;
+    }
+    if let Some(look) = ours(text, wanted) {
+        return look;
+    }
+    if text.starts_with(b"{\"findings\":") || text.starts_with(b"{\"finding\":") {
+        Look::Report
+    } else if text.starts_with(b"{\"custody\":") || text.starts_with(b"{\"summary\":") {
+        Look::Custody
     } else if text.starts_with(b"{") {
-        "it looks like a configuration"
+        Look::Config
     } else if begins_as_reply(text) {
-        "it looks like replies"
+        Look::Replies
     } else {
-        "its first line is another"
+        Look::Other
     }
 }

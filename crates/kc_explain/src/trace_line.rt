@@ -1,5 +1,4 @@
 //! Why a line of a trace is no call.
-use arrayvec::ArrayString;
 use kc_lines::{read_number, split_word};
 use std::fmt;
 
@@ -165,24 +164,4 @@ pub fn fault_of_line(line: &[u8]) -> LineFault {
         return LineFault::Words(given, wanted);
     }
     found.unwrap_or(LineFault::Other)
-}
-
-/// At most 60 bytes of a line, in which each that is no printable ASCII is a `.`.
-#[derive(Drop)]
-pub struct Shortened<'a>(pub &'a [u8]);
-
-impl fmt::Display for Shortened<'_> {
-    fn fmt<W: fmt::Write>(&self, f: &mut fmt::Formatter<W>) -> fmt::Result {
-        let mut text = ArrayString::<64>::new();
-        for byte in self.0.iter().take(60) {
-            let shown = if (32..127).contains(byte) {
-                *byte
-            } else {
-                b'.'
-            };
-            let _ = text.try_push(char::from(shown));
-        }
-        f.write_str(text.as_str())?;
-        f.write_str(if self.0.len() > 60 { " ..." } else { "" })
-    }
 }

@@ -2,7 +2,7 @@
 use crate::Input;
 use kc_cli::{Std, TextFault};
 use kc_dump_text::DumpFault;
-use kc_explain::{Noted, Shortened, explain_config, fault_of_line, look_of};
+use kc_explain::{Kind, Masked, Noted, Shortened, explain_config, fault_of_line, look_of};
 use kc_trace::{ConfigTextFault, TraceFault};
 use kc_types::{BYTE_LIMIT, ConfigFault};
 use std::fs::{File, metadata};
@@ -40,7 +40,7 @@ fn reason(kind: ErrorKind) -> &'static str {
 
 /// Says why the file at a path can't be opened.
 pub fn explain_open(rt: &HostRuntime, path: &str, error: &Error) {
-    let why = reason(error.kind());
+    let (path, why) = (Masked(path), reason(error.kind()));
     let _ = eprintln!(rt; "  {path}: {why}");
 }
 
@@ -90,6 +90,7 @@ pub fn explain_words(rt: &HostRuntime, words: &[&str]) {
     }
     for word in words {
         if !word.starts_with("-") && metadata(rt, *word).is_ok() {
+            let word = Masked(word);
             let _ = eprintln!(rt;
                 "  {word} is a file: traces and dumps come by standard input, as in kcore < {word}"
             );
@@ -119,7 +120,7 @@ impl<'a> Reading<'a> {
         match fault {
             TextFault::Trace(fault) => self.explain_trace(rt, fault),
             TextFault::Dump(DumpFault::NoHeader) => {
-                let look = look_of(self.head);
+                let look = look_of(self.head, Kind::Dump);
                 let _ = eprintln!(rt; "  standard input is no dump: {look}");
             },
             TextFault::Config(fault) => self.explain_config(rt, fault),
@@ -132,7 +133,7 @@ impl<'a> Reading<'a> {
         let line = Shortened(self.line);
         match fault {
             TraceFault::NoHeader => {
-                let look = look_of(self.head);
+                let look = look_of(self.head, Kind::Trace);
                 let _ = eprintln!(rt; "  standard input is no trace: {look}");
             },
             TraceFault::BadLine(_) => {
@@ -148,7 +149,7 @@ impl<'a> Reading<'a> {
 
     fn explain_config(&self, rt: &HostRuntime, fault: &ConfigTextFault) {
         let Some(start) = self.start else { return };
-        let path = start.path;
+        let path = Masked(start.path);
         match fault {
             ConfigTextFault::Config(ConfigFault::Frames) => {
                 let _ = eprintln!(rt;
@@ -165,7 +166,7 @@ impl<'a> Reading<'a> {
                 let _ = eprintln!(rt; "  {path}: approved has at most 64 entries");
             },
             ConfigTextFault::NotJson => {
-                let look = look_of(start.source.head());
+                let look = look_of(start.source.head(), Kind::Config);
                 let _ = eprintln!(rt; "  {path}: {look}");
                 explain_keys(rt, &start.source);
             },
@@ -179,7 +180,7 @@ impl<'a> Reading<'a> {
         for file in [self.start, self.to] {
             if let Some(file) = file {
                 if let Some(why) = unread_file(&file.source) {
-                    let path = file.path;
+                    let path = Masked(file.path);
                     let _ = eprintln!(rt; "  {path}: {why}");
                     return;
                 }

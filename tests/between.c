@@ -1,0 +1,122 @@
+/* Stands between the program and the C library: counts what the program asks for, refuses, fails, interrupts or shortens
+ * what the environment says, and when the program ends looks for a secret in its memory. */
+#define _GNU_SOURCE
+#include <dlfcn.h>
+#include <errno.h>
+#include <fcntl.h>
+#include <pthread.h>
+#include <stdatomic.h>
+#include <stdio.h>
+#include <stdlib.h>
+#include <string.h>
+#include <sys/syscall.h>
+#include <unistd.h>
+
+static atomic_int growths, starts, reads, writes, pages, bytes, marked, held;
+
+/* The number that the environment gives to this word, 0 for none. */
+static int asked(const char *name) {
+    const char *text = getenv(name);
+    return text ? atoi(text) : 0;
+}
+
+/* The first growth to the size that MARK_SIZE asks for keeps how many bytes have been read. */
+static int is_refused(size_t size) {
+    int none = 0;
+    if (size == (size_t)asked("MARK_SIZE")) atomic_compare_exchange_strong(&marked, &none, bytes);
+    return atomic_fetch_add(&growths, 1) + 1 == asked("REFUSE_GROWTH");
+}
+
+/* How often one text is found between two places with another after it. */
+static int pairs(char *from, char *end, const char *front, const char *back) {
+    int count = 0;
+    while ((from = memmem(from, end - from, front, strlen(front)))) {
+        from += strlen(front);
+        count += (size_t)(end - from) >= strlen(back) && memcmp(from, back, strlen(back)) == 0;
+    }
+    return count;
+}
+
+/* A text in digits, as a state's text has the bytes of a page. */
+static const char *digits(const char *text, char *to) {
+    for (size_t at = 0; text[at]; at++) sprintf(to + 2 * at, "%02x", (unsigned char)text[at]);
+    return to;
+}
+
+/* How often the bytes of SECRET_FRONT are in memory with those of SECRET_BACK after them, as they are or in digits. No call
+ * writes both, so they come so in pages and in the texts of states alone. */
+static int secrets(void) {
+    const char *front = getenv("SECRET_FRONT"), *back = getenv("SECRET_BACK");
+    static char maps[65536], front_digits[128], back_digits[128];
+    int count = 0, file = front && back ? open("/proc/self/maps", O_RDONLY) : -1;
+    size_t length = 0;
+    if (file >= 0) {
+        for (ssize_t more; (more = syscall(SYS_read, file, maps + length, sizeof maps - 1 - length)) > 0;) length += more;
+        close(file);
+    }
+    maps[length] = 0;
+    for (char *line = strtok(maps, "\n"); line; line = strtok(NULL, "\n")) {
+        char *from, *end, rights[5];
+        if (sscanf(line, "%p-%p %4s", (void **)&from, (void **)&end, rights) != 3) continue;
+        if (rights[0] != 'r' || rights[1] != 'w') continue;
+        count += pairs(from, end, front, back);
+        count += pairs(from, end, digits(front, front_digits), digits(back, back_digits));
+    }
+    return count;
+}
+
+/* The program ends here: how many of each there were is written down for the runs to come. */
+void _exit(int status) {
+    const char *path = getenv("TELL_COUNTS");
+    char line[128];
+    int left = secrets();
+    int length = snprintf(line, sizeof line, "%d %d %d %d %d %d %d %d", growths, starts, reads, writes, pages, marked, held, left);
+    int file = path ? open(path, O_WRONLY | O_CREAT | O_TRUNC, 0600) : -1;
+    if (file >= 0) syscall(SYS_write, file, line, length);
+    for (;;) syscall(SYS_exit_group, status);
+}
+
+extern void *__libc_malloc(size_t), *__libc_realloc(void *, size_t);
+
+void *malloc(size_t size) {
+    if (is_refused(size)) { errno = ENOMEM; return NULL; }
+    if (size == 4096) atomic_fetch_add(&pages, 1);
+    return __libc_malloc(size);
+}
+
+void *realloc(void *old, size_t size) {
+    if (is_refused(size)) { errno = ENOMEM; return NULL; }
+    return __libc_realloc(old, size);
+}
+
+/* How many bytes may pass where so many are asked for: one in a call that is to be short, else at most so many. */
+static size_t passing(size_t size, int is_short, int most) {
+    if (is_short) most = 1;
+    return most > 0 && size > (size_t)most ? (size_t)most : size;
+}
+
+ssize_t read(int end, void *to, size_t size) {
+    int number = atomic_fetch_add(&reads, 1) + 1;
+    if (number == asked("FAIL_READ")) { errno = EIO; return -1; }
+    if (number == asked("INTERRUPT_READ")) { errno = EINTR; return -1; }
+    ssize_t count = syscall(SYS_read, end, to, passing(size, number == asked("SHORT_READ"), asked("MOST_READ")));
+    if (count > 0) atomic_fetch_add(&bytes, count);
+    if (count == 0) held = secrets();
+    return count;
+}
+
+typedef int creation(pthread_t *, const pthread_attr_t *, void *(*)(void *), void *);
+
+int pthread_create(pthread_t *thread, const pthread_attr_t *attributes, void *(*job)(void *), void *given) {
+    if (atomic_fetch_add(&starts, 1) + 1 == asked("REFUSE_START")) return EAGAIN;
+    return ((creation *)dlsym(RTLD_NEXT, "pthread_create"))(thread, attributes, job, given);
+}
+
+/* Standard error is let through, since what comes there is looked at. */
+ssize_t write(int end, const void *from, size_t size) {
+    if (end == 2) return syscall(SYS_write, end, from, size);
+    int number = atomic_fetch_add(&writes, 1) + 1;
+    if (number == asked("FAIL_WRITE")) { errno = EIO; return -1; }
+    if (number == asked("INTERRUPT_WRITE")) { errno = EINTR; return -1; }
+    return syscall(SYS_write, end, from, passing(size, number == asked("SHORT_WRITE"), asked("MOST_WRITE")));
+}
