@@ -190,10 +190,10 @@ def shares_case():
     return config | {"calls_on_ranges": True}, lines + ["grantr 63 7 5 3", "revoker 63 7 5 3"] * 600
 
 
-def slot_of(rng, lines):
-    """A slot that the program may be asked about: one that the calls name, or any."""
+def slot_of(rng, lines, most=64):
+    """A slot that the program may be asked about: one below `most` that the calls name, or any."""
     named = [int(line.split(" ")[1]) for line in lines if line.startswith("regvm ")]
-    return rng.choice([v for v in named if v < 64] + [rng.randrange(64)])
+    return rng.choice([v for v in named if v < most] + [rng.randrange(most)])
 
 
 def has_actors(config, lines):

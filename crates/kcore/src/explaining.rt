@@ -124,6 +124,11 @@ impl<'a> Reading<'a> {
                 let _ = eprintln!(rt; "  standard input is no dump: {look}");
             },
             TextFault::Config(fault) => self.explain_config(rt, fault),
+            TextFault::NoSlot(_) => {
+                let _ = eprintln!(rt;
+                    "  slots are numbered from 0: version 1 has 16, version 2 has 64"
+                );
+            },
             TextFault::Read => self.explain_read(rt),
             _ => {},
         }
