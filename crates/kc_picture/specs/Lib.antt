@@ -1,3 +1,7 @@
 pub mod Cells
+pub mod Columns
 pub mod Frames
+pub mod OutlineWords
+pub mod Outlines
 pub mod Titles
+pub mod Words

@@ -1,4 +1,4 @@
--- The words that tell of a bar, of a life, and of a mark in it.
+-- The words that tell of a bar, of a cell, of a life, and of a mark in it.
 use Rattle.std.specs.Prelude.{ℕ, ◌-◌, Bool, true, false, ◌==◌, List, [], ◌++◌, codes, Option, Some, None, if◌then◌else◌}
 use Rattle.std.specs.Fmt.{decimal}
 use Rattle.kc_types.specs.declared.owner.Owner.{Owner}
@@ -8,6 +8,9 @@ use Rattle.kc_types.specs.declared.custody.Bar.{Bar}
 use Rattle.kc_picture.specs.declared.vms.Measured.{Measured}
 use Rattle.kc_picture.specs.declared.vms.Measured.TheVariants.{Not, Active, Dead}
 use Rattle.kc_picture.specs.declared.vms.Stay.{Stay}
+use Rattle.kc_picture.specs.declared.cells.Whose.{Whose}
+use Rattle.kc_picture.specs.declared.cells.Whose.TheVariants as whose
+use Rattle.kc_picture.specs.declared.titles.Block.{Block}
 
 -- the guest frame at which a VM sees it, if it does
 abbrev pub place_words : Option ℕ → List ℕ
@@ -55,3 +58,26 @@ stay_title v stay = codes "vm " ++ decimal v ++ codes ": registered at line " ++
 -- as "vm 0 registered at line 4"
 abbrev pub tick_title : ℕ → List ℕ → ℕ → List ℕ
 tick_title v what n = codes "vm " ++ decimal v ++ codes " " ++ what ++ codes " at line " ++ decimal n
+
+-- lives that are drawn as one
+abbrev pub lives_title : (v count first last : ℕ) → List ℕ
+lives_title v count first last = codes "vm " ++ (decimal v ++ (codes ": " ++ (decimal count ++ (codes " lives, lines " ++ (decimal first ++ (codes " to " ++ decimal last))))))
+
+-- one mark of several dead VMs
+abbrev pub deaths_title : (v count first last : ℕ) → List ℕ
+deaths_title v count first last = codes "vm " ++ decimal v ++ codes ": " ++ decimal count ++ codes " measured and dead, lines " ++ decimal first ++ codes " to " ++ decimal last
+
+abbrev pub frames_words : (first last : ℕ) → List ℕ
+frames_words first last = if first == last then codes "frame " ++ decimal first else codes "frames " ++ decimal first ++ codes " to " ++ decimal last
+
+-- whose a cell is; of a picture of one VM alone, whether that had any of it
+abbrev pub whose_words : (alone : Bool) → Whose → List ℕ
+whose_words true (whose.Vm v) = codes "vm " ++ decimal v ++ codes " had some of it"
+whose_words false (whose.Vm v) = codes "vm " ++ decimal v ++ codes " had more of it than all other VMs together"
+whose_words alone whose.Several = codes "several VMs had some of it, none more than all others together"
+whose_words true (whose.Rest colour) = codes "the VM had none of it"
+whose_words false (whose.Rest colour) = codes "no VM had any of it"
+
+-- as "frames 64 to 95, lines 17 to 256: vm 3 had more of it than all other VMs together"
+abbrev pub cell_title : (alone : Bool) → Block → Whose → List ℕ
+cell_title alone block whose = frames_words block.first_frame block.last_frame ++ codes ", lines " ++ decimal block.first_line ++ codes " to " ++ decimal block.last_line ++ codes ": " ++ whose_words alone whose

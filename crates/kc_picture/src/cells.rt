@@ -1,12 +1,13 @@
 //! Many frames or calls: a cell for some frames through some lines, in the colour of the VM that had most of it.
-ghost use Rattle.std.specs.Prelude.{◌≡◌, ◌^◌, ◌<◌, ◌≤◌, sum, slice_index, EachIndex};
-ghost use Rattle.kc_picture.specs.Cells.{IsOf};
+ghost use Rattle.std.specs.Prelude.{◌≡◌, ◌*◌, ◌^◌, ◌<◌, ◌≤◌, sum, slice_index, EachIndex};
+ghost use Rattle.kc_picture.specs.Cells.{IsOf, IsTrueToShare};
 
 use crate::colour::{CORE, Colour, EDGE, FREE, HOST, SEVERAL};
-use crate::rows::{frames_of_row, row_of};
-use crate::scale::{LEFT, PLOT, nice};
+use crate::rows::{first_of_row, row_of};
+use crate::scale::{LEFT, PLOT, lines_of_column, nice};
 use crate::sums::{FIRST_VM, MOST_COLUMNS, OWNERS, Sums, at, sums_of, weigh};
 use crate::svg::{Area, REMARK, Svg};
+use crate::titles::{Block, cell_title};
 use crate::words::Text;
 use kc_types::{Bar, Memory};
 use std::alloc::Global;
@@ -84,8 +85,8 @@ fn rest_of(weights: &[u64]) -> Colour {
 
 /// Whose a cell is: a VM's that had more than half of what VMs had of it, or several VMs', or where VMs had nothing that of
 /// the other owner that had most.
-#[derive(Clone, Copy)]
-enum Whose {
+#[derive(Clone, Copy, PartialEq, Eq)]
+pub(crate) enum Whose {
     Vm(usize),
     Several,
     Rest(Colour),
@@ -103,19 +104,32 @@ fn holder_of(most: &Most, rest: Colour) -> Whose
     }
 }
 
-/// A colour in five steps, the paler the less of a cell VMs had, which is this large.
-fn shaded(colour: Colour, of_vms: u64, size: u64) -> Colour {
-    match of_vms.saturating_mul(5) / size.max(1) {
-        0 => colour.paler(50),
-        1 => colour.paler(35),
-        2 => colour.paler(20),
-        3 => colour.paler(10),
-        _ => colour,
+/// How many hundredths of the way to white the colour of a cell goes of which VMs had this much: as many as others had of it,
+/// to within ten; none if VMs had all.
+fn paleness_of(of_vms: u64, size: u64) -> u32
+    ensures most { result ≤ 100 }
+    ensures true_to_share { 5 * of_vms < 2 ^ 64 → of_vms ≤ size → IsTrueToShare of_vms size result }
+    ensures whole { size ≤ of_vms → result ≡ 0 }
+{
+    if of_vms >= size {
+        return 0;
+    }
+    match of_vms.saturating_mul(5) / size {
+        0 => 90,
+        1 => 70,
+        2 => 50,
+        3 => 30,
+        _ => 10,
     }
 }
 
+/// A colour, the paler the less VMs had of a cell of this size.
+fn shaded(colour: Colour, of_vms: u64, size: u64) -> Colour {
+    colour.paler(paleness_of(of_vms, size))
+}
+
 /// How a cell is drawn.
-#[derive(Clone, Copy)]
+#[derive(Clone, Copy, PartialEq, Eq)]
 struct Cell {
     whose: Whose,
     colour: Colour,
@@ -148,29 +162,52 @@ fn cells_of(alloc: Global, sums: &Sums, size: u64) -> Result<Vec<Cell>, Memory> 
     Ok(cells)
 }
 
-/// Draws cells from one column up to another in one colour; nothing where that is the ground's.
-fn draw_run(svg: &mut Svg, columns: u64, from: u64, to: u64, middle: u64, colour: Colour) {
-    if colour == FREE || to <= from {
-        return;
-    }
-    let x = x_of(from, columns);
-    svg.line(x, middle, x_of(to, columns).saturating_sub(x), colour);
+/// A row of a grid.
+#[derive(Clone, Copy)]
+struct Row {
+    grid: Grid,
+    /// Its first frame, and that of the next row.
+    first: u64,
+    next: u64,
+    top: u64,
+    /// Whether the cells tell of one VM alone.
+    alone: bool,
 }
 
-/// Draws the cells of a row.
-fn draw_cells(svg: &mut Svg, columns: u64, cells: &[Cell], middle: u64) {
-    let mut from = 0u64;
-    let mut last = FREE;
-    let mut column = 0u64;
-    for cell in cells {
-        if cell.colour != last {
-            draw_run(svg, columns, from, column, middle, last);
-            from = column;
-            last = cell.colour;
-        }
-        column = column.saturating_add(1);
+/// The frames and lines of a row's cells from one column up to another.
+fn block_of(row: &Row, from: u64, to: u64) -> Block {
+    let (lines, columns) = (row.grid.lines, row.grid.columns.max(1));
+    Block {
+        first_frame: row.first,
+        last_frame: row.next.saturating_sub(1),
+        first_line: (from.saturating_mul(lines) / columns).saturating_add(1),
+        last_line: to.saturating_mul(lines).div_ceil(columns),
     }
-    draw_run(svg, columns, from, column, middle, last);
+}
+
+/// Draws equal cells from one column up to another, with a title.
+fn draw_run(svg: &mut Svg, row: &Row, cell: &Cell, from: u64, to: u64) {
+    let title = cell_title(svg.alloc(), &block_of(row, from, to), cell.whose, row.alone);
+    let x = x_of(from, row.grid.columns);
+    let width = x_of(to, row.grid.columns).saturating_sub(x);
+    let middle = row.top.saturating_add(row.grid.height / 2);
+    svg.line(x, middle, width, cell.colour, &title);
+}
+
+/// Draws the cells of a row, equal ones side by side as one.
+fn draw_cells(svg: &mut Svg, row: &Row, cells: &[Cell]) {
+    let mut from = 0usize;
+    for (i, cell) in cells.iter().enumerate() {
+        let next = i.saturating_add(1);
+        let goes_on = match cells.get(next) {
+            Some(other) => *other == *cell,
+            None => false,
+        };
+        if !goes_on {
+            draw_run(svg, row, cell, from as u64, next as u64);
+            from = next;
+        }
+    }
 }
 
 /// Whether an edge is drawn between two cells: where another's begin, unless no VM had any of either.
@@ -250,7 +287,7 @@ fn name_rows(svg: &mut Svg, top: u64, grid: &Grid) {
 /// Says at the right what a cell stands for.
 fn explain(svg: &mut Svg, top: u64, grid: &Grid, vm: Option<u32>) {
     let tall = grid.frames.div_ceil(grid.rows.max(1));
-    let wide = grid.lines.div_ceil(grid.columns.max(1));
+    let wide = lines_of_column(grid.lines, grid.columns);
     svg.begin_words(LEFT + PLOT, top.saturating_sub(800), &REMARK);
     svg.text.put("a cell: up to ");
     svg.text.put_count(tall, "frame");
@@ -269,35 +306,46 @@ fn explain(svg: &mut Svg, top: u64, grid: &Grid, vm: Option<u32>) {
     svg.end_words();
 }
 
-/// Draws one row, which begins at this height.
-fn draw_row(svg: &mut Svg, sums: &Sums, size: u64, top: u64, height: u64) {
-    match cells_of(svg.alloc(), sums, size) {
-        Ok(cells) => {
-            draw_cells(svg, sums.columns, &cells, top.saturating_add(height / 2));
-            draw_edges(svg, sums.columns, &cells, top, height);
-        },
-        Err(Memory) => svg.text.refuse(),
-    }
+/// Draws a row by what each owner had of it.
+fn draw_row(svg: &mut Svg, row: &Row, sums: &Sums) -> Result<(), Memory> {
+    // All frames of the row through all lines of a column.
+    let size = row
+        .next
+        .saturating_sub(row.first)
+        .saturating_mul(row.grid.lines);
+    let cells = cells_of(svg.alloc(), sums, size)?;
+    let (top, height) = (row.top, row.grid.height);
+    draw_cells(svg, row, &cells);
+    draw_edges(svg, sums.columns, &cells, top, height);
     draw_shared(svg, sums, top.saturating_add(height).saturating_sub(60));
+    Ok(())
 }
 
 /// Draws the rows of cells from a height on.
-fn draw_rows(svg: &mut Svg, grid: &Grid, top: u64, bars: &[Bar], by_row: &[Vec<usize>]) {
-    let mut row = 0u64;
-    for list in by_row {
-        // All frames of the row through all lines of a column.
-        let frames = frames_of_row(row, grid.rows, grid.frames);
-        let size = frames.saturating_mul(grid.lines);
-        let at = top.saturating_add(row.saturating_mul(grid.height));
-        match sums_of(svg.alloc(), grid.columns, grid.lines, bars, list) {
-            Ok(sums) => draw_row(svg, &sums, size, at, grid.height),
-            Err(Memory) => svg.text.refuse(),
-        }
-        row = row.saturating_add(1);
+fn draw_rows(
+    svg: &mut Svg,
+    grid: &Grid,
+    top: u64,
+    bars: &[Bar],
+    by_row: &[Vec<usize>],
+    alone: bool,
+) -> Result<(), Memory> {
+    for (i, list) in by_row.iter().enumerate() {
+        let number = i as u64;
+        let row = Row {
+            grid: *grid,
+            first: first_of_row(number, grid.rows, grid.frames),
+            next: first_of_row(number.saturating_add(1), grid.rows, grid.frames),
+            top: top.saturating_add(number.saturating_mul(grid.height)),
+            alone,
+        };
+        let sums = sums_of(svg.alloc(), grid.columns, grid.lines, bars, list)?;
+        draw_row(svg, &row, &sums)?;
     }
+    Ok(())
 }
 
-/// Draws the cells of all frames from a height on; where a VM is named its weight alone.
+/// Draws the cells of all frames from a height on; if a VM is named, by what that had alone.
 pub(crate) fn draw_frames(
     svg: &mut Svg,
     grid: &Grid,
@@ -309,7 +357,9 @@ pub(crate) fn draw_frames(
     explain(svg, top, grid, vm);
     name_rows(svg, top, grid);
     svg.begin_lines(grid.height);
-    draw_rows(svg, grid, top, bars, by_row);
+    if let Err(Memory) = draw_rows(svg, grid, top, bars, by_row, vm.is_some()) {
+        svg.text.refuse();
+    }
     svg.end_group();
     let area = Area {
         x: LEFT,

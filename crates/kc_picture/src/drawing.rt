@@ -1,8 +1,8 @@
 //! The whole picture: lanes of VMs above, frames below, an axis and a legend.
-use crate::colour::{CORE, Colour, EDGE, FAINT, FREE, HOST, SEVERAL};
+use crate::colour::{CORE, Colour, DEAD, EDGE, FAINT, FREE, HOST, INK, LIFE, SEVERAL};
 use crate::lane_drawing::{LanePlace, draw_lane};
-use crate::rows::bars_by_row;
-use crate::scale::{LEFT, PLOT, Scale, nice};
+use crate::rows::{bars_by_row, shown_of};
+use crate::scale::{LEFT, PLOT, Scale, lines_of_column, nice};
 use crate::svg::{Anchor, Area, HEADING, PLAIN, REMARK, Style, Svg};
 use crate::vms::{Lane, lanes_of};
 use crate::words::Text;
@@ -10,10 +10,12 @@ use crate::{cells, exact};
 use kc_types::{Bar, Config, Event, Memory};
 use std::alloc::Global;
 
-/// As many frames as are drawn bar by bar.
+/// The most frames that are drawn bar by bar, each in a row that has room for words.
 const EXACT_FRAMES: u64 = 64;
-/// As many calls as are drawn bar by bar.
+/// The most lines that are drawn bar by bar: the bar of one line is half a point wide then.
 const EXACT_LINES: u64 = 2_001;
+/// The most bars that are drawn as bars, which have some 6 MB; browsers are slow with more.
+const MOST_BARS: u64 = 20_000;
 
 /// The height of a lane among so many.
 fn lane_height(lanes: u64) -> u64 {
@@ -22,7 +24,7 @@ fn lane_height(lanes: u64) -> u64 {
     } else if lanes <= 20 {
         2_600
     } else {
-        1_600
+        1_700
     }
 }
 
@@ -51,7 +53,7 @@ fn layout_of(lanes: u64, frames_height: u64) -> Layout {
         frames: below,
         axis,
         legend,
-        height: legend.saturating_add(2_600),
+        height: legend.saturating_add(if lanes > 0 { 4_500 } else { 2_600 }),
     }
 }
 
@@ -119,7 +121,7 @@ fn head_lanes(svg: &mut Svg, vm: Option<u32>) {
 }
 
 /// Writes at the right what the height of the lanes stands for.
-fn explain_lanes(svg: &mut Svg, top: u64, vm: Option<u32>) {
+fn explain_lanes(svg: &mut Svg, scale: Scale, top: u64, vm: Option<u32>) {
     svg.begin_words(LEFT + PLOT, 4_600, &REMARK);
     svg.text.put(if vm.is_some() {
         "at most "
@@ -127,6 +129,11 @@ fn explain_lanes(svg: &mut Svg, top: u64, vm: Option<u32>) {
         "highest lane: "
     });
     svg.text.put_count(top, "frame");
+    let wide = lines_of_column(scale.last, scale.columns());
+    if wide > 1 {
+        svg.text.put("; each point shows the most on any of up to ");
+        svg.text.put_count(wide, "line");
+    }
     svg.end_words();
 }
 
@@ -143,7 +150,7 @@ fn draw_lanes(
         scale,
         vm: 0,
         base: layout.lanes.saturating_add(height).saturating_sub(400),
-        height: height.saturating_sub(if height > 3_000 { 1_200 } else { 700 }),
+        height: height.saturating_sub(if height > 3_000 { 1_200 } else { 900 }),
         top,
         roomy: height > 3_000 && scale.last <= EXACT_LINES,
     };
@@ -196,10 +203,17 @@ fn draw_axis(svg: &mut Svg, scale: Scale, axis: u64) {
 #[derive(Clone, Copy)]
 enum Sample {
     Plain(Colour),
-    Shared,
+    /// A part that is shared.
+    Shared(Colour),
     Vms,
     /// With a foot of this height.
     Footed(Colour, u64),
+    /// A part of a lane that is underlined.
+    Underlined(Colour),
+    /// The mark of a line.
+    Tick(Colour),
+    /// The mark of a dead VM.
+    Dead,
 }
 
 fn draw_sample(svg: &mut Svg, x: u64, y: u64, sample: Sample) {
@@ -211,8 +225,8 @@ fn draw_sample(svg: &mut Svg, x: u64, y: u64, sample: Sample) {
     };
     match sample {
         Sample::Plain(colour) => svg.edged(&area, colour, EDGE),
-        Sample::Shared => {
-            svg.rect(&area, Colour::of_vm(0));
+        Sample::Shared(colour) => {
+            svg.rect(&area, colour);
             svg.hatched(&area);
         },
         Sample::Vms => draw_hues(svg, x, y),
@@ -220,7 +234,45 @@ fn draw_sample(svg: &mut Svg, x: u64, y: u64, sample: Sample) {
             svg.rect(&area, colour);
             svg.foot(&area, height);
         },
+        Sample::Underlined(colour) => draw_underlined(svg, &area, colour),
+        Sample::Tick(colour) => {
+            let x = x.saturating_add(650);
+            svg.rect(
+                &Area {
+                    x,
+                    width: 100,
+                    ..area
+                },
+                colour,
+            );
+        },
+        Sample::Dead => {
+            let x = x.saturating_add(575);
+            svg.rect(
+                &Area {
+                    x,
+                    width: 250,
+                    ..area
+                },
+                DEAD,
+            );
+        },
     }
+}
+
+/// Draws a part of a lane, and the line below it which says that a frame is shared.
+fn draw_underlined(svg: &mut Svg, area: &Area, colour: Colour) {
+    let lane = Area {
+        height: 800,
+        ..*area
+    };
+    svg.rect(&lane, colour);
+    let line = Area {
+        y: area.y.saturating_add(900),
+        height: 200,
+        ..*area
+    };
+    svg.rect(&line, INK);
 }
 
 /// The colours of the first slots, side by side.
@@ -264,21 +316,35 @@ fn draw_owners(svg: &mut Svg, y: u64, lanes: u64, vm: Option<u32>) -> u64 {
     x
 }
 
+/// Draws what each mark of a lane says.
+fn draw_lane_marks(svg: &mut Svg, y: u64, hue: Colour) {
+    let x = draw_entry(svg, LEFT, y, Sample::Underlined(hue), "shares a frame");
+    let x = draw_entry(svg, x, y, Sample::Plain(LIFE), "a VM's life");
+    let x = draw_entry(svg, x, y, Sample::Tick(EDGE), "registered");
+    let words = "measured and active, or cleared";
+    let x = draw_entry(svg, x, y, Sample::Tick(INK), words);
+    draw_entry(svg, x, y, Sample::Dead, "measured and dead");
+}
+
 /// Draws what each colour and mark says.
 fn draw_legend(svg: &mut Svg, y: u64, exact: bool, lanes: u64, vm: Option<u32>) {
+    let hue = Colour::of_vm(vm.unwrap_or(0));
     let mut x = draw_owners(svg, y, lanes, vm);
     if !exact && lanes > 0 && vm.is_none() {
         x = draw_entry(svg, x, y, Sample::Plain(SEVERAL), "several VMs'");
     }
     if lanes > 0 {
-        x = draw_entry(svg, x, y, Sample::Shared, "shared with the host");
+        x = draw_entry(svg, x, y, Sample::Shared(hue), "shared with the host");
     }
     if exact {
-        let sample = Sample::Footed(HOST, 250);
+        let sample = Sample::Footed(if vm.is_some() { hue } else { HOST }, 250);
         draw_entry(svg, x, y, sample, "reached by the host");
     } else if lanes > 0 {
-        let sample = Sample::Footed(Colour::of_vm(0).paler(50), 120);
+        let sample = Sample::Footed(hue.paler(50), 120);
         draw_entry(svg, x, y, sample, "some of it shared");
+    }
+    if lanes > 0 {
+        draw_lane_marks(svg, y.saturating_add(1_900), hue);
     }
 }
 
@@ -297,7 +363,9 @@ pub fn picture(
     let lanes = lanes_of(alloc, events)?;
     let extent = extent_of(&lanes, vm);
     // Whether each stretch of each frame has a bar of its own.
-    let exact = frames <= EXACT_FRAMES && scale.last <= EXACT_LINES;
+    let exact = frames <= EXACT_FRAMES
+        && scale.last <= EXACT_LINES
+        && shown_of(bars, vm) <= MOST_BARS;
     let grid = cells::grid_of(frames, scale.last);
     let (rows, height) = if exact {
         (frames, exact::row_height(frames))
@@ -310,7 +378,7 @@ pub fn picture(
     let mut svg = Svg::open(alloc, layout.height, &title);
     if extent.lanes > 0 {
         head_lanes(&mut svg, vm);
-        explain_lanes(&mut svg, extent.top, vm);
+        explain_lanes(&mut svg, scale, extent.top, vm);
         draw_lanes(&mut svg, scale, &layout, &lanes, vm, extent.top);
     }
     let base = layout.frames.saturating_sub(800);

@@ -2,20 +2,17 @@
 use kc_types::{Bar, Memory, Owner};
 use std::alloc::Global;
 
-/// The row of a frame among so many rows, in order of their numbers.
+/// The row of a frame; there are this many rows, for this many frames in order.
 pub(crate) fn row_of(frame: u64, rows: u64, frames: u64) -> u64 {
     frame.saturating_mul(rows) / frames.max(1)
 }
 
-/// How many frames are in a row.
-pub(crate) fn frames_of_row(row: u64, rows: u64, frames: u64) -> u64 {
-    let rows = rows.max(1);
-    let first = row.saturating_mul(frames).div_ceil(rows);
-    let behind = row.saturating_add(1).saturating_mul(frames).div_ceil(rows);
-    behind.saturating_sub(first)
+/// The first frame of a row; of the row after the last, the number of frames.
+pub(crate) fn first_of_row(row: u64, rows: u64, frames: u64) -> u64 {
+    row.saturating_mul(frames).div_ceil(rows.max(1))
 }
 
-/// Whether a bar is drawn: all are, or where a VM is named its bars alone.
+/// Whether a bar is drawn: all are, or, if a VM is named, its bars alone.
 fn is_shown(bar: &Bar, vm: Option<u32>) -> bool {
     match vm {
         None => true,
@@ -24,6 +21,17 @@ fn is_shown(bar: &Bar, vm: Option<u32>) -> bool {
             Owner::Core | Owner::Host | Owner::Free => false,
         },
     }
+}
+
+/// How many bars are drawn.
+pub(crate) fn shown_of(bars: &[Bar], vm: Option<u32>) -> u64 {
+    let mut count = 0u64;
+    for bar in bars {
+        if is_shown(bar, vm) {
+            count = count.saturating_add(1);
+        }
+    }
+    count
 }
 
 /// The numbers of the bars of each row that are drawn, in their order.

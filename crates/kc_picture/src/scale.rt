@@ -1,5 +1,6 @@
 //! Where lines of the trace lie from left to right, and at which of them marks stand.
-ghost use Rattle.std.specs.Prelude.{◌+◌, ◌≤◌};
+ghost use Rattle.std.specs.Prelude.{◌≡◌, ◌+◌, ◌^◌, ◌<◌, ◌≤◌};
+ghost use Rattle.kc_picture.specs.Columns.{columns_of, column_x};
 
 use crate::svg::WIDTH;
 
@@ -9,27 +10,33 @@ pub(crate) const LEFT: u64 = 9_200;
 pub(crate) const RIGHT: u64 = 2_000;
 /// The width between the two.
 pub(crate) const PLOT: u64 = WIDTH - LEFT - RIGHT;
+/// The number of columns, a point wide each, in that width.
+pub(crate) const MOST_POINTS: u64 = PLOT / 100;
 
-/// The lines of a trace: the last is behind line 1, its header, by so many.
+/// The lines of a trace, of which line 1 is its header.
 #[derive(Clone, Copy)]
 pub(crate) struct Scale {
     /// The line of the last call.
     pub last: u64,
+    ghost some: { 0 < last },
+    ghost few: { last + 1 < 2 ^ 32 },
 }
 
 impl Scale {
-    /// Of a trace of so many calls; more than fit a line's number count as the most that do.
+    /// Makes that of a trace with a number of calls; more calls than a line's number can count are taken as the most it can.
     pub fn of_calls(calls: usize) -> Scale {
-        let calls = (calls as u64).min(u64::from(u32::MAX) - 1);
+        let calls = (calls as u64).min(u64::from(u32::MAX) - 2);
         Scale { last: calls + 1 }
     }
 
-    /// The line behind the last.
-    pub fn end(self) -> u32 {
-        self.last.saturating_add(1).min(u64::from(u32::MAX)) as u32
+    /// The line after the last.
+    pub fn end(self) -> u32
+        ensures { result ≡ self.last + 1 }
+    {
+        self.last as u32 + 1
     }
 
-    /// Where a line begins; the line behind the last, and each behind it, at the right end.
+    /// Where a line begins; lines after the last begin at the right end.
     pub fn x(self, line: u32) -> u64
         ensures from { LEFT ≤ result }
         ensures to { result ≤ LEFT + PLOT }
@@ -38,6 +45,32 @@ impl Scale {
         let behind = u64::from(line).saturating_sub(1).min(last);
         let x = LEFT.saturating_add(PLOT.saturating_mul(behind) / last);
         x.min(LEFT + PLOT)
+    }
+
+    /// How many columns there are: one for each line, or, of a long trace, one for each point.
+    pub fn columns(self) -> u64
+        ensures { result ≡ columns_of self.last }
+    {
+        self.last.min(MOST_POINTS)
+    }
+
+    /// Where a column begins; columns after the last begin at the right end.
+    pub fn column_x(self, column: u64) -> u64
+        ensures { result ≡ column_x self.last column }
+    {
+        let count = self.columns();
+        LEFT + PLOT * column.min(count) / count
+    }
+}
+
+/// The most lines that fall into one of some columns, even in part.
+pub(crate) fn lines_of_column(lines: u64, columns: u64) -> u64 {
+    let columns = columns.max(1);
+    let whole = lines / columns;
+    if lines % columns == 0 {
+        whole
+    } else {
+        whole.saturating_add(2)
     }
 }
 

@@ -130,13 +130,22 @@ impl Svg {
         self.text.put("</g>\n");
     }
 
-    /// A line to the right.
-    pub fn line(&mut self, x: u64, y: u64, width: u64, colour: Colour) {
+    /// Draws a line to the right, with a title.
+    pub fn line(
+        &mut self,
+        x: u64,
+        y: u64,
+        width: u64,
+        colour: Colour,
+        title: &Result<String, Memory>,
+    ) {
         self.text.put_length("<path d=\"M", x);
         self.text.put_length(" ", y);
         self.text.put_length("h", width);
         self.text.put_colour("\" stroke=\"", colour);
-        self.text.put("\"/>\n");
+        self.text.put("\"><title>");
+        self.text.put_made(title);
+        self.text.put("</title></path>\n");
     }
 
     fn begin_rect(&mut self, area: &Area) {
@@ -214,13 +223,23 @@ impl Svg {
         }
     }
 
-    /// Lines of this width along a path; nothing where the path has no step.
+    /// Draws lines of this width along a path; nothing if the path has no step.
     pub fn lines(&mut self, steps: &Text, width: u64) {
         if !steps.is_empty() {
             self.begin_path(steps);
             self.text.put_colour("\" stroke=\"", INK);
             self.text.put_length("\" stroke-width=\"", width);
             self.text.put("\"/>\n");
+        }
+    }
+
+    /// Draws such lines, each longer by half their width at both ends, so that the shortest is seen.
+    pub fn long_lines(&mut self, steps: &Text, width: u64) {
+        if !steps.is_empty() {
+            self.begin_path(steps);
+            self.text.put_colour("\" fill=\"none\" stroke=\"", INK);
+            self.text.put_length("\" stroke-width=\"", width);
+            self.text.put("\" stroke-linecap=\"square\"/>\n");
         }
     }
 

@@ -1,8 +1,9 @@
-//! The words that tell of a bar, of a life, and of a mark in it.
+//! The words that tell of a bar, of a cell, of a life, and of a mark in it.
 ghost use Rattle.std.specs.Prelude.{◌≡◌, ◌++◌, IfOk, OnOk, codes};
 ghost use Rattle.std.specs.String.{string_bytes};
-ghost use Rattle.kc_picture.specs.Titles.{place_words, owner_words, grant_words, reach_words, custody_words, bar_title, measured_words, cleared_words, stay_title, tick_title};
+ghost use Rattle.kc_picture.specs.Titles.{place_words, owner_words, grant_words, reach_words, custody_words, bar_title, measured_words, cleared_words, stay_title, tick_title, lives_title, deaths_title, frames_words, whose_words, cell_title};
 
+use crate::cells::Whose;
 use crate::vms::{Measured, Stay};
 use kc_types::{Bar, Custody, Gfn, Memory, Owner};
 use std::alloc::Global;
@@ -112,4 +113,81 @@ pub(crate) fn tick_title(alloc: Global, vm: u32, what: &str, line: u32) -> Resul
     ensures { IfOk result (λ title. string_bytes title ≡ tick_title vm what.now line) }
 {
     Ok(format!(in alloc; "vm {vm} {what} at line {line}")?)
+}
+
+/// What lives say that are drawn as one: "vm 0: 12 lives, lines 4 to 90".
+pub(crate) fn lives_title(
+    alloc: Global,
+    vm: u32,
+    count: u64,
+    first: u32,
+    last: u32,
+) -> Result<String, Memory>
+    ensures { IfOk result (λ title. string_bytes title ≡ lives_title vm count first last) }
+{
+    Ok(format!(in alloc; "vm {vm}: {count} lives, lines {first} to {last}")?)
+}
+
+/// What the mark of several dead VMs says: "vm 0: 3 measured and dead, lines 17 to 40".
+pub(crate) fn deaths_title(
+    alloc: Global,
+    vm: u32,
+    count: u64,
+    first: u32,
+    last: u32,
+) -> Result<String, Memory>
+    ensures { IfOk result (λ title. string_bytes title ≡ deaths_title vm count first last) }
+{
+    Ok(format!(in alloc; "vm {vm}: {count} measured and dead, lines {first} to {last}")?)
+}
+
+/// Cells side by side in one row: their frames, and the lines that fall into them, each from the first to the last.
+#[derive(Clone, Copy)]
+pub(crate) struct Block {
+    pub first_frame: u64,
+    pub last_frame: u64,
+    pub first_line: u64,
+    pub last_line: u64,
+}
+
+/// The frames of some cells.
+fn frames_words(alloc: Global, first: u64, last: u64) -> Result<String, Memory>
+    ensures { IfOk result (λ words. string_bytes words ≡ frames_words first last) }
+{
+    if first == last {
+        return Ok(format!(in alloc; "frame {first}")?);
+    }
+    Ok(format!(in alloc; "frames {first} to {last}")?)
+}
+
+/// Appends whose a cell is; of a picture of one VM alone, whether that had any of it.
+fn push_whose(words: &mut String, whose: Whose, alone: bool) -> Result<(), Memory>
+    ensures { OnOk result (string_bytes words.new ≡ string_bytes words.old ++ whose_words alone whose) }
+{
+    match whose {
+        Whose::Vm(vm) if alone => write!(words, "vm {vm} had some of it")?,
+        Whose::Vm(vm) => write!(words, "vm {vm} had more of it than all other VMs together")?,
+        Whose::Several => words.push_str(
+            "several VMs had some of it, none more than all others together",
+        )?,
+        Whose::Rest(_) if alone => words.push_str("the VM had none of it")?,
+        Whose::Rest(_) => words.push_str("no VM had any of it")?,
+    }
+    Ok(())
+}
+
+/// All that cells of one owner say: "frames 64 to 95, lines 17 to 256: vm 3 had more of it than all other VMs together".
+pub(crate) fn cell_title(
+    alloc: Global,
+    block: &Block,
+    whose: Whose,
+    alone: bool,
+) -> Result<String, Memory>
+    ensures { IfOk result (λ title. string_bytes title ≡ cell_title alone block.now whose) }
+{
+    let mut title = frames_words(alloc, block.first_frame, block.last_frame)?;
+    let (from, to) = (block.first_line, block.last_line);
+    write!(title, ", lines {from} to {to}: ")?;
+    push_whose(&mut title, whose, alone)?;
+    Ok(title)
 }

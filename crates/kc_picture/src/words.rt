@@ -1,4 +1,8 @@
 //! The words and numbers of a picture's texts.
+ghost use Rattle.std.specs.Prelude.{◌≡◌, ◌++◌, [], false, string_bytes};
+ghost use Rattle.std.specs.Fmt.{decimal};
+ghost use Rattle.kc_picture.specs.Words.{Puts, length_words};
+
 use crate::colour::Colour;
 use kc_types::Memory;
 use std::alloc::Global;
@@ -11,7 +15,9 @@ pub(crate) struct Text {
 }
 
 impl Text {
-    pub fn new(alloc: Global) -> Text {
+    pub fn new(alloc: Global) -> Text
+        ensures { string_bytes result.text ≡ [] }
+    {
         Text {
             text: String::new(alloc),
             refused: false,
@@ -28,17 +34,23 @@ impl Text {
         self.text.len()
     }
 
-    pub fn put(&mut self, words: &str) {
+    pub fn put(&mut self, words: &str)
+        ensures { Puts self.old self.new words.now }
+    {
         self.refused = self.refused || self.text.push_str(words).is_err();
     }
 
     /// Some words and a number.
-    pub fn put_number(&mut self, words: &str, number: u64) {
+    pub fn put_number(&mut self, words: &str, number: u64)
+        ensures { Puts self.old self.new (words.now ++ decimal number) }
+    {
         self.refused = self.refused || write!(self.text, "{words}{number}").is_err();
     }
 
-    /// Some words and a length in hundredths of a point, which is spelt in points: 8650 as 86.5.
-    pub fn put_length(&mut self, words: &str, length: u64) {
+    /// Puts some words and a length in hundredths of a point, spelled in points: 8650 as 86.5.
+    pub fn put_length(&mut self, words: &str, length: u64)
+        ensures { Puts self.old self.new (words.now ++ length_words length) }
+    {
         self.put_number(words, length / 100);
         let rest = length % 100;
         if rest > 0 {
