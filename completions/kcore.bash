@@ -1,10 +1,15 @@
 # Completions of kcore for bash.
 _kcore() {
-    local word=$2 before=$3 command=
+    local word=${2#=} before=$3 command=
     [ "$COMP_CWORD" -le 1 ] || command=${COMP_WORDS[1]}
+    # Bash takes an equals sign for a word of its own.
+    [ "$before" != = ] || before=${COMP_WORDS[COMP_CWORD - 2]}
     COMPREPLY=()
     case $before in
-        --config | --from | --to) mapfile -t COMPREPLY < <(compgen -f -- "$word"); compopt -o filenames 2> /dev/null; return ;;
+        --config | --from | --to)
+            mapfile -t COMPREPLY < <(compgen -f -- "$word")
+            compopt -o filenames 2> /dev/null
+            return ;;
         --vm) mapfile -t COMPREPLY < <(compgen -W "$(seq 0 63)" -- "$word"); return ;;
         --workers) mapfile -t COMPREPLY < <(compgen -W "$(seq 64)" -- "$word"); return ;;
     esac
