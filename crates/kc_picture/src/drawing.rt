@@ -14,7 +14,7 @@ use std::alloc::Global;
 const EXACT_FRAMES: u64 = 64;
 /// The most lines that are drawn bar by bar: the bar of one line is half a point wide then.
 const EXACT_LINES: u64 = 2_001;
-/// The most bars that are drawn as bars, which have some 6 MB; browsers are slow with more.
+/// The most bars of a picture, which have some 7 MB: browsers are slow with more.
 const MOST_BARS: u64 = 20_000;
 
 /// The height of a lane among so many.
