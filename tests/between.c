@@ -4,6 +4,7 @@
 #include <dlfcn.h>
 #include <errno.h>
 #include <fcntl.h>
+#include <malloc.h>
 #include <pthread.h>
 #include <stdatomic.h>
 #include <stdio.h>
@@ -12,7 +13,7 @@
 #include <sys/syscall.h>
 #include <unistd.h>
 
-static atomic_int growths, starts, reads, writes, pages, bytes, marked, held;
+static atomic_int growths, starts, reads, writes, pages, bytes, marked, held, spilled;
 
 /* The number that the environment gives to this word, 0 for none. */
 static int asked(const char *name) {
@@ -38,17 +39,34 @@ static int pairs(char *from, char *end, const char *front, const char *back) {
 }
 
 /* A text in digits, as a state's text has the bytes of a page. */
-static const char *digits(const char *text, char *to) {
+static void digits(const char *text, char *to) {
     for (size_t at = 0; text[at]; at++) sprintf(to + 2 * at, "%02x", (unsigned char)text[at]);
-    return to;
 }
 
-/* How often the bytes of SECRET_FRONT are in memory with those of SECRET_BACK after them, as they are or in digits. No call
- * writes both, so they come so in pages and in the texts of states alone. */
+/* The two halves of the secret, if there is one, and in digits. */
+static const char *front, *back;
+static char front_digits[128], back_digits[128];
+
+__attribute__((constructor)) static void know_secret(void) {
+    if (!getenv("SECRET_FRONT") || !getenv("SECRET_BACK")) return;
+    digits(getenv("SECRET_FRONT"), front_digits);
+    digits(getenv("SECRET_BACK"), back_digits);
+    back = getenv("SECRET_BACK");
+    front = getenv("SECRET_FRONT");
+}
+
+/* How often the secret is found between two places, as it is or in digits. No call writes both of its halves, so they come
+ * so in pages and in the texts of states alone. */
+static int found(char *from, char *end) {
+    return front ? pairs(from, end, front, back) + pairs(from, end, front_digits, back_digits) : 0;
+}
+
+static int found_in(char *block) { return block ? found(block, block + malloc_usable_size(block)) : 0; }
+
+/* How often it is in memory. */
 static int secrets(void) {
-    const char *front = getenv("SECRET_FRONT"), *back = getenv("SECRET_BACK");
-    static char maps[65536], front_digits[128], back_digits[128];
-    int count = 0, file = front && back ? open("/proc/self/maps", O_RDONLY) : -1;
+    static char maps[65536];
+    int count = 0, file = front ? open("/proc/self/maps", O_RDONLY) : -1;
     size_t length = 0;
     if (file >= 0) {
         for (ssize_t more; (more = syscall(SYS_read, file, maps + length, sizeof maps - 1 - length)) > 0;) length += more;
@@ -59,8 +77,7 @@ static int secrets(void) {
         char *from, *end, rights[5];
         if (sscanf(line, "%p-%p %4s", (void **)&from, (void **)&end, rights) != 3) continue;
         if (rights[0] != 'r' || rights[1] != 'w') continue;
-        count += pairs(from, end, front, back);
-        count += pairs(from, end, digits(front, front_digits), digits(back, back_digits));
+        count += found(from, end);
     }
     return count;
 }
@@ -69,7 +86,7 @@ static int secrets(void) {
 void _exit(int status) {
     const char *path = getenv("TELL_COUNTS");
     char line[128];
-    int left = secrets();
+    int left = secrets() + spilled;
     int length = snprintf(line, sizeof line, "%d %d %d %d %d %d %d %d", growths, starts, reads, writes, pages, marked, held, left);
     int file = path ? open(path, O_WRONLY | O_CREAT | O_TRUNC, 0600) : -1;
     if (file >= 0) syscall(SYS_write, file, line, length);
@@ -77,6 +94,7 @@ void _exit(int status) {
 }
 
 extern void *__libc_malloc(size_t), *__libc_realloc(void *, size_t);
+extern void __libc_free(void *);
 
 void *malloc(size_t size) {
     if (is_refused(size)) { errno = ENOMEM; return NULL; }
@@ -86,7 +104,16 @@ void *malloc(size_t size) {
 
 void *realloc(void *old, size_t size) {
     if (is_refused(size)) { errno = ENOMEM; return NULL; }
-    return __libc_realloc(old, size);
+    int had = found_in(old);
+    void *block = __libc_realloc(old, size);
+    if (block != old) spilled += had;
+    return block;
+}
+
+/* What is given back with the secret in it is left too, wherever the C library puts it. */
+void free(void *block) {
+    spilled += found_in(block);
+    __libc_free(block);
 }
 
 /* How many bytes may pass where so many are asked for: one in a call that is to be short, else at most so many. */
