@@ -8,22 +8,71 @@ static uint8_t out[9000];
 static size_t used;
 static int failed;
 
+/* A length and a number are as wide as a pointer. */
+_Static_assert(_Generic(kcore_longest_reply, size_t (*)(void): 1, default: 0), "kcore_longest_reply");
+_Static_assert(_Generic(kcore_longest_line, size_t (*)(void): 1, default: 0), "kcore_longest_line");
+_Static_assert(_Generic(kcore_line, uint32_t (*)(kcore *, size_t, uint8_t *, size_t, size_t *): 1, default: 0), "kcore_line");
+
 static void is(uint32_t status, uint32_t wanted, const char *what) {
     if (status == wanted) return;
     printf("%s: status %u and not %u\n", what, (unsigned)status, (unsigned)wanted);
     failed++;
 }
 
+static void holds(int fact, const char *what) {
+    if (fact) return;
+    printf("%s\n", what);
+    failed++;
+}
+
 static uint32_t boot(kcore *core, const char *text) { return kcore_boot(core, (const uint8_t *)text, strlen(text)); }
+
+/* The buffer is as it was from the byte after those used, also if there is no answer. */
+static uint32_t ended(uint32_t status, size_t room) {
+    size_t at = used;
+    holds(status == KCORE_DONE ? used <= room : used == 0, "what is used");
+    while (at < sizeof out && out[at] == 0xa5) at++;
+    holds(at == sizeof out, "a byte after those used is another");
+    return status;
+}
 
 static uint32_t ask(kcore *core, const char *line, size_t room) {
     used = 7;
-    return kcore_call(core, (const uint8_t *)line, strlen(line), out, room, &used);
+    memset(out, 0xa5, sizeof out);
+    return ended(kcore_call(core, (const uint8_t *)line, strlen(line), out, room, &used), room);
 }
 
 static uint32_t line(kcore *core, size_t number, size_t room) {
     used = 7;
-    return kcore_line(core, number, out, room, &used);
+    memset(out, 0xa5, sizeof out);
+    return ended(kcore_line(core, number, out, room, &used), room);
+}
+
+/* A whole page, as the last word of a line. */
+static const char *page_line(const char *front) {
+    static char text[9000];
+    size_t at = (size_t)sprintf(text, "%s", front);
+    memset(text + at, '5', 8192);
+    text[at + 8192] = 0;
+    return text;
+}
+
+/* The longest reply and the longest line fit into as many bytes as the library says, and not into one less. */
+static void longest(kcore *core, size_t lines) {
+    const char *text = page_line("hwrite 1 0 ");
+    is(ask(core, "hfault 1", sizeof out), KCORE_DONE, "a frame of the host's");
+    is(ask(core, text, kcore_longest_reply()), KCORE_DONE, "a whole page written");
+    holds(used == 5 && memcmp(out, "done\n", 5) == 0, "its reply");
+    is(line(core, lines + 2, sizeof out), KCORE_DONE, "its line");
+    holds(used == strlen(text) + 1 && memcmp(out, text, used - 1) == 0 && out[used - 1] == '\n', "is what was asked");
+    is(ask(core, "hread 1 0 4096", kcore_longest_reply() - 1), KCORE_NO_ROOM, "the longest reply, in a byte less");
+    is(ask(core, "hread 1 0 4096", kcore_longest_reply()), KCORE_DONE, "and in as many bytes as it has");
+    holds(used == kcore_longest_reply() && used == 5 + 8192 + 1, "the longest reply has another length");
+    text = page_line("gwrite 4294967295 4294967295 4294967295 4294967295 ");
+    is(ask(core, text, kcore_longest_reply()), KCORE_DONE, "the longest line");
+    is(line(core, lines + 4, kcore_longest_line() - 1), KCORE_NO_ROOM, "it, in a byte less");
+    is(line(core, lines + 4, kcore_longest_line()), KCORE_DONE, "and in as many bytes as it has");
+    holds(used == kcore_longest_line() && used == strlen(text) + 1 && memcmp(out, text, used - 1) == 0, "is another");
 }
 
 int main(void) {
@@ -32,6 +81,7 @@ int main(void) {
     is(line(&core, 0, sizeof out), KCORE_CLOSED, "a line of one");
     is(kcore_turn(&core), KCORE_CLOSED, "the next volume of one");
     is(kcore_end(&core), KCORE_CLOSED, "the end of one");
+    holds(!core.is_open && !core.session, "a session that was never open is changed");
 
     is(boot(&core, "{"), KCORE_NOT_JSON, "half an object");
     is(boot(&core, "{}"), KCORE_BAD_SHAPE, "an object without keys");
@@ -47,9 +97,11 @@ int main(void) {
     sprintf(many + at, "]}");
     is(boot(&core, many), KCORE_TOO_MANY_DIGESTS, "65 digests");
     is(ask(&core, "take", sizeof out), KCORE_CLOSED, "a call on a session that was refused");
+    holds(!core.is_open, "a session that was refused is open");
 
     is(boot(&core, "{\"frames\":8,\"core\":1,\"host\":4,\"leaves\":1,\"approved\":[]}"),
        KCORE_DONE, "a configuration");
+    holds(core.is_open && core.session, "a session is not open");
     is(boot(&core, "{"), KCORE_ALREADY_OPEN, "a second one");
     is(boot(&other, "{\"frames\":8,\"core\":1,\"host\":7,\"leaves\":1,\"approved\":[]}"),
        KCORE_DONE, "a second session");
@@ -69,8 +121,12 @@ int main(void) {
     is(used == 5 && memcmp(out, "take\n", 5) == 0 ? 0 : 1, 0, "its line");
     is(line(&core, 2, sizeof out), KCORE_NO_SUCH_LINE, "a line past the end");
     is(line(&core, SIZE_MAX, sizeof out), KCORE_NO_SUCH_LINE, "the last line that has a number");
+    is(line(&core, SIZE_MAX / 2 + 1, sizeof out), KCORE_NO_SUCH_LINE, "one whose number has a single bit");
+    is(line(&core, (size_t)UINT32_MAX + 1, sizeof out), KCORE_NO_SUCH_LINE, "a line whose number is 0 in 32 bits");
+    is(line(&core, (size_t)UINT32_MAX + 2, sizeof out), KCORE_NO_SUCH_LINE, "one whose number is 1 in 32 bits");
+    longest(&core, 1);
 
-    for (int n = 1; n < 65536; n++)
+    for (int n = 5; n < 65536; n++)
         if (ask(&core, "give 5", sizeof out) != KCORE_DONE) is(1, 0, "a call that still has room in the history");
     is(ask(&core, "give 5", sizeof out), KCORE_HISTORY_FULL, "a call more than there may be");
     is(ask(&core, "nonsense", sizeof out), KCORE_BAD_LINE, "no call, where the history is full");
@@ -88,11 +144,17 @@ int main(void) {
     is(line(&core, 1, sizeof out), KCORE_DONE, "the only call of this volume");
     is(line(&core, 2, sizeof out), KCORE_NO_SUCH_LINE, "the line behind that");
     is(kcore_end(&core), KCORE_DONE, "the end");
+    holds(!core.is_open, "a session that has ended is open");
     is(kcore_end(&core), KCORE_CLOSED, "a second end");
     is(ask(&core, "take", sizeof out), KCORE_CLOSED, "a call behind the end");
     is(boot(&core, "{\"frames\":8,\"core\":1,\"host\":4,\"leaves\":1,\"approved\":[]}"), KCORE_DONE, "once more");
     is(line(&core, 1, sizeof out), KCORE_NO_SUCH_LINE, "a session that has answered nothing");
     is(kcore_end(&core), KCORE_DONE, "its end");
     is(kcore_end(&other), KCORE_DONE, "the other one's");
+    is(boot(&core, "{\"version\":2,\"frames\":65536,\"core\":1,\"host\":65535,\"leaves\":64,\"approved\":[]}"),
+       KCORE_DONE, "as many frames as there may be");
+    is(ask(&core, "hfault 65535", sizeof out), KCORE_DONE, "the last of them");
+    holds(used == 5 && memcmp(out, "done\n", 5) == 0, "is the host's");
+    is(kcore_end(&core), KCORE_DONE, "the end of that");
     return failed != 0;
 }
