@@ -101,7 +101,7 @@ int main(void) {
 
     is(boot(&core, "{\"frames\":8,\"core\":1,\"host\":4,\"leaves\":1,\"approved\":[]}"),
        KCORE_DONE, "a configuration");
-    holds(core.is_open && core.session, "a session is not open");
+    holds(core.is_open && (uintptr_t)core.session > 1, "a session is not open, or is in another place");
     is(boot(&core, "{"), KCORE_ALREADY_OPEN, "a second one");
     is(boot(&other, "{\"frames\":8,\"core\":1,\"host\":7,\"leaves\":1,\"approved\":[]}"),
        KCORE_DONE, "a second session");

@@ -3,7 +3,7 @@ import dataclasses
 import pathlib
 import re
 
-FN = re.compile(r"( *)(?:pub(?:\([^)]*\))? )?(?:const )?(?:unsafe )?fn (\w+)")
+FN = re.compile(r'( *)(?:pub(?:\([^)]*\))? )?(?:const )?(?:unsafe )?(?:extern "\w+" )?fn (\w+)')
 IMPL = re.compile(r"(?:unsafe )?impl(?:<.*?>)? (?:(\w+)(?:<(\w+).*>)? for )?(\w+)")
 
 
@@ -187,8 +187,8 @@ def wrong_body(edit):
 
 
 def place(crate, path, function):
-    """Returns a function's path below the crate. A method stands where its type is declared; one of a trait where the
-    impl is, under the names of the type, of the trait and of what the trait is applied to."""
+    """Returns a function's path below the crate. A method is where its type is declared; one of a trait where the impl
+    is, under the names of the type, of the trait and of what the trait is applied to. Dropping is the type's own."""
     owner = IMPL.match(function.owner)
     if owner and not owner[1]:
         declares = re.compile(rf"(?m)^(?:pub(?:\([^)]*\))? )?(?:struct|enum) {owner[3]}\b")
@@ -196,5 +196,6 @@ def place(crate, path, function):
         path = next((it.relative_to(crate) for it in files if declares.search(it.read_text())), path)
     modules = [it for it in pathlib.PurePath(path).with_suffix("").parts[1:] if it not in ("lib", "main", "mod")]
     # Of a name like u32x4, rattle's has a capital.
-    names = [f"{owner[3][0].upper()}{owner[3][1:]}{owner[1] or ''}{owner[2] or ''}"] if owner else []
+    trait = f"{owner[1] or ''}{owner[2] or ''}" if owner and owner[1] != "Drop" else ""
+    names = [f"{owner[3][0].upper()}{owner[3][1:]}{trait}"] if owner else []
     return (*modules, *names, function.name)
