@@ -287,6 +287,8 @@ fn run_trace<R: Threads + Wait + Sync>(
 }
 
 /// Audits the dump on standard input, and answers the exit status: 1 where something is found.
+// (not inlined: its buffer of 64 KiB would be in the frame of `main`, below every other job)
+#[inline(never)]
 fn audit(rt: &HostRuntime, threads: &(impl Threads + Sync), all: bool, explain: bool) -> u8 {
     let mut dump = input(rt, "dump", explain, false);
     let mut out = Std::new(rt.stdout());
