@@ -2,3 +2,4 @@ pub mod Unseen
 pub mod Blinds
 pub mod Private
 pub mod HostBlind
+pub mod Told

@@ -12,3 +12,4 @@ pub mod Bars
 pub mod Runs
 pub mod Events
 pub mod Laws
+pub mod Written

@@ -3,6 +3,10 @@ pub mod Refusals
 pub mod Lawful
 pub mod Safe
 pub mod Blind
+pub mod Redaction
 pub mod Local
 pub mod Footprints
 pub mod Custody
+pub mod Undisturbed
+pub mod Promises
+pub mod Summaries

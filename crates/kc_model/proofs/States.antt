@@ -11,5 +11,6 @@ pub mod Pages
 pub mod Each
 pub mod Members
 pub mod Sizes
+pub mod Counts
 pub mod Places
 pub mod Owners

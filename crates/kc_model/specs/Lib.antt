@@ -22,3 +22,14 @@ pub mod Events
 pub mod Lives
 pub mod Bars
 pub mod Volumes
+pub mod Passing
+pub mod OwnMemory
+pub mod Starting
+pub mod Availability
+pub mod CustodyBlind
+pub mod Undisturbed
+pub mod Promises
+pub mod Redaction
+pub mod LeavingOut
+pub mod Blanking
+pub mod Summaries

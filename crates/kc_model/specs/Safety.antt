@@ -67,7 +67,7 @@ abbrev pub IsMeasured : ℕ → State → List Call → Type 0
 IsMeasured v m [] = ⊥
 IsMeasured v m (call ∷ calls) = (Measures v m call (next m call).0 × EachStep (NeverCleared v) (next m call).1 calls) ⊎ IsMeasured v (next m call).1 calls
 
--- what every trace keeps
+-- who owns a frame, whom the host reaches, what was measured and whose bytes stay: every trace keeps it
 pub record IsSafe (m : State) (calls : List Call) : Type 0 where
   pub one_owner : EachStep KeepsOneOwner m calls
   pub host_access : EachStep ServesOpenFrames m calls

@@ -274,14 +274,14 @@ blind-clear s m w is served = record { state = state; answer = λ _. refl }
 
 -- verifying another slot
 
-failing-same : {X : Type 0} (p q : X → Bool) (xs : List X) → ((i : ℕ) (d : X) → i < length xs → p (get_or xs i d) ≡ q (get_or xs i d)) → first_failing p xs ≡ first_failing q xs
+pub failing-same : {X : Type 0} (p q : X → Bool) (xs : List X) → ((i : ℕ) (d : X) → i < length xs → p (get_or xs i d) ≡ q (get_or xs i d)) → first_failing p xs ≡ first_failing q xs
 failing-same p q [] same = refl
 failing-same p q (x ∷ xs) same =
     let here : p x ≡ q x = same zero x (omega arith) in
     let rest = failing-same p q xs (λ i d lt. same (suc i) d (omega arith)) in
     rw (here, rest) refl
 
-held : (image : Image) (g : ℕ) → is_short image ≡ false → image.base ≤ g → g < image.base + pages_of image.len → holds g image ≡ true
+pub held : (image : Image) (g : ℕ) → is_short image ≡ false → image.base ≤ g → g < image.base + pages_of image.len → holds g image ≡ true
 held image g full low high = grind (arith, common_steps, full)
 
 approved-same : (s : Secret) (m : State) (w : ℕ) → IsLawful m → w < slot_count m.config → (slot_at m w).phase ≡ Booting → list_any is_short (slot_at m w).images ≡ false → (w ≡ s.vm → ⊥)

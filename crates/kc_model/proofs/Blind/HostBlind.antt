@@ -50,7 +50,7 @@ reads-hidden s (GuestWrite v c g off bytes) = refl
 reads-hidden s _ = refl
 
 -- of two alike states both are private
-private-alike : (s : Secret) (m n : State) → hidden s m ≡ hidden s n → IsPrivate s m → IsPrivate s n
+pub private-alike : (s : Secret) (m n : State) → hidden s m ≡ hidden s n → IsPrivate s m → IsPrivate s n
 private-alike s m n same private f e =
     let running : is_running m s.vm ≡ is_running n s.vm = ap (λ (x : State). is_running x s.vm) same in
     let at = ap (λ (x : State). frame_at x f) same in
@@ -59,7 +59,7 @@ private-alike s m n same private f e =
     let secrets : is_secret s (is_running n s.vm) (frame_at m f) ≡ is_secret s (is_running n s.vm) (frame_at n f) = ap (is_secret s (is_running n s.vm)) frames in
     sym shares ∙ private f (subst (λ t. is_secret s t (frame_at m f) ≡ true) (sym running) (secrets ∙ e))
 
-alike-next : (s : Secret) (m n : State) (call other : Call) → IsLawful m → IsLawful n → AreAlike s m n → hidden_call s call ≡ hidden_call s other → grants_secret s call ≡ false → AreAlike s (next m call).1 (next n other).1
+pub alike-next : (s : Secret) (m n : State) (call other : Call) → IsLawful m → IsLawful n → AreAlike s m n → hidden_call s call ≡ hidden_call s other → grants_secret s call ≡ false → AreAlike s (next m call).1 (next n other).1
 alike-next s m n call other m_is n_is alike calls grants =
     let grants_other : grants_secret s other ≡ false = sym (grants-hidden s other) ∙ ap (grants_secret s) (sym calls) ∙ grants-hidden s call ∙ grants in
     record {
@@ -70,7 +70,7 @@ alike-next s m n call other m_is n_is alike calls grants =
       private = private-next s m call m_is alike.private grants;
     }
 
-same-answer : (s : Secret) (m n : State) (call other : Call) → IsLawful m → IsLawful n → AreAlike s m n → hidden_call s call ≡ hidden_call s other → grants_secret s call ≡ false → reads_secret s call ≡ false → (next m call).0 ≡ (next n other).0
+pub same-answer : (s : Secret) (m n : State) (call other : Call) → IsLawful m → IsLawful n → AreAlike s m n → hidden_call s call ≡ hidden_call s other → grants_secret s call ≡ false → reads_secret s call ≡ false → (next m call).0 ≡ (next n other).0
 same-answer s m n call other m_is n_is alike calls grants reads =
     let grants_other : grants_secret s other ≡ false = sym (grants-hidden s other) ∙ ap (grants_secret s) (sym calls) ∙ grants-hidden s call ∙ grants in
     let reads_other : reads_secret s other ≡ false = sym (reads-hidden s other) ∙ ap (reads_secret s) (sym calls) ∙ reads-hidden s call ∙ reads in

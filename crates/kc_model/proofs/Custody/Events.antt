@@ -35,7 +35,8 @@ pub changes-of-changes : (changes : List Change) → changes_in (map event.Chang
 changes-of-changes [] = refl
 changes-of-changes (change ∷ more) = ap (λ (rest : List Change). change ∷ rest) (changes-of-changes more)
 
-changes-of-call : (n : ℕ) (m : State) (call : Call) → changes_in (events_by n m call) ≡ changes_by n m (next m call).1
+-- the changes among a call's events are its changes
+pub changes-of-call : (n : ℕ) (m : State) (call : Call) → changes_in (events_by n m call) ≡ changes_by n m (next m call).1
 changes-of-call n m call =
     let told = map event.Change (changes_by n m (next m call).1) in
     filter_map-append change_in (access_by m call (next m call).0) told

@@ -16,7 +16,7 @@ use Rattle.kc_model.proofs.Footprints.Reaches.{config-at}
 use Rattle.kc_model.proofs.Custody.Tells.{each-call}
 
 -- the numbers of a range
-in-range : (low n : ℕ) → All (λ x. (low ≤ x) × (x < low + n)) (range_with_len low n)
+pub in-range : (low n : ℕ) → All (λ x. (low ≤ x) × (x < low + n)) (range_with_len low n)
 in-range low n k d lt =
     let at = get_or-range_with_len low n k d (omega (arith, lt, length-range_with_len low n)) in
     (omega (arith, at), omega (arith, at, lt, length-range_with_len low n))

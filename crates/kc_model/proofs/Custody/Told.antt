@@ -22,10 +22,10 @@ finds-none test [] fails = refl
 finds-none test (x ∷ xs) fails = or_from _ _ (fails x) (finds-none test xs fails)
 
 -- the frames that moved and the slots that turned
-abbrev moved : State → State → List ℕ
+abbrev pub moved : State → State → List ℕ
 moved old new = filter (has_moved old new) (range_with_len 0 old.config.frames)
 
-abbrev turned : State → State → List ℕ
+abbrev pub turned : State → State → List ℕ
 turned old new = filter (has_turned old new) (range_with_len 0 (slot_count old.config))
 
 -- it looks through the frames that moved, and the slots that turned
@@ -38,11 +38,11 @@ frames-and-slots test n old new =
     (list_any-map test change.Phase (phase_changes_by n old new) ∙ list_any-map (λ told. test (change.Phase told)) (phase_change n old new) (turned old new))
 
 -- a test of one number alone
-abbrev IsOfOne : (ℕ → Bool) → ℕ → Type 0
+abbrev pub IsOfOne : (ℕ → Bool) → ℕ → Type 0
 IsOfOne test x = (y : ℕ) → (y ≡ x → ⊥) → test y ≡ false
 
 -- the number is not among those of a range that is above it
-below-range : (test p : ℕ → Bool) (low n x : ℕ) → IsOfOne test x → x < low → list_any test (filter p (range_with_len low n)) ≡ false
+pub below-range : (test p : ℕ → Bool) (low n x : ℕ) → IsOfOne test x → x < low → list_any test (filter p (range_with_len low n)) ≡ false
 below-range test p low zero x one lt = refl
 below-range test p low (suc n) x one lt =
     by_test (p low) (filter p (range_with_len (low + 1) n)) (one low (λ same. omega (arith, same, lt))) (below-range test p (low + 1) n x one (omega (arith, lt)))
@@ -61,7 +61,7 @@ later-of-range test low true ys other = ap (λ b. b || list_any test ys) other
 later-of-range test low false ys other = refl
 
 -- a number of a range is found among those that pass where it passes and the test says yes
-among-range : (test p : ℕ → Bool) (low n x : ℕ) → IsOfOne test x → low ≤ x → x < low + n → list_any test (filter p (range_with_len low n)) ≡ (p x && test x)
+pub among-range : (test p : ℕ → Bool) (low n x : ℕ) → IsOfOne test x → low ≤ x → x < low + n → list_any test (filter p (range_with_len low n)) ≡ (p x && test x)
 among-range test p low zero x one from below = absurd (omega (arith, from, below))
 among-range test p low (suc n) x one from below = elim (cases_eq low x) [
   | inl here ↦ first-of-range test low (p low) (filter p (range_with_len (low + 1) n)) (below-range test p (low + 1) n x one (omega (arith, here))) ∙ ap (λ y. p y && test y) here

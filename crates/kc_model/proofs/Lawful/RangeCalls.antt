@@ -49,7 +49,7 @@ guest_range-served m v c g n last served =
     )
 
 -- two guest frames lead to two frames
-apart : (m : State) (v g h f k : ℕ) → IsLawful m → v < slot_count m.config → mapped_at m v g ≡ Some f → mapped_at m v h ≡ Some k → (h ≡ g → ⊥) → k ≡ f → ⊥
+pub apart : (m : State) (v g h f k : ℕ) → IsLawful m → v < slot_count m.config → mapped_at m v g ≡ Some f → mapped_at m v h ≡ Some k → (h ≡ g → ⊥) → k ≡ f → ⊥
 apart m v g h f k is v_in first second ne same =
     let one : (frame_at m f).gfn ≡ Some g = ((is.mapped v g f v_in).0 first).1 in
     let other : (frame_at m f).gfn ≡ Some h = subst (λ x. (frame_at m x).gfn ≡ Some h) same ((is.mapped v h k v_in).0 second).1 in

@@ -57,7 +57,7 @@ length-scrubbed frames (f ∷ fs) = length-scrubbed (set frames f (untouched Fre
 sized-each : (m : State) (v : ℕ) (gs : List ℕ) (change : Frame → Frame) → IsSameSize m (with_each m v gs change)
 sized-each m v gs change = record { config = refl; frames = length-changed change m.frames (frames_under (slot_at m v).mapped gs); slots = refl }
 
-sized-effect : (m : State) (call : Call) → IsSameSize m (effect m call).1
+pub sized-effect : (m : State) (call : Call) → IsSameSize m (effect m call).1
 sized-effect m Take = sized-takes m m.free
 sized-effect m (Give f) = sized-one m f _ _
 sized-effect m (HostFault f) = sized-one m f _ m.free

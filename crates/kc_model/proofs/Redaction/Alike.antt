@@ -1,0 +1,174 @@
+-- Frames and states that differ in nothing but bytes that do not count.
+use Rattle.std.proofs.Common.{ℕ, zero, suc, ◌≡◌, inl, inr, Bool, true, false, not, List, [], ◌∷◌, length, get_or, set, refl, sym, ap, ◌∙◌, arith, length-set}
+use Rattle.std.proofs.lemmas.Bool.{cases_lt}
+use Rattle.std.proofs.lemmas.List.{get_or_past}
+use Rattle.kc_types.specs.Configuration.{Configuration}
+use Rattle.kc_types.specs.declared.custody.Custody.{Custody}
+use Rattle.kc_types.specs.declared.owner.Owner.{Owner}
+use Rattle.kc_types.specs.declared.owner.Owner.TheVariants.{Core, Host, Free, Vm}
+use Rattle.kc_model.specs.State.{State, Frame, Slot, frame_at, slot_at, with_slot, untouched, empty_slot}
+use Rattle.kc_model.specs.Refusals.{is_active}
+use Rattle.kc_model.specs.Effects.{changed_each}
+use Rattle.kc_model.specs.Custody.{custody_of}
+use Rattle.kc_model.specs.Lawful.{IsLawful}
+use Rattle.kc_model.specs.Redaction.{counts, AreAlike, DifferInBytes}
+use Rattle.kc_model.proofs.States.ZeroPage.{length-zero_page}
+
+-- the state with other frames
+abbrev pub beside : State → List Frame → State
+beside m ys = record m { frames = ys }
+
+-- of two alike frames
+pub owner-alike : (b : Bool) (x y : Frame) → AreAlike b x y → y.owner ≡ x.owner
+owner-alike b x y alike = ap (λ (c : Custody). c.owner) alike.custody
+
+pub share-alike : (b : Bool) (x y : Frame) → AreAlike b x y → y.share ≡ x.share
+share-alike b x y alike = ap (λ (c : Custody). c.share) alike.custody
+
+pub present-alike : (b : Bool) (x y : Frame) → AreAlike b x y → y.present ≡ x.present
+present-alike b x y alike = ap (λ (c : Custody). c.present) alike.custody
+
+pub alike-itself : (b : Bool) (x : Frame) → AreAlike b x x
+alike-itself b x = record { custody = refl; bytes = λ h. refl }
+
+-- where less counts
+pub alike-less : (a b : Bool) (x y : Frame) → (b ≡ true → a ≡ true) → AreAlike a x y → AreAlike b x y
+alike-less a b x y less alike = record { custody = alike.custody; bytes = λ h. alike.bytes (less h) }
+
+-- frames of one custody whose bytes do not count
+pub alike-unseen : (b : Bool) (x y : Frame) → b ≡ false → custody_of y ≡ custody_of x → AreAlike b x y
+alike-unseen b x y none same = record { custody = same; bytes = λ h. absurd cc }
+
+-- a change of frames that asks nothing of a frame's bytes but to make the bytes anew
+pub record IsPlain (change : Frame → Frame) : Type 0 where
+  pub owner : (x : Frame) → (change x).owner ≡ x.owner
+  pub custody : (x y : Frame) → custody_of y ≡ custody_of x → custody_of (change y) ≡ custody_of (change x)
+  pub bytes : (x y : Frame) → y.bytes ≡ x.bytes → (change y).bytes ≡ (change x).bytes
+
+pub alike-changed : (change : Frame → Frame) → IsPlain change → (b : Bool) (x y : Frame) → AreAlike b x y → AreAlike b (change x) (change y)
+alike-changed change plain b x y alike = record { custody = plain.custody x y alike.custody; bytes = λ h. plain.bytes x y (alike.bytes h) }
+
+-- lists of frames
+abbrev pub AlikeFrames : (ℕ → Bool) → State → List Frame → List Frame → Type 0
+AlikeFrames kept m xs ys = (f : ℕ) → AreAlike (counts kept m f (get_or xs f (untouched Core)).owner) (get_or xs f (untouched Core)) (get_or ys f (untouched Core))
+
+-- what relates two lists at each place relates them after a write of two elements that it relates
+both-set : {X : Type 0} (R : ℕ → X → X → Type 0) (xs ys : List X) (f : ℕ) (x y d : X) → length ys ≡ length xs → ((k : ℕ) → R k (get_or xs k d) (get_or ys k d)) → R f x y → (k : ℕ) → R k (get_or (set xs f x) k d) (get_or (set ys f y) k d)
+both-set R [] [] f x y d number each here k = each k
+both-set R [] (b ∷ ys) f x y d number each here k = absurd cc
+both-set R (a ∷ xs) [] f x y d number each here k = absurd cc
+both-set R (a ∷ xs) (b ∷ ys) zero x y d number each here zero = here
+both-set R (a ∷ xs) (b ∷ ys) zero x y d number each here (suc k) = each (suc k)
+both-set R (a ∷ xs) (b ∷ ys) (suc f) x y d number each here zero = each zero
+both-set R (a ∷ xs) (b ∷ ys) (suc f) x y d number each here (suc k) = both-set (λ n. R (suc n)) xs ys f x y d (omega (arith, number)) (λ n. each (suc n)) here k
+
+pub frames-set : (kept : ℕ → Bool) (m : State) (xs ys : List Frame) (f : ℕ) (x y : Frame) → length ys ≡ length xs → AlikeFrames kept m xs ys → AreAlike (counts kept m f x.owner) x y → AlikeFrames kept m (set xs f x) (set ys f y)
+frames-set kept m xs ys f x y number alike here k = both-set (λ n a b. AreAlike (counts kept m n a.owner) a b) xs ys f x y (untouched Core) number alike here k
+
+pub number-set : (xs ys : List Frame) (f : ℕ) (x y : Frame) → length ys ≡ length xs → length (set ys f y) ≡ length (set xs f x)
+number-set xs ys f x y number = length-set ys f y ∙ number ∙ sym (length-set xs f x)
+
+-- one frame that is changed
+pub frames-changed : (kept : ℕ → Bool) (m : State) (xs ys : List Frame) (f : ℕ) (change : Frame → Frame) → IsPlain change → length ys ≡ length xs → AlikeFrames kept m xs ys
+    → AlikeFrames kept m (set xs f (change (get_or xs f (untouched Core)))) (set ys f (change (get_or ys f (untouched Core))))
+frames-changed kept m xs ys f change plain number alike =
+    let x = get_or xs f (untouched Core) in
+    let y = get_or ys f (untouched Core) in
+    frames-set kept m xs ys f (change x) (change y) number alike
+    (alike-changed change plain (counts kept m f (change x).owner) x y (alike-less (counts kept m f x.owner) (counts kept m f (change x).owner) x y (λ h. sym (ap (counts kept m f) (plain.owner x)) ∙ h) (alike f)))
+
+-- each of some frames
+pub frames-each : (kept : ℕ → Bool) (m : State) (change : Frame → Frame) → IsPlain change → (xs ys : List Frame) (fs : List ℕ) → length ys ≡ length xs → AlikeFrames kept m xs ys → AlikeFrames kept m (changed_each change xs fs) (changed_each change ys fs)
+frames-each kept m change plain xs ys [] number alike = alike
+frames-each kept m change plain xs ys (f ∷ fs) number alike =
+    frames-each kept m change plain (set xs f (change (get_or xs f (untouched Core)))) (set ys f (change (get_or ys f (untouched Core)))) fs (number-set xs ys f _ _ number) (frames-changed kept m xs ys f change plain number alike)
+
+-- where fewer owners' bytes count
+pub frames-less : (kept : ℕ → Bool) (m n : State) (xs ys : List Frame) → ((f : ℕ) (owner : Owner) → counts kept n f owner ≡ true → counts kept m f owner ≡ true) → AlikeFrames kept m xs ys → AlikeFrames kept n xs ys
+frames-less kept m n xs ys less alike f =
+    let x = get_or xs f (untouched Core) in
+    alike-less (counts kept m f x.owner) (counts kept n f x.owner) x (get_or ys f (untouched Core)) (less f x.owner) (alike f)
+
+-- slots that stay active, and perhaps one that becomes so
+more-active : (slots : List Slot) (w : ℕ) (slot : Slot) → (is_active (get_or slots w empty_slot).phase ≡ true → is_active slot.phase ≡ true) → (v : ℕ) → is_active (get_or slots v empty_slot).phase ≡ true → is_active (get_or (set slots w slot) v empty_slot).phase ≡ true
+more-active [] w slot stays v h = h
+more-active (s ∷ slots) zero slot stays zero h = stays h
+more-active (s ∷ slots) zero slot stays (suc v) h = h
+more-active (s ∷ slots) (suc w) slot stays zero h = h
+more-active (s ∷ slots) (suc w) slot stays (suc v) h = more-active slots w slot stays v h
+
+not-less : (a b : Bool) → (a ≡ true → b ≡ true) → not b ≡ true → not a ≡ true
+not-less true b more h = let e = more refl in cc
+not-less false b more h = refl
+
+pub counts-less : (kept : ℕ → Bool) (m : State) (w : ℕ) (slot : Slot) → (is_active (slot_at m w).phase ≡ true → is_active slot.phase ≡ true) → (f : ℕ) (owner : Owner) → counts kept (with_slot m w slot) f owner ≡ true → counts kept m f owner ≡ true
+counts-less kept m w slot stays f (Vm v) h = not-less (is_active (slot_at m v).phase) (is_active (slot_at (with_slot m w slot) v).phase) (more-active m.slots w slot stays v) h
+counts-less kept m w slot stays f Core h = h
+counts-less kept m w slot stays f Host h = h
+counts-less kept m w slot stays f Free h = h
+
+pub frames-slot : (kept : ℕ → Bool) (m : State) (w : ℕ) (slot : Slot) (xs ys : List Frame) → (is_active (slot_at m w).phase ≡ true → is_active slot.phase ≡ true) → AlikeFrames kept m xs ys → AlikeFrames kept (with_slot m w slot) xs ys
+frames-slot kept m w slot xs ys stays alike = frames-less kept m (with_slot m w slot) xs ys (counts-less kept m w slot stays) alike
+
+-- states
+
+pub counts-by : (kept : ℕ → Bool) (m n : State) → n.slots ≡ m.slots → (f : ℕ) (owner : Owner) → counts kept n f owner ≡ counts kept m f owner
+counts-by kept m n slots f (Vm v) = ap (λ (slots : List Slot). not (is_active (get_or slots v empty_slot).phase)) slots
+counts-by kept m n slots f Core = refl
+counts-by kept m n slots f Host = refl
+counts-by kept m n slots f Free = refl
+
+pub differ-itself : (kept : ℕ → Bool) (m : State) → DifferInBytes kept m m
+differ-itself kept m = record { config = refl; free = refl; slots = refl; number = refl; frames = λ f. alike-itself _ (frame_at m f) }
+
+-- by the second's slots
+pub counted : (kept : ℕ → Bool) (m n : State) → DifferInBytes kept m n → (f : ℕ) → counts kept n f (frame_at n f).owner ≡ counts kept m f (frame_at m f).owner
+counted kept m n differ f = counts-by kept m n differ.slots f (frame_at n f).owner ∙ ap (counts kept m f) (owner-alike _ (frame_at m f) (frame_at n f) (differ.frames f))
+
+pub differ-back : (kept : ℕ → Bool) (m n : State) → DifferInBytes kept m n → DifferInBytes kept n m
+differ-back kept m n differ = record {
+  config = sym differ.config;
+  free = sym differ.free;
+  slots = sym differ.slots;
+  number = sym differ.number;
+  frames = λ f. record { custody = sym (differ.frames f).custody; bytes = λ h. sym ((differ.frames f).bytes (sym (counted kept m n differ f) ∙ h)) };
+}
+
+pub differ-then : (kept : ℕ → Bool) (m n o : State) → DifferInBytes kept m n → DifferInBytes kept n o → DifferInBytes kept m o
+differ-then kept m n o first second = record {
+  config = second.config ∙ first.config;
+  free = second.free ∙ first.free;
+  slots = second.slots ∙ first.slots;
+  number = second.number ∙ first.number;
+  frames = λ f. record { custody = (second.frames f).custody ∙ (first.frames f).custody; bytes = λ h. (second.frames f).bytes (counted kept m n first f ∙ h) ∙ (first.frames f).bytes h };
+}
+
+abbrev made : Configuration → List Frame → List ℕ → List Slot → State
+made config frames free slots = record { config = config; frames = frames; free = free; slots = slots }
+
+-- the second state is the first with its own frames
+pub beside-is : (kept : ℕ → Bool) (m n : State) → DifferInBytes kept m n → beside m n.frames ≡ n
+beside-is kept m n differ =
+    let config = differ.config in
+    let free = differ.free in
+    let slots = differ.slots in
+    let same : made m.config n.frames m.free m.slots ≡ made n.config n.frames n.free n.slots = rw (config, free, slots) refl in
+    same
+
+-- a slot that is written by what it was
+pub differ-slot : (kept : ℕ → Bool) (m n : State) (w : ℕ) (change : Slot → Slot) → (is_active (slot_at m w).phase ≡ true → is_active (change (slot_at m w)).phase ≡ true) → DifferInBytes kept m n
+    → DifferInBytes kept (with_slot m w (change (slot_at m w))) (with_slot n w (change (slot_at n w)))
+differ-slot kept m n w change stays differ = record {
+  config = differ.config;
+  free = differ.free;
+  slots = ap (λ (slots : List Slot). set slots w (change (get_or slots w empty_slot))) differ.slots;
+  number = differ.number;
+  frames = frames-slot kept m w (change (slot_at m w)) m.frames n.frames stays differ.frames;
+}
+
+-- each frame of a lawful state has a whole page
+pub whole : (m : State) → IsLawful m → (f : ℕ) → length (frame_at m f).bytes ≡ 4096
+whole m is f = elim (cases_lt f (length m.frames)) [
+  | inl low ↦ (is.each_frame f low).page.whole
+  | inr past ↦ ap (λ (x : Frame). length x.bytes) (get_or_past m.frames f (untouched Core) past) ∙ length-zero_page
+]

@@ -1,0 +1,10 @@
+pub mod Counts
+pub mod Turns
+pub mod Owned
+pub mod Called
+pub mod Lived
+pub mod Stretches
+pub mod Lives
+pub mod Images
+pub mod Sharings
+pub mod Summed
