@@ -17,8 +17,8 @@ const ZEROS: &[u8; 4096] = &[0; 4096];
 /// The 4,096 bytes of a page, seen as the list of them. They lie on the heap, so a page moves as a few words.
 ///
 /// The memory is there from the start. Until the first write it holds nothing and the page is zero, so a page that is
-/// never written is never zeroed; nor is one that is known to be zero. What once was written is zeroed and not forgotten.
-#[derive(Drop)]
+/// never written is never zeroed; nor is one that is known to be zero. What once was written is zeroed and not forgotten,
+/// also where the page is dropped.
 pub struct PageBytes {
     bytes: Vec<u8>,
     is_written: bool,
@@ -47,7 +47,26 @@ fn fill_with_zeros(bytes: &mut Vec<u8>)
     bytes.resize(PAGE_SIZE as usize, 0).unwrap();
 }
 
+impl Drop for PageBytes {
+    fn drop(self) {
+        let mut page = self;
+        page.scrub();
+        page.let_go();
+    }
+}
+
 impl PageBytes {
+    /// The only end of a page: its bytes are zero.
+    fn let_go(self)
+        requires { self ≡ zero_page }
+    {
+        let PageBytes {
+            bytes: _,
+            is_written: _,
+            is_zero: _,
+        } = self;
+    }
+
     /// A page of zero bytes, or `Memory` where a growth was refused.
     pub fn zeroed(alloc: Global) -> Result<PageBytes, Memory>
         // No clause can rule out that memory runs out: tests make pages.

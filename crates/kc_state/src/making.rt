@@ -87,7 +87,7 @@ fn make_pages(lines: &[FrameLine], bytes: Vec<PageBytes>, mut pages: Vec<Page>) 
     pages
 }
 
-/// The core of what was judged. Where a growth of memory is refused, all pages are wiped.
+/// The core of what was judged; `Memory` where a growth was refused.
 fn make_core(alloc: Global, config: Config, told: Told) -> Result<KCore, Memory>
     requires config { config ≡ config_of told }
     requires sized { IsSized told }
@@ -102,8 +102,8 @@ fn make_core(alloc: Global, config: Config, told: Told) -> Result<KCore, Memory>
     Ok(KCore::from_parts(alloc, config, parts))
 }
 
-/// The core of which this is told, exactly; else the first reason for which there is none. Pages that make no core are
-/// wiped. The dump is audited, and the pages are hashed, by several threads, of so many pages at once.
+/// The core of which this is told, exactly; else the first reason for which there is none. The dump is audited, and the
+/// pages are hashed, by several threads, of so many pages at once.
 pub fn core_of(
     rt: &(impl Threads + Sync),
     alloc: Global,

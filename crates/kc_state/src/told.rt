@@ -20,7 +20,8 @@ impl Model for SlotRest {
     ghost view = { λ r. record { vcpus = r.vcpus.items; images = r.images.items } };
 }
 
-/// A dump and what it leaves out. Where it is dropped its pages are wiped.
+/// A dump and what it leaves out.
+#[derive(Drop)]
 pub struct Told {
     /// How many frames were the host's at boot.
     pub host: u32,
@@ -44,7 +45,7 @@ impl Model for Told {
 impl Told {
     ghost use Rattle.std.specs.Prelude.{◌≡◌};
 
-    /// The bytes of the pages, which it wipes no more, and the dump.
+    /// The bytes of the pages, and the dump.
     pub(crate) fn into_parts(self) -> (Vec<PageBytes>, Dump)
         ensures pages { result.0.items ≡ self.rest.pages }
         ensures dump { result.1 ≡ self.dump }
@@ -57,24 +58,5 @@ impl Told {
             dump,
         } = self;
         (pages, dump)
-    }
-}
-
-fn scrub_each(pages: &mut [PageBytes]) {
-    for page in pages.iter_mut() {
-        page.scrub();
-    }
-}
-
-impl Drop for Told {
-    fn drop(self) {
-        let Told {
-            host: _,
-            approved: _,
-            slots: _,
-            mut pages,
-            dump: _,
-        } = self;
-        scrub_each(pages.as_mut_slice());
     }
 }

@@ -4,7 +4,7 @@ use Rattle.kc_types.specs.Configuration.{Configuration, IsConfiguration}
 use Rattle.kc_model.specs.Boot.{boot}
 use Rattle.kc_model.specs.Next.{state_after}
 use Rattle.kc_model.proofs.Lawful.AtBoot.{lawful-boot}
-use Rattle.kc_model.proofs.Safe.Safe.{safe}
+use Rattle.kc_model.proofs.Promises.{promises_kept}
 use Rattle.kc_model.proofs.Blind.HostBlind.{shows_nothing, shows_nothing-boot}
 use Rattle.kc_model.specs.Volumes.{IsDigest, TellsApart, Volume, AreReplayedFrom, all_calls, all_replies}
 use Rattle.kc_state_text.specs.StateText.{state_text}
@@ -18,7 +18,7 @@ one-run apart config volumes is digests each =
     record {
       replies = both.0;
       text = both.1;
-      safe = safe (boot config) (all_calls volumes) lawful;
+      promises = promises_kept (boot config) (all_calls volumes) lawful;
       blind = shows_nothing-boot config (all_calls volumes) (all_replies volumes) (state_after (boot config) (all_calls volumes)) lawful
           (shows_nothing (boot config) (state_after (boot config) (all_calls volumes)) (all_calls volumes) (all_replies volumes) lawful both.0 refl);
     }

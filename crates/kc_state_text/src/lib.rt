@@ -13,5 +13,5 @@ mod words;
 mod writing;
 
 pub use fault::StateFault;
-pub use pieces::{StatePieces, is_state_text, wipe_piece};
+pub use pieces::{StatePieces, is_state_text};
 pub use reader::read_state;

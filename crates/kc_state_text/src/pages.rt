@@ -11,7 +11,7 @@ ghost use Rattle.kc_state_text.specs.Refused.{HasNone};
 use crate::line_reader::page_word;
 use kc_lines::{decode_into, split_line};
 use kc_page::PageBytes;
-use kc_types::{Memory, PAGE_SIZE};
+use kc_types::{Memory, PAGE_SIZE, SecretBytes};
 use std::alloc::Global;
 use std::marker::Model;
 
@@ -21,35 +21,29 @@ pub fn is_zero(bytes: &[u8]) -> bool
     bytes.iter().all(|byte| *byte == 0)
 }
 
-/// Memory for the bytes of a page, seen as them. Where it is dropped it is zeroed.
+/// The bytes of a page, seen as them.
+#[derive(Drop)]
 pub struct Buffer {
-    bytes: Vec<u8>,
+    bytes: SecretBytes,
 }
 
 impl Model for Buffer {
-    ghost use Rattle.std.specs.Prelude.{ℕ, List, ◌≡◌, vec_len};
+    ghost use Rattle.std.specs.Prelude.{ℕ, List, ◌≡◌, length};
     ghost use Rattle.kc_types.specs.Limits.{page_size};
 
     ghost Value = { List ℕ };
 
-    ghost view = { λ b. b.bytes.items };
+    ghost view = { λ b. b.bytes };
 
-    ghost invariant = { λ b. vec_len b.bytes ≡ page_size };
+    ghost invariant = { λ b. length b.bytes ≡ page_size };
 }
 
 impl Buffer {
     /// All zero.
     pub fn new(alloc: Global) -> Result<Buffer, Memory> {
         Ok(Buffer {
-            bytes: vec![in alloc; 0u8; PAGE_SIZE as usize]?,
+            bytes: SecretBytes::new(vec![in alloc; 0u8; PAGE_SIZE as usize]?),
         })
-    }
-}
-
-impl Drop for Buffer {
-    fn drop(self) {
-        let Buffer { mut bytes } = self;
-        bytes.fill(0);
     }
 }
 
@@ -85,7 +79,8 @@ fn fill_page(word: &[u8], page: &mut PageBytes, buffer: &mut Buffer) -> bool
     true
 }
 
-/// The bytes of pages, by their numbers. Where they are dropped they are zeroed.
+/// The bytes of pages, by their numbers.
+#[derive(Drop)]
 pub struct Pages {
     pages: Vec<PageBytes>,
 }
@@ -108,7 +103,7 @@ impl Pages {
         }
     }
 
-    /// One more page, if a word is that of one. What is dropped else is zero.
+    /// One more page, if a word is that of one.
     fn add(&mut self, alloc: Global, word: &[u8], buffer: &mut Buffer) -> Result<bool, Memory>
         ensures spelled { IfOk result (λ valid. IsTrue valid → IsOneMore IsPage page_word word.now self.old self.new) }
         ensures refused { IfOk result (λ valid. valid ≡ false → LacksWhole IsPage page_word word.now) }
@@ -158,14 +153,5 @@ impl Pages {
     {
         let Pages { pages } = self;
         pages
-    }
-}
-
-impl Drop for Pages {
-    fn drop(self) {
-        let Pages { mut pages } = self;
-        for page in pages.iter_mut() {
-            page.scrub();
-        }
     }
 }

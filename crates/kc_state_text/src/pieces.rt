@@ -9,7 +9,7 @@ use kc_digests::Lanes;
 use kc_dump_text::write_dump;
 use kc_lines::push_bytes;
 use kc_state::dump;
-use kc_types::Memory;
+use kc_types::{Memory, SecretBytes};
 use std::alloc::Global;
 use std::marker::Model;
 use std::thread::Threads;
@@ -143,13 +143,6 @@ impl StatePieces {
     }
 }
 
-/// Forgets what stands in a piece, and zeroes all its memory.
-pub fn wipe_piece(piece: &mut Vec<u8>) {
-    let room = piece.capacity();
-    piece.clear();
-    piece.resize(room, 0).unwrap();
-}
-
 /// How much of a text is compared at once, in bytes.
 const PIECE: usize = 65_536;
 
@@ -198,6 +191,6 @@ pub fn is_state_text(
     let pieces = StatePieces::new(rt, alloc, core, lanes)?;
     let mut piece = Vec::with_capacity(alloc, PIECE)?;
     let same = is_rest(core, pieces, &mut piece, text);
-    wipe_piece(&mut piece);
+    let _zeroed = SecretBytes::new(piece);
     Ok(same)
 }

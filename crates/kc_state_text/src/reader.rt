@@ -81,8 +81,7 @@ fn unlawful_fault(why: Unlawful) -> StateFault
 }
 
 /// The core whose state's text this is, of at most 1,073,741,824 bytes. Memory is the only fault that says nothing of the
-/// text. The pages are hashed by several threads, of so many at
-/// once, and compared with their digests. What was read is wiped where it is refused.
+/// text. The pages are hashed by several threads, of so many at once, and compared with their digests.
 pub fn read_state(
     rt: &(impl Threads + Sync),
     alloc: Global,

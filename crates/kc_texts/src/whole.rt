@@ -5,7 +5,7 @@ ghost use Rattle.kc_texts.specs.Ends.{ReadFailed};
 ghost use Rattle.kc_types.specs.Limits.{byte_limit};
 
 use crate::{Failed, PIECE, Source};
-use kc_types::{BYTE_LIMIT, Memory};
+use kc_types::{BYTE_LIMIT, Memory, SecretBytes};
 use std::alloc::Global;
 use thiserror::Error;
 
@@ -50,32 +50,31 @@ pub fn read_whole<S: Source>(alloc: Global, source: &mut S) -> Result<Vec<u8>, R
     }
 }
 
-/// Puts bytes that begin with those of a text in its place: twice as many, at least 65,536 and one more than are awaited, and
-/// at most 65,536 more than are ever read. The old ones are zeroed. An `Err` leaves the text as it was.
-fn grow(alloc: Global, text: &mut Vec<u8>, awaited: usize) -> Result<(), Memory>
-    requires { length text.old.items ≤ byte_limit }
-    ensures kept { (n : ℕ) → n ≤ length text.old.items → take n text.new.items ≡ take n text.old.items }
-    ensures more { OnOk result (length text.old.items < length text.new.items) }
+/// Gives a text more room: twice its bytes, at least 65,536 and one more than are awaited, and at most 65,536 more than are
+/// ever read. An `Err` leaves the text as it was.
+fn grow(alloc: Global, text: &mut SecretBytes, awaited: usize) -> Result<(), Memory>
+    requires { length text.old ≤ byte_limit }
+    ensures kept { (n : ℕ) → n ≤ length text.old → take n text.new ≡ take n text.old }
+    ensures more { OnOk result (length text.old < length text.new) }
 {
-    let len = text.len();
     // (one more, so that the end is seen without another growth)
-    let room = (2 * len)
+    let room = (2 * text.as_slice().len())
         .max(PIECE)
         .max(awaited.saturating_add(1))
         .min(BYTE_LIMIT + PIECE);
-    let mut longer = Vec::with_capacity(alloc, room)?;
-    longer.extend_from_slice(text).unwrap();
-    longer.resize(room, 0).unwrap();
-    text.fill(0);
-    *text = longer;
+    *text = text.longer(alloc, room)?;
     Ok(())
 }
 
 /// Reads what a source has left into a text. After an `Err` there may be bytes of it anywhere in the text.
-fn read_into<S: Source>(alloc: Global, source: &mut S, text: &mut Vec<u8>) -> Result<(), ReadFault>
+fn read_into<S: Source>(
+    alloc: Global,
+    source: &mut S,
+    text: &mut SecretBytes,
+) -> Result<(), ReadFault>
     requires { S.failed source.old ≡ false }
-    ensures ok { OnOk result (Consumes (S.left source.old) (S.left source.new) text.new.items) }
-    ensures few { OnOk result (length text.new.items ≤ byte_limit) }
+    ensures ok { OnOk result (Consumes (S.left source.old) (S.left source.new) text.new) }
+    ensures few { OnOk result (length text.new ≤ byte_limit) }
     ensures ended { OnOk result (IsAtEnd (S.left source.new)) }
     ensures mark { OnOk result (S.failed source.new ≡ false) }
     ensures memory { result ≡ Err ReadFault.Memory → S.failed source.new ≡ false }
@@ -84,10 +83,10 @@ fn read_into<S: Source>(alloc: Global, source: &mut S, text: &mut Vec<u8>) -> Re
     let awaited = source.size_hint();
     let mut used = 0;
     loop {
-        if used == text.len() && grow(alloc, text, awaited).is_err() {
+        if used == text.as_slice().len() && grow(alloc, text, awaited).is_err() {
             return Err(ReadFault::Memory);
         }
-        let Ok(n) = source.read(&mut text[used..]) else {
+        let Ok(n) = source.read(&mut text.as_mut_slice()[used..]) else {
             return Err(ReadFault::Read);
         };
         if n == 0 {
@@ -101,24 +100,20 @@ fn read_into<S: Source>(alloc: Global, source: &mut S, text: &mut Vec<u8>) -> Re
     }
 }
 
-/// What `read_whole` does, for bytes that are a secret: they stand nowhere but in the answer, for all other memory that they
-/// came through is zeroed, and after an `Err` the whole of it.
-pub fn read_secret<S: Source>(alloc: Global, source: &mut S) -> Result<Vec<u8>, ReadFault>
+/// What `read_whole` does, for bytes that are a secret.
+pub fn read_secret<S: Source>(alloc: Global, source: &mut S) -> Result<SecretBytes, ReadFault>
     requires { S.failed source.old ≡ false }
-    ensures ok { IfOk result (λ all. Consumes (S.left source.old) (S.left source.new) all.items) }
-    ensures few { IfOk result (λ all. length all.items ≤ byte_limit) }
+    ensures ok { IfOk result (λ all. Consumes (S.left source.old) (S.left source.new) all) }
+    ensures few { IfOk result (λ all. length all ≤ byte_limit) }
     ensures ended { OnOk result (IsAtEnd (S.left source.new)) }
     ensures mark { OnOk result (S.failed source.new ≡ false) }
     // A read that failed is never reported as out of memory.
     ensures memory { result ≡ Err ReadFault.Memory → S.failed source.new ≡ false }
     ensures read { result ≡ Err ReadFault.Read → ReadFailed (S.failed source.new) (S.left source.old) (S.left source.new) }
 {
-    let mut text = Vec::new(alloc);
+    let mut text = SecretBytes::new(Vec::new(alloc));
     match read_into(alloc, source, &mut text) {
         Ok(()) => Ok(text),
-        Err(fault) => {
-            text.fill(0);
-            Err(fault)
-        }
+        Err(fault) => Err(fault),
     }
 }

@@ -18,5 +18,5 @@ short_size = SHORT_SIZE
 -- the bytes, wherever they stand and whether one value owns them or several
 abbrev pub owned_bytes : Owned → List ℕ
 owned_bytes (Short bytes) = bytes.items
-owned_bytes (Alone bytes) = bytes.items
-owned_bytes (Shared bytes) = bytes.value.items
+owned_bytes (Alone bytes) = bytes
+owned_bytes (Shared bytes) = bytes.value

@@ -5,3 +5,4 @@ pub mod Refusals
 pub mod Configuration
 pub mod ConfigFaults
 pub mod ReplyBytes
+pub mod Secret

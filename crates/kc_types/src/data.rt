@@ -3,7 +3,7 @@ ghost use Rattle.std.specs.Prelude.{◌≡◌, ℕ, ◌<◌, ◌≤◌, List, le
 ghost use Rattle.kc_types.specs.Limits.{page_size};
 ghost use Rattle.kc_types.specs.Bytes.{IsData, short_size};
 
-use crate::{Memory, PAGE_SIZE};
+use crate::{Memory, PAGE_SIZE, SecretBytes};
 use arrayvec::ArrayVec;
 use std::alloc::Global;
 use std::marker::Model;
@@ -16,12 +16,12 @@ pub const SHORT_SIZE: usize = 20;
 #[derive(Debug, Drop)]
 enum Owned {
     Short(ArrayVec<u8, SHORT_SIZE>),
-    Alone(Vec<u8>),
-    Shared(Arc<Vec<u8>>),
+    Alone(SecretBytes),
+    Shared(Arc<SecretBytes>),
 }
 
 /// One byte to a whole page of 4,096 bytes, seen as the list of them. Two are equal where their bytes are. Up to 20 bytes
-/// stand in the value itself, and then it takes no memory.
+/// stand in the value itself, and then it takes no memory; the memory of more is zeroed before it goes.
 #[derive(Debug, Drop)]
 pub struct Data {
     bytes: Owned,
@@ -48,7 +48,7 @@ impl Data {
             None
         } else {
             Some(Data {
-                bytes: Owned::Alone(bytes),
+                bytes: Owned::Alone(SecretBytes::new(bytes)),
             })
         }
     }
@@ -83,7 +83,7 @@ impl Data {
     {
         let bytes = match &self.bytes {
             Owned::Short(bytes) => return Ok(Data::short(bytes.as_slice())),
-            Owned::Alone(bytes) => Owned::Alone(bytes.clone()?),
+            Owned::Alone(bytes) => Owned::Alone(bytes.copy()?),
             Owned::Shared(bytes) => Owned::Shared(Arc::try_clone(bytes)?),
         };
         Ok(Data { bytes })

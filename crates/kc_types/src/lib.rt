@@ -14,6 +14,7 @@ mod refusal;
 mod reply;
 mod reply_buffer;
 mod resource;
+mod secret;
 mod slot;
 mod version;
 
@@ -37,5 +38,6 @@ pub use refusal::Refusal;
 pub use reply::Reply;
 pub use reply_buffer::ReplyBuffer;
 pub use resource::Resource;
+pub use secret::SecretBytes;
 pub use slot::{Image, Phase, Vcpu};
 pub use version::Version;

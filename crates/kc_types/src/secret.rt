@@ -1,0 +1,101 @@
+//! Bytes whose memory is zeroed before it goes.
+ghost use Rattle.std.specs.Prelude.{◌≡◌, ℕ, ◌-◌, ◌≤◌, ◌++◌, [], All, length, take, replicate, IfOk, vec_len, vec_capacity};
+ghost use Rattle.std.specs.Borrow.{sem};
+ghost use Rattle.kc_types.specs.Secret.{LendsBytes};
+
+use crate::Memory;
+use std::alloc::Global;
+use std::marker::Model;
+
+/// Bytes that nobody is to find in memory later, seen as the list of them. Whoever lets them go, all their memory is
+/// zeroed first. They never grow in place: more room is other memory, and the old is let go.
+#[derive(Debug)]
+pub struct SecretBytes {
+    bytes: Vec<u8>,
+}
+
+impl Model for SecretBytes {
+    ghost use Rattle.std.specs.Prelude.{ℕ, List};
+
+    ghost Value = { List ℕ };
+
+    ghost view = { λ s. s.bytes.items };
+}
+
+/// Zeroes all memory of these bytes.
+fn zero_all(bytes: &mut Vec<u8>)
+    ensures zero { All (λ b. b ≡ 0) bytes.new.items }
+    ensures whole { vec_capacity bytes.old ≤ vec_len bytes.new }
+{
+    bytes.fill(0);
+    let room = bytes.capacity();
+    if bytes.len() < room {
+        bytes.resize(room, 0).unwrap();
+    }
+}
+
+/// The only end of these bytes: each is zero.
+fn let_go(bytes: Vec<u8>)
+    requires { All (λ b. b ≡ 0) bytes.items }
+{}
+
+impl Drop for SecretBytes {
+    fn drop(self) {
+        let SecretBytes { mut bytes } = self;
+        zero_all(&mut bytes);
+        let_go(bytes);
+    }
+}
+
+impl SecretBytes {
+    /// The bytes handed over.
+    pub fn new(bytes: Vec<u8>) -> SecretBytes
+        ensures { result ≡ bytes.items }
+    {
+        SecretBytes { bytes }
+    }
+
+    /// The bytes.
+    pub fn as_slice(&self) -> &[u8]
+        ensures { result.now ≡ self.now }
+    {
+        self.bytes.as_slice()
+    }
+
+    /// The bytes, to be changed.
+    pub fn as_mut_slice(&mut self) -> &mut [u8]
+        ensures* writes_back { sem 𝓛 (LendsBytes self.entry result) }
+        ensures value { result.now ≡ self.old }
+    {
+        self.bytes.as_mut_slice()
+    }
+
+    /// An equal value; `Memory` where a growth was refused.
+    pub fn copy(&self) -> Result<SecretBytes, Memory>
+        // No clause can rule out that memory runs out: a test makes a copy.
+        ensures { IfOk result (λ made. made ≡ self.now) }
+    {
+        Ok(SecretBytes {
+            bytes: self.bytes.clone()?,
+        })
+    }
+
+    /// The same bytes in other memory, with zeros behind them, `len` in all; `Memory` where that memory was refused.
+    pub fn longer(&self, alloc: Global, len: usize) -> Result<SecretBytes, Memory>
+        requires { length self.now ≤ len }
+        // No clause can rule out that memory runs out: tests read texts.
+        ensures { IfOk result (λ made. made ≡ self.now ++ replicate (len - length self.now) 0) }
+    {
+        let mut bytes = Vec::with_capacity(alloc, len)?;
+        bytes.extend_from_slice(&self.bytes).unwrap();
+        bytes.resize(len, 0).unwrap();
+        Ok(SecretBytes { bytes })
+    }
+
+    /// Keeps the first `len` bytes, or all if there are fewer.
+    pub fn truncate(&mut self, len: usize)
+        ensures { self.new ≡ take len self.old }
+    {
+        self.bytes.truncate(len);
+    }
+}
