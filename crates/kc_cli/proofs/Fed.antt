@@ -1,19 +1,26 @@
 -- Calls that are fed after others.
-use Rattle.std.proofs.Common.{◌≡◌, ◌++◌, ◌∙◌, ℕ, List, [], Option, Some, None, refl, ap, sym, arith, length-append}
+use Rattle.std.proofs.Common.{◌≡◌, ◌++◌, ◌∙◌, ℕ, Bool, true, false, List, [], Option, Some, None, refl, ap, subst, sym, arith, length-append}
 use Rattle.std.specs.Prelude.{IsSome, IfSome}
 use Rattle.kc_types.specs.declared.call.Call.{Call}
 use Rattle.kc_types.specs.declared.reply.Reply.{Reply}
 use Rattle.kc_model.specs.State.{State}
 use Rattle.kc_model.specs.Lawful.{IsLawful}
-use Rattle.kc_model.proofs.Safe.Safe.{safe}
+use Rattle.kc_model.proofs.Lawful.LawfulTraces.{lawful-after}
+use Rattle.kc_model.proofs.Promises.{promises_kept}
+use Rattle.kc_model.proofs.Redaction.Blank.{audited_blank}
+use Rattle.kc_state.proofs.Drawn.{sound-drawn}
 use Rattle.kc_trace.specs.Trace.{IsTrace}
-use Rattle.kc_cli.specs.Engine.{IsReplayed}
+use Rattle.kc_cli.specs.Engine.{IsReplayed, left_as}
 use Rattle.kc_model.specs.Next.{replies_from, state_after}
 use Rattle.kc_model.proofs.States.Runs.{replies_from-append, state_after-append}
 use Rattle.kc_replay.specs.Replayer.{Replaying, IsFed}
 
 some_is : {X : Type 0} (x y : X) → Some x ≡ Some y → x ≡ y
 some_is x y e = cc
+
+lawful-left : (blank : Bool) (m : State) → IsLawful m → IsLawful (left_as blank m)
+lawful-left true m is = (audited_blank m [] is).lawful
+lawful-left false m is = is
 
 -- nothing is fed
 pub fed_none : (r : Replaying) → IsSome r.state → IsFed r r [] []
@@ -48,10 +55,12 @@ replayed None start a b given core is from to h = tt
 replayed (Some text) start a b given core is from to h =
     let fed = h.2 in
     let same : fed.start ≡ start = some_is fed.start start (sym fed.from ∙ from) in
+    let left : core ≡ state_after start h.0 = some_is core (state_after start h.0) (sym to ∙ fed.state ∙ ap (λ (m : State). Some (state_after m h.0)) same) in
     record {
       calls = h.0;
       traced = h.1;
       given = fed.given ∙ ap (λ (m : State). replies_from m h.0) same;
-      left = some_is core (state_after start h.0) (sym to ∙ fed.state ∙ ap (λ (m : State). Some (state_after m h.0)) same);
-      safe = safe start h.0 is;
+      left = left;
+      promises = promises_kept start h.0 is;
+      sound = λ blank. sound-drawn (left_as blank core) (lawful-left blank core (subst IsLawful (sym left) (lawful-after start h.0 is)));
     }

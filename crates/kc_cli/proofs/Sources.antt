@@ -1,7 +1,7 @@
 -- What is told of two sources where there is a third.
-use Rattle.std.proofs.Common.{◌≡◌, true, false, [], ◌∷◌, Result, Ok, Err, inl, inr}
+use Rattle.std.proofs.Common.{◌≡◌, Bool, true, false, [], ◌∷◌, Result, Ok, Err, inl, inr}
 use Rattle.kc_texts.specs.Ends.{ReadFailed}
-use Rattle.kc_texts.specs.Outcomes.{Seen, HasFailedRead, HasFailed, TellsSources}
+use Rattle.kc_texts.specs.Outcomes.{Seen, HasFailedRead, HasFailed, TellsSources, TellsSink}
 use Rattle.kc_texts.specs.declared.fault.TextFault.{TextFault}
 use Rattle.kc_texts.specs.declared.fault.TextFault.TheVariants as texts
 
@@ -29,3 +29,14 @@ sources_last {A} {B} start trace last x f h read bad = record { ended = tt; read
     by_source (inr (inl is)) = let e = h.failed (inr (inl is)) in absurd cc
     by_source (inr (inr (inl is))) = let same = bad is in cc
     by_source (inr (inr (inr never))) = absurd never
+
+-- a fault of giving, of an engine that answers more; the sink took a beginning of what stands for more
+pub sink_err : {A B : Type 0} (failed : Bool) (begun more untouched : Type 0) (f : TextFault) → (begun → more) → TellsSink {A = A} failed begun untouched (Err f) → TellsSink {A = B} failed more untouched (Err f)
+sink_err failed begun more untouched f step h = record {
+  write = λ e. (let one = h.write (let same : f ≡ texts.Write = cc in cc) in (one.0, step one.1));
+  failed_is = λ bad. (let e = h.failed_is bad in let same : f ≡ texts.Write = cc in cc);
+  kept = elim h.kept [
+    | inl same ↦ inl same
+    | inr e ↦ inr (let same : f ≡ texts.Write = cc in cc)
+  ];
+}

@@ -17,10 +17,12 @@ use Rattle.kc_model.specs.Lawful.{IsLawful}
 use Rattle.kc_model.specs.Next.{state_after}
 use Rattle.kc_model.specs.Custody.{first_line}
 use Rattle.kc_model.specs.Events.{events, events_from, changes_in}
-use Rattle.kc_model.proofs.Safe.Safe.{safe}
+use Rattle.kc_model.proofs.Promises.{promises_kept}
+use Rattle.kc_model.proofs.Blind.Told.{custody_is_blind}
 use Rattle.kc_model.proofs.Custody.Events.{events-append, changes-of-events, flat-changes}
 use Rattle.kc_model.proofs.Custody.Bars.{bars_are}
 use Rattle.kc_model.proofs.Custody.Laws.{custody_is}
+use Rattle.kc_model.proofs.Summaries.Summed.{summaries_are}
 use Rattle.kc_model.proofs.States.Runs.{state_after-append}
 use Rattle.kc_trace.specs.CustodyText.{change_line, event_line, header_line, end_line, custody_text_of}
 use Rattle.kc_texts.specs.declared.fault.TextFault.{TextFault}
@@ -50,8 +52,10 @@ is_told source m told count is h = record {
   few = h.few;
   exact = h.exact;
   changes = ap changes_in h.exact ∙ changes-of-events m h.calls;
-  safe = safe m h.calls is;
+  promises = promises_kept m h.calls is;
   laws = custody_is m h.calls is;
+  blind = custody_is_blind m h.calls is;
+  summaries = summaries_are m h.calls is;
   bars = bars_are m h.calls is;
 }
 

@@ -5,11 +5,13 @@ use Rattle.kc_types.specs.Configuration.{Configuration, slot_count}
 use Rattle.kc_types.specs.declared.call.Call.{Call}
 use Rattle.kc_types.specs.declared.custody.Event.{Event}
 use Rattle.kc_model.specs.State.{State}
-use Rattle.kc_model.specs.Safety.{IsSafe}
+use Rattle.kc_model.specs.Promises.{KeepsPromises}
 use Rattle.kc_model.specs.Custody.{custody}
 use Rattle.kc_model.specs.CustodyLaws.{IsCustody}
+use Rattle.kc_model.specs.CustodyBlind.{CustodyIsBlind}
 use Rattle.kc_model.specs.Events.{events, changes_in}
 use Rattle.kc_model.specs.Lives.{lives, selected_lives}
+use Rattle.kc_model.specs.Summaries.{AreSummaries}
 use Rattle.kc_model.specs.Bars.{AreBars}
 use Rattle.kc_custody.specs.Selected.{selected}
 use Rattle.kc_trace.specs.Trace.{IsTrace}
@@ -31,7 +33,7 @@ pub record AreEventsOf (m : State) (source : Option (List ℕ)) (count : ℕ) (t
   pub few : length calls ≤ call_limit
   pub exact : told ≡ events m calls
 
--- the same of a lawful state: the changes among them are the custody of the calls, and what every trace keeps holds of these, and what their custody and its bars say
+-- the same of a lawful state: the changes among them are the custody of the calls, they keep the promises, and what their custody, its lives and its bars say holds
 pub record IsCustodyTold (m : State) (source : Option (List ℕ)) (count : ℕ) (told : List Event) : Type 0 where
   pub calls : List Call
   pub traced : IfSome source (λ text. IsTrace text calls)
@@ -39,8 +41,10 @@ pub record IsCustodyTold (m : State) (source : Option (List ℕ)) (count : ℕ) 
   pub few : length calls ≤ call_limit
   pub exact : told ≡ events m calls
   pub changes : changes_in told ≡ custody m calls
-  pub safe : IsSafe m calls
+  pub promises : KeepsPromises m calls
   pub laws : IsCustody m calls
+  pub blind : CustodyIsBlind m calls
+  pub summaries : AreSummaries m calls
   pub bars : AreBars m calls
 
 -- the text is that of the changes of all frames and slots, or of one slot's VM; that of the lives of all VMs, or of one slot's; or a picture, of whose bytes nothing is said

@@ -6,7 +6,7 @@ use Rattle.kc_types.specs.declared.call.Call.{Call}
 use Rattle.kc_live.specs.declared.stop.LiveCause.{LiveCause}
 use Rattle.kc_live.specs.declared.stop.LiveCause.TheVariants as causes
 use Rattle.kc_model.specs.Boot.{boot}
-use Rattle.kc_model.specs.Safety.{IsSafe}
+use Rattle.kc_model.specs.Promises.{KeepsPromises}
 use Rattle.kc_live.specs.Cuts.{KeepsOrders, MayRun, StopsTrace}
 use Rattle.kc_dump_text.specs.declared.fault.DumpFault.{DumpFault}
 use Rattle.kc_state_text.specs.declared.fault.StateFault.{StateFault}
@@ -18,9 +18,9 @@ use Rattle.kc_texts.specs.Reading.{AreRead}
 use Rattle.kc_texts.specs.declared.fault.TextFault.{TextFault}
 use Rattle.kc_texts.specs.declared.fault.TextFault.TheVariants as texts
 
--- the text is the trace of these calls in an order in which each actor's calls keep theirs, and what every trace keeps holds of them in that order
+-- the text is the trace of these calls in an order in which each actor's calls keep theirs, and they keep the promises in that order
 abbrev pub IsRearranged : Configuration → List Call → List ℕ → Type 0
-IsRearranged config calls text = (made : List Call) × KeepsOrders made calls × IsSafe (boot config) made × (text ≡ trace_of made)
+IsRearranged config calls text = (made : List Call) × KeepsOrders made calls × KeepsPromises (boot config) made × (text ≡ trace_of made)
 
 -- both texts were read, where the sources tell them, and the trace may run
 abbrev pub CouldRun : Option (List ℕ) → Option (List ℕ) → Type 0

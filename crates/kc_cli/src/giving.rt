@@ -15,9 +15,9 @@ use kc_digests::Lanes;
 use kc_dump_text::write_dump;
 use kc_replay::Outcome;
 use kc_state::dump;
-use kc_state_text::{StatePieces, wipe_piece};
+use kc_state_text::StatePieces;
 use kc_texts::{Failed, Sink, TextFault, empty_piece, give_replies, write_whole};
-use kc_types::{Memory, Reply};
+use kc_types::{Memory, Reply, SecretBytes};
 use std::alloc::Global;
 use std::thread::Threads;
 
@@ -117,7 +117,7 @@ fn give_state<K: Sink>(
         return Err(TextFault::Memory);
     };
     let given = give_pieces(core, pieces, &mut piece, out);
-    wipe_piece(&mut piece);
+    let _zeroed = SecretBytes::new(piece);
     match given {
         Ok(()) => Ok(()),
         Err(_) => Err(TextFault::Write),

@@ -3,7 +3,7 @@ ghost use Rattle.std.specs.Prelude.{◌≡◌, ◌≢◌, ◌<◌, ◌≤◌, �
 ghost use Rattle.std.specs.Io.KnownBytes.{Appends};
 ghost use Rattle.kc_types.specs.Limits.{call_limit, worker_limit};
 ghost use Rattle.kc_model.specs.Boot.{boot};
-ghost use Rattle.kc_model.specs.Safety.{IsSafe};
+ghost use Rattle.kc_model.specs.Promises.{KeepsPromises};
 ghost use Rattle.kc_live.specs.Cuts.{KeepsOrders, MayRun};
 ghost use Rattle.kc_live.specs.Book.{IsMadeFrom, calls_of, volume_in};
 ghost use Rattle.kc_trace.specs.Spelling.{trace_of};
@@ -126,7 +126,7 @@ fn made_live<G: Gate + Sync, R: Threads + Wait + Sync>(
 ) -> Result<Vec<Call>, TextFault>
     requires { (0 < workers) × (workers ≤ worker_limit) }
     ensures sound { OnOk result (MayRun config calls.items) }
-    ensures made { IfOk result (λ made. KeepsOrders made.items calls.items × IsSafe (boot config) made.items) }
+    ensures made { IfOk result (λ made. KeepsOrders made.items calls.items × KeepsPromises (boot config) made.items) }
     ensures fault { IfErr result (IsLiveFault config calls.items) }
 {
     let Ok(kept) = config.copy() else {

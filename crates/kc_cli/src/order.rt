@@ -20,6 +20,8 @@ pub struct ReplayOrder {
     pub origin: Origin,
     /// What is written.
     pub form: ReplayForm,
+    /// Whether the pages of active VMs are zeroed once the trace is replayed, in what is written and compared of the core.
+    pub is_blank: bool,
     /// How many workers may make the calls, 1 to 64.
     pub workers: u32,
     /// How many pages are hashed at once.

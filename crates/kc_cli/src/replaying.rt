@@ -9,7 +9,7 @@ ghost use Rattle.kc_texts.specs.Ends.{ReadFailed};
 ghost use Rattle.kc_texts.specs.Reading.{Writes, Begins};
 ghost use Rattle.kc_texts.specs.Outcomes.{seen, TellsSources, TellsTexts, TellsReplay, TellsSink};
 ghost use Rattle.kc_replay.specs.Replayer.{IsFed};
-ghost use Rattle.kc_cli.specs.Engine.{AreReplayed, IsReplayFault, IsReplayText, IsLeftText};
+ghost use Rattle.kc_cli.specs.Engine.{AreReplayed, IsReplayFault, IsReplayText, IsLeftText, left_as};
 
 use crate::giving::give_outcome;
 use crate::order::ReplayOrder;
@@ -111,6 +111,17 @@ fn replay_texts<C: Source, T: Source, R: Threads + Wait + Sync>(
     }
 }
 
+/// The outcome, with the pages of active VMs zeroed if that is asked for.
+fn left_as(outcome: Outcome, is_blank: bool) -> Outcome
+    ensures { result ≡ record outcome { core = left_as is_blank outcome.core } }
+{
+    let mut outcome = outcome;
+    if is_blank {
+        outcome.core.blank();
+    }
+    outcome
+}
+
 /// Reads what the calls begin with and a trace, each to its end, has 1 to 64 workers make the trace's calls as they are read,
 /// and writes what is wanted: the reply text, the dump of the core that the trace leaves, or the text of its state. The number
 /// of workers is judged before anything is read.
@@ -131,17 +142,17 @@ pub fn replay_text<C: Source, T: Source, K: Sink, R: Threads + Wait + Sync>(
     requires out { K.failed out.old ≡ false }
 
     // What is written is the text wanted for what the sources held.
-    ensures ok { OnOk result (Writes (IsReplayText order.origin order.form) (C.left start.old) (T.left trace.old) (K.taken out.old) (K.taken out.new)) }
+    ensures ok { OnOk result (Writes (IsReplayText order.origin order.form order.is_blank) (C.left start.old) (T.left trace.old) (K.taken out.old) (K.taken out.new)) }
     ensures sources { TellsSources (seen (C.failed start.new) (C.left start.old) (C.left start.new) ∷ seen (T.failed trace.new) (T.left trace.old) (T.left trace.new) ∷ []) result }
     ensures texts { TellsTexts order.origin (seen (C.failed start.new) (C.left start.old) (C.left start.new)) (seen (T.failed trace.new) (T.left trace.old) (T.left trace.new)) (trace.new ≡ trace.old) result }
     ensures replay { TellsReplay order.workers order.origin (C.left start.old) result }
-    ensures sink { TellsSink (K.failed out.new) (Begins (IsReplayText order.origin order.form) (C.left start.old) (T.left trace.old) (K.taken out.old) (K.taken out.new)) (out.new ≡ out.old) result }
+    ensures sink { TellsSink (K.failed out.new) (Begins (IsReplayText order.origin order.form order.is_blank) (C.left start.old) (T.left trace.old) (K.taken out.old) (K.taken out.new)) (out.new ≡ out.old) result }
 {
     let outcome = replay_texts(rt, alloc, start, trace, order)?;
-    give_outcome(rt, alloc, outcome, order, out)
+    give_outcome(rt, alloc, left_as(outcome, order.is_blank), order, out)
 }
 
-/// Whether what a source has left is the text of a core's state. The text's memory is wiped.
+/// Whether what a source has left is the text of a core's state.
 fn is_left<S: Source>(
     rt: &(impl Threads + Sync),
     alloc: Global,
@@ -156,10 +167,8 @@ fn is_left<S: Source>(
     ensures source { S.failed to.new ≡ true → result ≡ Err TextFault.Read }
     ensures fault { IfErr result (λ fault. (fault ≡ TextFault.Memory) ⊎ (fault ≡ TextFault.Read)) }
 {
-    let mut text = read_secret(alloc, to)?;
-    let same = is_state_text(rt, alloc, core, &text, lanes);
-    text.fill(0);
-    match same {
+    let text = read_secret(alloc, to)?;
+    match is_state_text(rt, alloc, core, text.as_slice(), lanes) {
         Ok(same) => Ok(same),
         Err(_) => Err(TextFault::Memory),
     }
@@ -182,14 +191,15 @@ pub fn replay_to_text<C: Source, T: Source, S: Source, K: Sink, R: Threads + Wai
     requires out { K.failed out.old ≡ false }
 
     // What is written is the text wanted for what the sources held, and what is answered is of the third one.
-    ensures ok { OnOk result (Writes (IsReplayText order.origin order.form) (C.left start.old) (T.left trace.old) (K.taken out.old) (K.taken out.new)) }
-    ensures same { IfOk result (IsLeftText order.origin (C.left start.old) (T.left trace.old) (S.left to.old)) }
+    ensures ok { OnOk result (Writes (IsReplayText order.origin order.form order.is_blank) (C.left start.old) (T.left trace.old) (K.taken out.old) (K.taken out.new)) }
+    ensures same { IfOk result (IsLeftText order.origin order.is_blank (C.left start.old) (T.left trace.old) (S.left to.old)) }
     ensures sources { TellsSources (seen (C.failed start.new) (C.left start.old) (C.left start.new) ∷ seen (T.failed trace.new) (T.left trace.old) (T.left trace.new) ∷ seen (S.failed to.new) (S.left to.old) (S.left to.new) ∷ []) result }
     ensures texts { TellsTexts order.origin (seen (C.failed start.new) (C.left start.old) (C.left start.new)) (seen (T.failed trace.new) (T.left trace.old) (T.left trace.new)) (trace.new ≡ trace.old) result }
     ensures replay { TellsReplay order.workers order.origin (C.left start.old) result }
-    ensures sink { TellsSink (K.failed out.new) (Begins (IsReplayText order.origin order.form) (C.left start.old) (T.left trace.old) (K.taken out.old) (K.taken out.new)) (out.new ≡ out.old) result }
+    ensures sink { TellsSink (K.failed out.new) (Begins (IsReplayText order.origin order.form order.is_blank) (C.left start.old) (T.left trace.old) (K.taken out.old) (K.taken out.new)) (out.new ≡ out.old) result }
 {
     let outcome = replay_texts(rt, alloc, start, trace, order)?;
+    let outcome = left_as(outcome, order.is_blank);
     let same = match is_left(rt, alloc, &outcome.core, to, order.lanes) {
         Ok(same) => same,
         Err(fault) => {

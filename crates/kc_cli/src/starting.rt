@@ -57,7 +57,7 @@ fn core_in(
     Ok(core)
 }
 
-/// Reads the text of a state to its end: the core in that state. The text's memory is wiped.
+/// Reads the text of a state to its end: the core in that state.
 fn read_core<C: Source>(
     rt: &(impl Threads + Sync),
     alloc: Global,
@@ -75,10 +75,8 @@ fn read_core<C: Source>(
     ensures fault { IfErr result IsStartFault }
     ensures config { (fault : ConfigTextFault) → result ≡ Err (TextFault.Config fault) → ⊥ }
 {
-    let mut text = read_secret(alloc, start)?;
-    let core = core_in(rt, alloc, &text, lanes);
-    text.fill(0);
-    core
+    let text = read_secret(alloc, start)?;
+    core_in(rt, alloc, text.as_slice(), lanes)
 }
 
 /// Reads what the calls begin with to its end: the core in the boot state of a configuration, or in the state that a text

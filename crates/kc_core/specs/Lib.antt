@@ -3,5 +3,6 @@ pub mod Verifying
 pub mod Guests
 pub mod Hands
 pub mod KCore
+pub mod Blanking
 pub mod Runs
 pub mod Locality

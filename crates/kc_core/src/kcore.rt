@@ -1,5 +1,5 @@
 //! The core, seen as a state that is lawful after every call.
-ghost use Rattle.std.specs.Prelude.{◌≡◌, ◌+◌, ◌<◌, ◌≤◌, map, IsSome, IfSome, ◌↔◌, IfOk, IfErr, IsErr, OnOk, OnErr, None, true};
+ghost use Rattle.std.specs.Prelude.{◌≡◌, ◌+◌, ◌<◌, ◌≤◌, map, IsSome, IfSome, ◌↔◌, IfOk, IfErr, IsErr, OnOk, OnErr, None, true, false, ℕ, slice_index_or};
 ghost use Rattle.kc_types.specs.ReplyBytes.{is_data, most_reply_bytes};
 ghost use Rattle.kc_types.specs.declared.call.Call.TheVariants.{Verify};
 ghost use Rattle.kc_model.specs.Boot.{boot};
@@ -7,7 +7,7 @@ ghost use Rattle.kc_model.specs.Next.{next, replies_from, state_after};
 ghost use Rattle.kc_model.specs.Custody.{images_by};
 ghost use Rattle.kc_model.specs.Lawful.{IsLawful};
 ghost use Rattle.kc_core.specs.Runs.{StopsAfter};
-ghost use Rattle.kc_model.specs.Safety.{IsSafe};
+ghost use Rattle.kc_model.specs.Promises.{KeepsPromises};
 ghost use Rattle.kc_model.specs.Blind.{ShowsNothing};
 ghost use Rattle.kc_types.specs.Configuration.{slot_count};
 ghost use Rattle.kc_types.specs.Limits.{vcpu_limit, gfn_limit};
@@ -16,10 +16,13 @@ ghost use Rattle.kc_model.specs.State.{frame_at, slot_at, vcpu_at, mapped_at};
 ghost use Rattle.kc_model.specs.Links.{frames_of};
 ghost use Rattle.kc_model.specs.Linked.{ends_of};
 ghost use Rattle.kc_model.specs.Wiped.{wiped};
+ghost use Rattle.kc_model.specs.Blanking.{blank_state};
+ghost use Rattle.kc_model.specs.Refusals.{is_active};
 ghost use Rattle.kc_page.specs.Page.{frame_of, IsRecordOf};
 ghost use Rattle.kc_parts.specs.States.{state_of, unlinked_slot};
 ghost use Rattle.kc_core.specs.KCore.{IsCore, frames_to_hash};
 
+use crate::blanking::{Marks, blank_each};
 use crate::dispatch::{answer, apply};
 use crate::look_ups::{frames_of, page_record};
 use crate::verify::{Verified, booted_slot, verify};
@@ -143,7 +146,7 @@ impl KCore {
 
     /// Answers a trace, call by call, and gives the replies in order.
     pub fn run(&mut self, alloc: Global, calls: &[Call]) -> Result<Vec<Reply>, RunStop>
-        ensures safe { IsSafe self.old calls.now }
+        ensures promises { KeepsPromises self.old calls.now }
         ensures blind { IfOk result (λ replies. ShowsNothing self.old calls.now replies.items self.new) }
         ensures replies { IfOk result (λ replies. replies.items ≡ replies_from self.old calls.now) }
         ensures state { OnOk result (self.new ≡ state_after self.old calls.now) }
@@ -315,6 +318,37 @@ impl KCore {
         ensures { map frame_of result.now ≡ self.now.frames }
     {
         self.parts.pages()
+    }
+
+    /// Whether the VM in a slot is active; not in a slot that does not exist.
+    fn is_active(&self, vm: u32) -> bool
+        ensures value { result ≡ is_active (slot_at self.now vm).phase }
+        ensures lawful { IsLawful self.now }
+    {
+        match self.try_slot(vm) {
+            Some(slot) => matches!(slot.phase(), Phase::Active),
+            None => false,
+        }
+    }
+
+    /// A mark for each slot whose VM is active.
+    fn active_slots(&self) -> Marks
+        ensures { (v : ℕ) → slice_index_or result v false ≡ is_active (slot_at self.now v).phase }
+    {
+        let mut marks = [false; 64];
+        'slots: for vm in 0..64 {
+            marks[vm] = self.is_active(vm as u32);
+        }
+        marks
+    }
+
+    /// Zeroes the pages of active VMs, and changes nothing else: what is left shows nothing of what they wrote there, and
+    /// leads to the same custody (law `blanking`).
+    pub fn blank(&mut self)
+        ensures { self.new ≡ blank_state self.old }
+    {
+        let active = self.active_slots();
+        blank_each(self.parts.pages_mut(), &active);
     }
 
     /// Zeroes all bytes, by several threads, and changes nothing else. It is never refused: where no thread can be

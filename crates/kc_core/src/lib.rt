@@ -1,6 +1,7 @@
 //! One call on the parts that it needs; the core, which is all parts on one thread; and the gate round each call.
 #![tactic(auto)]
 
+mod blanking;
 mod dispatch;
 mod freeing;
 mod gate;

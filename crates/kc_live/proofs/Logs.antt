@@ -12,7 +12,7 @@ use Rattle.kc_model.specs.Lawful.{IsLawful}
 use Rattle.kc_model.proofs.Lawful.LawfulTraces.{lawful-after}
 use Rattle.kc_model.proofs.States.Sizes.{config-after}
 use Rattle.kc_model.proofs.States.Runs.{replies_from-append, state_after-append}
-use Rattle.kc_model.proofs.Safe.Safe.{safe}
+use Rattle.kc_model.proofs.Promises.{promises_kept}
 use Rattle.kc_model.proofs.Refusals.ReplyBytes.{bytes-next}
 use Rattle.kc_live.specs.declared.receipt.Entry.{Entry}
 use Rattle.kc_live.specs.Book.{Log, IsMadeFrom, MayStart, IsKept, IsWholeFrom, calls_of, entry, log, longer, new_log, next_volume, reply_to, volume_in}
@@ -35,7 +35,7 @@ kept_more l call kept fits =
           replies =
               map-append (λ (e : Entry). e.reply) l.entries one
               ∙ rw (calls, replies_from-append start (calls_of l.entries) (call ∷ []), kept.legal.made.replies, kept.ends) refl;
-          safe = safe start _ kept.legal.may.lawful;
+          promises = promises_kept start _ kept.legal.may.lawful;
         };
       };
       ends = rw (calls, state_after-append start (calls_of l.entries) (call ∷ []), kept.ends) refl;
@@ -45,7 +45,7 @@ kept_more l call kept fits =
 -- where a volume begins that has no calls yet
 begun : (number : ℕ) (start : State) → MayStart number start → IsKept (log number [] start)
 begun number start may = record {
-  legal = record { start = start; may = may; made = record { replies = refl; safe = safe start [] may.lawful } };
+  legal = record { start = start; may = may; made = record { replies = refl; promises = promises_kept start [] may.lawful } };
   ends = refl;
   short = omega arith;
 }

@@ -7,7 +7,7 @@ use Rattle.kc_types.specs.declared.reply.Reply.{Reply}
 use Rattle.kc_model.specs.State.{State}
 use Rattle.kc_model.specs.Boot.{boot}
 use Rattle.kc_model.specs.Lawful.{IsLawful}
-use Rattle.kc_model.specs.Safety.{IsSafe}
+use Rattle.kc_model.specs.Promises.{KeepsPromises}
 use Rattle.kc_model.specs.Next.{next, state_after}
 use Rattle.kc_model.specs.Histories.{IsLegalHistory}
 use Rattle.kc_live.specs.declared.receipt.Entry.{Entry}
@@ -36,10 +36,10 @@ calls_of entries = map (λ e. e.call) entries
 abbrev pub replies_of : List Entry → List Reply
 replies_of entries = map (λ e. e.reply) entries
 
--- one thread that makes the volume's calls from this state on gets its replies, and what every trace keeps holds of them
+-- one thread that makes the volume's calls from this state on gets its replies, and they keep the promises
 pub record IsMadeFrom (start : State) (v : VolumeView) : Type 0 where
   pub replies : IsLegalHistory start (calls_of v.entries) (replies_of v.entries)
-  pub safe : IsSafe start (calls_of v.entries)
+  pub promises : KeepsPromises start (calls_of v.entries)
 
 -- a volume of this number may start here: the first one in a configuration's boot state, and a later one in a state that some calls leave of one; that these are the calls of the volumes before it is `next_volume`'s to say
 pub record MayStart (number : ℕ) (start : State) : Type 0 where

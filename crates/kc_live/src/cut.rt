@@ -115,8 +115,8 @@ pub fn run_trace<G: Gate + Sync, R: Threads + Wait + Sync>(
     ensures history { IfErr result (λ stop. FitsHistory stop.cause (is_some stop.history)) }
     ensures left { IfErr result (λ stop. IfSome stop.history (IsLeftOf config calls.items stop.is_settled)) }
 
-    // One thread could have made the history from the boot state of the configuration on, what every trace keeps holds of
-    // it, and it has each actor's calls in order.
+    // One thread could have made the history from the boot state of the configuration on, it keeps the promises, and it
+    // has each actor's calls in order.
     ensures whole { IfOk result (IsWholeFrom config) }
     ensures order { IfOk result (λ history. KeepsOrders (calls_of history.entries) calls.items) }
 {

@@ -30,7 +30,7 @@ impl LiveCore {
     }
 
     /// Makes one call from a seat, which gains its receipt; it may wait for the lock, before which all is made that
-    /// the call takes of memory. The first fault that applies is answered: `NotYours`, `Memory`, `HistoryFull`.
+    /// the call cannot do without of memory. The first fault that applies is answered: `NotYours`, `Memory`, `HistoryFull`.
     /// Seat and history are then unchanged.
     pub fn call<R: Wait>(&self, rt: &R, seat: &mut Seat, call: Call) -> Result<(), LiveFault>
         ensures gains { OnOk result (GainsReceipt seat.old seat.new call) }

@@ -141,8 +141,8 @@ pub fn run_live<G: Gate + Sync, R: Threads + Wait + Sync>(
     ensures history { IfErr result (λ stop. FitsHistory stop.cause (is_some stop.history)) }
     ensures left { IfErr result (λ stop. IfSome stop.history (IsLeftHistory config programs.items stop.is_settled)) }
 
-    // One thread could have made the history from the boot state of the configuration on, what every trace keeps holds of
-    // it, and the receipts are just those of it.
+    // One thread could have made the history from the boot state of the configuration on, it keeps the promises, and the
+    // receipts are just those of it.
     ensures whole { IfOk result (λ r. IsWholeFrom config r.0) }
     ensures settled { IfOk result (λ r. IsSettled (volume_in r.0) (map (λ v. v.items) r.1.items)) }
 

@@ -2,7 +2,7 @@
 ghost use Rattle.std.specs.Prelude.{◌≡◌, ◌≢◌, ◌+◌, ◌-◌, ◌<◌, ◌≤◌, ◌⊎◌, ◌↔◌, length, option_map, Some, None, Err, OnOk, OnErr, IfOk, IfErr, IsErrOf};
 ghost use Rattle.kc_types.specs.Limits.{call_limit, worker_limit};
 ghost use Rattle.kc_model.specs.State.{State};
-ghost use Rattle.kc_model.specs.Safety.{IsSafe};
+ghost use Rattle.kc_model.specs.Promises.{KeepsPromises};
 ghost use Rattle.kc_model.specs.Blind.{ShowsNothing, ShowsNothingFromBoot};
 ghost use Rattle.kc_model.specs.Boot.{boot};
 ghost use Rattle.kc_model.specs.Lawful.{IsLawful};
@@ -133,7 +133,7 @@ impl Replayer {
         requires { self.old.fed + length calls.now ≤ call_limit }
         ensures fed { IfOk result (λ replies. IsFed self.old self.new calls.now replies.items) }
         ensures blind { IfOk result (λ replies. (start : State) → self.old.state ≡ Some start → ShowsNothing start calls.now replies.items (state_after start calls.now)) }
-        ensures safe { OnOk result ((start : State) → self.old.state ≡ Some start → IsSafe start calls.now) }
+        ensures promises { OnOk result ((start : State) → self.old.state ≡ Some start → KeepsPromises start calls.now) }
         ensures fails { OnErr result (self.new ≡ record self.old { state = None }) }
         ensures broken { IsErrOf result Broken ↔ (self.old.state ≡ None) }
         ensures workers { result ≢ Err BadWorkers }
@@ -207,7 +207,7 @@ pub fn replay<R: Threads + Wait + Sync, G: Gate + Sync>(
     requires { length calls.now ≤ call_limit }
     ensures blind { IfOk result (λ outcome. ShowsNothing (boot config) calls.now outcome.replies.items outcome.core) }
     ensures blind_from_boot { IfOk result (λ outcome. ShowsNothingFromBoot config calls.now outcome.replies.items outcome.core) }
-    ensures safe { OnOk result (IsSafe (boot config) calls.now) }
+    ensures promises { OnOk result (KeepsPromises (boot config) calls.now) }
     ensures replies { IfOk result (λ outcome. outcome.replies.items ≡ replies_from (boot config) calls.now) }
     ensures state { IfOk result (λ outcome. outcome.core ≡ state_after (boot config) calls.now) }
     ensures workers { OnOk result ((0 < workers) × (workers ≤ worker_limit)) }
@@ -235,7 +235,7 @@ pub fn replay_from<R: Threads + Wait + Sync, G: Gate + Sync>(
 ) -> Result<Outcome, ReplayFault>
     requires { length calls.now ≤ call_limit }
     ensures blind { IfOk result (λ outcome. ShowsNothing core calls.now outcome.replies.items outcome.core) }
-    ensures safe { OnOk result (IsSafe core calls.now) }
+    ensures promises { OnOk result (KeepsPromises core calls.now) }
     ensures replies { IfOk result (λ outcome. outcome.replies.items ≡ replies_from core calls.now) }
     ensures state { IfOk result (λ outcome. outcome.core ≡ state_after core calls.now) }
     ensures workers { OnOk result ((0 < workers) × (workers ≤ worker_limit)) }

@@ -1,7 +1,7 @@
 //! The calls of a trace, or of a segment of one, from a core on.
 ghost use Rattle.std.specs.Prelude.{◌≡◌, ◌≢◌, ◌<◌, ◌≤◌, length, OnOk, IfOk, IfErr};
 ghost use Rattle.kc_types.specs.Limits.{call_limit};
-ghost use Rattle.kc_model.specs.Safety.{IsSafe};
+ghost use Rattle.kc_model.specs.Promises.{KeepsPromises};
 ghost use Rattle.kc_model.specs.Lawful.{IsLawful};
 ghost use Rattle.kc_model.specs.Next.{replies_from, state_after};
 ghost use Rattle.kc_model.specs.Footprints.{state_at};
@@ -333,7 +333,7 @@ pub(crate) fn answer_segment<R: Threads + Wait + Sync, G: Gate + Sync>(
     requires short { length calls.now ≤ call_limit }
     ensures replayed { IfOk result (IsReplayOf core calls.now) }
     ensures wiped { IfErr result (λ failed. IsWiped core.config failed.left) }
-    ensures safe { IsSafe core calls.now }
+    ensures promises { KeepsPromises core calls.now }
     ensures started { IfErr result (λ failed. failed.fault ≡ Start → 1 < crew.now.workers) }
 {
     budget.add_calls(calls.len());

@@ -3,7 +3,8 @@
 use kc_parts::Parts;
 use kc_types::Reply;
 
-/// A call with parts on which it can be made, or that it left. Where it is dropped, their pages are wiped.
+/// A call with parts on which it can be made, or that it left.
+#[derive(Drop)]
 pub(crate) struct Task {
     /// The call's place in the trace.
     pub(crate) number: usize,
@@ -20,16 +21,6 @@ impl Task {
     {
         let Task { number, parts } = self;
         (number, parts)
-    }
-}
-
-impl Drop for Task {
-    fn drop(self) {
-        let Task {
-            number: _,
-            mut parts,
-        } = self;
-        parts.wipe();
     }
 }
 

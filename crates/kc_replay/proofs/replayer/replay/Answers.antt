@@ -14,5 +14,5 @@ returns-clause-blind_from_boot g c =
     let left : c.in_ok-core.core ≡ state_after (boot c.args.config) c.args.calls.now = search rules in
     shows_nothing-boot _ _ _ _ c.in_ok-replayer.ensures.lawful (rw left (c.in_ok-replies.ensures.blind (boot c.args.config) (search rules)))
 
-pub returns-clause-safe : goal.returns-clause-safe
-returns-clause-safe g c = c.in_ok-replies.ensures.safe (boot c.args.config) (search rules)
+pub returns-clause-promises : goal.returns-clause-promises
+returns-clause-promises g c = c.in_ok-replies.ensures.promises (boot c.args.config) (search rules)

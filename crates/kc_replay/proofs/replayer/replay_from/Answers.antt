@@ -7,5 +7,5 @@ returns-clause-blind g c =
     let left : c.in_ok-core.core ≡ state_after c.args.core c.args.calls.now = search rules in
     rw left (c.in_ok-replies.ensures.blind c.args.core (search rules))
 
-pub returns-clause-safe : goal.returns-clause-safe
-returns-clause-safe g c = c.in_ok-replies.ensures.safe c.args.core (search rules)
+pub returns-clause-promises : goal.returns-clause-promises
+returns-clause-promises g c = c.in_ok-replies.ensures.promises c.args.core (search rules)

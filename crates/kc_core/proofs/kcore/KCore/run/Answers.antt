@@ -1,7 +1,7 @@
 use Rattle.std.proofs.Common.{◌≡◌, ◌+◌, ◌++◌, ◌∷◌, [], arith, vec_len, ap, ◌∙◌}
 use Rattle.std.proofs.lemmas.List.{take_all}
 use Rattle.kc_model.proofs.States.Runs.{replies_from-more, state_after-more}
-use Rattle.kc_model.proofs.Safe.Safe.{safe}
+use Rattle.kc_model.proofs.Promises.{promises_kept}
 use Rattle.kc_model.proofs.Blind.HostBlind.{shows_nothing}
 use Rattle.kc_model.specs.Next.{replies_from, state_after}
 use Rattle.kc_core.proofs.kcore.KCore.run.Goals as goal
@@ -19,14 +19,14 @@ loop-done-preserved c =
       room = let kept = c.push.ensures.capacity in let before = c.loop-done.invariant.room in omega (arith, kept, before);
     }
 
-pub returns-in_default-clause-safe : goal.returns-in_default-clause-safe
-returns-in_default-clause-safe c = rw (← c.self.view_is) (safe _ c.args.calls.now c.self.invariant.lawful)
+pub returns-in_default-clause-promises : goal.returns-in_default-clause-promises
+returns-in_default-clause-promises c = rw (← c.self.view_is) (promises_kept _ c.args.calls.now c.self.invariant.lawful)
 
-pub returns-in_default-call-clause-safe : goal.returns-in_default-call-clause-safe
-returns-in_default-call-clause-safe c = rw (← c.self.view_is) (safe _ c.args.calls.now c.self.invariant.lawful)
+pub returns-in_default-call-clause-promises : goal.returns-in_default-call-clause-promises
+returns-in_default-call-clause-promises c = rw (← c.self.view_is) (promises_kept _ c.args.calls.now c.self.invariant.lawful)
 
-pub returns-clause-safe : goal.returns-clause-safe
-returns-clause-safe c = rw (← c.self.view_is) (safe _ c.args.calls.now c.self.invariant.lawful)
+pub returns-clause-promises : goal.returns-clause-promises
+returns-clause-promises c = rw (← c.self.view_is) (promises_kept _ c.args.calls.now c.self.invariant.lawful)
 
 pub returns-clause-blind : goal.returns-clause-blind
 returns-clause-blind c =

@@ -17,8 +17,8 @@ returns-in-Ok-clause-blind g c = λ start from.
     let same : c.in-Some.core ≡ start = cc in
     rw same at (rw c.in-Ok.ensures.replayed.state at c.in-Ok.ensures.replayed.blind)
 
-pub returns-in-Ok-clause-safe : goal.returns-in-Ok-clause-safe
-returns-in-Ok-clause-safe g c = λ start from.
+pub returns-in-Ok-clause-promises : goal.returns-in-Ok-clause-promises
+returns-in-Ok-clause-promises g c = λ start from.
     let before : c.args.self.now.state ≡ Some c.in-Some.core = search rules in
     let same : c.in-Some.core ≡ start = cc in
-    rw same at c.in-Ok.ensures.safe
+    rw same at c.in-Ok.ensures.promises

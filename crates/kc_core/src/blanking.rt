@@ -1,0 +1,37 @@
+//! Zeroing the pages of active VMs.
+ghost use Rattle.std.specs.Prelude.{◌≡◌, map};
+ghost use Rattle.kc_core.specs.Blanking.{is_marked, blank_page};
+
+use kc_page::Page;
+use kc_types::Owner;
+
+/// A mark for each slot that there may be.
+pub type Marks = [bool; 64];
+
+/// Whether the owner is a VM whose slot is marked.
+fn is_marked(marks: &Marks, owner: Owner) -> bool
+    ensures { result ≡ is_marked marks.now owner }
+{
+    match owner {
+        Owner::Vm(vm) => marks[vm.index()],
+        _ => false,
+    }
+}
+
+/// Zeroes a page if a VM whose slot is marked owns it.
+fn blank_marked(page: &mut Page, marks: &Marks)
+    ensures { page.new ≡ blank_page marks.now page.old }
+{
+    if is_marked(marks, page.meta.owner) {
+        page.bytes.scrub();
+    }
+}
+
+/// Zeroes the pages of VMs whose slots are marked, and keeps all other pages, and all records.
+pub fn blank_each(pages: &mut [Page], marks: &Marks)
+    ensures { pages.new ≡ map (blank_page marks.now) pages.old }
+{
+    for page in pages.iter_mut() {
+        blank_marked(page, marks);
+    }
+}
