@@ -60,6 +60,16 @@ uint32_t kcore_call(kcore *core, const uint8_t *line, size_t line_length, uint8_
  * stay; if no line is given, *used is 0. */
 uint32_t kcore_line(kcore *core, size_t number, uint8_t *out, size_t out_length, size_t *used);
 
+/* Does what kcore_line does, with zeros in the place of the bytes that virtual processors wrote: what may be written to a
+ * disk, or shown. The lines from 0 to KCORE_NO_SUCH_LINE, one after the other, are the volume's redacted trace, which is what
+ * `kcore redact` makes of its trace. */
+uint32_t kcore_redacted_line(kcore *core, size_t number, uint8_t *out, size_t out_length, size_t *used);
+
+/* Tells the SHA-256 digest of the volume's redacted trace so far, 32 bytes: what sha256sum prints of its lines. The calls
+ * since it was last asked are hashed now, and a session that is not asked pays nothing. The bytes after the first *used stay;
+ * if no digest is given, *used is 0. No memory is taken. */
+uint32_t kcore_digest(kcore *core, uint8_t *out, size_t out_length, size_t *used);
+
 /* Begins the next volume, with the core as it is: calls and lines from then on are of the next one, and those of the last
  * one are gone. After KCORE_MEMORY nothing has changed. */
 uint32_t kcore_turn(kcore *core);

@@ -1,9 +1,9 @@
 -- The lines of a session are those of a trace.
-use Rattle.std.proofs.Common.{◌≡◌, ◌≤◌, List, [], ◌∷◌, ◌++◌, map, ℕ, suc, ◌+◌, length, refl, ap, sym, subst, arith}
+use Rattle.std.proofs.Common.{◌≡◌, ◌≤◌, ◌<◌, List, [], ◌∷◌, ◌++◌, map, ℕ, suc, ◌+◌, ◌-◌, length, take, drop, get_or, refl, ap, sym, subst, ◌∙◌, append_assoc, take-append-drop, length-append, arith}
 use Rattle.std.specs.Prelude.{slice_get, option_map}
 use Rattle.std.specs.List.{AllByRecursion, concat}
 use Rattle.std.proofs.lemmas.Option.{slice_get-map}
-use Rattle.std.proofs.lemmas.List.{length-map}
+use Rattle.std.proofs.lemmas.List.{length-map, length-drop, map-append, take-append-le, take_all, take_more}
 use Rattle.kc_types.specs.Limits.{call_limit}
 use Rattle.kc_types.specs.declared.call.Call.{Call}
 use Rattle.kc_types.specs.declared.version.Version.TheVariants.{Two}
@@ -11,8 +11,13 @@ use Rattle.kc_model.specs.Ranged.{IsRanged}
 use Rattle.kc_trace.specs.Spelling.{line_of, lines_of, trace_header}
 use Rattle.kc_trace.specs.Trace.{AreCalls, IsTrace}
 use Rattle.kc_live.specs.declared.receipt.Entry.{Entry}
-use Rattle.kc_live.specs.Book.{Log, calls_of}
-use Rattle.kc_session.specs.Session.{trace_lines}
+use Rattle.kc_live.specs.Book.{Log, longer, reply_to, calls_of, entry}
+use Rattle.kc_redact.specs.Redacted.{redacted, redacted_line, IsRedaction}
+use Rattle.kc_redact.specs.Witness.{witnessed, HasSeen}
+use Rattle.sha2.specs.declared.Sha256.{Sha256}
+use Rattle.kc_redact.proofs.Redacted.{is_redaction}
+use Rattle.kc_session.specs.declared.session.Form.{Form}
+use Rattle.kc_session.specs.Session.{trace_lines, redacted_lines, lines_in, line_in}
 
 in_the_second : (calls : List Call) → AllByRecursion IsRanged calls → AreCalls Two calls
 in_the_second [] all = tt
@@ -41,7 +46,55 @@ with_one_more (first ∷ entries) entry all one = (all.0, with_one_more entries 
 pub count_of_lines : (log : Log) → length (trace_lines log) ≡ length log.entries + 1
 count_of_lines log = omega (arith, length-map log.entries (λ (entry : Entry). line_of entry.call ++ 10 ∷ []))
 
-pub line_after : (log : Log) (number place : ℕ) → number ≡ place + 1 → slice_get (trace_lines log) number ≡ option_map (λ entry. line_of entry.call ++ 10 ∷ []) (slice_get log.entries place)
-line_after log number place is =
+pub line_after : (form : Form) (log : Log) (number place : ℕ) → number ≡ place + 1 → slice_get (lines_in form log) number ≡ option_map (λ entry. line_in form entry.call) (slice_get log.entries place)
+line_after form log number place is =
     let next : number ≡ suc place = omega arith in
-    rw next (slice_get-map (λ (entry : Entry). line_of entry.call ++ 10 ∷ []) log.entries place)
+    rw next (slice_get-map (λ (entry : Entry). line_in form entry.call) log.entries place)
+
+-- ---- the redacted lines, and their digest
+
+joined_redacted : (entries : List Entry) → concat (map (λ entry. redacted_line entry.call) entries) ≡ lines_of (redacted (calls_of entries))
+joined_redacted [] = refl
+joined_redacted (entry ∷ entries) = ap (λ rest. redacted_line entry.call ++ rest) (joined_redacted entries)
+
+pub lines_are_witnessed : (log : Log) → concat (redacted_lines log) ≡ witnessed (calls_of log.entries)
+lines_are_witnessed log = ap (λ rest. trace_header Two ++ rest) (joined_redacted log.entries)
+
+pub lines_are_redacted : (log : Log) → AllByRecursion IsRanged (calls_of log.entries) → length log.entries ≤ call_limit → IsRedaction (concat (trace_lines log)) (concat (redacted_lines log)) (calls_of log.entries)
+unfolding is_trace
+lines_are_redacted log ranged short = is_redaction (concat (trace_lines log)) (concat (redacted_lines log)) (calls_of log.entries) (is_trace log ranged short) (lines_are_witnessed log)
+
+-- one entry more
+pub noted_more : (calls : List Call) (entries : List Entry) (entry : Entry) (n : ℕ) → n < length entries → entry ≡ get_or entries n entry → (calls ++ calls_of (take n entries)) ++ entry.call ∷ [] ≡ calls ++ calls_of (take (n + 1) entries)
+noted_more calls entries entry n lt is =
+    let one = get_or entries n entry in
+    let more : calls_of (take (n + 1) entries) ≡ calls_of (take n entries) ++ one.call ∷ [] =
+    ap calls_of (take_more entries n entry lt) ∙ map-append (λ (e : Entry). e.call) (take n entries) (one ∷ []) in
+    append_assoc calls (calls_of (take n entries)) (entry.call ∷ [])
+    ∙ ap (λ (e : Entry). calls ++ (calls_of (take n entries) ++ e.call ∷ [])) is
+    ∙ ap (λ rest. calls ++ rest) (sym more)
+
+-- those that were seen, and the others
+pub seen_and_rest : (entries : List Entry) (n : ℕ) → calls_of (take n entries) ++ calls_of (drop n entries) ≡ calls_of entries
+seen_and_rest entries n = sym (map-append (λ (e : Entry). e.call) (take n entries) (drop n entries)) ∙ ap calls_of (take-append-drop n entries)
+
+pub all_seen : (hasher : Sha256) (entries shown : List Entry) (n : ℕ) → shown ≡ entries → HasSeen hasher (calls_of (take n entries) ++ calls_of (take (length shown - n) (drop n shown))) → HasSeen hasher (calls_of entries)
+all_seen hasher entries shown n same seen =
+    let rest : take (length shown - n) (drop n shown) ≡ drop n shown = take_all (length shown - n) (drop n shown) (omega (arith, length-drop n shown)) in
+    subst (λ (calls : List Call). HasSeen hasher calls)
+    (ap (λ (es : List Entry). calls_of (take n entries) ++ calls_of es) (rest ∙ ap (drop n) same) ∙ seen_and_rest entries n) seen
+
+pub all_seen_again : (hasher : Sha256) (entries shown : List Entry) → shown ≡ entries → HasSeen hasher (calls_of entries) → HasSeen hasher (calls_of (take (length shown) entries))
+all_seen_again hasher entries shown same seen =
+    let few : length entries ≤ length shown = omega (arith, ap length same) in
+    subst (λ (calls : List Call). HasSeen hasher calls) (sym (ap calls_of (take_all (length shown) entries few))) seen
+
+-- a call more, which the witness has not seen
+pub longer_seen : (old new : Log) (call : Call) (seen : ℕ) (witness : Sha256) → new ≡ longer old call → IsRanged call → AllByRecursion IsRanged (calls_of old.entries) × (seen ≤ length old.entries) × HasSeen witness (calls_of (take seen old.entries))
+    → AllByRecursion IsRanged (calls_of new.entries) × (seen ≤ length new.entries) × HasSeen witness (calls_of (take seen new.entries))
+longer_seen old new call seen witness made ranged before =
+    let one = entry call (reply_to old call) in
+    let entries : new.entries ≡ old.entries ++ one ∷ [] = ap (λ (log : Log). log.entries) made in
+    let some = before.1 in
+    let long : length (old.entries ++ one ∷ []) ≡ length old.entries + 1 = length-append old.entries (one ∷ []) in
+    rw entries (with_one_more old.entries one before.0 ranged, omega (arith, some, long), rw (take-append-le seen old.entries (one ∷ []) some) before.2)

@@ -1,14 +1,20 @@
 //! A core that is asked line by line.
-ghost use Rattle.std.specs.Prelude.{◌≡◌, ◌≤◌, length, vec_len, slice_get, option_map, IfOk, IfErr, OnOk, OnErr};
+ghost use Rattle.std.specs.Prelude.{◌≡◌, ◌≤◌, ◌+◌, ◌++◌, List, length, vec_len, vec_capacity, slice_get, option_map, IfOk, IfErr, OnOk, OnErr};
 ghost use Rattle.std.specs.List.{concat};
 ghost use Rattle.kc_trace.specs.ReplyText.{longest_reply};
+ghost use Rattle.kc_trace.specs.Spelling.{longest_call};
 ghost use Rattle.kc_trace.specs.Trace.{IsTrace};
+ghost use Rattle.sha2.specs.Sha256.{sha256};
+ghost use Rattle.kc_types.specs.declared.call.Call.{Call};
 ghost use Rattle.kc_live.specs.Book.{new_log, next_volume, volume_in, calls_of};
-ghost use Rattle.kc_session.specs.Session.{IsAnswer, IsUnanswered, trace_lines};
+ghost use Rattle.kc_redact.specs.Redacted.{IsRedaction};
+ghost use Rattle.kc_redact.specs.Witness.{HasSeen};
+ghost use Rattle.kc_session.specs.Session.{IsAnswer, IsUnanswered, trace_lines, redacted_lines, lines_in, line_in};
 
-use kc_live::{Book, Ready, Volume};
+use kc_live::{Book, Entry, Ready, Volume};
+use kc_redact::{Witness, push_redacted};
 use kc_trace::{LONGEST_CALL, LONGEST_REPLY, call_of_line, push_call, push_header, push_reply};
-use kc_types::{CALL_LIMIT, Config, Memory, Version};
+use kc_types::{CALL_LIMIT, Call, Config, Memory, Version};
 use std::alloc::{AllocError, Global};
 use std::marker::Model;
 
@@ -43,11 +49,42 @@ impl From<AllocError> for AskFault {
     }
 }
 
+/// How the lines of a volume's trace are told: as they are, or with zeros in the place of the bytes that virtual processors
+/// wrote.
+#[derive(Clone, Copy, Debug, PartialEq, Eq)]
+pub enum Form {
+    Whole,
+    Redacted,
+}
+
+/// Appends the line of a call and its newline, for which there is room.
+fn push_line(text: &mut Vec<u8>, form: Form, call: &Call)
+    requires { vec_len text.old + longest_call ≤ vec_capacity text.old }
+    ensures { text.new.items ≡ text.old.items ++ line_in form call.now }
+{
+    match form {
+        Form::Whole => push_call(text, call),
+        Form::Redacted => push_redacted(text, call),
+    }
+}
+
+/// Has a witness see the calls of some entries more.
+fn note_each(witness: &mut Witness, entries: &[Entry])
+    ensures { (calls : List Call) → HasSeen witness.old calls → HasSeen witness.new (calls ++ calls_of entries.now) }
+{
+    for entry in entries {
+        witness.note(&entry.call);
+    }
+}
+
 /// A core and the volume of the calls that it answered, seen as that volume.
 #[derive(Drop)]
 pub struct Session {
     alloc: Global,
     book: Book,
+    witness: Witness,
+    /// How many calls of the volume the witness has seen.
+    seen: usize,
 }
 
 impl Model for Session {
@@ -56,7 +93,9 @@ impl Model for Session {
     ghost use Rattle.std.specs.List.{AllByRecursion};
     ghost use Rattle.std.specs.Ordering.{nat_cmp};
     ghost use Rattle.kc_model.specs.Ranged.{IsRanged};
+    ghost use Rattle.std.specs.Prelude.{◌≤◌, length, take};
     ghost use Rattle.kc_live.specs.Book.{Log, calls_of};
+    ghost use Rattle.kc_redact.specs.Witness.{HasSeen};
 
     ghost Value = { Log };
 
@@ -64,7 +103,7 @@ impl Model for Session {
 
     ghost view = { λ s. s.book };
 
-    ghost invariant = { λ s. AllByRecursion IsRanged (calls_of s.book.entries) };
+    ghost invariant = { λ s. AllByRecursion IsRanged (calls_of s.book.entries) × (s.seen ≤ length s.book.entries) × HasSeen s.witness (calls_of (take s.seen s.book.entries)) };
 }
 
 impl Session {
@@ -74,7 +113,13 @@ impl Session {
         ensures { IfOk result (λ session. session ≡ new_log config) }
     {
         let book = Book::new(alloc, config)?;
-        Ok(Session { alloc, book })
+        let witness = Witness::new(alloc)?;
+        Ok(Session {
+            alloc,
+            book,
+            witness,
+            seen: 0,
+        })
     }
 
     /// Answers the call that a line is, given without its newline: the line of its reply, with its newline. `BadLine`
@@ -106,7 +151,22 @@ impl Session {
         ensures err { OnErr result (self.new ≡ self.old) }
     {
         let room = Vec::with_capacity(self.alloc, CALL_LIMIT)?;
+        self.witness.restart();
+        self.seen = 0;
         Ok(self.book.turn(room))
+    }
+
+    /// The SHA-256 digest of the volume's redacted trace so far: of its redacted lines, one after the other. The calls since
+    /// it was last asked are hashed now. No memory is taken.
+    pub fn digest(&mut self) -> [u8; 32]
+        ensures digest { result ≡ sha256 (concat (redacted_lines self.old)) }
+        ensures redaction { IsRedaction (concat (trace_lines self.old)) (concat (redacted_lines self.old)) (calls_of self.old.entries) }
+        ensures same { self.new ≡ self.old }
+    {
+        let entries = self.book.entries();
+        note_each(&mut self.witness, &entries[self.seen..]);
+        self.seen = entries.len();
+        self.witness.digest()
     }
 
     /// How many lines the volume's trace has: the header, and a line for each call that was answered. All of them, one
@@ -118,10 +178,10 @@ impl Session {
         self.book.entries().len() + 1
     }
 
-    /// A line of that trace, by its place from 0, with its newline. `None` where there are no more; `Memory` where a
+    /// A line of that trace in a form, by its place from 0, with its newline. `None` where there are no more; `Memory` where a
     /// growth was refused.
-    pub fn line(&self, number: usize) -> Result<Option<Vec<u8>>, Memory>
-        ensures { IfOk result (λ told. option_map (λ line. line.items) told ≡ slice_get (trace_lines self.now) number) }
+    pub fn line(&self, form: Form, number: usize) -> Result<Option<Vec<u8>>, Memory>
+        ensures { IfOk result (λ told. option_map (λ line. line.items) told ≡ slice_get (lines_in form self.now) number) }
     {
         let mut told = Vec::with_capacity(self.alloc, LONGEST_CALL)?;
         if number == 0 {
@@ -132,15 +192,7 @@ impl Session {
         let Some(entry) = self.book.entries().get(place) else {
             return Ok(None);
         };
-        push_call(&mut told, &entry.call);
+        push_line(&mut told, form, &entry.call);
         Ok(Some(told))
-    }
-
-    /// Ends the session: the core's pages are zeroed before their memory goes.
-    pub fn end(self) {
-        let Session { alloc: _, book } = self;
-        let (_volume, core) = book.close().into_parts();
-        let (_config, mut parts) = core.into_parts();
-        parts.wipe();
     }
 }

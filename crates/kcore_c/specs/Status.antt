@@ -1,12 +1,15 @@
 -- What each function says of a session by its status. A session is the volume that it fills; there is none where it is closed.
 use Rattle.std.specs.Prelude.{◌≡◌, ◌≤◌, ◌<◌, ℕ, List, Option, Some, None, Ok, IsSome, length, slice_get}
+use Rattle.std.specs.List.{concat}
 use Rattle.kc_types.specs.Configuration.{Configuration}
 use Rattle.kc_types.specs.declared.config.ConfigFault.TheVariants as numbers
 use Rattle.kc_trace.specs.ConfigText.{config_in, ConfigFails}
 use Rattle.kc_trace.specs.ReplyText.{longest_reply}
 use Rattle.kc_trace.specs.declared.config_text.ConfigTextFault.TheVariants as texts
+use Rattle.sha2.specs.Sha256.{sha256}
 use Rattle.kc_live.specs.Book.{Log, new_log, next_volume}
-use Rattle.kc_session.specs.Session.{IsAnswer, IsUnanswered, trace_lines}
+use Rattle.kc_session.specs.Session.{IsAnswer, IsUnanswered, lines_in, redacted_lines}
+use Rattle.kc_session.specs.declared.session.Form.{Form}
 use Rattle.kc_session.specs.declared.session.AskFault.TheVariants as asks
 use Rattle.kcore_c.specs.declared.status.Status.{Status}
 use Rattle.kcore_c.specs.declared.status.Status.TheVariants.{Done, Closed, AlreadyOpen, Memory, NoRoom, NoSuchLine, Ask, Config}
@@ -53,14 +56,21 @@ CallSays (Some old) new line room bytes (Ask fault) = (longest_reply ≤ room) �
 CallSays None new line room bytes Closed = new ≡ None
 CallSays _ _ line room bytes _ = ⊥
 
--- telling a line of a session's trace, with room for so many bytes
-abbrev pub LineSays : Option Log → ℕ → ℕ → List ℕ → Status → Type 0
-LineSays (Some log) number room bytes Done = slice_get (trace_lines log) number ≡ Some bytes
-LineSays (Some log) number room bytes NoSuchLine = slice_get (trace_lines log) number ≡ None
-LineSays (Some log) number room bytes NoRoom = (line : List ℕ) × (slice_get (trace_lines log) number ≡ Some line) × (room < length line)
-LineSays (Some log) number room bytes Memory = Unit {0}
-LineSays None number room bytes Closed = Unit {0}
-LineSays _ number room bytes _ = ⊥
+-- telling a line of a session's trace in a form, with room for so many bytes
+abbrev pub LineSays : Form → Option Log → ℕ → ℕ → List ℕ → Status → Type 0
+LineSays form (Some log) number room bytes Done = slice_get (lines_in form log) number ≡ Some bytes
+LineSays form (Some log) number room bytes NoSuchLine = slice_get (lines_in form log) number ≡ None
+LineSays form (Some log) number room bytes NoRoom = (line : List ℕ) × (slice_get (lines_in form log) number ≡ Some line) × (room < length line)
+LineSays form (Some log) number room bytes Memory = Unit {0}
+LineSays form None number room bytes Closed = Unit {0}
+LineSays form _ number room bytes _ = ⊥
+
+-- telling the digest of a session's redacted trace, with room for so many bytes
+abbrev pub DigestSays : Option Log → ℕ → List ℕ → Status → Type 0
+DigestSays (Some log) room bytes Done = bytes ≡ sha256 (concat (redacted_lines log))
+DigestSays (Some log) room bytes NoRoom = room < 32
+DigestSays None room bytes Closed = Unit {0}
+DigestSays _ room bytes _ = ⊥
 
 -- turning a session over
 abbrev pub TurnSays : Option Log → Option Log → Status → Type 0

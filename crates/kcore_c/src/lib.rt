@@ -5,13 +5,15 @@
 ghost use Rattle.std.specs.Prelude.{◌≡◌, ◌≢◌, ◌≤◌, None, length, take, drop};
 ghost use Rattle.kc_trace.specs.ReplyText.{longest_reply};
 ghost use Rattle.kc_trace.specs.Spelling.{longest_call};
-ghost use Rattle.kcore_c.specs.Status.{IsCode, BootSays, CallSays, LineSays, TurnSays, EndSays};
+ghost use Rattle.kc_session.specs.declared.session.Form.TheVariants.{Whole, Redacted};
+ghost use Rattle.kcore_c.specs.Status.{IsCode, BootSays, CallSays, LineSays, DigestSays, TurnSays, EndSays};
 
 mod handle;
 mod session;
 mod status;
 
 pub use handle::Handle;
+use kc_session::Form;
 use kc_trace::{LONGEST_CALL, LONGEST_REPLY};
 pub use status::Status;
 use std::alloc::Global;
@@ -71,13 +73,50 @@ pub extern "C" fn kcore_line(
     out: &mut [u8],
     used: &mut usize,
 ) -> u32
-    ensures says { IsCode (LineSays core.old.held.session number (length out.old) (take used.new out.new)) result }
+    ensures says { IsCode (LineSays Whole core.old.held.session number (length out.old) (take used.new out.new)) result }
     ensures within { used.new ≤ length out.new }
     ensures rest { drop used.new out.new ≡ drop used.new out.old }
     ensures nothing { result ≢ 0 → used.new ≡ 0 }
     ensures same { core.new.held.session ≡ core.old.held.session }
 {
-    session::line(alloc, core, number, out, used).code()
+    session::line(alloc, core, Form::Whole, number, out, used).code()
+}
+
+/// Does what `kcore_line` does, with zeros in the place of the bytes that virtual processors wrote: all these lines, one after
+/// the other, are the volume's redacted trace.
+#[unsafe(no_mangle)]
+pub extern "C" fn kcore_redacted_line(
+    alloc: Global,
+    core: &mut Handle,
+    number: usize,
+    out: &mut [u8],
+    used: &mut usize,
+) -> u32
+    ensures says { IsCode (LineSays Redacted core.old.held.session number (length out.old) (take used.new out.new)) result }
+    ensures within { used.new ≤ length out.new }
+    ensures rest { drop used.new out.new ≡ drop used.new out.old }
+    ensures nothing { result ≢ 0 → used.new ≡ 0 }
+    ensures same { core.new.held.session ≡ core.old.held.session }
+{
+    session::line(alloc, core, Form::Redacted, number, out, used).code()
+}
+
+/// Tells the SHA-256 digest of the volume's redacted trace so far, which has 32 bytes. The calls since it was last asked are
+/// hashed now. The bytes after the first `used` stay; if no digest is given, `used` is 0.
+#[unsafe(no_mangle)]
+pub extern "C" fn kcore_digest(
+    alloc: Global,
+    core: &mut Handle,
+    out: &mut [u8],
+    used: &mut usize,
+) -> u32
+    ensures says { IsCode (DigestSays core.old.held.session (length out.old) (take used.new out.new)) result }
+    ensures within { used.new ≤ length out.new }
+    ensures rest { drop used.new out.new ≡ drop used.new out.old }
+    ensures nothing { result ≢ 0 → used.new ≡ 0 }
+    ensures same { core.new.held.session ≡ core.old.held.session }
+{
+    session::digest(alloc, core, out, used).code()
 }
 
 /// Begins the session's next volume, with the core as it is: the lines from then on are of the next one.

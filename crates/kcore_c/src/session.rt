@@ -1,13 +1,26 @@
 //! What is done with the session behind a handle.
 ghost use Rattle.std.specs.Prelude.{◌≡◌, ◌≢◌, ◌≤◌, Some, None, length, take, drop, IfOk, IfErr};
 ghost use Rattle.kc_trace.specs.ConfigText.{config_in, ConfigFails};
-ghost use Rattle.kcore_c.specs.Status.{BootSays, CallSays, LineSays, TurnSays, EndSays, IsBooted};
+ghost use Rattle.kcore_c.specs.Status.{BootSays, CallSays, LineSays, DigestSays, TurnSays, EndSays, IsBooted};
 
 use crate::handle::Handle;
 use crate::status::Status;
-use kc_session::Session;
+use kc_session::{Form, Session};
 use kc_trace::{ConfigTextFault, LONGEST_REPLY, read_config};
 use std::alloc::Global;
+
+/// How many bytes a digest has.
+const DIGEST: usize = 32;
+
+/// Puts a digest in front of a buffer's other bytes.
+fn put_digest(out: &mut [u8], digest: &[u8; DIGEST])
+    requires { 32 ≤ length out.old }
+    ensures front { take 32 out.new ≡ digest.now }
+    ensures rest { drop 32 out.new ≡ drop 32 out.old }
+    ensures same { length out.new ≡ length out.old }
+{
+    out[..DIGEST].copy_from_slice(digest);
+}
 
 fn opened(alloc: Global, text: &[u8]) -> Result<Box<Session>, ConfigTextFault>
     ensures session { IfOk result (λ session. IsBooted (Some session.value) text.now) }
@@ -73,15 +86,16 @@ pub fn call(
     }
 }
 
-/// Tells a line of the session's trace into `out`.
+/// Tells a line of the session's trace in a form into `out`.
 pub fn line(
     alloc: Global,
     core: &mut Handle,
+    form: Form,
     number: usize,
     out: &mut [u8],
     used: &mut usize,
 ) -> Status
-    ensures says { LineSays core.old.held.session number (length out.old) (take used.new out.new) result }
+    ensures says { LineSays form core.old.held.session number (length out.old) (take used.new out.new) result }
     ensures within { used.new ≤ length out.new }
     ensures rest { drop used.new out.new ≡ drop used.new out.old }
     ensures nothing { result ≢ Status.Done → used.new ≡ 0 }
@@ -91,7 +105,7 @@ pub fn line(
     let Some(session) = core.take(alloc) else {
         return Status::Closed;
     };
-    let told = session.line(number);
+    let told = session.line(form, number);
     core.put(session);
     match told {
         Ok(Some(told)) => {
@@ -105,6 +119,30 @@ pub fn line(
         Ok(None) => Status::NoSuchLine,
         Err(_) => Status::Memory,
     }
+}
+
+/// Tells the digest of the session's redacted trace so far into `out`.
+pub fn digest(alloc: Global, core: &mut Handle, out: &mut [u8], used: &mut usize) -> Status
+    ensures says { DigestSays core.old.held.session (length out.old) (take used.new out.new) result }
+    ensures within { used.new ≤ length out.new }
+    ensures rest { drop used.new out.new ≡ drop used.new out.old }
+    ensures nothing { result ≢ Status.Done → used.new ≡ 0 }
+    ensures same { core.new.held.session ≡ core.old.held.session }
+{
+    *used = 0;
+    let Some(session) = core.take(alloc) else {
+        return Status::Closed;
+    };
+    let mut session = session;
+    if out.len() < DIGEST {
+        core.put(session);
+        return Status::NoRoom;
+    }
+    let told = session.digest();
+    core.put(session);
+    put_digest(out, &told);
+    *used = DIGEST;
+    Status::Done
 }
 
 /// Begins the session's next volume.
@@ -129,10 +167,7 @@ pub fn end(alloc: Global, core: &mut Handle) -> Status
     ensures closed { core.new.held.session ≡ None }
 {
     match core.take(alloc) {
-        Some(session) => {
-            Box::into_inner(session).end();
-            Status::Done
-        }
+        Some(_session) => Status::Done,
         None => Status::Closed,
     }
 }

@@ -1,0 +1,90 @@
+-- Redacted calls are those of a trace under the same header.
+use Rattle.std.proofs.Common.{ℕ, zero, suc, ◌≡◌, ◌≤◌, ◌<◌, ◌+◌, ◌-◌, ◌*◌, Bool, true, List, [], ◌∷◌, ◌++◌, map, take, length, replicate, All, refl, sym, ap, subst, ◌∙◌, arith, append_assoc, append-nil}
+use Rattle.std.proofs.lemmas.List.{length-replicate, length-map, take_all}
+use Rattle.std.specs.Prelude.{if◌then◌else◌}
+use Rattle.std.specs.List.{flat_map}
+use Rattle.hex.specs.Hex.{encode_lower, encode_with}
+use Rattle.kc_types.specs.Bytes.{IsData}
+use Rattle.kc_types.specs.declared.version.Version.{Version}
+use Rattle.kc_types.specs.declared.version.Version.TheVariants.{One, Two}
+use Rattle.kc_types.specs.declared.call.Call.{Call}
+use Rattle.kc_types.specs.declared.call.Call.TheVariants.{GuestWrite}
+use Rattle.kc_model.proofs.States.ZeroPage.{zeros-are_bytes}
+use Rattle.kc_model.proofs.Redaction.Blank.{told_alike}
+use Rattle.kc_trace.specs.Spelling.{lines_of, trace_header, text_of, stands_in}
+use Rattle.kc_trace.specs.Trace.{IsCallOf, AreCalls, IsTrace}
+use Rattle.kc_redact.specs.Redacted.{blanked, redacted_call, redacted_line, redacted, IsRedaction}
+
+-- ---- zeros as digits
+
+pub digits_of_zeros : (n : ℕ) → encode_lower (replicate n 0) ≡ replicate (2 * n) 48
+unfolding encode_with
+digits_of_zeros zero = refl
+digits_of_zeros (suc n) =
+    let twice : 2 * suc n ≡ suc (suc (2 * n)) = omega arith in
+    rw twice (ap (λ digits. 48 ∷ 48 ∷ digits) (digits_of_zeros n))
+
+-- a text that was made longer by zeros
+pub padded : (old new : List ℕ) (total n count : ℕ) (ok : Bool) → length old ≡ n → total ≡ n + count → ok ≡ true → new ≡ (if ok then take total old ++ replicate (total - n) 48 else old) → new ≡ old ++ replicate count 48
+padded old new total n count ok size sum done is =
+    let made : new ≡ take total old ++ replicate (total - n) 48 = rw done at is in
+    let all : take total old ≡ old = take_all total old (omega (arith, size, sum)) in
+    let more : total - n ≡ count = omega (arith, sum) in
+    made ∙ ap (λ front. front ++ replicate (total - n) 48) all ∙ ap (λ k. old ++ replicate k 48) more
+
+-- ---- a redacted trace is a trace
+
+blanked-is : (bytes : List ℕ) → IsData bytes → IsData (blanked bytes)
+blanked-is bytes is =
+    let number : length (blanked bytes) ≡ length bytes = length-replicate {A = ℕ} (length bytes) 0 in
+    let some = is.nonempty in
+    let few = is.within in
+    record {
+      nonempty = omega (arith, number, some);
+      within = omega (arith, number, few);
+      each_byte = zeros-are_bytes (length bytes);
+    }
+
+stands-too : (version : Version) (call : Call) → stands_in version call ≡ true → stands_in version (redacted_call call) ≡ true
+stands-too One (GuestWrite v c g off bytes) h = refl
+stands-too One _ h = h
+stands-too Two _ h = refl
+
+redacted-is : (version : Version) (call : Call) → IsCallOf version call → IsCallOf version (redacted_call call)
+redacted-is version (GuestWrite v c g off bytes) is = ((is.0.0, is.0.1, is.0.2, is.0.3, blanked-is bytes is.0.4), stands-too version (GuestWrite v c g off bytes) is.1)
+redacted-is version _ is = is
+
+redacted-are : (version : Version) (calls : List Call) → AreCalls version calls → AreCalls version (redacted calls)
+redacted-are version [] are = tt
+redacted-are version (call ∷ calls) are = (redacted-is version call are.0, redacted-are version calls are.1)
+
+pub is_redaction : (text other : List ℕ) (calls : List Call) (read : IsTrace text calls) → other ≡ text_of read.version (redacted calls) → IsRedaction text other calls
+is_redaction text other calls read written = record {
+  version = read.version;
+  read = read;
+  whole = read.whole;
+  written = written;
+  trace = record {
+    version = read.version;
+    whole = written;
+    each = redacted-are read.version calls read.each;
+    few = let few = read.few in omega (arith, few, length-map calls redacted_call);
+  };
+  events = λ m is. (told_alike m calls is).events;
+  custody = λ m is. (told_alike m calls is).custody;
+}
+
+-- ---- line by line
+
+pub lines-redacted : (calls : List Call) → flat_map redacted_line calls ≡ lines_of (redacted calls)
+lines-redacted [] = refl
+lines-redacted (call ∷ calls) = ap (λ rest. redacted_line call ++ rest) (lines-redacted calls)
+
+pub lines-then : (calls : List Call) (call : Call) → lines_of (redacted (calls ++ call ∷ [])) ≡ lines_of (redacted calls) ++ redacted_line call
+lines-then [] call = append-nil (redacted_line call)
+lines-then (first ∷ calls) call = ap (λ rest. redacted_line first ++ rest) (lines-then calls call) ∙ sym (append_assoc (redacted_line first) (lines_of (redacted calls)) (redacted_line call))
+
+-- a trace begins with its header
+pub header-taken : (version : Version) (rest : List ℕ) → take 14 (trace_header version ++ rest) ≡ trace_header version
+header-taken One rest = refl
+header-taken Two rest = refl

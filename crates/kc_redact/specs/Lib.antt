@@ -1,0 +1,3 @@
+pub mod Redacted
+pub mod Written
+pub mod Witness

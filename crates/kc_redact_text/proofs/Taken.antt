@@ -1,0 +1,140 @@
+-- A trace that is read from a source, piece after piece, and redacted.
+use Rattle.std.proofs.Common.{◌≡◌, ◌≤◌, ◌<◌, ◌+◌, ◌-◌, ℕ, Bool, List, [], ◌++◌, length, take, drop, Option, Some, None, Ok, refl, sym, ap, subst, ◌∙◌, append_assoc, append-nil, length-append, arith, inl, inr}
+use Rattle.std.specs.Prelude.{IfSome}
+use Rattle.std.specs.Io.KnownBytes.{Consumes, IsAtEnd}
+use Rattle.std.proofs.lemmas.Bool.{cases_lt}
+use Rattle.std.proofs.lemmas.List.{length-take, length-drop, take_at, take_all, take-append-le, map-append}
+use Rattle.std.proofs.Math.Seq.{take-append-add}
+use borrow.Rule.Slice.PartMut.{put_mid, post_of}
+use Rattle.kc_types.specs.Limits.{byte_limit}
+use Rattle.kc_types.specs.declared.call.Call.{Call}
+use Rattle.kc_types.specs.declared.version.Version.{Version}
+use Rattle.kc_types.specs.declared.version.Version.TheVariants.{One, Two}
+use Rattle.kc_trace.specs.declared.fault.TraceFault.{TraceFault}
+use Rattle.kc_trace.specs.declared.fault.TraceFault.TheVariants.{Memory}
+use Rattle.kc_trace.specs.Machine.{Fails, fed}
+use Rattle.kc_trace.specs.Spelling.{trace_header, lines_of}
+use Rattle.kc_trace.specs.Trace.{IsTrace}
+use Rattle.kc_texts.specs.Ends.{ReadFailed}
+use Rattle.kc_texts.specs.Streamed.{HasRead}
+use Rattle.kc_texts.specs.Faults.{read_fault}
+use Rattle.kc_texts.specs.declared.whole.ReadFault.{ReadFault}
+use Rattle.kc_texts.specs.declared.whole.ReadFault.TheVariants as reads
+use Rattle.kc_texts.specs.declared.fault.TextFault.TheVariants as texts
+use Rattle.kc_texts.proofs.Fed.{stays, goes_on_ok, goes_on_err, goes_on_nothing, too_many}
+use Rattle.kc_redact.specs.Redacted.{redacted, redacted_call}
+use Rattle.kc_redact_text.specs.Reading.{stream_of, HasGoneOn, HasTaken, IsHeadAndCalls}
+use Rattle.kc_redact_text.specs.declared.reading.Redacting.{Redacting}
+
+redacted-append : (calls more : List Call) → redacted (calls ++ more) ≡ redacted calls ++ redacted more
+redacted-append calls more = map-append redacted_call calls more
+
+-- ---- one piece
+
+pub taken_ok : (before after : Redacting) (piece : List ℕ) (more : List Call) → fed before.reader piece ≡ Ok (after.reader.progress, more) → after.reader.fault ≡ None
+    → after.total ≡ before.total + length piece → after.calls.items ≡ before.calls.items ++ redacted more → HasTaken before after piece
+taken_ok before after piece more told none total grown left now consumed =
+    (more, grown, goes_on_ok (stream_of before) (stream_of before) (stream_of after) piece [] more more (length piece) left left now (stays (stream_of before) left) consumed told none refl total refl)
+
+pub taken_err : (before after : Redacting) (piece : List ℕ) (fault : TraceFault) → Fails fault (fed before.reader piece) → (fault ≡ Memory → ⊥) → after.reader.fault ≡ Some fault
+    → after.total ≡ before.total + length piece → after.calls ≡ before.calls → HasTaken before after piece
+taken_err before after piece fault told other some total same left now consumed =
+    ([], rw same (sym (append-nil before.calls.items)), goes_on_err (stream_of before) (stream_of before) (stream_of after) piece [] fault (length piece) left left now (stays (stream_of before) left) consumed told other some refl total)
+
+-- ---- going on
+
+pub went_nowhere : (r : Redacting) (left : Option (List ℕ)) → HasGoneOn r r left left
+went_nowhere r left = ([], sym (append-nil r.calls.items), stays (stream_of r) left)
+
+pub went_on : (before mid after : Redacting) (left here now : Option (List ℕ)) → HasGoneOn before mid left here → HasGoneOn mid after here now → HasGoneOn before after left now
+went_on before mid after left here now one two =
+    let grown : after.calls.items ≡ before.calls.items ++ redacted (one.0 ++ two.0) =
+    two.1 ∙ ap (λ kept. kept ++ redacted two.0) one.1 ∙ append_assoc before.calls.items (redacted one.0) (redacted two.0) ∙ ap (λ kept. before.calls.items ++ kept) (sym (redacted-append one.0 two.0)) in (
+      one.0 ++ two.0,
+      grown,
+      λ bytes calls first h.
+          let first_part = one.2 bytes calls first h in
+          let second_part = two.2 (bytes ++ first_part.0) (calls ++ one.0) first first_part.1 in
+          (first_part.0 ++ second_part.0, rw (← append_assoc bytes first_part.0 second_part.0, ← append_assoc calls one.0 two.0) second_part.1),
+    )
+
+-- the last read moved no bytes
+pub went_to_end : (before after : Redacting) (piece : List ℕ) (left mid now : Option (List ℕ)) → HasGoneOn before after left mid → Consumes mid now piece → length piece ≡ 0 → HasGoneOn before after left now
+went_to_end before after piece left mid now on consumed none =
+    (on.0, on.1, goes_on_nothing (stream_of before) (stream_of after) piece on.0 left mid now on.2 consumed none)
+
+pub went_too_far : (before mid : Redacting) (piece : List ℕ) (n : ℕ) (failed : Bool) (left here now : Option (List ℕ)) → HasGoneOn before mid left here → Consumes here now piece → length piece ≡ n → byte_limit < mid.total + n
+    → (bytes : List ℕ) (calls : List Call) (first : Option (List ℕ)) → HasRead (stream_of before) bytes calls first left → ReadFailed failed first now
+went_too_far before mid piece n failed left here now on consumed len past = too_many (stream_of before) (stream_of mid) piece on.0 n failed left here now on.2 consumed len past
+
+-- ---- the header
+
+header_len : (version : Version) → length (trace_header version) ≡ 14
+header_len One = refl
+header_len Two = refl
+
+-- a trace has the bytes of a header, and begins with what was read first
+pub head_is : (text head here : List ℕ) (begun : ℕ) (calls : List Call) → text ≡ take begun head ++ here → begun ≤ 14 → (begun < 14 → here ≡ []) → length head ≡ 14 → IsTrace text calls → take 14 text ≡ head
+head_is text head here begun calls is within short len read =
+    let long : length text ≡ length (trace_header read.version) + length (lines_of calls) = ap length read.whole ∙ length-append (trace_header read.version) (lines_of calls) in
+    elim (cases_lt begun 14) [
+      | inl less ↦
+          let empty : length here ≡ 0 = ap length (short less) in
+          let few : length text ≡ length (take begun head) + length here = ap length is ∙ length-append (take begun head) here in
+          absurd (omega (arith, less, long, few, empty, header_len read.version, length-take begun head))
+      | inr more ↦
+          let whole : begun ≡ 14 = omega (arith, within, more) in
+          let all : take begun head ≡ head = take_all begun head (omega (arith, whole, len)) in
+          ap (take 14) (is ∙ ap (λ front. front ++ here) all) ∙ take_at head here 14 len
+    ]
+
+-- what a read moves to the bytes after those that were read
+pub head_more : (head buffer : List ℕ) (used n : ℕ) → length head ≡ 14 → used ≤ 14 → length buffer ≡ 14 - used → n ≤ length buffer → take (used + n) (put_mid used (14 - used) head buffer) ≡ take used head ++ take n buffer
+head_more head buffer used n size within len le =
+    let front : length (take used head) ≡ used = omega (arith, length-take used head, size, within) in
+    subst (λ k. take (k + n) (put_mid used (14 - used) head buffer) ≡ take used head ++ take n buffer) front
+    (take-append-add (take used head) (buffer ++ post_of used (14 - used) head) n ∙ ap (λ more. take used head ++ more) (take-append-le n buffer (post_of used (14 - used) head) le))
+
+pub head_size : (head buffer : List ℕ) (used : ℕ) → length head ≡ 14 → used ≤ 14 → length buffer ≡ 14 - used → length (put_mid used (14 - used) head buffer) ≡ 14
+head_size head buffer used size within len =
+    let after = post_of used (14 - used) head in
+    omega (arith, size, within, len, length-append (take used head) (buffer ++ after), length-append buffer after, length-take used head, length-drop (14 - used) (drop used head), length-drop used head)
+
+-- ---- the whole trace
+
+-- behind the first bytes of a source
+pub begun_read : (source here : Option (List ℕ)) (start mid : Redacting) (piece : List ℕ) → ((first : Option (List ℕ)) → HasRead (stream_of start) [] [] first first) → Consumes source here piece → HasTaken start mid piece
+    → (bytes : List ℕ) × (calls : List Call) × (mid.calls.items ≡ start.calls.items ++ redacted calls) × HasRead (stream_of mid) bytes calls source here
+begun_read source here start mid piece fresh consumed taken =
+    let on = taken source here consumed in
+    let read = on.2 [] [] source (fresh source) in
+    (read.0, on.0, on.1, read.1)
+
+-- the trace that a source held, with the header that was read first
+head_and_calls : (source here : Option (List ℕ)) (head : List ℕ) (begun : ℕ) (calls kept : List Call) → Consumes source here (take begun head) → begun ≤ 14 → (begun < 14 → IsAtEnd here) → length head ≡ 14
+    → IfSome source (λ text. IsTrace text calls) → kept ≡ redacted calls → IfSome source (λ text. IsHeadAndCalls text head kept)
+head_and_calls None here head begun calls kept consumed within short size read same = tt
+head_and_calls (Some text) None head begun calls kept consumed within short size read same = absurd consumed
+head_and_calls (Some text) (Some rest) head begun calls kept consumed within short size read same = record {
+  calls = calls;
+  read = read;
+  header = head_is text head rest begun calls consumed within short size read;
+  redacted = same;
+}
+
+pub whole_read : (source here now : Option (List ℕ)) (head : List ℕ) (begun : ℕ) (start mid end : Redacting) → ((first : Option (List ℕ)) → HasRead (stream_of start) [] [] first first) → start.calls.items ≡ []
+    → Consumes source here (take begun head) → begun ≤ 14 → (begun < 14 → IsAtEnd here) → length head ≡ 14 → HasTaken start mid (take begun head) → HasGoneOn mid end here now → IsAtEnd now
+    → ((bytes : List ℕ) (calls : List Call) (first last : Option (List ℕ)) → HasRead (stream_of end) bytes calls first last → IsAtEnd last → IfSome first (λ text. IsTrace text calls))
+    → IfSome source (λ text. IsHeadAndCalls text head end.calls.items)
+whole_read source here now head begun start mid end fresh none consumed within short size taken on ended judge =
+    let first_part = begun_read source here start mid (take begun head) fresh consumed taken in
+    let more = on.2 first_part.0 first_part.1 source first_part.3 in
+    let calls = first_part.1 ++ on.0 in
+    let kept : end.calls.items ≡ redacted calls =
+    on.1 ∙ ap (λ front. front ++ redacted on.0) (first_part.2 ∙ ap (λ front. front ++ redacted first_part.1) none) ∙ sym (redacted-append first_part.1 on.0) in
+    head_and_calls source here head begun calls end.calls.items consumed within short size (judge _ calls source now more.1 ended) kept
+
+-- a fault of reading is that of the source alone
+pub read_is : (fault : ReadFault) → read_fault fault ≡ texts.Read → fault ≡ reads.Read
+read_is reads.Memory e = cc
+read_is reads.Read e = refl

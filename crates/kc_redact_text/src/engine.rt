@@ -1,0 +1,47 @@
+//! A trace read, redacted and written.
+ghost use Rattle.std.specs.Prelude.{◌≡◌, ◌≤◌, ◌++◌, ◌∷◌, [], List, length, false, vec_len, vec_capacity, IfErr, IfSome, OnOk, Err};
+ghost use Rattle.std.specs.Io.KnownBytes.{IsAtEnd};
+ghost use Rattle.kc_trace.specs.declared.fault.TraceFault.{TraceFault};
+ghost use Rattle.kc_trace.specs.Trace.{IsRefused};
+ghost use Rattle.kc_texts.specs.Outcomes.{seen, TellsSources, TellsSink};
+ghost use Rattle.kc_redact_text.specs.Redacts.{Redacts, BeginsRedaction, IsRedactFault};
+
+use crate::reading::read_redacted;
+use kc_lines::push_bytes;
+use kc_texts::{Sink, Source, TextFault, empty_piece, give_lines};
+use std::alloc::Global;
+
+/// Reads a trace to its end, and writes it with zeros in the place of the bytes that virtual processors write: the same
+/// header and the same lines, each as long as it was.
+///
+/// Nothing is written but after the whole trace was read. A source that fails, or that has more than 1,073,741,824 bytes,
+/// is `Read`, also where its bytes so far are refused already. Out of memory comes before a fault of the trace that stands
+/// further on.
+pub fn redact_text<T: Source, K: Sink>(
+    alloc: Global,
+    trace: &mut T,
+    out: &mut K,
+) -> Result<(), TextFault>
+    requires trace { T.failed trace.old ≡ false }
+    requires out { K.failed out.old ≡ false }
+
+    // What is written is the redacted trace of the trace that the source held.
+    ensures ok { OnOk result (Redacts (T.left trace.old) (K.taken out.old) (K.taken out.new)) }
+    ensures sources { TellsSources (seen (T.failed trace.new) (T.left trace.old) (T.left trace.new) ∷ []) result }
+    ensures sink { TellsSink (K.failed out.new) (BeginsRedaction (T.left trace.old) (K.taken out.old) (K.taken out.new)) (out.new ≡ out.old) result }
+
+    // A fault of the trace is that of all the bytes that the source held, and no other fault comes.
+    ensures trace { (fault : TraceFault) → result ≡ Err (TextFault.Trace fault) → IfSome (T.left trace.old) (λ text. IsRefused text fault) × IsAtEnd (T.left trace.new) }
+    ensures others { IfErr result IsRedactFault }
+{
+    let (head, calls) = read_redacted(alloc, trace)?;
+    // All memory that writing takes is there before the first byte is written.
+    let Ok(mut piece) = empty_piece(alloc) else {
+        return Err(TextFault::Memory);
+    };
+    push_bytes(&mut piece, &head);
+    match give_lines(out, piece, &calls) {
+        Ok(()) => Ok(()),
+        Err(_) => Err(TextFault::Write),
+    }
+}

@@ -1,0 +1,152 @@
+//! A trace that is redacted as it is read.
+ghost use Rattle.std.specs.Prelude.{◌≡◌, ◌≢◌, ◌<◌, ◌≤◌, ◌+◌, ◌++◌, [], ℕ, List, Option, false, true, length, take, is_err, IfOk, IfErr, IfSome, OnOk, Err};
+ghost use Rattle.std.specs.Io.KnownBytes.{Consumes, IsAtEnd};
+ghost use Rattle.kc_types.specs.Limits.{byte_limit};
+ghost use Rattle.kc_types.specs.declared.call.Call.{Call};
+ghost use Rattle.kc_trace.specs.Trace.{IsTrace, IsRefused};
+ghost use Rattle.kc_trace.specs.declared.fault.TraceFault.{TraceFault};
+ghost use Rattle.kc_texts.specs.Ends.{ReadFailed};
+ghost use Rattle.kc_texts.specs.Streamed.{HasRead};
+ghost use Rattle.kc_redact.specs.Redacted.{redacted};
+ghost use Rattle.kc_redact_text.specs.Reading.{stream_of, HasTaken, HasGoneOn, IsHeadAndCalls, IsReadingFault};
+
+use crate::calls::RedactedCall;
+use kc_texts::{Failed, PIECE, ReadFault, Source, TextFault};
+use kc_trace::{TraceFault, TraceReader};
+use kc_types::{BYTE_LIMIT, Call, Memory, SecretBytes};
+use std::alloc::{AllocError, Global};
+
+/// How many bytes the header of a trace has, with its newline.
+pub const HEADER: usize = 14;
+
+/// Reads the bytes that a source begins with, as many as a header has, or all if there are fewer, and answers how many.
+fn read_head<T: Source>(source: &mut T, head: &mut [u8; HEADER]) -> Result<usize, Failed>
+    requires { T.failed source.old ≡ false }
+    ensures within { IfOk result (λ n. n ≤ 14) }
+    ensures ok { IfOk result (λ n. Consumes (T.left source.old) (T.left source.new) (take n head.new)) }
+    ensures short { IfOk result (λ n. n < 14 → IsAtEnd (T.left source.new)) }
+    ensures mark { T.failed source.new ≡ is_err result }
+{
+    let mut used = 0;
+    while used < HEADER {
+        let n = source.read(&mut head[used..])?;
+        if n == 0 {
+            break;
+        }
+        used += n;
+    }
+    Ok(used)
+}
+
+/// Appends some calls as a redacted trace has them. The memory of what virtual processors write is zeroed.
+fn push_each(calls: &mut Vec<RedactedCall>, more: Vec<Call>) -> Result<(), AllocError>
+    ensures { OnOk result (calls.new.items ≡ calls.old.items ++ redacted more.items) }
+{
+    calls.reserve(more.len())?;
+    for call in more {
+        calls.push(RedactedCall::new(call))?;
+    }
+    Ok(())
+}
+
+/// What was read of a trace: how far, and the calls so far, redacted.
+#[derive(Drop)]
+struct Redacting {
+    reader: TraceReader,
+    total: usize,
+    calls: Vec<RedactedCall>,
+}
+
+impl Redacting {
+    /// In front of the header.
+    fn new(alloc: Global) -> Redacting
+        ensures read { (first : Option (List ℕ)) → HasRead (stream_of result) [] [] first first }
+        ensures calls { result.calls.items ≡ [] }
+        ensures total { result.total ≡ 0 }
+    {
+        Redacting {
+            reader: TraceReader::new(),
+            total: 0,
+            calls: Vec::new(alloc),
+        }
+    }
+
+    /// Takes the next bytes. After a fault of the trace, which the reader reports at its end, they are only counted.
+    fn take(&mut self, alloc: Global, piece: &[u8]) -> Result<(), ReadFault>
+        requires { self.old.total ≤ byte_limit }
+        ensures ok { OnOk result (HasTaken self.old self.new piece.now) }
+        ensures total { OnOk result (self.new.total ≡ self.old.total + length piece.now) }
+        ensures few { OnOk result (self.new.total ≤ byte_limit) }
+        ensures read { result ≡ Err ReadFault.Read → byte_limit < self.old.total + length piece.now }
+    {
+        if piece.len() > BYTE_LIMIT - self.total {
+            return Err(ReadFault::Read);
+        }
+        self.total += piece.len();
+        match self.reader.feed(alloc, piece) {
+            Ok(more) => match push_each(&mut self.calls, more) {
+                Ok(()) => Ok(()),
+                Err(_) => Err(ReadFault::Memory),
+            },
+            Err(TraceFault::Memory) => Err(ReadFault::Memory),
+            Err(_) => Ok(()),
+        }
+    }
+
+    /// Takes all that a source has left. The memory of a piece is zeroed before it goes.
+    fn take_rest<T: Source>(&mut self, alloc: Global, source: &mut T) -> Result<(), ReadFault>
+        requires few { self.old.total ≤ byte_limit }
+        requires whole { T.failed source.old ≡ false }
+        ensures ok { OnOk result (HasGoneOn self.old self.new (T.left source.old) (T.left source.new)) }
+        ensures ended { OnOk result (IsAtEnd (T.left source.new)) }
+        ensures mark { OnOk result (T.failed source.new ≡ false) }
+        ensures read { result ≡ Err ReadFault.Read → (bytes : List ℕ) (calls : List Call) (first : Option (List ℕ)) → HasRead (stream_of self.old) bytes calls first (T.left source.old) → ReadFailed (T.failed source.new) first (T.left source.new) }
+        // A read that failed is never reported as out of memory.
+        ensures memory { result ≡ Err ReadFault.Memory → T.failed source.new ≡ false }
+    {
+        let Ok(piece) = vec![in alloc; 0u8; PIECE] else {
+            return Err(ReadFault::Memory);
+        };
+        let mut buffer = SecretBytes::new(piece);
+        'pieces: loop {
+            let Ok(n) = source.read(buffer.as_mut_slice()) else {
+                return Err(ReadFault::Read);
+            };
+            if n == 0 {
+                return Ok(());
+            }
+            self.take(alloc, &buffer.as_slice()[..n])?;
+        }
+    }
+}
+
+/// The header of the trace that a source has left, and its calls, redacted.
+pub fn read_redacted<T: Source>(
+    alloc: Global,
+    source: &mut T,
+) -> Result<([u8; HEADER], Vec<RedactedCall>), TextFault>
+    requires { T.failed source.old ≡ false }
+    ensures ok { IfOk result (λ read. IfSome (T.left source.old) (λ text. IsHeadAndCalls text read.0 read.1.items)) }
+    ensures ended { OnOk result (IsAtEnd (T.left source.new)) }
+    ensures trace { (fault : TraceFault) → result ≡ Err (TextFault.Trace fault) → IfSome (T.left source.old) (λ text. IsRefused text fault) × IsAtEnd (T.left source.new) }
+    ensures read { result ≡ Err TextFault.Read → ReadFailed (T.failed source.new) (T.left source.old) (T.left source.new) }
+    ensures failed { T.failed source.new ≡ true → result ≡ Err TextFault.Read }
+    ensures fault { IfErr result IsReadingFault }
+{
+    let mut head = [0u8; HEADER];
+    let Ok(begun) = read_head(source, &mut head) else {
+        return Err(TextFault::Read);
+    };
+    let mut redacting = Redacting::new(alloc);
+    redacting.take(alloc, &head[..begun])?;
+    redacting.take_rest(alloc, source)?;
+    let Redacting {
+        reader,
+        total: _,
+        calls,
+    } = redacting;
+    match reader.finish() {
+        Ok(()) => Ok((head, calls)),
+        Err(fault) => Err(TextFault::Trace(fault)),
+    }
+}
