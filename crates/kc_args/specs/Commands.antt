@@ -27,6 +27,9 @@ dump_rule = record (new_rule (codes "dump")) { long = Some (codes "dump"); actio
 abbrev pub state_rule : Rule
 state_rule = record (new_rule (codes "state")) { long = Some (codes "state"); action = Some SetTrue }
 
+abbrev pub blank_rule : Rule
+blank_rule = record (new_rule (codes "blank")) { long = Some (codes "blank"); action = Some SetTrue }
+
 -- a whole number from 0 to 63
 abbrev pub vm_rule : Rule
 vm_rule = record (new_rule (codes "vm")) { long = Some (codes "vm"); value_names = 1; parser = Some (Signed (pos 0) (pos (slot_limit - 1))) }
@@ -46,7 +49,7 @@ abbrev pub explain_rule : Rule
 explain_rule = record (new_rule (codes "explain")) { long = Some (codes "explain"); action = Some SetTrue }
 
 abbrev pub replay : App
-replay = with_rule (with_rule (with_rule (with_rule (with_rule (with_rule (with_rule (new_app (codes "replay")) config_rule) from_rule) to_rule) workers_rule) dump_rule) state_rule) explain_rule
+replay = with_rule (with_rule (with_rule (with_rule (with_rule (with_rule (with_rule (with_rule (new_app (codes "replay")) config_rule) from_rule) to_rule) workers_rule) dump_rule) state_rule) blank_rule) explain_rule
 
 abbrev pub live : App
 live = with_rule (with_rule (with_rule (new_app (codes "live")) config_rule) workers_rule) explain_rule
@@ -57,6 +60,9 @@ custody = with_rule (with_rule (with_rule (with_rule (with_rule (with_rule (new_
 abbrev pub audit : App
 audit = with_rule (with_rule (new_app (codes "audit")) all_rule) explain_rule
 
+abbrev pub redact : App
+redact = with_rule (new_app (codes "redact")) explain_rule
+
 -- the command with `replay` alone
 abbrev pub base : App
 base = with_subcommand (on_top (λ s. record s { no_binary_name = true; has_version = true }) (new_app (codes "kcore"))) replay.top
@@ -65,9 +71,13 @@ base = with_subcommand (on_top (λ s. record s { no_binary_name = true; has_vers
 abbrev pub more : App
 more = with_subcommand base live.top
 
--- the command with all but `audit`
+-- the command with `replay`, `live` and `custody`
+abbrev pub many : App
+many = with_subcommand more custody.top
+
+-- the command with all but `redact`
 abbrev pub most : App
-most = with_subcommand more custody.top
+most = with_subcommand many audit.top
 
 abbrev pub kcore : App
-kcore = with_subcommand most audit.top
+kcore = with_subcommand most redact.top

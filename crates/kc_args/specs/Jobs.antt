@@ -8,7 +8,7 @@ use Rattle.clap.specs.declared.error.kind.ErrorKind.{ErrorKind}
 use Rattle.clap.specs.declared.error.kind.ErrorKind.TheVariants.{DisplayHelp, DisplayVersion, OutOfMemory}
 use Rattle.kc_types.specs.Limits.{worker_limit}
 use Rattle.kc_args.specs.declared.job.Job.{Job}
-use Rattle.kc_args.specs.declared.job.Job.TheVariants.{Replay, Live, Custody, Audit}
+use Rattle.kc_args.specs.declared.job.Job.TheVariants.{Replay, Live, Custody, Audit, Redact}
 use Rattle.kc_args.specs.declared.job.ArgFault.{ArgFault}
 use Rattle.kc_args.specs.declared.job.ArgFault.TheVariants.{Memory, Words}
 use Rattle.kc_args.specs.Commands.{kcore}
@@ -41,21 +41,23 @@ HasOptions rows config workers = HasPath (codes "config") rows config × (worker
 abbrev pub IsSet : Text → List Row → Type 0
 IsSet flag rows = first_of flag rows ≡ Some (codes "true")
 
--- what the subcommand of this name asks for, by the rows of its options: there are `replay`, `live`, `custody` and `audit` alone
+-- what the subcommand of this name asks for, by the rows of its options: there are `replay`, `live`, `custody`, `audit` and `redact` alone
 abbrev pub IsJobIn : Text → List Row → Job → Type 0
-IsJobIn name rows (Replay config from to workers dump state explain) = (name ≢ codes "live") × (name ≢ codes "custody") × (name ≢ codes "audit") × HasOptions rows config workers × HasPath (codes "from") rows from × HasPath (codes "to") rows to
-    × (IsTrue dump ↔ IsSet (codes "dump") rows) × (IsTrue state ↔ IsSet (codes "state") rows) × (IsTrue explain ↔ IsSet (codes "explain") rows)
+IsJobIn name rows (Replay config from to workers dump state blank explain) = (name ≢ codes "live") × (name ≢ codes "custody") × (name ≢ codes "audit") × (name ≢ codes "redact") × HasOptions rows config workers × HasPath (codes "from") rows from × HasPath (codes "to") rows to
+    × (IsTrue dump ↔ IsSet (codes "dump") rows) × (IsTrue state ↔ IsSet (codes "state") rows) × (IsTrue blank ↔ IsSet (codes "blank") rows) × (IsTrue explain ↔ IsSet (codes "explain") rows)
 IsJobIn name rows (Live config workers explain) = (name ≡ codes "live") × HasOptions rows config workers × (IsTrue explain ↔ IsSet (codes "explain") rows)
 IsJobIn name rows (Custody config from vm summary svg explain) = (name ≡ codes "custody") × HasPath (codes "config") rows config × HasPath (codes "from") rows from × (vm ≡ vm_in rows)
     × (IsTrue summary ↔ IsSet (codes "summary") rows) × (IsTrue svg ↔ IsSet (codes "svg") rows) × (IsTrue explain ↔ IsSet (codes "explain") rows)
 IsJobIn name rows (Audit all explain) = (name ≡ codes "audit") × (IsTrue all ↔ IsSet (codes "all") rows) × (IsTrue explain ↔ IsSet (codes "explain") rows)
+IsJobIn name rows (Redact explain) = (name ≡ codes "redact") × (IsTrue explain ↔ IsSet (codes "explain") rows)
 
 -- the same where there may be no subcommand: then it is as if `replay` stood there alone
 abbrev pub Asks : Option (Text × List Row) → Job → Type 0
-Asks None (Replay config from to workers dump state explain) = HasOptions [] config workers × HasPath (codes "from") [] from × HasPath (codes "to") [] to × (dump ≡ false) × (state ≡ false) × (explain ≡ false)
+Asks None (Replay config from to workers dump state blank explain) = HasOptions [] config workers × HasPath (codes "from") [] from × HasPath (codes "to") [] to × (dump ≡ false) × (state ≡ false) × (blank ≡ false) × (explain ≡ false)
 Asks None (Live config workers explain) = ⊥
 Asks None (Custody config from vm summary svg explain) = ⊥
 Asks None (Audit all explain) = ⊥
+Asks None (Redact explain) = ⊥
 Asks (Some found) job = IsJobIn found.0 found.1 job
 
 -- clap's rules find no fault in the words, and the job is what they hold for the program's command

@@ -3,7 +3,7 @@ ghost use Rattle.std.specs.Prelude.{◌≡◌, ◌↔◌, IfOk, IfErr, IsTrue, m
 ghost use Rattle.clap.specs.declared.builder.command.Command.TheViews.{out-Command as fields_of};
 ghost use Rattle.clap.specs.Words.{app_of, rule_of, found_of, rows_of, first_of};
 ghost use Rattle.clap.specs.Values.{kind_of};
-ghost use Rattle.kc_args.specs.Commands.{kcore, replay, live, custody, audit, config_rule, from_rule, to_rule, workers_rule, dump_rule, state_rule, vm_rule, summary_rule, svg_rule, all_rule, explain_rule};
+ghost use Rattle.kc_args.specs.Commands.{kcore, replay, live, custody, audit, redact, config_rule, from_rule, to_rule, workers_rule, dump_rule, state_rule, blank_rule, vm_rule, summary_rule, svg_rule, all_rule, explain_rule};
 ghost use Rattle.kc_args.specs.Jobs.{in_range, workers_in, slot_in, vm_in, IsSet, IsJob, IsJobIn, IsRefusal, HasStatus};
 
 use clap::error::ErrorKind;
@@ -16,8 +16,9 @@ use std::alloc::{AllocError, Global};
 pub enum Job<'a> {
     /// Replay the trace on standard input, with the configuration in a file where a path is given, or from the state whose
     /// text is in the file `from`, by 1 to 64 workers, and write the replies, or with `dump` the dump of the core that it
-    /// leaves, or with `state` the text of its state; and compare that text with the file `to` where a path is given.
-    /// `config` and `from` exclude each other, and `dump` and `state`. `explain`, here and below: say more of a fault.
+    /// leaves, or with `state` the text of its state; and compare that text with the file `to` where a path is given; all
+    /// this with `blank` of the core with the pages of active VMs zeroed. `config` and `from` exclude each other, and `dump`
+    /// and `state`, and `blank` needs one of `dump`, `state` and `to`. `explain`, here and below: say more of a fault.
     Replay {
         config: Option<&'a str>,
         from: Option<&'a str>,
@@ -25,6 +26,7 @@ pub enum Job<'a> {
         workers: u32,
         dump: bool,
         state: bool,
+        blank: bool,
         explain: bool,
     },
     /// Run the trace on standard input live, with the configuration in a file where a path is given, and replay the
@@ -49,6 +51,10 @@ pub enum Job<'a> {
     /// Audit the dump on standard input, and write each finding, or the report alone.
     Audit {
         all: bool,
+        explain: bool,
+    },
+    /// Write the trace on standard input, with zeros in place of the bytes that VMs write.
+    Redact {
         explain: bool,
     },
 }
@@ -138,6 +144,16 @@ fn state_arg<'a>(alloc: Global) -> Arg<'a>
         )
 }
 
+fn blank_arg<'a>(alloc: Global) -> Arg<'a>
+    ensures rule { rule_of result ≡ blank_rule }
+    ensures local { result.global ≡ false }
+{
+    Arg::new(alloc, "blank")
+        .long("blank")
+        .action(ArgAction::SetTrue)
+        .help("Zero the pages of active VMs first, for --dump, --state and --to")
+}
+
 fn vm_arg<'a>(alloc: Global) -> Arg<'a>
     ensures rule { rule_of result ≡ vm_rule }
     ensures local { result.global ≡ false }
@@ -204,6 +220,7 @@ fn replay_command<'a>(alloc: Global) -> Result<Command<'a>, AllocError>
         .arg(workers_arg(alloc))?
         .arg(dump_arg(alloc))?
         .arg(state_arg(alloc))?
+        .arg(blank_arg(alloc))?
         .arg(explain_arg(alloc))
 }
 
@@ -249,6 +266,16 @@ fn audit_command<'a>(alloc: Global) -> Result<Command<'a>, AllocError>
         .arg(explain_arg(alloc))
 }
 
+fn redact_command<'a>(alloc: Global) -> Result<Command<'a>, AllocError>
+    ensures app { IfOk result (λ c. app_of c ≡ redact) }
+    ensures local { IfOk result (λ c. (fields_of c).has_globals ≡ false) }
+{
+    Command::new(alloc, "redact")
+        .about("Write the trace on standard input with zeros in place of the bytes that VMs write")
+        .override_usage("kcore redact [OPTIONS]")
+        .arg(explain_arg(alloc))
+}
+
 /// The whole command.
 fn command<'a>(alloc: Global) -> Result<Command<'a>, AllocError>
     ensures app { IfOk result (λ c. app_of c ≡ kcore) }
@@ -257,6 +284,7 @@ fn command<'a>(alloc: Global) -> Result<Command<'a>, AllocError>
     let live = live_command(alloc)?;
     let custody = custody_command(alloc)?;
     let audit = audit_command(alloc)?;
+    let redact = redact_command(alloc)?;
     let base = Command::new(alloc, "kcore")
         .no_binary_name(true)
         .version(VERSION)
@@ -264,7 +292,8 @@ fn command<'a>(alloc: Global) -> Result<Command<'a>, AllocError>
         .subcommand(replay)?;
     base.subcommand(live)?
         .subcommand(custody)?
-        .subcommand(audit)
+        .subcommand(audit)?
+        .subcommand(redact)
 }
 
 /// What is printed in place of a job.
@@ -354,6 +383,9 @@ fn job_in<'a>(name: &str, found: &ArgMatches<'a>) -> Job<'a>
         let all = is_set(found, "all");
         return Job::Audit { all, explain };
     }
+    if is_named(name, "redact") {
+        return Job::Redact { explain };
+    }
     let config = text_in(found, "config");
     if is_named(name, "custody") {
         return Job::Custody {
@@ -380,14 +412,15 @@ fn job_in<'a>(name: &str, found: &ArgMatches<'a>) -> Job<'a>
         workers,
         dump: is_set(found, "dump"),
         state: is_set(found, "state"),
+        blank: is_set(found, "blank"),
         explain,
     }
 }
 
 /// What the words, without the program's name, ask for: `replay` or `live`, with or without `--config PATH` and
-/// `--workers N` with a number from 1 to 64, `replay` also with `--from PATH`, `--to PATH`, `--dump` and `--state`; `custody`, with or without `--config PATH` and
-/// `--vm V` with a number from 0 to 63, `--summary` and `--svg`; `audit`, also with `--all`; each also with
-/// `--explain`; and `replay` for no words at all.
+/// `--workers N` with a number from 1 to 64, `replay` also with `--from PATH`, `--to PATH`, `--dump`, `--state` and
+/// `--blank`; `custody`, with or without `--config PATH` and `--vm V` with a number from 0 to 63, `--summary` and `--svg`;
+/// `audit`, also with `--all`; `redact`; each also with `--explain`; and `replay` for no words at all.
 pub fn job_of<'a>(alloc: Global, words: &'a [&'a str]) -> Result<Job<'a>, ArgFault>
     // The job is what the words say by the command's rules, and only words that break them are refused.
     ensures job { IfOk result (IsJob (map (λ w. w.now) words.entry.now)) }
@@ -406,6 +439,7 @@ pub fn job_of<'a>(alloc: Global, words: &'a [&'a str]) -> Result<Job<'a>, ArgFau
             workers: 1,
             dump: false,
             state: false,
+            blank: false,
             explain: false,
         }),
     }

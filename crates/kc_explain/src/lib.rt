@@ -7,6 +7,7 @@ mod config_key;
 mod look;
 mod masked;
 mod noted;
+mod progress;
 mod shown;
 mod trace_line;
 
@@ -14,5 +15,6 @@ pub use config_key::explain_config;
 pub use look::{Kind, Look, look_of};
 pub use masked::{Masked, Shortened};
 pub use noted::Noted;
-pub use shown::Shown;
+pub use progress::Progress;
+pub use shown::{Awaited, Erasing, Shown};
 pub use trace_line::{LineFault, fault_of_line};

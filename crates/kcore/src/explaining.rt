@@ -1,28 +1,21 @@
 //! What `--explain` says behind a fault's line.
 use crate::Input;
+use crate::folder::{Folder, Named};
 use kc_cli::{Std, TextFault};
 use kc_dump_text::DumpFault;
 use kc_explain::{Kind, Masked, Noted, Shortened, explain_config, fault_of_line, look_of};
 use kc_trace::{ConfigTextFault, TraceFault};
 use kc_types::{BYTE_LIMIT, ConfigFault};
 use std::fs::{File, metadata};
-use std::io::{Error, ErrorKind, Read};
+use std::io::{ErrorKind, Read};
 
 const TOO_LONG: &str = "it has more than 1073741824 bytes";
 
-/// A file that a word names, as the engines read it.
-#[derive(Drop)]
-pub struct Named<'a> {
-    pub path: &'a str,
-    pub source: Noted<Std<File>>,
-}
-
-/// What was read where a fault came: the file that the calls begin with, that which the state left is compared with, and
-/// standard input.
+/// What was read before a fault came: the files, of which that which calls begin with was given back last, and standard
+/// input.
 #[derive(Drop)]
 pub struct Reading<'a> {
-    start: Option<&'a Named<'a>>,
-    to: Option<&'a Named<'a>>,
+    files: &'a [Named],
     head: &'a [u8],
     line: &'a [u8],
     total: u64,
@@ -39,8 +32,8 @@ fn reason(kind: ErrorKind) -> &'static str {
 }
 
 /// Says why the file at a path can't be opened.
-pub fn explain_open(rt: &HostRuntime, path: &str, error: &Error) {
-    let (path, why) = (Masked(path), reason(error.kind()));
+pub fn explain_open(rt: &HostRuntime, path: &str, kind: ErrorKind) {
+    let (path, why) = (Masked(path), reason(kind));
     let _ = eprintln!(rt; "  {path}: {why}");
 }
 
@@ -100,15 +93,10 @@ pub fn explain_words(rt: &HostRuntime, words: &[&str]) {
 }
 
 impl<'a> Reading<'a> {
-    /// The files, where words name them, and standard input.
-    pub fn of(
-        start: Option<&'a Named<'a>>,
-        to: Option<&'a Named<'a>>,
-        input: &'a Input<'_>,
-    ) -> Reading<'a> {
+    /// The files that were given back, and standard input.
+    pub fn of(files: &'a Folder<'_>, input: &'a Input<'_>) -> Reading<'a> {
         Reading {
-            start,
-            to,
+            files: &files.read,
             head: input.head(),
             line: input.line(),
             total: input.total(),
@@ -153,8 +141,10 @@ impl<'a> Reading<'a> {
     }
 
     fn explain_config(&self, rt: &HostRuntime, fault: &ConfigTextFault) {
-        let Some(start) = self.start else { return };
-        let path = Masked(start.path);
+        let Some(start) = self.files.last() else {
+            return;
+        };
+        let path = Masked(start.path.as_str());
         match fault {
             ConfigTextFault::Config(ConfigFault::Frames) => {
                 let _ = eprintln!(rt;
@@ -182,13 +172,11 @@ impl<'a> Reading<'a> {
 
     /// Of the file whose reading failed, else of standard input.
     fn explain_read(&self, rt: &HostRuntime) {
-        for file in [self.start, self.to] {
-            if let Some(file) = file {
-                if let Some(why) = unread_file(&file.source) {
-                    let path = Masked(file.path);
-                    let _ = eprintln!(rt; "  {path}: {why}");
-                    return;
-                }
+        for file in self.files.iter().rev() {
+            if let Some(why) = unread_file(&file.source) {
+                let path = Masked(file.path.as_str());
+                let _ = eprintln!(rt; "  {path}: {why}");
+                return;
             }
         }
         let why = unread_input(rt, self.total);

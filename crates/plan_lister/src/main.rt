@@ -1,23 +1,26 @@
 //! What each call of a trace may touch, and its wave, to be compared with what another program finds; how long finding
-//! that takes; what a replay gives whose waves are all taken by workers, whatever they gain; or what a live run leaves.
+//! that takes; what a replay gives whose waves are all taken by workers, whatever they gain; what a live run leaves; or
+//! whether a core is turned over while it is called.
 //!
 //! The words are the paths of a configuration and of a trace, and perhaps a number, how often to measure; or the word
-//! `replay` or `dump` and a number of workers; or the word `live`.
+//! `replay` or `dump` and a number of workers; or the word `live` or `turn`.
 #![tactic(auto)]
 
 use anyhow::{Result, bail};
 use kc_core::KCore;
 use kc_digests::Lanes;
 use kc_dump_text::write_dump;
-use kc_live::{Entry, History, LiveStop, run_trace};
-use kc_replay::{Gate, OpenGate, Outcome, Plan, footprints, replay};
+use kc_live::{Entry, History, LiveCore, LiveStop, Seat, Volume, run_trace};
+use kc_replay::{Gate, Outcome, Plan, footprints, replay};
 use kc_state::dump;
 use kc_trace::{read_config, read_trace, write_replies, write_trace};
-use kc_types::{Call, Config, Resource};
+use kc_types::{Actor, Call, Config, Resource};
 use std::io::Write;
+use std::rt::Clock;
 use std::sync::Wait;
-use std::thread::Threads;
-use std::time::CpuClock;
+use std::sync::atomic::{AtomicBool, Ordering};
+use std::thread::{Threads, join};
+use std::time::{CpuClock, Instant};
 use std::{env, fs};
 
 /// The most calls that are planned.
@@ -81,13 +84,21 @@ fn print_time(rt: &HostRuntime, core: &KCore, calls: &[Call]) -> Result<()> {
     Ok(())
 }
 
-/// A gate at which calls could wait for each other, so that every wave of two calls and more is taken by workers.
-struct MeetingPlace;
+/// A gate at which calls could wait for each other, so that every wave of two calls and more is taken by workers. It looks
+/// at the clock before each call and after it, by which a program around this one sees when a call is told.
+#[derive(Drop)]
+struct MeetingPlace<'a, R: Clock + Sync> {
+    rt: &'a R,
+}
 
-impl Gate for MeetingPlace {
-    fn before(&self, _number: usize) {}
+impl<'a, R: Clock + Sync> Gate for MeetingPlace<'a, R> {
+    fn before(&self, _number: usize) {
+        let _ = Instant::now(self.rt);
+    }
 
-    fn after(&self, _number: usize) {}
+    fn after(&self, _number: usize) {
+        let _ = Instant::now(self.rt);
+    }
 
     fn may_wait(&self) -> bool {
         true
@@ -95,7 +106,7 @@ impl Gate for MeetingPlace {
 }
 
 /// What a replay by so many workers gives: the replies, or the dump of the core that it leaves.
-fn print_replay<R: Threads + Wait + Sync>(
+fn print_replay<R: Threads + Wait + Clock + Sync>(
     rt: &HostRuntime,
     threads: &R,
     config: Config,
@@ -107,7 +118,8 @@ fn print_replay<R: Threads + Wait + Sync>(
     if calls.len() > MOST_CALLS {
         bail!("too many calls");
     }
-    let Outcome { replies, core } = replay(threads, alloc, config, calls, workers, &MeetingPlace)?;
+    let gate = MeetingPlace { rt: threads };
+    let Outcome { replies, core } = replay(threads, alloc, config, calls, workers, &gate)?;
     let text = if dumps {
         let dumped = dump(threads, alloc, &core, Lanes::Four)?;
         write_dump(alloc, &dumped)?
@@ -138,13 +150,14 @@ fn print_history(rt: &HostRuntime, history: History) -> Result<()> {
 /// What a live run leaves, with a thread for each actor of the trace: the calls of its history. Where it gave no answer, a
 /// line with the cause comes first, and whether the receipts are those of the history; there are no calls where it left
 /// no history.
-fn print_live<R: Threads + Wait + Sync>(
+fn print_live<R: Threads + Wait + Clock + Sync>(
     rt: &HostRuntime,
     threads: &R,
     config: Config,
     calls: Vec<Call>,
 ) -> Result<()> {
-    match run_trace(threads, rt.alloc(), config, calls, &OpenGate) {
+    let gate = MeetingPlace { rt: threads };
+    match run_trace(threads, rt.alloc(), config, calls, &gate) {
         Ok(history) => print_history(rt, history),
         Err(stop) => {
             let LiveStop {
@@ -159,6 +172,66 @@ fn print_live<R: Threads + Wait + Sync>(
             }
         },
     }
+}
+
+/// Makes the host's calls from a seat, and turns the core over behind them: the volume that they are in.
+fn make_and_turn<R: Wait>(
+    rt: &R,
+    core: &LiveCore,
+    seat: &mut Seat,
+    calls: Vec<Call>,
+    is_over: &AtomicBool,
+) -> Option<Volume> {
+    let mut all_made = true;
+    for call in calls {
+        all_made = all_made && core.call(rt, seat, call).is_ok();
+    }
+    let volume = core.turn(rt);
+    is_over.store(true, Ordering::SeqCst);
+    if all_made { volume.ok() } else { None }
+}
+
+/// Makes a guest's reads, of which the first 65,536 may be in a volume, until it is over.
+fn read_until<R: Wait>(rt: &R, core: &LiveCore, seat: &mut Seat, is_over: &AtomicBool) {
+    for _ in rt.forever() {
+        if is_over.load(Ordering::SeqCst) {
+            return;
+        }
+        let _ = core.call(
+            rt,
+            seat,
+            Call::GuestRead {
+                vm: 0,
+                vcpu: 0,
+                gfn: 0,
+                offset: 0,
+                len: 30,
+            },
+        );
+    }
+}
+
+/// A line that says whether the host's calls were made and the core was turned over behind them, while a guest's calls
+/// were made.
+fn print_turn<R: Threads + Wait + Sync>(
+    rt: &HostRuntime,
+    threads: &R,
+    config: Config,
+    calls: Vec<Call>,
+) -> Result<()> {
+    let alloc = rt.alloc();
+    let core = LiveCore::new(alloc, config)?;
+    let is_over = AtomicBool::new(false);
+    let mut guest = Seat::new(alloc, Actor::Vcpu(0, 0));
+    let mut host = Seat::new(alloc, Actor::Host);
+    let (volume, _) = join(
+        threads,
+        || make_and_turn(threads, &core, &mut host, calls, &is_over),
+        || read_until(threads, &core, &mut guest, &is_over),
+    );
+    let is_made = volume.is_some();
+    println!(rt; "made and turned over: {is_made}")?;
+    Ok(())
 }
 
 fn read_machine(rt: &HostRuntime, path: &str) -> Result<Config> {
@@ -180,7 +253,7 @@ fn print_times(rt: &HostRuntime, core: &KCore, calls: &[Call], times: &str) -> R
 }
 
 /// What the words behind configuration and trace ask for.
-fn print_asked<R: Threads + Wait + Sync>(
+fn print_asked<R: Threads + Wait + Clock + Sync>(
     rt: &HostRuntime,
     threads: &R,
     config: Config,
@@ -190,6 +263,7 @@ fn print_asked<R: Threads + Wait + Sync>(
 ) -> Result<()> {
     match (word, number) {
         (Some("live"), _) => print_live(rt, threads, config, calls),
+        (Some("turn"), _) => print_turn(rt, threads, config, calls),
         (Some(word), Some(workers)) => {
             let workers = workers.parse::<usize>()?;
             print_replay(
@@ -215,7 +289,9 @@ fn print_asked<R: Threads + Wait + Sync>(
 fn main(rt: HostRuntime) -> Result<()> {
     let words = env::args(&rt)?.skip(1).collect::<Vec<String>>(rt.alloc())?;
     let (Some(config), Some(trace)) = (words.first(), words.get(1)) else {
-        bail!("usage: plan_lister CONFIG TRACE [TIMES | replay WORKERS | dump WORKERS | live]");
+        bail!(
+            "usage: plan_lister CONFIG TRACE [TIMES | replay WORKERS | dump WORKERS | live | turn]"
+        );
     };
     let config = read_machine(&rt, config.as_str())?;
     let calls = read_calls(&rt, trace.as_str())?;

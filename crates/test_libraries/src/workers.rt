@@ -17,6 +17,7 @@ fn worked(
     let order = ReplayOrder {
         origin: Origin::Boot,
         form: ReplayForm::Replies,
+        is_blank: false,
         workers,
         lanes: Lanes::Four,
     };

@@ -13,5 +13,6 @@ returns c =
     in
     let base_is : app_of c.in_ok-base.base ≡ base = c.in_ok-base.ensures.shape c.in_ok-replay.ensures.local ∙ ap₂ with_subcommand top_is (ap (λ (a : App). a.top) c.in_ok-replay.ensures.app) in
     let more_is = c.in_ok-subcommand.ensures.shape c.in_ok-live.ensures.local ∙ ap₂ with_subcommand base_is (ap (λ (a : App). a.top) c.in_ok-live.ensures.app) in
-    let most_is = c.in_ok-subcommand-2.ensures.shape c.in_ok-custody.ensures.local ∙ ap₂ with_subcommand more_is (ap (λ (a : App). a.top) c.in_ok-custody.ensures.app) in
-    record { app = IfOk-weaker c.subcommand-4.result _ _ (λ r h. h.shape c.in_ok-audit.ensures.local ∙ ap₂ with_subcommand most_is (ap (λ (a : App). a.top) c.in_ok-audit.ensures.app)) c.subcommand-4.ensures }
+    let many_is = c.in_ok-subcommand-2.ensures.shape c.in_ok-custody.ensures.local ∙ ap₂ with_subcommand more_is (ap (λ (a : App). a.top) c.in_ok-custody.ensures.app) in
+    let most_is = c.in_ok-subcommand-3.ensures.shape c.in_ok-audit.ensures.local ∙ ap₂ with_subcommand many_is (ap (λ (a : App). a.top) c.in_ok-audit.ensures.app) in
+    record { app = IfOk-weaker c.subcommand-5.result _ _ (λ r h. h.shape c.in_ok-redact.ensures.local ∙ ap₂ with_subcommand most_is (ap (λ (a : App). a.top) c.in_ok-redact.ensures.app)) c.subcommand-5.ensures }

@@ -1,4 +1,4 @@
-use Rattle.std.proofs.Common.{map, ap, ◌∙◌}
+use Rattle.std.proofs.Common.{map, ap, ◌∙◌, rules}
 use Rattle.clap.specs.Words.{App, app_of, found_of, rows_of, subcommand_rows_of, is_simple, is_simple_and_free, subcommand_of}
 use Rattle.clap.specs.Values.{kind_of}
 use Rattle.kc_args.proofs.Asking.{kcore_is_simple, kcore_is_free, asked_within, named, nothing_refused, refused_for}
@@ -19,3 +19,6 @@ returns-in-Err-clause-refused c =
     let app_is = c.in_ok-command.ensures.app in
     let words = map (λ w. w.now) c.args.words.now in
     refused_for words (app_of c.in_ok-command.field-0) (kind_of c.in-Err.error) c.refused.result app_is (c.in-Err.ensures.kinds (ap is_simple_and_free app_is ∙ kcore_is_free)) c.refused.ensures
+
+pub returns-clause-job : goal.returns-clause-job
+returns-clause-job c = search rules

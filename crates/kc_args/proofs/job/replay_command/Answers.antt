@@ -13,7 +13,8 @@ returns-clause-app c =
     let with_workers = c.in_ok-arg-4.ensures.shape c.workers_arg.ensures.local ∙ ap₂ with_rule with_to c.workers_arg.ensures.rule in
     let with_dump = c.in_ok-arg-5.ensures.shape c.dump_arg.ensures.local ∙ ap₂ with_rule with_workers c.dump_arg.ensures.rule in
     let with_state = c.in_ok-arg-6.ensures.shape c.state_arg.ensures.local ∙ ap₂ with_rule with_dump c.state_arg.ensures.rule in
-    IfOk-weaker c.arg-7.result _ _ (λ r h. h.shape c.explain_arg.ensures.local ∙ ap₂ with_rule with_state c.explain_arg.ensures.rule) c.arg-7.ensures
+    let with_blank = c.in_ok-arg-7.ensures.shape c.blank_arg.ensures.local ∙ ap₂ with_rule with_state c.blank_arg.ensures.rule in
+    IfOk-weaker c.arg-8.result _ _ (λ r h. h.shape c.explain_arg.ensures.local ∙ ap₂ with_rule with_blank c.explain_arg.ensures.rule) c.arg-8.ensures
 
 pub returns-clause-local : goal.returns-clause-local
 returns-clause-local c =
@@ -24,4 +25,5 @@ returns-clause-local c =
     let four = stays_local _ _ _ c.in_ok-arg-4.ensures three c.workers_arg.ensures.local in
     let five = stays_local _ _ _ c.in_ok-arg-5.ensures four c.dump_arg.ensures.local in
     let six = stays_local _ _ _ c.in_ok-arg-6.ensures five c.state_arg.ensures.local in
-    IfOk-weaker c.arg-7.result _ _ (λ r h. stays_local _ _ _ h six c.explain_arg.ensures.local) c.arg-7.ensures
+    let seven = stays_local _ _ _ c.in_ok-arg-7.ensures six c.blank_arg.ensures.local in
+    IfOk-weaker c.arg-8.result _ _ (λ r h. stays_local _ _ _ h seven c.explain_arg.ensures.local) c.arg-8.ensures

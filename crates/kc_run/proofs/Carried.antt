@@ -1,0 +1,212 @@
+-- What is told of an engine's answer is told of the ending that it is.
+use Rattle.std.proofs.Common.{◌≡◌, ◌≢◌, ◌<◌, ◌⊎◌, ◌∷◌, ◌↔◌, ℕ, Bool, true, false, List, [], Option, None, Some, Result, Ok, Err, inl, inr, refl}
+use Rattle.std.specs.Prelude.{IfOk, IfErr, IfSome, OnOk, IsErrOf}
+use Rattle.std.specs.Io.KnownBytes.{IsAtEnd}
+use Rattle.kc_types.specs.Limits.{worker_limit}
+use Rattle.kc_trace.specs.declared.fault.TraceFault.{TraceFault}
+use Rattle.kc_trace.specs.Trace.{IsRefused}
+use Rattle.kc_dump_text.specs.declared.fault.DumpFault.{DumpFault}
+use Rattle.kc_dump_text.specs.Refused.{IsRefusedDump}
+use Rattle.kc_texts.specs.declared.origin.Origin.{Origin}
+use Rattle.kc_texts.specs.declared.origin.Origin.TheVariants as origins
+use Rattle.kc_texts.specs.declared.fault.TextFault.{TextFault}
+use Rattle.kc_texts.specs.declared.fault.TextFault.TheVariants as texts
+use Rattle.kc_texts.specs.Audit.{Audits, BeginsAudit, IsDumpFault}
+use Rattle.kc_texts.specs.Outcomes.{Seen, TellsSources, TellsTexts, TellsReplay, TellsSink}
+use Rattle.kc_texts.specs.Reading.{Writes, Begins}
+use Rattle.kc_texts.proofs.Told.{sources_after, texts_after, replay_after, sources_err, texts_err, replay_err}
+use Rattle.kc_redact_text.specs.Redacts.{Redacts, BeginsRedaction, IsRedactFault}
+use Rattle.kc_cli.specs.declared.order.ReplayForm.{ReplayForm}
+use Rattle.kc_cli.specs.declared.account.CustodyForm.{CustodyForm}
+use Rattle.kc_cli.specs.Engine.{IsReplayText, IsLeftText}
+use Rattle.kc_cli.specs.Custody.{IsCustodyText, TellsCustody, origin_of}
+use Rattle.kc_cli.specs.Live.{IsLiveText, CouldRun, HasBadActor}
+use Rattle.kc_run.specs.declared.ending.Ending.{Ending}
+use Rattle.kc_run.specs.declared.ending.Ending.TheVariants as endings
+use Rattle.kc_run.specs.Endings.{Ended, done_as, judged_as}
+use Rattle.kc_run.specs.Run.{Ends, Replays, ReportsCustody, RunsLive, AuditsDump, RedactsTrace}
+
+sink_ok : {A B : Type 0} (failed : Bool) (begun untouched : Type 0) (x : A) (y : B) → TellsSink failed begun untouched (Ok x) → TellsSink failed begun untouched (Ok y)
+sink_ok failed begun untouched x y h = record { write = λ e. absurd cc; failed_is = λ bad. let e = h.failed_is bad in absurd cc; kept = tt }
+
+sink_err : {A B : Type 0} (failed : Bool) (begun untouched : Type 0) (f : TextFault) → TellsSink {A = A} failed begun untouched (Err f) → TellsSink {A = B} failed begun untouched (Err f)
+sink_err {A} {B} failed begun untouched f h = record {
+  write = λ e. h.write (let same : f ≡ texts.Write = cc in cc);
+  failed_is = λ bad. let e = h.failed_is bad in let same : f ≡ texts.Write = cc in cc;
+  kept = kept h.kept;
+}
+  where
+    kept : untouched ⊎ (◌≡◌ {A = Result A TextFault} (Err f) (Err texts.Write)) → untouched ⊎ (◌≡◌ {A = Result B TextFault} (Err f) (Err texts.Write))
+    kept (inl is) = inl is
+    kept (inr e) = let same : f ≡ texts.Write = cc in inr cc
+
+custody_ok : {A B : Type 0} (slot : Option ℕ) (origin : Origin) (start : Option (List ℕ)) (unread : Type 0) (x : A) (y : B) → TellsCustody slot origin start unread (Ok x) → TellsCustody slot origin start unread (Ok y)
+custody_ok slot origin start unread x y h = record { named = h.named; lacking = λ n e. absurd cc; workers = λ e. cc; started = λ e. cc; settled = λ e. cc; actor = λ p e. cc }
+
+custody_err : {A B : Type 0} (slot : Option ℕ) (origin : Origin) (start : Option (List ℕ)) (unread : Type 0) (f : TextFault) → TellsCustody {A = A} slot origin start unread (Err f) → TellsCustody {A = B} slot origin start unread (Err f)
+custody_err slot origin start unread f h = record {
+  named = tt;
+  lacking = λ n e. h.lacking n (let same : f ≡ texts.NoSlot n = cc in cc);
+  workers = λ e. h.workers (let same : f ≡ texts.Workers = cc in cc);
+  started = λ e. h.started (let same : f ≡ texts.Start = cc in cc);
+  settled = λ e. h.settled (let same : f ≡ texts.Unsettled = cc in cc);
+  actor = λ p e. h.actor p (let same : f ≡ texts.BadActor p = cc in cc);
+}
+
+pub replays : {A : Type 0} (origin : Origin) (form : ReplayForm) (blank : Bool) (workers : ℕ) (start : Seen) (ends : Ends) (r : Result A TextFault) → ends.refused ≡ None
+    → OnOk r (Writes (IsReplayText origin form blank) start.had ends.input.had ends.out.had ends.out.has) → TellsSources (start ∷ ends.input ∷ []) r → TellsTexts origin start ends.input ends.unread r → TellsReplay workers origin start.had r
+    → TellsSink ends.out.failed (Begins (IsReplayText origin form blank) start.had ends.input.had ends.out.had ends.out.has) ends.untouched r → Replays origin form blank workers start None ends (done_as r)
+replays origin form blank workers start ends (Ok x) opened written sources told replay sink = record {
+  opened = opened;
+  written = written;
+  compared = refl;
+  sources = sources_after _ x (Ok endings.Done) sources tt;
+  told = texts_after _ _ _ _ x (Ok endings.Done) told tt;
+  replay = replay_after _ _ _ x (Ok endings.Done) replay tt;
+  sink = sink_ok _ _ _ x endings.Done sink;
+}
+replays origin form blank workers start ends (Err f) opened written sources told replay sink = record {
+  opened = opened;
+  written = tt;
+  compared = tt;
+  sources = sources_err _ f sources;
+  told = texts_err _ _ _ _ f told;
+  replay = replay_err _ _ _ f replay;
+  sink = sink_err _ _ _ f sink;
+}
+
+pub compares : (origin : Origin) (form : ReplayForm) (blank : Bool) (workers : ℕ) (start to : Seen) (ends : Ends) (r : Result Bool TextFault) → ends.refused ≡ None
+    → OnOk r (Writes (IsReplayText origin form blank) start.had ends.input.had ends.out.had ends.out.has) → IfOk r (IsLeftText origin blank start.had ends.input.had to.had)
+    → TellsSources (start ∷ ends.input ∷ to ∷ []) r → TellsTexts origin start ends.input ends.unread r → TellsReplay workers origin start.had r
+    → TellsSink ends.out.failed (Begins (IsReplayText origin form blank) start.had ends.input.had ends.out.had ends.out.has) ends.untouched r → Replays origin form blank workers start (Some to) ends (judged_as r endings.Another)
+compares origin form blank workers start to ends (Ok true) opened written same sources told replay sink = record {
+  opened = opened;
+  written = written;
+  compared = same;
+  sources = sources_after _ true (Ok endings.Done) sources tt;
+  told = texts_after _ _ _ _ true (Ok endings.Done) told tt;
+  replay = replay_after _ _ _ true (Ok endings.Done) replay tt;
+  sink = sink_ok _ _ _ true endings.Done sink;
+}
+compares origin form blank workers start to ends (Ok false) opened written same sources told replay sink = record {
+  opened = opened;
+  written = written;
+  compared = same;
+  sources = sources_after _ false (Ok endings.Another) sources tt;
+  told = texts_after _ _ _ _ false (Ok endings.Another) told tt;
+  replay = replay_after _ _ _ false (Ok endings.Another) replay tt;
+  sink = sink_ok _ _ _ false endings.Another sink;
+}
+compares origin form blank workers start to ends (Err f) opened written same sources told replay sink = record {
+  opened = opened;
+  written = tt;
+  compared = tt;
+  sources = sources_err _ f sources;
+  told = texts_err _ _ _ _ f told;
+  replay = replay_err _ _ _ f replay;
+  sink = sink_err _ _ _ f sink;
+}
+
+pub reports : {A : Type 0} (form : CustodyForm) (vm : Option ℕ) (start : Seen) (ends : Ends) (r : Result A TextFault) → ends.refused ≡ None
+    → OnOk r (Writes (IsCustodyText form vm) start.had ends.input.had ends.out.had ends.out.has) → TellsSources (start ∷ ends.input ∷ []) r → TellsTexts (origin_of form) start ends.input ends.unread r → TellsCustody vm (origin_of form) start.had ends.unread r
+    → TellsSink ends.out.failed (Begins (IsCustodyText form vm) start.had ends.input.had ends.out.had ends.out.has) ends.untouched r → ReportsCustody form vm start ends (done_as r)
+reports form vm start ends (Ok x) opened written sources told custody sink = record {
+  opened = opened;
+  written = written;
+  done = refl;
+  sources = sources_after _ x (Ok endings.Done) sources tt;
+  told = texts_after _ _ _ _ x (Ok endings.Done) told tt;
+  custody = custody_ok _ _ _ _ x endings.Done custody;
+  sink = sink_ok _ _ _ x endings.Done sink;
+}
+reports form vm start ends (Err f) opened written sources told custody sink = record {
+  opened = opened;
+  written = tt;
+  done = tt;
+  sources = sources_err _ f sources;
+  told = texts_err _ _ _ _ f told;
+  custody = custody_err _ _ _ _ f custody;
+  sink = sink_err _ _ _ f sink;
+}
+
+pub runs_live : {A : Type 0} (workers : ℕ) (config : Seen) (ends : Ends) (r : Result A TextFault) → ends.refused ≡ None
+    → OnOk r (Writes IsLiveText config.had ends.input.had ends.out.had ends.out.has) → TellsSources (config ∷ ends.input ∷ []) r → TellsTexts origins.Boot config ends.input ends.unread r
+    → TellsSink ends.out.failed (Begins IsLiveText config.had ends.input.had ends.out.had ends.out.has) ends.untouched r
+    → (IsErrOf r texts.Workers ↔ ((workers ≡ 0) ⊎ (worker_limit < workers))) → ((program : ℕ) → r ≡ Err (texts.BadActor program) → HasBadActor config.had ends.input.had program) → ((number : ℕ) → r ≢ Err (texts.NoSlot number))
+    → (r ≡ Err texts.Start → CouldRun config.had ends.input.had) → (r ≡ Err texts.Unsettled → CouldRun config.had ends.input.had) → RunsLive workers config ends (done_as r)
+runs_live workers config ends (Ok x) opened written sources told sink judged actor slot started unsettled = record {
+  opened = opened;
+  written = written;
+  done = refl;
+  sources = sources_after _ x (Ok endings.Done) sources tt;
+  told = texts_after _ _ _ _ x (Ok endings.Done) told tt;
+  sink = sink_ok _ _ _ x endings.Done sink;
+  judged = (λ e. absurd cc, λ bad. let e = judged.1 bad in absurd cc);
+  actor = λ p e. absurd cc;
+  slot = λ n e. cc;
+  started = λ e. absurd cc;
+  unsettled = λ e. absurd cc;
+}
+runs_live workers config ends (Err f) opened written sources told sink judged actor slot started unsettled = record {
+  opened = opened;
+  written = tt;
+  done = tt;
+  sources = sources_err _ f sources;
+  told = texts_err _ _ _ _ f told;
+  sink = sink_err _ _ _ f sink;
+  judged = (λ e. judged.0 (let same : f ≡ texts.Workers = cc in cc), λ bad. let e = judged.1 bad in let same : f ≡ texts.Workers = cc in cc);
+  actor = λ p e. actor p (let same : f ≡ texts.BadActor p = cc in cc);
+  slot = λ n e. slot n (let same : f ≡ texts.NoSlot n = cc in cc);
+  started = λ e. started (let same : f ≡ texts.Start = cc in cc);
+  unsettled = λ e. unsettled (let same : f ≡ texts.Unsettled = cc in cc);
+}
+
+pub audits_dump : (all : Bool) (ends : Ends) (r : Result Bool TextFault) → ends.refused ≡ None → IfOk r (λ sound. Audits all ends.input.had sound ends.out.had ends.out.has) → TellsSources (ends.input ∷ []) r
+    → TellsSink ends.out.failed (BeginsAudit all ends.input.had ends.out.had ends.out.has) ends.untouched r → ((fault : DumpFault) → r ≡ Err (texts.Dump fault) → IfSome ends.input.had (λ text. IsRefusedDump text fault) × IsAtEnd ends.input.has)
+    → IfErr r (λ fault. IsDumpFault fault ⊎ ((fault ≡ texts.Read) ⊎ (fault ≡ texts.Write))) → AuditsDump all ends (judged_as r endings.Unsound)
+audits_dump all ends (Ok true) opened audited sources sink dump fault = record {
+  opened = opened;
+  audited = audited;
+  sources = sources_after _ true (Ok endings.Done) sources tt;
+  sink = sink_ok _ _ _ true endings.Done sink;
+  dump = λ f e. absurd cc;
+  fault = tt;
+}
+audits_dump all ends (Ok false) opened audited sources sink dump fault = record {
+  opened = opened;
+  audited = audited;
+  sources = sources_after _ false (Ok endings.Unsound) sources tt;
+  sink = sink_ok _ _ _ false endings.Unsound sink;
+  dump = λ f e. absurd cc;
+  fault = tt;
+}
+audits_dump all ends (Err f) opened audited sources sink dump fault = record {
+  opened = opened;
+  audited = tt;
+  sources = sources_err _ f sources;
+  sink = sink_err _ _ _ f sink;
+  dump = λ said e. dump said (let same : f ≡ texts.Dump said = cc in cc);
+  fault = fault;
+}
+
+pub redacts_trace : {A : Type 0} (ends : Ends) (r : Result A TextFault) → ends.refused ≡ None → OnOk r (Redacts ends.input.had ends.out.had ends.out.has) → TellsSources (ends.input ∷ []) r
+    → TellsSink ends.out.failed (BeginsRedaction ends.input.had ends.out.had ends.out.has) ends.untouched r → ((fault : TraceFault) → r ≡ Err (texts.Trace fault) → IfSome ends.input.had (λ text. IsRefused text fault) × IsAtEnd ends.input.has)
+    → IfErr r IsRedactFault → RedactsTrace ends (done_as r)
+redacts_trace ends (Ok x) opened written sources sink trace fault = record {
+  opened = opened;
+  written = written;
+  done = refl;
+  sources = sources_after _ x (Ok endings.Done) sources tt;
+  sink = sink_ok _ _ _ x endings.Done sink;
+  trace = λ f e. absurd cc;
+  fault = tt;
+}
+redacts_trace ends (Err f) opened written sources sink trace fault = record {
+  opened = opened;
+  written = tt;
+  done = tt;
+  sources = sources_err _ f sources;
+  sink = sink_err _ _ _ f sink;
+  trace = λ said e. trace said (let same : f ≡ texts.Trace said = cc in cc);
+  fault = fault;
+}

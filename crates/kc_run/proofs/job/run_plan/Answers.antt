@@ -1,0 +1,7 @@
+use Rattle.kc_run.proofs.job.run_plan.Goals as goal
+
+pub returns-in-Audit : goal.returns-in-Audit
+returns-in-Audit g c = rw (c.in-Audit.is, c.requires.files) (c.audit.ensures _)
+
+pub returns-in-Redact : goal.returns-in-Redact
+returns-in-Redact g c = rw (c.in-Redact.is, c.requires.files) (c.redact.ensures _)

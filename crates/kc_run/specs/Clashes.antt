@@ -1,0 +1,37 @@
+-- What is reported of options that contradict each other.
+use Rattle.std.specs.Prelude.{ℕ, List, ◌++◌, codes}
+use Rattle.kc_run.specs.declared.clash.Clash.{Clash}
+use Rattle.kc_run.specs.declared.clash.Clash.TheVariants as clashes
+
+abbrev pub first_option : Clash → List ℕ
+first_option clashes.DumpState = codes "--dump"
+first_option clashes.BlankAlone = codes "--blank"
+first_option clashes.ReplayConfigFrom = codes "--config"
+first_option clashes.CustodyConfigFrom = codes "--config"
+first_option clashes.SummarySvg = codes "--summary"
+first_option clashes.FromSummary = codes "--from"
+first_option clashes.FromSvg = codes "--from"
+
+abbrev pub link_of : Clash → List ℕ
+link_of clashes.BlankAlone = codes "' needs one of '"
+link_of clash = codes "' cannot be used with '"
+
+abbrev pub other_option : Clash → List ℕ
+other_option clashes.DumpState = codes "--state"
+other_option clashes.BlankAlone = codes "--dump', '--state' and '--to"
+other_option clashes.ReplayConfigFrom = codes "--from"
+other_option clashes.CustodyConfigFrom = codes "--from"
+other_option clashes.SummarySvg = codes "--svg"
+other_option clashes.FromSummary = codes "--summary"
+other_option clashes.FromSvg = codes "--svg"
+
+abbrev pub command_of : Clash → List ℕ
+command_of clashes.DumpState = codes "replay"
+command_of clashes.BlankAlone = codes "replay"
+command_of clashes.ReplayConfigFrom = codes "replay"
+command_of clash = codes "custody"
+
+-- in the form in which a wrong command line is reported
+abbrev pub clash_text : Clash → List ℕ
+clash_text clash = codes "error: the argument '" ++ first_option clash ++ link_of clash ++ other_option clash
+    ++ codes "'\n\nUsage: kcore " ++ command_of clash ++ codes " [OPTIONS]\n\nFor more information, try '--help'.\n"

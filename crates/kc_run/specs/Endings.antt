@@ -1,0 +1,56 @@
+-- How the program ends: its exit status, and what it reports on the error sink.
+use Rattle.std.specs.Prelude.{◌≡◌, ℕ, Bool, true, false, List, codes, take, Option, Some, None, Result, Ok, Err}
+use Rattle.std.specs.Io.KnownBytes.{Appends}
+use Rattle.kc_texts.specs.declared.fault.TextFault.{TextFault}
+use Rattle.kc_texts.specs.Faults.{status_of, fault_line}
+use Rattle.kc_run.specs.declared.ending.Ending.{Ending}
+use Rattle.kc_run.specs.declared.ending.Ending.TheVariants as endings
+
+-- how a job ended, or the fault that it met
+abbrev pub Ended : Type 0
+Ended = Result Ending TextFault
+
+abbrev pub ending_of : Bool → Ending → Ending
+ending_of true other = endings.Done
+ending_of false other = other
+
+-- that of an engine that has no answer, and of one that answers yes or no
+abbrev pub done_as : {A : Type 0} → Result A TextFault → Ended
+done_as (Ok answer) = Ok endings.Done
+done_as (Err fault) = Err fault
+
+abbrev pub judged_as : Result Bool TextFault → Ending → Ended
+judged_as (Ok so) other = Ok (ending_of so other)
+judged_as (Err fault) other = Err fault
+
+-- 0 where all is as it was asked, 1 where the state is another one or something is found in the dump, else that of the fault
+abbrev pub status_after : Ended → ℕ
+status_after (Ok endings.Done) = 0
+status_after (Ok endings.Another) = 1
+status_after (Ok endings.Unsound) = 1
+status_after (Err fault) = status_of fault
+
+abbrev pub fault_in : Ended → Option TextFault
+fault_in (Ok ending) = None
+fault_in (Err fault) = Some fault
+
+-- a sink as a run found and left it: whether a write to it failed, and the bytes that it had taken before and has now, where it tells them
+pub record Took : Type 0 where
+  pub failed : Bool
+  pub had : Option (List ℕ)
+  pub has : Option (List ℕ)
+
+abbrev pub took : Bool → Option (List ℕ) → Option (List ℕ) → Took
+took failed had has = record { failed = failed; had = had; has = has }
+
+-- it took this text, or a beginning of it where a write failed
+pub record Takes (sink : Took) (text : List ℕ) : Type 0 where
+  pub whole : sink.failed ≡ false → Appends sink.had sink.has text
+  pub begun : sink.failed ≡ true → (n : ℕ) × Appends sink.had sink.has (take n text)
+
+-- the error sink takes the line of a fault or of another state, and nothing else
+abbrev pub IsReported : Ended → Took → Type 0 → Type 0
+IsReported (Ok endings.Done) err untouched = untouched
+IsReported (Ok endings.Another) err untouched = Takes err (codes "kcore: another state\n")
+IsReported (Ok endings.Unsound) err untouched = untouched
+IsReported (Err fault) err untouched = Takes err (fault_line fault)

@@ -1,0 +1,5 @@
+pub mod Clashes
+pub mod Plans
+pub mod Opening
+pub mod Endings
+pub mod Run

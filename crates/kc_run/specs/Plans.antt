@@ -1,0 +1,95 @@
+-- What a job asks for, once its options do not contradict each other.
+use Rattle.std.specs.Prelude.{ℕ, Bool, true, false, List, Option, Some, None, Result, Ok, Err}
+use Rattle.std.specs.Borrow.{Bor}
+use Rattle.kc_args.specs.declared.job.Job.{Job}
+use Rattle.kc_args.specs.declared.job.Job.TheVariants as jobs
+use Rattle.kc_texts.specs.declared.origin.Origin.{Origin}
+use Rattle.kc_texts.specs.declared.origin.Origin.TheVariants as origins
+use Rattle.kc_cli.specs.declared.order.ReplayForm.{ReplayForm}
+use Rattle.kc_cli.specs.declared.order.ReplayForm.TheVariants as replies
+use Rattle.kc_cli.specs.declared.account.CustodyForm.{CustodyForm}
+use Rattle.kc_cli.specs.declared.account.CustodyForm.TheVariants as forms
+use Rattle.kc_run.specs.declared.plan.Start.{Start}
+use Rattle.kc_run.specs.declared.plan.Start.TheVariants as starts
+use Rattle.kc_run.specs.declared.plan.Account.{Account}
+use Rattle.kc_run.specs.declared.plan.Account.TheVariants as accounts
+use Rattle.kc_run.specs.declared.plan.Plan.{Plan}
+use Rattle.kc_run.specs.declared.plan.Plan.TheVariants as plans
+use Rattle.kc_run.specs.declared.clash.Clash.{Clash}
+use Rattle.kc_run.specs.declared.clash.Clash.TheVariants as clashes
+
+-- a path, as a job holds it
+abbrev pub Path : Type 0
+Path = Bor (List ℕ)
+
+-- where calls begin, by `--config` and `--from`; nothing for both
+abbrev pub start_of : Option Path → Option Path → Option Start
+start_of config None = Some (starts.Boot config)
+start_of None (Some from) = Some (starts.State from)
+start_of (Some config) (Some from) = None
+
+-- what is written of a replay, by `--dump` and `--state`; nothing for both
+abbrev pub replay_form : Bool → Bool → Option ReplayForm
+replay_form false false = Some replies.Replies
+replay_form true false = Some replies.Dump
+replay_form false true = Some replies.State
+replay_form true true = None
+
+-- what is written of custody, by `--summary` and `--svg`: each excludes the other, and a state's text
+abbrev pub account_of : Bool → Bool → Start → Result Account Clash
+account_of false false start = Ok (accounts.Changes start)
+account_of true true start = Err clashes.SummarySvg
+account_of true false (starts.Boot config) = Ok (accounts.Summary config)
+account_of true false (starts.State path) = Err clashes.FromSummary
+account_of false true (starts.Boot config) = Ok (accounts.Picture config)
+account_of false true (starts.State path) = Err clashes.FromSvg
+
+-- nothing that is asked for has a core's pages in it, which `--blank` zeroes
+abbrev pub is_alone : Bool → ReplayForm → Option Path → Bool
+is_alone true replies.Replies None = true
+is_alone blank form to = false
+
+abbrev pub blank_plan : Bool → Plan → Result Plan Clash
+blank_plan true plan = Err clashes.BlankAlone
+blank_plan false plan = Ok plan
+
+abbrev pub replay_plan : Option ReplayForm → Option Start → Option Path → Bool → ℕ → Result Plan Clash
+replay_plan None start to blank workers = Err clashes.DumpState
+replay_plan (Some form) None to blank workers = Err clashes.ReplayConfigFrom
+replay_plan (Some form) (Some start) to blank workers = blank_plan (is_alone blank form to) (plans.Replay start to form blank workers)
+
+abbrev pub account_plan : Result Account Clash → Option ℕ → Result Plan Clash
+account_plan (Err clash) vm = Err clash
+account_plan (Ok account) vm = Ok (plans.Custody account vm)
+
+abbrev pub custody_plan : Bool → Bool → Option Start → Option ℕ → Result Plan Clash
+custody_plan summary svg None vm = Err clashes.CustodyConfigFrom
+custody_plan summary svg (Some start) vm = account_plan (account_of summary svg start) vm
+
+-- the plan of a job, or what contradicts itself in it first
+abbrev pub plan_of : Job → Result Plan Clash
+plan_of (jobs.Replay config from to workers dump state blank explain) = replay_plan (replay_form dump state) (start_of config from) to blank workers
+plan_of (jobs.Live config workers explain) = Ok (plans.Live config workers)
+plan_of (jobs.Custody config from vm summary svg explain) = custody_plan summary svg (start_of config from) vm
+plan_of (jobs.Audit all explain) = Ok (plans.Audit all)
+plan_of (jobs.Redact explain) = Ok plans.Redact
+
+-- the file that holds what calls begin with, if one is named
+abbrev pub path_of : Start → Option Path
+path_of (starts.Boot config) = config
+path_of (starts.State path) = Some path
+
+-- what that file holds
+abbrev pub origin_at : Start → Origin
+origin_at (starts.Boot config) = origins.Boot
+origin_at (starts.State path) = origins.State
+
+abbrev pub form_of : Account → CustodyForm
+form_of (accounts.Changes start) = forms.Changes (origin_at start)
+form_of (accounts.Summary config) = forms.Summary
+form_of (accounts.Picture config) = forms.Picture
+
+abbrev pub start_in : Account → Start
+start_in (accounts.Changes start) = start
+start_in (accounts.Summary config) = starts.Boot config
+start_in (accounts.Picture config) = starts.Boot config

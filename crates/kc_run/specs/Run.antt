@@ -1,0 +1,167 @@
+-- What a run of the program leaves of its files, of standard input and of its sinks, and its exit status.
+use Rattle.std.specs.Prelude.{◌≡◌, ◌≢◌, ◌⊎◌, ◌<◌, ◌↔◌, ℕ, Bool, true, false, List, [], ◌∷◌, Option, Some, None, Result, Ok, Err, IfOk, IfErr, IfSome, OnOk, IsErrOf}
+use Rattle.std.specs.Io.KnownBytes.{IsAtEnd}
+use Rattle.kc_types.specs.Limits.{worker_limit}
+use Rattle.kc_args.specs.declared.job.Job.{Job}
+use Rattle.kc_dump_text.specs.declared.fault.DumpFault.{DumpFault}
+use Rattle.kc_dump_text.specs.Refused.{IsRefusedDump}
+use Rattle.kc_trace.specs.declared.fault.TraceFault.{TraceFault}
+use Rattle.kc_trace.specs.Trace.{IsRefused}
+use Rattle.kc_texts.specs.declared.origin.Origin.{Origin}
+use Rattle.kc_texts.specs.declared.origin.Origin.TheVariants as origins
+use Rattle.kc_texts.specs.declared.fault.TextFault.{TextFault}
+use Rattle.kc_texts.specs.declared.fault.TextFault.TheVariants as texts
+use Rattle.kc_texts.specs.Audit.{Audits, BeginsAudit, IsDumpFault}
+use Rattle.kc_texts.specs.Outcomes.{Seen, TellsSources, TellsTexts, TellsReplay, TellsSink}
+use Rattle.kc_texts.specs.Reading.{Writes, Begins}
+use Rattle.kc_redact_text.specs.Redacts.{Redacts, BeginsRedaction, IsRedactFault}
+use Rattle.kc_cli.specs.declared.order.ReplayForm.{ReplayForm}
+use Rattle.kc_cli.specs.declared.account.CustodyForm.{CustodyForm}
+use Rattle.kc_cli.specs.Engine.{IsReplayText, IsLeftText}
+use Rattle.kc_cli.specs.Custody.{IsCustodyText, TellsCustody, origin_of}
+use Rattle.kc_cli.specs.Live.{IsLiveText, CouldRun, HasBadActor}
+use Rattle.kc_run.specs.declared.plan.Start.{Start}
+use Rattle.kc_run.specs.declared.plan.Start.TheVariants as starts
+use Rattle.kc_run.specs.declared.plan.Account.{Account}
+use Rattle.kc_run.specs.declared.plan.Plan.{Plan}
+use Rattle.kc_run.specs.declared.plan.Plan.TheVariants as plans
+use Rattle.kc_run.specs.declared.clash.Clash.{Clash}
+use Rattle.kc_run.specs.declared.ending.Ending.{Ending}
+use Rattle.kc_run.specs.declared.ending.Ending.TheVariants as endings
+use Rattle.kc_run.specs.Clashes.{clash_text}
+use Rattle.kc_run.specs.Plans.{Path, plan_of, path_of, origin_at, form_of, start_in}
+use Rattle.kc_run.specs.Opening.{Held, text_at, IsOpenFault}
+use Rattle.kc_run.specs.Endings.{Ended, Took, Takes, status_after, fault_in, IsReported}
+
+-- what a run finds and leaves: what the files hold, the path that could not be opened, if one could not; standard input, and that nothing was read of it; the sink, and that it is as it was
+pub record Ends : Type 1 where
+  pub held : Held
+  pub refused : Option (List ℕ)
+  pub input : Seen
+  pub unread : Type 0
+  pub out : Took
+  pub untouched : Type 0
+
+abbrev pub ends_of : Held → Option (List ℕ) → Seen → Type 0 → Took → Type 0 → Ends
+ends_of held refused input unread out untouched = record { held = held; refused = refused; input = input; unread = unread; out = out; untouched = untouched }
+
+-- a file is not open, and so nothing was read of standard input, and nothing written
+pub record IsUnopened (path : Option Path) (ends : Ends) (ended : Ended) : Type 0 where
+  pub fault : TextFault
+  pub ended_is : ended ≡ Err fault
+  pub opening : IsOpenFault path ends.refused fault
+  pub unread : ends.unread
+  pub untouched : ends.untouched
+
+-- whether the state left is that of a third text, if there is one
+abbrev pub IsCompared : Origin → Bool → Option (List ℕ) → Option (List ℕ) → Option Seen → Ending → Type 0
+IsCompared origin blank start trace None ending = ending ≡ endings.Done
+IsCompared origin blank start trace (Some to) endings.Done = IsLeftText origin blank start trace to.had true
+IsCompared origin blank start trace (Some to) endings.Another = IsLeftText origin blank start trace to.had false
+IsCompared origin blank start trace (Some to) endings.Unsound = ⊥
+
+abbrev pub those_of : Option Seen → List Seen
+those_of None = []
+those_of (Some source) = source ∷ []
+
+-- a replay over open sources ended so
+pub record Replays (origin : Origin) (form : ReplayForm) (blank : Bool) (workers : ℕ) (start : Seen) (to : Option Seen) (ends : Ends) (ended : Ended) : Type 0 where
+  pub opened : ends.refused ≡ None
+  pub written : OnOk ended (Writes (IsReplayText origin form blank) start.had ends.input.had ends.out.had ends.out.has)
+  pub compared : IfOk ended (IsCompared origin blank start.had ends.input.had to)
+  pub sources : TellsSources (start ∷ ends.input ∷ those_of to) ended
+  pub told : TellsTexts origin start ends.input ends.unread ended
+  pub replay : TellsReplay workers origin start.had ended
+  pub sink : TellsSink ends.out.failed (Begins (IsReplayText origin form blank) start.had ends.input.had ends.out.had ends.out.has) ends.untouched ended
+
+-- a replay from an open start, which compares the state left with what this file holds, if one is named
+abbrev pub ReplaysTo : Origin → ReplayForm → Bool → ℕ → Option Path → Seen → Ends → Ended → Type 0
+ReplaysTo origin form blank workers None start ends ended = Replays origin form blank workers start None ends ended
+ReplaysTo origin form blank workers (Some path) start ends ended =
+    IsUnopened (Some path) ends ended ⊎ ((to : Seen) × (to.had ≡ ends.held path.now) × Replays origin form blank workers start (Some to) ends ended)
+
+-- a report of custody over open sources ended so
+pub record ReportsCustody (form : CustodyForm) (vm : Option ℕ) (start : Seen) (ends : Ends) (ended : Ended) : Type 0 where
+  pub opened : ends.refused ≡ None
+  pub written : OnOk ended (Writes (IsCustodyText form vm) start.had ends.input.had ends.out.had ends.out.has)
+  pub done : IfOk ended (λ ending. ending ≡ endings.Done)
+  pub sources : TellsSources (start ∷ ends.input ∷ []) ended
+  pub told : TellsTexts (origin_of form) start ends.input ends.unread ended
+  pub custody : TellsCustody vm (origin_of form) start.had ends.unread ended
+  pub sink : TellsSink ends.out.failed (Begins (IsCustodyText form vm) start.had ends.input.had ends.out.had ends.out.has) ends.untouched ended
+
+-- a live run over open sources ended so
+pub record RunsLive (workers : ℕ) (config : Seen) (ends : Ends) (ended : Ended) : Type 0 where
+  pub opened : ends.refused ≡ None
+  pub written : OnOk ended (Writes IsLiveText config.had ends.input.had ends.out.had ends.out.has)
+  pub done : IfOk ended (λ ending. ending ≡ endings.Done)
+  pub sources : TellsSources (config ∷ ends.input ∷ []) ended
+  pub told : TellsTexts origins.Boot config ends.input ends.unread ended
+  pub sink : TellsSink ends.out.failed (Begins IsLiveText config.had ends.input.had ends.out.had ends.out.has) ends.untouched ended
+  pub judged : IsErrOf ended texts.Workers ↔ ((workers ≡ 0) ⊎ (worker_limit < workers))
+  pub actor : (program : ℕ) → ended ≡ Err (texts.BadActor program) → HasBadActor config.had ends.input.had program
+  pub slot : (number : ℕ) → ended ≢ Err (texts.NoSlot number)
+  pub started : ended ≡ Err texts.Start → CouldRun config.had ends.input.had
+  pub unsettled : ended ≡ Err texts.Unsettled → CouldRun config.had ends.input.had
+
+-- whether the dump is sound
+abbrev pub IsAudited : Bool → Ends → Ending → Type 0
+IsAudited all ends endings.Done = Audits all ends.input.had true ends.out.had ends.out.has
+IsAudited all ends endings.Another = ⊥
+IsAudited all ends endings.Unsound = Audits all ends.input.had false ends.out.had ends.out.has
+
+-- an audit ended so
+pub record AuditsDump (all : Bool) (ends : Ends) (ended : Ended) : Type 0 where
+  pub opened : ends.refused ≡ None
+  pub audited : IfOk ended (IsAudited all ends)
+  pub sources : TellsSources (ends.input ∷ []) ended
+  pub sink : TellsSink ends.out.failed (BeginsAudit all ends.input.had ends.out.had ends.out.has) ends.untouched ended
+  pub dump : (fault : DumpFault) → ended ≡ Err (texts.Dump fault) → IfSome ends.input.had (λ text. IsRefusedDump text fault) × IsAtEnd ends.input.has
+  pub fault : IfErr ended (λ fault. IsDumpFault fault ⊎ ((fault ≡ texts.Read) ⊎ (fault ≡ texts.Write)))
+
+-- a redaction ended so
+pub record RedactsTrace (ends : Ends) (ended : Ended) : Type 0 where
+  pub opened : ends.refused ≡ None
+  pub written : OnOk ended (Redacts ends.input.had ends.out.had ends.out.has)
+  pub done : IfOk ended (λ ending. ending ≡ endings.Done)
+  pub sources : TellsSources (ends.input ∷ []) ended
+  pub sink : TellsSink ends.out.failed (BeginsRedaction ends.input.had ends.out.had ends.out.has) ends.untouched ended
+  pub trace : (fault : TraceFault) → ended ≡ Err (texts.Trace fault) → IfSome ends.input.had (λ text. IsRefused text fault) × IsAtEnd ends.input.has
+  pub fault : IfErr ended IsRedactFault
+
+-- an engine runs once what calls begin with is open
+abbrev pub BeginsAt : Start → (Seen → Ends → Ended → Type 0) → Ends → Ended → Type 0
+BeginsAt start Runs ends ended = IsUnopened (path_of start) ends ended ⊎ ((source : Seen) × (source.had ≡ text_at ends.held (path_of start)) × Runs source ends ended)
+
+-- how what is planned ended
+abbrev pub IsEnding : Plan → Ends → Ended → Type 0
+IsEnding (plans.Replay start to form blank workers) ends ended = BeginsAt start (ReplaysTo (origin_at start) form blank workers to) ends ended
+IsEnding (plans.Live config workers) ends ended = BeginsAt (starts.Boot config) (RunsLive workers) ends ended
+IsEnding (plans.Custody account vm) ends ended = BeginsAt (start_in account) (ReportsCustody (form_of account) vm) ends ended
+IsEnding (plans.Audit all) ends ended = AuditsDump all ends ended
+IsEnding plans.Redact ends ended = RedactsTrace ends ended
+
+-- a plan was run; the exit status and the error sink say how that ended
+pub record IsPlanRun (plan : Plan) (ends : Ends) (err : Took) (silent : Type 0) (status : ℕ) (fault : Option TextFault) : Type 0 where
+  pub ended : Ended
+  pub ending : IsEnding plan ends ended
+  pub status_is : status ≡ status_after ended
+  pub fault_is : fault ≡ fault_in ended
+  pub reported : IsReported ended err silent
+
+-- options that contradict each other are refused before anything is opened, read or written
+pub record IsRefusedRun (clash : Clash) (ends : Ends) (err : Took) (status : ℕ) (fault : Option TextFault) : Type 0 where
+  pub opened : ends.refused ≡ None
+  pub unread : ends.unread
+  pub untouched : ends.untouched
+  pub status_is : status ≡ 2
+  pub fault_is : fault ≡ None
+  pub reported : Takes err (clash_text clash)
+
+abbrev pub IsRunOf : Result Plan Clash → Ends → Took → Type 0 → ℕ → Option TextFault → Type 0
+IsRunOf (Ok plan) ends err silent status fault = IsPlanRun plan ends err silent status fault
+IsRunOf (Err clash) ends err silent status fault = IsRefusedRun clash ends err status fault
+
+-- what a run of a job leaves, and the exit status and the fault that it answers
+abbrev pub IsRun : Job → Ends → Took → Type 0 → ℕ → Option TextFault → Type 0
+IsRun job ends err silent status fault = IsRunOf (plan_of job) ends err silent status fault

@@ -1,0 +1,84 @@
+//! Options that contradict each other.
+ghost use Rattle.std.specs.Prelude.{◌≡◌, ◌≤◌};
+ghost use Rattle.arrayvec.specs.ArrayString.{array_string_len};
+ghost use Rattle.kc_run.specs.Clashes.{first_option, link_of, other_option, command_of, clash_text};
+
+use arrayvec::ArrayString;
+
+/// Two options of a command that exclude each other, or one that needs another.
+#[derive(Clone, Copy, Debug, PartialEq, Eq)]
+pub enum Clash {
+    /// `replay --dump --state`
+    DumpState,
+    /// `replay --blank` with nothing that has a core's pages in it.
+    BlankAlone,
+    /// `replay --config PATH --from PATH`
+    ReplayConfigFrom,
+    /// `custody --config PATH --from PATH`
+    CustodyConfigFrom,
+    /// `custody --summary --svg`
+    SummarySvg,
+    /// `custody --from PATH --summary`
+    FromSummary,
+    /// `custody --from PATH --svg`
+    FromSvg,
+}
+
+impl Clash {
+    fn first(&self) -> &'static str
+        ensures { result.now ≡ first_option self.now }
+    {
+        match self {
+            Clash::DumpState => "--dump",
+            Clash::BlankAlone => "--blank",
+            Clash::ReplayConfigFrom | Clash::CustodyConfigFrom => "--config",
+            Clash::SummarySvg => "--summary",
+            Clash::FromSummary | Clash::FromSvg => "--from",
+        }
+    }
+
+    fn link(&self) -> &'static str
+        ensures { result.now ≡ link_of self.now }
+    {
+        match self {
+            Clash::BlankAlone => "' needs one of '",
+            _ => "' cannot be used with '",
+        }
+    }
+
+    fn other(&self) -> &'static str
+        ensures { result.now ≡ other_option self.now }
+    {
+        match self {
+            Clash::DumpState => "--state",
+            Clash::BlankAlone => "--dump', '--state' and '--to",
+            Clash::ReplayConfigFrom | Clash::CustodyConfigFrom => "--from",
+            Clash::SummarySvg | Clash::FromSvg => "--svg",
+            Clash::FromSummary => "--summary",
+        }
+    }
+
+    fn command(&self) -> &'static str
+        ensures { result.now ≡ command_of self.now }
+    {
+        match self {
+            Clash::DumpState | Clash::BlankAlone | Clash::ReplayConfigFrom => "replay",
+            _ => "custody",
+        }
+    }
+
+    /// What is reported of it, in the form in which a wrong command line is reported.
+    pub(crate) fn text(&self) -> ArrayString<256>
+        ensures { result.bytes ≡ clash_text self.now }
+    {
+        let mut text = ArrayString::new();
+        text.push_str("error: the argument '");
+        text.push_str(self.first());
+        text.push_str(self.link());
+        text.push_str(self.other());
+        text.push_str("'\n\nUsage: kcore ");
+        text.push_str(self.command());
+        text.push_str(" [OPTIONS]\n\nFor more information, try '--help'.\n");
+        text
+    }
+}

@@ -1,0 +1,175 @@
+//! The engines, over the files that a job names, standard input and a sink.
+ghost use Rattle.std.specs.Prelude.{◌≡◌, false, None};
+ghost use Rattle.kc_texts.specs.Outcomes.{seen};
+ghost use Rattle.kc_run.specs.Plans.{form_of, start_in};
+ghost use Rattle.kc_run.specs.Opening.{Held};
+ghost use Rattle.kc_run.specs.Endings.{took, done_as, ending_of, judged_as};
+ghost use Rattle.kc_run.specs.Run.{ends_of, BeginsAt, ReplaysTo, ReportsCustody, RunsLive, AuditsDump, RedactsTrace};
+
+use crate::beginning::{begin, close, open};
+use crate::ending::Ending;
+use crate::files::Files;
+use crate::plan::{Account, Start};
+use kc_cli::{
+    CustodyOrder, Lanes, ReplayOrder, Sink, Source, TextFault, audit_text, custody_text, live_text,
+    replay_text, replay_to_text,
+};
+use kc_redact_text::redact_text;
+use kc_replay::OpenGate;
+use std::alloc::Global;
+use std::sync::Wait;
+use std::thread::Threads;
+
+/// The ending of an engine that has no answer.
+fn done(answer: Result<(), TextFault>) -> Result<Ending, TextFault>
+    ensures { result ≡ done_as answer }
+{
+    match answer {
+        Ok(()) => Ok(Ending::Done),
+        Err(fault) => Err(fault),
+    }
+}
+
+/// `Done` if it is so, else another ending.
+fn ending_of(so: bool, other: Ending) -> Ending
+    ensures { result ≡ ending_of so other }
+{
+    if so { Ending::Done } else { other }
+}
+
+/// The ending of an engine that answers yes or no.
+fn judged(answer: Result<bool, TextFault>, other: Ending) -> Result<Ending, TextFault>
+    ensures { result ≡ judged_as answer other }
+{
+    match answer {
+        Ok(so) => Ok(ending_of(so, other)),
+        Err(fault) => Err(fault),
+    }
+}
+
+/// Replays the trace from an open start, and compares the state that it leaves with what the file `to` holds, if it is named.
+fn replay_to<F: Files, C: Source, T: Source, K: Sink, R: Threads + Wait + Sync>(
+    rt: &R,
+    alloc: Global,
+    files: &mut F,
+    start: &mut C,
+    input: &mut T,
+    to: Option<&str>,
+    out: &mut K,
+    order: ReplayOrder,
+) -> Result<Ending, TextFault>
+    requires files { F.refused files.old ≡ None }
+    requires start { C.failed start.old ≡ false }
+    requires input { T.failed input.old ≡ false }
+    requires out { K.failed out.old ≡ false }
+    ensures { ReplaysTo order.origin order.form order.is_blank order.workers to.entry (seen (C.failed start.new) (C.left start.old) (C.left start.new)) (ends_of (F.held files.old) (F.refused files.new) (seen (T.failed input.new) (T.left input.old) (T.left input.new)) (input.new ≡ input.old) (took (K.failed out.new) (K.taken out.old) (K.taken out.new)) (out.new ≡ out.old)) result }
+{
+    let Some(path) = to else {
+        return done(replay_text(rt, alloc, start, input, out, order));
+    };
+    let mut file = open(files, path)?;
+    let answer = replay_to_text(rt, alloc, start, input, &mut file, out, order);
+    files.close(file);
+    judged(answer, Ending::Another)
+}
+
+/// Replays the trace from where calls begin.
+// (Here and below: not inlined, or the buffers of all engines would be in one frame.)
+#[inline(never)]
+pub(crate) fn replay<F: Files, T: Source, K: Sink, R: Threads + Wait + Sync>(
+    rt: &R,
+    alloc: Global,
+    files: &mut F,
+    start: Start<'_>,
+    to: Option<&str>,
+    input: &mut T,
+    out: &mut K,
+    order: ReplayOrder,
+) -> Result<Ending, TextFault>
+    requires files { F.refused files.old ≡ None }
+    requires input { T.failed input.old ≡ false }
+    requires out { K.failed out.old ≡ false }
+    ensures { BeginsAt start.entry (ReplaysTo order.origin order.form order.is_blank order.workers to.entry) (ends_of (F.held files.old) (F.refused files.new) (seen (T.failed input.new) (T.left input.old) (T.left input.new)) (input.new ≡ input.old) (took (K.failed out.new) (K.taken out.old) (K.taken out.new)) (out.new ≡ out.old)) result }
+{
+    let mut beginning = begin(alloc, files, start)?;
+    let ended = replay_to(rt, alloc, files, &mut beginning, input, to, out, order);
+    close(files, beginning);
+    ended
+}
+
+/// Reports the trace's custody.
+#[inline(never)]
+pub(crate) fn custody<F: Files, T: Source, K: Sink, R: Threads + Wait + Sync>(
+    rt: &R,
+    alloc: Global,
+    files: &mut F,
+    account: Account<'_>,
+    vm: Option<u32>,
+    input: &mut T,
+    out: &mut K,
+    lanes: Lanes,
+) -> Result<Ending, TextFault>
+    requires files { F.refused files.old ≡ None }
+    requires input { T.failed input.old ≡ false }
+    requires out { K.failed out.old ≡ false }
+    ensures { BeginsAt (start_in account.entry) (ReportsCustody (form_of account.entry) vm) (ends_of (F.held files.old) (F.refused files.new) (seen (T.failed input.new) (T.left input.old) (T.left input.new)) (input.new ≡ input.old) (took (K.failed out.new) (K.taken out.old) (K.taken out.new)) (out.new ≡ out.old)) result }
+{
+    let form = account.form();
+    let mut beginning = begin(alloc, files, account.start())?;
+    let order = CustodyOrder { form, lanes, vm };
+    let answer = custody_text(rt, alloc, &mut beginning, input, out, order);
+    close(files, beginning);
+    done(answer)
+}
+
+/// Runs the trace live.
+#[inline(never)]
+pub(crate) fn live<F: Files, T: Source, K: Sink, R: Threads + Wait + Sync>(
+    rt: &R,
+    alloc: Global,
+    files: &mut F,
+    config: Option<&str>,
+    workers: u32,
+    input: &mut T,
+    out: &mut K,
+) -> Result<Ending, TextFault>
+    requires files { F.refused files.old ≡ None }
+    requires input { T.failed input.old ≡ false }
+    requires out { K.failed out.old ≡ false }
+    ensures { BeginsAt (Start.Boot config.entry) (RunsLive workers) (ends_of (F.held files.old) (F.refused files.new) (seen (T.failed input.new) (T.left input.old) (T.left input.new)) (input.new ≡ input.old) (took (K.failed out.new) (K.taken out.old) (K.taken out.new)) (out.new ≡ out.old)) result }
+{
+    let mut beginning = begin(alloc, files, Start::Boot(config))?;
+    let answer = live_text(rt, alloc, &mut beginning, input, out, workers, &OpenGate);
+    close(files, beginning);
+    done(answer)
+}
+
+/// Audits the dump.
+#[inline(never)]
+pub(crate) fn audit<T: Source, K: Sink>(
+    rt: &(impl Threads + Sync),
+    alloc: Global,
+    all: bool,
+    input: &mut T,
+    out: &mut K,
+) -> Result<Ending, TextFault>
+    requires input { T.failed input.old ≡ false }
+    requires out { K.failed out.old ≡ false }
+    ensures { (held : Held) → AuditsDump all (ends_of held None (seen (T.failed input.new) (T.left input.old) (T.left input.new)) (input.new ≡ input.old) (took (K.failed out.new) (K.taken out.old) (K.taken out.new)) (out.new ≡ out.old)) result }
+{
+    judged(audit_text(rt, alloc, input, all, out), Ending::Unsound)
+}
+
+/// Redacts the trace.
+#[inline(never)]
+pub(crate) fn redact<T: Source, K: Sink>(
+    alloc: Global,
+    input: &mut T,
+    out: &mut K,
+) -> Result<Ending, TextFault>
+    requires input { T.failed input.old ≡ false }
+    requires out { K.failed out.old ≡ false }
+    ensures { (held : Held) → RedactsTrace (ends_of held None (seen (T.failed input.new) (T.left input.old) (T.left input.new)) (input.new ≡ input.old) (took (K.failed out.new) (K.taken out.old) (K.taken out.new)) (out.new ≡ out.old)) result }
+{
+    done(redact_text(alloc, input, out))
+}

@@ -1,0 +1,17 @@
+//! A run of the program: the engine that a job asks for, over the files that it names, standard input and two sinks, and the
+//! exit status.
+#![tactic(auto)]
+
+mod beginning;
+mod clash;
+mod ending;
+mod engines;
+mod files;
+mod job;
+mod plan;
+
+pub use clash::Clash;
+pub use ending::{Ending, Exit};
+pub use files::{Files, Unopened};
+pub use job::run_job;
+pub use plan::{Account, Plan, Start, plan_of};

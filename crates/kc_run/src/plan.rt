@@ -1,0 +1,204 @@
+//! What a job asks for, once its options do not contradict each other.
+ghost use Rattle.std.specs.Prelude.{◌≡◌};
+ghost use Rattle.kc_run.specs.Plans.{start_of, replay_form, is_alone, account_of, plan_of, path_of, origin_at, form_of, start_in};
+
+use crate::clash::Clash;
+use kc_cli::{CustodyForm, Job, Origin, ReplayForm};
+
+/// Where calls begin.
+#[derive(Clone, Copy, Debug, PartialEq, Eq)]
+pub enum Start<'a> {
+    /// In the boot state of the configuration in this file, or of the default one.
+    Boot(Option<&'a str>),
+    /// In the state whose text is in this file.
+    State(&'a str),
+}
+
+/// What is written of custody, and where calls begin. What came before the state of a text is not known, so that a summary
+/// and a picture begin in a boot state, with the configuration in a file or the default one.
+#[derive(Clone, Copy, Debug, PartialEq, Eq)]
+pub enum Account<'a> {
+    /// Every change of a frame or slot.
+    Changes(Start<'a>),
+    /// An object for each life of a VM.
+    Summary(Option<&'a str>),
+    /// A picture.
+    Picture(Option<&'a str>),
+}
+
+/// What is to be done with standard input.
+#[derive(Clone, Copy, Debug, PartialEq, Eq)]
+pub enum Plan<'a> {
+    /// Replay the trace, and compare the state that it leaves with the text in the file `to`, if that is named. Blank: with
+    /// the pages of active VMs zeroed, in what is written and compared of the core.
+    Replay {
+        start: Start<'a>,
+        to: Option<&'a str>,
+        form: ReplayForm,
+        is_blank: bool,
+        workers: u32,
+    },
+    /// Run the trace live, with the configuration in a file or the default one.
+    Live {
+        config: Option<&'a str>,
+        workers: u32,
+    },
+    /// Report the trace's custody, of one slot's VM alone if a slot is named.
+    Custody {
+        account: Account<'a>,
+        vm: Option<u32>,
+    },
+    /// Audit the dump.
+    Audit {
+        all: bool,
+    },
+    /// Write the trace without the bytes that VMs write.
+    Redact,
+}
+
+/// Where calls begin, by `--config` and `--from`; nothing for both.
+fn start_of<'a>(config: Option<&'a str>, from: Option<&'a str>) -> Option<Start<'a>>
+    ensures { result ≡ start_of config.entry from.entry }
+{
+    match (config, from) {
+        (config, None) => Some(Start::Boot(config)),
+        (None, Some(from)) => Some(Start::State(from)),
+        (Some(_), Some(_)) => None,
+    }
+}
+
+/// What is written of a replay, by `--dump` and `--state`; nothing for both.
+fn replay_form(dump: bool, state: bool) -> Option<ReplayForm>
+    ensures { result ≡ replay_form dump state }
+{
+    match (dump, state) {
+        (false, false) => Some(ReplayForm::Replies),
+        (true, false) => Some(ReplayForm::Dump),
+        (false, true) => Some(ReplayForm::State),
+        (true, true) => None,
+    }
+}
+
+/// Whether nothing that is asked for has a core's pages in it, which `--blank` zeroes.
+fn is_alone(blank: bool, form: ReplayForm, to: Option<&str>) -> bool
+    ensures { result ≡ is_alone blank form to.entry }
+{
+    match (blank, form, to) {
+        (true, ReplayForm::Replies, None) => true,
+        _ => false,
+    }
+}
+
+/// What is written of custody, by `--summary` and `--svg`.
+fn account_of<'a>(summary: bool, svg: bool, start: Start<'a>) -> Result<Account<'a>, Clash>
+    ensures { result ≡ account_of summary svg start.entry }
+{
+    match (summary, svg, start) {
+        (false, false, start) => Ok(Account::Changes(start)),
+        (true, true, _) => Err(Clash::SummarySvg),
+        (true, false, Start::Boot(config)) => Ok(Account::Summary(config)),
+        (true, false, Start::State(_)) => Err(Clash::FromSummary),
+        (false, true, Start::Boot(config)) => Ok(Account::Picture(config)),
+        (false, true, Start::State(_)) => Err(Clash::FromSvg),
+    }
+}
+
+/// What a job asks for, or what contradicts itself in it first.
+pub fn plan_of<'a>(job: Job<'a>) -> Result<Plan<'a>, Clash>
+    ensures { result ≡ plan_of job.entry }
+{
+    match job {
+        Job::Replay {
+            config,
+            from,
+            to,
+            workers,
+            dump,
+            state,
+            blank,
+            explain: _,
+        } => {
+            let Some(form) = replay_form(dump, state) else {
+                return Err(Clash::DumpState);
+            };
+            let Some(start) = start_of(config, from) else {
+                return Err(Clash::ReplayConfigFrom);
+            };
+            if is_alone(blank, form, to) {
+                return Err(Clash::BlankAlone);
+            }
+            Ok(Plan::Replay {
+                start,
+                to,
+                form,
+                is_blank: blank,
+                workers,
+            })
+        },
+        Job::Live {
+            config,
+            workers,
+            explain: _,
+        } => Ok(Plan::Live { config, workers }),
+        Job::Custody {
+            config,
+            from,
+            vm,
+            summary,
+            svg,
+            explain: _,
+        } => {
+            let Some(start) = start_of(config, from) else {
+                return Err(Clash::CustodyConfigFrom);
+            };
+            let account = account_of(summary, svg, start)?;
+            Ok(Plan::Custody { account, vm })
+        },
+        Job::Audit { all, explain: _ } => Ok(Plan::Audit { all }),
+        Job::Redact { explain: _ } => Ok(Plan::Redact),
+    }
+}
+
+impl<'a> Start<'a> {
+    /// The file that holds what calls begin with, if one is named.
+    pub(crate) fn path(self) -> Option<&'a str>
+        ensures { result ≡ path_of self.entry }
+    {
+        match self {
+            Start::Boot(config) => config,
+            Start::State(path) => Some(path),
+        }
+    }
+
+    /// What that file holds.
+    pub(crate) fn origin(self) -> Origin
+        ensures { result ≡ origin_at self.entry }
+    {
+        match self {
+            Start::Boot(_) => Origin::Boot,
+            Start::State(_) => Origin::State,
+        }
+    }
+}
+
+impl<'a> Account<'a> {
+    pub(crate) fn form(self) -> CustodyForm
+        ensures { result ≡ form_of self.entry }
+    {
+        match self {
+            Account::Changes(start) => CustodyForm::Changes(start.origin()),
+            Account::Summary(_) => CustodyForm::Summary,
+            Account::Picture(_) => CustodyForm::Picture,
+        }
+    }
+
+    pub(crate) fn start(self) -> Start<'a>
+        ensures { result ≡ start_in self.entry }
+    {
+        match self {
+            Account::Changes(start) => start,
+            Account::Summary(config) => Start::Boot(config),
+            Account::Picture(config) => Start::Boot(config),
+        }
+    }
+}
