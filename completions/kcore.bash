@@ -15,12 +15,13 @@ _kcore() {
     esac
     local words=
     case $command in
-        '') words='replay live custody audit help --help --version' ;;
-        replay) words='--config --from --to --workers --dump --state --explain --help' ;;
+        '') words='replay live custody audit redact help --help --version' ;;
+        replay) words='--config --from --to --workers --dump --state --blank --explain --help' ;;
         live) words='--config --workers --explain --help' ;;
         custody) words='--config --from --vm --summary --svg --explain --help' ;;
         audit) words='--all --explain --help' ;;
-        help) [ "$COMP_CWORD" -gt 2 ] || words='replay live custody audit help' ;;
+        redact) words='--explain --help' ;;
+        help) [ "$COMP_CWORD" -gt 2 ] || words='replay live custody audit redact help' ;;
     esac
     mapfile -t COMPREPLY < <(compgen -W "$words" -- "$word")
 }

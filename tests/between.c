@@ -1,5 +1,5 @@
-/* Stands between the program and the C library: counts what the program asks for, refuses, fails, interrupts or shortens
- * what the environment says, and when the program ends looks for a secret in its memory. */
+/* Stands between the program and the C library: counts what the program asks for, refuses, fails, interrupts, shortens or
+ * holds up what the environment says, and when the program ends looks for a secret in its memory. */
 #define _GNU_SOURCE
 #include <dlfcn.h>
 #include <errno.h>
@@ -11,9 +11,11 @@
 #include <stdlib.h>
 #include <string.h>
 #include <sys/syscall.h>
+#include <time.h>
 #include <unistd.h>
 
-static atomic_int growths, starts, reads, writes, pages, bytes, marked, held, spilled;
+static atomic_int growths, starts, reads, writes, pages, bytes, ticks, marked, told, held, spilled, stuck;
+static _Thread_local int own;
 
 /* The number that the environment gives to this word, 0 for none. */
 static int asked(const char *name) {
@@ -21,11 +23,27 @@ static int asked(const char *name) {
     return text ? atoi(text) : 0;
 }
 
-/* The first growth to the size that MARK_SIZE asks for keeps how many bytes have been read. */
+/* Holds a growth up until the other threads have had a hundred. If they have none, this thread has what they wait for. */
+static void hold_up(void) {
+    int others = growths - own;
+    for (int turn = 0; growths - own < others + 100; turn++) {
+        if (turn == 5000) {
+            atomic_fetch_add(&stuck, 1);
+            return;
+        }
+        usleep(1000);
+    }
+}
+
+/* The first growth to the size that MARK_SIZE asks for keeps how many bytes have been read, and how often the clock has.
+ * Under HOLD_UP each growth of a thread that was started is held up. */
 static int is_refused(size_t size) {
     int none = 0;
-    if (size == (size_t)asked("MARK_SIZE")) atomic_compare_exchange_strong(&marked, &none, bytes);
-    return atomic_fetch_add(&growths, 1) + 1 == asked("REFUSE_GROWTH");
+    if (size == (size_t)asked("MARK_SIZE") && atomic_compare_exchange_strong(&marked, &none, bytes)) told = ticks;
+    own++;
+    int number = atomic_fetch_add(&growths, 1) + 1;
+    if (asked("HOLD_UP") && gettid() != getpid()) hold_up();
+    return number == asked("REFUSE_GROWTH");
 }
 
 /* How often one text is found between two places with another after it. */
@@ -55,10 +73,13 @@ __attribute__((constructor)) static void know_secret(void) {
     front = getenv("SECRET_FRONT");
 }
 
-/* How often the secret is found between two places, as it is or in digits. No call writes both of its halves, so they come
- * so in pages and in the texts of states alone. */
+/* How often the secret is found between two places, as it is or in digits. Where no call writes both of its halves, they
+ * come so in pages and in the texts of states alone. Where one does, the trace's text has them in digits, which are passed
+ * over then. */
 static int found(char *from, char *end) {
-    return front ? pairs(from, end, front, back) + pairs(from, end, front_digits, back_digits) : 0;
+    if (!front) return 0;
+    int of_digits = asked("PASS_DIGITS") ? 0 : pairs(from, end, front_digits, back_digits);
+    return of_digits + pairs(from, end, front, back);
 }
 
 static int found_in(char *block) { return block ? found(block, block + malloc_usable_size(block)) : 0; }
@@ -87,7 +108,8 @@ void _exit(int status) {
     const char *path = getenv("TELL_COUNTS");
     char line[128];
     int left = secrets() + spilled;
-    int length = snprintf(line, sizeof line, "%d %d %d %d %d %d %d %d", growths, starts, reads, writes, pages, marked, held, left);
+    int length = snprintf(line, sizeof line, "%d %d %d %d %d %d %d %d %d %d", growths, starts, reads, writes, pages, marked, told,
+                          held, left, stuck);
     int file = path ? open(path, O_WRONLY | O_CREAT | O_TRUNC, 0600) : -1;
     if (file >= 0) syscall(SYS_write, file, line, length);
     for (;;) syscall(SYS_exit_group, status);
@@ -130,6 +152,11 @@ ssize_t read(int end, void *to, size_t size) {
     if (count > 0) atomic_fetch_add(&bytes, count);
     if (count == 0) held = secrets();
     return count;
+}
+
+int clock_gettime(clockid_t clock, struct timespec *time) {
+    atomic_fetch_add(&ticks, 1);
+    return syscall(SYS_clock_gettime, clock, time);
 }
 
 typedef int creation(pthread_t *, const pthread_attr_t *, void *(*)(void *), void *);

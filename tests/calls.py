@@ -1,4 +1,5 @@
-"""All calls, once: their names, the words of each in order, and who makes them."""
+"""All calls, once: their names, the words of each in order, and who makes them; and traces of them."""
+import hashlib
 
 # The words of a call: v a VM's slot, c a virtual processor, f a frame, g a guest frame, i an image, n a count of guest
 # frames; offset and length of bytes in a page, data the bytes in digits, and size the length of an image.
@@ -52,6 +53,17 @@ def actor_of(line):
     """The slot and the virtual processor that make a call, as they are written; nobody where the host does."""
     name, *words = line.split(" ")
     return tuple(words[:2]) if name in GUESTS else ()
+
+
+def redacted(line):
+    """The call with zeros in the place of the bytes that a virtual processor writes, as many as they are."""
+    rest, _, data = line.rpartition(" ")
+    return f"{rest} {'0' * len(data)}" if line.startswith("gwrite ") else line
+
+
+def witnessed(made):
+    """The digest that a witness publishes of these calls of a volume."""
+    return hashlib.sha256("".join(f"{line}\n" for line in ["kcore-trace 2", *map(redacted, made)]).encode()).hexdigest()
 
 
 def trace_of(made, has_ranges=None):

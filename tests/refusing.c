@@ -57,6 +57,14 @@ static int run(unsigned long at) {
         const char *line = n == 0 ? "kcore-trace 2" : n <= CALLS ? calls[n - 1][0] : NULL;
         if (line ? status != KCORE_DONE || !is_line(line, used) : status != KCORE_NO_SUCH_LINE || used) return -6;
     }
+    for (size_t n = 0; n <= CALLS + 1; n++) {
+        while ((status = kcore_redacted_line(&core, n, text, sizeof text, &used)) == KCORE_MEMORY) {
+            told++;
+            if (used) return -11;
+        }
+        if (status != (n <= CALLS ? KCORE_DONE : KCORE_NO_SUCH_LINE)) return -12;
+    }
+    if (kcore_digest(&core, text, sizeof text, &used) != KCORE_DONE || used != 32) return -13;
     while ((status = kcore_turn(&core)) == KCORE_MEMORY) {
         told++;
         if (kcore_line(&core, CALLS + 1, text, sizeof text, &used) == KCORE_DONE) return -7;

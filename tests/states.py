@@ -32,6 +32,18 @@ def state_text(core):
     return "\n".join(lines) + "\n" + core.dump()
 
 
+def blanked(text):
+    """The text of the state that differs from a state in the pages of active VMs, which are zero."""
+    lines = text.split("\n")
+    words = [line.split(" ") for line in lines]
+    active = {line[1] for line in words if line[0] == "vm" and line[2] == "active"}
+    pages = [at for at, line in enumerate(words) if line[0] == "page"]
+    for at, line in enumerate(words):
+        if line[0] == "frame" and line[2] in active:
+            lines[at], lines[pages[int(line[1])]] = " ".join([*line[:-1], ZEROS]), "page -"
+    return "\n".join(lines)
+
+
 def number_of(word, limit=2 ** 32):
     """The number below a limit that a word is, or None."""
     return int(word) if NUMERAL.fullmatch(word) and int(word) < limit else None

@@ -48,6 +48,18 @@ static uint32_t line(kcore *core, size_t number, size_t room) {
     return ended(kcore_line(core, number, out, room, &used), room);
 }
 
+static uint32_t redacted(kcore *core, size_t number, size_t room) {
+    used = 7;
+    memset(out, 0xa5, sizeof out);
+    return ended(kcore_redacted_line(core, number, out, room, &used), room);
+}
+
+static uint32_t digest(kcore *core, size_t room) {
+    used = 7;
+    memset(out, 0xa5, sizeof out);
+    return ended(kcore_digest(core, out, room, &used), room);
+}
+
 /* A whole page, as the last word of a line. */
 static const char *page_line(const char *front) {
     static char text[9000];
@@ -73,12 +85,19 @@ static void longest(kcore *core, size_t lines) {
     is(line(core, lines + 4, kcore_longest_line() - 1), KCORE_NO_ROOM, "it, in a byte less");
     is(line(core, lines + 4, kcore_longest_line()), KCORE_DONE, "and in as many bytes as it has");
     holds(used == kcore_longest_line() && used == strlen(text) + 1 && memcmp(out, text, used - 1) == 0, "is another");
+    is(redacted(core, lines + 4, kcore_longest_line() - 1), KCORE_NO_ROOM, "it redacted, in a byte less");
+    is(redacted(core, lines + 4, kcore_longest_line()), KCORE_DONE, "and in as many bytes as it has");
+    size_t zeros = 0;
+    for (size_t at = used; at > 1 && out[at - 2] == '0'; at--) zeros++;
+    holds(used == kcore_longest_line() && memcmp(out, text, used - 8193) == 0 && zeros == 8192, "is redacted otherwise");
 }
 
 int main(void) {
     kcore core = {0}, other = {0};
     is(ask(&core, "take", sizeof out), KCORE_CLOSED, "a call on a session that was never open");
     is(line(&core, 0, sizeof out), KCORE_CLOSED, "a line of one");
+    is(redacted(&core, 0, sizeof out), KCORE_CLOSED, "a redacted line of one");
+    is(digest(&core, sizeof out), KCORE_CLOSED, "the digest of one");
     is(kcore_turn(&core), KCORE_CLOSED, "the next volume of one");
     is(kcore_end(&core), KCORE_CLOSED, "the end of one");
     holds(!core.is_open && !core.session, "a session that was never open is changed");
@@ -124,6 +143,13 @@ int main(void) {
     is(line(&core, SIZE_MAX / 2 + 1, sizeof out), KCORE_NO_SUCH_LINE, "one whose number has a single bit");
     is(line(&core, (size_t)UINT32_MAX + 1, sizeof out), KCORE_NO_SUCH_LINE, "a line whose number is 0 in 32 bits");
     is(line(&core, (size_t)UINT32_MAX + 2, sizeof out), KCORE_NO_SUCH_LINE, "one whose number is 1 in 32 bits");
+    is(redacted(&core, 1, 4), KCORE_NO_ROOM, "a buffer that is too short for its redacted line");
+    is(redacted(&core, 1, 5), KCORE_DONE, "one that is not");
+    is(used == 5 && memcmp(out, "take\n", 5) == 0 ? 0 : 1, 0, "its redacted line");
+    is(redacted(&core, 2, sizeof out), KCORE_NO_SUCH_LINE, "a redacted line past the end");
+    is(digest(&core, 31), KCORE_NO_ROOM, "a buffer that is too short for a digest");
+    is(digest(&core, 32), KCORE_DONE, "one that is not");
+    holds(used == 32, "a digest has another length");
     longest(&core, 1);
 
     for (int n = 5; n < 65536; n++)

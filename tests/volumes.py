@@ -1,12 +1,13 @@
 """Volumes for tests/fuzz: a trace that is cut at any places, each piece replayed by itself, in any order, from the text
-of the state before it to that of the state after it; and such texts damaged."""
+of the state before it to that of the state after it; the same redacted, between blank states; and such texts
+damaged."""
 import hashlib
 import re
 
 import calls
 from common import run
 from rules import PAGE
-from states import fault_of, state_text
+from states import blanked, fault_of, state_text
 
 WORKERS = (1, 2, 64)
 # How often a trace is cut: seldom often, since each volume takes a run. One of a large core is cut once.
@@ -148,8 +149,11 @@ class Program:
         self.path_of(end).write_text(text, newline="")
         return self.path_of(end)
 
+    def trace_of(self, lines):
+        return calls.trace_of(lines, self.config["calls_on_ranges"])
+
     def ran(self, lines, *words):
-        return run(words, calls.trace_of(lines, self.config["calls_on_ranges"]))
+        return run(words, self.trace_of(lines))
 
 
 def volume_differs(rng, program, volume):
@@ -162,6 +166,21 @@ def volume_differs(rng, program, volume):
     words, workers = [*start, "--to", program.file("to", volume.behind)], str(rng.choice(WORKERS))
     if program.ran(volume.lines, "replay", *form, *words, "--workers", workers) != (0, wanted, ""):
         return f"{form[0] if form else 'its replies'} with {workers} workers"
+    return None
+
+
+def blank_differs(rng, program, volume):
+    """What differs in a volume without secrets, redacted and between the texts of blank states, or None."""
+    made, left = list(map(calls.redacted, volume.lines)), blanked(volume.behind)
+    if program.ran(volume.lines, "redact") != (0, program.trace_of(made), ""):
+        return "redacted"
+    start = ["--from", program.file("from", blanked(volume.before))]
+    if program.ran(made, "custody", *start) != (0, volume.custody, ""):
+        return "its custody, redacted"
+    form, wanted = rng.choice([("--state", left), ("--dump", left[left.index("kcore-dump "):])])
+    words = [*start, form, "--blank", "--to", program.file("to", left), "--workers", str(rng.choice(WORKERS))]
+    if program.ran(rng.choice([made, volume.lines]), "replay", *words) != (0, wanted, ""):
+        return f"{form} of the blank state"
     return None
 
 
@@ -196,7 +215,7 @@ def difference(rng, program, core, lines, told):
         differs = volume_differs(rng, program, volume)
         if differs:
             return f"volume {number} of {len(volumes)} (of {sizes} calls): {differs}"
-    for look in [damage_differs] + rng.sample([end_differs, damage_differs], 1):
+    for look in [blank_differs, damage_differs] + rng.sample([end_differs, damage_differs], 1):
         number, volume = rng.choice(order)
         differs = look(rng, program, volume)
         if differs:
