@@ -87,7 +87,8 @@ impl SecretBytes {
         ensures { IfOk result (λ made. made ≡ self.now ++ replicate (len - length self.now) 0) }
     {
         let mut bytes = Vec::with_capacity(alloc, len)?;
-        bytes.extend_from_slice(&self.bytes).unwrap();
+        bytes.resize(self.bytes.len(), 0).unwrap();
+        bytes.copy_from_slice(&self.bytes);
         bytes.resize(len, 0).unwrap();
         Ok(SecretBytes { bytes })
     }
