@@ -25,10 +25,17 @@ const PAGES_A_CHUNK: usize = 64;
 const ZERO_PAGE: [u8; PAGE_SIZE as usize] = [0; PAGE_SIZE as usize];
 
 #[tactic(auto, unfolding(kc_model::specs::State::zero_page))]
-fn is_zero(page: &[u8]) -> bool
-    ensures { IsTrue result ↔ (page.now ≡ zero_page) }
+fn is_zero(bytes: &[u8]) -> bool
+    ensures { IsTrue result ↔ (bytes.now ≡ zero_page) }
 {
-    page == &ZERO_PAGE[..]
+    bytes == &ZERO_PAGE[..]
+}
+
+/// Whether all bytes of a page are zero, which are not looked at if that is known.
+fn is_zero_page(page: &PageBytes) -> bool
+    ensures { IsTrue result → page.now ≡ zero_page }
+{
+    page.is_known_zero() || is_zero(page.as_slice())
 }
 
 /// The digest of a page of zero bytes.
@@ -70,7 +77,7 @@ fn are_zero<P: Bytes>(pages: &[P]) -> bool
     ensures { IsTrue result → map (digest_by P.bytes) pages.now ≡ replicate (length pages.now) (sha256 zero_page) }
 {
     'pages: for i in 0..pages.len() {
-        if !is_zero(pages[i].bytes().as_slice()) {
+        if !is_zero_page(pages[i].bytes()) {
             return false;
         }
     }

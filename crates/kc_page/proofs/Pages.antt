@@ -1,8 +1,9 @@
 -- The page that memory holds.
-use Rattle.std.proofs.Common.{◌≡◌, ◌-◌, ◌+◌, ◌++◌, ◌∷◌, ◌≤◌, ℕ, suc, Bool, true, false, List, [], length, take, replicate, refl, sym, ap, ◌∙◌, arith}
+use Rattle.std.proofs.Common.{◌≡◌, ◌-◌, ◌+◌, ◌++◌, ◌∷◌, ◌≤◌, ℕ, Bool, true, false, List, [], length, take, drop, replicate, refl, sym, ap, ap₂, ◌∙◌, arith}
 use Rattle.std.specs.Prelude.{if◌then◌else◌}
-use Rattle.std.proofs.lemmas.List.{take-replicate, replicate-append-replicate}
-use Rattle.kc_model.specs.State.{zero_page}
+use Rattle.std.proofs.lemmas.List.{take-replicate, drop-replicate, replicate-append-replicate}
+use Rattle.kc_model.specs.Bytes.{as_bytes}
+use Rattle.kc_model.specs.State.{zero_page, overwritten}
 use Rattle.kc_model.proofs.States.ZeroPage.{zero_page-replicate}
 use Rattle.kc_page.specs.PageBytes.{page_of, IsHeld, zeroed_from}
 
@@ -14,6 +15,16 @@ pub zeroed_zero_page : (n : ℕ) → n ≤ 4096 → zero_page ≡ zeroed_from ze
 zeroed_zero_page n le =
     let all : n + (4096 - n) ≡ 4096 = omega arith in
     rw zero_page-replicate (sym (ap (λ (l : List ℕ). l ++ replicate (4096 - n) 0) (take-replicate n 4096 0 le) ∙ replicate-append-replicate n (4096 - n) 0 ∙ ap (λ k. replicate k 0) all))
+
+-- writing zeros over a page of zero bytes
+pub zeros_over_zeros : (n : ℕ) (bytes : List ℕ) → bytes ≡ replicate (length bytes) 0 → as_bytes bytes ≡ bytes → n + length bytes ≤ 4096 → zero_page ≡ overwritten zero_page n bytes
+zeros_over_zeros n bytes zeros same le =
+    let m = length bytes in
+    let front : take n zero_page ≡ replicate n 0 = ap (take n) zero_page-replicate ∙ take-replicate n 4096 0 (omega (arith, le)) in
+    let back : drop (n + m) zero_page ≡ replicate (4096 - (n + m)) 0 = ap (drop (n + m)) zero_page-replicate ∙ drop-replicate (n + m) 4096 0 in
+    let begun : take n zero_page ++ as_bytes bytes ≡ replicate (n + m) 0 = ap₂ ◌++◌ front (same ∙ zeros) ∙ replicate-append-replicate n m 0 in
+    let all : n + m + (4096 - (n + m)) ≡ 4096 = omega (arith, le) in
+    zero_page-replicate ∙ sym (ap₂ ◌++◌ begun back ∙ replicate-append-replicate (n + m) (4096 - (n + m)) 0 ∙ ap (λ k. replicate k 0) all)
 
 -- filling what is empty
 pub filled : (n : ℕ) (old new : List ℕ) (ok : Bool) → length old ≡ n → n ≡ 0 → ok ≡ true → new ≡ (if ok then take 4096 old ++ replicate (4096 - n) 0 else old) → new ≡ zero_page

@@ -1,5 +1,5 @@
 //! The bytes of a page, the page, and many of them.
-ghost use Rattle.std.specs.Prelude.{◌≡◌, ℕ, ◌+◌, ◌<◌, ◌≤◌, List, length, map, slice_range, true, IfOk, vec_len, vec_capacity};
+ghost use Rattle.std.specs.Prelude.{◌≡◌, ℕ, ◌+◌, ◌<◌, ◌≤◌, ◌↔◌, List, length, map, replicate, slice_range, true, IsTrue, IfOk, vec_len, vec_capacity};
 ghost use Rattle.kc_types.specs.Limits.{page_size};
 ghost use Rattle.kc_model.specs.State.{zero_page, overwritten};
 ghost use Rattle.kc_page.specs.Page.{scrubbed_page};
@@ -45,6 +45,14 @@ fn fill_with_zeros(bytes: &mut Vec<u8>)
     ensures capacity { page_size ≤ vec_capacity bytes.new }
 {
     bytes.resize(PAGE_SIZE as usize, 0).unwrap();
+}
+
+/// Whether all bytes, of a page at most, are zero.
+fn are_zero(bytes: &[u8]) -> bool
+    requires { length bytes.now ≤ page_size }
+    ensures { IsTrue result ↔ (bytes.now ≡ replicate (length bytes.now) 0) }
+{
+    bytes == &ZEROS[..bytes.len()]
 }
 
 impl Drop for PageBytes {
@@ -108,12 +116,15 @@ impl PageBytes {
         buffer.filled(&self.as_slice()[offset..offset + len])
     }
 
-    /// Writes these bytes from `offset` on.
+    /// Writes these bytes from `offset` on. A page that is known to be zero stays as it is if they are zeros.
     pub fn write(&mut self, offset: usize, bytes: &[u8])
         requires some { 0 < length bytes.now }
         requires within { offset + length bytes.now ≤ page_size }
         ensures { self.new ≡ overwritten self.old offset bytes.now }
     {
+        if self.is_zero && are_zero(bytes) {
+            return;
+        }
         if !self.is_written {
             fill_with_zeros(&mut self.bytes);
             self.is_written = true;
