@@ -63,13 +63,13 @@ pub(crate) struct Told {
 fn give_text<K: Sink>(
     out: &mut K,
     piece: Vec<u8>,
-    events: &[Event],
+    events: Vec<Event>,
     end: &[u8],
 ) -> Result<(), Failed>
     requires out { K.failed out.old ≡ false }
     requires room { longest_call ≤ vec_capacity piece }
-    ensures ok { OnOk result (Appends (K.taken out.old) (K.taken out.new) (piece.items ++ (flat_map event_line events.now ++ end.now))) }
-    ensures begun { OnErr result ((n : ℕ) × Appends (K.taken out.old) (K.taken out.new) (take n (piece.items ++ (flat_map event_line events.now ++ end.now)))) }
+    ensures ok { OnOk result (Appends (K.taken out.old) (K.taken out.new) (piece.items ++ (flat_map event_line events.items ++ end.now))) }
+    ensures begun { OnErr result ((n : ℕ) × Appends (K.taken out.old) (K.taken out.new) (take n (piece.items ++ (flat_map event_line events.items ++ end.now)))) }
     ensures mark { K.failed out.new ≡ is_err result }
 {
     give_lines(out, piece, events)?;
@@ -100,7 +100,7 @@ fn give_changes<K: Sink>(
     };
     push_custody_header(&mut piece, &config);
     push_custody_end(&mut end, calls, events.len());
-    match give_text(out, piece, &events, &end) {
+    match give_text(out, piece, events, &end) {
         Ok(()) => Ok(()),
         Err(_) => Err(TextFault::Write),
     }

@@ -22,10 +22,14 @@ use std::alloc::Global;
 use std::thread::Threads;
 
 /// Gives the text of replies.
-fn give_text<K: Sink>(alloc: Global, replies: &[Reply], out: &mut K) -> Result<(), TextFault>
+fn give_text<K: Sink>(
+    alloc: Global,
+    replies: Vec<Reply>,
+    out: &mut K,
+) -> Result<(), TextFault>
     requires { K.failed out.old ≡ false }
-    ensures ok { OnOk result (Appends (K.taken out.old) (K.taken out.new) (reply_text_of replies.now)) }
-    ensures sink { TellsSink (K.failed out.new) ((n : ℕ) × Appends (K.taken out.old) (K.taken out.new) (take n (reply_text_of replies.now))) (out.new ≡ out.old) result }
+    ensures ok { OnOk result (Appends (K.taken out.old) (K.taken out.new) (reply_text_of replies.items)) }
+    ensures sink { TellsSink (K.failed out.new) ((n : ℕ) × Appends (K.taken out.old) (K.taken out.new) (take n (reply_text_of replies.items))) (out.new ≡ out.old) result }
     ensures fault { IfErr result (λ fault. (fault ≡ TextFault.Memory) ⊎ (fault ≡ TextFault.Write)) }
 {
     // All memory that writing takes is there before the first byte is written.
@@ -128,14 +132,14 @@ fn give_state<K: Sink>(
 fn give_wanted<K: Sink>(
     rt: &(impl Threads + Sync),
     alloc: Global,
-    replies: &[Reply],
+    replies: Vec<Reply>,
     core: &KCore,
     order: ReplayOrder,
     out: &mut K,
 ) -> Result<(), TextFault>
     requires { K.failed out.old ≡ false }
-    ensures ok { OnOk result (Appends (K.taken out.old) (K.taken out.new) (written_text order.form replies.now core.now)) }
-    ensures sink { TellsSink (K.failed out.new) ((n : ℕ) × Appends (K.taken out.old) (K.taken out.new) (take n (written_text order.form replies.now core.now))) (out.new ≡ out.old) result }
+    ensures ok { OnOk result (Appends (K.taken out.old) (K.taken out.new) (written_text order.form replies.items core.now)) }
+    ensures sink { TellsSink (K.failed out.new) ((n : ℕ) × Appends (K.taken out.old) (K.taken out.new) (take n (written_text order.form replies.items core.now))) (out.new ≡ out.old) result }
     ensures fault { IfErr result (λ fault. (fault ≡ TextFault.Memory) ⊎ (fault ≡ TextFault.Write)) }
 {
     match order.form {
@@ -160,7 +164,7 @@ pub(crate) fn give_outcome<K: Sink>(
 {
     let Outcome { replies, core } = outcome;
     let mut core = core;
-    let given = give_wanted(rt, alloc, &replies, &core, order, out);
+    let given = give_wanted(rt, alloc, replies, &core, order, out);
     core.wipe(rt);
     given
 }

@@ -154,7 +154,7 @@ fn give_made<K: Sink>(alloc: Global, made: Vec<Call>, out: &mut K) -> Result<(),
     let Ok(piece) = empty_piece(alloc) else {
         return Err(TextFault::Memory);
     };
-    match give_trace(out, piece, &made) {
+    match give_trace(out, piece, made) {
         Ok(()) => Ok(()),
         Err(_) => Err(TextFault::Write),
     }

@@ -40,7 +40,7 @@ pub fn redact_text<T: Source, K: Sink>(
         return Err(TextFault::Memory);
     };
     push_bytes(&mut piece, &head);
-    match give_lines(out, piece, &calls) {
+    match give_lines(out, piece, calls) {
         Ok(()) => Ok(()),
         Err(_) => Err(TextFault::Write),
     }

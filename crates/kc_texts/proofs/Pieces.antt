@@ -1,7 +1,7 @@
 -- A text that is given in pieces.
-use Rattle.std.proofs.Common.{◌≡◌, ◌<◌, ◌+◌, ℕ, List, [], ◌∷◌, ◌++◌, length, take, drop, get_or, Option, refl, sym, ap, ◌∙◌, append_assoc, arith, inl, inr}
+use Rattle.std.proofs.Common.{◌≡◌, ◌+◌, ℕ, List, [], ◌∷◌, ◌++◌, length, take, drop, Option, refl, sym, ap, ◌∙◌, append_assoc, arith, inl, inr}
 use Rattle.std.proofs.lemmas.Bool.{cases_lt}
-use Rattle.std.proofs.lemmas.List.{take_all, take_more, take-append-drop, append-nil}
+use Rattle.std.proofs.lemmas.List.{take_all, take-append-drop, append-nil}
 use Rattle.std.proofs.lemmas.Grind.{flat_map-append}
 use Rattle.std.proofs.lemmas.List.Concat.{flat_map-cons}
 use Rattle.std.proofs.Math.Seq.{take-append-add, take-append-le}
@@ -25,22 +25,20 @@ given_whole text piece old mid new given more = record {
 pub given_all : (text : List ℕ) (old new : Option (List ℕ)) → IsGiven text [] old new → Appends old new text
 given_all text old new given = rw (given.joined, append-nil given.sent) given.taken
 
--- the first lines behind a front
-abbrev pub text_of_first : {X : Type 0} → (X → List ℕ) → List ℕ → ℕ → List X → List ℕ
-text_of_first line front n xs = front ++ flat_map line (take n xs)
+-- the lines of some values after a front
+abbrev pub text_of : {X : Type 0} → (X → List ℕ) → List ℕ → List X → List ℕ
+text_of line front xs = front ++ flat_map line xs
 
 -- one line more, which the buffer took
-pub given_more : {X : Type 0} (line : X → List ℕ) (front : List ℕ) (n : ℕ) (xs : List X) (x : X) (piece more : List ℕ) (old new : Option (List ℕ)) → n < length xs → x ≡ get_or xs n x → IsGiven (text_of_first line front n xs) piece old new → more ≡ piece ++ line x
-    → IsGiven (text_of_first line front (n + 1) xs) more old new
-given_more {X} line front n xs x piece more old new lt is given grown =
-    let one = get_or xs n x in
-    let lines : flat_map line (take (n + 1) xs) ≡ flat_map line (take n xs) ++ line x =
-    ap (flat_map line) (take_more xs n x lt) ∙ flat_map-append line (take n xs) (one ∷ []) ∙ ap (λ (t : List ℕ). flat_map line (take n xs) ++ t) (flat_map-cons line one [] ∙ append-nil (line one))
-    ∙ ap (λ (y : X). flat_map line (take n xs) ++ line y) (sym is) in
+pub given_more : {X : Type 0} (line : X → List ℕ) (front : List ℕ) (xs : List X) (x : X) (piece more : List ℕ) (old new : Option (List ℕ)) → IsGiven (text_of line front xs) piece old new → more ≡ piece ++ line x
+    → IsGiven (text_of line front (xs ++ x ∷ [])) more old new
+given_more line front xs x piece more old new given grown =
+    let lines : flat_map line (xs ++ x ∷ []) ≡ flat_map line xs ++ line x =
+    flat_map-append line xs (x ∷ []) ∙ ap (λ (t : List ℕ). flat_map line xs ++ t) (flat_map-cons line x [] ∙ append-nil (line x)) in
     record {
       sent = given.sent;
       taken = given.taken;
-      joined = ap (λ (t : List ℕ). front ++ t) lines ∙ sym (append_assoc front (flat_map line (take n xs)) (line x)) ∙ ap (λ (t : List ℕ). t ++ line x) given.joined ∙ append_assoc given.sent piece (line x) ∙ ap (λ (t : List ℕ). given.sent ++ t) (sym grown);
+      joined = ap (λ (t : List ℕ). front ++ t) lines ∙ sym (append_assoc front (flat_map line xs) (line x)) ∙ ap (λ (t : List ℕ). t ++ line x) given.joined ∙ append_assoc given.sent piece (line x) ∙ ap (λ (t : List ℕ). given.sent ++ t) (sym grown);
     }
 
 cut_short : (sent piece rest : List ℕ) (n : ℕ) → (m : ℕ) × (sent ++ take n piece ≡ take m ((sent ++ piece) ++ rest))
@@ -50,12 +48,13 @@ cut_short sent piece rest n =
       | inr le ↦ (length sent + n, rw (append_assoc sent piece rest, take-append-add sent (piece ++ rest) n, take-append-le n piece rest le) refl)
     ]
 
--- where a piece is cut short, a beginning of the whole text was taken
-pub begun : {X : Type 0} (line : X → List ℕ) (front : List ℕ) (n : ℕ) (xs : List X) (piece : List ℕ) (old mid new : Option (List ℕ)) → IsGiven (text_of_first line front n xs) piece old mid → ((k : ℕ) × Appends mid new (take k piece)) → (m : ℕ) × Appends old new (take m (front ++ flat_map line xs))
-begun line front n xs piece old mid new given cut =
-    let rest = flat_map line (drop n xs) in
-    let whole : front ++ flat_map line xs ≡ (given.sent ++ piece) ++ rest =
-    ap (λ ys. front ++ flat_map line ys) (sym (take-append-drop n xs)) ∙ ap (λ (t : List ℕ). front ++ t) (flat_map-append line (take n xs) (drop n xs))
-    ∙ sym (append_assoc front (flat_map line (take n xs)) rest) ∙ ap (λ (t : List ℕ). t ++ rest) given.joined in
+-- if a piece is cut short after some of the lines, the sink has taken a beginning of the whole text
+pub begun : {X : Type 0} (line : X → List ℕ) (front : List ℕ) (xs all : List X) (piece : List ℕ) (old mid new : Option (List ℕ)) → xs ≡ take (length xs) all → IsGiven (text_of line front xs) piece old mid → ((k : ℕ) × Appends mid new (take k piece)) → (m : ℕ) × Appends old new (take m (text_of line front all))
+begun line front xs all piece old mid new first given cut =
+    let others = drop (length xs) all in
+    let rest = flat_map line others in
+    let whole : text_of line front all ≡ (given.sent ++ piece) ++ rest =
+    ap (text_of line front) (sym (take-append-drop (length xs) all) ∙ ap (λ ys. ys ++ others) (sym first)) ∙ ap (λ (t : List ℕ). front ++ t) (flat_map-append line xs others)
+    ∙ sym (append_assoc front (flat_map line xs) rest) ∙ ap (λ (t : List ℕ). t ++ rest) given.joined in
     let begins = cut_short given.sent piece rest cut.0 in
     (begins.0, rw (whole, ← begins.1) (Appends-trans old mid new given.sent (take cut.0 piece) given.taken cut.1))

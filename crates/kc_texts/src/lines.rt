@@ -74,17 +74,18 @@ impl Line for Event {
     }
 }
 
-/// Gives a sink what stands in the piece and then some lines, in pieces as large as that one has room for: memory does
-/// not grow. After an `Err` the sink has taken a beginning of it.
-pub fn give_lines<K: Sink, L: Line>(
+/// Gives a sink what the piece holds and then some lines, in pieces as large as that one has room for: memory does not
+/// grow. Each line's owner is let go once its line is in a piece, while its bytes are still in the cache. After an `Err`
+/// the sink has taken a beginning of it.
+pub fn give_lines<K: Sink, L: Line + Drop>(
     out: &mut K,
     mut piece: Vec<u8>,
-    lines: &[L],
+    lines: Vec<L>,
 ) -> Result<(), Failed>
     requires out { K.failed out.old ≡ false }
     requires room { longest_call ≤ vec_capacity piece }
-    ensures ok { OnOk result (Appends (K.taken out.old) (K.taken out.new) (piece.items ++ flat_map L.line lines.now)) }
-    ensures begun { OnErr result ((n : ℕ) × Appends (K.taken out.old) (K.taken out.new) (take n (piece.items ++ flat_map L.line lines.now))) }
+    ensures ok { OnOk result (Appends (K.taken out.old) (K.taken out.new) (piece.items ++ flat_map L.line lines.items)) }
+    ensures begun { OnErr result ((n : ℕ) × Appends (K.taken out.old) (K.taken out.new) (take n (piece.items ++ flat_map L.line lines.items))) }
     ensures mark { K.failed out.new ≡ is_err result }
 {
     for line in lines {
@@ -99,12 +100,16 @@ pub fn give_lines<K: Sink, L: Line>(
 
 /// Gives the text of some replies to a sink, in pieces as large as the empty buffer has room for: memory does not
 /// grow. After an `Err` the sink has taken a beginning of the text.
-pub fn give_replies<K: Sink>(out: &mut K, piece: Vec<u8>, replies: &[Reply]) -> Result<(), Failed>
+pub fn give_replies<K: Sink>(
+    out: &mut K,
+    piece: Vec<u8>,
+    replies: Vec<Reply>,
+) -> Result<(), Failed>
     requires out { K.failed out.old ≡ false }
     requires empty { piece.items ≡ [] }
     requires room { longest_call ≤ vec_capacity piece }
-    ensures ok { OnOk result (Appends (K.taken out.old) (K.taken out.new) (reply_text_of replies.now)) }
-    ensures begun { OnErr result ((n : ℕ) × Appends (K.taken out.old) (K.taken out.new) (take n (reply_text_of replies.now))) }
+    ensures ok { OnOk result (Appends (K.taken out.old) (K.taken out.new) (reply_text_of replies.items)) }
+    ensures begun { OnErr result ((n : ℕ) × Appends (K.taken out.old) (K.taken out.new) (take n (reply_text_of replies.items))) }
     ensures mark { K.failed out.new ≡ is_err result }
 {
     give_lines(out, piece, replies)
@@ -112,14 +117,18 @@ pub fn give_replies<K: Sink>(out: &mut K, piece: Vec<u8>, replies: &[Reply]) -> 
 
 /// Gives the trace of some calls to a sink, in pieces as large as the empty buffer has room for: memory does not
 /// grow. After an `Err` the sink has taken a beginning of it.
-pub fn give_trace<K: Sink>(out: &mut K, mut piece: Vec<u8>, calls: &[Call]) -> Result<(), Failed>
+pub fn give_trace<K: Sink>(
+    out: &mut K,
+    mut piece: Vec<u8>,
+    calls: Vec<Call>,
+) -> Result<(), Failed>
     requires out { K.failed out.old ≡ false }
     requires empty { piece.items ≡ [] }
     requires room { longest_call ≤ vec_capacity piece }
-    ensures ok { OnOk result (Appends (K.taken out.old) (K.taken out.new) (trace_of calls.now)) }
-    ensures begun { OnErr result ((n : ℕ) × Appends (K.taken out.old) (K.taken out.new) (take n (trace_of calls.now))) }
+    ensures ok { OnOk result (Appends (K.taken out.old) (K.taken out.new) (trace_of calls.items)) }
+    ensures begun { OnErr result ((n : ℕ) × Appends (K.taken out.old) (K.taken out.new) (take n (trace_of calls.items))) }
     ensures mark { K.failed out.new ≡ is_err result }
 {
-    push_header(&mut piece, version_of(calls));
+    push_header(&mut piece, version_of(&calls));
     give_lines(out, piece, calls)
 }

@@ -27,11 +27,9 @@ fn zero_all(bytes: &mut Vec<u8>)
     ensures zero { All (λ b. b ≡ 0) bytes.new.items }
     ensures whole { vec_capacity bytes.old ≤ vec_len bytes.new }
 {
-    bytes.fill(0);
     let room = bytes.capacity();
-    if bytes.len() < room {
-        bytes.resize(room, 0).unwrap();
-    }
+    bytes.clear();
+    bytes.resize(room, 0).unwrap();
 }
 
 /// The only end of these bytes: each is zero.
