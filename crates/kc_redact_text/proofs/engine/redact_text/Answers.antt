@@ -7,13 +7,13 @@ use Rattle.kc_redact_text.proofs.engine.redact_text.Goals as goal
 pub returns-in-Ok-give_lines-clause-ok : goal.returns-in-Ok-give_lines-clause-ok
 returns-in-Ok-give_lines-clause-ok g c =
     redacts _ _ _ c.in_ok-head.head c.in_ok-head.calls.items c.in_ok-head.ensures.ok
-    (rw (c.push_bytes.ensures.items, c.in-Ok.ensures.empty, c.deref.ensures.value) at c.in-Ok-give_lines.ensures.ok)
+    (rw (c.push_bytes.ensures.items, c.in-Ok.ensures.empty) at c.in-Ok-give_lines.ensures.ok)
 
-pub returns-clause-sink : goal.returns-clause-sink
-returns-clause-sink g c =
+pub returns-in-Err-clause-sink : goal.returns-in-Err-clause-sink
+returns-in-Err-clause-sink g c =
     let failed : g.K.Sink.failed c.give_lines.new.out ≡ true = search rules in
     let begun = begins _ _ _ c.in_ok-head.head c.in_ok-head.calls.items c.in_ok-head.ensures.ok
-    (rw (c.push_bytes.ensures.items, c.in-Ok.ensures.empty, c.deref.ensures.value) at c.in-Err.ensures.begun) in
+    (rw (c.push_bytes.ensures.items, c.in-Ok.ensures.empty) at c.in-Err.ensures.begun) in
     record {
       write = λ e. (failed, begun);
       failed_is = λ bad. refl;
