@@ -22,11 +22,7 @@ use std::alloc::Global;
 use std::thread::Threads;
 
 /// Gives the text of replies.
-fn give_text<K: Sink>(
-    alloc: Global,
-    replies: Vec<Reply>,
-    out: &mut K,
-) -> Result<(), TextFault>
+fn give_text<K: Sink>(alloc: Global, replies: Vec<Reply>, out: &mut K) -> Result<(), TextFault>
     requires { K.failed out.old ≡ false }
     ensures ok { OnOk result (Appends (K.taken out.old) (K.taken out.new) (reply_text_of replies.items)) }
     ensures sink { TellsSink (K.failed out.new) ((n : ℕ) × Appends (K.taken out.old) (K.taken out.new) (take n (reply_text_of replies.items))) (out.new ≡ out.old) result }

@@ -100,11 +100,7 @@ pub fn give_lines<K: Sink, L: Line + Drop>(
 
 /// Gives the text of some replies to a sink, in pieces as large as the empty buffer has room for: memory does not
 /// grow. After an `Err` the sink has taken a beginning of the text.
-pub fn give_replies<K: Sink>(
-    out: &mut K,
-    piece: Vec<u8>,
-    replies: Vec<Reply>,
-) -> Result<(), Failed>
+pub fn give_replies<K: Sink>(out: &mut K, piece: Vec<u8>, replies: Vec<Reply>) -> Result<(), Failed>
     requires out { K.failed out.old ≡ false }
     requires empty { piece.items ≡ [] }
     requires room { longest_call ≤ vec_capacity piece }
@@ -117,11 +113,7 @@ pub fn give_replies<K: Sink>(
 
 /// Gives the trace of some calls to a sink, in pieces as large as the empty buffer has room for: memory does not
 /// grow. After an `Err` the sink has taken a beginning of it.
-pub fn give_trace<K: Sink>(
-    out: &mut K,
-    mut piece: Vec<u8>,
-    calls: Vec<Call>,
-) -> Result<(), Failed>
+pub fn give_trace<K: Sink>(out: &mut K, mut piece: Vec<u8>, calls: Vec<Call>) -> Result<(), Failed>
     requires out { K.failed out.old ≡ false }
     requires empty { piece.items ≡ [] }
     requires room { longest_call ≤ vec_capacity piece }
