@@ -20,4 +20,4 @@ pub use look_ups::custody_at;
 pub use selected::select;
 pub use selected_lives::select_lives;
 pub use telling::{tell_call, tell_calls};
-pub use watching::{marks_before, tell_marks};
+pub use watching::{note_marks, tell_marks};

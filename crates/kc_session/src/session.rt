@@ -14,7 +14,7 @@ ghost use Rattle.kc_redact.specs.Witness.{HasSeen};
 ghost use Rattle.kc_session.specs.Session.{new_session, turned, with_call, IsOf, IsAnothers, IsAnswer, IsUnmade, IsUnanswered, trace_lines, redacted_lines, lines_in, line_in};
 
 use kc_core::KCore;
-use kc_custody::{marks_before, tell_marks};
+use kc_custody::{note_marks, tell_marks};
 use kc_live::{Book, Entry, Ready, Volume};
 use kc_redact::{Witness, push_redacted};
 use kc_trace::{LONGEST_CALL, LONGEST_REPLY, call_of_line, push_call, push_header, push_reply};
@@ -107,6 +107,8 @@ pub struct Session {
     /// How many calls of the volume the witness has seen.
     seen: usize,
     changes: Vec<FrameChange>,
+    /// Room for what is noted before a call.
+    marks: Vec<FrameChange>,
 }
 
 impl Model for Session {
@@ -143,6 +145,7 @@ impl Session {
             witness,
             seen: 0,
             changes: Vec::new(alloc),
+            marks: Vec::new(alloc),
         })
     }
 
@@ -161,14 +164,15 @@ impl Session {
             return Err(AskFault::NotYours);
         }
         let line = self.book.entries().len() as u32 + FIRST_LINE;
-        let marks = marks_before(self.alloc, self.book.core(), &call, line)?;
-        self.changes.reserve(marks.len())?;
+        self.marks.clear();
+        note_marks(self.alloc, self.book.core(), &call, line, &mut self.marks)?;
+        self.changes.reserve(self.marks.len())?;
         let ready = Ready::new(self.alloc, call)?;
         let Ok(receipt) = self.book.step(ready) else {
             return Err(AskFault::HistoryFull);
         };
         self.changes.clear();
-        tell_marks(self.book.core(), &marks, &mut self.changes);
+        tell_marks(self.book.core(), &self.marks, &mut self.changes);
         Ok(receipt.reply)
     }
 

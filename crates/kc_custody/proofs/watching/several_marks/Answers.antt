@@ -4,7 +4,7 @@ use Rattle.kc_model.specs.Next.{next}
 use Rattle.kc_custody.specs.Marks.{mark_of, changed_from}
 use Rattle.kc_custody.proofs.Ordered.{rising, held}
 use Rattle.kc_custody.proofs.Told.{told-is}
-use Rattle.kc_custody.proofs.watching.marks_before.Goals as goal
+use Rattle.kc_custody.proofs.watching.several_marks.Goals as goal
 
 pub returns : goal.returns
 returns c =
