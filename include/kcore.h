@@ -1,9 +1,10 @@
-/* The trusted core in a program of your own: link with -lkcore. docs/EMBED.md says more.
+/* The trusted core in a program of your own: link with -lkcore. docs/EMBED.md says more, and what a monitor of virtual
+ * machines owes.
  *
  * What each function says below of its status, of *used and of the buffer is proved, for a caller that keeps to this, which
  * nothing checks:
- *  - a pointer and the length behind it are bytes of the caller's, `used` is one number, and nothing else uses them
- *    while the call runs; buffers, `used` and session do not overlap;
+ *  - a pointer and the length after it are bytes of the caller's, or as many changes, and any other pointer is to one
+ *    value of its type; nothing else uses them while the call runs, and they and the session do not overlap;
  *  - a session begins as {0}, and then only these functions change it; it is not copied while it is open;
  *  - one thread at a time uses a session, and hands it on by a lock, or by a thread's start or end; no function is called
  *    by a signal handler, or by the forked child of a process with threads;

@@ -52,7 +52,12 @@ fn only_frame(core: &KCore, call: &Call) -> Option<Option<u32>>
 }
 
 /// Notes the custody of a frame.
-fn note_frame(core: &KCore, line: u32, frame: u32, marks: &mut Vec<FrameChange>) -> Result<(), Memory>
+fn note_frame(
+    core: &KCore,
+    line: u32,
+    frame: u32,
+    marks: &mut Vec<FrameChange>,
+) -> Result<(), Memory>
     ensures { OnOk result (marks.new.items ≡ marks.old.items ++ mark_of line core.now frame ∷ []) }
 {
     let before = custody_at(core, frame);

@@ -128,7 +128,17 @@ pub extern "C" fn kcore_do_by(
     ensures rest { drop used.new out.new ≡ drop used.new out.old }
     ensures nothing { result ≢ 0 → used.new ≡ 0 }
 {
-    session::make(alloc, core, Some(asking(vm, vcpu)), request, bytes, out, used, answer).code()
+    session::make(
+        alloc,
+        core,
+        Some(asking(vm, vcpu)),
+        request,
+        bytes,
+        out,
+        used,
+        answer,
+    )
+    .code()
 }
 
 /// Reports what the last call that was answered changed of the custody of frames: a change, by its place from 0, in

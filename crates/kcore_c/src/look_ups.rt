@@ -137,4 +137,3 @@ pub fn sizes(alloc: Global, core: &mut Handle, out: &mut Sizes) -> Status
     core.put(session);
     Status::Done
 }
-
