@@ -1,5 +1,5 @@
 //! What is read of the session behind a handle.
-ghost use Rattle.std.specs.Prelude.{◌≡◌, Some, None, length, take};
+ghost use Rattle.std.specs.Prelude.{◌≡◌};
 ghost use Rattle.kcore_c.specs.Status.{ChangeSays, ChangesSays, RecordSays, FrameSays, NextSays, SizesSays, AreSizes};
 
 use crate::handle::Handle;
@@ -9,7 +9,7 @@ use kc_custody::custody_at;
 use kc_session::Session;
 use std::alloc::Global;
 
-/// Tells a change of a frame's custody by the last call that was answered.
+/// Reports a change of a frame's custody by the last call that was answered.
 pub fn change(alloc: Global, core: &mut Handle, number: usize, out: &mut Change) -> Status
     ensures says { ChangeSays core.old.held.session number out.old out.new result }
     ensures same { core.new.held.session ≡ core.old.held.session }
@@ -28,7 +28,7 @@ pub fn change(alloc: Global, core: &mut Handle, number: usize, out: &mut Change)
     status
 }
 
-/// Tells the custody of a frame.
+/// Reports the custody of a frame.
 pub fn record(alloc: Global, core: &mut Handle, frame: u32, out: &mut Record) -> Status
     ensures says { RecordSays core.old.held.session frame out.old out.new result }
     ensures same { core.new.held.session ≡ core.old.held.session }
@@ -46,7 +46,7 @@ pub fn record(alloc: Global, core: &mut Handle, frame: u32, out: &mut Record) ->
     status
 }
 
-/// Tells the frame at a guest frame of a slot.
+/// Reports the frame at a guest frame of a slot.
 pub fn frame(alloc: Global, core: &mut Handle, vm: u32, gfn: u32, out: &mut u32) -> Status
     ensures says { FrameSays core.old.held.session vm gfn out.old out.new result }
     ensures same { core.new.held.session ≡ core.old.held.session }
@@ -65,7 +65,7 @@ pub fn frame(alloc: Global, core: &mut Handle, vm: u32, gfn: u32, out: &mut u32)
     status
 }
 
-/// Tells the first frame from a number on whose record has an owner.
+/// Reports the first frame from a number on whose record has an owner.
 pub fn next(
     alloc: Global,
     core: &mut Handle,
@@ -91,7 +91,7 @@ pub fn next(
     status
 }
 
-/// Tells all changes of frames' custody by the last call that was answered.
+/// Reports all changes of frames' custody by the last call that was answered.
 pub fn changes(alloc: Global, core: &mut Handle, out: &mut [Change], count: &mut usize) -> Status
     ensures says { ChangesSays core.old.held.session out.old out.new count.new result }
     ensures same { core.new.held.session ≡ core.old.held.session }
@@ -125,7 +125,7 @@ fn sizes_of(session: &Session) -> Sizes
     }
 }
 
-/// Tells how large the session's core is, and how many calls its volume has room for yet.
+/// Reports how large the session's core is, and how many calls its volume has room for yet.
 pub fn sizes(alloc: Global, core: &mut Handle, out: &mut Sizes) -> Status
     ensures says { SizesSays core.old.held.session out.old out.new result }
     ensures same { core.new.held.session ≡ core.old.held.session }
