@@ -48,9 +48,26 @@ def check_trusted(tree):
     trusted = set(QUOTED.findall(section(tree.text("docs/ASSURANCE.md"), "What is trusted")))
     defining = {crate for crate in tree.crates if tree.below(f"crates/{crate}/specs")}
     yield "docs/ASSURANCE.md: whose definitions are trusted", differing(trusted & set(tree.crates), defining)
-    lines = [line for line in tree.text("crates.txt").splitlines() if not line.startswith("#")]
-    foreign = words_of("\n".join(lines)) - set(tree.crates) - BUILT_IN
+    foreign = foreign_of(tree, tree.crates)
     yield "docs/ASSURANCE.md: which crates of the toolchain are trusted", differing(trusted & foreign, foreign)
+
+
+def foreign_of(tree, crates):
+    """The crates of the toolchain that some crates of ours name."""
+    lines = [line.partition(":") for line in tree.text("crates.txt").splitlines() if re.match(r"\w", line)]
+    named = [named for name, _, named in lines if name.split(" ")[0] in crates]
+    return words_of("\n".join(named)) - set(tree.crates) - BUILT_IN
+
+
+def check_third_parties(tree):
+    """THIRD_PARTY has each crate of the toolchain that the program's crates name, and each text of a licence."""
+    text = tree.text("docs/THIRD_PARTY.md")
+    rows = rows_of(text.partition("\n\nThe standard library")[0])
+    named = {name for _, cells in rows for name in QUOTED.findall(cells[0])}
+    linked = foreign_of(tree, {"kcore", *tree.reached("kcore")})
+    yield "docs/THIRD_PARTY.md: each library of the program", differing(named & linked, linked)
+    cited = {name for name in QUOTED.findall(text) if name.startswith("docs/licences/")}
+    yield "docs/THIRD_PARTY.md: each text of a licence", differing(cited, tree.below("docs/licences"))
 
 
 # Calls

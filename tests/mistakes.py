@@ -49,6 +49,8 @@ MISTAKES = (
     Mistake("crates", "docs/MAP.md", "| `kc_state_text` |", "| `kc_states_text` |"),
     Mistake("crates", "docs/MAP.md", "kc_picture: bars", "bars"),
     Mistake("trusted crates", "docs/ASSURANCE.md", "of `kc_state` and `kc_state_text`", "of `kc_state_text`"),
+    Mistake("third parties", "docs/THIRD_PARTY.md", "| `memchr` |", "| `memory` |"),
+    Mistake("third parties", "docs/licences/zmij", "", "docs/licences/other"),
     Mistake("calls", "crates/kc_explain/src/trace_line.rt", '"revoker"', '"revoked"'),
     Mistake("calls", "crates/kc_explain/src/trace_line.rt", "Some((5, false))", "Some((4, false))"),
     Mistake("calls", "crates/kc_types/src/call.rt", "    Take,\n", "    Take,\n    Swap,\n"),
