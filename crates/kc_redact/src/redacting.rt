@@ -13,14 +13,8 @@ use kc_types::Call;
 /// Who writes, and to which frame: a virtual processor by a guest frame number, the host by a frame number.
 #[derive(Clone, Copy, Debug)]
 pub enum Target {
-    Guest {
-        vm: u32,
-        vcpu: u32,
-        gfn: u32,
-    },
-    Host {
-        frame: u32,
-    },
+    Guest { vm: u32, vcpu: u32, gfn: u32 },
+    Host { frame: u32 },
 }
 
 /// Where a write goes, and how many bytes it has.

@@ -1,8 +1,9 @@
 -- Calls redacted as they come, in two stretches as in one.
-use Rattle.std.proofs.Common.{◌≡◌, ℕ, Bool, true, false, not, List, [], ◌∷◌, ◌++◌, Option, Some, None, refl, sym, ap, ◌∙◌}
+use Rattle.std.proofs.Common.{append_assoc, ◌≡◌, ℕ, Bool, true, false, not, List, [], ◌∷◌, ◌++◌, Option, Some, None, refl, sym, ap, ◌∙◌}
 use Rattle.std.proofs.lemmas.List.{map-append}
+use Rattle.std.specs.Prelude.{if◌then◌else◌}
 use Rattle.kc_types.specs.declared.call.Call.{Call}
-use Rattle.kc_types.specs.declared.call.Call.TheVariants.{HostWrite, GuestWrite}
+use Rattle.kc_types.specs.declared.call.Call.TheVariants.{HostWrite}
 use Rattle.kc_types.specs.declared.owner.Owner.{Owner}
 use Rattle.kc_types.specs.declared.owner.Owner.TheVariants.{Core, Host, Free, Vm}
 use Rattle.kc_model.specs.State.{State, frame_at}
@@ -10,7 +11,7 @@ use Rattle.kc_model.specs.Next.{next, state_after}
 use Rattle.kc_model.specs.Redaction.{counts}
 use Rattle.kc_model.specs.Blanking.{is_guests}
 use Rattle.kc_model.proofs.States.Runs.{state_after-append}
-use Rattle.kc_redact.specs.Redacted.{blanked, redacted_call, redacted, redacted_in, redacted_from, all_frames}
+use Rattle.kc_redact.specs.Redacted.{blanked, redacted_call, redacted_in, redacted_from, all_frames}
 use Rattle.kc_redact_text.specs.Kept.{blanked_call}
 use Rattle.kc_redact_text.specs.Made.{is_hidden, redacted_next, core_next, redacted_by, core_after}
 
@@ -69,3 +70,9 @@ by-then core now xs call is =
 
 pub after-then : (core now : Option State) (xs : List Call) (call : Call) → now ≡ core_after core xs → core_after core (xs ++ call ∷ []) ≡ core_next now call
 after-then core now xs call is = after-append core xs (call ∷ []) ∙ after-one (core_after core xs) call ∙ ap (λ c. core_next c call) (sym is)
+
+-- one call more is kept
+pub kept-then : (core now : Option State) (first so_far new xs : List Call) (call kept : Call) → so_far ≡ first ++ redacted_by core xs → now ≡ core_after core xs → kept ≡ redacted_next now call → new ≡ so_far ++ kept ∷ [] → new ≡ first ++ redacted_by core (xs ++ call ∷ [])
+kept-then core now first so_far new xs call kept is at one added =
+    added ∙ ap (λ l. l ++ kept ∷ []) is ∙ append_assoc first (redacted_by core xs) (kept ∷ [])
+    ∙ ap (λ l. first ++ l) (ap (λ k. redacted_by core xs ++ k ∷ []) one ∙ sym (by-then core now xs call at))

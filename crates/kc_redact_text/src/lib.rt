@@ -4,7 +4,7 @@
 mod calls;
 mod engine;
 mod host;
-mod made;
+mod next;
 mod reading;
 
 pub use engine::redact_text;

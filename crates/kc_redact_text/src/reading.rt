@@ -11,7 +11,7 @@ ghost use Rattle.kc_redact_text.specs.Made.{redacted_by, core_after};
 ghost use Rattle.kc_redact_text.specs.Reading.{stream_of, HasTaken, HasGoneOn, IsHeadAndCalls, IsReadingFault};
 
 use crate::calls::RedactedCall;
-use crate::made::redact_next;
+use crate::next::redact_next;
 use kc_core::KCore;
 use kc_texts::{Failed, PIECE, ReadFault, Source, TextFault};
 use kc_trace::{TraceFault, TraceReader};

@@ -23,20 +23,27 @@ fn is_active(core: &KCore, vm: u32) -> bool
     }
 }
 
-/// Whether an active VM is the owner of a frame; not of a frame that does not exist.
-fn is_guests(core: &KCore, frame: u32) -> bool
-    ensures { result ≡ is_guests core.now (frame_at core.now frame).owner }
+/// The owner of a frame; one that does not exist is as one of the core's.
+fn owner_of(core: &KCore, frame: u32) -> Owner
+    ensures { result ≡ (frame_at core.now frame).owner }
 {
     match core.page_record(frame) {
-        Some(record) => match record.owner {
-            Owner::Vm(vm) => is_active(core, vm.index() as u32),
-            Owner::Core | Owner::Host | Owner::Free => false,
-        },
+        Some(record) => record.owner,
         None => {
             // Lawful, as above.
             let _config = core.config();
-            false
+            Owner::Core
         },
+    }
+}
+
+/// Whether an owner is an active VM.
+fn is_guests(core: &KCore, owner: Owner) -> bool
+    ensures { result ≡ is_guests core.now owner }
+{
+    match owner {
+        Owner::Vm(vm) => is_active(core, vm.index() as u32),
+        Owner::Core | Owner::Host | Owner::Free => false,
     }
 }
 
@@ -45,7 +52,7 @@ fn is_hidden(core: &KCore, call: &Call) -> bool
     ensures { result ≡ is_hidden core.now call.now }
 {
     match call {
-        Call::HostWrite { frame, .. } => is_guests(core, *frame),
+        Call::HostWrite { frame, .. } => is_guests(core, owner_of(core, *frame)),
         _ => false,
     }
 }
