@@ -21,9 +21,8 @@ use Rattle.kc_cli.specs.declared.account.CustodyForm.{CustodyForm}
 use Rattle.kc_cli.specs.Engine.{IsReplayText, IsLeftText}
 use Rattle.kc_cli.specs.Custody.{IsCustodyText, TellsCustody, origin_of}
 use Rattle.kc_cli.specs.Live.{IsLiveText, CouldRun, HasBadActor}
-use Rattle.kc_run.specs.declared.ending.Ending.{Ending}
 use Rattle.kc_run.specs.declared.ending.Ending.TheVariants as endings
-use Rattle.kc_run.specs.Endings.{Ended, done_as, judged_as}
+use Rattle.kc_run.specs.Endings.{done_as, judged_as}
 use Rattle.kc_run.specs.Run.{Ends, Replays, ReportsCustody, RunsLive, AuditsDump, RedactsTrace, RedactsHost}
 
 sink_ok : {A B : Type 0} (failed : Bool) (begun untouched : Type 0) (x : A) (y : B) → TellsSink failed begun untouched (Ok x) → TellsSink failed begun untouched (Ok y)

@@ -22,7 +22,6 @@ use Rattle.kc_cli.specs.Custody.{IsCustodyText, TellsCustody, origin_of}
 use Rattle.kc_cli.specs.Live.{IsLiveText, CouldRun, HasBadActor}
 use Rattle.kc_run.specs.declared.plan.Start.{Start}
 use Rattle.kc_run.specs.declared.plan.Start.TheVariants as starts
-use Rattle.kc_run.specs.declared.plan.Account.{Account}
 use Rattle.kc_run.specs.declared.plan.Plan.{Plan}
 use Rattle.kc_run.specs.declared.plan.Plan.TheVariants as plans
 use Rattle.kc_run.specs.declared.clash.Clash.{Clash}

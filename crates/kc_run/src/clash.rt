@@ -62,7 +62,8 @@ impl Clash {
         match self {
             Clash::DumpState => "--state",
             Clash::BlankAlone => "--dump', '--state' and '--to",
-            Clash::ReplayConfigFrom | Clash::CustodyConfigFrom | Clash::RedactConfigFrom => "--from",
+            Clash::ReplayConfigFrom | Clash::CustodyConfigFrom | Clash::RedactConfigFrom =>
+                "--from",
             Clash::SummarySvg | Clash::FromSvg => "--svg",
             Clash::FromSummary => "--summary",
             Clash::ConfigAlone | Clash::FromAlone => "--host",
