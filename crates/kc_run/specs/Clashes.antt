@@ -11,6 +11,10 @@ first_option clashes.CustodyConfigFrom = codes "--config"
 first_option clashes.SummarySvg = codes "--summary"
 first_option clashes.FromSummary = codes "--from"
 first_option clashes.FromSvg = codes "--from"
+first_option clashes.SummaryRefused = codes "--summary"
+first_option clashes.SummaryAccesses = codes "--summary"
+first_option clashes.SvgRefused = codes "--svg"
+first_option clashes.SvgAccesses = codes "--svg"
 
 abbrev pub link_of : Clash → List ℕ
 link_of clashes.BlankAlone = codes "' needs one of '"
@@ -24,6 +28,10 @@ other_option clashes.CustodyConfigFrom = codes "--from"
 other_option clashes.SummarySvg = codes "--svg"
 other_option clashes.FromSummary = codes "--summary"
 other_option clashes.FromSvg = codes "--svg"
+other_option clashes.SummaryRefused = codes "--refused"
+other_option clashes.SummaryAccesses = codes "--accesses"
+other_option clashes.SvgRefused = codes "--refused"
+other_option clashes.SvgAccesses = codes "--accesses"
 
 abbrev pub command_of : Clash → List ℕ
 command_of clashes.DumpState = codes "replay"

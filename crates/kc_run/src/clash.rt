@@ -22,6 +22,14 @@ pub enum Clash {
     FromSummary,
     /// `custody --from PATH --svg`
     FromSvg,
+    /// `custody --summary --refused`
+    SummaryRefused,
+    /// `custody --summary --accesses`
+    SummaryAccesses,
+    /// `custody --svg --refused`
+    SvgRefused,
+    /// `custody --svg --accesses`
+    SvgAccesses,
 }
 
 impl Clash {
@@ -32,8 +40,9 @@ impl Clash {
             Clash::DumpState => "--dump",
             Clash::BlankAlone => "--blank",
             Clash::ReplayConfigFrom | Clash::CustodyConfigFrom => "--config",
-            Clash::SummarySvg => "--summary",
+            Clash::SummarySvg | Clash::SummaryRefused | Clash::SummaryAccesses => "--summary",
             Clash::FromSummary | Clash::FromSvg => "--from",
+            Clash::SvgRefused | Clash::SvgAccesses => "--svg",
         }
     }
 
@@ -55,6 +64,8 @@ impl Clash {
             Clash::ReplayConfigFrom | Clash::CustodyConfigFrom => "--from",
             Clash::SummarySvg | Clash::FromSvg => "--svg",
             Clash::FromSummary => "--summary",
+            Clash::SummaryRefused | Clash::SvgRefused => "--refused",
+            Clash::SummaryAccesses | Clash::SvgAccesses => "--accesses",
         }
     }
 
