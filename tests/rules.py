@@ -9,12 +9,20 @@ import calls
 
 PAGE, GUEST_FRAMES, IMAGE_BYTES, LEAF, SHARES, RANGE = 4096, 262144, 1048576, 512, 100, 64
 SLOTS, FRAMES = {1: 16, 2: 64}, {1: 8192, 2: 65536}
+# The options that ask for more than custody.
+REMARKS = "--refused", "--accesses"
 # What is said of a frame, in the order in which it is told.
 CUSTODY = [operator.attrgetter(name) for name in ("owner", "gfn", "share", "present")]
 # The configuration that the program has where none is named.
 DEFAULT = {
     "version": 1, "frames": 8, "core": 1, "host": 4, "leaves": 1, "approved": [hashlib.sha256(b"abc").hexdigest()],
 }
+
+
+def noted(told, remarks, options):
+    """What is told of the calls of a trace, and the remarks that these options ask for: those of a call come first."""
+    asked = [(vms, line) for option, vms, line in remarks if option in options]
+    return sorted(asked + told, key=lambda it: it[1]["line"])
 
 
 class Refused(Exception):
@@ -325,6 +333,31 @@ class Core:
                 measured = [image_of(*image) for image in images] if new in ("active", "dead") else []
                 told.append(((v,), {"line": number, "vm": v, "phase": new, "images": measured}))
         return told
+
+    def remarks(self, lines):
+        """What is reported of these calls of a trace beside custody: the option that asks for it, whose VMs' line it
+        is, and the line."""
+        remarks = []
+        for number, line in enumerate(lines, 2):
+            name, *words = line.split(" ")
+            named = {letter: int(word) for letter, word in zip(calls.WORDS[name], words) if letter != "data"}
+            slot, f = named.get("v"), named.get("f")
+            if name in calls.GUESTS and slot < len(self.slots):
+                f = self.slots[slot].table.get(named["g"])
+            # What the frame is before the call.
+            exists = f is not None and f < len(self.frames)
+            owner, gfn = (self.frames[f].owner, self.frames[f].gfn) if exists else (None, None)
+            why, *what = self.answer(line).split(" ")
+            made = {"line": number, "call": name}
+            if why in ("refused", "rejected"):
+                made |= {why: int(what[0]) if why == "rejected" else what[0], "slot": slot}
+                made |= {"frame": f if exists else None, "owner": custody_of(owner, gfn, 0, False)["owner"], "gfn": gfn}
+                remarks.append((REMARKS[0], (slot, owner), made))
+            elif name in ("hread", "hwrite") and isinstance(owner, int):
+                length = named["length"] if name == "hread" else len(words[-1]) // 2
+                made |= {"frame": f, "vm": owner, "gfn": gfn, "off": named["offset"], "len": length}
+                remarks.append((REMARKS[1], (owner,), made))
+        return remarks
 
     def lives(self, lines):
         """The lives of VMs through these calls of a trace, in the order of registering; after each call the frames that

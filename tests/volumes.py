@@ -2,11 +2,12 @@
 of the state before it to that of the state after it; the same redacted, also of what the host wrote to frames of active
 VMs, between blank states; and such texts damaged."""
 import hashlib
+import random
 import re
 
 import calls
 from common import run
-from rules import PAGE
+from rules import PAGE, REMARKS, Core, noted
 from states import blanked, fault_of, state_text
 
 WORKERS = (1, 2, 64)
@@ -20,28 +21,31 @@ WORDS += ["active", "booting", "host", "free"]
 
 
 class Volume:
-    """Some calls in order with their replies and what custody reports of them, and the texts of the states before and
-    after them, as the rules have them."""
+    """Some calls in order with their replies and what custody reports of them, alone and with what was refused and
+    served, and the texts of the states before and after them, as the rules have them."""
 
-    def __init__(self, core, lines, told, before):
+    def __init__(self, core, lines, told, remarks, before):
         self.lines, self.before = lines, before
         # Each without the bytes of guests and the host's in active VMs' frames, as they are when it is made.
         made = [(core.redacted(line), core.answer(line)) for line in lines]
         self.hidden, self.replies = [line for line, _ in made], "".join(f"{reply}\n" for _, reply in made)
-        self.custody = core.custody_text(len(lines), told)
+        self.custody = [([], core.custody_text(len(lines), told))]
+        self.custody.append((list(REMARKS), core.custody_text(len(lines), noted(told, remarks, REMARKS))))
         self.behind = state_text(core)
         self.dump = self.behind[self.behind.index("kcore-dump "):]
 
 
-def volumes_of(rng, core, lines, told):
+def volumes_of(rng, core, lines, told, remarks):
     """The volumes of a trace that begins in a core, some of them perhaps without calls."""
     count = 1 if len(core.frames) > LARGE else rng.choice(CUTS)
     places = sorted(rng.randrange(len(lines) + 1) for _ in range(count))
     volumes, text = [], state_text(core)
     for first, last in zip([0] + places, places + [len(lines)]):
         # The first call of a trace is on line 2.
-        own = [(vms, {**line, "line": line["line"] - first}) for vms, line in told if first <= line["line"] - 2 < last]
-        volumes.append(Volume(core, lines[first:last], own, text))
+        is_own = lambda line: first <= line["line"] - 2 < last
+        moved = lambda line: {**line, "line": line["line"] - first}
+        own = [[(*more, moved(line)) for *more, line in every if is_own(line)] for every in (told, remarks)]
+        volumes.append(Volume(core, lines[first:last], *own, text))
         text = volumes[-1].behind
     return volumes
 
@@ -162,7 +166,8 @@ def volume_differs(rng, program, volume):
     """What differs in a volume that is replayed by itself, or None."""
     start = ["--from", program.file("from", volume.before)]
     if rng.random() < 0.15:
-        return None if program.ran(volume.lines, "custody", *start) == (0, volume.custody, "") else "its custody"
+        form, wanted = rng.choice(volume.custody)
+        return None if program.ran(volume.lines, "custody", *form, *start) == (0, wanted, "") else "its custody"
     plain = [], volume.replies
     form, wanted = rng.choice([plain, plain, (["--state"], volume.behind), (["--dump"], volume.dump)])
     words, workers = [*start, "--to", program.file("to", volume.behind)], str(rng.choice(WORKERS))
@@ -177,7 +182,8 @@ def blank_differs(rng, program, volume):
     if program.ran(volume.lines, "redact") != (0, program.trace_of(made), ""):
         return "redacted"
     start = ["--from", program.file("from", blanked(volume.before))]
-    if program.ran(made, "custody", *start) != (0, volume.custody, ""):
+    form, wanted = rng.choice(volume.custody)
+    if program.ran(made, "custody", *form, *start) != (0, wanted, ""):
         return "its custody, redacted"
     form, wanted = rng.choice([("--state", left), ("--dump", left[left.index("kcore-dump "):])])
     words = [*start, form, "--blank", "--to", program.file("to", left), "--workers", str(rng.choice(WORKERS))]
@@ -192,7 +198,8 @@ def host_differs(rng, program, volume):
     starts = [["--from", program.file(name, text)] for name, text in texts]
     if program.ran(volume.lines, "redact", "--host", *starts[rng.randrange(2)]) != (0, program.trace_of(volume.hidden), ""):
         return "redacted with --host"
-    if program.ran(volume.hidden, "custody", *starts[rng.randrange(2)]) != (0, volume.custody, ""):
+    form, wanted = rng.choice(volume.custody)
+    if program.ran(volume.hidden, "custody", *form, *starts[rng.randrange(2)]) != (0, wanted, ""):
         return "its custody, redacted with --host"
     words = [*starts[1], "--blank", "--to", program.file("to", blanked(volume.behind))]
     is_left = program.ran(volume.hidden, "replay", *words)[::2] == (0, "")
@@ -218,9 +225,11 @@ def damage_differs(rng, program, volume):
     return None if is_refused else f"begun with a damaged text ({fault})"
 
 
-def difference(rng, program, core, lines, told):
-    """What differs in a trace, of which custody tells this, that begins in a core and is cut into volumes, or None."""
-    volumes = volumes_of(rng, core, lines, told)
+def difference(case, program, told, remarks):
+    """What differs in a trace, of which custody tells this, that is cut into volumes, or None."""
+    config, lines = case
+    rng = random.Random(config["cut_by"])
+    volumes = volumes_of(rng, Core(config), lines, told, remarks)
     words = ["replay", "--config", program.path, "--state", "--workers", str(rng.choice(WORKERS))]
     if program.ran(lines, *words) != (0, volumes[-1].behind, ""):
         return "the text of the state"

@@ -1,5 +1,7 @@
 pub mod Begun
 pub mod Replayed
 pub mod Fed
+mod Plain
+mod Ledgers
 mod Told
 pub mod Sources

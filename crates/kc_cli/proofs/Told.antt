@@ -1,57 +1,57 @@
 -- What is told of calls that come after others, and what the sink takes of it.
-use Rattle.std.proofs.Common.{ℕ, ◌≡◌, ◌+◌, ◌++◌, List, [], length, take, map, refl, ap, ap₂, sym, ◌∙◌, Option, Some, None, Err, subst, arith, inl, inr, append_assoc}
+use Rattle.std.proofs.Common.{ℕ, ◌≡◌, ◌+◌, ◌++◌, List, [], length, take, refl, ap, sym, ◌∙◌, Option, Some, None, Err, subst, arith, inl, inr, append_assoc}
 use Rattle.std.proofs.lemmas.Bool.{cases_lt}
-use Rattle.std.proofs.lemmas.List.{take_all, length-map, append-nil}
+use Rattle.std.proofs.lemmas.List.{take_all, append-nil}
 use Rattle.std.proofs.Math.Seq.{take-append-add, take-append-le}
 use Rattle.std.proofs.KnownBytes.{Appends-trans}
 use Rattle.std.specs.Prelude.{IfSome}
-use Rattle.std.specs.List.{flat_map}
 use Rattle.std.specs.Io.KnownBytes.{Appends}
 use Rattle.kc_types.specs.Configuration.{Configuration}
 use Rattle.kc_types.specs.declared.call.Call.{Call}
-use Rattle.kc_types.specs.declared.custody.Change.{Change}
-use Rattle.kc_types.specs.declared.custody.Event.{Event}
-use Rattle.kc_types.specs.declared.custody.Event.TheVariants as event
+use Rattle.kc_remarks.specs.declared.remark.Note.{Note}
+use Rattle.kc_remarks.specs.Remarks.{notes, notes_from, events_in}
+use Rattle.kc_remarks.proofs.Runs.{notes-append}
+use Rattle.kc_remarks.proofs.Events.{events-of-notes, changes-of-notes}
 use Rattle.kc_model.specs.State.{State}
 use Rattle.kc_model.specs.Lawful.{IsLawful}
 use Rattle.kc_model.specs.Next.{state_after}
 use Rattle.kc_model.specs.Custody.{first_line}
-use Rattle.kc_model.specs.Events.{events, events_from, changes_in}
+use Rattle.kc_model.specs.Events.{changes_in}
 use Rattle.kc_model.proofs.Promises.{promises_kept}
 use Rattle.kc_model.proofs.Blind.Told.{custody_is_blind}
-use Rattle.kc_model.proofs.Custody.Events.{events-append, changes-of-events, flat-changes}
 use Rattle.kc_model.proofs.Custody.Bars.{bars_are}
 use Rattle.kc_model.proofs.Custody.Laws.{custody_is}
 use Rattle.kc_model.proofs.Summaries.Summed.{summaries_are}
 use Rattle.kc_model.proofs.States.Runs.{state_after-append}
-use Rattle.kc_trace.specs.CustodyText.{change_line, event_line, header_line, end_line, custody_text_of}
 use Rattle.kc_texts.specs.declared.fault.TextFault.{TextFault}
 use Rattle.kc_texts.specs.declared.fault.TextFault.TheVariants as texts
 use Rattle.kc_texts.specs.declared.origin.Origin.{Origin}
 use Rattle.kc_texts.specs.Reading.{BeginsIn, Writes, Begins}
 use Rattle.kc_cli.specs.declared.account.CustodyForm.{CustodyForm}
-use Rattle.kc_cli.specs.Custody.{AreEventsOf, IsCustodyTold, IsAccount, IsCustodyText, TellsCustody, origin_of}
+use Rattle.kc_cli.specs.declared.ledger.Ledger.{Ledger}
+use Rattle.kc_cli.specs.Custody.{AreNotesOf, IsCustodyTold, IsAccount, IsCustodyText, TellsCustody, origin_of}
+use Rattle.kc_cli.specs.Ledgers.{Keeps, IsGiven}
+use Rattle.kc_cli.proofs.Ledgers.{account_given}
 
--- the events of calls behind those so far
-pub told_more : (m old : State) (xs ys : List Call) (line : ℕ) (told now : List Event) → told ≡ events m xs → old ≡ state_after m xs → line ≡ first_line + length xs → now ≡ told ++ events_from line old ys → now ≡ events m (xs ++ ys)
-told_more m old xs ys line told now so_far from at added =
-    added
-    ∙ ap (λ (before : List Event). before ++ events_from line old ys) so_far
-    ∙ ap (λ k. events m xs ++ events_from k old ys) at
-    ∙ ap (λ (s : State). events m xs ++ events_from (first_line + length xs) s ys) from
-    ∙ sym (events-append first_line m xs ys)
+-- the notes on calls after those so far
+pub told_more : (m old : State) (xs ys : List Call) (line : ℕ) → old ≡ state_after m xs → line ≡ first_line + length xs → notes m xs ++ notes_from line old ys ≡ notes m (xs ++ ys)
+told_more m old xs ys line from at =
+    ap (λ k. notes m xs ++ notes_from k old ys) at
+    ∙ ap (λ (s : State). notes m xs ++ notes_from (first_line + length xs) s ys) from
+    ∙ sym (notes-append first_line m xs ys)
 
 pub left_more : (m old new : State) (xs ys : List Call) → old ≡ state_after m xs → new ≡ state_after old ys → new ≡ state_after m (xs ++ ys)
 left_more m old new xs ys from to = to ∙ ap (λ (s : State). state_after s ys) from ∙ sym (state_after-append m xs ys)
 
-pub is_told : (source : Option (List ℕ)) (m : State) (told : List Event) (count : ℕ) → IsLawful m → AreEventsOf m source count told → IsCustodyTold m source count told
+pub is_told : (source : Option (List ℕ)) (m : State) (told : List Note) (count : ℕ) → IsLawful m → AreNotesOf m source count told → IsCustodyTold m source count told
 is_told source m told count is h = record {
   calls = h.calls;
   traced = h.traced;
   counted = h.counted;
   few = h.few;
   exact = h.exact;
-  changes = ap changes_in h.exact ∙ changes-of-events m h.calls;
+  events = ap events_in h.exact ∙ events-of-notes m h.calls;
+  changes = ap (λ (all : List Note). changes_in (events_in all)) h.exact ∙ changes-of-notes m h.calls;
   promises = promises_kept m h.calls is;
   laws = custody_is m h.calls is;
   blind = custody_is_blind m h.calls is;
@@ -59,31 +59,24 @@ is_told source m told count is h = record {
   bars = bars_are m h.calls is;
 }
 
--- what is given of the changes among events
-pub changes_given : (config : Configuration) (calls : ℕ) (changes : List Change) (told given : List Event) (piece end : List ℕ) → given ≡ told → told ≡ map event.Change changes → piece ≡ header_line config → end ≡ end_line calls (length told)
-    → piece ++ (flat_map event_line given ++ end) ≡ custody_text_of config calls changes
-changes_given config calls changes told given piece end same are head tail =
-    ap₂ (λ (first : List ℕ) (all : List Event). first ++ (flat_map event_line all ++ end)) head (same ∙ are)
-    ∙ ap₂ (λ (lines last : List ℕ). header_line config ++ (lines ++ last)) (flat-changes event_line change_line (λ c. refl) changes) (tail ∙ ap (end_line calls) (ap length are ∙ length-map changes event.Change))
+-- what was kept of a start and a trace
+abbrev pub WasTold : CustodyForm → Option (List ℕ) → Option (List ℕ) → Configuration → ℕ → Ledger → Type 0
+WasTold form start trace config count ledger = (m : State) × IfSome start (λ text. BeginsIn (origin_of form) text m) × (config ≡ m.config) × (told : List Note) × IsCustodyTold m trace count told × Keeps form told ledger
 
--- what was told of a start and a trace
-abbrev pub WasTold : Origin → Option (List ℕ) → Option (List ℕ) → Configuration → ℕ → List Event → Type 0
-WasTold origin start trace config count told = (m : State) × IfSome start (λ text. BeginsIn origin text m) × (config ≡ m.config) × IsCustodyTold m trace count told
+-- what was written is made of what was kept of both texts
+pub gives_custody : (form : CustodyForm) (vm : Option ℕ) (start trace old new : Option (List ℕ)) (config : Configuration) (count : ℕ) (ledger : Ledger) → WasTold form start trace config count ledger
+    → ((text : List ℕ) × IsGiven vm config count ledger text × Appends old new text) → Writes (IsCustodyText form vm) start trace old new
+gives_custody form vm None trace old new config count ledger h given = tt
+gives_custody form vm (Some start) None old new config count ledger h given = tt
+gives_custody form vm (Some start) (Some trace) old new config count ledger h given =
+    (given.0, (h.0, count, h.3, h.1, h.4, subst (λ c. IsAccount form vm c count h.3 given.0) h.2 (account_given form vm config count h.3 ledger given.0 h.5 given.1)), given.2)
 
--- what was written is made of what was told of both texts
-pub gives_custody : (form : CustodyForm) (vm : Option ℕ) (start trace old new : Option (List ℕ)) (config : Configuration) (count : ℕ) (told : List Event) → WasTold (origin_of form) start trace config count told
-    → ((text : List ℕ) × IsAccount form vm config count told text × Appends old new text) → Writes (IsCustodyText form vm) start trace old new
-gives_custody form vm None trace old new config count told h given = tt
-gives_custody form vm (Some start) None old new config count told h given = tt
-gives_custody form vm (Some start) (Some trace) old new config count told h given =
-    (given.0, (h.0, count, told, h.1, h.3, subst (λ c. IsAccount form vm c count told given.0) h.2 given.1), given.2)
-
-pub begins_custody : (form : CustodyForm) (vm : Option ℕ) (start trace old new : Option (List ℕ)) (config : Configuration) (count : ℕ) (told : List Event) → WasTold (origin_of form) start trace config count told
-    → ((text : List ℕ) × (n : ℕ) × IsAccount form vm config count told text × Appends old new (take n text)) → Begins (IsCustodyText form vm) start trace old new
-begins_custody form vm None trace old new config count told h given = tt
-begins_custody form vm (Some start) None old new config count told h given = tt
-begins_custody form vm (Some start) (Some trace) old new config count told h given =
-    (given.0, given.1, (h.0, count, told, h.1, h.3, subst (λ c. IsAccount form vm c count told given.0) h.2 given.2), given.3)
+pub begins_custody : (form : CustodyForm) (vm : Option ℕ) (start trace old new : Option (List ℕ)) (config : Configuration) (count : ℕ) (ledger : Ledger) → WasTold form start trace config count ledger
+    → ((text : List ℕ) × (n : ℕ) × IsGiven vm config count ledger text × Appends old new (take n text)) → Begins (IsCustodyText form vm) start trace old new
+begins_custody form vm None trace old new config count ledger h given = tt
+begins_custody form vm (Some start) None old new config count ledger h given = tt
+begins_custody form vm (Some start) (Some trace) old new config count ledger h given =
+    (given.0, given.1, (h.0, count, h.3, h.1, h.4, subst (λ c. IsAccount form vm c count h.3 given.0) h.2 (account_given form vm config count h.3 ledger given.0 h.5 given.2)), given.3)
 
 -- a fault from which nothing was written
 pub custody_err : {A B : Type 0} (slot : Option ℕ) (origin : Origin) (start : Option (List ℕ)) (unread : Type 0) (f : TextFault) → TellsCustody {A = A} slot origin start unread (Err f) → TellsCustody {A = B} slot origin start unread (Err f)

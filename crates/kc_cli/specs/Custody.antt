@@ -3,7 +3,6 @@ use Rattle.std.specs.Prelude.{◌≡◌, ◌≢◌, ◌<◌, ◌≤◌, ℕ, Lis
 use Rattle.kc_types.specs.Limits.{call_limit}
 use Rattle.kc_types.specs.Configuration.{Configuration, slot_count}
 use Rattle.kc_types.specs.declared.call.Call.{Call}
-use Rattle.kc_types.specs.declared.custody.Event.{Event}
 use Rattle.kc_model.specs.State.{State}
 use Rattle.kc_model.specs.Promises.{KeepsPromises}
 use Rattle.kc_model.specs.Custody.{custody}
@@ -13,9 +12,11 @@ use Rattle.kc_model.specs.Events.{events, changes_in}
 use Rattle.kc_model.specs.Lives.{lives, selected_lives}
 use Rattle.kc_model.specs.Summaries.{AreSummaries}
 use Rattle.kc_model.specs.Bars.{AreBars}
-use Rattle.kc_custody.specs.Selected.{selected}
+use Rattle.kc_remarks.specs.declared.remark.Note.{Note}
+use Rattle.kc_remarks.specs.Remarks.{notes, events_in}
+use Rattle.kc_custody.specs.Chosen.{chosen}
 use Rattle.kc_trace.specs.Trace.{IsTrace}
-use Rattle.kc_trace.specs.CustodyText.{custody_text_of}
+use Rattle.kc_trace.specs.RemarkText.{notes_text_of}
 use Rattle.kc_trace.specs.SummaryText.{summary_text_of}
 use Rattle.kc_texts.specs.declared.fault.TextFault.{TextFault}
 use Rattle.kc_texts.specs.declared.fault.TextFault.TheVariants as texts
@@ -25,44 +26,45 @@ use Rattle.kc_texts.specs.Reading.{BeginsIn}
 use Rattle.kc_cli.specs.declared.account.CustodyForm.{CustodyForm}
 use Rattle.kc_cli.specs.declared.account.CustodyForm.TheVariants.{Changes, Summary, Picture}
 
--- the events are those of the calls that the source's text holds, where it tells the text
-pub record AreEventsOf (m : State) (source : Option (List ℕ)) (count : ℕ) (told : List Event) : Type 0 where
+-- the notes are those on the calls that the source's text holds, where it tells the text
+pub record AreNotesOf (m : State) (source : Option (List ℕ)) (count : ℕ) (told : List Note) : Type 0 where
   pub calls : List Call
   pub traced : IfSome source (λ text. IsTrace text calls)
   pub counted : count ≡ length calls
   pub few : length calls ≤ call_limit
-  pub exact : told ≡ events m calls
+  pub exact : told ≡ notes m calls
 
--- the same of a lawful state: the changes among them are the custody of the calls, they keep the promises, and what their custody, its lives and its bars say holds
-pub record IsCustodyTold (m : State) (source : Option (List ℕ)) (count : ℕ) (told : List Event) : Type 0 where
+-- the same of a lawful state: the events among them are those of the calls, and the changes among these their custody; the calls keep the promises, and what their custody, its lives and its bars say holds
+pub record IsCustodyTold (m : State) (source : Option (List ℕ)) (count : ℕ) (told : List Note) : Type 0 where
   pub calls : List Call
   pub traced : IfSome source (λ text. IsTrace text calls)
   pub counted : count ≡ length calls
   pub few : length calls ≤ call_limit
-  pub exact : told ≡ events m calls
-  pub changes : changes_in told ≡ custody m calls
+  pub exact : told ≡ notes m calls
+  pub events : events_in told ≡ events m calls
+  pub changes : changes_in (events_in told) ≡ custody m calls
   pub promises : KeepsPromises m calls
   pub laws : IsCustody m calls
   pub blind : CustodyIsBlind m calls
   pub summaries : AreSummaries m calls
   pub bars : AreBars m calls
 
--- the text is that of the changes of all frames and slots, or of one slot's VM; that of the lives of all VMs, or of one slot's; or a picture, of whose bytes nothing is said
-abbrev pub IsAccount : CustodyForm → Option ℕ → Configuration → ℕ → List Event → List ℕ → Type 0
-IsAccount (Changes origin) vm config count told text = text ≡ custody_text_of config count (selected vm (changes_in told))
-IsAccount Summary vm config count told text = text ≡ summary_text_of config count (selected_lives vm (lives told))
+-- the text is that of the changes of all frames and slots, or of one slot's VM, and of what else is asked for; that of the lives of all VMs, or of one slot's; or a picture, of whose bytes nothing is said
+abbrev pub IsAccount : CustodyForm → Option ℕ → Configuration → ℕ → List Note → List ℕ → Type 0
+IsAccount (Changes origin remarks) vm config count told text = text ≡ notes_text_of config count (chosen vm remarks told)
+IsAccount Summary vm config count told text = text ≡ summary_text_of config count (selected_lives vm (lives (events_in told)))
 IsAccount Picture vm config count told text = Unit {0}
 
 -- what the calls begin with: lives and pictures begin at boot
 abbrev pub origin_of : CustodyForm → Origin
-origin_of (Changes origin) = origin
+origin_of (Changes origin remarks) = origin
 origin_of Summary = origins.Boot
 origin_of Picture = origins.Boot
 
--- the text is made of the events of the trace from the state on that the first text tells
+-- the text is made of the notes on the trace from the state on that the first text tells
 abbrev pub IsCustodyText : CustodyForm → Option ℕ → List ℕ → List ℕ → List ℕ → Type 0
 IsCustodyText form vm start_text trace_text text =
-    (m : State) × (count : ℕ) × (told : List Event) × BeginsIn (origin_of form) start_text m × IsCustodyTold m (Some trace_text) count told × IsAccount form vm m.config count told text
+    (m : State) × (count : ℕ) × (told : List Note) × BeginsIn (origin_of form) start_text m × IsCustodyTold m (Some trace_text) count told × IsAccount form vm m.config count told text
 
 -- the machine that calls begin on has the slot of this number, or has not
 abbrev pub HasSlot : Origin → List ℕ → ℕ → Type 0

@@ -1,4 +1,4 @@
-//! What is written of the events of a trace: every change, an object for each life of a VM, or a picture.
+//! What is written of what was kept of a trace: every change, an object for each life of a VM, or a picture.
 ghost use Rattle.std.specs.Prelude.{◌≡◌, ◌<◌, ◌≤◌, ◌+◌, ◌^◌, ◌++◌, ◌⊎◌, ℕ, List, All, map, length, take, false, is_err, vec_capacity, IfOk, IfErr, OnOk, OnErr};
 ghost use Rattle.std.specs.List.{flat_map};
 ghost use Rattle.std.specs.Io.KnownBytes.{Appends};
@@ -7,16 +7,18 @@ ghost use Rattle.kc_model.specs.Events.{changes_in};
 ghost use Rattle.kc_model.specs.Lives.{lives, selected_lives};
 ghost use Rattle.kc_custody.specs.Within.{IsWithin};
 ghost use Rattle.kc_picture.specs.Frames.{IsIn};
-ghost use Rattle.kc_custody.specs.Selected.{selected};
-ghost use Rattle.kc_trace.specs.CustodyText.{event_line, custody_text_of};
+ghost use Rattle.kc_trace.specs.CustodyText.{header_line, end_line};
 ghost use Rattle.kc_trace.specs.SummaryText.{summary_text_of};
 ghost use Rattle.kc_trace.specs.Spelling.{longest_call};
 ghost use Rattle.kc_texts.specs.Outcomes.{TellsSink};
-ghost use Rattle.kc_cli.specs.Custody.{IsAccount, origin_of};
+ghost use Rattle.kc_cli.specs.Custody.{origin_of};
+ghost use Rattle.kc_cli.specs.Ledgers.{events_kept, IsGiven};
 
-use kc_custody::{lives, select, select_lives};
+use crate::ledger::Ledger;
+use kc_custody::{choose, lives, select, select_lives};
 use kc_picture::{bars, picture};
-use kc_texts::{Failed, Origin, Sink, TextFault, empty_piece, give_lines, write_whole};
+use kc_remarks::Remarks;
+use kc_texts::{Failed, Line, Origin, Sink, TextFault, empty_piece, give_lines, write_whole};
 use kc_trace::{push_custody_end, push_custody_header, summary_text};
 use kc_types::{Config, Event, Memory};
 use std::alloc::Global;
@@ -27,8 +29,8 @@ pub(crate) const FIRST_LINE: u32 = 2;
 /// What is written of what happened.
 #[derive(Clone, Copy, Debug, PartialEq, Eq)]
 pub enum CustodyForm {
-    /// Every change of a frame or slot, a line each, from where the calls begin.
-    Changes(Origin),
+    /// Every change of a frame or slot, a line each, from where the calls begin, and what else is asked for of the calls.
+    Changes(Origin, Remarks),
     /// Each life of a VM, a line each. Calls begin in a configuration's boot state: lives that are under way in the state of a
     /// text began before it.
     Summary,
@@ -42,7 +44,7 @@ impl CustodyForm {
         ensures { result ≡ origin_of self }
     {
         match self {
-            CustodyForm::Changes(origin) => origin,
+            CustodyForm::Changes(origin, _) => origin,
             CustodyForm::Summary | CustodyForm::Picture => Origin::Boot,
         }
     }
@@ -55,52 +57,48 @@ pub(crate) struct Told {
     pub config: Config,
     /// How many calls the trace has.
     pub calls: usize,
-    pub events: Vec<Event>,
+    /// What was kept of them.
+    pub ledger: Ledger,
 }
 
-/// Gives a sink what stands in the piece, then the lines of some events, and then an end: memory does not grow. After an
-/// `Err` the sink has taken a beginning of it.
-fn give_text<K: Sink>(
+/// Gives a sink what stands in the piece, then some lines, and then an end: memory does not grow. After an `Err` the sink has
+/// taken a beginning of it.
+fn give_text<K: Sink, L: Line + Drop>(
     out: &mut K,
     piece: Vec<u8>,
-    events: Vec<Event>,
+    lines: Vec<L>,
     end: &[u8],
 ) -> Result<(), Failed>
     requires out { K.failed out.old ≡ false }
     requires room { longest_call ≤ vec_capacity piece }
-    ensures ok { OnOk result (Appends (K.taken out.old) (K.taken out.new) (piece.items ++ (flat_map event_line events.items ++ end.now))) }
-    ensures begun { OnErr result ((n : ℕ) × Appends (K.taken out.old) (K.taken out.new) (take n (piece.items ++ (flat_map event_line events.items ++ end.now)))) }
+    ensures ok { OnOk result (Appends (K.taken out.old) (K.taken out.new) (piece.items ++ (flat_map L.line lines.items ++ end.now))) }
+    ensures begun { OnErr result ((n : ℕ) × Appends (K.taken out.old) (K.taken out.new) (take n (piece.items ++ (flat_map L.line lines.items ++ end.now)))) }
     ensures mark { K.failed out.new ≡ is_err result }
 {
-    give_lines(out, piece, events)?;
+    give_lines(out, piece, lines)?;
     write_whole(out, end)
 }
 
-/// Gives every change.
-fn give_changes<K: Sink>(
+/// Gives these lines between the first and the last of custody.
+fn give_changes<K: Sink, L: Line + Drop>(
     alloc: Global,
-    told: Told,
-    vm: Option<u32>,
+    config: &Config,
+    calls: usize,
+    lines: Vec<L>,
     out: &mut K,
 ) -> Result<(), TextFault>
     requires { K.failed out.old ≡ false }
-    ensures ok { OnOk result (Appends (K.taken out.old) (K.taken out.new) (custody_text_of told.config told.calls (selected vm (changes_in told.events.items)))) }
-    ensures sink { TellsSink (K.failed out.new) ((n : ℕ) × Appends (K.taken out.old) (K.taken out.new) (take n (custody_text_of told.config told.calls (selected vm (changes_in told.events.items))))) (out.new ≡ out.old) result }
+    ensures ok { OnOk result (Appends (K.taken out.old) (K.taken out.new) (header_line config.now ++ (flat_map L.line lines.items ++ end_line calls (length lines.items)))) }
+    ensures sink { TellsSink (K.failed out.new) ((n : ℕ) × Appends (K.taken out.old) (K.taken out.new) (take n (header_line config.now ++ (flat_map L.line lines.items ++ end_line calls (length lines.items))))) (out.new ≡ out.old) result }
     ensures fault { IfErr result (λ fault. (fault ≡ TextFault.Memory) ⊎ (fault ≡ TextFault.Write)) }
 {
-    let Told {
-        config,
-        calls,
-        mut events,
-    } = told;
-    select(&mut events, vm);
     // All memory that writing takes is there before the first byte is written.
     let (Ok(mut piece), Ok(mut end)) = (empty_piece(alloc), empty_piece(alloc)) else {
         return Err(TextFault::Memory);
     };
-    push_custody_header(&mut piece, &config);
-    push_custody_end(&mut end, calls, events.len());
-    match give_text(out, piece, events, &end) {
+    push_custody_header(&mut piece, config);
+    push_custody_end(&mut end, calls, lines.len());
+    match give_text(out, piece, lines, &end) {
         Ok(()) => Ok(()),
         Err(_) => Err(TextFault::Write),
     }
@@ -150,41 +148,42 @@ fn picture_of(
     picture(alloc, config, calls, events, &bars, vm)
 }
 
-/// Gives what was told in this form, of one slot's VM alone where one is named.
+/// Gives what was kept in its form, of one slot's VM alone where one is named.
 pub(crate) fn give_told<K: Sink>(
     alloc: Global,
     told: Told,
-    form: CustodyForm,
     vm: Option<u32>,
     out: &mut K,
 ) -> Result<(), TextFault>
     requires out { K.failed out.old ≡ false }
     requires few { told.calls ≤ call_limit }
-    requires within { All (IsWithin told.config.frames) told.events.items }
-    requires changes { All (IsIn told.config.frames) (changes_in told.events.items) }
-    ensures ok { OnOk result ((text : List ℕ) × IsAccount form vm told.config told.calls told.events.items text × Appends (K.taken out.old) (K.taken out.new) text) }
-    ensures sink { TellsSink (K.failed out.new) ((text : List ℕ) × (n : ℕ) × IsAccount form vm told.config told.calls told.events.items text × Appends (K.taken out.old) (K.taken out.new) (take n text)) (out.new ≡ out.old) result }
+    requires within { All (IsWithin told.config.frames) (events_kept told.ledger) }
+    requires changes { All (IsIn told.config.frames) (changes_in (events_kept told.ledger)) }
+    ensures ok { OnOk result ((text : List ℕ) × IsGiven vm told.config told.calls told.ledger text × Appends (K.taken out.old) (K.taken out.new) text) }
+    ensures sink { TellsSink (K.failed out.new) ((text : List ℕ) × (n : ℕ) × IsGiven vm told.config told.calls told.ledger text × Appends (K.taken out.old) (K.taken out.new) (take n text)) (out.new ≡ out.old) result }
     ensures fault { IfErr result (λ fault. (fault ≡ TextFault.Memory) ⊎ (fault ≡ TextFault.Write)) }
 {
-    match form {
-        CustodyForm::Changes(_) => give_changes(alloc, told, vm, out),
-        CustodyForm::Summary => {
-            let Told {
-                config,
-                calls,
-                events,
-            } = told;
+    let Told {
+        config,
+        calls,
+        ledger,
+    } = told;
+    match ledger {
+        Ledger::Changes(mut events) => {
+            select(&mut events, vm);
+            give_changes(alloc, &config, calls, events, out)
+        },
+        Ledger::Notes(remarks, mut notes) => {
+            choose(&mut notes, vm, remarks);
+            give_changes(alloc, &config, calls, notes, out)
+        },
+        Ledger::Summary(events) => {
             let Ok(text) = summary_of(alloc, &config, calls, events, vm) else {
                 return Err(TextFault::Memory);
             };
             give_whole(&text, out)
         },
-        CustodyForm::Picture => {
-            let Told {
-                config,
-                calls,
-                events,
-            } = told;
+        Ledger::Picture(events) => {
             let Ok(text) = picture_of(alloc, &config, calls, &events, vm) else {
                 return Err(TextFault::Memory);
             };

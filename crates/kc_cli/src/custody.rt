@@ -11,26 +11,29 @@ ghost use Rattle.kc_model.specs.State.{State};
 ghost use Rattle.kc_texts.specs.Reading.{BeginsIn, Writes, Begins};
 ghost use Rattle.kc_texts.specs.Outcomes.{seen, TellsSources, TellsTexts, TellsSink};
 ghost use Rattle.kc_cli.specs.Engine.{IsReplayFault};
-ghost use Rattle.kc_cli.specs.Custody.{AreEventsOf, IsCustodyTold, IsCustodyText, TellsCustody, origin_of};
+ghost use Rattle.kc_remarks.specs.declared.remark.Note.{Note};
+ghost use Rattle.kc_cli.specs.Custody.{AreNotesOf, IsCustodyTold, IsCustodyText, TellsCustody, origin_of};
+ghost use Rattle.kc_cli.specs.Ledgers.{Keeps};
 
 use crate::account::{CustodyForm, FIRST_LINE, Told, give_told};
+use crate::ledger::Ledger;
 use crate::starting::read_start;
 use kc_core::KCore;
-use kc_custody::tell_calls;
 use kc_digests::Lanes;
 use kc_texts::{CallStream, Origin, PIECE, Sink, Source, TextFault};
-use kc_types::Event;
 use std::alloc::Global;
 use std::thread::Threads;
 
-/// Makes the calls of the trace that a source has left, as it is read: their events, and how many calls they are.
+/// Makes the calls of the trace that a source has left, as it is read: what is kept of them for this form, and how many they
+/// are.
 fn tell_source<T: Source>(
     alloc: Global,
     core: &mut KCore,
     trace: &mut T,
-) -> Result<(Vec<Event>, usize), TextFault>
+    form: CustodyForm,
+) -> Result<(Ledger, usize), TextFault>
     requires { T.failed trace.old ≡ false }
-    ensures ok { IfOk result (λ told. AreEventsOf core.old (T.left trace.old) told.1 told.0.items) }
+    ensures ok { IfOk result (λ kept. (told : List Note) × AreNotesOf core.old (T.left trace.old) kept.1 told × Keeps form told kept.0) }
     ensures config { OnOk result (core.new.config ≡ core.old.config) }
     ensures ended { OnOk result (IsAtEnd (T.left trace.new)) }
     ensures trace { (fault : TraceFault) → result ≡ Err (TextFault.Trace fault) → IfSome (T.left trace.old) (λ text. IsRefused text fault) × IsAtEnd (T.left trace.new) }
@@ -41,11 +44,11 @@ fn tell_source<T: Source>(
 {
     let mut buffer = [0u8; PIECE];
     let mut stream = CallStream::new();
-    let mut events = Vec::new(alloc);
+    let mut ledger = Ledger::new(alloc, form);
     let mut line = FIRST_LINE;
     loop {
         let part = stream.next(alloc, trace, &mut buffer)?;
-        let Ok(()) = tell_calls(alloc, core, &part.calls, line, &mut events) else {
+        let Ok(()) = ledger.note(alloc, core, &part.calls, line) else {
             return Err(TextFault::Memory);
         };
         line += part.calls.len() as u32;
@@ -54,23 +57,24 @@ fn tell_source<T: Source>(
         }
     }
     match stream.finish() {
-        Ok(()) => Ok((events, (line - FIRST_LINE) as usize)),
+        Ok(()) => Ok((ledger, (line - FIRST_LINE) as usize)),
         Err(fault) => Err(TextFault::Trace(fault)),
     }
 }
 
-/// Makes the calls of the trace that a source has left, as it is read, on a core: their events. The core is wiped before it
-/// goes, whatever the outcome.
+/// Makes the calls of the trace that a source has left, as it is read, on a core: what is kept of them for this form. The
+/// core is wiped before it goes, whatever the outcome.
 fn told_source<T: Source>(
     rt: &(impl Threads + Sync),
     alloc: Global,
     core: KCore,
     trace: &mut T,
+    form: CustodyForm,
 ) -> Result<Told, TextFault>
     requires lawful { IsLawful core }
     requires trace { T.failed trace.old ≡ false }
     ensures config { IfOk result (λ told. told.config ≡ core.config) }
-    ensures ok { IfOk result (λ told. IsCustodyTold core (T.left trace.old) told.calls told.events.items) }
+    ensures ok { IfOk result (λ kept. (told : List Note) × IsCustodyTold core (T.left trace.old) kept.calls told × Keeps form told kept.ledger) }
     ensures ended { OnOk result (IsAtEnd (T.left trace.new)) }
     ensures trace { (fault : TraceFault) → result ≡ Err (TextFault.Trace fault) → IfSome (T.left trace.old) (λ text. IsRefused text fault) × IsAtEnd (T.left trace.new) }
     ensures read { result ≡ Err TextFault.Read → ReadFailed (T.failed trace.new) (T.left trace.old) (T.left trace.new) }
@@ -79,14 +83,14 @@ fn told_source<T: Source>(
     ensures fault { IfErr result IsReplayFault }
 {
     let mut core = core;
-    let outcome = tell_source(alloc, &mut core, trace);
+    let outcome = tell_source(alloc, &mut core, trace, form);
     core.wipe(rt);
     let (config, _parts) = core.into_parts();
     match outcome {
-        Ok((events, calls)) => Ok(Told {
+        Ok((ledger, calls)) => Ok(Told {
             config,
             calls,
-            events,
+            ledger,
         }),
         Err(fault) => Err(fault),
     }
@@ -105,7 +109,7 @@ fn missing(core: &KCore, vm: Option<u32>) -> Option<u32>
     }
 }
 
-/// Reads what the calls begin with to its end and a trace as its calls are made: their events.
+/// Reads what the calls begin with to its end and a trace as its calls are made: what is kept of them for the form.
 fn told_texts<C: Source, T: Source>(
     rt: &(impl Threads + Sync),
     alloc: Global,
@@ -115,7 +119,7 @@ fn told_texts<C: Source, T: Source>(
 ) -> Result<Told, TextFault>
     requires start { C.failed start.old ≡ false }
     requires trace { T.failed trace.old ≡ false }
-    ensures ok { IfOk result (λ told. (m : State) × IfSome (C.left start.old) (λ text. BeginsIn (origin_of order.form) text m) × (told.config ≡ m.config) × IsCustodyTold m (T.left trace.old) told.calls told.events.items) }
+    ensures ok { IfOk result (λ kept. (m : State) × IfSome (C.left start.old) (λ text. BeginsIn (origin_of order.form) text m) × (kept.config ≡ m.config) × (told : List Note) × IsCustodyTold m (T.left trace.old) kept.calls told × Keeps order.form told kept.ledger) }
     ensures sources { TellsSources (seen (C.failed start.new) (C.left start.old) (C.left start.new) ∷ seen (T.failed trace.new) (T.left trace.old) (T.left trace.new) ∷ []) result }
     ensures texts { TellsTexts (origin_of order.form) (seen (C.failed start.new) (C.left start.old) (C.left start.new)) (seen (T.failed trace.new) (T.left trace.old) (T.left trace.new)) (trace.new ≡ trace.old) result }
     ensures custody { TellsCustody order.vm (origin_of order.form) (C.left start.old) (trace.new ≡ trace.old) result }
@@ -126,7 +130,7 @@ fn told_texts<C: Source, T: Source>(
         core.wipe(rt);
         return Err(TextFault::NoSlot(slot));
     }
-    told_source(rt, alloc, core, trace)
+    told_source(rt, alloc, core, trace, order.form)
 }
 
 /// How what happened is told.
@@ -158,7 +162,7 @@ pub fn custody_text<C: Source, T: Source, K: Sink>(
     requires trace { T.failed trace.old ≡ false }
     requires out { K.failed out.old ≡ false }
 
-    // What is written is made of the events of the trace.
+    // What is written is made of the notes on the trace.
     ensures ok { OnOk result (Writes (IsCustodyText order.form order.vm) (C.left start.old) (T.left trace.old) (K.taken out.old) (K.taken out.new)) }
     ensures sources { TellsSources (seen (C.failed start.new) (C.left start.old) (C.left start.new) ∷ seen (T.failed trace.new) (T.left trace.old) (T.left trace.new) ∷ []) result }
     ensures texts { TellsTexts (origin_of order.form) (seen (C.failed start.new) (C.left start.old) (C.left start.new)) (seen (T.failed trace.new) (T.left trace.old) (T.left trace.new)) (trace.new ≡ trace.old) result }
@@ -166,5 +170,5 @@ pub fn custody_text<C: Source, T: Source, K: Sink>(
     ensures sink { TellsSink (K.failed out.new) (Begins (IsCustodyText order.form order.vm) (C.left start.old) (T.left trace.old) (K.taken out.old) (K.taken out.new)) (out.new ≡ out.old) result }
 {
     let told = told_texts(rt, alloc, start, trace, order)?;
-    give_told(alloc, told, order.form, order.vm, out)
+    give_told(alloc, told, order.vm, out)
 }

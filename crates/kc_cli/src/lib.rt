@@ -6,6 +6,8 @@ mod account;
 mod custody;
 mod giving;
 mod history;
+pub mod laws;
+mod ledger;
 mod live;
 mod order;
 mod replaying;
@@ -16,6 +18,7 @@ pub use custody::{CustodyOrder, custody_text};
 pub use history::replay_history;
 pub use kc_args::{ArgFault, Job, job_of};
 pub use kc_digests::Lanes;
+pub use kc_remarks::Remarks;
 pub use kc_texts::{
     DEFAULT_CONFIG, Failed, Mem, Origin, ReadFault, Sink, Source, Std, TextFault, audit_text,
     read_whole, tell, write_whole,

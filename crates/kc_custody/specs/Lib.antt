@@ -1,6 +1,7 @@
 pub mod Movable
 pub mod Marks
 pub mod Selected
+pub mod Chosen
 pub mod Tally
 pub mod Tallies
 pub mod Ends

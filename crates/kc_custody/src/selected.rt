@@ -7,7 +7,7 @@ ghost use Rattle.kc_custody.specs.Selected.{is_for, is_selected, selected};
 
 use kc_types::{Change, Event, Owner};
 
-fn is_owned_by(owner: Owner, vm: u32) -> bool
+pub(crate) fn is_owned_by(owner: Owner, vm: u32) -> bool
     ensures { result ≡ is_owned_by vm owner }
 {
     match owner {
@@ -29,7 +29,7 @@ fn is_for(change: &Change, vm: u32) -> bool
 }
 
 /// Whether it is a change, of this slot where one is named.
-fn is_selected(event: &Event, vm: Option<u32>) -> bool
+pub(crate) fn is_selected(event: &Event, vm: Option<u32>) -> bool
     ensures { result ≡ is_selected vm event.now }
 {
     match event {

@@ -14,6 +14,10 @@ first_option clashes.FromSvg = codes "--from"
 first_option clashes.RedactConfigFrom = codes "--config"
 first_option clashes.ConfigAlone = codes "--config"
 first_option clashes.FromAlone = codes "--from"
+first_option clashes.SummaryRefused = codes "--summary"
+first_option clashes.SummaryAccesses = codes "--summary"
+first_option clashes.SvgRefused = codes "--svg"
+first_option clashes.SvgAccesses = codes "--svg"
 
 abbrev pub link_of : Clash → List ℕ
 link_of clashes.BlankAlone = codes "' needs one of '"
@@ -32,6 +36,10 @@ other_option clashes.FromSvg = codes "--svg"
 other_option clashes.RedactConfigFrom = codes "--from"
 other_option clashes.ConfigAlone = codes "--host"
 other_option clashes.FromAlone = codes "--host"
+other_option clashes.SummaryRefused = codes "--refused"
+other_option clashes.SummaryAccesses = codes "--accesses"
+other_option clashes.SvgRefused = codes "--refused"
+other_option clashes.SvgAccesses = codes "--accesses"
 
 abbrev pub command_of : Clash → List ℕ
 command_of clashes.DumpState = codes "replay"

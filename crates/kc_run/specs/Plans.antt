@@ -5,6 +5,7 @@ use Rattle.kc_args.specs.declared.job.Job.{Job}
 use Rattle.kc_args.specs.declared.job.Job.TheVariants as jobs
 use Rattle.kc_texts.specs.declared.origin.Origin.{Origin}
 use Rattle.kc_texts.specs.declared.origin.Origin.TheVariants as origins
+use Rattle.kc_remarks.specs.declared.remark.Remarks.{Remarks}
 use Rattle.kc_cli.specs.declared.order.ReplayForm.{ReplayForm}
 use Rattle.kc_cli.specs.declared.order.ReplayForm.TheVariants as replies
 use Rattle.kc_cli.specs.declared.account.CustodyForm.{CustodyForm}
@@ -35,14 +36,25 @@ replay_form true false = Some replies.Dump
 replay_form false true = Some replies.State
 replay_form true true = None
 
--- what is written of custody, by `--summary` and `--svg`: each excludes the other, and a state's text
-abbrev pub account_of : Bool → Bool → Start → Result Account Clash
-account_of false false start = Ok (accounts.Changes start)
-account_of true true start = Err clashes.SummarySvg
-account_of true false (starts.Boot config) = Ok (accounts.Summary config)
-account_of true false (starts.State path) = Err clashes.FromSummary
-account_of false true (starts.Boot config) = Ok (accounts.Picture config)
-account_of false true (starts.State path) = Err clashes.FromSvg
+-- a summary and a picture have no remarks, by `--refused` and `--accesses`, and begin at boot
+abbrev pub summary_of : Bool → Bool → Start → Result Account Clash
+summary_of true accesses start = Err clashes.SummaryRefused
+summary_of false true start = Err clashes.SummaryAccesses
+summary_of false false (starts.Boot config) = Ok (accounts.Summary config)
+summary_of false false (starts.State path) = Err clashes.FromSummary
+
+abbrev pub picture_of : Bool → Bool → Start → Result Account Clash
+picture_of true accesses start = Err clashes.SvgRefused
+picture_of false true start = Err clashes.SvgAccesses
+picture_of false false (starts.Boot config) = Ok (accounts.Picture config)
+picture_of false false (starts.State path) = Err clashes.FromSvg
+
+-- what is written of custody, by `--summary` and `--svg`, which exclude each other, and what else is asked for
+abbrev pub account_of : Bool → Bool → Remarks → Start → Result Account Clash
+account_of false false remarks start = Ok (accounts.Changes start remarks)
+account_of true true remarks start = Err clashes.SummarySvg
+account_of true false remarks start = summary_of remarks.refused remarks.accesses start
+account_of false true remarks start = picture_of remarks.refused remarks.accesses start
 
 -- nothing that is asked for has a core's pages in it, which `--blank` zeroes
 abbrev pub is_alone : Bool → ReplayForm → Option Path → Bool
@@ -62,9 +74,9 @@ abbrev pub account_plan : Result Account Clash → Option ℕ → Result Plan Cl
 account_plan (Err clash) vm = Err clash
 account_plan (Ok account) vm = Ok (plans.Custody account vm)
 
-abbrev pub custody_plan : Bool → Bool → Option Start → Option ℕ → Result Plan Clash
-custody_plan summary svg None vm = Err clashes.CustodyConfigFrom
-custody_plan summary svg (Some start) vm = account_plan (account_of summary svg start) vm
+abbrev pub custody_plan : Bool → Bool → Remarks → Option Start → Option ℕ → Result Plan Clash
+custody_plan summary svg remarks None vm = Err clashes.CustodyConfigFrom
+custody_plan summary svg remarks (Some start) vm = account_plan (account_of summary svg remarks start) vm
 
 -- a start is named only if also the host's writes are blanked, by which the trace is replayed
 abbrev pub redact_plan : Bool → Start → Result Plan Clash
@@ -81,7 +93,7 @@ redact_from_plan host (Some start) = redact_plan host start
 abbrev pub plan_of : Job → Result Plan Clash
 plan_of (jobs.Replay config from to workers dump state blank explain) = replay_plan (replay_form dump state) (start_of config from) to blank workers
 plan_of (jobs.Live config workers explain) = Ok (plans.Live config workers)
-plan_of (jobs.Custody config from vm summary svg explain) = custody_plan summary svg (start_of config from) vm
+plan_of (jobs.Custody config from vm summary svg refused accesses explain) = custody_plan summary svg (record { refused = refused; accesses = accesses }) (start_of config from) vm
 plan_of (jobs.Audit all explain) = Ok (plans.Audit all)
 plan_of (jobs.Redact config from host explain) = redact_from_plan host (start_of config from)
 
@@ -96,11 +108,11 @@ origin_at (starts.Boot config) = origins.Boot
 origin_at (starts.State path) = origins.State
 
 abbrev pub form_of : Account → CustodyForm
-form_of (accounts.Changes start) = forms.Changes (origin_at start)
+form_of (accounts.Changes start remarks) = forms.Changes (origin_at start) remarks
 form_of (accounts.Summary config) = forms.Summary
 form_of (accounts.Picture config) = forms.Picture
 
 abbrev pub start_in : Account → Start
-start_in (accounts.Changes start) = start
+start_in (accounts.Changes start remarks) = start
 start_in (accounts.Summary config) = starts.Boot config
 start_in (accounts.Picture config) = starts.Boot config

@@ -28,6 +28,14 @@ pub enum Clash {
     ConfigAlone,
     /// `redact --from PATH` without `--host`
     FromAlone,
+    /// `custody --summary --refused`
+    SummaryRefused,
+    /// `custody --summary --accesses`
+    SummaryAccesses,
+    /// `custody --svg --refused`
+    SvgRefused,
+    /// `custody --svg --accesses`
+    SvgAccesses,
 }
 
 impl Clash {
@@ -41,8 +49,9 @@ impl Clash {
             | Clash::CustodyConfigFrom
             | Clash::RedactConfigFrom
             | Clash::ConfigAlone => "--config",
-            Clash::SummarySvg => "--summary",
+            Clash::SummarySvg | Clash::SummaryRefused | Clash::SummaryAccesses => "--summary",
             Clash::FromSummary | Clash::FromSvg | Clash::FromAlone => "--from",
+            Clash::SvgRefused | Clash::SvgAccesses => "--svg",
         }
     }
 
@@ -67,6 +76,8 @@ impl Clash {
             Clash::SummarySvg | Clash::FromSvg => "--svg",
             Clash::FromSummary => "--summary",
             Clash::ConfigAlone | Clash::FromAlone => "--host",
+            Clash::SummaryRefused | Clash::SvgRefused => "--refused",
+            Clash::SummaryAccesses | Clash::SvgAccesses => "--accesses",
         }
     }
 

@@ -1,9 +1,9 @@
 //! What a job asks for, once its options do not contradict each other.
 ghost use Rattle.std.specs.Prelude.{◌≡◌};
-ghost use Rattle.kc_run.specs.Plans.{start_of, replay_form, is_alone, account_of, redact_plan, plan_of, path_of, origin_at, form_of, start_in};
+ghost use Rattle.kc_run.specs.Plans.{start_of, replay_form, is_alone, summary_of, picture_of, account_of, redact_plan, plan_of, path_of, origin_at, form_of, start_in};
 
 use crate::clash::Clash;
-use kc_cli::{CustodyForm, Job, Origin, ReplayForm};
+use kc_cli::{CustodyForm, Job, Origin, Remarks, ReplayForm};
 
 /// Where calls begin.
 #[derive(Clone, Copy, Debug, PartialEq, Eq)]
@@ -18,8 +18,8 @@ pub enum Start<'a> {
 /// and a picture begin in a boot state, with the configuration in a file or the default one.
 #[derive(Clone, Copy, Debug, PartialEq, Eq)]
 pub enum Account<'a> {
-    /// Every change of a frame or slot.
-    Changes(Start<'a>),
+    /// Every change of a frame or slot, and what else is asked for of the calls.
+    Changes(Start<'a>, Remarks),
     /// An object for each life of a VM.
     Summary(Option<&'a str>),
     /// A picture.
@@ -93,17 +93,44 @@ fn is_alone(blank: bool, form: ReplayForm, to: Option<&str>) -> bool
     }
 }
 
-/// What is written of custody, by `--summary` and `--svg`.
-fn account_of<'a>(summary: bool, svg: bool, start: Start<'a>) -> Result<Account<'a>, Clash>
-    ensures { result ≡ account_of summary svg start.entry }
+/// A summary, which has no remarks and begins at boot.
+fn summary_of<'a>(remarks: Remarks, start: Start<'a>) -> Result<Account<'a>, Clash>
+    ensures { result ≡ summary_of remarks.refused remarks.accesses start.entry }
 {
-    match (summary, svg, start) {
-        (false, false, start) => Ok(Account::Changes(start)),
-        (true, true, _) => Err(Clash::SummarySvg),
-        (true, false, Start::Boot(config)) => Ok(Account::Summary(config)),
-        (true, false, Start::State(_)) => Err(Clash::FromSummary),
-        (false, true, Start::Boot(config)) => Ok(Account::Picture(config)),
-        (false, true, Start::State(_)) => Err(Clash::FromSvg),
+    match (remarks.refused, remarks.accesses, start) {
+        (true, _, _) => Err(Clash::SummaryRefused),
+        (false, true, _) => Err(Clash::SummaryAccesses),
+        (false, false, Start::Boot(config)) => Ok(Account::Summary(config)),
+        (false, false, Start::State(_)) => Err(Clash::FromSummary),
+    }
+}
+
+/// A picture, which has no remarks and begins at boot.
+fn picture_of<'a>(remarks: Remarks, start: Start<'a>) -> Result<Account<'a>, Clash>
+    ensures { result ≡ picture_of remarks.refused remarks.accesses start.entry }
+{
+    match (remarks.refused, remarks.accesses, start) {
+        (true, _, _) => Err(Clash::SvgRefused),
+        (false, true, _) => Err(Clash::SvgAccesses),
+        (false, false, Start::Boot(config)) => Ok(Account::Picture(config)),
+        (false, false, Start::State(_)) => Err(Clash::FromSvg),
+    }
+}
+
+/// What is written of custody, by `--summary`, `--svg`, and by `--refused` and `--accesses`.
+fn account_of<'a>(
+    summary: bool,
+    svg: bool,
+    remarks: Remarks,
+    start: Start<'a>,
+) -> Result<Account<'a>, Clash>
+    ensures { result ≡ account_of summary svg remarks start.entry }
+{
+    match (summary, svg) {
+        (false, false) => Ok(Account::Changes(start, remarks)),
+        (true, true) => Err(Clash::SummarySvg),
+        (true, false) => summary_of(remarks, start),
+        (false, true) => picture_of(remarks, start),
     }
 }
 
@@ -162,12 +189,15 @@ pub fn plan_of<'a>(job: Job<'a>) -> Result<Plan<'a>, Clash>
             vm,
             summary,
             svg,
+            refused,
+            accesses,
             explain: _,
         } => {
             let Some(start) = start_of(config, from) else {
                 return Err(Clash::CustodyConfigFrom);
             };
-            let account = account_of(summary, svg, start)?;
+            let remarks = Remarks { refused, accesses };
+            let account = account_of(summary, svg, remarks, start)?;
             Ok(Plan::Custody { account, vm })
         },
         Job::Audit { all, explain: _ } => Ok(Plan::Audit { all }),
@@ -212,7 +242,7 @@ impl<'a> Account<'a> {
         ensures { result ≡ form_of self.entry }
     {
         match self {
-            Account::Changes(start) => CustodyForm::Changes(start.origin()),
+            Account::Changes(start, remarks) => CustodyForm::Changes(start.origin(), remarks),
             Account::Summary(_) => CustodyForm::Summary,
             Account::Picture(_) => CustodyForm::Picture,
         }
@@ -222,7 +252,7 @@ impl<'a> Account<'a> {
         ensures { result ≡ start_in self.entry }
     {
         match self {
-            Account::Changes(start) => start,
+            Account::Changes(start, _) => start,
             Account::Summary(config) => Start::Boot(config),
             Account::Picture(config) => Start::Boot(config),
         }

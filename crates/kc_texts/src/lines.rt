@@ -3,11 +3,16 @@ ghost use Rattle.std.specs.Prelude.{◌≡◌, ◌≤◌, ◌+◌, ◌++◌, ◌
 ghost use Rattle.std.specs.List.{flat_map};
 ghost use Rattle.std.specs.Io.KnownBytes.{Appends};
 ghost use Rattle.kc_trace.specs.CustodyText.{event_line};
+ghost use Rattle.kc_trace.specs.RemarkText.{note_line};
 ghost use Rattle.kc_trace.specs.ReplyText.{reply_line_of, reply_text_of};
 ghost use Rattle.kc_trace.specs.Spelling.{line_of, trace_of, longest_call};
 
 use crate::source::{Failed, PIECE, Sink};
-use kc_trace::{LONGEST_CALL, push_call, push_change, push_header, push_reply, version_of};
+use kc_remarks::Note;
+use kc_trace::{
+    LONGEST_CALL, push_access, push_call, push_change, push_denied, push_header, push_reply,
+    version_of,
+};
 use kc_types::{Call, Event, Memory, Reply};
 use std::alloc::Global;
 
@@ -70,6 +75,19 @@ impl Line for Event {
         match self {
             Event::Change(change) => push_change(text, change),
             Event::Read { .. } | Event::Write { .. } => (),
+        }
+    }
+}
+
+/// A denied call has a line, an access has one, and an event has its own, if it has one.
+impl Line for Note {
+    ghost line = { λ note. note_line note };
+
+    fn push(&self, text: &mut Vec<u8>) {
+        match self {
+            Note::Denied(denied) => push_denied(text, denied),
+            Note::Access(access) => push_access(text, access),
+            Note::Event(event) => event.push(text),
         }
     }
 }

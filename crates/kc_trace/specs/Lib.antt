@@ -8,3 +8,4 @@ pub mod ConfigValue
 pub mod Faults
 pub mod CustodyText
 pub mod SummaryText
+pub mod RemarkText

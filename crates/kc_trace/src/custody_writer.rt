@@ -27,7 +27,7 @@ pub(crate) fn push_member(text: &mut Vec<u8>, key: &[u8], number: usize)
 }
 
 /// Appends an owner's name, as text.
-fn push_owner(text: &mut Vec<u8>, owner: Owner)
+pub(crate) fn push_owner(text: &mut Vec<u8>, owner: Owner)
     requires { vec_len text.old + 25 ≤ vec_capacity text.old }
     ensures items { text.new.items ≡ text.old.items ++ owner_text owner }
     ensures len { vec_len text.new ≤ vec_len text.old + 25 }

@@ -8,6 +8,7 @@ mod fault;
 pub mod laws;
 mod line;
 mod reader;
+mod remark_writer;
 mod reply_writer;
 mod summary_writer;
 mod writer;
@@ -17,6 +18,7 @@ pub use custody_writer::{LONGEST_CHANGE, push_change, push_custody_end, push_cus
 pub use fault::TraceFault;
 pub use line::call_of_line;
 pub use reader::{TraceReader, read_trace};
+pub use remark_writer::{push_access, push_denied};
 pub use reply_writer::{LONGEST_REPLY, push_reply, write_replies};
 pub use summary_writer::summary_text;
 pub use writer::{LONGEST_CALL, push_call, push_header, version_of, write_trace};

@@ -12,7 +12,9 @@ returns-clause-app c =
     let with_vm = c.in_ok-arg-3.ensures.shape c.vm_arg.ensures.local ∙ ap₂ with_rule with_from c.vm_arg.ensures.rule in
     let with_summary = c.in_ok-arg-4.ensures.shape c.summary_arg.ensures.local ∙ ap₂ with_rule with_vm c.summary_arg.ensures.rule in
     let with_svg = c.in_ok-arg-5.ensures.shape c.svg_arg.ensures.local ∙ ap₂ with_rule with_summary c.svg_arg.ensures.rule in
-    IfOk-weaker c.arg-6.result _ _ (λ r h. h.shape c.explain_arg.ensures.local ∙ ap₂ with_rule with_svg c.explain_arg.ensures.rule) c.arg-6.ensures
+    let with_refused = c.in_ok-arg-6.ensures.shape c.refused_arg.ensures.local ∙ ap₂ with_rule with_svg c.refused_arg.ensures.rule in
+    let with_accesses = c.in_ok-arg-7.ensures.shape c.accesses_arg.ensures.local ∙ ap₂ with_rule with_refused c.accesses_arg.ensures.rule in
+    IfOk-weaker c.arg-8.result _ _ (λ r h. h.shape c.explain_arg.ensures.local ∙ ap₂ with_rule with_accesses c.explain_arg.ensures.rule) c.arg-8.ensures
 
 pub returns-clause-local : goal.returns-clause-local
 returns-clause-local c =
@@ -22,4 +24,6 @@ returns-clause-local c =
     let three = stays_local _ _ _ c.in_ok-arg-3.ensures two c.vm_arg.ensures.local in
     let four = stays_local _ _ _ c.in_ok-arg-4.ensures three c.summary_arg.ensures.local in
     let five = stays_local _ _ _ c.in_ok-arg-5.ensures four c.svg_arg.ensures.local in
-    IfOk-weaker c.arg-6.result _ _ (λ r h. stays_local _ _ _ h five c.explain_arg.ensures.local) c.arg-6.ensures
+    let six = stays_local _ _ _ c.in_ok-arg-6.ensures five c.refused_arg.ensures.local in
+    let seven = stays_local _ _ _ c.in_ok-arg-7.ensures six c.accesses_arg.ensures.local in
+    IfOk-weaker c.arg-8.result _ _ (λ r h. stays_local _ _ _ h seven c.explain_arg.ensures.local) c.arg-8.ensures

@@ -1,10 +1,11 @@
-use Rattle.std.proofs.Common.{All, List, sym, subst}
+use Rattle.std.proofs.Common.{All, List, sym, subst, ◌∙◌}
 use Rattle.std.proofs.lemmas.Result.{err_from_is_err_and, on_ok_weaker}
 use Rattle.kc_model.specs.Custody.{first_line}
 use Rattle.kc_custody.specs.Within.{IsWithin}
 use Rattle.kc_custody.proofs.Traced.{events-within}
 use Rattle.kc_texts.proofs.Told.{sources_err, texts_err, sink_more}
 use Rattle.kc_types.specs.declared.custody.Event.{Event}
+use Rattle.kc_cli.proofs.Ledgers.{kept_events}
 use Rattle.kc_cli.proofs.Told.{gives_custody, begins_custody, custody_err}
 use Rattle.kc_cli.proofs.custody.custody_text.Goals as goal
 
@@ -32,5 +33,5 @@ returns-in_err-told-clause-custody g c =
 pub give_told-requires-clause-within : goal.give_told-requires-clause-within
 give_told-requires-clause-within g c =
     let h = c.in_ok-told.ensures.ok in
-    let told = h.3 in
-    rw h.2 (subst (λ (events : List Event). All (IsWithin h.0.config.frames) events) (sym told.exact) (events-within first_line h.0 told.calls))
+    let same = kept_events _ h.3 _ h.5 ∙ h.4.events in
+    rw h.2 (subst (λ (events : List Event). All (IsWithin h.0.config.frames) events) (sym same) (events-within first_line h.0 h.4.calls))

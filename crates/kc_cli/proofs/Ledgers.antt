@@ -1,0 +1,91 @@
+-- What is kept of calls that come after others.
+use Rattle.std.proofs.Common.{ℕ, ◌≡◌, ◌++◌, List, Option, ap, ap₂, sym, ◌∙◌}
+use Rattle.std.specs.Global.{Vec}
+use Rattle.std.proofs.lemmas.List.Elements.{filter_map-append}
+use Rattle.kc_types.specs.Configuration.{Configuration}
+use Rattle.kc_types.specs.declared.call.Call.{Call}
+use Rattle.kc_types.specs.declared.custody.Event.{Event}
+use Rattle.kc_model.specs.State.{State}
+use Rattle.kc_model.specs.Lives.{lives, selected_lives}
+use Rattle.kc_custody.specs.Chosen.{chosen}
+use Rattle.kc_cli.proofs.Plain.{plain}
+use Rattle.kc_model.specs.Events.{events_from, changes_in}
+use Rattle.kc_custody.specs.Selected.{selected}
+use Rattle.kc_trace.specs.CustodyText.{custody_text_of}
+use Rattle.kc_trace.specs.SummaryText.{summary_text_of}
+use Rattle.kc_trace.specs.RemarkText.{notes_text_of}
+use Rattle.kc_remarks.specs.declared.remark.Note.{Note}
+use Rattle.kc_remarks.specs.declared.remark.Remarks.{Remarks}
+use Rattle.kc_remarks.specs.Remarks.{notes_from, event_in, events_in}
+use Rattle.kc_remarks.proofs.Events.{events-of-notes_from}
+use Rattle.kc_cli.specs.declared.account.CustodyForm.{CustodyForm}
+use Rattle.kc_cli.specs.declared.account.CustodyForm.TheVariants.{Changes, Summary, Picture}
+use Rattle.kc_cli.specs.declared.ledger.Ledger.TheVariants as kept
+use Rattle.kc_cli.specs.declared.ledger.Ledger.{Ledger}
+use Rattle.kc_cli.specs.Custody.{IsAccount}
+use Rattle.kc_cli.specs.Ledgers.{Keeps, events_kept, IsGiven}
+
+-- the events of notes that more are added to
+events_more : (n : ℕ) (m : State) (calls : List Call) (told : List Note) (old new : List Event) → new ≡ old ++ events_from n m calls → old ≡ events_in told → new ≡ events_in (told ++ notes_from n m calls)
+events_more n m calls told old new grown so_far =
+    grown
+    ∙ ap₂ (λ (xs ys : List Event). xs ++ ys) so_far (sym (events-of-notes_from n m calls))
+    ∙ sym (filter_map-append event_in told (notes_from n m calls))
+
+pub notes_grow : (n : ℕ) (m : State) (calls : List Call) (wanted : Remarks) (old new : Vec Note) → new.items ≡ old.items ++ notes_from n m calls
+    → (form : CustodyForm) (told : List Note) → Keeps form told (kept.Notes wanted old) → Keeps form (told ++ notes_from n m calls) (kept.Notes wanted new)
+notes_grow n m calls wanted old new grown (Changes origin remarks) told h = (h.0, grown ∙ ap (λ (xs : List Note). xs ++ notes_from n m calls) h.1)
+notes_grow n m calls wanted old new grown Summary told h = h
+notes_grow n m calls wanted old new grown Picture told h = h
+
+pub changes_grow : (n : ℕ) (m : State) (calls : List Call) (old new : Vec Event) → new.items ≡ old.items ++ events_from n m calls
+    → (form : CustodyForm) (told : List Note) → Keeps form told (kept.Changes old) → Keeps form (told ++ notes_from n m calls) (kept.Changes new)
+changes_grow n m calls old new grown (Changes origin remarks) told h = (h.0, events_more n m calls told old.items new.items grown h.1)
+changes_grow n m calls old new grown Summary told h = h
+changes_grow n m calls old new grown Picture told h = h
+
+pub summary_grows : (n : ℕ) (m : State) (calls : List Call) (old new : Vec Event) → new.items ≡ old.items ++ events_from n m calls
+    → (form : CustodyForm) (told : List Note) → Keeps form told (kept.Summary old) → Keeps form (told ++ notes_from n m calls) (kept.Summary new)
+summary_grows n m calls old new grown (Changes origin remarks) told h = h
+summary_grows n m calls old new grown Summary told h = events_more n m calls told old.items new.items grown h
+summary_grows n m calls old new grown Picture told h = h
+
+pub picture_grows : (n : ℕ) (m : State) (calls : List Call) (old new : Vec Event) → new.items ≡ old.items ++ events_from n m calls
+    → (form : CustodyForm) (told : List Note) → Keeps form told (kept.Picture old) → Keeps form (told ++ notes_from n m calls) (kept.Picture new)
+picture_grows n m calls old new grown (Changes origin remarks) told h = h
+picture_grows n m calls old new grown Summary told h = h
+picture_grows n m calls old new grown Picture told h = events_more n m calls told old.items new.items grown h
+
+-- the events that are kept are those of the notes
+pub kept_events : (form : CustodyForm) (told : List Note) (ledger : Ledger) → Keeps form told ledger → events_kept ledger ≡ events_in told
+kept_events (Changes origin remarks) told (kept.Changes events) h = h.1
+kept_events (Changes origin remarks) told (kept.Notes wanted notes) h = ap events_in h.1
+kept_events (Changes origin remarks) told (kept.Summary events) h = absurd h
+kept_events (Changes origin remarks) told (kept.Picture events) h = absurd h
+kept_events Summary told (kept.Changes events) h = absurd h
+kept_events Summary told (kept.Notes wanted notes) h = absurd h
+kept_events Summary told (kept.Summary events) h = h
+kept_events Summary told (kept.Picture events) h = absurd h
+kept_events Picture told (kept.Changes events) h = absurd h
+kept_events Picture told (kept.Notes wanted notes) h = absurd h
+kept_events Picture told (kept.Summary events) h = absurd h
+kept_events Picture told (kept.Picture events) h = h
+
+-- what is given of what is kept is the account of the notes
+pub account_given : (form : CustodyForm) (vm : Option ℕ) (config : Configuration) (count : ℕ) (told : List Note) (ledger : Ledger) (text : List ℕ) → Keeps form told ledger → IsGiven vm config count ledger text → IsAccount form vm config count told text
+account_given (Changes origin remarks) vm config count told (kept.Changes events) text h given =
+    given
+    ∙ ap (λ (xs : List Event). custody_text_of config count (selected vm (changes_in xs))) h.1
+    ∙ sym (plain config count vm told)
+    ∙ ap (λ (r : Remarks). notes_text_of config count (chosen vm r told)) (sym h.0)
+account_given (Changes origin remarks) vm config count told (kept.Notes wanted notes) text h given = given ∙ ap₂ (λ (r : Remarks) (xs : List Note). notes_text_of config count (chosen vm r xs)) h.0 h.1
+account_given (Changes origin remarks) vm config count told (kept.Summary events) text h given = absurd h
+account_given (Changes origin remarks) vm config count told (kept.Picture events) text h given = absurd h
+account_given Summary vm config count told (kept.Changes events) text h given = absurd h
+account_given Summary vm config count told (kept.Notes wanted notes) text h given = absurd h
+account_given Summary vm config count told (kept.Summary events) text h given = given ∙ ap (λ (xs : List Event). summary_text_of config count (selected_lives vm (lives xs))) h
+account_given Summary vm config count told (kept.Picture events) text h given = absurd h
+account_given Picture vm config count told (kept.Changes events) text h given = absurd h
+account_given Picture vm config count told (kept.Notes wanted notes) text h given = absurd h
+account_given Picture vm config count told (kept.Summary events) text h given = absurd h
+account_given Picture vm config count told (kept.Picture events) text h given = tt

@@ -1,0 +1,15 @@
+use Rattle.std.proofs.lemmas.Result.{on_ok_weaker}
+use Rattle.kc_cli.proofs.Ledgers.{changes_grow, summary_grows, picture_grows}
+use Rattle.kc_cli.proofs.ledger.Ledger.note.Goals as goal
+
+pub returns-in-Changes-clause-kept : goal.returns-in-Changes-clause-kept
+returns-in-Changes-clause-kept c =
+    on_ok_weaker c.tell_calls.result (λ grown. λ form told h. changes_grow c.args.first c.args.core.now c.args.calls.now c.in-Changes.events c.tell_calls.new.told grown form told (rw c.in-Changes.is at h)) c.tell_calls.ensures.told
+
+pub returns-in-Summary-clause-kept : goal.returns-in-Summary-clause-kept
+returns-in-Summary-clause-kept c =
+    on_ok_weaker c.tell_calls-in-Summary.result (λ grown. λ form told h. summary_grows c.args.first c.args.core.now c.args.calls.now c.in-Summary.events c.tell_calls-in-Summary.new.told grown form told (rw c.in-Summary.is at h)) c.tell_calls-in-Summary.ensures.told
+
+pub returns-in-Picture-clause-kept : goal.returns-in-Picture-clause-kept
+returns-in-Picture-clause-kept c =
+    on_ok_weaker c.tell_calls-in-Picture.result (λ grown. λ form told h. picture_grows c.args.first c.args.core.now c.args.calls.now c.in-Picture.events c.tell_calls-in-Picture.new.told grown form told (rw c.in-Picture.is at h)) c.tell_calls-in-Picture.ensures.told

@@ -1,0 +1,39 @@
+-- What the engine of custody keeps of the notes on a trace: all of them, or their events if these are enough.
+use Rattle.std.specs.Prelude.{◌≡◌, ℕ, List, Option}
+use Rattle.kc_types.specs.Configuration.{Configuration}
+use Rattle.kc_types.specs.declared.custody.Event.{Event}
+use Rattle.kc_remarks.specs.declared.remark.Note.{Note}
+use Rattle.kc_remarks.specs.Remarks.{events_in}
+use Rattle.kc_model.specs.Lives.{lives, selected_lives}
+use Rattle.kc_model.specs.Events.{changes_in}
+use Rattle.kc_custody.specs.Selected.{selected}
+use Rattle.kc_custody.specs.Chosen.{no_remarks, chosen}
+use Rattle.kc_trace.specs.CustodyText.{custody_text_of}
+use Rattle.kc_trace.specs.SummaryText.{summary_text_of}
+use Rattle.kc_trace.specs.RemarkText.{notes_text_of}
+use Rattle.kc_cli.specs.declared.account.CustodyForm.{CustodyForm}
+use Rattle.kc_cli.specs.declared.account.CustodyForm.TheVariants.{Changes, Summary, Picture}
+use Rattle.kc_cli.specs.declared.ledger.Ledger.{Ledger}
+use Rattle.kc_cli.specs.declared.ledger.Ledger.TheVariants as kept
+
+-- it keeps of these notes what this form is written of
+abbrev pub Keeps : CustodyForm → List Note → Ledger → Type 0
+Keeps (Changes origin remarks) told (kept.Changes events) = (remarks ≡ no_remarks) × (events.items ≡ events_in told)
+Keeps (Changes origin remarks) told (kept.Notes wanted notes) = (wanted ≡ remarks) × (notes.items ≡ told)
+Keeps Summary told (kept.Summary events) = events.items ≡ events_in told
+Keeps Picture told (kept.Picture events) = events.items ≡ events_in told
+Keeps form told ledger = ⊥
+
+-- the events among what it keeps
+abbrev pub events_kept : Ledger → List Event
+events_kept (kept.Changes events) = events.items
+events_kept (kept.Notes wanted notes) = events_in notes.items
+events_kept (kept.Summary events) = events.items
+events_kept (kept.Picture events) = events.items
+
+-- the text that is given of what it keeps, of so many calls; of a picture's bytes nothing is said
+abbrev pub IsGiven : Option ℕ → Configuration → ℕ → Ledger → List ℕ → Type 0
+IsGiven vm config count (kept.Changes events) text = text ≡ custody_text_of config count (selected vm (changes_in events.items))
+IsGiven vm config count (kept.Notes wanted notes) text = text ≡ notes_text_of config count (chosen vm wanted notes.items)
+IsGiven vm config count (kept.Summary events) text = text ≡ summary_text_of config count (selected_lives vm (lives events.items))
+IsGiven vm config count (kept.Picture events) text = Unit {0}

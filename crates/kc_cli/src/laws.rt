@@ -1,0 +1,15 @@
+//! Laws of what is written.
+ghost use Rattle.std.specs.Prelude.{◌≡◌, ℕ, List, Option};
+ghost use Rattle.kc_types.specs.Configuration.{Configuration};
+ghost use Rattle.kc_model.specs.Events.{changes_in};
+ghost use Rattle.kc_remarks.specs.declared.remark.Note.{Note};
+ghost use Rattle.kc_remarks.specs.Remarks.{events_in};
+ghost use Rattle.kc_custody.specs.Selected.{selected};
+ghost use Rattle.kc_custody.specs.Chosen.{no_remarks, chosen};
+ghost use Rattle.kc_trace.specs.CustodyText.{custody_text_of};
+ghost use Rattle.kc_trace.specs.RemarkText.{notes_text_of};
+
+/// If neither denied calls nor accesses are asked for, the text is that of the changes alone.
+pub fn plain()
+    ensures { (config : Configuration) (calls : ℕ) (vm : Option ℕ) (told : List Note) → notes_text_of config calls (chosen vm no_remarks told) ≡ custody_text_of config calls (selected vm (changes_in (events_in told))) }
+{}

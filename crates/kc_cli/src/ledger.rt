@@ -1,0 +1,64 @@
+//! What is kept of the calls of a trace until it has ended.
+ghost use Rattle.std.specs.Prelude.{◌≡◌, ◌<◌, ◌+◌, ◌^◌, ◌++◌, [], List, length, OnOk};
+ghost use Rattle.kc_model.specs.Next.{state_after};
+ghost use Rattle.kc_remarks.specs.declared.remark.Note.{Note};
+ghost use Rattle.kc_remarks.specs.Remarks.{notes_from};
+ghost use Rattle.kc_cli.specs.Ledgers.{Keeps};
+
+use crate::account::CustodyForm;
+use kc_core::KCore;
+use kc_custody::{note_calls, tell_calls};
+use kc_remarks::{Note, Remarks};
+use kc_types::{Call, Event, Memory};
+use std::alloc::Global;
+
+/// What is kept to be written in a form: the notes on the calls if remarks are asked for, else their events alone, which take
+/// less time and memory.
+#[derive(Drop)]
+pub(crate) enum Ledger {
+    Changes(Vec<Event>),
+    Notes(Remarks, Vec<Note>),
+    Summary(Vec<Event>),
+    Picture(Vec<Event>),
+}
+
+impl Ledger {
+    /// One without calls, for this form.
+    pub(crate) fn new(alloc: Global, form: CustodyForm) -> Ledger
+        ensures { Keeps form [] result }
+    {
+        match form {
+            CustodyForm::Changes(
+                _,
+                Remarks {
+                    refused: false,
+                    accesses: false,
+                },
+            ) => Ledger::Changes(Vec::new(alloc)),
+            CustodyForm::Changes(_, remarks) => Ledger::Notes(remarks, Vec::new(alloc)),
+            CustodyForm::Summary => Ledger::Summary(Vec::new(alloc)),
+            CustodyForm::Picture => Ledger::Picture(Vec::new(alloc)),
+        }
+    }
+
+    /// Makes some calls in order, of which the first has this line in the trace, and keeps what its form is written of. After
+    /// `Memory`, where a growth was refused, some calls are done.
+    pub(crate) fn note(
+        &mut self,
+        alloc: Global,
+        core: &mut KCore,
+        calls: &[Call],
+        first: u32,
+    ) -> Result<(), Memory>
+        requires { first + length calls.now < 2 ^ 32 }
+        ensures kept { OnOk result ((form : CustodyForm) (told : List Note) → Keeps form told self.old → Keeps form (told ++ notes_from first core.old calls.now) self.new) }
+        ensures state { OnOk result (core.new ≡ state_after core.old calls.now) }
+    {
+        match self {
+            Ledger::Changes(events) => tell_calls(alloc, core, calls, first, events),
+            Ledger::Notes(_, notes) => note_calls(alloc, core, calls, first, notes),
+            Ledger::Summary(events) => tell_calls(alloc, core, calls, first, events),
+            Ledger::Picture(events) => tell_calls(alloc, core, calls, first, events),
+        }
+    }
+}

@@ -1,0 +1,12 @@
+use Rattle.kc_model.proofs.States.Runs.{state_after-more}
+use Rattle.kc_remarks.proofs.Runs.{calls-noted}
+use Rattle.kc_custody.proofs.noting.note_calls.Goals as goal
+
+pub loop-i-preserved : goal.loop-i-preserved
+loop-i-preserved c =
+    let step = state_after-more c.args.core.now c.args.calls.now c.loop-i.i c.index-calls-i.result c.loop-i-test.true c.index-calls-i.is in
+    record {
+      notes = calls-noted c.args.first c.args.core.now c.loop-i.core c.args.calls.now c.loop-i.i c.index-calls-i.result c.args.notes.now.items c.loop-i.notes.items _ c.loop-i-test.true c.index-calls-i.is
+          c.loop-i.invariant.notes c.loop-i.invariant.state c.in_ok-note_call.ensures.notes;
+      state = rw (step, ← c.loop-i.invariant.state) c.in_ok-note_call.ensures.state;
+    }

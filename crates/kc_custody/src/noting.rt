@@ -1,0 +1,53 @@
+//! The notes on a call, and on calls in order.
+ghost use Rattle.std.specs.Prelude.{◌≡◌, ◌+◌, ◌^◌, ◌++◌, ◌<◌, length, IfOk, OnOk};
+ghost use Rattle.kc_model.specs.Next.{next, state_after};
+ghost use Rattle.kc_remarks.specs.Remarks.{notes_by, notes_from};
+
+use crate::naming::named_by;
+use crate::telling::tell_call;
+use kc_core::KCore;
+use kc_remarks::{Note, note_events, remark_told};
+use kc_types::{Call, Memory, Reply};
+use std::alloc::Global;
+
+/// Makes a call, and adds its notes; the call has this line in its trace. After `Memory`, where a growth was refused, the call
+/// may be done, and its notes lacking.
+pub fn note_call(
+    alloc: Global,
+    core: &mut KCore,
+    call: &Call,
+    line: u32,
+    notes: &mut Vec<Note>,
+) -> Result<Reply, Memory>
+    ensures reply { IfOk result (λ reply. reply ≡ (next core.old call.now).0) }
+    ensures state { OnOk result (core.new ≡ (next core.old call.now).1) }
+    ensures notes { OnOk result (notes.new.items ≡ notes.old.items ++ notes_by line core.old call.now) }
+{
+    let named = named_by(core, call);
+    let mut events = Vec::new(alloc);
+    let reply = tell_call(alloc, core, call, line, &mut events)?;
+    if let Some(remark) = remark_told(line, named, call, &reply) {
+        notes.push(remark)?;
+    }
+    note_events(alloc, events, notes)?;
+    Ok(reply)
+}
+
+/// Makes some calls in order, of which the first has this line in the trace, and adds their notes. After `Memory`, where a
+/// growth was refused, some calls are done.
+pub fn note_calls(
+    alloc: Global,
+    core: &mut KCore,
+    calls: &[Call],
+    first: u32,
+    notes: &mut Vec<Note>,
+) -> Result<(), Memory>
+    requires { first + length calls.now < 2 ^ 32 }
+    ensures notes { OnOk result (notes.new.items ≡ notes.old.items ++ notes_from first core.old calls.now) }
+    ensures state { OnOk result (core.new ≡ state_after core.old calls.now) }
+{
+    for (i, call) in calls.iter().enumerate() {
+        note_call(alloc, core, call, first + i as u32, notes)?;
+    }
+    Ok(())
+}

@@ -1,0 +1,44 @@
+-- The notes on calls that go on by one call.
+use Rattle.std.proofs.Common.{ℕ, zero, suc, ◌≡◌, ◌<◌, ◌+◌, List, [], ◌∷◌, ◌++◌, length, take, get_or, refl, sym, ap, ◌∙◌, arith, append_assoc, append-nil}
+use Rattle.std.proofs.lemmas.List.{take_more}
+use Rattle.kc_types.specs.declared.call.Call.{Call}
+use Rattle.kc_model.specs.State.{State}
+use Rattle.kc_model.specs.Next.{next, state_after}
+use Rattle.kc_remarks.specs.declared.remark.Note.{Note}
+use Rattle.kc_remarks.specs.Remarks.{notes_by, notes_from}
+
+-- calls behind others
+pub notes-append : (n : ℕ) (m : State) (xs ys : List Call) → notes_from n m (xs ++ ys) ≡ notes_from n m xs ++ notes_from (n + length xs) (state_after m xs) ys
+notes-append n m [] ys = let e : n ≡ n + 0 = omega arith in ap (λ k. notes_from k m ys) e
+notes-append n m (x ∷ xs) ys =
+    let there : (n + 1) + length xs ≡ n + suc (length xs) = omega arith in
+    let rest = notes-append (n + 1) (next m x).1 xs ys ∙ ap (λ k. notes_from (n + 1) (next m x).1 xs ++ notes_from k (state_after (next m x).1 xs) ys) there in
+    ap (λ (more : List Note). notes_by n m x ++ more) rest
+    ∙ sym (append_assoc (notes_by n m x) (notes_from (n + 1) (next m x).1 xs) (notes_from (n + suc (length xs)) (state_after (next m x).1 xs) ys))
+
+length-front : {X : Type 0} (i : ℕ) (xs : List X) → i < length xs → length (take i xs) ≡ i
+length-front zero xs lt = refl
+length-front (suc i) [] lt = absurd (omega (arith, lt))
+length-front (suc i) (x ∷ xs) lt = let rest = length-front i xs (omega (arith, lt)) in omega (arith, rest)
+
+-- one call more
+pub notes-more : (n : ℕ) (m : State) (calls : List Call) (i : ℕ) (call : Call) → i < length calls → call ≡ get_or calls i call
+    → notes_from n m (take (i + 1) calls) ≡ notes_from n m (take i calls) ++ notes_by (n + i) (state_after m (take i calls)) call
+notes-more n m calls i call lt is =
+    let front = take i calls in
+    let old = state_after m front in
+    let last : take (i + 1) calls ≡ front ++ call ∷ [] = take_more calls i call lt ∙ ap (λ x. front ++ x ∷ []) (sym is) in
+    ap (notes_from n m) last
+    ∙ notes-append n m front (call ∷ [])
+    ∙ ap (λ k. notes_from n m front ++ notes_from (n + k) old (call ∷ [])) (length-front i calls lt)
+    ∙ ap (λ (xs : List Note). notes_from n m front ++ xs) (append-nil (notes_by (n + i) old call))
+
+-- the same behind what was noted before
+pub calls-noted : (n : ℕ) (m old : State) (calls : List Call) (i : ℕ) (call : Call) (before told now : List Note) → i < length calls → call ≡ get_or calls i call
+    → told ≡ before ++ notes_from n m (take i calls) → old ≡ state_after m (take i calls) → now ≡ told ++ notes_by (n + i) old call → now ≡ before ++ notes_from n m (take (i + 1) calls)
+calls-noted n m old calls i call before told now lt is so_far from added =
+    added
+    ∙ ap (λ (xs : List Note). xs ++ notes_by (n + i) old call) so_far
+    ∙ append_assoc before (notes_from n m (take i calls)) (notes_by (n + i) old call)
+    ∙ ap (λ (s : State). before ++ (notes_from n m (take i calls) ++ notes_by (n + i) s call)) from
+    ∙ ap (λ (xs : List Note). before ++ xs) (sym (notes-more n m calls i call lt is))

@@ -1,0 +1,12 @@
+//! Laws of remarks.
+ghost use Rattle.std.specs.Prelude.{◌≡◌, List, filter, length};
+ghost use Rattle.kc_types.specs.declared.call.Call.{Call};
+ghost use Rattle.kc_model.specs.State.{State};
+ghost use Rattle.kc_model.specs.Next.{replies_from};
+ghost use Rattle.kc_remarks.specs.Remarks.{notes};
+ghost use Rattle.kc_remarks.specs.Denials.{is_denied, is_denial};
+
+/// As many calls are noted as denied as replies refuse or reject one.
+pub fn denied()
+    ensures { (m : State) (calls : List Call) → length (filter is_denied (notes m calls)) ≡ length (filter is_denial (replies_from m calls)) }
+{}

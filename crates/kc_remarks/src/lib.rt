@@ -1,0 +1,10 @@
+//! What an auditor may want to see beside custody: each call that was refused or rejected, and each read and write of the host
+//! that a VM's frame served; never bytes.
+#![tactic(auto)]
+
+pub mod laws;
+mod remark;
+mod telling;
+
+pub use remark::{Access, CallKind, Denial, Denied, NamedFrame, Note, Remarks};
+pub use telling::{note_events, remark_told};

@@ -1,0 +1,84 @@
+-- How notes are spelled: an object of JSON (RFC 8259) a line. No bytes of a page stand in one.
+use Rattle.std.specs.Prelude.{ℕ, List, [], ◌∷◌, ◌++◌, codes, length, Option, Some, None}
+use Rattle.std.specs.List.{flat_map}
+use Rattle.kc_types.specs.Configuration.{Configuration}
+use Rattle.kc_types.specs.Refusals.{name_of}
+use Rattle.kc_remarks.specs.declared.remark.CallKind.{CallKind}
+use Rattle.kc_remarks.specs.declared.remark.CallKind.TheVariants.{Take, Give, HostFault, HostRead, HostWrite, RegisterVm, RegisterVcpu, SetBoot, Remap, Verify, Map, GuestRead, GuestWrite, Grant, Revoke, GrantRange, RevokeRange, Drop, Clear}
+use Rattle.kc_remarks.specs.declared.remark.NamedFrame.{NamedFrame}
+use Rattle.kc_remarks.specs.declared.remark.Denial.{Denial}
+use Rattle.kc_remarks.specs.declared.remark.Denial.TheVariants.{Refused, Rejected}
+use Rattle.kc_remarks.specs.declared.remark.Denied.{Denied}
+use Rattle.kc_remarks.specs.declared.remark.Access.{Access}
+use Rattle.kc_remarks.specs.declared.remark.Note.{Note}
+use Rattle.kc_remarks.specs.declared.remark.Note.TheVariants as note
+use Rattle.kc_trace.specs.CustodyText.{owner_text, number_text, member, event_line, header_line, end_line}
+
+-- the name of a call, as in traces
+abbrev pub kind_text : CallKind → List ℕ
+kind_text Take = codes "take"
+kind_text Give = codes "give"
+kind_text HostFault = codes "hfault"
+kind_text HostRead = codes "hread"
+kind_text HostWrite = codes "hwrite"
+kind_text RegisterVm = codes "regvm"
+kind_text RegisterVcpu = codes "regvcpu"
+kind_text SetBoot = codes "setboot"
+kind_text Remap = codes "remap"
+kind_text Verify = codes "verify"
+kind_text Map = codes "map"
+kind_text GuestRead = codes "gread"
+kind_text GuestWrite = codes "gwrite"
+kind_text Grant = codes "grant"
+kind_text Revoke = codes "revoke"
+kind_text GrantRange = codes "grantr"
+kind_text RevokeRange = codes "revoker"
+kind_text Drop = codes "drop"
+kind_text Clear = codes "clear"
+
+-- what the line of each remark begins with
+abbrev pub head_text : ℕ → CallKind → List ℕ
+head_text line call = member (codes "{\"line\":") line ++ (codes ",\"call\":\"" ++ (kind_text call ++ codes "\""))
+
+abbrev pub reason_text : Denial → List ℕ
+reason_text (Refused refusal) = codes ",\"refused\":\"" ++ (name_of refusal ++ codes "\"")
+reason_text (Rejected image) = member (codes ",\"rejected\":") image
+
+abbrev pub slot_text : Option ℕ → List ℕ
+slot_text slot = codes ",\"slot\":" ++ number_text slot
+
+abbrev pub named_text : Option NamedFrame → List ℕ
+named_text None = codes ",\"frame\":null,\"owner\":null,\"gfn\":null"
+named_text (Some named) = member (codes ",\"frame\":") named.frame ++ (codes ",\"owner\":" ++ (owner_text named.owner ++ (codes ",\"gfn\":" ++ number_text named.gfn)))
+
+-- the line of a call that was refused or rejected, with its newline
+abbrev pub denied_line : Denied → List ℕ
+denied_line told = head_text told.line told.call ++ (reason_text told.reason ++ (slot_text told.slot ++ (named_text told.named ++ (codes "}" ++ 10 ∷ []))))
+
+-- the line of an access of the host's, with its newline
+abbrev pub access_line : Access → List ℕ
+access_line told = head_text told.line told.call ++ (member (codes ",\"frame\":") told.frame ++ (member (codes ",\"vm\":") told.vm ++ (codes ",\"gfn\":" ++ (number_text told.gfn
+    ++ (member (codes ",\"off\":") told.offset ++ (member (codes ",\"len\":") told.len ++ (codes "}" ++ 10 ∷ [])))))))
+
+-- a note's line, if it has one
+abbrev pub note_line : Note → List ℕ
+note_line (note.Denied told) = denied_line told
+note_line (note.Access told) = access_line told
+note_line (note.Event told) = event_line told
+
+-- the text of these notes on a trace of so many calls
+abbrev pub notes_text_of : Configuration → ℕ → List Note → List ℕ
+notes_text_of config calls told = header_line config ++ (flat_map note_line told ++ end_line calls (length told))
+
+-- no longer text is made of a beginning, a reason, a slot, a frame
+abbrev pub longest_head : ℕ
+longest_head = 60
+
+abbrev pub longest_reason : ℕ
+longest_reason = 40
+
+abbrev pub longest_slot : ℕ
+longest_slot = 20
+
+abbrev pub longest_named : ℕ
+longest_named = 90
