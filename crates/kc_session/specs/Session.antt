@@ -39,7 +39,7 @@ changes_to log call = frame_changes_by (length log.entries + first_line) log.sta
 abbrev pub with_call : Kept → Call → Kept
 with_call kept call = record { log = longer kept.log call; changes = changes_to kept.log call }
 
--- the call is the asker's; where nobody is named, it is anybody's
+-- the call is the asker's; if nobody is named, it is anybody's
 abbrev pub IsOf : Option Actor → Call → Type 0
 IsOf None call = Unit {0}
 IsOf (Some asker) call = actor call ≡ asker
@@ -64,7 +64,7 @@ IsUnmade asker kept call NotYours = IsAnothers asker call
 IsUnmade asker kept call HistoryFull = IsOf asker call × (length kept.log.entries ≡ call_limit)
 IsUnmade asker kept call Memory = Unit {0}
 
--- why a line is not answered: it is no call, or it is one that is not made, or memory was short
+-- why a line is not answered: it is not a call, or it is one that is not made, or memory was short
 abbrev pub IsUnanswered : Option Actor → Kept → List ℕ → AskFault → Type 0
 IsUnanswered asker kept line BadLine = call_of line ≡ None
 IsUnanswered asker kept line Memory = Unit {0}

@@ -86,7 +86,7 @@ fn note_each(witness: &mut Witness, entries: &[Entry])
     }
 }
 
-/// Whether a call is the asker's; where nobody is named, it is anybody's.
+/// Whether a call is the asker's; if nobody is named, it is anybody's.
 fn is_of(asker: Option<Actor>, call: &Call) -> bool
     ensures yes { result ≡ true → IsOf asker call.now }
     ensures no { result ≡ false → IsAnothers asker call.now }
@@ -149,8 +149,8 @@ impl Session {
         })
     }
 
-    /// Makes a call if it is the asker's, or anybody's if nobody is named: its reply. `NotYours` where it is another's,
-    /// `HistoryFull` where the volume has 65,536 calls, `Memory` where a growth was refused: all memory is taken before the
+    /// Makes a call if it is the asker's, or anybody's if nobody is named: its reply. `NotYours` if it is another's,
+    /// `HistoryFull` if the volume has 65,536 calls, `Memory` if a growth was refused: all memory is taken before the
     /// call, so that nothing has changed then.
     pub fn make(&mut self, asker: Option<Actor>, call: Call) -> Result<Reply, AskFault>
         requires { IsRanged call }
@@ -177,7 +177,7 @@ impl Session {
     }
 
     /// Answers the call that a line is, given without its newline, as `make` does: the line of its reply, with its newline.
-    /// `BadLine` where it is no call, `Memory` where a growth was refused, whatever the line is.
+    /// `BadLine` if it is not a call, `Memory` if a growth was refused, whatever the line is.
     pub fn ask(&mut self, asker: Option<Actor>, line: &[u8]) -> Result<Vec<u8>, AskFault>
         ensures reply { IfOk result (λ told. IsAnswer asker self.old self.new line.now told.items) }
         ensures short { IfOk result (λ told. vec_len told ≤ longest_reply) }
@@ -193,7 +193,7 @@ impl Session {
         Ok(told)
     }
 
-    /// What the last call that was answered changed of the custody of frames, in rising order of frames; nothing where no
+    /// What the last call that was answered changed of the custody of frames, in rising order of frames; nothing if no
     /// call was.
     pub fn changes(&self) -> &[FrameChange]
         ensures { result.now ≡ self.now.changes }

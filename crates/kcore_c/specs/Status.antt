@@ -1,4 +1,4 @@
--- What each function says of a session by its status. A session is the volume that it fills, with what its last call changed; there is none where it is closed.
+-- What each function says of a session by its status. A session is the volume that it fills, with what its last call changed; there is none if it is closed.
 use Rattle.std.specs.Prelude.{◌≡◌, ◌≤◌, ◌<◌, ◌+◌, ℕ, List, Option, Some, None, Ok, IsSome, length, map, take, drop, slice_get, option_map}
 use Rattle.std.specs.List.{concat}
 use Rattle.kc_types.specs.Configuration.{Configuration, slot_count}
@@ -62,7 +62,7 @@ BootSays old new text AlreadyOpen = IsSome old × (new ≡ old)
 BootSays old new text (Config fault) = (old ≡ None) × (new ≡ None) × ConfigFails fault (config_in text)
 BootSays old new text _ = ⊥
 
--- asking a session by a line, as an actor or as nobody, with room for so many bytes
+-- asking a session by a line, as an actor or as nobody, for a reply into a buffer of this many bytes
 abbrev pub CallSays : Option Actor → Option Kept → Option Kept → List ℕ → ℕ → List ℕ → Status → Type 0
 CallSays asker (Some old) (Some new) line room bytes Done = IsAnswer asker old new line bytes
 CallSays asker (Some old) new line room bytes NoRoom = (room < longest_reply) × (new ≡ Some old)
@@ -70,7 +70,7 @@ CallSays asker (Some old) new line room bytes (Ask fault) = (longest_reply ≤ r
 CallSays asker None new line room bytes Closed = new ≡ None
 CallSays asker _ _ line room bytes _ = ⊥
 
--- making a call by numbers and bytes, as an actor or as nobody, with room for so many bytes; an answer is reported where a call is made
+-- making a call by numbers and bytes, as an actor or as nobody, in a buffer of this many bytes; an answer is reported if a call is made
 abbrev pub DoSays : Option Actor → Option Kept → Option Kept → Request → List ℕ → ℕ → List ℕ → Answer → Answer → Status → Type 0
 DoSays asker (Some old) (Some new) request given room bytes before after Done = IsDone asker old new request given bytes after
 DoSays asker (Some old) new request given room bytes before after NoRoom = (room < page_size) × (new ≡ Some old) × (after ≡ before)
@@ -80,35 +80,35 @@ DoSays asker (Some old) new request given room bytes before after (Ask fault) = 
 DoSays asker None new request given room bytes before after Closed = (new ≡ None) × (after ≡ before)
 DoSays asker _ _ _ _ _ _ _ _ _ = ⊥
 
--- telling a change of a frame's custody by the last call that was answered
+-- a change of a frame's custody by the last call that was answered
 abbrev pub ChangeSays : Option Kept → ℕ → Change → Change → Status → Type 0
 ChangeSays (Some kept) number old new Done = option_map change_of (slice_get kept.changes number) ≡ Some new
 ChangeSays (Some kept) number old new NoSuchChange = (slice_get kept.changes number ≡ None) × (new ≡ old)
 ChangeSays None number old new Closed = new ≡ old
 ChangeSays _ _ _ _ _ = ⊥
 
--- telling all these changes, in front of a buffer's other places; how many there are is told in any case
+-- all these changes, in front of a buffer's other places; how many there are is reported in any case
 abbrev pub ChangesSays : Option Kept → List Change → List Change → ℕ → Status → Type 0
 ChangesSays (Some kept) old new count Done = (count ≡ length kept.changes) × (count ≤ length old) × (take count new ≡ map change_of kept.changes) × (drop count new ≡ drop count old)
 ChangesSays (Some kept) old new count NoRoom = (count ≡ length kept.changes) × (length old < count) × (new ≡ old)
 ChangesSays None old new count Closed = (count ≡ 0) × (new ≡ old)
 ChangesSays _ _ _ _ _ = ⊥
 
--- telling the custody of a frame
+-- the custody of a frame
 abbrev pub RecordSays : Option Kept → ℕ → Record → Record → Status → Type 0
 RecordSays (Some kept) frame old new Done = (frame < kept.log.state.config.frames) × (new ≡ record_of (custody_at kept.log.state frame))
 RecordSays (Some kept) frame old new NoSuchFrame = (kept.log.state.config.frames ≤ frame) × (new ≡ old)
 RecordSays None frame old new Closed = new ≡ old
 RecordSays _ _ _ _ _ = ⊥
 
--- telling the frame at a guest frame of a slot
+-- the frame at a guest frame of a slot
 abbrev pub FrameSays : Option Kept → ℕ → ℕ → ℕ → ℕ → Status → Type 0
 FrameSays (Some kept) vm gfn old new Done = mapped_at kept.log.state vm gfn ≡ Some new
 FrameSays (Some kept) vm gfn old new NoSuchFrame = (mapped_at kept.log.state vm gfn ≡ None) × (new ≡ old)
 FrameSays None vm gfn old new Closed = new ≡ old
 FrameSays _ _ _ _ _ _ = ⊥
 
--- telling the next frame of an owner
+-- the next frame of an owner
 abbrev pub NextSays : Option Kept → ℕ → ℕ → ℕ → ℕ → ℕ → Status → Type 0
 NextSays (Some kept) owner vm from old new Done = IsNextOf kept.log.state owner vm from new
 NextSays (Some kept) owner vm from old new NoSuchFrame = HasNoneOf kept.log.state owner vm from × (new ≡ old)

@@ -156,7 +156,7 @@ pub extern "C" fn kcore_change(
     look_ups::change(alloc, core, number, change).code()
 }
 
-/// Reports all these changes, the first `count` of the buffer, of which the rest stays; where they have no room, how many
+/// Reports all these changes, the first `count` of the buffer, of which the rest stays; if they have no room, how many
 /// there are.
 #[unsafe(no_mangle)]
 pub extern "C" fn kcore_changes(

@@ -1,4 +1,4 @@
-//! What is read of the session behind a handle.
+//! What is read of a handle's session.
 ghost use Rattle.std.specs.Prelude.{◌≡◌};
 ghost use Rattle.kcore_c.specs.Status.{ChangeSays, ChangesSays, RecordSays, FrameSays, NextSays, SizesSays, AreSizes};
 

@@ -106,7 +106,7 @@ fn numbered(request: Request) -> Option<Call>
     }
 }
 
-/// Bytes of a call; none where they are too many or too few.
+/// Bytes of a call; `None` if they are too many or too few.
 fn data_of(alloc: Global, bytes: &[u8]) -> Result<Option<Data>, AllocError>
     ensures value { IfOk result (λ made. made ≡ if is_data bytes.now then Some bytes.now else None) }
     ensures within { IfOk result (λ made. IfSome made IsData) }
