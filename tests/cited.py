@@ -175,6 +175,7 @@ def words_of_code(tree):
     """Every word of the code: sources, definitions, proofs and scripts, but for those that make mistakes."""
     folders = "crates", "tests", "bench", "bin", "fleet", "include", "completions", "stories"
     files = [file for folder in folders for file in tree.below(folder) if file != "tests/mistakes.py"]
+    files = [file for file in files if not file.endswith(".md")]
     return set(tree.crates).union(*(words_of(tree.text(file)) for file in files))
 
 

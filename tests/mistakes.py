@@ -70,6 +70,7 @@ MISTAKES = (
     Mistake("limits", "docs/RULES.md", "(256 MiB)", "(512 MiB)"),
     Mistake("limits", "docs/RULES.md", "| 0 to 100 |", "| 0 to 101 |"),
     Mistake("examples", "examples/README.md", "| `two-frames` |", "| `three-frames` |"),
+    Mistake("examples", "stories/README.md", "| `ranges` |", "| `range` |"),
     Mistake("examples", "docs/TEXTS.md", '{"finding":"chain 1"}', '{"finding":"chain 3"}'),
     Mistake("functions", "docs/EMBED.md", "| `kcore_turn` |", "| `kcore_next` |"),
     Mistake("functions", "include/kcore.h", "uint32_t kcore_turn(", "uint32_t kcore_next("),
