@@ -109,7 +109,7 @@ class Contracts:
 
 
 # Paths and names that any document may cite.
-ENDINGS = (".rt", ".antt", ".md", ".edits", ".c", ".h", ".svg", ".py", ".txt", ".bash", ".1", ".stdout", ".args")
+ENDINGS = (".rt", ".antt", ".md", ".edits", ".c", ".h", ".svg", ".py", ".txt", ".bash", ".zsh", ".fish", ".1", ".stdout", ".args")
 # What is built, installed, somebody's own or a stand-in for a name.
 ELSEWHERE = re.compile(r"[/~]|(share|lib|libexec|out)/|https?:|(.*/)?(FILE|FOLDER|FUNCTION|LIST|NAME|PREFIX)\b")
 PATH = re.compile(r"[\w.][\w./-]*\Z")
