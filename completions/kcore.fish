@@ -16,7 +16,7 @@ complete -c kcore -n 'not __fish_seen_subcommand_from help' -s h -l help -d 'Pri
 complete -c kcore -n '__fish_seen_subcommand_from replay live custody' -l config -rF -d 'The machine, as JSON'
 complete -c kcore -n '__fish_seen_subcommand_from replay custody' -l from -rF -d 'Begin in the state of this text'
 complete -c kcore -n '__fish_seen_subcommand_from replay' -l to -rF -d 'Compare the state left with this text'
-complete -c kcore -n '__fish_seen_subcommand_from replay live' -l workers -xa '(seq 64)' -d 'Up to so many threads'
+complete -c kcore -n '__fish_seen_subcommand_from replay live' -l workers -xa '(seq 64)' -d 'Use up to N threads'
 complete -c kcore -n '__fish_seen_subcommand_from replay' -l dump -d 'Write the dump of the core'
 complete -c kcore -n '__fish_seen_subcommand_from replay' -l state -d 'Write the text of the state'
 complete -c kcore -n '__fish_seen_subcommand_from replay' -l blank -d 'Zero the pages of active VMs first'

@@ -4,7 +4,7 @@ _kcore() {
     local config='--config=[the machine, as JSON]:file:_files'
     local from='--from=[begin in the state of this text]:file:_files'
     local to='--to=[compare the state left with this text]:file:_files'
-    local workers='--workers=[up to so many threads]:number:({1..64})'
+    local workers='--workers=[use up to N threads]:number:({1..64})'
     local dump='--dump[write the dump of the core]'
     local state_text='--state[write the text of the state]'
     local blank='--blank[zero the pages of active VMs first]'
