@@ -20,7 +20,7 @@ _kcore() {
         live) words='--config --workers --explain --help' ;;
         custody) words='--config --from --vm --summary --svg --explain --help' ;;
         audit) words='--all --explain --help' ;;
-        redact) words='--explain --help' ;;
+        redact) words='--config --from --host --explain --help' ;;
         help) [ "$COMP_CWORD" -gt 2 ] || words='replay live custody audit redact help' ;;
     esac
     mapfile -t COMPREPLY < <(compgen -W "$words" -- "$word")

@@ -13,8 +13,8 @@ complete -c kcore -n "__fish_seen_subcommand_from help; and not __fish_seen_subc
     -a "$commands"
 
 complete -c kcore -n 'not __fish_seen_subcommand_from help' -s h -l help -d 'Print help'
-complete -c kcore -n '__fish_seen_subcommand_from replay live custody' -l config -rF -d 'The machine, as JSON'
-complete -c kcore -n '__fish_seen_subcommand_from replay custody' -l from -rF -d 'Begin in the state of this text'
+complete -c kcore -n '__fish_seen_subcommand_from replay live custody redact' -l config -rF -d 'The machine, as JSON'
+complete -c kcore -n '__fish_seen_subcommand_from replay custody redact' -l from -rF -d 'Begin in the state of this text'
 complete -c kcore -n '__fish_seen_subcommand_from replay' -l to -rF -d 'Compare the state left with this text'
 complete -c kcore -n '__fish_seen_subcommand_from replay live' -l workers -xa '(seq 64)' -d 'Use up to N threads'
 complete -c kcore -n '__fish_seen_subcommand_from replay' -l dump -d 'Write the dump of the core'
@@ -24,4 +24,5 @@ complete -c kcore -n '__fish_seen_subcommand_from custody' -l vm -xa '(seq 0 63)
 complete -c kcore -n '__fish_seen_subcommand_from custody' -l summary -d 'Write the life of each VM'
 complete -c kcore -n '__fish_seen_subcommand_from custody' -l svg -d 'Write a picture'
 complete -c kcore -n '__fish_seen_subcommand_from audit' -l all -d 'Write each finding'
+complete -c kcore -n '__fish_seen_subcommand_from redact' -l host -d 'Blank also what the host writes to active VMs'
 complete -c kcore -n '__fish_seen_subcommand_from replay live custody audit redact' -l explain -d 'Say more of a fault'

@@ -12,6 +12,7 @@ _kcore() {
     local summary='--summary[write the life of each VM]'
     local svg='--svg[write a picture]'
     local all='--all[write each finding]'
+    local host='--host[blank also what the host writes to active VMs]'
     local explain='--explain[say more of a fault]'
     local -a help=('(-h --help)'{-h,--help}'[print help]')
     local -a version=('(-V --version)'{-V,--version}'[print the version]')
@@ -36,7 +37,7 @@ _kcore() {
         live) _arguments $config $workers $explain $help ;;
         custody) _arguments $config $from $vm $summary $svg $explain $help ;;
         audit) _arguments $all $explain $help ;;
-        redact) _arguments $explain $help ;;
+        redact) _arguments $config $from $host $explain $help ;;
         help) (( CURRENT > 2 )) || _describe -t commands command commands ;;
     esac
 }

@@ -1,9 +1,10 @@
-/* The trusted core in a program of your own: link with -lkcore. docs/EMBED.md says more.
+/* The trusted core in a program of your own: link with -lkcore. docs/EMBED.md says more, and what a monitor of virtual
+ * machines owes.
  *
  * What each function says below of its status, of *used and of the buffer is proved, for a caller that keeps to this, which
  * nothing checks:
- *  - a pointer and the length behind it are bytes of the caller's, `used` is one number, and nothing else uses them
- *    while the call runs; buffers, `used` and session do not overlap;
+ *  - a pointer and the length after it are bytes of the caller's, or as many changes, and any other pointer is to one
+ *    value of its type; nothing else uses them while the call runs, and they and the session do not overlap;
  *  - a session begins as {0}, and then only these functions change it; it is not copied while it is open;
  *  - one thread at a time uses a session, and hands it on by a lock, or by a thread's start or end; no function is called
  *    by a signal handler, or by the forked child of a process with threads;
@@ -38,8 +39,84 @@ enum kcore_status {
     KCORE_BAD_FRAMES = 10,     /* its frames are refused */
     KCORE_BAD_CORE_HOST = 11,  /* its core and host are refused */
     KCORE_BAD_LEAVES = 12,     /* its leaves are refused */
-    KCORE_TOO_MANY_DIGESTS = 13 /* it approves too many digests */
+    KCORE_TOO_MANY_DIGESTS = 13, /* it approves too many digests */
+    KCORE_NOT_YOURS = 14,      /* the call is another's than the one that asks */
+    KCORE_NO_SUCH_FRAME = 15,  /* there is no such frame, or none there */
+    KCORE_NO_SUCH_CHANGE = 16, /* the last call changed fewer frames */
+    KCORE_NO_SUCH_CALL = 17    /* no call has this number, or it has 1 to 4,096 bytes and the request has not */
 };
+
+/* Who owns a frame. */
+enum kcore_owner { KCORE_CORE = 0, KCORE_HOST = 1, KCORE_FREE = 2, KCORE_VM = 3 };
+
+/* No slot, no guest frame; as a vm that asks, the host. */
+#define KCORE_NONE UINT32_C(0xffffffff)
+
+/* The custody of a frame. */
+typedef struct {
+    uint32_t owner;   /* an enum kcore_owner */
+    uint32_t vm;      /* the slot of the VM that owns it, else KCORE_NONE */
+    uint32_t gfn;     /* the guest frame at which its VM sees it, else KCORE_NONE */
+    uint32_t share;   /* how many of its VM's grants are not revoked, 0 to 100 */
+    uint32_t present; /* 1 if the host has it mapped, else 0 */
+} kcore_record;
+
+/* A change of a frame's custody by a call. */
+typedef struct {
+    uint32_t frame;
+    kcore_record before, after;
+} kcore_frame_change;
+
+/* The calls by number, and what the numbers of each are, in the order of a trace's line. */
+enum kcore_call_number {
+    KCORE_TAKE = 0,
+    KCORE_GIVE = 1,     /* frame */
+    KCORE_HFAULT = 2,   /* frame */
+    KCORE_HREAD = 3,    /* frame, offset, length */
+    KCORE_HWRITE = 4,   /* frame, offset; bytes */
+    KCORE_REGVM = 5,    /* vm */
+    KCORE_REGVCPU = 6,  /* vm, vcpu */
+    KCORE_SETBOOT = 7,  /* vm, guest frame, length */
+    KCORE_REMAP = 8,    /* vm, image, frame */
+    KCORE_VERIFY = 9,   /* vm */
+    KCORE_MAP = 10,     /* vm, vcpu, frame */
+    KCORE_GREAD = 11,   /* vm, vcpu, guest frame, offset, length */
+    KCORE_GWRITE = 12,  /* vm, vcpu, guest frame, offset; bytes */
+    KCORE_GRANT = 13,   /* vm, vcpu, guest frame */
+    KCORE_REVOKE = 14,  /* vm, vcpu, guest frame */
+    KCORE_GRANTR = 15,  /* vm, vcpu, guest frame, count */
+    KCORE_REVOKER = 16, /* vm, vcpu, guest frame, count */
+    KCORE_DROP = 17,    /* vm, vcpu, guest frame */
+    KCORE_CLEAR = 18    /* vm */
+};
+
+/* A call by numbers. Those that it does not have are not read. */
+typedef struct {
+    uint32_t call; /* an enum kcore_call_number */
+    uint32_t number[5];
+} kcore_request;
+
+/* The replies by number, and what the number of each is; 0 if it has none. */
+enum kcore_reply_number {
+    KCORE_IS_DONE = 0,
+    KCORE_IS_FRAME = 1,    /* the frame */
+    KCORE_IS_IMAGE = 2,    /* the image */
+    KCORE_IS_DATA = 3,     /* how many bytes */
+    KCORE_IS_FAULT = 4,    /* the guest frame */
+    KCORE_IS_REJECTED = 5, /* the image */
+    KCORE_IS_REFUSED = 6   /* the refusal, 1 to 26: docs/RULES.md */
+};
+
+/* A reply by numbers. */
+typedef struct {
+    uint32_t kind; /* an enum kcore_reply_number */
+    uint32_t number;
+} kcore_answer;
+
+/* How many frames a core has, its own and the host's of them, its slots, and how many calls more its volume holds. */
+typedef struct {
+    uint32_t frames, core, host, slots, left;
+} kcore_size;
 
 /* How many bytes the longest reply has, and the longest line of a trace, each with its newline. */
 size_t kcore_longest_reply(void);
@@ -54,6 +131,40 @@ uint32_t kcore_boot(kcore *core, const uint8_t *config, size_t config_length);
  * session and buffer stay as they are, and *used is 0; after KCORE_MEMORY the same line may be asked again. */
 uint32_t kcore_call(kcore *core, const uint8_t *line, size_t line_length, uint8_t *out, size_t out_length,
                     size_t *used);
+
+/* Answers as kcore_call does if the line's call is of the one that asks: virtual processor vcpu of slot vm, or the host if
+ * vm is KCORE_NONE, whatever vcpu is. If it is another's, the status is KCORE_NOT_YOURS and nothing has changed: so no
+ * line that the host sends makes a guest's call, if the caller says truly who asks. kcore_call is for recorded traces and
+ * consoles, which have the calls of all. */
+uint32_t kcore_call_by(kcore *core, uint32_t vm, uint32_t vcpu, const uint8_t *line, size_t line_length, uint8_t *out,
+                       size_t out_length, size_t *used);
+
+/* Makes a call that is given by numbers, and for KCORE_HWRITE and KCORE_GWRITE by its 1 to 4,096 bytes, which no other call
+ * reads. The trace has its line, as if kcore_call had been asked. The reply is *answer, and its bytes are the first *used
+ * of the buffer, which has room for 4,096; the bytes after them stay. If it does not answer, session, buffer and *answer
+ * stay as they are, and *used is 0. Who asks is not tested: this is for replays and tests, as kcore_call is. */
+uint32_t kcore_do(kcore *core, const kcore_request *request, const uint8_t *bytes, size_t bytes_length, uint8_t *out,
+                  size_t out_length, size_t *used, kcore_answer *answer);
+
+/* Makes a call as kcore_do does if it is of the one that asks, as kcore_call_by has it: this is for a monitor. */
+uint32_t kcore_do_by(kcore *core, uint32_t vm, uint32_t vcpu, const kcore_request *request, const uint8_t *bytes,
+                     size_t bytes_length, uint8_t *out, size_t out_length, size_t *used, kcore_answer *answer);
+
+/* Reports what the last call that was answered changed of the custody of frames: a change, by its place from 0, in rising
+ * order of frames. Those from 0 to KCORE_NO_SUCH_CHANGE are all of them; a refused call has none. They stay until the next
+ * call is answered, also over kcore_turn. If there is no such change, *change stays. */
+uint32_t kcore_change(kcore *core, size_t number, kcore_frame_change *change);
+
+/* Reports all of them, in the first *count places of a buffer of this many changes; the places after them stay. If they
+ * have no room, the status is KCORE_NO_ROOM, the buffer stays, and *count is how many there are. */
+uint32_t kcore_changes(kcore *core, kcore_frame_change *changes, size_t changes_length, size_t *count);
+
+/* Report the custody of a frame; the frame at a guest frame of a slot; the first frame, from a number on, that has this
+ * owner (vm is a slot for KCORE_VM, else KCORE_NONE); and the core's sizes. What is not reported is not written. */
+uint32_t kcore_record_of(kcore *core, uint32_t frame, kcore_record *custody);
+uint32_t kcore_frame_of(kcore *core, uint32_t vm, uint32_t gfn, uint32_t *frame);
+uint32_t kcore_next(kcore *core, uint32_t owner, uint32_t vm, uint32_t from, uint32_t *frame);
+uint32_t kcore_sizes(kcore *core, kcore_size *size);
 
 /* Tells a line of the volume's trace, by its place from 0, with its newline: the header, then a line for each call that
  * was answered. The lines from 0 to KCORE_NO_SUCH_LINE, one after the other, are the trace. The bytes after the first *used

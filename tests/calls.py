@@ -55,10 +55,15 @@ def actor_of(line):
     return tuple(words[:2]) if name in GUESTS else ()
 
 
-def redacted(line):
-    """The call with zeros in the place of the bytes that a virtual processor writes, as many as they are."""
+def blanked(line):
+    """The call with zeros in the place of its bytes, as many as they are."""
     rest, _, data = line.rpartition(" ")
-    return f"{rest} {'0' * len(data)}" if line.startswith("gwrite ") else line
+    return f"{rest} {'0' * len(data)}"
+
+
+def redacted(line):
+    """The call with zeros in the place of the bytes that a virtual processor writes."""
+    return blanked(line) if line.startswith("gwrite ") else line
 
 
 def witnessed(made):

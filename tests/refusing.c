@@ -27,6 +27,58 @@ static int is_line(const char *line, size_t used) {
     return used == strlen(line) + 1 && memcmp(text, line, used - 1) == 0 && text[used - 1] == '\n';
 }
 
+/* The same by numbers, in the next volume, of the frames and the slot that the first one left. */
+static const struct {
+    kcore_request request;
+    const char *bytes;
+    kcore_answer answer;
+    const char *reply;
+} numbered[] = {{{KCORE_HFAULT, {3}}, "", {KCORE_IS_DONE, 0}, ""},
+                {{KCORE_HWRITE, {3, 0}}, "abc", {KCORE_IS_DONE, 0}, ""},
+                {{KCORE_HREAD, {3, 0, 3}}, "", {KCORE_IS_DATA, 3}, "abc"},
+                {{KCORE_HWRITE, {3, 8}}, "longer than what a value holds by itself", {KCORE_IS_DONE, 0}, ""},
+                {{KCORE_HREAD, {3, 8, 40}}, "", {KCORE_IS_DATA, 40}, "longer than what a value holds by itself"},
+                {{KCORE_REGVM, {1}}, "", {KCORE_IS_DONE, 0}, ""},
+                {{KCORE_REGVCPU, {1, 0}}, "", {KCORE_IS_DONE, 0}, ""},
+                {{KCORE_SETBOOT, {1, 0, 3}}, "", {KCORE_IS_IMAGE, 0}, ""},
+                {{KCORE_REMAP, {1, 0, 3}}, "", {KCORE_IS_DONE, 0}, ""},
+                {{KCORE_VERIFY, {1}}, "", {KCORE_IS_DONE, 0}, ""},
+                {{KCORE_GREAD, {1, 0, 1, 0, 1}}, "", {KCORE_IS_FAULT, 1}, ""},
+                {{KCORE_MAP, {1, 0, 4}}, "", {KCORE_IS_DONE, 0}, ""},
+                {{KCORE_GWRITE, {1, 0, 1, 0}}, "*", {KCORE_IS_DONE, 0}, ""},
+                {{KCORE_GRANTR, {1, 0, 0, 2}}, "", {KCORE_IS_DONE, 0}, ""},
+                {{KCORE_REVOKER, {1, 0, 0, 2}}, "", {KCORE_IS_DONE, 0}, ""},
+                {{KCORE_HREAD, {4, 0, 1}}, "", {KCORE_IS_REFUSED, 0}, ""},
+                {{KCORE_CLEAR, {1}}, "", {KCORE_IS_DONE, 0}, ""}};
+enum { NUMBERED = sizeof numbered / sizeof *numbered };
+
+/* Makes all of them: how many said KCORE_MEMORY, or less than 0. What says so leaves the answer, and how many calls the
+ * volume has room for. */
+static int run_numbered(kcore *core) {
+    int told = 0;
+    for (size_t n = 0; n < NUMBERED; n++) {
+        const char *bytes = numbered[n].bytes, *reply = numbered[n].reply;
+        uint32_t status, vm = KCORE_NONE;
+        kcore_answer answer = {99, 99};
+        kcore_size size;
+        size_t used = 1;
+        if (numbered[n].request.call >= KCORE_GREAD && numbered[n].request.call < KCORE_CLEAR) vm = 1;
+        while ((status = kcore_do_by(core, vm, 0, &numbered[n].request, (const uint8_t *)bytes, strlen(bytes), text, 4096, &used,
+                                     &answer)) == KCORE_MEMORY) {
+            told++;
+            if (used || answer.kind != 99 || kcore_sizes(core, &size) || size.left != 65536 - n) return -20;
+        }
+        if (status != KCORE_DONE || answer.kind != numbered[n].answer.kind) return -21;
+        if (answer.kind != KCORE_IS_REFUSED && answer.number != numbered[n].answer.number) return -22;
+        if (used != strlen(reply) || memcmp(text, reply, used)) return -23;
+    }
+    kcore_frame_change changes[3];
+    size_t count;
+    /* The two frames of the VM are nobody's now. */
+    if (kcore_changes(core, changes, 3, &count) || count != 2 || changes[0].frame != 3 || changes[1].frame != 4) return -24;
+    return changes[0].before.owner == KCORE_VM && changes[1].after.owner == KCORE_FREE ? told : -25;
+}
+
 /* A whole session in which one growth is refused, or none: how many functions said KCORE_MEMORY, or less than 0. */
 static int run(unsigned long at) {
     kcore core = {0};
@@ -72,6 +124,9 @@ static int run(unsigned long at) {
     if (status != KCORE_DONE) return -8;
     while ((status = kcore_line(&core, 1, text, sizeof text, &used)) == KCORE_MEMORY) told++;
     if (status != KCORE_NO_SUCH_LINE) return -9;
+    int more = run_numbered(&core);
+    if (more < 0) return more;
+    told += more;
     return kcore_end(&core) == KCORE_DONE && kcore_end(&core) == KCORE_CLOSED ? told : -10;
 }
 

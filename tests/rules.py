@@ -114,6 +114,15 @@ class Core:
     def guest(self, v, c):
         return self.no_vm(v), self.not_in(v, "active"), self.no_vcpu(v, c)
 
+    def redacted(self, line):
+        """The call, which is the next one, with zeros in the place of the bytes that a virtual processor writes, or the host
+        to a frame of an active VM."""
+        name, *words = line.split(" ")
+        if name != "hwrite" or int(words[0]) >= len(self.frames):
+            return calls.redacted(line)
+        owner = self.frames[int(words[0])].owner
+        return calls.blanked(line) if isinstance(owner, int) and self.slots[owner].phase == "active" else line
+
     # What several calls do.
     def at(self, v, g):
         return self.frames[self.slots[v].table[g]]

@@ -1,6 +1,6 @@
 """Volumes for tests/fuzz: a trace that is cut at any places, each piece replayed by itself, in any order, from the text
-of the state before it to that of the state after it; the same redacted, between blank states; and such texts
-damaged."""
+of the state before it to that of the state after it; the same redacted, also of what the host wrote to frames of active
+VMs, between blank states; and such texts damaged."""
 import hashlib
 import re
 
@@ -25,7 +25,9 @@ class Volume:
 
     def __init__(self, core, lines, told, before):
         self.lines, self.before = lines, before
-        self.replies = "".join(f"{core.answer(line)}\n" for line in lines)
+        # Each without the bytes of guests and the host's in active VMs' frames, as they are when it is made.
+        made = [(core.redacted(line), core.answer(line)) for line in lines]
+        self.hidden, self.replies = [line for line, _ in made], "".join(f"{reply}\n" for _, reply in made)
         self.custody = core.custody_text(len(lines), told)
         self.behind = state_text(core)
         self.dump = self.behind[self.behind.index("kcore-dump "):]
@@ -184,6 +186,19 @@ def blank_differs(rng, program, volume):
     return None
 
 
+def host_differs(rng, program, volume):
+    """What differs in a volume that is redacted of what the host writes to frames of active VMs too, or None."""
+    texts = ("from", volume.before), ("blank", blanked(volume.before))
+    starts = [["--from", program.file(name, text)] for name, text in texts]
+    if program.ran(volume.lines, "redact", "--host", *starts[rng.randrange(2)]) != (0, program.trace_of(volume.hidden), ""):
+        return "redacted with --host"
+    if program.ran(volume.hidden, "custody", *starts[rng.randrange(2)]) != (0, volume.custody, ""):
+        return "its custody, redacted with --host"
+    words = [*starts[1], "--blank", "--to", program.file("to", blanked(volume.behind))]
+    is_left = program.ran(volume.hidden, "replay", *words)[::2] == (0, "")
+    return None if is_left else "the blank state that it leaves, redacted with --host"
+
+
 def end_differs(rng, program, volume):
     """What differs where a volume is compared with another text than that of the state it leaves, or None."""
     other = volume.before if volume.before != volume.behind and rng.random() < 0.3 else damaged(rng, volume.behind)
@@ -215,7 +230,7 @@ def difference(rng, program, core, lines, told):
         differs = volume_differs(rng, program, volume)
         if differs:
             return f"volume {number} of {len(volumes)} (of {sizes} calls): {differs}"
-    for look in [blank_differs, damage_differs] + rng.sample([end_differs, damage_differs], 1):
+    for look in [blank_differs, host_differs, damage_differs] + rng.sample([end_differs, damage_differs], 1):
         number, volume = rng.choice(order)
         differs = look(rng, program, volume)
         if differs:

@@ -44,6 +44,9 @@ svg_rule = record (new_rule (codes "svg")) { long = Some (codes "svg"); action =
 abbrev pub all_rule : Rule
 all_rule = record (new_rule (codes "all")) { long = Some (codes "all"); action = Some SetTrue }
 
+abbrev pub host_rule : Rule
+host_rule = record (new_rule (codes "host")) { long = Some (codes "host"); action = Some SetTrue }
+
 -- and one that each subcommand has
 abbrev pub explain_rule : Rule
 explain_rule = record (new_rule (codes "explain")) { long = Some (codes "explain"); action = Some SetTrue }
@@ -61,7 +64,7 @@ abbrev pub audit : App
 audit = with_rule (with_rule (new_app (codes "audit")) all_rule) explain_rule
 
 abbrev pub redact : App
-redact = with_rule (new_app (codes "redact")) explain_rule
+redact = with_rule (with_rule (with_rule (with_rule (new_app (codes "redact")) config_rule) from_rule) host_rule) explain_rule
 
 -- the command with `replay` alone
 abbrev pub base : App

@@ -49,7 +49,7 @@ IsJobIn name rows (Live config workers explain) = (name ≡ codes "live") × Has
 IsJobIn name rows (Custody config from vm summary svg explain) = (name ≡ codes "custody") × HasPath (codes "config") rows config × HasPath (codes "from") rows from × (vm ≡ vm_in rows)
     × (IsTrue summary ↔ IsSet (codes "summary") rows) × (IsTrue svg ↔ IsSet (codes "svg") rows) × (IsTrue explain ↔ IsSet (codes "explain") rows)
 IsJobIn name rows (Audit all explain) = (name ≡ codes "audit") × (IsTrue all ↔ IsSet (codes "all") rows) × (IsTrue explain ↔ IsSet (codes "explain") rows)
-IsJobIn name rows (Redact explain) = (name ≡ codes "redact") × (IsTrue explain ↔ IsSet (codes "explain") rows)
+IsJobIn name rows (Redact config from host explain) = (name ≡ codes "redact") × HasPath (codes "config") rows config × HasPath (codes "from") rows from × (IsTrue host ↔ IsSet (codes "host") rows) × (IsTrue explain ↔ IsSet (codes "explain") rows)
 
 -- the same where there may be no subcommand: then it is as if `replay` stood there alone
 abbrev pub Asks : Option (Text × List Row) → Job → Type 0
@@ -57,7 +57,7 @@ Asks None (Replay config from to workers dump state blank explain) = HasOptions 
 Asks None (Live config workers explain) = ⊥
 Asks None (Custody config from vm summary svg explain) = ⊥
 Asks None (Audit all explain) = ⊥
-Asks None (Redact explain) = ⊥
+Asks None (Redact config from host explain) = ⊥
 Asks (Some found) job = IsJobIn found.0 found.1 job
 
 -- clap's rules find no fault in the words, and the job is what they hold for the program's command

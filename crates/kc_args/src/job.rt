@@ -3,7 +3,7 @@ ghost use Rattle.std.specs.Prelude.{◌≡◌, ◌↔◌, IfOk, IfErr, IsTrue, m
 ghost use Rattle.clap.specs.declared.builder.command.Command.TheViews.{out-Command as fields_of};
 ghost use Rattle.clap.specs.Words.{app_of, rule_of, found_of, rows_of, first_of};
 ghost use Rattle.clap.specs.Values.{kind_of};
-ghost use Rattle.kc_args.specs.Commands.{kcore, replay, live, custody, audit, redact, config_rule, from_rule, to_rule, workers_rule, dump_rule, state_rule, blank_rule, vm_rule, summary_rule, svg_rule, all_rule, explain_rule};
+ghost use Rattle.kc_args.specs.Commands.{kcore, replay, live, custody, audit, redact, config_rule, from_rule, to_rule, workers_rule, dump_rule, state_rule, blank_rule, vm_rule, summary_rule, svg_rule, all_rule, host_rule, explain_rule};
 ghost use Rattle.kc_args.specs.Jobs.{in_range, workers_in, slot_in, vm_in, IsSet, IsJob, IsJobIn, IsRefusal, HasStatus};
 
 use clap::error::ErrorKind;
@@ -53,8 +53,13 @@ pub enum Job<'a> {
         all: bool,
         explain: bool,
     },
-    /// Write the trace on standard input, with zeros in place of the bytes that VMs write.
+    /// Write the trace on standard input, with zeros in place of the bytes that VMs write, and with `host` also of those that
+    /// the host writes to a frame of a VM that is active then, if the calls begin with the configuration in a file where a path
+    /// is given, or in the state whose text is in the file `from`. `config` and `from` exclude each other, and both need `host`.
     Redact {
+        config: Option<&'a str>,
+        from: Option<&'a str>,
+        host: bool,
         explain: bool,
     },
 }
@@ -195,6 +200,16 @@ fn all_arg<'a>(alloc: Global) -> Arg<'a>
         .help("Write a line for each finding, and the report last")
 }
 
+fn host_arg<'a>(alloc: Global) -> Arg<'a>
+    ensures rule { rule_of result ≡ host_rule }
+    ensures local { result.global ≡ false }
+{
+    Arg::new(alloc, "host")
+        .long("host")
+        .action(ArgAction::SetTrue)
+        .help("Blank also what the host writes to frames of active VMs; this replays the trace")
+}
+
 fn explain_arg<'a>(alloc: Global) -> Arg<'a>
     ensures rule { rule_of result ≡ explain_rule }
     ensures local { result.global ≡ false }
@@ -273,6 +288,9 @@ fn redact_command<'a>(alloc: Global) -> Result<Command<'a>, AllocError>
     Command::new(alloc, "redact")
         .about("Write the trace on standard input with zeros in place of the bytes that VMs write")
         .override_usage("kcore redact [OPTIONS]")
+        .arg(config_arg(alloc))?
+        .arg(from_arg(alloc))?
+        .arg(host_arg(alloc))?
         .arg(explain_arg(alloc))
 }
 
@@ -383,10 +401,15 @@ fn job_in<'a>(name: &str, found: &ArgMatches<'a>) -> Job<'a>
         let all = is_set(found, "all");
         return Job::Audit { all, explain };
     }
-    if is_named(name, "redact") {
-        return Job::Redact { explain };
-    }
     let config = text_in(found, "config");
+    if is_named(name, "redact") {
+        return Job::Redact {
+            config,
+            from: text_in(found, "from"),
+            host: is_set(found, "host"),
+            explain,
+        };
+    }
     if is_named(name, "custody") {
         return Job::Custody {
             config,
@@ -420,7 +443,7 @@ fn job_in<'a>(name: &str, found: &ArgMatches<'a>) -> Job<'a>
 /// What the words, without the program's name, ask for: `replay` or `live`, with or without `--config PATH` and
 /// `--workers N` with a number from 1 to 64, `replay` also with `--from PATH`, `--to PATH`, `--dump`, `--state` and
 /// `--blank`; `custody`, with or without `--config PATH` and `--vm V` with a number from 0 to 63, `--summary` and `--svg`;
-/// `audit`, also with `--all`; `redact`; each also with `--explain`; and `replay` for no words at all.
+/// `audit`, also with `--all`; `redact`, also with `--config PATH`, `--from PATH` and `--host`; each also with `--explain`; and `replay` for no words at all.
 pub fn job_of<'a>(alloc: Global, words: &'a [&'a str]) -> Result<Job<'a>, ArgFault>
     // The job is what the words say by the command's rules, and only words that break them are refused.
     ensures job { IfOk result (IsJob (map (λ w. w.now) words.entry.now)) }

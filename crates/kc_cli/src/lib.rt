@@ -23,3 +23,4 @@ pub use kc_texts::{
 pub use live::live_text;
 pub use order::{ReplayForm, ReplayOrder};
 pub use replaying::{replay_text, replay_to_text};
+pub use starting::read_start;

@@ -81,7 +81,7 @@ fn read_core<C: Source>(
 
 /// Reads what the calls begin with to its end: the core in the boot state of a configuration, or in the state that a text
 /// tells. A source that fails, or that has more than 1,073,741,824 bytes, is `Read`.
-pub(crate) fn read_start<C: Source>(
+pub fn read_start<C: Source>(
     rt: &(impl Threads + Sync),
     alloc: Global,
     start: &mut C,

@@ -10,7 +10,7 @@ use Rattle.kc_custody.specs.Movable.{mapped_in}
 use Rattle.kc_types.specs.declared.custody.FrameChange.{FrameChange}
 use Rattle.kc_types.specs.declared.custody.Event.{Event}
 use Rattle.kc_core.proofs.Measuring.{range-more}
-use Rattle.kc_custody.specs.Marks.{settled, differs, frame_event}
+use Rattle.kc_custody.specs.Marks.{settled, differs, changed_from, frame_event}
 
 one-of : (at : Option ℕ) → cons_option at [] ≡ option_to_list at
 one-of None = refl
@@ -21,26 +21,32 @@ pub ranged-more : (get : ℕ → Option ℕ) (g n : ℕ) → filter_map get (ran
 ranged-more get g n = ap (filter_map get) (range-more g n) ∙ filter_map-append get (range_with_len g n) ((g + n) ∷ []) ∙ ap (λ xs. filter_map get (range_with_len g n) ++ xs) (one-of (get (g + n)))
 
 -- one mark more is compared
-pub settled-more : (new : State) (marks : List FrameChange) (i : ℕ) (mark : FrameChange) → i < length marks → mark ≡ get_or marks i mark
-    → map frame_event (filter differs (map (settled new) (take (i + 1) marks))) ≡ map frame_event (filter differs (map (settled new) (take i marks))) ++ cond (differs (settled new mark)) (frame_event (settled new mark) ∷ []) []
-settled-more new marks i mark lt is =
+pub changed-more : (new : State) (marks : List FrameChange) (i : ℕ) (mark : FrameChange) → i < length marks → mark ≡ get_or marks i mark
+    → changed_from new (take (i + 1) marks) ≡ changed_from new (take i marks) ++ cond (differs (settled new mark)) (settled new mark ∷ []) []
+changed-more new marks i mark lt is =
     let last : take (i + 1) marks ≡ take i marks ++ mark ∷ [] = take_more marks i mark lt ∙ ap (λ x. take i marks ++ x ∷ []) (sym is) in
-    ap (λ xs. map frame_event (filter differs (map (settled new) xs))) last
-    ∙ ap (λ xs. map frame_event (filter differs xs)) (map_push (settled new) (take i marks) mark)
-    ∙ ap (map frame_event) (filter-append differs (map (settled new) (take i marks)) (settled new mark ∷ []))
-    ∙ map-append frame_event (filter differs (map (settled new) (take i marks))) (cond (differs (settled new mark)) (settled new mark ∷ []) [])
-    ∙ ap (λ (xs : List Event). map frame_event (filter differs (map (settled new) (take i marks))) ++ xs) (one-or-none (differs (settled new mark)) (settled new mark))
+    ap (changed_from new) last
+    ∙ ap (filter differs) (map_push (settled new) (take i marks) mark)
+    ∙ filter-append differs (map (settled new) (take i marks)) (settled new mark ∷ [])
+
+-- one mark more is compared, as an event
+pub settled-more : (new : State) (marks : List FrameChange) (i : ℕ) (mark : FrameChange) → i < length marks → mark ≡ get_or marks i mark
+    → map frame_event (changed_from new (take (i + 1) marks)) ≡ map frame_event (changed_from new (take i marks)) ++ cond (differs (settled new mark)) (frame_event (settled new mark) ∷ []) []
+settled-more new marks i mark lt is =
+    ap (map frame_event) (changed-more new marks i mark lt is)
+    ∙ map-append frame_event (changed_from new (take i marks)) (cond (differs (settled new mark)) (settled new mark ∷ []) [])
+    ∙ ap (λ (xs : List Event). map frame_event (changed_from new (take i marks)) ++ xs) (one-or-none (differs (settled new mark)) (settled new mark))
   where
     one-or-none : (b : Bool) (told : FrameChange) → map frame_event (cond b (told ∷ []) []) ≡ cond b (frame_event told ∷ []) []
     one-or-none true told = refl
     one-or-none false told = refl
 
 -- it differs, or not
-pub told-one : (told fn before : List Event) (made : Event) (b : Bool) → b ≡ true → told ≡ (fn ++ before) ++ made ∷ [] → told ≡ fn ++ (before ++ cond b (made ∷ []) [])
+pub told-one : {X : Type 0} (told fn before : List X) (made : X) (b : Bool) → b ≡ true → told ≡ (fn ++ before) ++ made ∷ [] → told ≡ fn ++ (before ++ cond b (made ∷ []) [])
 told-one told fn before made true is e = e ∙ append_assoc fn before (made ∷ [])
 told-one told fn before made false is e = cc
 
-pub told-none : (fn before : List Event) (made : Event) (b : Bool) → b ≡ false → fn ++ before ≡ fn ++ (before ++ cond b (made ∷ []) [])
+pub told-none : {X : Type 0} (fn before : List X) (made : X) (b : Bool) → b ≡ false → fn ++ before ≡ fn ++ (before ++ cond b (made ∷ []) [])
 told-none fn before made false none = ap (λ xs. fn ++ xs) (sym (append-nil before))
 told-none fn before made true none = cc
 

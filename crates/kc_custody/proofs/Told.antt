@@ -1,5 +1,6 @@
 -- What is told of the frames that a call may change.
-use Rattle.std.proofs.Common.{ℕ, ◌≡◌, ◌<◌, ◌≤◌, inl, inr, Bool, true, false, cond, List, [], ◌∷◌, map, filter, length, refl, sym, ap, ◌∙◌, arith}
+use Rattle.std.proofs.Common.{ℕ, ◌≡◌, ◌<◌, ◌≤◌, inl, inr, Bool, true, false, cond, List, [], ◌∷◌, map, filter, length, refl, sym, ap, subst, ◌∙◌, arith, Option, Some, None}
+use Rattle.std.specs.Option.{option_to_list}
 use Rattle.std.proofs.lemmas.Bool.{cases_Bool, cases_lt}
 use Rattle.std.proofs.lemmas.List.{get_or_past}
 use Rattle.kc_types.specs.declared.call.Call.{Call}
@@ -13,7 +14,7 @@ use Rattle.kc_model.specs.Custody.{custody_at, custody_of, has_moved, frame_chan
 use Rattle.kc_model.proofs.States.Sizes.{sized-next}
 use Rattle.kc_model.proofs.Custody.Same.{not-moved}
 use Rattle.kc_custody.specs.Movable.{movable}
-use Rattle.kc_custody.specs.Marks.{mark_of, settled, differs}
+use Rattle.kc_custody.specs.Marks.{mark_of, settled, differs, changed_from}
 use Rattle.kc_custody.proofs.Ordered.{IsRisingFrom}
 use Rattle.kc_custody.proofs.Moved.{stays}
 use Rattle.kc_custody.proofs.Ranges.{filter-range}
@@ -58,3 +59,12 @@ told-is line m call fs is rising held =
     let at = moved-among m call f is moved in
     let lt = at.0 in
     (omega (arith, lt), held f at.1))))
+
+-- of a call that may change one frame at most
+rises : (at : Option ℕ) → IsRisingFrom 0 (option_to_list at)
+rises None = tt
+rises (Some f) = (omega arith, tt)
+
+pub told-only : (line : ℕ) (m : State) (call : Call) (at : Option ℕ) → IsLawful m → movable m call ≡ option_to_list at
+    → changed_from (next m call).1 (map (mark_of line m) (option_to_list at)) ≡ frame_changes_by line m (next m call).1
+told-only line m call at is same = told-is line m call (option_to_list at) is (rises at) (λ f has. subst (λ (fs : List ℕ). is_in fs f ≡ true) same has)

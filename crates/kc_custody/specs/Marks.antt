@@ -1,5 +1,5 @@
 -- What is noted of frames and of a slot before a call, to be compared after it.
-use Rattle.std.specs.Prelude.{ℕ, Bool, not, List, [], ◌∷◌, map, Option, Some, None, if◌then◌else◌}
+use Rattle.std.specs.Prelude.{ℕ, Bool, not, List, [], ◌∷◌, map, filter, Option, Some, None, if◌then◌else◌}
 use Rattle.std.specs.Option.{option_to_list}
 use Rattle.kc_types.specs.declared.call.Call.{Call}
 use Rattle.kc_types.specs.declared.call.Call.TheVariants.{HostRead, HostWrite, RegisterVm, Verify, Clear}
@@ -33,6 +33,10 @@ settled new mark = record mark { after = custody_at new mark.frame }
 
 abbrev pub differs : FrameChange → Bool
 differs mark = not (same_custody mark.before mark.after)
+
+-- the marks whose frame's custody differs in this state, with what it is there
+abbrev pub changed_from : State → List FrameChange → List FrameChange
+changed_from new marks = filter differs (map (settled new) marks)
 
 -- the slot whose phase a call may change
 abbrev pub turning : Call → Option ℕ

@@ -13,8 +13,11 @@ mod selected_lives;
 mod tallies;
 mod tally;
 mod telling;
+mod watching;
 
 pub use gathering::lives;
+pub use look_ups::custody_at;
 pub use selected::select;
 pub use selected_lives::select_lives;
 pub use telling::{tell_call, tell_calls};
+pub use watching::{note_marks, tell_marks};

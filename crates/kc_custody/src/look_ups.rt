@@ -20,7 +20,7 @@ pub(crate) fn same_custody(a: &Custody, b: &Custody) -> bool
 }
 
 /// The custody of a frame; one that does not exist is as one of the core's.
-pub(crate) fn custody_at(core: &KCore, frame: u32) -> Custody
+pub fn custody_at(core: &KCore, frame: u32) -> Custody
     ensures { result ≡ custody_at core.now frame }
 {
     match core.page_record(frame) {

@@ -37,7 +37,7 @@ fn vm_of(owner: Owner) -> Option<u32>
 }
 
 /// What stands of some frames before a call, in their order: changes of nothing yet.
-fn marks_of(
+pub(crate) fn marks_of(
     alloc: Global,
     core: &KCore,
     line: u32,

@@ -112,6 +112,13 @@ impl Book {
         self.entries.as_slice()
     }
 
+    /// The core as the calls so far left it.
+    pub fn core(&self) -> &KCore
+        ensures { result.now ≡ self.now.state }
+    {
+        &self.core
+    }
+
     /// Ends the history.
     pub fn close(self) -> History
         ensures same { result ≡ self }

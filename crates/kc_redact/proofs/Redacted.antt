@@ -1,5 +1,5 @@
 -- Redacted calls are those of a trace under the same header.
-use Rattle.std.proofs.Common.{ℕ, zero, suc, ◌≡◌, ◌≤◌, ◌<◌, ◌+◌, ◌-◌, ◌*◌, Bool, true, List, [], ◌∷◌, ◌++◌, map, take, length, replicate, All, refl, sym, ap, subst, ◌∙◌, arith, append_assoc, append-nil}
+use Rattle.std.proofs.Common.{ℕ, zero, suc, ◌≡◌, ◌+◌, ◌-◌, ◌*◌, Bool, true, false, List, [], ◌∷◌, ◌++◌, take, length, replicate, refl, sym, ap, ◌∙◌, arith, append_assoc, append-nil}
 use Rattle.std.proofs.lemmas.List.{length-replicate, length-map, take_all}
 use Rattle.std.specs.Prelude.{if◌then◌else◌}
 use Rattle.std.specs.List.{flat_map}
@@ -8,12 +8,20 @@ use Rattle.kc_types.specs.Bytes.{IsData}
 use Rattle.kc_types.specs.declared.version.Version.{Version}
 use Rattle.kc_types.specs.declared.version.Version.TheVariants.{One, Two}
 use Rattle.kc_types.specs.declared.call.Call.{Call}
-use Rattle.kc_types.specs.declared.call.Call.TheVariants.{GuestWrite}
+use Rattle.kc_types.specs.declared.call.Call.TheVariants.{Remap, HostWrite, GuestWrite}
+use Rattle.kc_model.specs.State.{State, frame_at}
+use Rattle.kc_model.specs.Next.{next}
+use Rattle.kc_model.specs.Lawful.{IsLawful}
+use Rattle.kc_model.specs.Custody.{custody}
+use Rattle.kc_model.specs.Events.{events}
+use Rattle.kc_model.specs.Redaction.{counts, keeps_images, KeepsImages, DifferInCalls}
+use Rattle.kc_model.specs.Blanking.{blank_state}
 use Rattle.kc_model.proofs.States.ZeroPage.{zeros-are_bytes}
-use Rattle.kc_model.proofs.Redaction.Blank.{told_alike}
+use Rattle.kc_model.proofs.Redaction.Traces.{bytes_decide_nothing}
+use Rattle.kc_model.proofs.Redaction.Blank.{told_alike, audited_blank}
 use Rattle.kc_trace.specs.Spelling.{lines_of, trace_header, text_of, stands_in}
 use Rattle.kc_trace.specs.Trace.{IsCallOf, AreCalls, IsTrace}
-use Rattle.kc_redact.specs.Redacted.{blanked, redacted_call, redacted_line, redacted, IsRedaction}
+use Rattle.kc_redact.specs.Redacted.{blanked, redacted_call, redacted_line, redacted, redacted_in, redacted_from, all_frames, DifferInBytes, IsRedaction, IsHostRedaction}
 
 -- ---- zeros as digits
 
@@ -72,6 +80,74 @@ is_redaction text other calls read written = record {
   };
   events = λ m is. (told_alike m calls is).events;
   custody = λ m is. (told_alike m calls is).custody;
+}
+
+-- ---- and so it is without what the host writes to frames of active VMs
+
+data-kept : (b : Bool) (bytes : List ℕ) → IsData bytes → IsData (if b then bytes else blanked bytes)
+data-kept true bytes is = is
+data-kept false bytes is = blanked-is bytes is
+
+host-is : (m : State) (version : Version) (call : Call) → IsCallOf version call → IsCallOf version (redacted_in all_frames m call)
+host-is m version (HostWrite f off bytes) is = ((is.0.0, is.0.1, data-kept (counts all_frames m f (frame_at m f).owner) bytes is.0.2), host-stands version is.1)
+  where
+    host-stands : (v : Version) → stands_in v (HostWrite f off bytes) ≡ true → stands_in v (redacted_in all_frames m (HostWrite f off bytes)) ≡ true
+    host-stands One h = refl
+    host-stands Two h = refl
+host-is m version (GuestWrite v c g off bytes) is = redacted-is version (GuestWrite v c g off bytes) is
+host-is m version _ is = is
+
+host-are : (m : State) (version : Version) (calls : List Call) → AreCalls version calls → AreCalls version (redacted_from m calls)
+host-are m version [] are = tt
+host-are m version (call ∷ calls) are = (host-is m version call are.0, host-are (next m call).1 version calls are.1)
+
+host-number : (m : State) (calls : List Call) → length (redacted_from m calls) ≡ length calls
+host-number m [] = refl
+host-number m (call ∷ calls) = ap suc (host-number (next m call).1 calls)
+
+-- calls differ in nothing from themselves, and no frame is one of those that are not kept
+same-calls : (m : State) (calls : List Call) → DifferInCalls all_frames m calls calls
+same-calls m [] = tt
+same-calls m (call ∷ calls) = (refl, same-calls (next m call).1 calls)
+
+keeps-call : (call : Call) → keeps_images all_frames call ≡ true
+keeps-call (Remap v i f) = refl
+keeps-call _ = refl
+
+keeps-all : (calls : List Call) → KeepsImages all_frames calls
+keeps-all [] = tt
+keeps-all (call ∷ calls) = (keeps-call call, keeps-all calls)
+
+-- the redacted calls from any such state say what they say from the blank one, and that is what the calls say
+record SaysTheSame (m n : State) (calls : List Call) : Type 0 where
+  pub events : events n (redacted_from m calls) ≡ events m calls
+  pub custody : custody n (redacted_from m calls) ≡ custody m calls
+
+says-the-same : (m n : State) (calls : List Call) → IsLawful m → IsLawful n → DifferInBytes all_frames m n → SaysTheSame m n calls
+says-the-same m n calls is other differ =
+    let others = redacted_from m calls in
+    let blank = audited_blank m calls is in
+    let here = bytes_decide_nothing m others is all_frames n others other differ (same-calls m others) (keeps-all others) in
+    let there = bytes_decide_nothing m others is all_frames (blank_state m) others blank.lawful blank.differs (same-calls m others) (keeps-all others) in
+    record {
+      events = here.events ∙ sym there.events ∙ blank.wholly.events;
+      custody = here.custody ∙ sym there.custody ∙ blank.wholly.custody;
+    }
+
+pub is_host_redaction : (m : State) (text other : List ℕ) (calls : List Call) → IsLawful m → (read : IsTrace text calls) → other ≡ text_of read.version (redacted_from m calls) → IsHostRedaction m text other calls
+is_host_redaction m text other calls is read written = record {
+  version = read.version;
+  read = read;
+  whole = read.whole;
+  written = written;
+  trace = record {
+    version = read.version;
+    whole = written;
+    each = host-are m read.version calls read.each;
+    few = let few = read.few in omega (arith, few, host-number m calls);
+  };
+  events = λ n lawful differ. (says-the-same m n calls is lawful differ).events;
+  custody = λ n lawful differ. (says-the-same m n calls is lawful differ).custody;
 }
 
 -- ---- line by line

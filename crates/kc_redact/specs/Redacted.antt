@@ -1,4 +1,4 @@
--- A trace without the bytes that virtual processors write, and what it still says.
+-- A trace without the bytes that virtual processors write, or the host to frames of active VMs, and what it still says.
 use Rattle.std.specs.Prelude.{ℕ, ◌≡◌, List, [], ◌∷◌, ◌++◌}
 use Rattle.kc_types.specs.declared.call.Call.{Call}
 use Rattle.kc_types.specs.declared.version.Version.{Version}
@@ -6,7 +6,8 @@ use Rattle.kc_model.specs.State.{State}
 use Rattle.kc_model.specs.Lawful.{IsLawful}
 use Rattle.kc_model.specs.Custody.{custody}
 use Rattle.kc_model.specs.Events.{events}
-pub use Rattle.kc_model.specs.Redaction.{blanked, redacted_call, redacted}
+pub use Rattle.kc_model.specs.Redaction.{blanked, redacted_call, redacted, redacted_in, all_frames, DifferInBytes}
+pub use Rattle.kc_model.specs.Blanking.{redacted_from}
 use Rattle.kc_trace.specs.Spelling.{line_of, text_of}
 use Rattle.kc_trace.specs.Trace.{IsTrace}
 
@@ -23,3 +24,13 @@ pub record IsRedaction (text other : List ℕ) (calls : List Call) : Type 0 wher
   pub trace : IsTrace other (redacted calls)
   pub events : (m : State) → IsLawful m → events m (redacted calls) ≡ events m calls
   pub custody : (m : State) → IsLawful m → custody m (redacted calls) ≡ custody m calls
+
+-- the text is a trace, and the other is, under the same header, that of its calls without these bytes, and without those that the host writes to a frame of a VM that is active just before the call, if the calls begin in this state; from this state, and from every lawful one that differs from it in bytes of active VMs' frames alone, the other's calls have the events and the custody that the trace has from this state
+pub record IsHostRedaction (m : State) (text other : List ℕ) (calls : List Call) : Type 0 where
+  pub version : Version
+  pub read : IsTrace text calls
+  pub whole : text ≡ text_of version calls
+  pub written : other ≡ text_of version (redacted_from m calls)
+  pub trace : IsTrace other (redacted_from m calls)
+  pub events : (n : State) → IsLawful n → DifferInBytes all_frames m n → events n (redacted_from m calls) ≡ events m calls
+  pub custody : (n : State) → IsLawful n → DifferInBytes all_frames m n → custody n (redacted_from m calls) ≡ custody m calls

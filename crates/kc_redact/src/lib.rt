@@ -1,8 +1,9 @@
-//! Traces without the bytes that virtual processors write, and the digest of such a trace as it grows.
+//! Traces without the bytes that virtual processors write, or the host to frames of active VMs, and the digest of such a trace
+//! as it grows.
 #![tactic(auto)]
 
 mod redacting;
 mod witness;
 
-pub use redacting::{Written, push_redacted, push_written};
+pub use redacting::{Target, Written, push_redacted, push_written};
 pub use witness::Witness;

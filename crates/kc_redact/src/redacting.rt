@@ -1,21 +1,26 @@
-//! The lines of calls, without the bytes that virtual processors write.
+//! The lines of calls, without the bytes that virtual processors write, or the host.
 ghost use Rattle.std.specs.Prelude.{◌≡◌, ◌≤◌, ◌+◌, ◌*◌, ◌++◌, ◌∷◌, [], replicate, vec_len, vec_capacity};
 ghost use Rattle.hex.specs.Hex.{encode_lower};
 ghost use Rattle.kc_types.specs.Limits.{page_size};
 ghost use Rattle.kc_trace.specs.Spelling.{line_of, longest_call};
-ghost use Rattle.kc_redact.specs.Written.{written_call, written_place};
+ghost use Rattle.kc_redact.specs.Written.{written_call, written_target, written_place};
 ghost use Rattle.kc_redact.specs.Redacted.{redacted_line};
 
 use kc_lines::{push_bytes, push_number};
 use kc_trace::push_call;
 use kc_types::Call;
 
-/// Where a virtual processor writes, and how many bytes.
+/// Who writes, and to which frame: a virtual processor by a guest frame number, the host by a frame number.
+#[derive(Clone, Copy, Debug)]
+pub enum Target {
+    Guest { vm: u32, vcpu: u32, gfn: u32 },
+    Host { frame: u32 },
+}
+
+/// Where a write goes, and how many bytes it has.
 #[derive(Clone, Copy, Debug)]
 pub struct Written {
-    pub vm: u32,
-    pub vcpu: u32,
-    pub gfn: u32,
+    pub target: Target,
     pub offset: u32,
     pub len: usize,
 }
@@ -30,6 +35,27 @@ fn push_zeros(text: &mut Vec<u8>, len: usize)
     text.resize(text.len() + 2 * len, b'0').unwrap();
 }
 
+/// Appends the name of a write, and the numbers that say who writes and to which frame.
+fn push_target(text: &mut Vec<u8>, target: Target)
+    requires { vec_len text.old + 39 ≤ vec_capacity text.old }
+    ensures items { text.new.items ≡ text.old.items ++ written_target target }
+    ensures len { vec_len text.new ≤ vec_len text.old + 39 }
+    ensures capacity { vec_capacity text.old ≤ vec_capacity text.new }
+{
+    match target {
+        Target::Guest { vm, vcpu, gfn } => {
+            push_bytes(text, b"gwrite");
+            push_number(text, vm);
+            push_number(text, vcpu);
+            push_number(text, gfn);
+        },
+        Target::Host { frame } => {
+            push_bytes(text, b"hwrite");
+            push_number(text, frame);
+        },
+    }
+}
+
 /// Appends the name and the numbers of a write, and a space.
 fn push_place(text: &mut Vec<u8>, written: Written)
     requires { vec_len text.old + 51 ≤ vec_capacity text.old }
@@ -37,10 +63,7 @@ fn push_place(text: &mut Vec<u8>, written: Written)
     ensures len { vec_len text.new ≤ vec_len text.old + 51 }
     ensures capacity { vec_capacity text.old ≤ vec_capacity text.new }
 {
-    push_bytes(text, b"gwrite");
-    push_number(text, written.vm);
-    push_number(text, written.vcpu);
-    push_number(text, written.gfn);
+    push_target(text, written.target);
     push_number(text, written.offset);
     push_bytes(text, b" ");
 }
@@ -73,9 +96,11 @@ pub fn push_redacted(text: &mut Vec<u8>, call: &Call)
         } => push_written(
             text,
             Written {
-                vm: *vm,
-                vcpu: *vcpu,
-                gfn: *gfn,
+                target: Target::Guest {
+                    vm: *vm,
+                    vcpu: *vcpu,
+                    gfn: *gfn,
+                },
                 offset: *offset,
                 len: data.as_slice().len(),
             },

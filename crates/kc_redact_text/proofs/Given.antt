@@ -3,23 +3,48 @@ use Rattle.std.proofs.Common.{◌≡◌, ◌++◌, ℕ, List, Option, Some, None
 use Rattle.std.specs.Prelude.{IfSome}
 use Rattle.std.specs.Io.KnownBytes.{Appends}
 use Rattle.kc_types.specs.declared.call.Call.{Call}
-use Rattle.kc_trace.specs.Spelling.{lines_of, trace_header}
-use Rattle.kc_redact.specs.Redacted.{IsRedaction}
-use Rattle.kc_redact.proofs.Redacted.{is_redaction, header-taken}
+use Rattle.kc_model.specs.State.{State}
+use Rattle.kc_model.specs.Lawful.{IsLawful}
+use Rattle.kc_trace.specs.Spelling.{lines_of, trace_header, text_of}
+use Rattle.kc_texts.specs.declared.origin.Origin.{Origin}
+use Rattle.kc_texts.specs.Reading.{BeginsIn, Writes, Begins}
+use Rattle.kc_redact.specs.Redacted.{IsRedaction, IsHostRedaction}
+use Rattle.kc_redact.proofs.Redacted.{is_redaction, is_host_redaction, header-taken}
+use Rattle.kc_redact_text.specs.Made.{redacted_by}
 use Rattle.kc_redact_text.specs.Reading.{IsHeadAndCalls}
-use Rattle.kc_redact_text.specs.Redacts.{Redacts, BeginsRedaction}
+use Rattle.kc_redact_text.specs.Redacts.{Redacts, BeginsRedaction, IsHostRedacted}
 
 -- the header that was read, and the lines of the calls that are kept
-written_is : (text head : List ℕ) (kept : List Call) (read : IsHeadAndCalls text head kept) → IsRedaction text (head ++ lines_of kept) read.calls
-written_is text head kept read =
+text_is : (core : Option State) (text head : List ℕ) (kept : List Call) (read : IsHeadAndCalls core text head kept) → head ++ lines_of kept ≡ text_of read.read.version (redacted_by core read.calls)
+text_is core text head kept read =
     let version = read.read.version in
     let header : head ≡ trace_header version = sym read.header ∙ ap (take 14) read.read.whole ∙ header-taken version (lines_of read.calls) in
-    is_redaction text (head ++ lines_of kept) read.calls read.read (ap (λ front. front ++ lines_of kept) header ∙ ap (λ calls. trace_header version ++ lines_of calls) read.redacted)
+    ap (λ front. front ++ lines_of kept) header ∙ ap (λ calls. trace_header version ++ lines_of calls) read.redacted
 
-pub redacts : (source old new : Option (List ℕ)) (head : List ℕ) (kept : List Call) → IfSome source (λ text. IsHeadAndCalls text head kept) → Appends old new (head ++ lines_of kept) → Redacts source old new
+plainly : (text head : List ℕ) (kept : List Call) (read : IsHeadAndCalls None text head kept) → IsRedaction text (head ++ lines_of kept) read.calls
+plainly text head kept read = is_redaction text (head ++ lines_of kept) read.calls read.read (text_is None text head kept read)
+
+pub redacts : (source old new : Option (List ℕ)) (head : List ℕ) (kept : List Call) → IfSome source (λ text. IsHeadAndCalls None text head kept) → Appends old new (head ++ lines_of kept) → Redacts source old new
 redacts None old new head kept read given = tt
-redacts (Some text) old new head kept read given = (head ++ lines_of kept, read.calls, written_is text head kept read, given)
+redacts (Some text) old new head kept read given = (head ++ lines_of kept, read.calls, plainly text head kept read, given)
 
-pub begins : (source old new : Option (List ℕ)) (head : List ℕ) (kept : List Call) → IfSome source (λ text. IsHeadAndCalls text head kept) → ((n : ℕ) × Appends old new (take n (head ++ lines_of kept))) → BeginsRedaction source old new
+pub begins : (source old new : Option (List ℕ)) (head : List ℕ) (kept : List Call) → IfSome source (λ text. IsHeadAndCalls None text head kept) → ((n : ℕ) × Appends old new (take n (head ++ lines_of kept))) → BeginsRedaction source old new
 begins None old new head kept read cut = tt
-begins (Some text) old new head kept read cut = (head ++ lines_of kept, read.calls, cut.0, written_is text head kept read, cut.1)
+begins (Some text) old new head kept read cut = (head ++ lines_of kept, read.calls, cut.0, plainly text head kept read, cut.1)
+
+-- what was read of a start and a trace
+abbrev pub WasMade : Origin → Option (List ℕ) → Option (List ℕ) → List ℕ → List Call → Type 0
+WasMade origin start trace head kept = (m : State) × IsLawful m × IfSome start (λ text. BeginsIn origin text m) × IfSome trace (λ text. IsHeadAndCalls (Some m) text head kept)
+
+wholly : (m : State) (text head : List ℕ) (kept : List Call) → IsLawful m → (read : IsHeadAndCalls (Some m) text head kept) → IsHostRedaction m text (head ++ lines_of kept) read.calls
+wholly m text head kept is read = is_host_redaction m text (head ++ lines_of kept) read.calls is read.read (text_is (Some m) text head kept read)
+
+pub writes_host : (origin : Origin) (start trace old new : Option (List ℕ)) (head : List ℕ) (kept : List Call) → WasMade origin start trace head kept → Appends old new (head ++ lines_of kept) → Writes (IsHostRedacted origin) start trace old new
+writes_host origin None trace old new head kept made given = tt
+writes_host origin (Some start) None old new head kept made given = tt
+writes_host origin (Some start) (Some text) old new head kept made given = (head ++ lines_of kept, (made.0, made.3.calls, made.2, wholly made.0 text head kept made.1 made.3), given)
+
+pub begins_host : (origin : Origin) (start trace old new : Option (List ℕ)) (head : List ℕ) (kept : List Call) → WasMade origin start trace head kept → ((n : ℕ) × Appends old new (take n (head ++ lines_of kept))) → Begins (IsHostRedacted origin) start trace old new
+begins_host origin None trace old new head kept made cut = tt
+begins_host origin (Some start) None old new head kept made cut = tt
+begins_host origin (Some start) (Some text) old new head kept made cut = (head ++ lines_of kept, cut.0, (made.0, made.3.calls, made.2, wholly made.0 text head kept made.1 made.3), cut.1)

@@ -3,7 +3,7 @@ use Rattle.std.proofs.Common.{◌≡◌, ◌≤◌, ◌<◌, ◌+◌, ◌-◌, �
 use Rattle.std.specs.Prelude.{IfSome}
 use Rattle.std.specs.Io.KnownBytes.{Consumes, IsAtEnd}
 use Rattle.std.proofs.lemmas.Bool.{cases_lt}
-use Rattle.std.proofs.lemmas.List.{length-take, length-drop, take_at, take_all, take-append-le, map-append}
+use Rattle.std.proofs.lemmas.List.{length-take, length-drop, take_at, take_all, take-append-le}
 use Rattle.std.proofs.Math.Seq.{take-append-add}
 use borrow.Rule.Slice.PartMut.{put_mid, post_of}
 use Rattle.kc_types.specs.Limits.{byte_limit}
@@ -22,50 +22,55 @@ use Rattle.kc_texts.specs.declared.whole.ReadFault.{ReadFault}
 use Rattle.kc_texts.specs.declared.whole.ReadFault.TheVariants as reads
 use Rattle.kc_texts.specs.declared.fault.TextFault.TheVariants as texts
 use Rattle.kc_texts.proofs.Fed.{stays, goes_on_ok, goes_on_err, goes_on_nothing, too_many}
-use Rattle.kc_redact.specs.Redacted.{redacted, redacted_call}
+use Rattle.kc_model.specs.State.{State}
+use Rattle.kc_redact_text.specs.Made.{redacted_by, core_after}
+use Rattle.kc_redact_text.proofs.Made.{by-none, after-none, by-append, after-append}
 use Rattle.kc_redact_text.specs.Reading.{stream_of, HasGoneOn, HasTaken, IsHeadAndCalls}
 use Rattle.kc_redact_text.specs.declared.reading.Redacting.{Redacting}
 
-redacted-append : (calls more : List Call) → redacted (calls ++ more) ≡ redacted calls ++ redacted more
-redacted-append calls more = map-append redacted_call calls more
-
 -- ---- one piece
 
-pub taken_ok : (before after : Redacting) (piece : List ℕ) (more : List Call) → fed before.reader piece ≡ Ok (after.reader.progress, more) → after.reader.fault ≡ None
-    → after.total ≡ before.total + length piece → after.calls.items ≡ before.calls.items ++ redacted more → HasTaken before after piece
-taken_ok before after piece more told none total grown left now consumed =
-    (more, grown, goes_on_ok (stream_of before) (stream_of before) (stream_of after) piece [] more more (length piece) left left now (stays (stream_of before) left) consumed told none refl total refl)
+pub taken_ok : (core made : Option State) (before after : Redacting) (piece : List ℕ) (more : List Call) → fed before.reader piece ≡ Ok (after.reader.progress, more) → after.reader.fault ≡ None
+    → after.total ≡ before.total + length piece → after.calls.items ≡ before.calls.items ++ redacted_by core more → made ≡ core_after core more → HasTaken core made before after piece
+taken_ok core made before after piece more told none total grown done left now consumed =
+    (more, grown, goes_on_ok (stream_of before) (stream_of before) (stream_of after) piece [] more more (length piece) left left now (stays (stream_of before) left) consumed told none refl total refl, done)
 
-pub taken_err : (before after : Redacting) (piece : List ℕ) (fault : TraceFault) → Fails fault (fed before.reader piece) → (fault ≡ Memory → ⊥) → after.reader.fault ≡ Some fault
-    → after.total ≡ before.total + length piece → after.calls ≡ before.calls → HasTaken before after piece
-taken_err before after piece fault told other some total same left now consumed =
-    ([], rw same (sym (append-nil before.calls.items)), goes_on_err (stream_of before) (stream_of before) (stream_of after) piece [] fault (length piece) left left now (stays (stream_of before) left) consumed told other some refl total)
+-- no calls more are kept
+none-kept : (core : Option State) (before after : Redacting) → after.calls ≡ before.calls → after.calls.items ≡ before.calls.items ++ redacted_by core []
+none-kept core before after same = rw (same, by-none core) (sym (append-nil before.calls.items))
+
+pub taken_err : (core made : Option State) (before after : Redacting) (piece : List ℕ) (fault : TraceFault) → Fails fault (fed before.reader piece) → (fault ≡ Memory → ⊥) → after.reader.fault ≡ Some fault
+    → after.total ≡ before.total + length piece → after.calls ≡ before.calls → made ≡ core → HasTaken core made before after piece
+taken_err core made before after piece fault told other some total same idle left now consumed =
+    ([], none-kept core before after same, goes_on_err (stream_of before) (stream_of before) (stream_of after) piece [] fault (length piece) left left now (stays (stream_of before) left) consumed told other some refl total, idle ∙ sym (after-none core))
 
 -- ---- going on
 
-pub went_nowhere : (r : Redacting) (left : Option (List ℕ)) → HasGoneOn r r left left
-went_nowhere r left = ([], sym (append-nil r.calls.items), stays (stream_of r) left)
+pub went_nowhere : (core : Option State) (r : Redacting) (left : Option (List ℕ)) → HasGoneOn core core r r left left
+went_nowhere core r left = ([], none-kept core r r refl, stays (stream_of r) left, sym (after-none core))
 
-pub went_on : (before mid after : Redacting) (left here now : Option (List ℕ)) → HasGoneOn before mid left here → HasGoneOn mid after here now → HasGoneOn before after left now
-went_on before mid after left here now one two =
-    let grown : after.calls.items ≡ before.calls.items ++ redacted (one.0 ++ two.0) =
-    two.1 ∙ ap (λ kept. kept ++ redacted two.0) one.1 ∙ append_assoc before.calls.items (redacted one.0) (redacted two.0) ∙ ap (λ kept. before.calls.items ++ kept) (sym (redacted-append one.0 two.0)) in (
+pub went_on : (core made last : Option State) (before mid after : Redacting) (left here now : Option (List ℕ)) → HasGoneOn core made before mid left here → HasGoneOn made last mid after here now → HasGoneOn core last before after left now
+went_on core made last before mid after left here now one two =
+    let all : redacted_by core (one.0 ++ two.0) ≡ redacted_by core one.0 ++ redacted_by made two.0 = by-append core one.0 two.0 ∙ ap (λ c. redacted_by core one.0 ++ redacted_by c two.0) (sym one.3) in
+    let grown : after.calls.items ≡ before.calls.items ++ redacted_by core (one.0 ++ two.0) =
+    two.1 ∙ ap (λ kept. kept ++ redacted_by made two.0) one.1 ∙ append_assoc before.calls.items (redacted_by core one.0) (redacted_by made two.0) ∙ ap (λ kept. before.calls.items ++ kept) (sym all) in (
       one.0 ++ two.0,
       grown,
       λ bytes calls first h.
           let first_part = one.2 bytes calls first h in
           let second_part = two.2 (bytes ++ first_part.0) (calls ++ one.0) first first_part.1 in
           (first_part.0 ++ second_part.0, rw (← append_assoc bytes first_part.0 second_part.0, ← append_assoc calls one.0 two.0) second_part.1),
+      two.3 ∙ ap (λ c. core_after c two.0) one.3 ∙ sym (after-append core one.0 two.0),
     )
 
 -- the last read moved no bytes
-pub went_to_end : (before after : Redacting) (piece : List ℕ) (left mid now : Option (List ℕ)) → HasGoneOn before after left mid → Consumes mid now piece → length piece ≡ 0 → HasGoneOn before after left now
-went_to_end before after piece left mid now on consumed none =
-    (on.0, on.1, goes_on_nothing (stream_of before) (stream_of after) piece on.0 left mid now on.2 consumed none)
+pub went_to_end : (core made : Option State) (before after : Redacting) (piece : List ℕ) (left mid now : Option (List ℕ)) → HasGoneOn core made before after left mid → Consumes mid now piece → length piece ≡ 0 → HasGoneOn core made before after left now
+went_to_end core made before after piece left mid now on consumed none =
+    (on.0, on.1, goes_on_nothing (stream_of before) (stream_of after) piece on.0 left mid now on.2 consumed none, on.3)
 
-pub went_too_far : (before mid : Redacting) (piece : List ℕ) (n : ℕ) (failed : Bool) (left here now : Option (List ℕ)) → HasGoneOn before mid left here → Consumes here now piece → length piece ≡ n → byte_limit < mid.total + n
+pub went_too_far : (core made : Option State) (before mid : Redacting) (piece : List ℕ) (n : ℕ) (failed : Bool) (left here now : Option (List ℕ)) → HasGoneOn core made before mid left here → Consumes here now piece → length piece ≡ n → byte_limit < mid.total + n
     → (bytes : List ℕ) (calls : List Call) (first : Option (List ℕ)) → HasRead (stream_of before) bytes calls first left → ReadFailed failed first now
-went_too_far before mid piece n failed left here now on consumed len past = too_many (stream_of before) (stream_of mid) piece on.0 n failed left here now on.2 consumed len past
+went_too_far core made before mid piece n failed left here now on consumed len past = too_many (stream_of before) (stream_of mid) piece on.0 n failed left here now on.2 consumed len past
 
 -- ---- the header
 
@@ -103,36 +108,34 @@ head_size head buffer used size within len =
 -- ---- the whole trace
 
 -- behind the first bytes of a source
-pub begun_read : (source here : Option (List ℕ)) (start mid : Redacting) (piece : List ℕ) → ((first : Option (List ℕ)) → HasRead (stream_of start) [] [] first first) → Consumes source here piece → HasTaken start mid piece
-    → (bytes : List ℕ) × (calls : List Call) × (mid.calls.items ≡ start.calls.items ++ redacted calls) × HasRead (stream_of mid) bytes calls source here
-begun_read source here start mid piece fresh consumed taken =
+pub begun_read : (core made : Option State) (source here : Option (List ℕ)) (start mid : Redacting) (piece : List ℕ) → ((first : Option (List ℕ)) → HasRead (stream_of start) [] [] first first) → Consumes source here piece
+    → HasTaken core made start mid piece → (bytes : List ℕ) × (calls : List Call) × HasRead (stream_of mid) bytes calls source here
+begun_read core made source here start mid piece fresh consumed taken =
     let on = taken source here consumed in
     let read = on.2 [] [] source (fresh source) in
-    (read.0, on.0, on.1, read.1)
+    (read.0, on.0, read.1)
 
 -- the trace that a source held, with the header that was read first
-head_and_calls : (source here : Option (List ℕ)) (head : List ℕ) (begun : ℕ) (calls kept : List Call) → Consumes source here (take begun head) → begun ≤ 14 → (begun < 14 → IsAtEnd here) → length head ≡ 14
-    → IfSome source (λ text. IsTrace text calls) → kept ≡ redacted calls → IfSome source (λ text. IsHeadAndCalls text head kept)
-head_and_calls None here head begun calls kept consumed within short size read same = tt
-head_and_calls (Some text) None head begun calls kept consumed within short size read same = absurd consumed
-head_and_calls (Some text) (Some rest) head begun calls kept consumed within short size read same = record {
+head_and_calls : (core : Option State) (source here : Option (List ℕ)) (head : List ℕ) (begun : ℕ) (calls kept : List Call) → Consumes source here (take begun head) → begun ≤ 14 → (begun < 14 → IsAtEnd here) → length head ≡ 14
+    → IfSome source (λ text. IsTrace text calls) → kept ≡ redacted_by core calls → IfSome source (λ text. IsHeadAndCalls core text head kept)
+head_and_calls core None here head begun calls kept consumed within short size read same = tt
+head_and_calls core (Some text) None head begun calls kept consumed within short size read same = absurd consumed
+head_and_calls core (Some text) (Some rest) head begun calls kept consumed within short size read same = record {
   calls = calls;
   read = read;
   header = head_is text head rest begun calls consumed within short size read;
   redacted = same;
 }
 
-pub whole_read : (source here now : Option (List ℕ)) (head : List ℕ) (begun : ℕ) (start mid end : Redacting) → ((first : Option (List ℕ)) → HasRead (stream_of start) [] [] first first) → start.calls.items ≡ []
-    → Consumes source here (take begun head) → begun ≤ 14 → (begun < 14 → IsAtEnd here) → length head ≡ 14 → HasTaken start mid (take begun head) → HasGoneOn mid end here now → IsAtEnd now
+pub whole_read : (core made last : Option State) (source here now : Option (List ℕ)) (head : List ℕ) (begun : ℕ) (start mid end : Redacting) → ((first : Option (List ℕ)) → HasRead (stream_of start) [] [] first first) → start.calls.items ≡ []
+    → Consumes source here (take begun head) → begun ≤ 14 → (begun < 14 → IsAtEnd here) → length head ≡ 14 → HasTaken core made start mid (take begun head) → HasGoneOn made last mid end here now → IsAtEnd now
     → ((bytes : List ℕ) (calls : List Call) (first last : Option (List ℕ)) → HasRead (stream_of end) bytes calls first last → IsAtEnd last → IfSome first (λ text. IsTrace text calls))
-    → IfSome source (λ text. IsHeadAndCalls text head end.calls.items)
-whole_read source here now head begun start mid end fresh none consumed within short size taken on ended judge =
-    let first_part = begun_read source here start mid (take begun head) fresh consumed taken in
-    let more = on.2 first_part.0 first_part.1 source first_part.3 in
-    let calls = first_part.1 ++ on.0 in
-    let kept : end.calls.items ≡ redacted calls =
-    on.1 ∙ ap (λ front. front ++ redacted on.0) (first_part.2 ∙ ap (λ front. front ++ redacted first_part.1) none) ∙ sym (redacted-append first_part.1 on.0) in
-    head_and_calls source here head begun calls end.calls.items consumed within short size (judge _ calls source now more.1 ended) kept
+    → IfSome source (λ text. IsHeadAndCalls core text head end.calls.items)
+whole_read core made last source here now head begun start mid end fresh none consumed within short size taken on ended judge =
+    let all = went_on core made last start mid end source here now (taken source here consumed) on in
+    let more = all.2 [] [] source (fresh source) in
+    let kept : end.calls.items ≡ redacted_by core all.0 = all.1 ∙ ap (λ front. front ++ redacted_by core all.0) none in
+    head_and_calls core source here head begun all.0 end.calls.items consumed within short size (judge _ all.0 source now more.1 ended) kept
 
 -- a fault of reading is that of the source alone
 pub read_is : (fault : ReadFault) → read_fault fault ≡ texts.Read → fault ≡ reads.Read

@@ -2,10 +2,16 @@
 use Rattle.std.specs.Prelude.{◌≤◌}
 use Rattle.kc_types.specs.Limits.{page_size}
 use Rattle.kc_types.specs.declared.call.Call.{Call}
-use Rattle.kc_redact.specs.Redacted.{redacted_call}
+use Rattle.kc_types.specs.declared.call.Call.TheVariants.{HostWrite}
+use Rattle.kc_redact.specs.Redacted.{blanked, redacted_call}
 use Rattle.kc_redact.specs.Written.{written_call}
 use Rattle.kc_redact_text.specs.declared.calls.Kept.{Kept}
 use Rattle.kc_redact_text.specs.declared.calls.Kept.TheVariants as kept
+
+-- a call without the bytes that are written by it, whoever writes
+abbrev pub blanked_call : Call → Call
+blanked_call (HostWrite f off bytes) = HostWrite f off (blanked bytes)
+blanked_call call = redacted_call call
 
 -- the call that it is in a redacted trace
 abbrev pub kept_call : Kept → Call

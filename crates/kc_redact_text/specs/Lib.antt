@@ -1,3 +1,4 @@
 pub mod Kept
+pub mod Made
 pub mod Reading
 pub mod Redacts

@@ -1,11 +1,14 @@
--- What the engine of redaction leaves of what its source held.
+-- What the engines of redaction leave of what their sources held.
 use Rattle.std.specs.Prelude.{◌≢◌, ℕ, List, take, Option, Some, None}
 use Rattle.std.specs.Io.KnownBytes.{Appends}
 use Rattle.kc_types.specs.declared.call.Call.{Call}
 use Rattle.kc_trace.specs.declared.fault.TraceFault.TheVariants as traces
 use Rattle.kc_texts.specs.declared.fault.TextFault.{TextFault}
 use Rattle.kc_texts.specs.declared.fault.TextFault.TheVariants as texts
-use Rattle.kc_redact.specs.Redacted.{IsRedaction}
+use Rattle.kc_model.specs.State.{State}
+use Rattle.kc_texts.specs.declared.origin.Origin.{Origin}
+use Rattle.kc_texts.specs.Reading.{BeginsIn}
+use Rattle.kc_redact.specs.Redacted.{IsRedaction, IsHostRedaction}
 
 -- the sink took the redacted trace of the trace that the source held, if that is known
 abbrev pub Redacts : Option (List ℕ) → Option (List ℕ) → Option (List ℕ) → Type 0
@@ -24,3 +27,16 @@ IsRedactFault texts.Memory = Unit {0}
 IsRedactFault texts.Read = Unit {0}
 IsRedactFault texts.Write = Unit {0}
 IsRedactFault _ = ⊥
+
+-- the text is the trace without the bytes of the host either that go to frames of active VMs, if the calls begin in the state that the first text tells
+abbrev pub IsHostRedacted : Origin → List ℕ → List ℕ → List ℕ → Type 0
+IsHostRedacted origin start_text trace_text text = (m : State) × (calls : List Call) × BeginsIn origin start_text m × IsHostRedaction m trace_text text calls
+
+-- what the calls begin with is refused, or it is one of those faults; the same before anything is written
+abbrev pub IsHostRedactFault : TextFault → Type 0
+IsHostRedactFault (texts.Config fault) = Unit {0}
+IsHostRedactFault (texts.State fault) = Unit {0}
+IsHostRedactFault fault = IsRedactFault fault
+
+abbrev pub IsHostReadingFault : TextFault → Type 0
+IsHostReadingFault fault = IsHostRedactFault fault × (fault ≢ texts.Write)

@@ -2,8 +2,9 @@
 ghost use Rattle.std.specs.Prelude.{◌≡◌, ◌++◌, ◌∷◌, []};
 ghost use Rattle.kc_trace.specs.Spelling.{line_of};
 ghost use Rattle.kc_redact.specs.Redacted.{redacted_call};
+ghost use Rattle.kc_redact_text.specs.Kept.{blanked_call};
 
-use kc_redact::{Written, push_redacted, push_written};
+use kc_redact::{Target, Written, push_redacted, push_written};
 use kc_texts::Line;
 use kc_types::Call;
 use std::marker::Model;
@@ -15,7 +16,7 @@ enum Kept {
     Whole(Call),
 }
 
-/// A call of a redacted trace. Of the bytes that a virtual processor writes it keeps only how many they are.
+/// A call of a redacted trace. Of the bytes that are written by it and not shown it keeps only how many they are.
 #[derive(Debug, Drop)]
 pub struct RedactedCall {
     kept: Kept,
@@ -46,9 +47,7 @@ impl RedactedCall {
                 data,
             } => RedactedCall {
                 kept: Kept::Written(Written {
-                    vm,
-                    vcpu,
-                    gfn,
+                    target: Target::Guest { vm, vcpu, gfn },
                     offset,
                     len: data.as_slice().len(),
                 }),
@@ -56,6 +55,27 @@ impl RedactedCall {
             call => RedactedCall {
                 kept: Kept::Whole(call),
             },
+        }
+    }
+
+    /// The call, with zeros in the place of the bytes that are written by it, also of those that the host writes. The memory
+    /// of these is zeroed.
+    pub fn blanked(call: Call) -> RedactedCall
+        ensures { result ≡ blanked_call call }
+    {
+        match call {
+            Call::HostWrite {
+                frame,
+                offset,
+                data,
+            } => RedactedCall {
+                kept: Kept::Written(Written {
+                    target: Target::Host { frame },
+                    offset,
+                    len: data.as_slice().len(),
+                }),
+            },
+            call => RedactedCall::new(call),
         }
     }
 }

@@ -1,15 +1,39 @@
 //! A trace read, redacted and written.
-ghost use Rattle.std.specs.Prelude.{◌≡◌, ◌≤◌, ◌++◌, ◌∷◌, [], List, length, false, vec_len, vec_capacity, IfErr, IfSome, OnOk, Err};
-ghost use Rattle.std.specs.Io.KnownBytes.{IsAtEnd};
+ghost use Rattle.std.specs.Prelude.{◌≡◌, ◌⊎◌, ◌++◌, ◌∷◌, [], ℕ, List, take, false, IfErr, IfSome, OnOk, Err};
+ghost use Rattle.std.specs.Io.KnownBytes.{Appends, IsAtEnd};
 ghost use Rattle.kc_trace.specs.declared.fault.TraceFault.{TraceFault};
+ghost use Rattle.kc_trace.specs.Spelling.{lines_of};
 ghost use Rattle.kc_trace.specs.Trace.{IsRefused};
 ghost use Rattle.kc_texts.specs.Outcomes.{seen, TellsSources, TellsSink};
 ghost use Rattle.kc_redact_text.specs.Redacts.{Redacts, BeginsRedaction, IsRedactFault};
 
-use crate::reading::read_redacted;
+use crate::calls::RedactedCall;
+use crate::reading::{HEADER, read_redacted};
 use kc_lines::push_bytes;
 use kc_texts::{Sink, Source, TextFault, empty_piece, give_lines};
 use std::alloc::Global;
+
+/// Writes the header of a trace and its calls. All memory that this takes is there before the first byte is written.
+pub(crate) fn give_redacted<K: Sink>(
+    alloc: Global,
+    head: &[u8; HEADER],
+    calls: Vec<RedactedCall>,
+    out: &mut K,
+) -> Result<(), TextFault>
+    requires { K.failed out.old ≡ false }
+    ensures ok { OnOk result (Appends (K.taken out.old) (K.taken out.new) (head.now ++ lines_of calls.items)) }
+    ensures sink { TellsSink (K.failed out.new) ((n : ℕ) × Appends (K.taken out.old) (K.taken out.new) (take n (head.now ++ lines_of calls.items))) (out.new ≡ out.old) result }
+    ensures fault { IfErr result (λ fault. (fault ≡ TextFault.Memory) ⊎ (fault ≡ TextFault.Write)) }
+{
+    let Ok(mut piece) = empty_piece(alloc) else {
+        return Err(TextFault::Memory);
+    };
+    push_bytes(&mut piece, head);
+    match give_lines(out, piece, calls) {
+        Ok(()) => Ok(()),
+        Err(_) => Err(TextFault::Write),
+    }
+}
 
 /// Reads a trace to its end, and writes it with zeros in the place of the bytes that virtual processors write: the same
 /// header and the same lines, each as long as it was.
@@ -34,14 +58,7 @@ pub fn redact_text<T: Source, K: Sink>(
     ensures trace { (fault : TraceFault) → result ≡ Err (TextFault.Trace fault) → IfSome (T.left trace.old) (λ text. IsRefused text fault) × IsAtEnd (T.left trace.new) }
     ensures others { IfErr result IsRedactFault }
 {
-    let (head, calls) = read_redacted(alloc, trace)?;
-    // All memory that writing takes is there before the first byte is written.
-    let Ok(mut piece) = empty_piece(alloc) else {
-        return Err(TextFault::Memory);
-    };
-    push_bytes(&mut piece, &head);
-    match give_lines(out, piece, calls) {
-        Ok(()) => Ok(()),
-        Err(_) => Err(TextFault::Write),
-    }
+    let mut core = None;
+    let (head, calls) = read_redacted(alloc, &mut core, trace)?;
+    give_redacted(alloc, &head, calls, out)
 }

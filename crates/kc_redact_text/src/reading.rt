@@ -7,14 +7,16 @@ ghost use Rattle.kc_trace.specs.Trace.{IsTrace, IsRefused};
 ghost use Rattle.kc_trace.specs.declared.fault.TraceFault.{TraceFault};
 ghost use Rattle.kc_texts.specs.Ends.{ReadFailed};
 ghost use Rattle.kc_texts.specs.Streamed.{HasRead};
-ghost use Rattle.kc_redact.specs.Redacted.{redacted};
+ghost use Rattle.kc_redact_text.specs.Made.{redacted_by, core_after};
 ghost use Rattle.kc_redact_text.specs.Reading.{stream_of, HasTaken, HasGoneOn, IsHeadAndCalls, IsReadingFault};
 
 use crate::calls::RedactedCall;
+use crate::next::redact_next;
+use kc_core::KCore;
 use kc_texts::{Failed, PIECE, ReadFault, Source, TextFault};
 use kc_trace::{TraceFault, TraceReader};
 use kc_types::{BYTE_LIMIT, Call, Memory, SecretBytes};
-use std::alloc::{AllocError, Global};
+use std::alloc::Global;
 
 /// How many bytes the header of a trace has, with its newline.
 pub const HEADER: usize = 14;
@@ -38,13 +40,20 @@ fn read_head<T: Source>(source: &mut T, head: &mut [u8; HEADER]) -> Result<usize
     Ok(used)
 }
 
-/// Appends some calls as a redacted trace has them. The memory of what virtual processors write is zeroed.
-fn push_each(calls: &mut Vec<RedactedCall>, more: Vec<Call>) -> Result<(), AllocError>
-    ensures { OnOk result (calls.new.items ≡ calls.old.items ++ redacted more.items) }
+/// Appends some calls as a redacted trace has them, and makes them on the core, if there is one. The memory of the bytes that
+/// it does not have is zeroed.
+fn push_each(
+    calls: &mut Vec<RedactedCall>,
+    core: &mut Option<KCore>,
+    more: Vec<Call>,
+) -> Result<(), Memory>
+    ensures calls { OnOk result (calls.new.items ≡ calls.old.items ++ redacted_by core.old more.items) }
+    ensures core { OnOk result (core.new ≡ core_after core.old more.items) }
 {
     calls.reserve(more.len())?;
     for call in more {
-        calls.push(RedactedCall::new(call))?;
+        let redacted = redact_next(core, call)?;
+        calls.push(redacted)?;
     }
     Ok(())
 }
@@ -72,9 +81,14 @@ impl Redacting {
     }
 
     /// Takes the next bytes. After a fault of the trace, which the reader reports at its end, they are only counted.
-    fn take(&mut self, alloc: Global, piece: &[u8]) -> Result<(), ReadFault>
+    fn take(
+        &mut self,
+        alloc: Global,
+        core: &mut Option<KCore>,
+        piece: &[u8],
+    ) -> Result<(), ReadFault>
         requires { self.old.total ≤ byte_limit }
-        ensures ok { OnOk result (HasTaken self.old self.new piece.now) }
+        ensures ok { OnOk result (HasTaken core.old core.new self.old self.new piece.now) }
         ensures total { OnOk result (self.new.total ≡ self.old.total + length piece.now) }
         ensures few { OnOk result (self.new.total ≤ byte_limit) }
         ensures read { result ≡ Err ReadFault.Read → byte_limit < self.old.total + length piece.now }
@@ -84,7 +98,7 @@ impl Redacting {
         }
         self.total += piece.len();
         match self.reader.feed(alloc, piece) {
-            Ok(more) => match push_each(&mut self.calls, more) {
+            Ok(more) => match push_each(&mut self.calls, core, more) {
                 Ok(()) => Ok(()),
                 Err(_) => Err(ReadFault::Memory),
             },
@@ -94,10 +108,15 @@ impl Redacting {
     }
 
     /// Takes all that a source has left. The memory of a piece is zeroed before it goes.
-    fn take_rest<T: Source>(&mut self, alloc: Global, source: &mut T) -> Result<(), ReadFault>
+    fn take_rest<T: Source>(
+        &mut self,
+        alloc: Global,
+        core: &mut Option<KCore>,
+        source: &mut T,
+    ) -> Result<(), ReadFault>
         requires few { self.old.total ≤ byte_limit }
         requires whole { T.failed source.old ≡ false }
-        ensures ok { OnOk result (HasGoneOn self.old self.new (T.left source.old) (T.left source.new)) }
+        ensures ok { OnOk result (HasGoneOn core.old core.new self.old self.new (T.left source.old) (T.left source.new)) }
         ensures ended { OnOk result (IsAtEnd (T.left source.new)) }
         ensures mark { OnOk result (T.failed source.new ≡ false) }
         ensures read { result ≡ Err ReadFault.Read → (bytes : List ℕ) (calls : List Call) (first : Option (List ℕ)) → HasRead (stream_of self.old) bytes calls first (T.left source.old) → ReadFailed (T.failed source.new) first (T.left source.new) }
@@ -115,18 +134,20 @@ impl Redacting {
             if n == 0 {
                 return Ok(());
             }
-            self.take(alloc, &buffer.as_slice()[..n])?;
+            self.take(alloc, core, &buffer.as_slice()[..n])?;
         }
     }
 }
 
-/// The header of the trace that a source has left, and its calls, redacted.
+/// The header of the trace that a source has left, and its calls, redacted: if there is a core, they are made on it as they are
+/// read.
 pub fn read_redacted<T: Source>(
     alloc: Global,
+    core: &mut Option<KCore>,
     source: &mut T,
 ) -> Result<([u8; HEADER], Vec<RedactedCall>), TextFault>
     requires { T.failed source.old ≡ false }
-    ensures ok { IfOk result (λ read. IfSome (T.left source.old) (λ text. IsHeadAndCalls text read.0 read.1.items)) }
+    ensures ok { IfOk result (λ read. IfSome (T.left source.old) (λ text. IsHeadAndCalls core.old text read.0 read.1.items)) }
     ensures ended { OnOk result (IsAtEnd (T.left source.new)) }
     ensures trace { (fault : TraceFault) → result ≡ Err (TextFault.Trace fault) → IfSome (T.left source.old) (λ text. IsRefused text fault) × IsAtEnd (T.left source.new) }
     ensures read { result ≡ Err TextFault.Read → ReadFailed (T.failed source.new) (T.left source.old) (T.left source.new) }
@@ -138,8 +159,8 @@ pub fn read_redacted<T: Source>(
         return Err(TextFault::Read);
     };
     let mut redacting = Redacting::new(alloc);
-    redacting.take(alloc, &head[..begun])?;
-    redacting.take_rest(alloc, source)?;
+    redacting.take(alloc, core, &head[..begun])?;
+    redacting.take_rest(alloc, core, source)?;
     let Redacting {
         reader,
         total: _,

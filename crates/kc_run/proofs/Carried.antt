@@ -15,16 +15,15 @@ use Rattle.kc_texts.specs.Audit.{Audits, BeginsAudit, IsDumpFault}
 use Rattle.kc_texts.specs.Outcomes.{Seen, TellsSources, TellsTexts, TellsReplay, TellsSink}
 use Rattle.kc_texts.specs.Reading.{Writes, Begins}
 use Rattle.kc_texts.proofs.Told.{sources_after, texts_after, replay_after, sources_err, texts_err, replay_err}
-use Rattle.kc_redact_text.specs.Redacts.{Redacts, BeginsRedaction, IsRedactFault}
+use Rattle.kc_redact_text.specs.Redacts.{Redacts, BeginsRedaction, IsRedactFault, IsHostRedacted, IsHostRedactFault}
 use Rattle.kc_cli.specs.declared.order.ReplayForm.{ReplayForm}
 use Rattle.kc_cli.specs.declared.account.CustodyForm.{CustodyForm}
 use Rattle.kc_cli.specs.Engine.{IsReplayText, IsLeftText}
 use Rattle.kc_cli.specs.Custody.{IsCustodyText, TellsCustody, origin_of}
 use Rattle.kc_cli.specs.Live.{IsLiveText, CouldRun, HasBadActor}
-use Rattle.kc_run.specs.declared.ending.Ending.{Ending}
 use Rattle.kc_run.specs.declared.ending.Ending.TheVariants as endings
-use Rattle.kc_run.specs.Endings.{Ended, done_as, judged_as}
-use Rattle.kc_run.specs.Run.{Ends, Replays, ReportsCustody, RunsLive, AuditsDump, RedactsTrace}
+use Rattle.kc_run.specs.Endings.{done_as, judged_as}
+use Rattle.kc_run.specs.Run.{Ends, Replays, ReportsCustody, RunsLive, AuditsDump, RedactsTrace, RedactsHost}
 
 sink_ok : {A B : Type 0} (failed : Bool) (begun untouched : Type 0) (x : A) (y : B) → TellsSink failed begun untouched (Ok x) → TellsSink failed begun untouched (Ok y)
 sink_ok failed begun untouched x y h = record { write = λ e. absurd cc; failed_is = λ bad. let e = h.failed_is bad in absurd cc; kept = tt }
@@ -208,5 +207,27 @@ redacts_trace ends (Err f) opened written sources sink trace fault = record {
   sources = sources_err _ f sources;
   sink = sink_err _ _ _ f sink;
   trace = λ said e. trace said (let same : f ≡ texts.Trace said = cc in cc);
+  fault = fault;
+}
+
+pub redacts_host : {A : Type 0} (origin : Origin) (start : Seen) (ends : Ends) (r : Result A TextFault) → ends.refused ≡ None
+    → OnOk r (Writes (IsHostRedacted origin) start.had ends.input.had ends.out.had ends.out.has) → TellsSources (start ∷ ends.input ∷ []) r → TellsTexts origin start ends.input ends.unread r
+    → TellsSink ends.out.failed (Begins (IsHostRedacted origin) start.had ends.input.had ends.out.had ends.out.has) ends.untouched r → IfErr r IsHostRedactFault → RedactsHost origin start ends (done_as r)
+redacts_host origin start ends (Ok x) opened written sources told sink fault = record {
+  opened = opened;
+  written = written;
+  done = refl;
+  sources = sources_after _ x (Ok endings.Done) sources tt;
+  told = texts_after _ _ _ _ x (Ok endings.Done) told tt;
+  sink = sink_ok _ _ _ x endings.Done sink;
+  fault = tt;
+}
+redacts_host origin start ends (Err f) opened written sources told sink fault = record {
+  opened = opened;
+  written = tt;
+  done = tt;
+  sources = sources_err _ f sources;
+  told = texts_err _ _ _ _ f told;
+  sink = sink_err _ _ _ f sink;
   fault = fault;
 }

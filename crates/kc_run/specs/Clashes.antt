@@ -11,9 +11,14 @@ first_option clashes.CustodyConfigFrom = codes "--config"
 first_option clashes.SummarySvg = codes "--summary"
 first_option clashes.FromSummary = codes "--from"
 first_option clashes.FromSvg = codes "--from"
+first_option clashes.RedactConfigFrom = codes "--config"
+first_option clashes.ConfigAlone = codes "--config"
+first_option clashes.FromAlone = codes "--from"
 
 abbrev pub link_of : Clash → List ℕ
 link_of clashes.BlankAlone = codes "' needs one of '"
+link_of clashes.ConfigAlone = codes "' needs '"
+link_of clashes.FromAlone = codes "' needs '"
 link_of clash = codes "' cannot be used with '"
 
 abbrev pub other_option : Clash → List ℕ
@@ -24,11 +29,17 @@ other_option clashes.CustodyConfigFrom = codes "--from"
 other_option clashes.SummarySvg = codes "--svg"
 other_option clashes.FromSummary = codes "--summary"
 other_option clashes.FromSvg = codes "--svg"
+other_option clashes.RedactConfigFrom = codes "--from"
+other_option clashes.ConfigAlone = codes "--host"
+other_option clashes.FromAlone = codes "--host"
 
 abbrev pub command_of : Clash → List ℕ
 command_of clashes.DumpState = codes "replay"
 command_of clashes.BlankAlone = codes "replay"
 command_of clashes.ReplayConfigFrom = codes "replay"
+command_of clashes.RedactConfigFrom = codes "redact"
+command_of clashes.ConfigAlone = codes "redact"
+command_of clashes.FromAlone = codes "redact"
 command_of clash = codes "custody"
 
 -- in the form in which a wrong command line is reported

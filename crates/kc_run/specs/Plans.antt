@@ -66,13 +66,24 @@ abbrev pub custody_plan : Bool → Bool → Option Start → Option ℕ → Resu
 custody_plan summary svg None vm = Err clashes.CustodyConfigFrom
 custody_plan summary svg (Some start) vm = account_plan (account_of summary svg start) vm
 
+-- a start is named only if also the host's writes are blanked, by which the trace is replayed
+abbrev pub redact_plan : Bool → Start → Result Plan Clash
+redact_plan true start = Ok (plans.RedactHost start)
+redact_plan false (starts.Boot None) = Ok plans.Redact
+redact_plan false (starts.Boot (Some config)) = Err clashes.ConfigAlone
+redact_plan false (starts.State path) = Err clashes.FromAlone
+
+abbrev pub redact_from_plan : Bool → Option Start → Result Plan Clash
+redact_from_plan host None = Err clashes.RedactConfigFrom
+redact_from_plan host (Some start) = redact_plan host start
+
 -- the plan of a job, or what contradicts itself in it first
 abbrev pub plan_of : Job → Result Plan Clash
 plan_of (jobs.Replay config from to workers dump state blank explain) = replay_plan (replay_form dump state) (start_of config from) to blank workers
 plan_of (jobs.Live config workers explain) = Ok (plans.Live config workers)
 plan_of (jobs.Custody config from vm summary svg explain) = custody_plan summary svg (start_of config from) vm
 plan_of (jobs.Audit all explain) = Ok (plans.Audit all)
-plan_of (jobs.Redact explain) = Ok plans.Redact
+plan_of (jobs.Redact config from host explain) = redact_from_plan host (start_of config from)
 
 -- the file that holds what calls begin with, if one is named
 abbrev pub path_of : Start → Option Path

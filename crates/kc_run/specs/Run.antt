@@ -14,7 +14,7 @@ use Rattle.kc_texts.specs.declared.fault.TextFault.TheVariants as texts
 use Rattle.kc_texts.specs.Audit.{Audits, BeginsAudit, IsDumpFault}
 use Rattle.kc_texts.specs.Outcomes.{Seen, TellsSources, TellsTexts, TellsReplay, TellsSink}
 use Rattle.kc_texts.specs.Reading.{Writes, Begins}
-use Rattle.kc_redact_text.specs.Redacts.{Redacts, BeginsRedaction, IsRedactFault}
+use Rattle.kc_redact_text.specs.Redacts.{Redacts, BeginsRedaction, IsRedactFault, IsHostRedacted, IsHostRedactFault}
 use Rattle.kc_cli.specs.declared.order.ReplayForm.{ReplayForm}
 use Rattle.kc_cli.specs.declared.account.CustodyForm.{CustodyForm}
 use Rattle.kc_cli.specs.Engine.{IsReplayText, IsLeftText}
@@ -22,7 +22,6 @@ use Rattle.kc_cli.specs.Custody.{IsCustodyText, TellsCustody, origin_of}
 use Rattle.kc_cli.specs.Live.{IsLiveText, CouldRun, HasBadActor}
 use Rattle.kc_run.specs.declared.plan.Start.{Start}
 use Rattle.kc_run.specs.declared.plan.Start.TheVariants as starts
-use Rattle.kc_run.specs.declared.plan.Account.{Account}
 use Rattle.kc_run.specs.declared.plan.Plan.{Plan}
 use Rattle.kc_run.specs.declared.plan.Plan.TheVariants as plans
 use Rattle.kc_run.specs.declared.clash.Clash.{Clash}
@@ -129,6 +128,16 @@ pub record RedactsTrace (ends : Ends) (ended : Ended) : Type 0 where
   pub trace : (fault : TraceFault) → ended ≡ Err (texts.Trace fault) → IfSome ends.input.had (λ text. IsRefused text fault) × IsAtEnd ends.input.has
   pub fault : IfErr ended IsRedactFault
 
+-- a redaction of the host's writes too, over open sources, ended so
+pub record RedactsHost (origin : Origin) (start : Seen) (ends : Ends) (ended : Ended) : Type 0 where
+  pub opened : ends.refused ≡ None
+  pub written : OnOk ended (Writes (IsHostRedacted origin) start.had ends.input.had ends.out.had ends.out.has)
+  pub done : IfOk ended (λ ending. ending ≡ endings.Done)
+  pub sources : TellsSources (start ∷ ends.input ∷ []) ended
+  pub told : TellsTexts origin start ends.input ends.unread ended
+  pub sink : TellsSink ends.out.failed (Begins (IsHostRedacted origin) start.had ends.input.had ends.out.had ends.out.has) ends.untouched ended
+  pub fault : IfErr ended IsHostRedactFault
+
 -- an engine runs once what calls begin with is open
 abbrev pub BeginsAt : Start → (Seen → Ends → Ended → Type 0) → Ends → Ended → Type 0
 BeginsAt start Runs ends ended = IsUnopened (path_of start) ends ended ⊎ ((source : Seen) × (source.had ≡ text_at ends.held (path_of start)) × Runs source ends ended)
@@ -140,6 +149,7 @@ IsEnding (plans.Live config workers) ends ended = BeginsAt (starts.Boot config) 
 IsEnding (plans.Custody account vm) ends ended = BeginsAt (start_in account) (ReportsCustody (form_of account) vm) ends ended
 IsEnding (plans.Audit all) ends ended = AuditsDump all ends ended
 IsEnding plans.Redact ends ended = RedactsTrace ends ended
+IsEnding (plans.RedactHost start) ends ended = BeginsAt start (RedactsHost (origin_at start)) ends ended
 
 -- a plan was run; the exit status and the error sink say how that ended
 pub record IsPlanRun (plan : Plan) (ends : Ends) (err : Took) (silent : Type 0) (status : ℕ) (fault : Option TextFault) : Type 0 where

@@ -22,6 +22,12 @@ pub enum Clash {
     FromSummary,
     /// `custody --from PATH --svg`
     FromSvg,
+    /// `redact --config PATH --from PATH`
+    RedactConfigFrom,
+    /// `redact --config PATH` without `--host`
+    ConfigAlone,
+    /// `redact --from PATH` without `--host`
+    FromAlone,
 }
 
 impl Clash {
@@ -31,9 +37,12 @@ impl Clash {
         match self {
             Clash::DumpState => "--dump",
             Clash::BlankAlone => "--blank",
-            Clash::ReplayConfigFrom | Clash::CustodyConfigFrom => "--config",
+            Clash::ReplayConfigFrom
+            | Clash::CustodyConfigFrom
+            | Clash::RedactConfigFrom
+            | Clash::ConfigAlone => "--config",
             Clash::SummarySvg => "--summary",
-            Clash::FromSummary | Clash::FromSvg => "--from",
+            Clash::FromSummary | Clash::FromSvg | Clash::FromAlone => "--from",
         }
     }
 
@@ -42,6 +51,7 @@ impl Clash {
     {
         match self {
             Clash::BlankAlone => "' needs one of '",
+            Clash::ConfigAlone | Clash::FromAlone => "' needs '",
             _ => "' cannot be used with '",
         }
     }
@@ -52,9 +62,11 @@ impl Clash {
         match self {
             Clash::DumpState => "--state",
             Clash::BlankAlone => "--dump', '--state' and '--to",
-            Clash::ReplayConfigFrom | Clash::CustodyConfigFrom => "--from",
+            Clash::ReplayConfigFrom | Clash::CustodyConfigFrom | Clash::RedactConfigFrom =>
+                "--from",
             Clash::SummarySvg | Clash::FromSvg => "--svg",
             Clash::FromSummary => "--summary",
+            Clash::ConfigAlone | Clash::FromAlone => "--host",
         }
     }
 
@@ -63,6 +75,7 @@ impl Clash {
     {
         match self {
             Clash::DumpState | Clash::BlankAlone | Clash::ReplayConfigFrom => "replay",
+            Clash::RedactConfigFrom | Clash::ConfigAlone | Clash::FromAlone => "redact",
             _ => "custody",
         }
     }

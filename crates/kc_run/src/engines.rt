@@ -1,10 +1,10 @@
 //! The engines, over the files that a job names, standard input and a sink.
 ghost use Rattle.std.specs.Prelude.{◌≡◌, false, None};
 ghost use Rattle.kc_texts.specs.Outcomes.{seen};
-ghost use Rattle.kc_run.specs.Plans.{form_of, start_in};
+ghost use Rattle.kc_run.specs.Plans.{origin_at, form_of, start_in};
 ghost use Rattle.kc_run.specs.Opening.{Held};
 ghost use Rattle.kc_run.specs.Endings.{took, done_as, ending_of, judged_as};
-ghost use Rattle.kc_run.specs.Run.{ends_of, BeginsAt, ReplaysTo, ReportsCustody, RunsLive, AuditsDump, RedactsTrace};
+ghost use Rattle.kc_run.specs.Run.{ends_of, BeginsAt, ReplaysTo, ReportsCustody, RunsLive, AuditsDump, RedactsTrace, RedactsHost};
 
 use crate::beginning::{begin, close, open};
 use crate::ending::Ending;
@@ -14,7 +14,7 @@ use kc_cli::{
     CustodyOrder, Lanes, ReplayOrder, Sink, Source, TextFault, audit_text, custody_text, live_text,
     replay_text, replay_to_text,
 };
-use kc_redact_text::redact_text;
+use kc_redact_text::{redact_host_text, redact_text};
 use kc_replay::OpenGate;
 use std::alloc::Global;
 use std::sync::Wait;
@@ -172,4 +172,27 @@ pub(crate) fn redact<T: Source, K: Sink>(
     ensures { (held : Held) → RedactsTrace (ends_of held None (seen (T.failed input.new) (T.left input.old) (T.left input.new)) (input.new ≡ input.old) (took (K.failed out.new) (K.taken out.old) (K.taken out.new)) (out.new ≡ out.old)) result }
 {
     done(redact_text(alloc, input, out))
+}
+
+/// Redacts the trace from where calls begin, also of what the host writes to frames of active VMs.
+#[inline(never)]
+pub(crate) fn redact_host<F: Files, T: Source, K: Sink, R: Threads + Wait + Sync>(
+    rt: &R,
+    alloc: Global,
+    files: &mut F,
+    start: Start<'_>,
+    input: &mut T,
+    out: &mut K,
+    lanes: Lanes,
+) -> Result<Ending, TextFault>
+    requires files { F.refused files.old ≡ None }
+    requires input { T.failed input.old ≡ false }
+    requires out { K.failed out.old ≡ false }
+    ensures { BeginsAt start.entry (RedactsHost (origin_at start.entry)) (ends_of (F.held files.old) (F.refused files.new) (seen (T.failed input.new) (T.left input.old) (T.left input.new)) (input.new ≡ input.old) (took (K.failed out.new) (K.taken out.old) (K.taken out.new)) (out.new ≡ out.old)) result }
+{
+    let origin = start.origin();
+    let mut beginning = begin(alloc, files, start)?;
+    let answer = redact_host_text(rt, alloc, &mut beginning, input, out, origin, lanes);
+    close(files, beginning);
+    done(answer)
 }

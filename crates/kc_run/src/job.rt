@@ -5,7 +5,7 @@ ghost use Rattle.kc_run.specs.Endings.{took};
 ghost use Rattle.kc_run.specs.Run.{ends_of, IsEnding, IsRun};
 
 use crate::ending::{Ending, Exit, end, refuse};
-use crate::engines::{audit, custody, live, redact, replay};
+use crate::engines::{audit, custody, live, redact, redact_host, replay};
 use crate::files::Files;
 use crate::plan::{Plan, plan_of};
 use kc_cli::{Job, Lanes, ReplayOrder, Sink, Source, TextFault};
@@ -51,6 +51,7 @@ fn run_plan<F: Files, T: Source, K: Sink, R: Threads + Wait + Sync>(
         },
         Plan::Audit { all } => audit(rt, alloc, all, input, out),
         Plan::Redact => redact(alloc, input, out),
+        Plan::RedactHost { start } => redact_host(rt, alloc, files, start, input, out, lanes),
     }
 }
 

@@ -1,6 +1,6 @@
 //! What a job asks for, once its options do not contradict each other.
 ghost use Rattle.std.specs.Prelude.{◌≡◌};
-ghost use Rattle.kc_run.specs.Plans.{start_of, replay_form, is_alone, account_of, plan_of, path_of, origin_at, form_of, start_in};
+ghost use Rattle.kc_run.specs.Plans.{start_of, replay_form, is_alone, account_of, redact_plan, plan_of, path_of, origin_at, form_of, start_in};
 
 use crate::clash::Clash;
 use kc_cli::{CustodyForm, Job, Origin, ReplayForm};
@@ -54,6 +54,10 @@ pub enum Plan<'a> {
     },
     /// Write the trace without the bytes that VMs write.
     Redact,
+    /// Write the trace without these, and without those that the host writes to frames of active VMs.
+    RedactHost {
+        start: Start<'a>,
+    },
 }
 
 /// Where calls begin, by `--config` and `--from`; nothing for both.
@@ -100,6 +104,18 @@ fn account_of<'a>(summary: bool, svg: bool, start: Start<'a>) -> Result<Account<
         (true, false, Start::State(_)) => Err(Clash::FromSummary),
         (false, true, Start::Boot(config)) => Ok(Account::Picture(config)),
         (false, true, Start::State(_)) => Err(Clash::FromSvg),
+    }
+}
+
+/// Whose writes are blanked, by `--host`: without it no start may be named.
+fn redact_plan<'a>(host: bool, start: Start<'a>) -> Result<Plan<'a>, Clash>
+    ensures { result ≡ redact_plan host start.entry }
+{
+    match (host, start) {
+        (true, start) => Ok(Plan::RedactHost { start }),
+        (false, Start::Boot(None)) => Ok(Plan::Redact),
+        (false, Start::Boot(Some(_))) => Err(Clash::ConfigAlone),
+        (false, Start::State(_)) => Err(Clash::FromAlone),
     }
 }
 
@@ -155,7 +171,17 @@ pub fn plan_of<'a>(job: Job<'a>) -> Result<Plan<'a>, Clash>
             Ok(Plan::Custody { account, vm })
         },
         Job::Audit { all, explain: _ } => Ok(Plan::Audit { all }),
-        Job::Redact { explain: _ } => Ok(Plan::Redact),
+        Job::Redact {
+            config,
+            from,
+            host,
+            explain: _,
+        } => {
+            let Some(start) = start_of(config, from) else {
+                return Err(Clash::RedactConfigFrom);
+            };
+            redact_plan(host, start)
+        },
     }
 }
 

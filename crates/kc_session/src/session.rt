@@ -1,29 +1,38 @@
 //! A core that is asked line by line.
-ghost use Rattle.std.specs.Prelude.{◌≡◌, ◌≤◌, ◌+◌, ◌++◌, List, length, vec_len, vec_capacity, slice_get, option_map, IfOk, IfErr, OnOk, OnErr};
+ghost use Rattle.std.specs.Prelude.{◌≡◌, ◌≤◌, ◌+◌, ◌++◌, List, true, false, length, vec_len, vec_capacity, slice_get, option_map, IfOk, IfErr, OnOk, OnErr};
 ghost use Rattle.std.specs.List.{concat};
+ghost use Rattle.kc_types.specs.Limits.{call_limit};
 ghost use Rattle.kc_trace.specs.ReplyText.{longest_reply};
 ghost use Rattle.kc_trace.specs.Spelling.{longest_call};
 ghost use Rattle.kc_trace.specs.Trace.{IsTrace};
 ghost use Rattle.sha2.specs.Sha256.{sha256};
 ghost use Rattle.kc_types.specs.declared.call.Call.{Call};
-ghost use Rattle.kc_live.specs.Book.{new_log, next_volume, volume_in, calls_of};
+ghost use Rattle.kc_model.specs.Ranged.{IsRanged};
+ghost use Rattle.kc_live.specs.Book.{volume_in, calls_of, reply_to};
 ghost use Rattle.kc_redact.specs.Redacted.{IsRedaction};
 ghost use Rattle.kc_redact.specs.Witness.{HasSeen};
-ghost use Rattle.kc_session.specs.Session.{IsAnswer, IsUnanswered, trace_lines, redacted_lines, lines_in, line_in};
+ghost use Rattle.kc_session.specs.Session.{new_session, turned, with_call, IsOf, IsAnothers, IsAnswer, IsUnmade, IsUnanswered, trace_lines, redacted_lines, lines_in, line_in};
 
+use kc_core::KCore;
+use kc_custody::{note_marks, tell_marks};
 use kc_live::{Book, Entry, Ready, Volume};
 use kc_redact::{Witness, push_redacted};
 use kc_trace::{LONGEST_CALL, LONGEST_REPLY, call_of_line, push_call, push_header, push_reply};
-use kc_types::{CALL_LIMIT, Call, Config, Memory, Version};
+use kc_types::{Actor, CALL_LIMIT, Call, Config, FrameChange, Memory, Reply, Version, actor_of};
 use std::alloc::{AllocError, Global};
 use std::marker::Model;
 
-/// Why a line was not answered. Nothing has changed then.
+/// The line of a trace's first call, after its header.
+const FIRST_LINE: u32 = 2;
+
+/// Why a line was not answered, or a call not made. Nothing has changed then.
 #[derive(Clone, Copy, Debug, PartialEq, Eq)]
 pub enum AskFault {
     /// The line is no call.
     BadLine,
-    /// The line is a call, and the volume has 65,536 calls.
+    /// The call is another's than the one's that asks.
+    NotYours,
+    /// It is a call, and the volume has 65,536 calls.
     HistoryFull,
     /// A growth of memory was refused.
     Memory,
@@ -77,7 +86,19 @@ fn note_each(witness: &mut Witness, entries: &[Entry])
     }
 }
 
-/// A core and the volume of the calls that it answered, seen as that volume.
+/// Whether a call is the asker's; where nobody is named, it is anybody's.
+fn is_of(asker: Option<Actor>, call: &Call) -> bool
+    ensures yes { result ≡ true → IsOf asker call.now }
+    ensures no { result ≡ false → IsAnothers asker call.now }
+{
+    match asker {
+        Some(asker) => actor_of(call) == asker,
+        None => true,
+    }
+}
+
+/// A core and the volume of the calls that it answered, with what the last of all its calls changed of the custody of
+/// frames. Seen as the volume and these changes.
 #[derive(Drop)]
 pub struct Session {
     alloc: Global,
@@ -85,6 +106,9 @@ pub struct Session {
     witness: Witness,
     /// How many calls of the volume the witness has seen.
     seen: usize,
+    changes: Vec<FrameChange>,
+    /// Room for what is noted before a call.
+    marks: Vec<FrameChange>,
 }
 
 impl Model for Session {
@@ -94,14 +118,15 @@ impl Model for Session {
     ghost use Rattle.std.specs.Ordering.{nat_cmp};
     ghost use Rattle.kc_model.specs.Ranged.{IsRanged};
     ghost use Rattle.std.specs.Prelude.{◌≤◌, length, take};
-    ghost use Rattle.kc_live.specs.Book.{Log, calls_of};
+    ghost use Rattle.kc_live.specs.Book.{calls_of};
     ghost use Rattle.kc_redact.specs.Witness.{HasSeen};
+    ghost use Rattle.kc_session.specs.Session.{Kept};
 
-    ghost Value = { Log };
+    ghost Value = { Kept };
 
     ghost coded = { Prim.hlevel (codes, map.code {R = nat_cmp} coded_ℕ coded_ℕ) };
 
-    ghost view = { λ s. s.book };
+    ghost view = { λ s. record { log = s.book; changes = s.changes.items } };
 
     ghost invariant = { λ s. AllByRecursion IsRanged (calls_of s.book.entries) × (s.seen ≤ length s.book.entries) × HasSeen s.witness (calls_of (take s.seen s.book.entries)) };
 }
@@ -110,7 +135,7 @@ impl Session {
     /// The core in the boot state of its configuration, asked nothing yet; `Memory` where a growth was refused.
     pub fn new(alloc: Global, config: Config) -> Result<Session, Memory>
         // No clause can rule out that memory runs out: tests open sessions.
-        ensures { IfOk result (λ session. session ≡ new_log config) }
+        ensures { IfOk result (λ session. session ≡ new_session config) }
     {
         let book = Book::new(alloc, config)?;
         let witness = Witness::new(alloc)?;
@@ -119,35 +144,82 @@ impl Session {
             book,
             witness,
             seen: 0,
+            changes: Vec::new(alloc),
+            marks: Vec::new(alloc),
         })
     }
 
-    /// Answers the call that a line is, given without its newline: the line of its reply, with its newline. `BadLine`
-    /// where it is no call, `HistoryFull` where it is one and the volume has 65,536 calls, `Memory` where a growth was
-    /// refused, whatever the line is.
-    pub fn ask(&mut self, line: &[u8]) -> Result<Vec<u8>, AskFault>
-        ensures reply { IfOk result (λ told. IsAnswer self.old self.new line.now told.items) }
+    /// Makes a call if it is the asker's, or anybody's if nobody is named: its reply. `NotYours` where it is another's,
+    /// `HistoryFull` where the volume has 65,536 calls, `Memory` where a growth was refused: all memory is taken before the
+    /// call, so that nothing has changed then.
+    pub fn make(&mut self, asker: Option<Actor>, call: Call) -> Result<Reply, AskFault>
+        requires { IsRanged call }
+        ensures yours { OnOk result (IsOf asker call) }
+        ensures reply { IfOk result (λ reply. reply ≡ reply_to self.old.log call) }
+        ensures made { OnOk result (self.new ≡ with_call self.old call) }
+        ensures fault { IfErr result (λ fault. IsUnmade asker self.old call fault) }
+        ensures err { OnErr result (self.new ≡ self.old) }
+    {
+        if !is_of(asker, &call) {
+            return Err(AskFault::NotYours);
+        }
+        let line = self.book.entries().len() as u32 + FIRST_LINE;
+        self.marks.clear();
+        note_marks(self.alloc, self.book.core(), &call, line, &mut self.marks)?;
+        self.changes.reserve(self.marks.len())?;
+        let ready = Ready::new(self.alloc, call)?;
+        let Ok(receipt) = self.book.step(ready) else {
+            return Err(AskFault::HistoryFull);
+        };
+        self.changes.clear();
+        tell_marks(self.book.core(), &self.marks, &mut self.changes);
+        Ok(receipt.reply)
+    }
+
+    /// Answers the call that a line is, given without its newline, as `make` does: the line of its reply, with its newline.
+    /// `BadLine` where it is no call, `Memory` where a growth was refused, whatever the line is.
+    pub fn ask(&mut self, asker: Option<Actor>, line: &[u8]) -> Result<Vec<u8>, AskFault>
+        ensures reply { IfOk result (λ told. IsAnswer asker self.old self.new line.now told.items) }
         ensures short { IfOk result (λ told. vec_len told ≤ longest_reply) }
-        ensures fault { IfErr result (λ fault. IsUnanswered self.old line.now fault) }
+        ensures fault { IfErr result (λ fault. IsUnanswered asker self.old line.now fault) }
         ensures err { OnErr result (self.new ≡ self.old) }
     {
         let mut told = Vec::with_capacity(self.alloc, LONGEST_REPLY)?;
         let Some(call) = call_of_line(self.alloc, line)? else {
             return Err(AskFault::BadLine);
         };
-        let ready = Ready::new(self.alloc, call)?;
-        let Ok(receipt) = self.book.step(ready) else {
-            return Err(AskFault::HistoryFull);
-        };
-        push_reply(&mut told, &receipt.reply);
+        let reply = self.make(asker, call)?;
+        push_reply(&mut told, &reply);
         Ok(told)
+    }
+
+    /// What the last call that was answered changed of the custody of frames, in rising order of frames; nothing where no
+    /// call was.
+    pub fn changes(&self) -> &[FrameChange]
+        ensures { result.now ≡ self.now.changes }
+    {
+        self.changes.as_slice()
+    }
+
+    /// How many calls more the volume has room for.
+    pub fn left(&self) -> u32
+        ensures { result + length self.now.log.entries ≡ call_limit }
+    {
+        (CALL_LIMIT - self.book.entries().len()) as u32
+    }
+
+    /// The core as the calls so far left it.
+    pub fn core(&self) -> &KCore
+        ensures { result.now ≡ self.now.log.state }
+    {
+        self.book.core()
     }
 
     /// Hands out the volume, full or not, and begins the next one with the core as it is: the lines from then on are of the
     /// next one. `Memory` where the room for its calls was refused.
     pub fn turn(&mut self) -> Result<Volume, Memory>
-        ensures volume { IfOk result (λ volume. volume ≡ volume_in self.old) }
-        ensures next { OnOk result (self.new ≡ next_volume self.old) }
+        ensures volume { IfOk result (λ volume. volume ≡ volume_in self.old.log) }
+        ensures next { OnOk result (self.new ≡ turned self.old) }
         ensures err { OnErr result (self.new ≡ self.old) }
     {
         let room = Vec::with_capacity(self.alloc, CALL_LIMIT)?;
@@ -159,8 +231,8 @@ impl Session {
     /// The SHA-256 digest of the volume's redacted trace so far: of its redacted lines, one after the other. The calls since
     /// it was last asked are hashed now. No memory is taken.
     pub fn digest(&mut self) -> [u8; 32]
-        ensures digest { result ≡ sha256 (concat (redacted_lines self.old)) }
-        ensures redaction { IsRedaction (concat (trace_lines self.old)) (concat (redacted_lines self.old)) (calls_of self.old.entries) }
+        ensures digest { result ≡ sha256 (concat (redacted_lines self.old.log)) }
+        ensures redaction { IsRedaction (concat (trace_lines self.old.log)) (concat (redacted_lines self.old.log)) (calls_of self.old.log.entries) }
         ensures same { self.new ≡ self.old }
     {
         let entries = self.book.entries();
@@ -172,8 +244,8 @@ impl Session {
     /// How many lines the volume's trace has: the header, and a line for each call that was answered. All of them, one
     /// behind the other, are the trace of these calls.
     pub fn lines(&self) -> usize
-        ensures count { result ≡ length (trace_lines self.now) }
-        ensures trace { IsTrace (concat (trace_lines self.now)) (calls_of self.now.entries) }
+        ensures count { result ≡ length (trace_lines self.now.log) }
+        ensures trace { IsTrace (concat (trace_lines self.now.log)) (calls_of self.now.log.entries) }
     {
         self.book.entries().len() + 1
     }
@@ -181,7 +253,7 @@ impl Session {
     /// A line of that trace in a form, by its place from 0, with its newline. `None` where there are no more; `Memory` where a
     /// growth was refused.
     pub fn line(&self, form: Form, number: usize) -> Result<Option<Vec<u8>>, Memory>
-        ensures { IfOk result (λ told. option_map (λ line. line.items) told ≡ slice_get (lines_in form self.now) number) }
+        ensures { IfOk result (λ told. option_map (λ line. line.items) told ≡ slice_get (lines_in form self.now.log) number) }
     {
         let mut told = Vec::with_capacity(self.alloc, LONGEST_CALL)?;
         if number == 0 {

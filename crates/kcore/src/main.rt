@@ -92,7 +92,11 @@ fn asked_of<'a>(job: &Job<'a>) -> (Kind, bool, Option<&'a str>) {
             ..
         } => (Kind::Trace, explain, config),
         Job::Audit { explain, .. } => (Kind::Dump, explain, None),
-        Job::Redact { explain } => (Kind::Trace, explain, None),
+        Job::Redact {
+            config,
+            explain,
+            ..
+        } => (Kind::Trace, explain, config),
     }
 }
 

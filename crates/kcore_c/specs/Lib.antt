@@ -1,2 +1,4 @@
 pub mod Handle
+pub mod Record
+pub mod Request
 pub mod Status

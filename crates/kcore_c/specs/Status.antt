@@ -1,18 +1,28 @@
--- What each function says of a session by its status. A session is the volume that it fills; there is none where it is closed.
-use Rattle.std.specs.Prelude.{◌≡◌, ◌≤◌, ◌<◌, ℕ, List, Option, Some, None, Ok, IsSome, length, slice_get}
+-- What each function says of a session by its status. A session is the volume that it fills, with what its last call changed; there is none where it is closed.
+use Rattle.std.specs.Prelude.{◌≡◌, ◌≤◌, ◌<◌, ◌+◌, ℕ, List, Option, Some, None, Ok, IsSome, length, map, take, drop, slice_get, option_map}
 use Rattle.std.specs.List.{concat}
-use Rattle.kc_types.specs.Configuration.{Configuration}
+use Rattle.kc_types.specs.Configuration.{Configuration, slot_count}
+use Rattle.kc_types.specs.Limits.{call_limit, page_size}
+use Rattle.kc_types.specs.declared.call.Actor.{Actor}
 use Rattle.kc_types.specs.declared.config.ConfigFault.TheVariants as numbers
+use Rattle.kc_model.specs.State.{mapped_at}
+use Rattle.kc_model.specs.Custody.{custody_at}
 use Rattle.kc_trace.specs.ConfigText.{config_in, ConfigFails}
 use Rattle.kc_trace.specs.ReplyText.{longest_reply}
 use Rattle.kc_trace.specs.declared.config_text.ConfigTextFault.TheVariants as texts
 use Rattle.sha2.specs.Sha256.{sha256}
-use Rattle.kc_live.specs.Book.{Log, new_log, next_volume}
-use Rattle.kc_session.specs.Session.{IsAnswer, IsUnanswered, lines_in, redacted_lines}
+use Rattle.kc_session.specs.Session.{Kept, new_session, turned, IsAnswer, IsUnanswered, lines_in, redacted_lines}
 use Rattle.kc_session.specs.declared.session.Form.{Form}
 use Rattle.kc_session.specs.declared.session.AskFault.TheVariants as asks
+use Rattle.kcore_c.specs.Record.{record_of, change_of, IsNextOf, HasNoneOf}
+use Rattle.kcore_c.specs.Request.{requested, IsDone, IsUndone}
+use Rattle.kcore_c.specs.declared.request.Request.{Request}
+use Rattle.kcore_c.specs.declared.request.Answer.{Answer}
+use Rattle.kcore_c.specs.declared.record.Record.{Record}
+use Rattle.kcore_c.specs.declared.record.Change.{Change}
+use Rattle.kcore_c.specs.declared.record.Sizes.{Sizes}
 use Rattle.kcore_c.specs.declared.status.Status.{Status}
-use Rattle.kcore_c.specs.declared.status.Status.TheVariants.{Done, Closed, AlreadyOpen, Memory, NoRoom, NoSuchLine, Ask, Config}
+use Rattle.kcore_c.specs.declared.status.Status.TheVariants.{Done, Closed, AlreadyOpen, Memory, NoRoom, NoSuchLine, NoSuchFrame, NoSuchChange, NoSuchCall, Ask, Config}
 
 -- the numbers that C has for them
 abbrev pub code_of : Status → ℕ
@@ -22,8 +32,12 @@ code_of AlreadyOpen = 2
 code_of Memory = 3
 code_of NoRoom = 4
 code_of NoSuchLine = 5
+code_of NoSuchFrame = 15
+code_of NoSuchChange = 16
+code_of NoSuchCall = 17
 code_of (Ask asks.BadLine) = 6
 code_of (Ask asks.HistoryFull) = 7
+code_of (Ask asks.NotYours) = 14
 code_of (Ask asks.Memory) = 3
 code_of (Config texts.NotJson) = 8
 code_of (Config texts.BadShape) = 9
@@ -38,49 +52,107 @@ abbrev pub IsCode : (Status → Type 0) → ℕ → Type 0
 IsCode Says code = (status : Status) × (code ≡ code_of status) × Says status
 
 -- the session is that of a core in the boot state of the configuration that the text is
-abbrev pub IsBooted : Option Log → List ℕ → Type 0
-IsBooted session text = (config : Configuration) × (config_in text ≡ Ok config) × (session ≡ Some (new_log config))
+abbrev pub IsBooted : Option Kept → List ℕ → Type 0
+IsBooted session text = (config : Configuration) × (config_in text ≡ Ok config) × (session ≡ Some (new_session config))
 
 -- opening a session by a text
-abbrev pub BootSays : Option Log → Option Log → List ℕ → Status → Type 0
+abbrev pub BootSays : Option Kept → Option Kept → List ℕ → Status → Type 0
 BootSays old new text Done = (old ≡ None) × IsBooted new text
 BootSays old new text AlreadyOpen = IsSome old × (new ≡ old)
 BootSays old new text (Config fault) = (old ≡ None) × (new ≡ None) × ConfigFails fault (config_in text)
 BootSays old new text _ = ⊥
 
--- asking a session by a line, with room for so many bytes
-abbrev pub CallSays : Option Log → Option Log → List ℕ → ℕ → List ℕ → Status → Type 0
-CallSays (Some old) (Some new) line room bytes Done = IsAnswer old new line bytes
-CallSays (Some old) new line room bytes NoRoom = (room < longest_reply) × (new ≡ Some old)
-CallSays (Some old) new line room bytes (Ask fault) = (longest_reply ≤ room) × (new ≡ Some old) × IsUnanswered old line fault
-CallSays None new line room bytes Closed = new ≡ None
-CallSays _ _ line room bytes _ = ⊥
+-- asking a session by a line, as an actor or as nobody, with room for so many bytes
+abbrev pub CallSays : Option Actor → Option Kept → Option Kept → List ℕ → ℕ → List ℕ → Status → Type 0
+CallSays asker (Some old) (Some new) line room bytes Done = IsAnswer asker old new line bytes
+CallSays asker (Some old) new line room bytes NoRoom = (room < longest_reply) × (new ≡ Some old)
+CallSays asker (Some old) new line room bytes (Ask fault) = (longest_reply ≤ room) × (new ≡ Some old) × IsUnanswered asker old line fault
+CallSays asker None new line room bytes Closed = new ≡ None
+CallSays asker _ _ line room bytes _ = ⊥
+
+-- making a call by numbers and bytes, as an actor or as nobody, with room for so many bytes; an answer is reported where a call is made
+abbrev pub DoSays : Option Actor → Option Kept → Option Kept → Request → List ℕ → ℕ → List ℕ → Answer → Answer → Status → Type 0
+DoSays asker (Some old) (Some new) request given room bytes before after Done = IsDone asker old new request given bytes after
+DoSays asker (Some old) new request given room bytes before after NoRoom = (room < page_size) × (new ≡ Some old) × (after ≡ before)
+DoSays asker (Some old) new request given room bytes before after NoSuchCall = (page_size ≤ room) × (new ≡ Some old) × (after ≡ before) × (requested request given ≡ None)
+DoSays asker (Some old) new request given room bytes before after Memory = (page_size ≤ room) × (new ≡ Some old) × (after ≡ before)
+DoSays asker (Some old) new request given room bytes before after (Ask fault) = (page_size ≤ room) × (new ≡ Some old) × (after ≡ before) × IsUndone asker old request given fault
+DoSays asker None new request given room bytes before after Closed = (new ≡ None) × (after ≡ before)
+DoSays asker _ _ _ _ _ _ _ _ _ = ⊥
+
+-- telling a change of a frame's custody by the last call that was answered
+abbrev pub ChangeSays : Option Kept → ℕ → Change → Change → Status → Type 0
+ChangeSays (Some kept) number old new Done = option_map change_of (slice_get kept.changes number) ≡ Some new
+ChangeSays (Some kept) number old new NoSuchChange = (slice_get kept.changes number ≡ None) × (new ≡ old)
+ChangeSays None number old new Closed = new ≡ old
+ChangeSays _ _ _ _ _ = ⊥
+
+-- telling all these changes, in front of a buffer's other places; how many there are is told in any case
+abbrev pub ChangesSays : Option Kept → List Change → List Change → ℕ → Status → Type 0
+ChangesSays (Some kept) old new count Done = (count ≡ length kept.changes) × (count ≤ length old) × (take count new ≡ map change_of kept.changes) × (drop count new ≡ drop count old)
+ChangesSays (Some kept) old new count NoRoom = (count ≡ length kept.changes) × (length old < count) × (new ≡ old)
+ChangesSays None old new count Closed = (count ≡ 0) × (new ≡ old)
+ChangesSays _ _ _ _ _ = ⊥
+
+-- telling the custody of a frame
+abbrev pub RecordSays : Option Kept → ℕ → Record → Record → Status → Type 0
+RecordSays (Some kept) frame old new Done = (frame < kept.log.state.config.frames) × (new ≡ record_of (custody_at kept.log.state frame))
+RecordSays (Some kept) frame old new NoSuchFrame = (kept.log.state.config.frames ≤ frame) × (new ≡ old)
+RecordSays None frame old new Closed = new ≡ old
+RecordSays _ _ _ _ _ = ⊥
+
+-- telling the frame at a guest frame of a slot
+abbrev pub FrameSays : Option Kept → ℕ → ℕ → ℕ → ℕ → Status → Type 0
+FrameSays (Some kept) vm gfn old new Done = mapped_at kept.log.state vm gfn ≡ Some new
+FrameSays (Some kept) vm gfn old new NoSuchFrame = (mapped_at kept.log.state vm gfn ≡ None) × (new ≡ old)
+FrameSays None vm gfn old new Closed = new ≡ old
+FrameSays _ _ _ _ _ _ = ⊥
+
+-- telling the next frame of an owner
+abbrev pub NextSays : Option Kept → ℕ → ℕ → ℕ → ℕ → ℕ → Status → Type 0
+NextSays (Some kept) owner vm from old new Done = IsNextOf kept.log.state owner vm from new
+NextSays (Some kept) owner vm from old new NoSuchFrame = HasNoneOf kept.log.state owner vm from × (new ≡ old)
+NextSays None owner vm from old new Closed = new ≡ old
+NextSays _ _ _ _ _ _ _ = ⊥
+
+-- a session's sizes
+pub record AreSizes (kept : Kept) (told : Sizes) : Type 0 where
+  pub frames : told.frames ≡ kept.log.state.config.frames
+  pub core : told.core ≡ kept.log.state.config.core
+  pub host : told.host ≡ kept.log.state.config.host
+  pub slots : told.slots ≡ slot_count kept.log.state.config
+  pub left : told.left + length kept.log.entries ≡ call_limit
+
+abbrev pub SizesSays : Option Kept → Sizes → Sizes → Status → Type 0
+SizesSays (Some kept) old new Done = AreSizes kept new
+SizesSays None old new Closed = new ≡ old
+SizesSays _ _ _ _ = ⊥
 
 -- telling a line of a session's trace in a form, with room for so many bytes
-abbrev pub LineSays : Form → Option Log → ℕ → ℕ → List ℕ → Status → Type 0
-LineSays form (Some log) number room bytes Done = slice_get (lines_in form log) number ≡ Some bytes
-LineSays form (Some log) number room bytes NoSuchLine = slice_get (lines_in form log) number ≡ None
-LineSays form (Some log) number room bytes NoRoom = (line : List ℕ) × (slice_get (lines_in form log) number ≡ Some line) × (room < length line)
-LineSays form (Some log) number room bytes Memory = Unit {0}
+abbrev pub LineSays : Form → Option Kept → ℕ → ℕ → List ℕ → Status → Type 0
+LineSays form (Some kept) number room bytes Done = slice_get (lines_in form kept.log) number ≡ Some bytes
+LineSays form (Some kept) number room bytes NoSuchLine = slice_get (lines_in form kept.log) number ≡ None
+LineSays form (Some kept) number room bytes NoRoom = (line : List ℕ) × (slice_get (lines_in form kept.log) number ≡ Some line) × (room < length line)
+LineSays form (Some kept) number room bytes Memory = Unit {0}
 LineSays form None number room bytes Closed = Unit {0}
 LineSays form _ number room bytes _ = ⊥
 
 -- telling the digest of a session's redacted trace, with room for so many bytes
-abbrev pub DigestSays : Option Log → ℕ → List ℕ → Status → Type 0
-DigestSays (Some log) room bytes Done = bytes ≡ sha256 (concat (redacted_lines log))
-DigestSays (Some log) room bytes NoRoom = room < 32
+abbrev pub DigestSays : Option Kept → ℕ → List ℕ → Status → Type 0
+DigestSays (Some kept) room bytes Done = bytes ≡ sha256 (concat (redacted_lines kept.log))
+DigestSays (Some kept) room bytes NoRoom = room < 32
 DigestSays None room bytes Closed = Unit {0}
 DigestSays _ room bytes _ = ⊥
 
 -- turning a session over
-abbrev pub TurnSays : Option Log → Option Log → Status → Type 0
-TurnSays (Some old) new Done = new ≡ Some (next_volume old)
+abbrev pub TurnSays : Option Kept → Option Kept → Status → Type 0
+TurnSays (Some old) new Done = new ≡ Some (turned old)
 TurnSays (Some old) new Memory = new ≡ Some old
 TurnSays None new Closed = new ≡ None
 TurnSays _ _ _ = ⊥
 
 -- ending a session
-abbrev pub EndSays : Option Log → Status → Type 0
-EndSays (Some log) Done = Unit {0}
+abbrev pub EndSays : Option Kept → Status → Type 0
+EndSays (Some kept) Done = Unit {0}
 EndSays None Closed = Unit {0}
 EndSays _ _ = ⊥

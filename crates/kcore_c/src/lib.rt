@@ -2,19 +2,26 @@
 //! that it needs but the pointers themselves; what C owes stands in `kcore.h`.
 #![tactic(auto)]
 
-ghost use Rattle.std.specs.Prelude.{◌≡◌, ◌≢◌, ◌≤◌, None, length, take, drop};
+ghost use Rattle.std.specs.Prelude.{◌≡◌, ◌≢◌, ◌≤◌, Some, None, length, take, drop};
 ghost use Rattle.kc_trace.specs.ReplyText.{longest_reply};
 ghost use Rattle.kc_trace.specs.Spelling.{longest_call};
 ghost use Rattle.kc_session.specs.declared.session.Form.TheVariants.{Whole, Redacted};
-ghost use Rattle.kcore_c.specs.Status.{IsCode, BootSays, CallSays, LineSays, DigestSays, TurnSays, EndSays};
+ghost use Rattle.kcore_c.specs.Record.{asking};
+ghost use Rattle.kcore_c.specs.Status.{IsCode, BootSays, CallSays, DoSays, ChangeSays, ChangesSays, RecordSays, FrameSays, NextSays, SizesSays, LineSays, DigestSays, TurnSays, EndSays};
 
 mod handle;
+mod look_ups;
+mod record;
+mod request;
 mod session;
 mod status;
 
 pub use handle::Handle;
 use kc_session::Form;
 use kc_trace::{LONGEST_CALL, LONGEST_REPLY};
+use record::asking;
+pub use record::{Change, Record, Sizes};
+pub use request::{Answer, Request};
 pub use status::Status;
 use std::alloc::Global;
 
@@ -54,12 +61,168 @@ pub extern "C" fn kcore_call(
     out: &mut [u8],
     used: &mut usize,
 ) -> u32
-    ensures says { IsCode (CallSays core.old.held.session core.new.held.session line.now (length out.old) (take used.new out.new)) result }
+    ensures says { IsCode (CallSays None core.old.held.session core.new.held.session line.now (length out.old) (take used.new out.new)) result }
     ensures within { used.new ≤ length out.new }
     ensures rest { drop used.new out.new ≡ drop used.new out.old }
     ensures nothing { result ≢ 0 → used.new ≡ 0 }
 {
-    session::call(alloc, core, line, out, used).code()
+    session::call(alloc, core, None, line, out, used).code()
+}
+
+/// Answers as `kcore_call` does if the line's call is the one's that asks: a virtual processor of a slot, or the host if the
+/// slot is 4,294,967,295. If it is another's, it is not answered.
+#[unsafe(no_mangle)]
+pub extern "C" fn kcore_call_by(
+    alloc: Global,
+    core: &mut Handle,
+    vm: u32,
+    vcpu: u32,
+    line: &[u8],
+    out: &mut [u8],
+    used: &mut usize,
+) -> u32
+    ensures says { IsCode (CallSays (Some (asking vm vcpu)) core.old.held.session core.new.held.session line.now (length out.old) (take used.new out.new)) result }
+    ensures within { used.new ≤ length out.new }
+    ensures rest { drop used.new out.new ≡ drop used.new out.old }
+    ensures nothing { result ≢ 0 → used.new ≡ 0 }
+{
+    session::call(alloc, core, Some(asking(vm, vcpu)), line, out, used).code()
+}
+
+/// Makes a call that is given by numbers and bytes: the numbers of its reply, and of the buffer, which has room for 4,096
+/// bytes, the first `used` are the reply's; the others stay. If it is not made, session, buffer and answer stay as they are
+/// and `used` is 0. Who asks is not tested.
+#[unsafe(no_mangle)]
+pub extern "C" fn kcore_do(
+    alloc: Global,
+    core: &mut Handle,
+    request: &Request,
+    bytes: &[u8],
+    out: &mut [u8],
+    used: &mut usize,
+    answer: &mut Answer,
+) -> u32
+    ensures says { IsCode (DoSays None core.old.held.session core.new.held.session request.now bytes.now (length out.old) (take used.new out.new) answer.old answer.new) result }
+    ensures within { used.new ≤ length out.new }
+    ensures rest { drop used.new out.new ≡ drop used.new out.old }
+    ensures nothing { result ≢ 0 → used.new ≡ 0 }
+{
+    session::make(alloc, core, None, request, bytes, out, used, answer).code()
+}
+
+/// Makes a call as `kcore_do` does if it is the one's that asks, as `kcore_call_by` has it.
+#[unsafe(no_mangle)]
+pub extern "C" fn kcore_do_by(
+    alloc: Global,
+    core: &mut Handle,
+    vm: u32,
+    vcpu: u32,
+    request: &Request,
+    bytes: &[u8],
+    out: &mut [u8],
+    used: &mut usize,
+    answer: &mut Answer,
+) -> u32
+    ensures says { IsCode (DoSays (Some (asking vm vcpu)) core.old.held.session core.new.held.session request.now bytes.now (length out.old) (take used.new out.new) answer.old answer.new) result }
+    ensures within { used.new ≤ length out.new }
+    ensures rest { drop used.new out.new ≡ drop used.new out.old }
+    ensures nothing { result ≢ 0 → used.new ≡ 0 }
+{
+    session::make(
+        alloc,
+        core,
+        Some(asking(vm, vcpu)),
+        request,
+        bytes,
+        out,
+        used,
+        answer,
+    )
+    .code()
+}
+
+/// Reports what the last call that was answered changed of the custody of frames: a change, by its place from 0, in
+/// rising order of frames. If there is none there, `change` stays.
+#[unsafe(no_mangle)]
+pub extern "C" fn kcore_change(
+    alloc: Global,
+    core: &mut Handle,
+    number: usize,
+    change: &mut Change,
+) -> u32
+    ensures says { IsCode (ChangeSays core.old.held.session number change.old change.new) result }
+    ensures same { core.new.held.session ≡ core.old.held.session }
+{
+    look_ups::change(alloc, core, number, change).code()
+}
+
+/// Reports all these changes, the first `count` of the buffer, of which the rest stays; where they have no room, how many
+/// there are.
+#[unsafe(no_mangle)]
+pub extern "C" fn kcore_changes(
+    alloc: Global,
+    core: &mut Handle,
+    changes: &mut [Change],
+    count: &mut usize,
+) -> u32
+    ensures says { IsCode (ChangesSays core.old.held.session changes.old changes.new count.new) result }
+    ensures same { core.new.held.session ≡ core.old.held.session }
+{
+    look_ups::changes(alloc, core, changes, count).code()
+}
+
+/// Reports the custody of a frame. If it does not exist, `custody` stays.
+#[unsafe(no_mangle)]
+pub extern "C" fn kcore_record_of(
+    alloc: Global,
+    core: &mut Handle,
+    frame: u32,
+    custody: &mut Record,
+) -> u32
+    ensures says { IsCode (RecordSays core.old.held.session frame custody.old custody.new) result }
+    ensures same { core.new.held.session ≡ core.old.held.session }
+{
+    look_ups::record(alloc, core, frame, custody).code()
+}
+
+/// Reports the frame that is mapped at a guest frame of a slot.
+#[unsafe(no_mangle)]
+pub extern "C" fn kcore_frame_of(
+    alloc: Global,
+    core: &mut Handle,
+    vm: u32,
+    gfn: u32,
+    frame: &mut u32,
+) -> u32
+    ensures says { IsCode (FrameSays core.old.held.session vm gfn frame.old frame.new) result }
+    ensures same { core.new.held.session ≡ core.old.held.session }
+{
+    look_ups::frame(alloc, core, vm, gfn, frame).code()
+}
+
+/// Reports the first frame, from a number on, that has this owner, and this slot or 4,294,967,295.
+#[unsafe(no_mangle)]
+pub extern "C" fn kcore_next(
+    alloc: Global,
+    core: &mut Handle,
+    owner: u32,
+    vm: u32,
+    from: u32,
+    frame: &mut u32,
+) -> u32
+    ensures says { IsCode (NextSays core.old.held.session owner vm from frame.old frame.new) result }
+    ensures same { core.new.held.session ≡ core.old.held.session }
+{
+    look_ups::next(alloc, core, owner, vm, from, frame).code()
+}
+
+/// Reports how large the core is, and how many calls more the volume holds.
+#[unsafe(no_mangle)]
+pub extern "C" fn kcore_sizes(alloc: Global, core: &mut Handle, size: &mut Sizes) -> u32
+    ensures says { IsCode (SizesSays core.old.held.session size.old size.new) result }
+    ensures same { core.new.held.session ≡ core.old.held.session }
+{
+    look_ups::sizes(alloc, core, size).code()
 }
 
 /// Tells a line of the volume's trace, by its place from 0, with its newline: the header, then a line for each call that was

@@ -1,12 +1,14 @@
 //! What is done with the session behind a handle.
 ghost use Rattle.std.specs.Prelude.{◌≡◌, ◌≢◌, ◌≤◌, Some, None, length, take, drop, IfOk, IfErr};
 ghost use Rattle.kc_trace.specs.ConfigText.{config_in, ConfigFails};
-ghost use Rattle.kcore_c.specs.Status.{BootSays, CallSays, LineSays, DigestSays, TurnSays, EndSays, IsBooted};
+ghost use Rattle.kcore_c.specs.Status.{BootSays, CallSays, DoSays, LineSays, DigestSays, TurnSays, EndSays, IsBooted};
 
 use crate::handle::Handle;
+use crate::request::{Answer, Request, answer_of, bytes_of, requested};
 use crate::status::Status;
 use kc_session::{Form, Session};
 use kc_trace::{ConfigTextFault, LONGEST_REPLY, read_config};
+use kc_types::{Actor, PAGE_SIZE};
 use std::alloc::Global;
 
 /// How many bytes a digest has.
@@ -52,15 +54,16 @@ pub fn boot(alloc: Global, core: &mut Handle, text: &[u8]) -> Status
     }
 }
 
-/// Asks the session by a line, for a reply into `out`.
+/// Asks the session by a line, as an actor or as nobody, for a reply into `out`.
 pub fn call(
     alloc: Global,
     core: &mut Handle,
+    asker: Option<Actor>,
     line: &[u8],
     out: &mut [u8],
     used: &mut usize,
 ) -> Status
-    ensures says { CallSays core.old.held.session core.new.held.session line.now (length out.old) (take used.new out.new) result }
+    ensures says { CallSays asker core.old.held.session core.new.held.session line.now (length out.old) (take used.new out.new) result }
     ensures within { used.new ≤ length out.new }
     ensures rest { drop used.new out.new ≡ drop used.new out.old }
     ensures nothing { result ≢ Status.Done → used.new ≡ 0 }
@@ -74,7 +77,7 @@ pub fn call(
         core.put(session);
         return Status::NoRoom;
     }
-    let told = session.ask(line);
+    let told = session.ask(asker, line);
     core.put(session);
     match told {
         Ok(told) => {
@@ -82,6 +85,55 @@ pub fn call(
             *used = told.len();
             Status::Done
         }
+        Err(fault) => Status::Ask(fault),
+    }
+}
+
+/// Makes the call that a request is, as an actor or as nobody: the numbers of its reply, and its bytes into `out`.
+pub fn make(
+    alloc: Global,
+    core: &mut Handle,
+    asker: Option<Actor>,
+    request: &Request,
+    bytes: &[u8],
+    out: &mut [u8],
+    used: &mut usize,
+    answer: &mut Answer,
+) -> Status
+    ensures says { DoSays asker core.old.held.session core.new.held.session request.now bytes.now (length out.old) (take used.new out.new) answer.old answer.new result }
+    ensures within { used.new ≤ length out.new }
+    ensures rest { drop used.new out.new ≡ drop used.new out.old }
+    ensures nothing { result ≢ Status.Done → used.new ≡ 0 }
+{
+    *used = 0;
+    let Some(session) = core.take(alloc) else {
+        return Status::Closed;
+    };
+    let mut session = session;
+    if out.len() < PAGE_SIZE as usize {
+        core.put(session);
+        return Status::NoRoom;
+    }
+    let made = match requested(alloc, *request, bytes) {
+        Ok(Some(call)) => session.make(asker, call),
+        Ok(None) => {
+            core.put(session);
+            return Status::NoSuchCall;
+        },
+        Err(_) => {
+            core.put(session);
+            return Status::Memory;
+        },
+    };
+    core.put(session);
+    match made {
+        Ok(reply) => {
+            let told = bytes_of(&reply);
+            out[..told.len()].copy_from_slice(told);
+            *used = told.len();
+            *answer = answer_of(&reply);
+            Status::Done
+        },
         Err(fault) => Status::Ask(fault),
     }
 }

@@ -21,6 +21,12 @@ pub enum Status {
     NoRoom,
     /// The trace has no such line.
     NoSuchLine,
+    /// There is no such frame, or none there.
+    NoSuchFrame,
+    /// The last call changed fewer frames.
+    NoSuchChange,
+    /// There is no such call.
+    NoSuchCall,
     /// The line was not answered.
     Ask(AskFault),
     /// The text is no configuration.
@@ -39,7 +45,11 @@ impl Status {
             Status::Memory => 3,
             Status::NoRoom => 4,
             Status::NoSuchLine => 5,
+            Status::NoSuchFrame => 15,
+            Status::NoSuchChange => 16,
+            Status::NoSuchCall => 17,
             Status::Ask(AskFault::BadLine) => 6,
+            Status::Ask(AskFault::NotYours) => 14,
             Status::Ask(AskFault::HistoryFull) => 7,
             Status::Ask(AskFault::Memory) => 3,
             Status::Config(ConfigTextFault::NotJson) => 8,

@@ -1,6 +1,6 @@
 //! A pointer with the session behind it, or with none.
 ghost use Rattle.std.specs.Prelude.{◌≡◌, Option, Some, None, IsSome};
-ghost use Rattle.kc_live.specs.Book.{Log};
+ghost use Rattle.kc_session.specs.Session.{Kept};
 ghost use Rattle.kcore_c.specs.Handle.{held_coded, held_owns};
 
 use super::parts::Parts;
@@ -15,7 +15,7 @@ use std::ptr;
 pub struct Held {
     ptr: *mut u8,
     alloc: Global,
-    pub ghost session: { Option Log } by { held_coded },
+    pub ghost session: { Option Kept } by { held_coded },
 }
 
 impl Model for Held {

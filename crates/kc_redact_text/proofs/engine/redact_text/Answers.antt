@@ -1,24 +1,17 @@
-use Rattle.std.proofs.Common.{◌≡◌, ◌∙◌, Err, true, sym, ap, refl, inr, rules}
-use Rattle.std.proofs.lemmas.Result.{err_from_is_err_and}
+use Rattle.std.proofs.Common.{◌≡◌, ◌∙◌, Err, sym, ap}
+use Rattle.std.proofs.lemmas.Result.{err_from_is_err_and, on_ok_weaker}
 use Rattle.kc_texts.specs.declared.fault.TextFault.TheVariants as texts
+use Rattle.kc_texts.proofs.Told.{sink_more}
 use Rattle.kc_redact_text.proofs.Given.{redacts, begins}
 use Rattle.kc_redact_text.proofs.engine.redact_text.Goals as goal
 
-pub returns-in-Ok-give_lines-clause-ok : goal.returns-in-Ok-give_lines-clause-ok
-returns-in-Ok-give_lines-clause-ok g c =
-    redacts _ _ _ c.in_ok-head.head c.in_ok-head.calls.items c.in_ok-head.ensures.ok
-    (rw (c.push_bytes.ensures.items, c.in-Ok.ensures.empty) at c.in-Ok-give_lines.ensures.ok)
+pub returns-clause-ok : goal.returns-clause-ok
+returns-clause-ok g c =
+    on_ok_weaker c.give_redacted.result (λ given. redacts _ _ _ c.in_ok-head.head c.in_ok-head.calls.items c.in_ok-head.ensures.ok given) c.give_redacted.ensures.ok
 
-pub returns-in-Err-clause-sink : goal.returns-in-Err-clause-sink
-returns-in-Err-clause-sink g c =
-    let failed : g.K.Sink.failed c.give_lines.new.out ≡ true = search rules in
-    let begun = begins _ _ _ c.in_ok-head.head c.in_ok-head.calls.items c.in_ok-head.ensures.ok
-    (rw (c.push_bytes.ensures.items, c.in-Ok.ensures.empty) at c.in-Err.ensures.begun) in
-    record {
-      write = λ e. (failed, begun);
-      failed_is = λ bad. refl;
-      kept = inr refl;
-    }
+pub returns-clause-sink : goal.returns-clause-sink
+returns-clause-sink g c =
+    sink_more _ _ _ _ _ (λ begun. begins _ _ _ c.in_ok-head.head c.in_ok-head.calls.items c.in_ok-head.ensures.ok begun) c.give_redacted.ensures.sink
 
 pub returns-in_err-head-clause-trace : goal.returns-in_err-head-clause-trace
 returns-in_err-head-clause-trace g c fault e =

@@ -1,7 +1,10 @@
 use Rattle.std.proofs.Common.{◌≡◌, ◌++◌}
-use Rattle.kc_redact.specs.Redacted.{redacted}
+use Rattle.kc_redact_text.specs.Made.{redacted_by, core_after}
 use Rattle.kc_redact_text.proofs.reading.push_each.Given as goal
 
--- the calls so far are kept
+-- the calls so far are kept, and made
 abbrev pub invariant-loop-call : goal.invariant-loop-call
-invariant-loop-call l = l.calls.items ≡ l.fn.calls.items ++ redacted l.yielded
+invariant-loop-call l = record {
+  kept : l.calls.items ≡ l.fn.calls.items ++ redacted_by l.fn.core l.yielded;
+  made : l.core ≡ core_after l.fn.core l.yielded;
+}

@@ -6,7 +6,7 @@ use Rattle.kc_redact_text.proofs.reading.Redacting.take_rest.Given as goal
 -- what was taken so far
 abbrev pub invariant-pieces : goal.invariant-pieces
 invariant-pieces g l = record {
-  on : HasGoneOn l.fn.self l.self (g.T.Source.left l.fn.source) (g.T.Source.left l.source);
+  on : HasGoneOn l.fn.core l.core l.fn.self l.self (g.T.Source.left l.fn.source) (g.T.Source.left l.source);
   few : l.self.total ≤ byte_limit;
   room : 0 < length l.buffer;
   whole : g.T.Source.failed l.source ≡ false;

@@ -1,0 +1,78 @@
+-- Calls redacted as they come, in two stretches as in one.
+use Rattle.std.proofs.Common.{append_assoc, ◌≡◌, ℕ, Bool, true, false, not, List, [], ◌∷◌, ◌++◌, Option, Some, None, refl, sym, ap, ◌∙◌}
+use Rattle.std.proofs.lemmas.List.{map-append}
+use Rattle.std.specs.Prelude.{if◌then◌else◌}
+use Rattle.kc_types.specs.declared.call.Call.{Call}
+use Rattle.kc_types.specs.declared.call.Call.TheVariants.{HostWrite}
+use Rattle.kc_types.specs.declared.owner.Owner.{Owner}
+use Rattle.kc_types.specs.declared.owner.Owner.TheVariants.{Core, Host, Free, Vm}
+use Rattle.kc_model.specs.State.{State, frame_at}
+use Rattle.kc_model.specs.Next.{next, state_after}
+use Rattle.kc_model.specs.Redaction.{counts}
+use Rattle.kc_model.specs.Blanking.{is_guests}
+use Rattle.kc_model.proofs.States.Runs.{state_after-append}
+use Rattle.kc_redact.specs.Redacted.{blanked, redacted_call, redacted_in, redacted_from, all_frames}
+use Rattle.kc_redact_text.specs.Kept.{blanked_call}
+use Rattle.kc_redact_text.specs.Made.{is_hidden, redacted_next, core_next, redacted_by, core_after}
+
+-- ---- one call
+
+counted : (m : State) (f : ℕ) (owner : Owner) → counts all_frames m f owner ≡ not (is_guests m owner)
+counted m f (Vm v) = refl
+counted m f Core = refl
+counted m f Host = refl
+counted m f Free = refl
+
+abbrev shown_as : ℕ → ℕ → List ℕ → Bool → Call
+shown_as f off bytes b = HostWrite f off (if b then bytes else blanked bytes)
+
+pub hidden : (m : State) (call : Call) → is_hidden m call ≡ true → redacted_in all_frames m call ≡ blanked_call call
+hidden m (HostWrite f off bytes) h = ap (shown_as f off bytes) (counted m f (frame_at m f).owner ∙ ap not h)
+hidden m _ h = cc
+
+pub shown : (m : State) (call : Call) → is_hidden m call ≡ false → redacted_in all_frames m call ≡ redacted_call call
+shown m (HostWrite f off bytes) h = ap (shown_as f off bytes) (counted m f (frame_at m f).owner ∙ ap not h)
+shown m _ h = refl
+
+-- ---- calls in order
+
+from-append : (m : State) (xs ys : List Call) → redacted_from m (xs ++ ys) ≡ redacted_from m xs ++ redacted_from (state_after m xs) ys
+from-append m [] ys = refl
+from-append m (x ∷ xs) ys = ap (λ rest. redacted_in all_frames m x ∷ rest) (from-append (next m x).1 xs ys)
+
+pub by-none : (core : Option State) → redacted_by core [] ≡ []
+by-none None = refl
+by-none (Some m) = refl
+
+pub after-none : (core : Option State) → core_after core [] ≡ core
+after-none None = refl
+after-none (Some m) = refl
+
+pub by-append : (core : Option State) (xs ys : List Call) → redacted_by core (xs ++ ys) ≡ redacted_by core xs ++ redacted_by (core_after core xs) ys
+by-append None xs ys = map-append redacted_call xs ys
+by-append (Some m) xs ys = from-append m xs ys
+
+pub after-append : (core : Option State) (xs ys : List Call) → core_after core (xs ++ ys) ≡ core_after (core_after core xs) ys
+after-append None xs ys = refl
+after-append (Some m) xs ys = ap Some (state_after-append m xs ys)
+
+by-one : (core : Option State) (call : Call) → redacted_by core (call ∷ []) ≡ redacted_next core call ∷ []
+by-one None call = refl
+by-one (Some m) call = refl
+
+after-one : (core : Option State) (call : Call) → core_after core (call ∷ []) ≡ core_next core call
+after-one None call = refl
+after-one (Some m) call = refl
+
+pub by-then : (core now : Option State) (xs : List Call) (call : Call) → now ≡ core_after core xs → redacted_by core (xs ++ call ∷ []) ≡ redacted_by core xs ++ redacted_next now call ∷ []
+by-then core now xs call is =
+    by-append core xs (call ∷ []) ∙ ap (λ more. redacted_by core xs ++ more) (by-one (core_after core xs) call ∙ ap (λ c. redacted_next c call ∷ []) (sym is))
+
+pub after-then : (core now : Option State) (xs : List Call) (call : Call) → now ≡ core_after core xs → core_after core (xs ++ call ∷ []) ≡ core_next now call
+after-then core now xs call is = after-append core xs (call ∷ []) ∙ after-one (core_after core xs) call ∙ ap (λ c. core_next c call) (sym is)
+
+-- one call more is kept
+pub kept-then : (core now : Option State) (first so_far new xs : List Call) (call kept : Call) → so_far ≡ first ++ redacted_by core xs → now ≡ core_after core xs → kept ≡ redacted_next now call → new ≡ so_far ++ kept ∷ [] → new ≡ first ++ redacted_by core (xs ++ call ∷ [])
+kept-then core now first so_far new xs call kept is at one added =
+    added ∙ ap (λ l. l ++ kept ∷ []) is ∙ append_assoc first (redacted_by core xs) (kept ∷ [])
+    ∙ ap (λ l. first ++ l) (ap (λ k. redacted_by core xs ++ k ∷ []) one ∙ sym (by-then core now xs call at))

@@ -1,0 +1,97 @@
+//! A trace read, its calls made as they are read, redacted, and written.
+ghost use Rattle.std.specs.Prelude.{◌≡◌, ◌∷◌, [], List, false, true, Some, IfOk, IfErr, IfSome, OnOk, Err};
+ghost use Rattle.std.specs.Io.KnownBytes.{IsAtEnd};
+ghost use Rattle.kc_model.specs.State.{State};
+ghost use Rattle.kc_model.specs.Lawful.{IsLawful};
+ghost use Rattle.kc_trace.specs.declared.fault.TraceFault.{TraceFault};
+ghost use Rattle.kc_trace.specs.Trace.{IsRefused};
+ghost use Rattle.kc_texts.specs.Ends.{ReadFailed};
+ghost use Rattle.kc_texts.specs.Reading.{BeginsIn, Writes, Begins};
+ghost use Rattle.kc_texts.specs.Outcomes.{seen, TellsSources, TellsTexts, TellsSink};
+ghost use Rattle.kc_redact_text.specs.Reading.{IsHeadAndCalls, IsReadingFault};
+ghost use Rattle.kc_redact_text.specs.Redacts.{IsHostRedacted, IsHostRedactFault, IsHostReadingFault};
+
+use crate::calls::RedactedCall;
+use crate::engine::give_redacted;
+use crate::reading::{HEADER, read_redacted};
+use kc_cli::{Lanes, read_start};
+use kc_core::KCore;
+use kc_texts::{Origin, Sink, Source, TextFault};
+use std::alloc::Global;
+use std::thread::Threads;
+
+/// Reads a trace and makes its calls on a core, as they are read: its header, and its calls, redacted. The core is wiped before
+/// it goes, whatever the outcome.
+fn read_made<T: Source>(
+    rt: &(impl Threads + Sync),
+    alloc: Global,
+    core: KCore,
+    trace: &mut T,
+) -> Result<([u8; HEADER], Vec<RedactedCall>), TextFault>
+    requires { T.failed trace.old ≡ false }
+    ensures ok { IfOk result (λ read. IfSome (T.left trace.old) (λ text. IsHeadAndCalls (Some core) text read.0 read.1.items)) }
+    ensures ended { OnOk result (IsAtEnd (T.left trace.new)) }
+    ensures trace { (fault : TraceFault) → result ≡ Err (TextFault.Trace fault) → IfSome (T.left trace.old) (λ text. IsRefused text fault) × IsAtEnd (T.left trace.new) }
+    ensures read { result ≡ Err TextFault.Read → ReadFailed (T.failed trace.new) (T.left trace.old) (T.left trace.new) }
+    ensures failed { T.failed trace.new ≡ true → result ≡ Err TextFault.Read }
+    ensures fault { IfErr result IsReadingFault }
+{
+    let mut core = Some(core);
+    let read = read_redacted(alloc, &mut core, trace);
+    if let Some(mut core) = core {
+        core.wipe(rt);
+    }
+    read
+}
+
+/// Reads what the calls begin with to its end, and a trace as its calls are made: its header, and its calls, redacted.
+fn read_both<C: Source, T: Source>(
+    rt: &(impl Threads + Sync),
+    alloc: Global,
+    start: &mut C,
+    trace: &mut T,
+    origin: Origin,
+    lanes: Lanes,
+) -> Result<([u8; HEADER], Vec<RedactedCall>), TextFault>
+    requires start { C.failed start.old ≡ false }
+    requires trace { T.failed trace.old ≡ false }
+    ensures ok { IfOk result (λ read. (m : State) × IsLawful m × IfSome (C.left start.old) (λ text. BeginsIn origin text m) × IfSome (T.left trace.old) (λ text. IsHeadAndCalls (Some m) text read.0 read.1.items)) }
+    ensures sources { TellsSources (seen (C.failed start.new) (C.left start.old) (C.left start.new) ∷ seen (T.failed trace.new) (T.left trace.old) (T.left trace.new) ∷ []) result }
+    ensures texts { TellsTexts origin (seen (C.failed start.new) (C.left start.old) (C.left start.new)) (seen (T.failed trace.new) (T.left trace.old) (T.left trace.new)) (trace.new ≡ trace.old) result }
+    ensures fault { IfErr result IsHostReadingFault }
+{
+    let core = read_start(rt, alloc, start, origin, lanes)?;
+    read_made(rt, alloc, core, trace)
+}
+
+/// Reads what the calls begin with and a trace, each to its end, makes the trace's calls on one thread as they are read, and
+/// writes the trace with zeros in the place of the bytes that virtual processors write, and of those that the host writes to a
+/// frame of a VM that is active then: the same header and the same lines, each as long as it was.
+///
+/// Nothing is written but after the whole trace was read and answered. A source that fails, or that has more than
+/// 1,073,741,824 bytes, is `Read`, also where its bytes so far are refused already. Out of memory comes before a fault of
+/// the trace that stands further on.
+pub fn redact_host_text<C: Source, T: Source, K: Sink>(
+    rt: &(impl Threads + Sync),
+    alloc: Global,
+    start: &mut C,
+    trace: &mut T,
+    out: &mut K,
+    origin: Origin,
+    lanes: Lanes,
+) -> Result<(), TextFault>
+    requires start { C.failed start.old ≡ false }
+    requires trace { T.failed trace.old ≡ false }
+    requires out { K.failed out.old ≡ false }
+
+    // What is written is the redacted trace of the trace, from the state on that the start's text tells.
+    ensures ok { OnOk result (Writes (IsHostRedacted origin) (C.left start.old) (T.left trace.old) (K.taken out.old) (K.taken out.new)) }
+    ensures sources { TellsSources (seen (C.failed start.new) (C.left start.old) (C.left start.new) ∷ seen (T.failed trace.new) (T.left trace.old) (T.left trace.new) ∷ []) result }
+    ensures texts { TellsTexts origin (seen (C.failed start.new) (C.left start.old) (C.left start.new)) (seen (T.failed trace.new) (T.left trace.old) (T.left trace.new)) (trace.new ≡ trace.old) result }
+    ensures sink { TellsSink (K.failed out.new) (Begins (IsHostRedacted origin) (C.left start.old) (T.left trace.old) (K.taken out.old) (K.taken out.new)) (out.new ≡ out.old) result }
+    // No other fault comes.
+    ensures others { IfErr result IsHostRedactFault }
+{
+    let (head, calls) = read_both(rt, alloc, start, trace, origin, lanes)?;
+    give_redacted(alloc, &head, calls, out)
+}

@@ -1,0 +1,76 @@
+//! The next call of a trace, redacted, and made on a core, if there is one.
+ghost use Rattle.std.specs.Prelude.{◌≡◌, IfOk, OnOk};
+ghost use Rattle.kc_model.specs.State.{frame_at, slot_at};
+ghost use Rattle.kc_model.specs.Refusals.{is_active};
+ghost use Rattle.kc_model.specs.Blanking.{is_guests};
+ghost use Rattle.kc_redact_text.specs.Made.{is_hidden, redacted_next, core_next};
+
+use crate::calls::RedactedCall;
+use kc_core::KCore;
+use kc_types::{Call, Memory, Owner, Phase};
+
+/// Whether the VM in a slot is active; not in a slot that does not exist.
+fn is_active(core: &KCore, vm: u32) -> bool
+    ensures { result ≡ is_active (slot_at core.now vm).phase }
+{
+    match core.phase(vm) {
+        Some(phase) => matches!(phase, Phase::Active),
+        None => {
+            // What follows of a core's state being lawful, which this clause tells.
+            let _config = core.config();
+            false
+        },
+    }
+}
+
+/// The owner of a frame; one that does not exist is as one of the core's.
+fn owner_of(core: &KCore, frame: u32) -> Owner
+    ensures { result ≡ (frame_at core.now frame).owner }
+{
+    match core.page_record(frame) {
+        Some(record) => record.owner,
+        None => {
+            // Lawful, as above.
+            let _config = core.config();
+            Owner::Core
+        },
+    }
+}
+
+/// Whether an owner is an active VM.
+fn is_guests(core: &KCore, owner: Owner) -> bool
+    ensures { result ≡ is_guests core.now owner }
+{
+    match owner {
+        Owner::Vm(vm) => is_active(core, vm.index() as u32),
+        Owner::Core | Owner::Host | Owner::Free => false,
+    }
+}
+
+/// Whether the host writes by a call to a frame of an active VM.
+fn is_hidden(core: &KCore, call: &Call) -> bool
+    ensures { result ≡ is_hidden core.now call.now }
+{
+    match call {
+        Call::HostWrite { frame, .. } => is_guests(core, owner_of(core, *frame)),
+        _ => false,
+    }
+}
+
+/// Redacts a call: what a virtual processor writes, and if there is a core, also what the host writes to a frame of a VM that
+/// is active before the call, which is then made on the core. `Memory` where a growth was refused.
+pub(crate) fn redact_next(core: &mut Option<KCore>, call: Call) -> Result<RedactedCall, Memory>
+    ensures call { IfOk result (λ kept. kept ≡ redacted_next core.old call) }
+    ensures core { OnOk result (core.new ≡ core_next core.old call) }
+{
+    let Some(core) = core else {
+        return Ok(RedactedCall::new(call));
+    };
+    let is_hidden = is_hidden(core, &call);
+    core.call(&call)?;
+    if is_hidden {
+        Ok(RedactedCall::blanked(call))
+    } else {
+        Ok(RedactedCall::new(call))
+    }
+}
