@@ -14,7 +14,7 @@ complete -c kcore -n "__fish_seen_subcommand_from help; and not __fish_seen_subc
 
 complete -c kcore -n 'not __fish_seen_subcommand_from help' -s h -l help -d 'Print help'
 complete -c kcore -n '__fish_seen_subcommand_from replay live custody redact' -l config -rF -d 'The machine, as JSON'
-complete -c kcore -n '__fish_seen_subcommand_from replay custody redact' -l from -rF -d 'Begin in the state of this text'
+complete -c kcore -n '__fish_seen_subcommand_from replay custody redact' -l from -rF -d 'Begin in this state'
 complete -c kcore -n '__fish_seen_subcommand_from replay' -l to -rF -d 'Compare the state left with this text'
 complete -c kcore -n '__fish_seen_subcommand_from replay live' -l workers -xa '(seq 64)' -d 'Use up to N threads'
 complete -c kcore -n '__fish_seen_subcommand_from replay' -l dump -d 'Write the dump of the core'

@@ -2,7 +2,7 @@
 # Completions of kcore for zsh, which finds them in a file named _kcore.
 _kcore() {
     local config='--config=[the machine, as JSON]:file:_files'
-    local from='--from=[begin in the state of this text]:file:_files'
+    local from='--from=[begin in this state]:file:_files'
     local to='--to=[compare the state left with this text]:file:_files'
     local workers='--workers=[use up to N threads]:number:({1..64})'
     local dump='--dump[write the dump of the core]'
