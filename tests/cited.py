@@ -109,7 +109,7 @@ class Contracts:
 
 
 # Paths and names that any document may cite.
-ENDINGS = (".rt", ".antt", ".md", ".edits", ".c", ".h", ".svg", ".py", ".txt", ".bash", ".1", ".stdout", ".args")
+ENDINGS = (".rt", ".antt", ".md", ".edits", ".c", ".h", ".svg", ".py", ".txt", ".bash", ".zsh", ".fish", ".1", ".stdout", ".args")
 # What is built, installed, somebody's own or a stand-in for a name.
 ELSEWHERE = re.compile(r"[/~]|(share|lib|libexec|out)/|https?:|(.*/)?(FILE|FOLDER|FUNCTION|LIST|NAME|PREFIX)\b")
 PATH = re.compile(r"[\w.][\w./-]*\Z")
@@ -175,6 +175,7 @@ def words_of_code(tree):
     """Every word of the code: sources, definitions, proofs and scripts, but for those that make mistakes."""
     folders = "crates", "tests", "bench", "bin", "fleet", "include", "completions", "stories"
     files = [file for folder in folders for file in tree.below(folder) if file != "tests/mistakes.py"]
+    files = [file for file in files if not file.endswith(".md")]
     return set(tree.crates).union(*(words_of(tree.text(file)) for file in files))
 
 

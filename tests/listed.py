@@ -204,6 +204,30 @@ def completed(tree, *words):
     return set(ran.stdout.split())
 
 
+def completed_by_zsh(tree):
+    """The options that completions of zsh have for each command, and for none: `name) _arguments $config ..`."""
+    text = tree.text("completions/kcore.zsh")
+    specs = {name: OPTION.findall(spec) for name, spec in re.findall(r"^    local (?:-a )?(\w+)=(.*'.*)$", text, re.M)}
+    arms = re.findall(r"^        (\w+)\) _arguments (.*) ;;$", text, re.M)
+    arms += [("", line) for line in re.findall(r"^    _arguments -C (.*)$", text, re.M)]
+    return {command: set().union(*(specs[name] for name in re.findall(r"\$(\w+)", line))) for command, line in arms}
+
+
+def completed_by_fish(tree):
+    """The same of fish: `complete -c kcore -n '__fish_seen_subcommand_from replay live' -l config ..`."""
+    offered = {command: set() for command in ("", *COMMANDS)}
+    line = re.compile(r"^complete -c kcore -n '?(.*?)'? (?:-s \w )?-l (\w+)", re.M)
+    for condition, option in line.findall(tree.text("completions/kcore.fish")):
+        kind, *named = condition.split(" ")
+        if kind == "__fish_use_subcommand":
+            named = [""]
+        elif kind == "not":
+            named = set(offered) - set(named)
+        for command in named:
+            offered[command].add(f"--{option}")
+    return offered
+
+
 def help_of(program, *words):
     return subprocess.run([program, *words, "--help"], capture_output=True, text=True).stdout
 
@@ -232,14 +256,22 @@ def check_page(tree, known, commands, every):
 
 
 def check_completions(tree, known, commands, top):
-    """Completions of bash offer each command with its options, and no other; those of any shell name each option."""
+    """Completions of each shell offer each command with its options, and no other. Those of bash are run, the others
+    read."""
+    zsh, fish = completed_by_zsh(tree), completed_by_fish(tree)
     for command, helped in known.items():
-        yield f"completions: the options of {command}", differing(completed(tree, command, "--"), helped)
-    yield "completions: commands and their options", differing(completed(tree, ""), [*commands, *top])
-    every = set(top).union(*known.values())
-    for file in tree.below("completions"):
-        found = {option for option in every if option.strip("-") in tree.text(file)}
-        yield f"{file}: each option", differing(found, every)
+        yield f"completions/kcore.bash: the options of {command}", differing(completed(tree, command, "--"), helped)
+        yield f"completions/kcore.zsh: the options of {command}", differing(zsh[command], helped)
+        yield f"completions/kcore.fish: the options of {command}", differing(fish[command], helped)
+    yield "completions/kcore.bash: commands and their options", differing(completed(tree, ""), [*commands, *top])
+    yield "completions/kcore.zsh: the options without a command", differing(zsh[""], top)
+    yield "completions/kcore.fish: the options without a command", differing(fish[""], top)
+    described = re.findall(r"^        '(\w+):", tree.text("completions/kcore.zsh"), re.M)
+    yield "completions/kcore.zsh: commands", differing(described, commands)
+    described = re.findall(r"__fish_use_subcommand -a (\w+)", tree.text("completions/kcore.fish"))
+    yield "completions/kcore.fish: commands", differing(described, commands)
+    listed = re.search(r"set -l commands (.*)", tree.text("completions/kcore.fish"))[1].split()
+    yield "completions/kcore.fish: commands after help", differing(listed, commands)
 
 
 def check_options(tree, program):

@@ -1,0 +1,44 @@
+#compdef kcore
+# Completions of kcore for zsh, which finds them in a file named _kcore.
+_kcore() {
+    local config='--config=[the machine, as JSON]:file:_files'
+    local from='--from=[begin in this state]:file:_files'
+    local to='--to=[compare the state left with this text]:file:_files'
+    local workers='--workers=[use up to N threads]:number:({1..64})'
+    local dump='--dump[write the dump of the core]'
+    local state_text='--state[write the text of the state]'
+    local blank='--blank[zero the pages of active VMs first]'
+    local vm='--vm=[the VM in this slot alone]:slot:({0..63})'
+    local summary='--summary[write the life of each VM]'
+    local svg='--svg[write a picture]'
+    local all='--all[write each finding]'
+    local host='--host[blank also what the host writes to active VMs]'
+    local explain='--explain[say more of a fault]'
+    local -a help=('(-h --help)'{-h,--help}'[print help]')
+    local -a version=('(-V --version)'{-V,--version}'[print the version]')
+    local -a commands=(
+        'replay:replay a trace, write the replies'
+        'live:run the actors of a trace in threads'
+        'custody:write what happened to frames and VMs'
+        'audit:report what is wrong with a dump'
+        'redact:write a trace without what guests wrote'
+        'help:print help'
+    )
+    local curcontext=$curcontext context state state_descr line
+    local -A opt_args
+    _arguments -C $help $version '1:command:->command' '*::argument:->argument'
+    case $state in
+        command) _describe -t commands command commands; return ;;
+        argument) ;;
+        *) return ;;
+    esac
+    case $words[1] in
+        replay) _arguments $config $from $to $workers $dump $state_text $blank $explain $help ;;
+        live) _arguments $config $workers $explain $help ;;
+        custody) _arguments $config $from $vm $summary $svg $explain $help ;;
+        audit) _arguments $all $explain $help ;;
+        redact) _arguments $config $from $host $explain $help ;;
+        help) (( CURRENT > 2 )) || _describe -t commands command commands ;;
+    esac
+}
+_kcore "$@"
