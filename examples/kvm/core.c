@@ -29,7 +29,7 @@ static void open_volume(struct core *core) {
         errno = ENAMETOOLONG;
         fail("the trace");
     }
-    core->trace = open(path, O_WRONLY | O_CREAT | O_TRUNC | O_CLOEXEC, 0666);
+    core->trace = open(path, O_WRONLY | O_CREAT | O_TRUNC | O_CLOEXEC, 0600);
     if (core->trace < 0) fail(path);
     core->written = 0;
 }

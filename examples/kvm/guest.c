@@ -279,21 +279,29 @@ static bool exits_by_port(struct vcpu *vcpu) {
     return true;
 }
 
+/* Reports an exit that has no answer. */
+static void report(struct vcpu *vcpu) {
+    struct kvm_run *run = vcpu->run;
+    struct kvm_regs at;
+    if (ioctl(vcpu->file, KVM_GET_REGS, &at)) fail("registers");
+    fprintf(stderr, "monitor: guest %u ends at %llx: ", vcpu->guest->slot, at.rip);
+    if (run->exit_reason == KVM_EXIT_INTERNAL_ERROR && run->internal.suberror == KVM_INTERNAL_ERROR_EMULATION)
+        fprintf(stderr, "KVM does not emulate this instruction\n");
+    else fprintf(stderr, "exit %u\n", run->exit_reason);
+}
+
 /* Answers an exit. Returns whether the virtual processor goes on. */
 static bool answers(struct vcpu *vcpu) {
     struct kvm_run *run = vcpu->run;
-    struct kvm_regs at;
     switch (run->exit_reason) {
     case KVM_EXIT_IO: return exits_by_port(vcpu);
     case KVM_EXIT_MMIO: /* past the memory there is no device */
         if (!run->mmio.is_write) memset(run->mmio.data, 0xff, sizeof run->mmio.data);
         return true;
-    case KVM_EXIT_HLT: return false;
-    default:
-        if (ioctl(vcpu->file, KVM_GET_REGS, &at)) fail("registers");
-        fprintf(stderr, "monitor: guest %u: exit %u (%u) at %llx\n", vcpu->guest->slot, run->exit_reason,
-                run->internal.suberror, at.rip);
-        return false;
+    case KVM_EXIT_HLT: /* no interrupt comes: who takes some is woken for none, and another has ended */
+        if (run->if_flag) usleep(1000);
+        return run->if_flag;
+    default: report(vcpu); return false;
     }
 }
 

@@ -276,6 +276,14 @@ static uint32_t by_chance(struct host *host, uint32_t below) {
     return (host->chance >> 20) % below;
 }
 
+static void send_by_chance(struct host *host) {
+    static const char characters[] = "0123456789 \n\0grantrevokedrophfaultmapclearverify";
+    char line[24];
+    size_t length = 1 + by_chance(host, sizeof line);
+    for (size_t at = 0; at < length; at++) line[at] = characters[by_chance(host, sizeof characters - 1)];
+    send_line(host, line, length);
+}
+
 /* A call or a touch, whatever comes of it. Slots from 2 on are cleared too. */
 static void storm_once(struct host *host) {
     uint32_t frame = by_chance(host, host->plan->frames), other = 2 + by_chance(host, 3), any = by_chance(host, 5);
@@ -294,6 +302,7 @@ static void storm_once(struct host *host) {
     case 11: ask(host, "clear %u", other); break;
     case 12: ask(host, "hread %u %u 8", frame, by_chance(host, PAGE)); break;
     case 13: ask(host, "run %u %u", any, by_chance(host, 3)); break;
+    case 14: send_by_chance(host); break;
     default: at(host, frame)[by_chance(host, PAGE)] ^= by_chance(host, 256); break;
     }
 }

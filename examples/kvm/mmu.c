@@ -73,24 +73,29 @@ static void show(struct memory *memory, uint32_t gfn, int file, uint32_t page) {
     watch(memory, gfn, 1, UFFDIO_REGISTER_MODE_WP | missing);
 }
 
+static struct memory *memory_of(struct mmu *mmu, const kcore_record *record) {
+    return record->owner == KCORE_VM ? mmu->of[record->vm] : NULL;
+}
+
+/* Does what a change says: a frame's bytes go from one place to another, and it stays a guest's, becomes a guest's or
+ * leaves a guest. */
 static void follow(struct mmu *mmu, const kcore_frame_change *change, const uint8_t *copy) {
-    const kcore_record *before = &change->before, *after = &change->after;
-    enum place from = place_of(before), to = place_of(after);
-    struct memory *memory = after->owner == KCORE_VM ? mmu->of[after->vm] : NULL;
-    struct memory *left = before->owner == KCORE_VM ? mmu->of[before->vm] : NULL;
+    enum place from = place_of(&change->before), to = place_of(&change->after);
+    struct memory *old = memory_of(mmu, &change->before), *guest = memory_of(mmu, &change->after);
+    uint32_t frame = change->frame, gfn = change->after.gfn;
     uint8_t bytes[PAGE] = {0};
     if (from == to) return;
-    if (memory && left) protect(memory, after->gfn);
+    if (old && guest) protect(guest, gfn);
     if (copy) memcpy(bytes, copy, PAGE);
-    else if (from == HOSTS) read_page(mmu->host, change->frame, bytes);
-    else if (from == GUESTS) read_page(left->pages, before->gfn, bytes);
-    if (to == HOSTS) write_page(mmu->host, change->frame, bytes);
-    if (to == GUESTS) write_page(memory->pages, after->gfn, bytes);
-    if (memory && left && to == HOSTS) show(memory, after->gfn, mmu->host, change->frame);
-    if (memory && left && to == GUESTS) show(memory, after->gfn, memory->pages, after->gfn);
-    if (memory) memory_wake(memory, after->gfn);
-    if (from == HOSTS) punch(mmu->host, change->frame);
-    if (from == GUESTS) punch(left->pages, before->gfn);
+    else if (from == HOSTS) read_page(mmu->host, frame, bytes);
+    else if (from == GUESTS) read_page(old->pages, change->before.gfn, bytes);
+    if (to == HOSTS) write_page(mmu->host, frame, bytes);
+    if (to == GUESTS) write_page(guest->pages, gfn, bytes);
+    if (old && guest && to == HOSTS) show(guest, gfn, mmu->host, frame);
+    if (old && guest && to == GUESTS) show(guest, gfn, guest->pages, gfn);
+    if (guest) memory_wake(guest, gfn);
+    if (from == HOSTS) punch(mmu->host, frame);
+    if (from == GUESTS) punch(old->pages, change->before.gfn);
 }
 
 void mmu_follow(struct mmu *mmu, const kcore_frame_change *changes, size_t count, const uint8_t *copy) {

@@ -104,7 +104,7 @@ static struct options read_options(char **words) {
 
 /* The host's process. */
 
-/* What a process gives up that nobody trusts: its user, if that is root, and whatever it could get back by a program. */
+/* Gives up what a process has that nobody trusts: its user, if that is root, and what it could get by other programs. */
 static void give_up(void) {
     if (!geteuid() && (setgroups(0, NULL) || setresgid(NOBODY, NOBODY, NOBODY) || setresuid(NOBODY, NOBODY, NOBODY)))
         fail("the host's user");
