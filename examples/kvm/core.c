@@ -1,4 +1,4 @@
-/* The core: asked line by line, each line in the trace before its call has any effect. */
+/* The core: each call is in the trace before it has any effect. */
 #include "monitor.h"
 #include <errno.h>
 #include <fcntl.h>
@@ -54,10 +54,11 @@ static void next_volume(struct core *core) {
 }
 
 /* What follows a call that was answered, before anything that it changed is done. */
-static void answered(struct core *core) {
-    core->calls++;
+static void answered(struct core *core, double begun) {
     write_trace(core);
     expect(kcore_changes(&core->session, core->changes, core->size.frames, &core->count), "kcore_changes");
+    core->calls++;
+    core->asking += now() - begun;
 }
 
 static char *read_whole(const char *path, size_t *length) {
@@ -100,41 +101,36 @@ void core_close(struct core *core) {
     free(core->changes);
 }
 
-const char *core_ask(struct core *core, uint32_t vm, uint32_t vcpu, const char *line, size_t length) {
+const char *core_ask(struct core *core, const char *line, size_t length) {
     const uint8_t *bytes = (const uint8_t *)line;
-    const size_t room = core->reply_room - 1;
     double begun = now();
     size_t used;
-    uint32_t status = kcore_call_by(&core->session, vm, vcpu, bytes, length, core->reply, room, &used);
-    if (status == KCORE_HISTORY_FULL) {
+    uint32_t status;
+    while ((status = kcore_call_by(&core->session, KCORE_NONE, 0, bytes, length, core->reply, core->reply_room - 1,
+                                   &used)) == KCORE_HISTORY_FULL)
         next_volume(core);
-        status = kcore_call_by(&core->session, vm, vcpu, bytes, length, core->reply, room, &used);
-    }
     core->count = 0;
     if (status == KCORE_BAD_LINE) return "not a call";
     if (status == KCORE_NOT_YOURS) return "not yours";
     if (status == KCORE_MEMORY) return "no memory";
     expect(status, "kcore_call_by");
     core->reply[used - 1] = 0;
-    answered(core);
-    core->asking += now() - begun;
+    answered(core, begun);
     return (const char *)core->reply;
 }
 
-void core_wrote(struct core *core, uint32_t frame, const uint8_t *bytes) {
-    const kcore_request request = {KCORE_HWRITE, {frame, 0}};
-    const size_t room = core->reply_room - 1;
+kcore_answer core_do(struct core *core, uint32_t vm, uint32_t vcpu, kcore_request request, const uint8_t *page) {
+    const uint8_t *bytes = page ? page : core->reply; /* in the second case none of them */
+    double begun = now();
     kcore_answer answer;
     size_t used;
-    uint32_t status =
-        kcore_do_by(&core->session, KCORE_NONE, 0, &request, bytes, PAGE, core->reply, room, &used, &answer);
-    if (status == KCORE_HISTORY_FULL) {
+    uint32_t status;
+    while ((status = kcore_do_by(&core->session, vm, vcpu, &request, bytes, page ? PAGE : 0, core->line,
+                                 core->line_room, &used, &answer)) == KCORE_HISTORY_FULL)
         next_volume(core);
-        status = kcore_do_by(&core->session, KCORE_NONE, 0, &request, bytes, PAGE, core->reply, room, &used, &answer);
-    }
     expect(status, "kcore_do_by");
-    expect(answer.kind, "the host's bytes: kind of reply");
-    answered(core);
+    answered(core, begun);
+    return answer;
 }
 
 kcore_record core_record_of(struct core *core, uint32_t frame) {

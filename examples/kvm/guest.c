@@ -48,10 +48,9 @@ static struct vcpu *vcpu_of(struct guest *guest, pid_t thread) {
 
 /* Asks for a page as a virtual processor that reads it. Returns whether it waits for it from now on. */
 static bool lacks_page(struct vcpu *vcpu, uint32_t gfn) {
-    struct core *core = &vcpu->guest->monitor->core;
-    char line[80];
-    int length = snprintf(line, sizeof line, "gread %u %u %u 0 1", vcpu->guest->slot, vcpu->number, gfn);
-    return !strncmp(core_ask(core, vcpu->guest->slot, vcpu->number, line, length), "fault ", 6);
+    struct guest *guest = vcpu->guest;
+    const kcore_request read = {KCORE_GREAD, {guest->slot, vcpu->number, gfn, 0, 1}};
+    return core_do(&guest->monitor->core, guest->slot, vcpu->number, read, NULL).kind == KCORE_IS_FAULT;
 }
 
 /* A virtual processor waits: the page is missing, or it was moved, which is over once this has the lock. */
@@ -227,6 +226,21 @@ static bool notifies(struct vcpu *vcpu, uint32_t number) {
     return waits(vcpu);
 }
 
+/* Makes a call of a virtual processor, and has the MMU follow. Returns whether it was done. */
+static bool makes(struct vcpu *vcpu, uint32_t call, uint32_t gfn, uint32_t count) {
+    struct guest *guest = vcpu->guest;
+    struct monitor *monitor = guest->monitor;
+    const kcore_request request = {call, {guest->slot, vcpu->number, gfn, count}};
+    bool is_done = false;
+    pthread_mutex_lock(&monitor->lock);
+    if (!guest->has_ended && !monitor->is_over) {
+        is_done = core_do(&monitor->core, guest->slot, vcpu->number, request, NULL).kind == KCORE_IS_DONE;
+        mmu_follow(&monitor->mmu, monitor->core.changes, monitor->core.count, NULL);
+    }
+    pthread_mutex_unlock(&monitor->lock);
+    return is_done;
+}
+
 /* For measuring: 0 begins, and a number of times ends. */
 static void measure(struct vcpu *vcpu, uint32_t times) {
     struct monitor *monitor = vcpu->guest->monitor;
@@ -242,10 +256,9 @@ static void measure(struct vcpu *vcpu, uint32_t times) {
 
 /* Writes a port. Returns whether the virtual processor goes on. */
 static bool out(struct vcpu *vcpu, uint16_t port, uint32_t value) {
-    static const char *const calls[] = {"grant", "revoke", "drop", "grantr", "revoker"};
-    uint32_t count = port >= GRANTR ? value / GUEST_FRAMES : 0;
+    static const uint32_t calls[] = {KCORE_GRANT, KCORE_REVOKE, KCORE_DROP, KCORE_GRANTR, KCORE_REVOKER};
     if (port >= GRANT && port <= REVOKER)
-        vcpu->answer = !guest_ask(vcpu, calls[port - GRANT], value % GUEST_FRAMES, count);
+        vcpu->answer = !makes(vcpu, calls[port - GRANT], value % GUEST_FRAMES, value / GUEST_FRAMES);
     else if (port == NOTIFY) return notifies(vcpu, value);
     else if (port == END) return false;
     else if (port == CLOCK) measure(vcpu, value);
@@ -345,20 +358,4 @@ const char *guest_run(struct monitor *monitor, uint32_t slot, uint32_t number) {
     if (!vcpu->has_begun) start(&vcpu->thread, run, vcpu, guest);
     vcpu->has_begun = true;
     return "done";
-}
-
-bool guest_ask(struct vcpu *vcpu, const char *name, uint32_t gfn, uint32_t count) {
-    struct guest *guest = vcpu->guest;
-    struct monitor *monitor = guest->monitor;
-    char line[80];
-    int length = snprintf(line, sizeof line, "%s %u %u %u", name, guest->slot, vcpu->number, gfn);
-    if (count) length += snprintf(line + length, sizeof line - length, " %u", count);
-    bool is_done = false;
-    pthread_mutex_lock(&monitor->lock);
-    if (!guest->has_ended && !monitor->is_over) {
-        is_done = !strcmp(core_ask(&monitor->core, guest->slot, vcpu->number, line, length), "done");
-        mmu_follow(&monitor->mmu, monitor->core.changes, monitor->core.count, NULL);
-    }
-    pthread_mutex_unlock(&monitor->lock);
-    return is_done;
 }

@@ -104,7 +104,7 @@ static struct options read_options(char **words) {
 
 /* The host's process. */
 
-/* Gives up what a process has that nobody trusts: its user, if that is root, and what it could get by other programs. */
+/* Gives up what an untrusted process has: its user, if that is root, and what it could get by other programs. */
 static void give_up(void) {
     if (!geteuid() && (setgroups(0, NULL) || setresgid(NOBODY, NOBODY, NOBODY) || setresuid(NOBODY, NOBODY, NOBODY)))
         fail("the host's user");
@@ -171,7 +171,11 @@ static bool copy_page(struct monitor *monitor, uint32_t frame, uint8_t *copy) {
     kcore_record record = core_record_of(&monitor->core, frame);
     if (record.owner != KCORE_HOST || !record.present) return false;
     mmu_read_host(&monitor->mmu, frame, copy);
-    core_wrote(&monitor->core, frame, copy);
+    const kcore_request write = {KCORE_HWRITE, {frame, 0}};
+    if (core_do(&monitor->core, KCORE_NONE, 0, write, copy).kind != KCORE_IS_DONE) {
+        errno = EPROTO;
+        fail("a write to a frame that the host has");
+    }
     return true;
 }
 
@@ -195,7 +199,7 @@ static const char *answer(struct monitor *monitor, const char *line, size_t leng
     uint8_t copy[PAGE];
     if (is_call(line, "run", 2, n)) return guest_run(monitor, n[0], n[1]);
     bool has_copy = is_call(line, "remap", 3, n) && copy_page(monitor, n[2], copy);
-    const char *reply = core_ask(&monitor->core, KCORE_NONE, 0, line, length);
+    const char *reply = core_ask(&monitor->core, line, length);
     struct guest *cleared = is_call(line, "clear", 1, n) && !strcmp(reply, "done") ? monitor->guests[n[0]] : NULL;
     if (cleared) guest_end(cleared);
     mmu_follow(&monitor->mmu, monitor->core.changes, monitor->core.count, has_copy ? copy : NULL);

@@ -39,12 +39,13 @@ void core_open(struct core *core, const char *configuration);
 void core_trace(struct core *core, const char *trace, bool redacted);
 void core_close(struct core *core);
 
-/* Asks a line, as virtual processor `vcpu` of slot `vm` or, for KCORE_NONE, as the host. Returns the reply, or why
- * there is none, which stays until the next call. By then the line is in the trace, and its changes in `changes`. */
-const char *core_ask(struct core *core, uint32_t vm, uint32_t vcpu, const char *line, size_t length);
+/* Asks a line of the host's. Returns the reply, or why there is none, which stays until the next call. Then the line is
+ * in the trace, and what it changed in `changes`. */
+const char *core_ask(struct core *core, const char *line, size_t length);
 
-/* Records that the host wrote a page of bytes to a frame of its own. */
-void core_wrote(struct core *core, uint32_t frame, const uint8_t *bytes);
+/* Makes a call of virtual processor `vcpu` of slot `vm` or, for KCORE_NONE, of the host, and for a write with a page of
+ * bytes, else NULL. */
+kcore_answer core_do(struct core *core, uint32_t vm, uint32_t vcpu, kcore_request request, const uint8_t *page);
 
 kcore_record core_record_of(struct core *core, uint32_t frame);
 
@@ -146,7 +147,7 @@ struct monitor {
     bool is_over;   /* nothing is asked any more */
 };
 
-/* All but guest_ask and monitor_event are called with the lock held. */
+/* These are called with the lock held. */
 void guest_open(struct monitor *monitor, unsigned slot);
 /* Its images were approved. */
 void guest_activate(struct guest *guest);
@@ -157,8 +158,6 @@ void guest_end(struct guest *guest);
 /* Its slot is empty. */
 void guest_close(struct guest *guest);
 
-/* Asks a call of a virtual processor, and has the MMU follow. Returns whether it was done. */
-bool guest_ask(struct vcpu *vcpu, const char *name, uint32_t gfn, uint32_t count);
 /* Sends the host a line: what happened (fault, notified or ended), slot, virtual processor, a number. */
 void monitor_event(struct monitor *monitor, const char *name, const struct vcpu *vcpu, uint32_t number);
 
