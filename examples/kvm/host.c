@@ -136,7 +136,7 @@ static void supply(struct host *host, uint32_t vm, uint32_t vcpu, uint32_t gfn) 
 
 /* What it may not. */
 
-/* What stands in the host's memory at a frame, as text. */
+/* What the host's memory has at a frame, as text. */
 static const char *text_at(const struct host *host, uint32_t frame) {
     static char text[40];
     size_t length = 0;

@@ -128,7 +128,7 @@ void mmu_close(struct mmu *mmu) {
     if (close(mmu->host)) fail("memory");
 }
 
-/* As root or, where that is allowed, by the device. */
+/* By the system call, which takes root, or by the device. */
 static int open_faults(void) {
     int file = syscall(SYS_userfaultfd, O_CLOEXEC | O_NONBLOCK);
     if (file >= 0 || errno != EPERM) return file;

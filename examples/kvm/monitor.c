@@ -147,7 +147,7 @@ void monitor_event(struct monitor *monitor, const char *name, const struct vcpu 
 
 /* The host's calls. */
 
-/* Whether a line is this call, with so many numbers. What it is for certain the core says. */
+/* Whether a line is this call, with `count` numbers. Whether it is a call at all the core decides. */
 static bool is_call(const char *line, const char *name, unsigned count, uint32_t *numbers) {
     size_t length = strlen(name);
     if (strncmp(line, name, length)) return false;
