@@ -26,7 +26,7 @@ struct host {
     char reply[REPLY];
     uint32_t next;                         /* frames of the host at boot from here on are unused */
     uint32_t frame_of[GUESTS][REMEMBERED]; /* what was supplied at the first guest frames */
-    unsigned running;                      /* guests whose first virtual processor has not ended */
+    bool runs[GUESTS];                     /* a guest whose first virtual processor has not ended */
     bool has_offered;
     unsigned storm, leaks;
     uint64_t chance;
@@ -127,11 +127,16 @@ static void supply(struct host *host, uint32_t vm, uint32_t vcpu, uint32_t gfn) 
         uint32_t frame = any_frame(host);
         const char *reply = frame == UINT32_MAX ? host->reply : ask(host, "map %u %u %u", vm, vcpu, frame);
         if (is_done(reply)) remember(host, vm, gfn, frame);
-        else if (!strcmp(reply, "refused mapped") || !strcmp(reply, "refused no-fault")) ask(host, "give %u", frame);
         else if (!strcmp(reply, "refused not-host")) continue; /* given away in the storm */
-        else printf("host: no frame for guest %u at %u, which waits: %s\n", vm, gfn, reply);
+        else if (frame == UINT32_MAX || !strcmp(reply, "refused tables-full"))
+            printf("host: no frame for guest %u at %u, which waits: %s\n", vm, gfn, reply);
+        else ask(host, "give %u", frame); /* it waits for none any more, or was cleared */
         return;
     }
+}
+
+static void clear(struct host *host, uint32_t vm) {
+    if (is_done(ask(host, "clear %u", vm)) && vm < GUESTS) host->runs[vm] = false;
 }
 
 /* What it may not. */
@@ -284,7 +289,7 @@ static void send_by_chance(struct host *host) {
     send_line(host, line, length);
 }
 
-/* A call or a touch, whatever comes of it. Slots from 2 on are cleared too. */
+/* A call or a touch, whatever comes of it. Slots from 2 on are cleared too, while their guests run. */
 static void storm_once(struct host *host) {
     uint32_t frame = by_chance(host, host->plan->frames), other = 2 + by_chance(host, 3), any = by_chance(host, 5);
     switch (by_chance(host, 16)) {
@@ -299,7 +304,7 @@ static void storm_once(struct host *host) {
     case 7: ask(host, "setboot %u %u %u", other, by_chance(host, 64), 1 + by_chance(host, 9000)); break;
     case 8: case 9: ask(host, "remap %u %u %u", any, by_chance(host, 2), frame); break;
     case 10: ask(host, "verify %u", any); break;
-    case 11: ask(host, "clear %u", other); break;
+    case 11: clear(host, other); break;
     case 12: ask(host, "hread %u %u 8", frame, by_chance(host, PAGE)); break;
     case 13: ask(host, "run %u %u", any, by_chance(host, 3)); break;
     case 14: send_by_chance(host); break;
@@ -341,7 +346,7 @@ static void serve_event(struct host *host, const char *line) {
         ask(host, "run %u %u", vm, vcpu);
     } else if (!strcmp(name, "ended") && !vcpu) {
         printf("host: guest %u has ended\n", vm);
-        host->running--;
+        host->runs[vm] = false;
     }
 }
 
@@ -354,14 +359,16 @@ static bool receive_event(struct host *host) {
     return true;
 }
 
+static bool any_runs(const struct host *host) {
+    for (unsigned vm = 0; vm < GUESTS; vm++)
+        if (host->runs[vm]) return true;
+    return false;
+}
+
 static void boot_all(struct host *host) {
     for (unsigned vm = 0; vm < host->plan->count; vm++) {
-        const struct boot *it = &host->plan->boots[vm];
-        if (!boot(host, vm, it, false)) {
-            printf("host: guest %u is not booted: %s\n", vm, host->reply);
-            continue;
-        }
-        host->running++;
+        host->runs[vm] = boot(host, vm, &host->plan->boots[vm], false);
+        if (!host->runs[vm]) printf("host: guest %u is not booted: %s\n", vm, host->reply);
     }
     if (host->plan->is_hostile) attack_at_boot(host);
     for (unsigned vm = 0; vm < host->plan->count; vm++)
@@ -376,7 +383,7 @@ _Noreturn void host_main(int memory, int calls, int events, const struct plan *p
     host.memory = mmap(NULL, size, PROT_READ | PROT_WRITE, MAP_SHARED | MAP_NORESERVE, memory, 0);
     if (host.memory == MAP_FAILED) stop("memory");
     boot_all(&host);
-    while (host.running || host.storm) {
+    while (any_runs(&host) || host.storm) {
         struct pollfd file = {events, POLLIN, 0};
         int ready = poll(&file, 1, host.storm ? 0 : -1);
         if (ready < 0 && errno != EINTR) stop("poll");
