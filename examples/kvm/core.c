@@ -1,0 +1,140 @@
+/* The core: each call is in the trace before it has any effect. */
+#include "monitor.h"
+#include <errno.h>
+#include <fcntl.h>
+#include <limits.h>
+#include <stdio.h>
+#include <stdlib.h>
+#include <string.h>
+#include <time.h>
+#include <unistd.h>
+
+double now(void) {
+    struct timespec time;
+    clock_gettime(CLOCK_MONOTONIC, &time);
+    return time.tv_sec * 1e6 + time.tv_nsec / 1e3;
+}
+
+/* A status that no caller of the monitor's can bring about. */
+static void expect(uint32_t status, const char *what) {
+    if (status == KCORE_DONE) return;
+    fprintf(stderr, "monitor: %s: status %u\n", what, (unsigned)status);
+    exit(3);
+}
+
+static void open_volume(struct core *core) {
+    char path[PATH_MAX], number[16] = "";
+    if (++core->volume > 1) snprintf(number, sizeof number, ".%u", core->volume);
+    if (snprintf(path, sizeof path, "%s%s", core->path, number) >= PATH_MAX) {
+        errno = ENAMETOOLONG;
+        fail("the trace");
+    }
+    core->trace = open(path, O_WRONLY | O_CREAT | O_TRUNC | O_CLOEXEC, 0600);
+    if (core->trace < 0) fail(path);
+    core->written = 0;
+}
+
+/* Each line is written at once, so that what is left of a monitor that is killed is a trace. */
+static void write_trace(struct core *core) {
+    uint32_t (*const line_of)(kcore *, size_t, uint8_t *, size_t, size_t *) =
+        core->redacted ? kcore_redacted_line : kcore_line;
+    size_t used;
+    uint32_t status;
+    while ((status = line_of(&core->session, core->written, core->line, core->line_room, &used)) == KCORE_DONE) {
+        if (write(core->trace, core->line, used) != (ssize_t)used) fail("the trace");
+        core->written++;
+    }
+    if (status != KCORE_NO_SUCH_LINE) expect(status, "kcore_line");
+}
+
+static void next_volume(struct core *core) {
+    if (close(core->trace)) fail("the trace");
+    expect(kcore_turn(&core->session), "kcore_turn");
+    open_volume(core);
+}
+
+/* What follows a call that was answered, before anything that it changed is done. */
+static void answered(struct core *core, double begun) {
+    write_trace(core);
+    expect(kcore_changes(&core->session, core->changes, core->size.frames, &core->count), "kcore_changes");
+    core->calls++;
+    core->asking += now() - begun;
+}
+
+static char *read_whole(const char *path, size_t *length) {
+    static const size_t room = 65536;
+    char *text = malloc(room);
+    FILE *file = fopen(path, "r");
+    if (!text || !file) fail(path);
+    *length = fread(text, 1, room, file);
+    if (ferror(file)) fail(path);
+    fclose(file);
+    return text;
+}
+
+void core_open(struct core *core, const char *configuration) {
+    size_t length;
+    char *text = read_whole(configuration, &length);
+    expect(kcore_boot(&core->session, (const uint8_t *)text, length), configuration);
+    free(text);
+    expect(kcore_sizes(&core->session, &core->size), "kcore_sizes");
+    core->reply_room = kcore_longest_reply() + 1;
+    core->line_room = kcore_longest_line();
+    core->reply = malloc(core->reply_room);
+    core->line = malloc(core->line_room);
+    core->changes = calloc(core->size.frames, sizeof *core->changes);
+    if (!core->reply || !core->line || !core->changes) fail("memory");
+}
+
+void core_trace(struct core *core, const char *trace, bool redacted) {
+    core->path = trace;
+    core->redacted = redacted;
+    open_volume(core);
+    write_trace(core);
+}
+
+void core_close(struct core *core) {
+    if (close(core->trace)) fail("the trace");
+    expect(kcore_end(&core->session), "kcore_end");
+    free(core->reply);
+    free(core->line);
+    free(core->changes);
+}
+
+const char *core_ask(struct core *core, const char *line, size_t length) {
+    const uint8_t *bytes = (const uint8_t *)line;
+    double begun = now();
+    size_t used;
+    uint32_t status;
+    while ((status = kcore_call_by(&core->session, KCORE_NONE, 0, bytes, length, core->reply, core->reply_room - 1,
+                                   &used)) == KCORE_HISTORY_FULL)
+        next_volume(core);
+    core->count = 0;
+    if (status == KCORE_BAD_LINE) return "not a call";
+    if (status == KCORE_NOT_YOURS) return "not yours";
+    if (status == KCORE_MEMORY) return "no memory";
+    expect(status, "kcore_call_by");
+    core->reply[used - 1] = 0;
+    answered(core, begun);
+    return (const char *)core->reply;
+}
+
+kcore_answer core_do(struct core *core, uint32_t vm, uint32_t vcpu, kcore_request request, const uint8_t *page) {
+    const uint8_t *bytes = page ? page : core->reply; /* in the second case none of them */
+    double begun = now();
+    kcore_answer answer;
+    size_t used;
+    uint32_t status;
+    while ((status = kcore_do_by(&core->session, vm, vcpu, &request, bytes, page ? PAGE : 0, core->line,
+                                 core->line_room, &used, &answer)) == KCORE_HISTORY_FULL)
+        next_volume(core);
+    expect(status, "kcore_do_by");
+    answered(core, begun);
+    return answer;
+}
+
+kcore_record core_record_of(struct core *core, uint32_t frame) {
+    kcore_record record;
+    expect(kcore_record_of(&core->session, frame, &record), "kcore_record_of");
+    return record;
+}

@@ -1,0 +1,361 @@
+/* Guests: KVM's side of a VM, a thread for each virtual processor, and one for the pages that they miss. */
+#include "monitor.h"
+#include <errno.h>
+#include <linux/userfaultfd.h>
+#include <poll.h>
+#include <signal.h>
+#include <stdio.h>
+#include <stdlib.h>
+#include <string.h>
+#include <sys/eventfd.h>
+#include <sys/ioctl.h>
+#include <sys/mman.h>
+#include <unistd.h>
+
+/* The ports of 32 bits by which a guest calls. A write to one of the first five is a call: bits 0 to 17 are the guest
+ * frame and, for the two on ranges, those from 18 on the count. A read of the first is 0 if the last call was done. */
+enum { GRANT = 0x1000, REVOKE, DROP, GRANTR, REVOKER, NOTIFY = 0x1008, END = 0x1009, CLOCK = 0x100a };
+
+static void start(pthread_t *thread, void *(*body)(void *), void *of, struct guest *guest) {
+    pthread_attr_t attributes;
+    guest->users++;
+    if (pthread_attr_init(&attributes) || pthread_attr_setdetachstate(&attributes, PTHREAD_CREATE_DETACHED) ||
+        pthread_create(thread, &attributes, body, of) || pthread_attr_destroy(&attributes))
+        fail("a thread");
+}
+
+/* One of those that use a guest leaves it. The last one frees it. */
+static void leave(struct guest *guest) {
+    struct monitor *monitor = guest->monitor;
+    if (--guest->users) return;
+    for (unsigned number = 0; number < VCPUS; number++) {
+        struct vcpu *vcpu = &guest->vcpus[number];
+        if (vcpu->run && (munmap(vcpu->run, monitor->run_size) || close(vcpu->file))) fail("a virtual processor");
+    }
+    if (close(guest->vm) || close(guest->ends)) fail("a virtual machine");
+    memory_close(&guest->memory);
+    free(guest);
+    monitor->lives--;
+    pthread_cond_broadcast(&monitor->moved);
+}
+
+/* The virtual processor whose thread this is. */
+static struct vcpu *vcpu_of(struct guest *guest, pid_t thread) {
+    for (unsigned number = 0; number < VCPUS; number++)
+        if (guest->vcpus[number].has_begun && guest->vcpus[number].thread_id == thread) return &guest->vcpus[number];
+    return NULL;
+}
+
+/* Asks for a page as a virtual processor that reads it. Returns whether it waits for it from now on. */
+static bool lacks_page(struct vcpu *vcpu, uint32_t gfn) {
+    struct guest *guest = vcpu->guest;
+    const kcore_request read = {KCORE_GREAD, {guest->slot, vcpu->number, gfn, 0, 1}};
+    return core_do(&guest->monitor->core, guest->slot, vcpu->number, read, NULL).kind == KCORE_IS_FAULT;
+}
+
+/* A virtual processor waits: the page is missing, or it was moved, which is over once this has the lock. */
+static void serve_fault(struct guest *guest, const struct uffd_msg *message) {
+    struct monitor *monitor = guest->monitor;
+    uint32_t gfn = (message->arg.pagefault.address - (uintptr_t)guest->memory.seen) / PAGE;
+    bool moves = message->arg.pagefault.flags & UFFD_PAGEFAULT_FLAG_WP, is_missing = false;
+    pthread_mutex_lock(&monitor->lock);
+    struct vcpu *vcpu = vcpu_of(guest, message->arg.pagefault.feat.ptid);
+    if (vcpu && !guest->has_ended && !monitor->is_over) {
+        is_missing = !moves && lacks_page(vcpu, gfn);
+        if (!is_missing) memory_wake(&guest->memory, gfn);
+    }
+    pthread_mutex_unlock(&monitor->lock);
+    if (!is_missing) return;
+    monitor->faults++;
+    monitor_event(monitor, "fault", vcpu, gfn);
+}
+
+static void *serve_faults(void *of) {
+    struct guest *guest = of;
+    struct monitor *monitor = guest->monitor;
+    struct pollfd files[] = {{guest->memory.faults, POLLIN, 0}, {guest->ends, POLLIN, 0}};
+    struct uffd_msg message;
+    while (!guest->has_ended) {
+        if (poll(files, 2, -1) < 0 && errno != EINTR) fail("poll");
+        ssize_t length = read(guest->memory.faults, &message, sizeof message);
+        if (length < 0 && errno != EAGAIN) fail("userfaultfd");
+        if (length == sizeof message && message.event == UFFD_EVENT_PAGEFAULT) serve_fault(guest, &message);
+    }
+    pthread_mutex_lock(&monitor->lock);
+    leave(guest);
+    pthread_mutex_unlock(&monitor->lock);
+    return NULL;
+}
+
+void guest_open(struct monitor *monitor, unsigned slot) {
+    struct guest *guest = calloc(1, sizeof *guest);
+    pthread_t thread;
+    if (!guest) fail("memory");
+    guest->monitor = monitor;
+    guest->slot = slot;
+    guest->mode = monitor->modes[slot];
+    guest->users = 1;
+    for (unsigned number = 0; number < VCPUS; number++) {
+        guest->vcpus[number].guest = guest;
+        guest->vcpus[number].number = number;
+    }
+    memory_open(&guest->memory);
+    guest->ends = eventfd(0, EFD_CLOEXEC);
+    guest->vm = ioctl(monitor->kvm, KVM_CREATE_VM, 0);
+    struct kvm_userspace_memory_region all = {.memory_size = (uint64_t)GUEST_FRAMES * PAGE,
+                                              .userspace_addr = (uintptr_t)guest->memory.seen};
+    if (guest->ends < 0 || guest->vm < 0 || ioctl(guest->vm, KVM_SET_USER_MEMORY_REGION, &all))
+        fail("a virtual machine");
+    monitor->guests[slot] = guest;
+    monitor->mmu.of[slot] = &guest->memory;
+    monitor->lives++;
+    start(&thread, serve_faults, guest, guest);
+}
+
+void guest_end(struct guest *guest) {
+    struct monitor *monitor = guest->monitor;
+    uint64_t one = 1;
+    guest->has_ended = true;
+    memory_shut(&guest->memory);
+    for (unsigned number = 0; number < VCPUS; number++) {
+        struct vcpu *vcpu = &guest->vcpus[number];
+        if (vcpu->run) vcpu->run->immediate_exit = 1;
+        if (vcpu->has_begun && vcpu->thread_id && pthread_kill(vcpu->thread, SIGUSR2)) fail("a thread");
+    }
+    if (write(guest->ends, &one, sizeof one) != sizeof one) fail("a virtual machine");
+    pthread_cond_broadcast(&monitor->moved);
+}
+
+void guest_close(struct guest *guest) {
+    guest->monitor->mmu.of[guest->slot] = NULL;
+    guest->monitor->guests[guest->slot] = NULL;
+    leave(guest);
+}
+
+/* 64 bits in user mode, with ports: what every KVM runs natively. Descriptors, task and tables are in the image. */
+static void begin_bare(const struct vcpu *vcpu, struct kvm_sregs *s, struct kvm_regs *r) {
+    const struct kvm_segment data = {
+        .limit = UINT32_MAX, .selector = 0x23, .type = 3, .present = 1, .dpl = 3, .s = 1, .db = 1, .g = 1};
+    s->ds = s->es = s->fs = s->gs = s->ss = data;
+    s->cs = data;
+    s->cs.selector = 0x1b;
+    s->cs.type = 11;
+    s->cs.l = 1;
+    s->cs.db = 0;
+    s->tr = (struct kvm_segment){.base = 0x400, .limit = 0x3ff, .selector = 0x28, .type = 11, .present = 1};
+    s->gdt = (struct kvm_dtable){.base = 0, .limit = 0x37};
+    s->idt = (struct kvm_dtable){.base = 0x800, .limit = 0};
+    s->cr0 = 0x80050033;
+    s->cr3 = 0x1000;
+    s->cr4 = 0x620;
+    s->efer = 0x500;
+    *r = (struct kvm_regs){.rip = 0x4000, .rsp = 0x40000 - vcpu->number * PAGE, .rflags = 0x3002,
+                           .rdi = vcpu->number, .rsi = vcpu->guest->slot};
+}
+
+/* Real mode at the reset vector, in its copy below 1 MiB. */
+static void begin_bios(struct kvm_sregs *s, struct kvm_regs *r) {
+    s->cs.selector = 0xf000;
+    s->cs.base = 0xf0000;
+    *r = (struct kvm_regs){.rip = 0xfff0, .rflags = 2};
+}
+
+/* Protected mode, flat, at guest frame 0x10: there the image has what loads the registers that a kernel wants. */
+static void begin_multiboot(struct kvm_sregs *s, struct kvm_regs *r) {
+    const struct kvm_segment data = {
+        .limit = UINT32_MAX, .selector = 16, .type = 3, .present = 1, .s = 1, .db = 1, .g = 1};
+    s->ds = s->es = s->fs = s->gs = s->ss = s->cs = data;
+    s->cs.selector = 8;
+    s->cs.type = 11;
+    s->cr0 = 0x11;
+    *r = (struct kvm_regs){.rip = 0x10000, .rflags = 2};
+}
+
+/* A virtual processor begins as is said here: its registers are no less the guest's than its memory. */
+static void set_registers(const struct vcpu *vcpu) {
+    struct kvm_sregs s;
+    struct kvm_regs r;
+    if (ioctl(vcpu->file, KVM_GET_SREGS, &s)) fail("registers");
+    if (vcpu->guest->mode == BARE) begin_bare(vcpu, &s, &r);
+    else if (vcpu->guest->mode == BIOS) begin_bios(&s, &r);
+    else begin_multiboot(&s, &r);
+    if (ioctl(vcpu->file, KVM_SET_SREGS, &s) || ioctl(vcpu->file, KVM_SET_REGS, &r)) fail("registers");
+}
+
+static void create_vcpu(struct vcpu *vcpu) {
+    struct monitor *monitor = vcpu->guest->monitor;
+    struct {
+        struct kvm_cpuid2 head;
+        struct kvm_cpuid_entry2 entries[256];
+    } features = {.head.nent = 256};
+    vcpu->file = ioctl(vcpu->guest->vm, KVM_CREATE_VCPU, (unsigned long)vcpu->number);
+    if (vcpu->file < 0) fail("a virtual processor");
+    vcpu->run = mmap(NULL, monitor->run_size, PROT_READ | PROT_WRITE, MAP_SHARED, vcpu->file, 0);
+    if (vcpu->run == MAP_FAILED || ioctl(monitor->kvm, KVM_GET_SUPPORTED_CPUID, &features) ||
+        ioctl(vcpu->file, KVM_SET_CPUID2, &features))
+        fail("a virtual processor");
+    set_registers(vcpu);
+}
+
+void guest_activate(struct guest *guest) {
+    for (unsigned number = 0; number < guest->image_count; number++) {
+        uint32_t length = guest->images[number].length, end = length % PAGE;
+        if (end) mmu_zero_end(&guest->monitor->mmu, guest->slot, guest->images[number].base + length / PAGE, end);
+    }
+    for (unsigned number = 0; number < VCPUS; number++)
+        if (guest->vcpus[number].is_registered) create_vcpu(&guest->vcpus[number]);
+    guest->is_active = true;
+}
+
+/* Waits until the host has the virtual processor go on. Returns whether it may. */
+static bool waits(struct vcpu *vcpu) {
+    struct monitor *monitor = vcpu->guest->monitor;
+    pthread_mutex_lock(&monitor->lock);
+    while (!vcpu->may_go && !vcpu->guest->has_ended) pthread_cond_wait(&monitor->moved, &monitor->lock);
+    pthread_mutex_unlock(&monitor->lock);
+    return !vcpu->guest->has_ended;
+}
+
+/* Notifies the host, and waits. */
+static bool notifies(struct vcpu *vcpu, uint32_t number) {
+    struct monitor *monitor = vcpu->guest->monitor;
+    pthread_mutex_lock(&monitor->lock);
+    vcpu->may_go = false;
+    pthread_mutex_unlock(&monitor->lock);
+    monitor_event(monitor, "notified", vcpu, number);
+    return waits(vcpu);
+}
+
+/* Makes a call of a virtual processor, and has the MMU follow. Returns whether it was done. */
+static bool makes(struct vcpu *vcpu, uint32_t call, uint32_t gfn, uint32_t count) {
+    struct guest *guest = vcpu->guest;
+    struct monitor *monitor = guest->monitor;
+    const kcore_request request = {call, {guest->slot, vcpu->number, gfn, count}};
+    bool is_done = false;
+    pthread_mutex_lock(&monitor->lock);
+    if (!guest->has_ended && !monitor->is_over) {
+        is_done = core_do(&monitor->core, guest->slot, vcpu->number, request, NULL).kind == KCORE_IS_DONE;
+        mmu_follow(&monitor->mmu, monitor->core.changes, monitor->core.count, NULL);
+    }
+    pthread_mutex_unlock(&monitor->lock);
+    return is_done;
+}
+
+/* For measuring: 0 begins, and a number of times ends. */
+static void measure(struct vcpu *vcpu, uint32_t times) {
+    struct monitor *monitor = vcpu->guest->monitor;
+    pthread_mutex_lock(&monitor->lock);
+    double time = now(), asking = monitor->core.asking;
+    pthread_mutex_unlock(&monitor->lock);
+    if (times)
+        printf("guest %u: %u times: %.2f us each, of these %.2f us in the core\n", vcpu->guest->slot, times,
+               (time - vcpu->begun) / times, (asking - vcpu->asked) / times);
+    vcpu->begun = time;
+    vcpu->asked = asking;
+}
+
+/* Writes a port. Returns whether the virtual processor goes on. */
+static bool out(struct vcpu *vcpu, uint16_t port, uint32_t value) {
+    static const uint32_t calls[] = {KCORE_GRANT, KCORE_REVOKE, KCORE_DROP, KCORE_GRANTR, KCORE_REVOKER};
+    if (port >= GRANT && port <= REVOKER)
+        vcpu->answer = !makes(vcpu, calls[port - GRANT], value % GUEST_FRAMES, value / GUEST_FRAMES);
+    else if (port == NOTIFY) return notifies(vcpu, value);
+    else if (port == END) return false;
+    else if (port == CLOCK) measure(vcpu, value);
+    else {
+        pthread_mutex_lock(&vcpu->guest->monitor->lock);
+        device_out(&vcpu->guest->devices, vcpu->guest->slot, port, value);
+        pthread_mutex_unlock(&vcpu->guest->monitor->lock);
+    }
+    return true;
+}
+
+static uint32_t in(struct vcpu *vcpu, uint16_t port) {
+    if (port == GRANT) return vcpu->answer;
+    pthread_mutex_lock(&vcpu->guest->monitor->lock);
+    uint32_t value = device_in(&vcpu->guest->devices, port);
+    pthread_mutex_unlock(&vcpu->guest->monitor->lock);
+    return value;
+}
+
+static bool exits_by_port(struct vcpu *vcpu) {
+    struct kvm_run *run = vcpu->run;
+    uint8_t *data = (uint8_t *)run + run->io.data_offset;
+    bool is_out = run->io.direction == KVM_EXIT_IO_OUT;
+    uint16_t port = run->io.port;
+    uint32_t size = run->io.size, count = run->io.count;
+    for (; count; count--, data += size) {
+        uint32_t value = is_out ? 0 : in(vcpu, port);
+        memcpy(is_out ? (void *)&value : data, is_out ? data : (void *)&value, size);
+        if (is_out && !out(vcpu, port, value)) return false;
+    }
+    return true;
+}
+
+/* Reports an exit that has no answer. */
+static void report(struct vcpu *vcpu) {
+    struct kvm_run *run = vcpu->run;
+    struct kvm_regs at;
+    if (ioctl(vcpu->file, KVM_GET_REGS, &at)) fail("registers");
+    fprintf(stderr, "monitor: guest %u ends at %llx: ", vcpu->guest->slot, at.rip);
+    if (run->exit_reason == KVM_EXIT_INTERNAL_ERROR && run->internal.suberror == KVM_INTERNAL_ERROR_EMULATION)
+        fprintf(stderr, "KVM does not emulate this instruction\n");
+    else fprintf(stderr, "exit %u\n", run->exit_reason);
+}
+
+/* Answers an exit. Returns whether the virtual processor goes on. */
+static bool answers(struct vcpu *vcpu) {
+    struct kvm_run *run = vcpu->run;
+    switch (run->exit_reason) {
+    case KVM_EXIT_IO: return exits_by_port(vcpu);
+    case KVM_EXIT_MMIO: /* past the memory there is no device */
+        if (!run->mmio.is_write) memset(run->mmio.data, 0xff, sizeof run->mmio.data);
+        return true;
+    case KVM_EXIT_HLT: /* no interrupt comes: who takes some is woken for none, and another has ended */
+        if (run->if_flag) usleep(1000);
+        return run->if_flag;
+    default: report(vcpu); return false;
+    }
+}
+
+static void run_until_end(struct vcpu *vcpu) {
+    while (waits(vcpu)) {
+        if (!ioctl(vcpu->file, KVM_RUN, 0)) {
+            vcpu->guest->monitor->exits++;
+            if (!answers(vcpu)) return;
+        } else if (errno != EINTR && errno != EAGAIN) {
+            if (!vcpu->guest->has_ended)
+                fprintf(stderr, "monitor: guest %u: KVM_RUN: %s\n", vcpu->guest->slot, strerror(errno));
+            return;
+        }
+    }
+}
+
+static void *run(void *of) {
+    struct vcpu *vcpu = of;
+    struct guest *guest = vcpu->guest;
+    struct monitor *monitor = guest->monitor;
+    pthread_mutex_lock(&monitor->lock);
+    vcpu->thread_id = gettid();
+    pthread_mutex_unlock(&monitor->lock);
+    run_until_end(vcpu);
+    if (!guest->has_ended) monitor_event(monitor, "ended", vcpu, 0);
+    pthread_mutex_lock(&monitor->lock);
+    vcpu->thread_id = 0;
+    vcpu->has_ended = true;
+    leave(guest);
+    pthread_mutex_unlock(&monitor->lock);
+    return NULL;
+}
+
+const char *guest_run(struct monitor *monitor, uint32_t slot, uint32_t number) {
+    struct guest *guest = slot < SLOTS ? monitor->guests[slot] : NULL;
+    if (!guest || !guest->is_active || number >= VCPUS || !guest->vcpus[number].run) return "refused not-active";
+    struct vcpu *vcpu = &guest->vcpus[number];
+    if (vcpu->has_ended) return "refused ended";
+    vcpu->may_go = true;
+    pthread_cond_broadcast(&monitor->moved);
+    if (!vcpu->has_begun) start(&vcpu->thread, run, vcpu, guest);
+    vcpu->has_begun = true;
+    return "done";
+}

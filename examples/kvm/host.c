@@ -1,0 +1,395 @@
+/* The host: it loads images, supplies frames and, if it is hostile, tries what it may not. All that it does it does by
+ * its two sockets and its own memory. */
+#include "host.h"
+#include <errno.h>
+#include <fcntl.h>
+#include <poll.h>
+#include <stdarg.h>
+#include <stdio.h>
+#include <stdlib.h>
+#include <string.h>
+#include <sys/mman.h>
+#include <sys/ptrace.h>
+#include <sys/socket.h>
+#include <sys/uio.h>
+#include <unistd.h>
+
+enum { PAGE = 4096, IMAGE = 1048576, REMEMBERED = 1024, ANSWER = 64, REPLY = 8200 };
+/* What guests/talk.c has at which guest frame. */
+enum { CODE = 4, SECRET = 512, LETTER = 513, THROWN = 514 };
+static const uint64_t SECRET_TAG = 0x5ec4e7;
+
+struct host {
+    const struct plan *plan;
+    uint8_t *memory;
+    int calls, events;
+    char reply[REPLY];
+    uint32_t next;                         /* frames of the host at boot from here on are unused */
+    uint32_t frame_of[GUESTS][REMEMBERED]; /* what was supplied at the first guest frames */
+    bool runs[GUESTS];                     /* a guest whose first virtual processor has not ended */
+    bool has_offered;
+    unsigned storm, leaks;
+    uint64_t chance;
+    int pipes[GUESTS][2];
+};
+
+static _Noreturn void stop(const char *what) {
+    fprintf(stderr, "host: %s: %s\n", what, strerror(errno));
+    exit(3);
+}
+
+/* Calls. */
+
+/* Sends bytes as a line, and returns the reply, which stays until the next one. */
+static const char *send_line(struct host *host, const char *line, size_t length) {
+    if (send(host->calls, line, length, MSG_NOSIGNAL) < 0) exit(0); /* the monitor has ended the run */
+    ssize_t got = recv(host->calls, host->reply, REPLY - 1, 0);
+    if (got <= 0) exit(0);
+    host->reply[got] = 0;
+    return host->reply;
+}
+
+__attribute__((format(printf, 2, 3))) static const char *ask(struct host *host, const char *format, ...) {
+    char line[128];
+    va_list values;
+    va_start(values, format);
+    int length = vsnprintf(line, sizeof line, format, values);
+    va_end(values);
+    return send_line(host, line, length);
+}
+
+static bool is_done(const char *reply) { return !strcmp(reply, "done"); }
+
+/* The number of a reply that is a name and a number, or UINT32_MAX. */
+static uint32_t number_in(const char *reply, const char *name) {
+    size_t length = strlen(name);
+    return strncmp(reply, name, length) ? UINT32_MAX : strtoul(reply + length, NULL, 10);
+}
+
+static uint8_t *at(const struct host *host, uint32_t frame) { return host->memory + (size_t)frame * PAGE; }
+
+static uint32_t take(struct host *host) { return number_in(ask(host, "take"), "frame "); }
+
+static uint32_t any_frame(struct host *host) { return host->next < host->plan->last ? host->next++ : take(host); }
+
+static void remember(struct host *host, uint32_t vm, uint32_t gfn, uint32_t frame) {
+    if (vm < GUESTS && gfn < REMEMBERED) host->frame_of[vm][gfn] = frame;
+}
+
+/* What a host is for. */
+
+/* Gives a page of an image to a slot. Returns whether it has it now. */
+static bool load_page(struct host *host, uint32_t vm, uint32_t image, uint32_t gfn, const uint8_t *bytes,
+                      size_t length) {
+    uint32_t frame = any_frame(host);
+    if (frame == UINT32_MAX || !is_done(ask(host, "hfault %u", frame))) return false;
+    if (host->plan->is_hostile) memset(at(host, frame), 0xee, PAGE); /* past the image's end, too */
+    memcpy(at(host, frame), bytes, length);
+    if (!is_done(ask(host, "remap %u %u %u", vm, image, frame))) return false;
+    remember(host, vm, gfn, frame);
+    return true;
+}
+
+/* Loads at most a MiB as one image. */
+static bool load_image(struct host *host, uint32_t vm, uint32_t gfn, const uint8_t *bytes, size_t length) {
+    uint32_t image = number_in(ask(host, "setboot %u %u %zu", vm, gfn, length), "image ");
+    if (image == UINT32_MAX) return false;
+    for (size_t from = 0; from < length; from += PAGE) {
+        size_t part = length - from < PAGE ? length - from : PAGE;
+        if (!load_page(host, vm, image, gfn + from / PAGE, bytes + from, part)) return false;
+    }
+    return true;
+}
+
+static bool load_file(struct host *host, uint32_t vm, int file, uint32_t gfn, bool is_altered) {
+    static uint8_t bytes[IMAGE];
+    ssize_t length;
+    for (off_t from = 0; (length = pread(file, bytes, IMAGE, from)) > 0; from += length) {
+        if (is_altered) bytes[length / 2] ^= 1;
+        if (!load_image(host, vm, gfn + from / PAGE, bytes, length)) return false;
+    }
+    if (length < 0) stop("an image");
+    return true;
+}
+
+/* Registers a slot, loads the guest's files, and has them measured. Returns whether it may run. */
+static bool boot(struct host *host, uint32_t vm, const struct boot *boot, bool is_altered) {
+    ask(host, "regvm %u", vm);
+    for (unsigned vcpu = 0; vcpu < boot->vcpus; vcpu++) ask(host, "regvcpu %u %u", vm, vcpu);
+    for (unsigned part = 0; part < boot->count; part++)
+        if (!load_file(host, vm, boot->parts[part].file, boot->parts[part].base, is_altered)) return false;
+    return is_done(ask(host, "verify %u", vm));
+}
+
+/* A virtual processor waits for a page. */
+static void supply(struct host *host, uint32_t vm, uint32_t vcpu, uint32_t gfn) {
+    for (;;) {
+        uint32_t frame = any_frame(host);
+        const char *reply = frame == UINT32_MAX ? host->reply : ask(host, "map %u %u %u", vm, vcpu, frame);
+        if (is_done(reply)) remember(host, vm, gfn, frame);
+        else if (!strcmp(reply, "refused not-host")) continue; /* given away in the storm */
+        else if (frame == UINT32_MAX || !strcmp(reply, "refused tables-full"))
+            printf("host: no frame for guest %u at %u, which waits: %s\n", vm, gfn, reply);
+        else ask(host, "give %u", frame); /* it waits for none any more, or was cleared */
+        return;
+    }
+}
+
+static void clear(struct host *host, uint32_t vm) {
+    if (is_done(ask(host, "clear %u", vm)) && vm < GUESTS) host->runs[vm] = false;
+}
+
+/* What it may not. */
+
+/* What the host's memory has at a frame, as text. */
+static const char *text_at(const struct host *host, uint32_t frame) {
+    static char text[40];
+    size_t length = 0;
+    for (const uint8_t *byte = at(host, frame); *byte && length < sizeof text - 1; byte++)
+        text[length++] = *byte >= ' ' && *byte < 127 ? *byte : '.';
+    text[length] = 0;
+    return text;
+}
+
+/* Goes for a frame by both doors: it asks the core, and it reads its memory. */
+static void look(struct host *host, const char *what, uint32_t frame) {
+    const char *reply = ask(host, "hfault %u", frame);
+    printf("host: looks at %s: %s, its memory has \"%s\"\n", what, reply, text_at(host, frame));
+}
+
+/* A pipe keeps a page, as no mapping does. */
+static void pin(struct host *host, uint32_t vm, uint32_t frame) {
+    struct iovec page = {at(host, frame), PAGE};
+    if (pipe(host->pipes[vm]) || vmsplice(host->pipes[vm][1], &page, 1, 0) != PAGE) stop("vmsplice");
+}
+
+static void read_pin(struct host *host, uint32_t vm) {
+    char text[PAGE];
+    if (read(host->pipes[vm][0], text, PAGE) != PAGE) stop("the pipe");
+    printf("host: the page that a pipe has kept: \"%.32s\"\n", text);
+    close(host->pipes[vm][0]);
+    close(host->pipes[vm][1]);
+}
+
+/* Lines that are no calls, or of nobody's: none may be done. */
+static void send_rubbish(struct host *host) {
+    static const char *const lines[] = {"hfault", "hfault  1", "hfault 4294967296", "remap 0 0 4294967295",
+                                        "remap 0 0 x", "run 0 9", "run 99 0", "regvm 4294967295", "clear 63",
+                                        "setboot 0 0 4096", "verify 0", "grantr 0 0 0 64", "\n", "kcore-trace 2"};
+    static char longest[16000];
+    unsigned done = 0, count = sizeof lines / sizeof *lines;
+    for (unsigned number = 0; number < count; number++) done += is_done(ask(host, "%s", lines[number]));
+    memset(longest, 'a', sizeof longest);
+    done += is_done(send_line(host, longest, sizeof longest));
+    done += is_done(send_line(host, "take\0", 5));
+    printf("host: sends %u lines that are no call of its own: %u done\n", count + 2, done);
+}
+
+/* Doors beside the core: the monitor's memory, and KVM. */
+static void try_doors(void) {
+    char path[40];
+    snprintf(path, sizeof path, "/proc/%d/mem", (int)getppid());
+    int file = open(path, O_RDWR);
+    printf("host: opens the monitor's memory: %s\n", file < 0 ? strerror(errno) : "done");
+    if (file >= 0) close(file);
+    printf("host: traces the monitor: %s\n", ptrace(PTRACE_SEIZE, getppid(), NULL, NULL) ? strerror(errno) : "done");
+}
+
+static void attack_at_boot(struct host *host) {
+    uint32_t vm = host->plan->count, code = host->frame_of[0][CODE];
+    bool is_active = boot(host, vm, &host->plan->boots[0], true);
+    printf("host: an altered image is %s; has it run: ", is_active ? "approved" : "rejected");
+    printf("%s\n", ask(host, "run %u 0", vm));
+    ask(host, "clear %u", vm);
+    memset(at(host, code), 0x90, PAGE);
+    printf("host: alters a page of an image after its remap: %s\n", ask(host, "hfault %u", code));
+    printf("host: speaks for a guest: %s\n", ask(host, "grant 0 0 %u", SECRET));
+    printf("host: gives a frame to a virtual processor that waits for none: %s\n", ask(host, "map 0 0 %u", host->next));
+    send_rubbish(host);
+    try_doors();
+}
+
+/* The first fault of guest 1 is answered with a page of guest 0's image, and with a frame of the core's. */
+static void attack_by_frames(struct host *host, uint32_t vm, uint32_t vcpu) {
+    if (vm != 1 || host->has_offered) return;
+    host->has_offered = true;
+    printf("host: offers guest 1 a frame of guest 0: %s\n", ask(host, "map 1 %u %u", vcpu, host->frame_of[0][CODE]));
+    printf("host: offers guest 1 a frame of the core: %s\n", ask(host, "map 1 %u 0", vcpu));
+}
+
+static void attack_before_sharing(struct host *host, uint32_t vm) {
+    uint32_t secret = host->frame_of[vm][SECRET];
+    look(host, "the secret", secret);
+    look(host, "the letter, not shared yet", host->frame_of[vm][LETTER]);
+    strcpy((char *)at(host, secret), "a forged secret");
+    printf("host: takes the secret's frame back: %s\n", ask(host, "give %u", secret));
+}
+
+/* Takes free frames until it has the one that was dropped, and looks at that. */
+static void attack_dropped(struct host *host, uint32_t vm) {
+    uint32_t dropped = host->frame_of[vm][THROWN], frame;
+    look(host, "what was dropped", dropped);
+    while ((frame = take(host)) != UINT32_MAX && frame != dropped) continue;
+    if (frame == dropped) look(host, "what was dropped, taken", frame);
+}
+
+/* Reads a letter that a guest shares, and answers in it. */
+static void read_letter(struct host *host, uint32_t vm, bool is_first) {
+    uint32_t letter = host->frame_of[vm][LETTER];
+    if (is_first)
+        printf("host: the letter, shared but not asked for: its memory has \"%s\"\n", text_at(host, letter));
+    if (!is_done(ask(host, "hfault %u", letter))) printf("host: may not read the letter: %s\n", host->reply);
+    if (!is_first) return;
+    printf("host: the letter, shared and asked for: its memory has \"%s\"\n", text_at(host, letter));
+    snprintf((char *)at(host, letter) + ANSWER, ANSWER, "thank you, guest %u", vm);
+}
+
+static void attack_while_shared(struct host *host, uint32_t vm) {
+    pin(host, vm, host->frame_of[vm][LETTER]);
+    look(host, "the secret again", host->frame_of[vm][SECRET]);
+}
+
+static void attack_revoked(struct host *host, uint32_t vm) {
+    look(host, "the letter, revoked", host->frame_of[vm][LETTER]);
+    read_pin(host, vm);
+}
+
+/* A guest says how far it is, and waits. */
+static void serve_notice(struct host *host, uint32_t vm, uint32_t number) {
+    if (number == 2 || number == 5) read_letter(host, vm, number == 2);
+    if (!host->plan->is_hostile) return;
+    if (number == 1) attack_before_sharing(host, vm);
+    if (number == 2) attack_while_shared(host, vm);
+    if (number == 3) attack_revoked(host, vm);
+    if (number == 4) attack_dropped(host, vm);
+}
+
+/* The storm. */
+
+/* Counts frames whose bytes in the host's memory a guest has marked as private. */
+static void look_for_leaks(struct host *host) {
+    for (uint32_t frame = 0; frame < host->plan->frames; frame++) {
+        const uint64_t *words = (const uint64_t *)at(host, frame);
+        for (int word = 0; word < 8; word++) host->leaks += words[word] >> 40 == SECRET_TAG;
+    }
+}
+
+static uint32_t by_chance(struct host *host, uint32_t below) {
+    host->chance ^= host->chance << 13;
+    host->chance ^= host->chance >> 7;
+    host->chance ^= host->chance << 17;
+    return (host->chance >> 20) % below;
+}
+
+static void send_by_chance(struct host *host) {
+    static const char characters[] = "0123456789 \n\0grantrevokedrophfaultmapclearverify";
+    char line[24];
+    size_t length = 1 + by_chance(host, sizeof line);
+    for (size_t at = 0; at < length; at++) line[at] = characters[by_chance(host, sizeof characters - 1)];
+    send_line(host, line, length);
+}
+
+/* A call or a touch, whatever comes of it. Slots from 2 on are cleared too, while their guests run. */
+static void storm_once(struct host *host) {
+    uint32_t frame = by_chance(host, host->plan->frames), other = 2 + by_chance(host, 3), any = by_chance(host, 5);
+    switch (by_chance(host, 16)) {
+    case 0: ask(host, "take"); break;
+    case 1: ask(host, "give %u", frame); break;
+    case 2: case 3: case 4: ask(host, "hfault %u", frame); break;
+    case 5: ask(host, "map %u %u %u", by_chance(host, 2), by_chance(host, 2), frame); break;
+    case 6:
+        ask(host, "regvm %u", other);
+        ask(host, "regvcpu %u 0", other);
+        break;
+    case 7: ask(host, "setboot %u %u %u", other, by_chance(host, 64), 1 + by_chance(host, 9000)); break;
+    case 8: case 9: ask(host, "remap %u %u %u", any, by_chance(host, 2), frame); break;
+    case 10: ask(host, "verify %u", any); break;
+    case 11: clear(host, other); break;
+    case 12: ask(host, "hread %u %u 8", frame, by_chance(host, PAGE)); break;
+    case 13: ask(host, "run %u %u", any, by_chance(host, 3)); break;
+    case 14: send_by_chance(host); break;
+    default: at(host, frame)[by_chance(host, PAGE)] ^= by_chance(host, 256); break;
+    }
+}
+
+static void storm(struct host *host) {
+    for (int call = 0; call < 20; call++) storm_once(host);
+    host->storm -= host->storm < 20 ? host->storm : 20;
+    look_for_leaks(host);
+    if (!host->storm) printf("host: the storm is over: %u words of private pages seen\n", host->leaks);
+}
+
+/* The run. */
+
+/* Ends guest 1 while it runs, takes every free frame, and looks for what it left. */
+static void end_one(struct host *host) {
+    uint32_t frame, count = 0, left = 0;
+    printf("host: ends guest 1, which runs: %s\n", ask(host, "clear 1"));
+    printf("host: has it run: %s\n", ask(host, "run 1 1"));
+    while ((frame = take(host)) != UINT32_MAX) {
+        ask(host, "hfault %u", frame);
+        count++;
+        for (int byte = 0; byte < PAGE; byte++) left += at(host, frame)[byte] != 0;
+    }
+    printf("host: takes %s free frames: %u bytes in them\n", count ? "all" : "no", left);
+}
+
+static void serve_event(struct host *host, const char *line) {
+    uint32_t vm, vcpu, number;
+    char name[16];
+    if (sscanf(line, "%15s %u %u %u", name, &vm, &vcpu, &number) != 4) return;
+    if (!strcmp(name, "fault")) {
+        if (host->plan->is_hostile) attack_by_frames(host, vm, vcpu);
+        supply(host, vm, vcpu, number);
+    } else if (!strcmp(name, "notified")) {
+        serve_notice(host, vm, number);
+        ask(host, "run %u %u", vm, vcpu);
+    } else if (!strcmp(name, "ended") && !vcpu) {
+        printf("host: guest %u has ended\n", vm);
+        host->runs[vm] = false;
+    }
+}
+
+static bool receive_event(struct host *host) {
+    char line[128];
+    ssize_t length = recv(host->events, line, sizeof line - 1, 0);
+    if (length <= 0) return false;
+    line[length] = 0;
+    serve_event(host, line);
+    return true;
+}
+
+static bool any_runs(const struct host *host) {
+    for (unsigned vm = 0; vm < GUESTS; vm++)
+        if (host->runs[vm]) return true;
+    return false;
+}
+
+static void boot_all(struct host *host) {
+    for (unsigned vm = 0; vm < host->plan->count; vm++) {
+        host->runs[vm] = boot(host, vm, &host->plan->boots[vm], false);
+        if (!host->runs[vm]) printf("host: guest %u is not booted: %s\n", vm, host->reply);
+    }
+    if (host->plan->is_hostile) attack_at_boot(host);
+    for (unsigned vm = 0; vm < host->plan->count; vm++)
+        for (unsigned vcpu = 0; vcpu < host->plan->boots[vm].vcpus; vcpu++) ask(host, "run %u %u", vm, vcpu);
+}
+
+_Noreturn void host_main(int memory, int calls, int events, const struct plan *plan) {
+    static struct host host;
+    host = (struct host){.plan = plan, .calls = calls, .events = events, .next = plan->first, .storm = plan->storm,
+                         .chance = 88172645463325252};
+    size_t size = (size_t)plan->frames * PAGE;
+    host.memory = mmap(NULL, size, PROT_READ | PROT_WRITE, MAP_SHARED | MAP_NORESERVE, memory, 0);
+    if (host.memory == MAP_FAILED) stop("memory");
+    boot_all(&host);
+    while (any_runs(&host) || host.storm) {
+        struct pollfd file = {events, POLLIN, 0};
+        int ready = poll(&file, 1, host.storm ? 0 : -1);
+        if (ready < 0 && errno != EINTR) stop("poll");
+        if (ready > 0 && !receive_event(&host)) break;
+        if (!ready) storm(&host);
+    }
+    if (plan->is_hostile) end_one(&host);
+    exit(0);
+}

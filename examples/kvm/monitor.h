@@ -1,0 +1,166 @@
+/* A monitor of real virtual machines under Linux KVM: which page is whose is decided by kcore, and by nothing here.
+ * docs/MONITOR.md says how its parts fit. One lock, the monitor's, is held round each call and what it changes. */
+#ifndef MONITOR_H
+#define MONITOR_H
+#include <kcore.h>
+#include <linux/kvm.h>
+#include <pthread.h>
+#include <stdatomic.h>
+#include <stdbool.h>
+#include <stddef.h>
+#include <stdint.h>
+#include <sys/types.h>
+
+enum { PAGE = 4096, GUEST_FRAMES = 262144, SLOTS = 64, VCPUS = 8, IMAGES = 4 };
+
+/* Ends the program with status 3: what was decided cannot be done. */
+_Noreturn void fail(const char *what);
+
+/* The core (core.c): its session, and the trace that is written of it. */
+
+struct core {
+    kcore session;
+    kcore_size size;
+    kcore_frame_change *changes; /* what the last call changed */
+    size_t count;
+    uint8_t *reply, *line; /* with room for the longest of each, and a NUL */
+    size_t reply_room, line_room;
+    const char *path; /* of the trace; that of volume N > 1 ends with .N */
+    int trace;
+    unsigned volume;
+    size_t written; /* lines of the volume that are in its file */
+    bool redacted;
+    uint64_t calls;
+    double asking; /* microseconds in the core, and in writing the trace */
+};
+
+void core_open(struct core *core, const char *configuration);
+/* Begins the trace, which each call is written to. */
+void core_trace(struct core *core, const char *trace, bool redacted);
+void core_close(struct core *core);
+
+/* Asks a line of the host's. Returns the reply, or why there is none, which stays until the next call. Then the line is
+ * in the trace, and what it changed in `changes`. */
+const char *core_ask(struct core *core, const char *line, size_t length);
+
+/* Makes a call of virtual processor `vcpu` of slot `vm` or, for KCORE_NONE, of the host, and for a write with a page of
+ * bytes, else NULL. */
+kcore_answer core_do(struct core *core, uint32_t vm, uint32_t vcpu, kcore_request request, const uint8_t *page);
+
+kcore_record core_record_of(struct core *core, uint32_t frame);
+
+/* The MMU (mmu.c): where the bytes of frames are, and who sees them. */
+
+/* What a guest sees: its private pages, each at its guest frame, and in between the host's that it shares. */
+struct memory {
+    int pages; /* the file of the private ones */
+    uint8_t *seen;
+    int faults; /* the userfaultfd of what is seen */
+};
+
+struct mmu {
+    uint32_t frames;
+    int host; /* the host's file, each page at its frame */
+    struct memory *of[SLOTS];
+};
+
+struct comparison {
+    uint32_t private_pages, shared_pages, wrong;
+};
+
+void mmu_open(struct mmu *mmu, uint32_t frames);
+void mmu_close(struct mmu *mmu);
+void memory_open(struct memory *memory);
+/* Takes all pages from the guest's sight: whoever waits for one is refused. */
+void memory_shut(struct memory *memory);
+void memory_close(struct memory *memory);
+/* Lets whoever waits at a guest frame try again. */
+void memory_wake(struct memory *memory, uint32_t gfn);
+
+/* Does what a call changed. If a page of the host's goes to a guest, `copy` has its bytes, or is NULL: then they are
+ * read now. */
+void mmu_follow(struct mmu *mmu, const kcore_frame_change *changes, size_t count, const uint8_t *copy);
+void mmu_read_host(struct mmu *mmu, uint32_t frame, uint8_t *bytes);
+/* Zeroes the bytes of a private page from an offset on. */
+void mmu_zero_end(struct mmu *mmu, uint32_t vm, uint32_t gfn, uint32_t offset);
+/* Compares what the kernel has mapped and kept with the record of each frame. */
+struct comparison mmu_compare(struct mmu *mmu, struct core *core);
+
+/* Devices (devices.c): a serial line, on which a guest prints, and what firmware looks for. */
+
+struct devices {
+    char line[200];
+    size_t length;
+    uint8_t serial[8], speed[2], cmos, keyboard;
+};
+
+void device_out(struct devices *devices, unsigned vm, uint16_t port, uint32_t value);
+uint32_t device_in(struct devices *devices, uint16_t port);
+
+/* Guests (guest.c): the life of a VM, from its registering until it is cleared and its threads are gone. */
+
+/* How its virtual processors begin. The host has no say in it. */
+enum mode { BARE, BIOS, MULTIBOOT };
+
+struct guest;
+
+struct vcpu {
+    struct guest *guest;
+    unsigned number;
+    bool is_registered, has_begun, may_go, has_ended;
+    pthread_t thread;
+    pid_t thread_id;
+    int file;
+    struct kvm_run *run;
+    uint32_t answer; /* of its last call: 0 is done */
+    double begun, asked; /* for measuring */
+};
+
+struct guest {
+    struct monitor *monitor;
+    unsigned slot;
+    enum mode mode;
+    bool is_active;
+    atomic_bool has_ended;
+    unsigned users; /* its slot, and threads */
+    int vm, ends;   /* KVM's, and what wakes the thread of its faults */
+    struct memory memory;
+    struct devices devices;
+    struct {
+        uint32_t base, length;
+    } images[IMAGES];
+    unsigned image_count;
+    struct vcpu vcpus[VCPUS];
+};
+
+struct monitor {
+    pthread_mutex_t lock;
+    pthread_cond_t moved; /* a virtual processor may go, or a thread is gone */
+    struct core core;
+    struct mmu mmu;
+    struct guest *guests[SLOTS];
+    enum mode modes[SLOTS];
+    int kvm, events; /* KVM, and the socket of what happens to guests */
+    size_t run_size;
+    atomic_uint faults, exits;
+    unsigned lives; /* of guests whose threads are not all gone */
+    bool is_over;   /* nothing is asked any more */
+};
+
+/* These are called with the lock held. */
+void guest_open(struct monitor *monitor, unsigned slot);
+/* Its images were approved. */
+void guest_activate(struct guest *guest);
+/* Has a virtual processor begin, or go on. Returns the reply to the host. */
+const char *guest_run(struct monitor *monitor, uint32_t slot, uint32_t vcpu);
+/* It sees no page from now on, and its threads end. */
+void guest_end(struct guest *guest);
+/* Its slot is empty. */
+void guest_close(struct guest *guest);
+
+/* Sends the host a line: what happened (fault, notified or ended), slot, virtual processor, a number. */
+void monitor_event(struct monitor *monitor, const char *name, const struct vcpu *vcpu, uint32_t number);
+
+/* Microseconds of the clock. */
+double now(void);
+#endif
