@@ -225,11 +225,12 @@ static void attack_before_sharing(struct host *host, uint32_t vm) {
     printf("host: takes the secret's frame back: %s\n", ask(host, "give %u", secret));
 }
 
-/* Takes free frames until it has the one that was dropped, and looks at that. */
+/* Takes free frames until it has the one that was dropped, and looks at that. The others go back. */
 static void attack_dropped(struct host *host, uint32_t vm) {
-    uint32_t dropped = host->frame_of[vm][THROWN], frame;
+    uint32_t dropped = host->frame_of[vm][THROWN], frame = UINT32_MAX;
     look(host, "what was dropped", dropped);
-    while ((frame = take(host)) != UINT32_MAX && frame != dropped) continue;
+    for (uint32_t count = 0; count < host->plan->frames && (frame = take(host)) != dropped; count++)
+        ask(host, "give %u", frame);
     if (frame == dropped) look(host, "what was dropped, taken", frame);
 }
 
