@@ -7,10 +7,11 @@ use Rattle.kc_types.specs.declared.owner.Owner.{Owner}
 use Rattle.kc_types.specs.declared.owner.Owner.TheVariants.{Core, Free, Vm}
 use Rattle.kc_types.specs.declared.resource.Resource.{Resource}
 use Rattle.kc_types.specs.declared.resource.Resource.TheVariants as resource
+use Rattle.kc_types.specs.Slots.{slot_of}
 use Rattle.kc_model.specs.State.{State, frame_at}
 use Rattle.kc_model.specs.Lawful.{IsLawful, same_owner}
 use Rattle.kc_model.specs.Next.{next}
-use Rattle.kc_model.specs.Resources.{need, names_frame, slot_of, uses_free, of_slot, exists_slot, listed_in, is_in}
+use Rattle.kc_model.specs.Resources.{need, names_frame, uses_free, of_slot, exists_slot, listed_in, is_in}
 use Rattle.kc_model.proofs.Lawful.Keeps.{lawful-next}
 use Rattle.kc_model.proofs.Local.Orderly.{listed-owned}
 use Rattle.kc_model.proofs.States.Changes.{exists}

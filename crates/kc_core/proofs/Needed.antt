@@ -2,8 +2,9 @@
 use Rattle.std.proofs.Common.{ℕ, ◌≡◌, ◌<◌, true, Some, is_some}
 use Rattle.kc_types.specs.Configuration.{Configuration, slot_count}
 use Rattle.kc_types.specs.declared.call.Call.{Call}
+use Rattle.kc_types.specs.Slots.{slot_of}
 use Rattle.kc_model.specs.State.{mapped_at}
-use Rattle.kc_model.specs.Resources.{names_frame, slot_of}
+use Rattle.kc_model.specs.Resources.{names_frame}
 use Rattle.kc_model.proofs.Local.Needs as needs
 use Rattle.kc_parts.specs.Parts.{Held, page_at, vm_at}
 use Rattle.kc_parts.specs.States.{state_of, here_of}

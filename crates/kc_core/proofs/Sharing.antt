@@ -8,10 +8,10 @@ use Rattle.kc_types.specs.declared.call.Call.{Call}
 use Rattle.kc_types.specs.declared.call.Call.TheVariants.{GrantRange}
 use Rattle.kc_types.specs.declared.owner.Owner.TheVariants.{Core}
 use Rattle.kc_types.specs.declared.resource.Resource.TheVariants as resource
+use Rattle.kc_types.specs.Slots.{slot_of}
 use Rattle.kc_model.specs.State.{State, Frame, Slot, frame_at, mapped_at, with_frame, untouched, empty_slot}
 use Rattle.kc_model.specs.Refusals.{refusal, backing, share_at}
 use Rattle.kc_model.specs.Effects.{with_each, granted}
-use Rattle.kc_model.specs.Resources.{slot_of}
 use Rattle.kc_model.proofs.Refusals.Served.{when-none}
 use Rattle.kc_model.proofs.States.Each.{none-in}
 use Rattle.kc_model.proofs.Lawful.RangeCalls.{guest_range-served}

@@ -14,6 +14,7 @@ use Rattle.kc_types.specs.declared.custody.PhaseChange.{PhaseChange}
 use Rattle.kc_types.specs.declared.custody.Event.{Event}
 use Rattle.kc_types.specs.declared.custody.Event.TheVariants as event
 use Rattle.kc_types.specs.declared.custody.Change.TheVariants as change
+use Rattle.kc_types.specs.Slots.{vm_of}
 use Rattle.kc_model.specs.State.{State, frame_at}
 use Rattle.kc_model.specs.Lawful.{IsLawful}
 use Rattle.kc_model.specs.Next.{next}
@@ -21,7 +22,7 @@ use Rattle.kc_model.specs.Resources.{is_in}
 use Rattle.kc_model.specs.Custody.{frame_changes_by, phase_changes_by, changes_by, images_by}
 use Rattle.kc_model.specs.Events.{of_owner, access_by, events_by}
 use Rattle.kc_custody.specs.Movable.{movable}
-use Rattle.kc_custody.specs.Marks.{mark_of, settled, differs, frame_event, turning, phase_mark, phase_told, phase_event, vm_of, accessed, access_told}
+use Rattle.kc_custody.specs.Marks.{mark_of, settled, differs, frame_event, turning, phase_mark, phase_told, phase_event, accessed, access_told}
 use Rattle.kc_custody.proofs.Ordered.{IsRisingFrom}
 use Rattle.kc_custody.proofs.Told.{told-is}
 use Rattle.kc_custody.proofs.Turned.{phases-told}

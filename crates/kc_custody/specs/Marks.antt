@@ -1,6 +1,7 @@
 -- What is noted of frames and of a slot before a call, to be compared after it.
 use Rattle.std.specs.Prelude.{ℕ, Bool, not, List, [], ◌∷◌, map, filter, Option, Some, None, if◌then◌else◌}
 use Rattle.std.specs.Option.{option_to_list}
+use Rattle.kc_types.specs.Slots.{vm_of}
 use Rattle.kc_types.specs.declared.call.Call.{Call}
 use Rattle.kc_types.specs.declared.call.Call.TheVariants.{HostRead, HostWrite, RegisterVm, Verify, Clear}
 use Rattle.kc_types.specs.declared.reply.Reply.{Reply}
@@ -54,10 +55,6 @@ abbrev pub phase_told : State → List MeasuredImage → Option PhaseChange → 
 phase_told new images None = []
 phase_told new images (Some mark) =
     if same_phase mark.phase (slot_at new mark.vm).phase then [] else phase_event (record mark { phase = (slot_at new mark.vm).phase; images = images }) ∷ []
-
-abbrev pub vm_of : Owner → Option ℕ
-vm_of (Vm v) = Some v
-vm_of _ = None
 
 -- the VM whose frame the host reads or writes
 abbrev pub accessed : State → Call → Option ℕ

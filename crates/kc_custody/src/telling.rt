@@ -4,7 +4,7 @@ ghost use Rattle.kc_types.specs.declared.call.Call.TheVariants.{Verify};
 ghost use Rattle.kc_model.specs.Next.{next, state_after};
 ghost use Rattle.kc_model.specs.Custody.{images_by};
 ghost use Rattle.kc_model.specs.Events.{events_by, events_from};
-ghost use Rattle.kc_custody.specs.Marks.{mark_of, settled, differs, frame_event, turning, phase_mark, phase_told, vm_of, accessed, access_told};
+ghost use Rattle.kc_custody.specs.Marks.{mark_of, settled, differs, frame_event, turning, phase_mark, phase_told, accessed, access_told};
 
 use crate::look_ups::{custody_at, phase_at, same_custody, same_phase};
 use crate::movable::movable;
@@ -12,8 +12,8 @@ use arrayvec::ArrayVec;
 use kc_core::KCore;
 use kc_parts::sort_once;
 use kc_types::{
-    Call, Change, Event, FrameChange, IMAGE_LIMIT, MeasuredImage, MeasuredImages, Memory, Owner,
-    PhaseChange, Reply,
+    Call, Change, Event, FrameChange, IMAGE_LIMIT, MeasuredImage, MeasuredImages, Memory,
+    PhaseChange, Reply, vm_of,
 };
 use std::alloc::Global;
 
@@ -24,15 +24,6 @@ fn turning(call: &Call) -> Option<u32>
     match call {
         Call::RegisterVm { vm } | Call::Verify { vm } | Call::Clear { vm } => Some(*vm),
         _ => None,
-    }
-}
-
-fn vm_of(owner: Owner) -> Option<u32>
-    ensures { result ≡ vm_of owner }
-{
-    match owner {
-        Owner::Vm(vm) => Some(vm.index() as u32),
-        Owner::Core | Owner::Host | Owner::Free => None,
     }
 }
 

@@ -12,8 +12,9 @@ use Rattle.kc_types.specs.declared.call.Call.TheVariants.{Give, HostFault, HostR
 use Rattle.kc_types.specs.declared.owner.Owner.{Owner}
 use Rattle.kc_types.specs.declared.owner.Owner.TheVariants as owner
 use Rattle.kc_types.specs.declared.resource.Resource.TheVariants as resource
+use Rattle.kc_types.specs.Slots.{slot_of}
 use Rattle.kc_model.specs.State.{State}
-use Rattle.kc_model.specs.Resources.{Resource, slot_of, names_frame, uses_free, of_slot, exists_slot, touched}
+use Rattle.kc_model.specs.Resources.{Resource, names_frame, uses_free, of_slot, exists_slot, touched}
 use Rattle.kc_model.specs.Footprints.{call_at, gains, footprint}
 use Rattle.kc_model.specs.Footprints as model
 use Rattle.kc_footprints.specs.Naming.{named_frame, gain_of, below, names_of}

@@ -7,8 +7,8 @@ use Rattle.kc_waves.specs.Planned.{ComesJustAfter}
 use Rattle.kc_waves.proofs.Plans.{is_plan}
 use Rattle.kc_types.specs.Configuration.{Configuration, slot_count}
 use Rattle.kc_types.specs.declared.call.Call.{Call}
+use Rattle.kc_types.specs.Slots.{slot_of}
 use Rattle.kc_model.specs.State.{State}
-use Rattle.kc_model.specs.Resources.{slot_of}
 use Rattle.kc_model.specs.Footprints.{call_at, footprint}
 use Rattle.kc_footprints.specs.Commuting.{IsWaves}
 use Rattle.kc_footprints.specs.Naming.{below, named_frame, names_of}

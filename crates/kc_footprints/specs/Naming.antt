@@ -3,7 +3,8 @@ use Rattle.std.specs.Prelude.{ℕ, nat_lt, Option, Some, None, if◌then◌else�
 use Rattle.kc_types.specs.declared.call.Call.{Call}
 use Rattle.kc_types.specs.declared.call.Call.TheVariants.{Give, HostFault, HostRead, HostWrite, Remap, Map, Drop, Clear}
 use Rattle.kc_types.specs.Configuration.{Configuration, slot_count}
-use Rattle.kc_model.specs.Resources.{slot_of, uses_free}
+use Rattle.kc_types.specs.Slots.{slot_of}
+use Rattle.kc_model.specs.Resources.{uses_free}
 use Rattle.kc_footprints.specs.declared.names.Gain.{Gain}
 use Rattle.kc_footprints.specs.declared.names.Gain.TheVariants.{Nothing, SlotTakesFrame, FreeTakesFrame, FreeTakesReach}
 use Rattle.kc_footprints.specs.declared.names.Names.{Names}

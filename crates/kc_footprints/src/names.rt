@@ -1,9 +1,9 @@
 //! What a call names.
 ghost use Rattle.std.specs.Prelude.{◌≡◌};
-ghost use Rattle.kc_model.specs.Resources.{slot_of, uses_free};
+ghost use Rattle.kc_model.specs.Resources.{uses_free};
 ghost use Rattle.kc_footprints.specs.Naming.{named_frame, gain_of, below, names_of};
 
-use kc_types::{Call, Config};
+use kc_types::{Call, Config, slot_of};
 
 /// What a principal, a slot or the free list, may get by a call.
 #[derive(Clone, Copy)]
@@ -61,32 +61,6 @@ fn frame_of(call: &Call) -> Option<u32>
         | Call::Remap { frame, .. }
         | Call::Map { frame, .. } => Some(*frame),
         _ => None,
-    }
-}
-
-fn slot_of(call: &Call) -> Option<u32>
-    ensures { result ≡ slot_of call.now }
-{
-    match call {
-        Call::Take
-        | Call::Give { .. }
-        | Call::HostFault { .. }
-        | Call::HostRead { .. }
-        | Call::HostWrite { .. } => None,
-        Call::RegisterVm { vm }
-        | Call::RegisterVcpu { vm, .. }
-        | Call::SetBoot { vm, .. }
-        | Call::Remap { vm, .. }
-        | Call::Verify { vm }
-        | Call::Map { vm, .. }
-        | Call::GuestRead { vm, .. }
-        | Call::GuestWrite { vm, .. }
-        | Call::Grant { vm, .. }
-        | Call::Revoke { vm, .. }
-        | Call::GrantRange { vm, .. }
-        | Call::RevokeRange { vm, .. }
-        | Call::Drop { vm, .. }
-        | Call::Clear { vm } => Some(*vm),
     }
 }
 

@@ -5,9 +5,9 @@ use Rattle.kc_types.specs.declared.call.Call.{Call}
 use Rattle.kc_types.specs.declared.reply.Reply.{Reply}
 use Rattle.kc_types.specs.declared.owner.Owner.{Owner}
 use Rattle.kc_types.specs.declared.owner.Owner.TheVariants.{Core, Host, Free, Vm}
+use Rattle.kc_types.specs.Slots.{slot_of}
 use Rattle.kc_model.specs.State.{State, Frame, frame_at, slot_at, zero_page}
 use Rattle.kc_model.specs.Lawful.{same_owner}
-use Rattle.kc_model.specs.Resources.{slot_of}
 use Rattle.kc_model.specs.Safety.{EachStep}
 
 -- the host takes a free frame, and it is zero

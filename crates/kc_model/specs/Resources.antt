@@ -1,6 +1,7 @@
 -- What a call may touch: the resources of a state, and the state made of some resources of one state and the others of another.
 use Rattle.std.specs.Prelude.{ℕ, suc, ◌≡◌, Bool, true, false, cond, ◌&&◌, ◌||◌, ◌==◌, nat_lt, List, [], ◌∷◌, drop, slice_index_or, Option, Some, None}
 use Rattle.std.specs.List.{list_any}
+use Rattle.kc_types.specs.Slots.{slot_of}
 use Rattle.kc_types.specs.declared.call.Call.{Call}
 use Rattle.kc_types.specs.declared.call.Call.TheVariants.{Take, Give, HostFault, HostRead, HostWrite, RegisterVm, RegisterVcpu, SetBoot, Remap, Verify, Map, GuestRead, GuestWrite, Grant, Revoke, GrantRange, RevokeRange, Drop, Clear}
 use Rattle.kc_types.specs.Configuration.{Configuration, slot_count}
@@ -71,28 +72,6 @@ names_frame (HostWrite f off bytes) g = f == g
 names_frame (Remap v i f) g = f == g
 names_frame (Map v c f) g = f == g
 names_frame _ g = false
-
--- the slot that the call names
-abbrev pub slot_of : Call → Option ℕ
-slot_of Take = None
-slot_of (Give f) = None
-slot_of (HostFault f) = None
-slot_of (HostRead f off len) = None
-slot_of (HostWrite f off bytes) = None
-slot_of (RegisterVm v) = Some v
-slot_of (RegisterVcpu v c) = Some v
-slot_of (SetBoot v base len) = Some v
-slot_of (Remap v i f) = Some v
-slot_of (Verify v) = Some v
-slot_of (Map v c f) = Some v
-slot_of (GuestRead v c g off len) = Some v
-slot_of (GuestWrite v c g off bytes) = Some v
-slot_of (Grant v c g) = Some v
-slot_of (Revoke v c g) = Some v
-slot_of (GrantRange v c g n) = Some v
-slot_of (RevokeRange v c g n) = Some v
-slot_of (Drop v c g) = Some v
-slot_of (Clear v) = Some v
 
 abbrev pub uses_free : Call → Bool
 uses_free Take = true

@@ -9,13 +9,13 @@ use Rattle.kc_types.specs.declared.reply.Reply.{Reply}
 use Rattle.kc_types.specs.declared.reply.Reply.TheVariants as reply
 use Rattle.kc_types.specs.declared.refusal.Refusal.{Refusal}
 use Rattle.kc_types.specs.declared.owner.Owner.TheVariants.{Core, Vm}
+use Rattle.kc_types.specs.Slots.{slot_of}
 use Rattle.kc_model.specs.State.{State, Frame, SlotOf, Slot, frame_at, slot_at, mapped_at, untouched}
 use Rattle.kc_model.specs.Refusals.{refusal, backing, next_gfn, pending}
 use Rattle.kc_model.specs.Next.{next, state_after}
 use Rattle.kc_model.specs.Lawful.{IsLawful, same_owner}
 use Rattle.kc_model.specs.Boot.{boot}
 use Rattle.kc_model.specs.Blind.{Secret, IsPrivate, has_gfn, grants_secret}
-use Rattle.kc_model.specs.Resources.{slot_of}
 
 -- some guest frames of a VM are watched. What it has at one: how often the frame there is shared, and its bytes where it is watched
 pub record Page : Type 0 where

@@ -8,6 +8,7 @@ use Rattle.kc_types.specs.declared.call.Call.TheVariants.{HostRead, HostWrite}
 use Rattle.kc_types.specs.declared.reply.Reply.{Reply}
 use Rattle.kc_types.specs.declared.reply.Reply.TheVariants as reply
 use Rattle.kc_types.specs.declared.custody.Event.{Event}
+use Rattle.kc_types.specs.Slots.{vm_of}
 use Rattle.kc_model.specs.State.{State}
 use Rattle.kc_model.specs.Next.{next, replies_from}
 use Rattle.kc_model.specs.Events.{events_by}
@@ -15,7 +16,7 @@ use Rattle.kc_remarks.specs.declared.remark.CallKind.{CallKind}
 use Rattle.kc_remarks.specs.declared.remark.NamedFrame.{NamedFrame}
 use Rattle.kc_remarks.specs.declared.remark.Note.{Note}
 use Rattle.kc_remarks.specs.declared.remark.Note.TheVariants as note
-use Rattle.kc_remarks.specs.Remarks.{vm_of, access_at, access_to, read_told, write_told, remark_told, remark_by, named_by, notes_by, notes_from}
+use Rattle.kc_remarks.specs.Remarks.{access_at, access_to, read_told, write_told, remark_told, remark_by, named_by, notes_by, notes_from}
 use Rattle.kc_remarks.specs.Denials.{is_denied, is_denial}
 
 none-of-events : (told : List Event) → length (filter is_denied (map note.Event told)) ≡ 0

@@ -7,6 +7,7 @@ use Rattle.kc_types.specs.declared.call.Call.TheVariants.{HostRead, HostWrite}
 use Rattle.kc_types.specs.declared.reply.Reply.{Reply}
 use Rattle.kc_types.specs.declared.reply.Reply.TheVariants as reply
 use Rattle.kc_types.specs.declared.custody.Event.{Event}
+use Rattle.kc_types.specs.Slots.{vm_of}
 use Rattle.kc_model.specs.State.{State}
 use Rattle.kc_model.specs.Next.{next}
 use Rattle.kc_model.specs.Custody.{custody}
@@ -15,7 +16,7 @@ use Rattle.kc_model.proofs.Custody.Events.{changes-of-events}
 use Rattle.kc_remarks.specs.declared.remark.CallKind.{CallKind}
 use Rattle.kc_remarks.specs.declared.remark.NamedFrame.{NamedFrame}
 use Rattle.kc_remarks.specs.declared.remark.Note.TheVariants as note
-use Rattle.kc_remarks.specs.Remarks.{vm_of, access_at, access_to, read_told, write_told, remark_told, remark_by, named_by, notes_by, notes_from, notes, event_in, events_in}
+use Rattle.kc_remarks.specs.Remarks.{access_at, access_to, read_told, write_told, remark_told, remark_by, named_by, notes_by, notes_from, notes, event_in, events_in}
 
 events-of-events : (told : List Event) → events_in (map note.Event told) ≡ told
 events-of-events [] = refl

@@ -9,6 +9,7 @@ use Rattle.kc_types.specs.declared.reply.Reply.TheVariants as reply
 use Rattle.kc_types.specs.declared.owner.Owner.{Owner}
 use Rattle.kc_types.specs.declared.owner.Owner.TheVariants.{Vm}
 use Rattle.kc_types.specs.declared.custody.Event.{Event}
+use Rattle.kc_types.specs.Slots.{slot_of, vm_of}
 use Rattle.kc_remarks.specs.declared.remark.CallKind.{CallKind}
 use Rattle.kc_remarks.specs.declared.remark.CallKind.TheVariants as kind
 use Rattle.kc_remarks.specs.declared.remark.NamedFrame.{NamedFrame}
@@ -17,7 +18,6 @@ use Rattle.kc_remarks.specs.declared.remark.Denial.TheVariants as denial
 use Rattle.kc_remarks.specs.declared.remark.Note.{Note}
 use Rattle.kc_remarks.specs.declared.remark.Note.TheVariants as note
 use Rattle.kc_model.specs.State.{State, frame_at, mapped_at}
-use Rattle.kc_model.specs.Resources.{slot_of}
 use Rattle.kc_model.specs.Next.{next}
 use Rattle.kc_model.specs.Custody.{first_line}
 use Rattle.kc_model.specs.Events.{events_by}
@@ -68,10 +68,6 @@ frame_named m (Some f) = if nat_lt f m.config.frames then Some (record { frame =
 
 abbrev pub named_by : State → Call → Option NamedFrame
 named_by m call = frame_named m (number_named m call)
-
-abbrev pub vm_of : Owner → Option ℕ
-vm_of (Vm v) = Some v
-vm_of _ = None
 
 -- an access to a frame, where a VM owns it
 abbrev pub access_at : ℕ → CallKind → ℕ → ℕ → NamedFrame → Option ℕ → Option Note

@@ -1,11 +1,10 @@
 //! The remark on a call, by the frame that it names and its reply, and events among remarks.
 ghost use Rattle.std.specs.Prelude.{◌≡◌, ◌++◌, map, take, IfOk, OnOk};
 ghost use Rattle.kc_remarks.specs.declared.remark.Note.TheVariants as note;
-ghost use Rattle.kc_model.specs.Resources.{slot_of};
-ghost use Rattle.kc_remarks.specs.Remarks.{kind_of, vm_of, access_at, access_to, read_told, write_told, remark_told};
+ghost use Rattle.kc_remarks.specs.Remarks.{kind_of, access_at, access_to, read_told, write_told, remark_told};
 
 use crate::remark::{Access, CallKind, Denial, Denied, NamedFrame, Note};
-use kc_types::{Call, Event, Memory, Owner, Reply};
+use kc_types::{Call, Event, Memory, Reply, slot_of, vm_of};
 use std::alloc::Global;
 
 /// A call without its numbers.
@@ -32,43 +31,6 @@ fn kind_of(call: &Call) -> CallKind
         Call::RevokeRange { .. } => CallKind::RevokeRange,
         Call::Drop { .. } => CallKind::Drop,
         Call::Clear { .. } => CallKind::Clear,
-    }
-}
-
-/// The slot that a call names.
-fn slot_of(call: &Call) -> Option<u32>
-    ensures { result ≡ slot_of call.now }
-{
-    match call {
-        Call::RegisterVm { vm }
-        | Call::RegisterVcpu { vm, .. }
-        | Call::SetBoot { vm, .. }
-        | Call::Remap { vm, .. }
-        | Call::Verify { vm }
-        | Call::Map { vm, .. }
-        | Call::GuestRead { vm, .. }
-        | Call::GuestWrite { vm, .. }
-        | Call::Grant { vm, .. }
-        | Call::Revoke { vm, .. }
-        | Call::GrantRange { vm, .. }
-        | Call::RevokeRange { vm, .. }
-        | Call::Drop { vm, .. }
-        | Call::Clear { vm } => Some(*vm),
-        Call::Take
-        | Call::Give { .. }
-        | Call::HostFault { .. }
-        | Call::HostRead { .. }
-        | Call::HostWrite { .. } => None,
-    }
-}
-
-/// The slot of the VM that is the owner, if one is.
-fn vm_of(owner: Owner) -> Option<u32>
-    ensures { result ≡ vm_of owner }
-{
-    match owner {
-        Owner::Vm(vm) => Some(vm.index() as u32),
-        Owner::Core | Owner::Host | Owner::Free => None,
     }
 }
 

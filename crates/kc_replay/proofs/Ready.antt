@@ -6,10 +6,11 @@ use Rattle.kc_types.specs.Configuration.{slot_count}
 use Rattle.kc_types.specs.declared.call.Call.{Call}
 use Rattle.kc_types.specs.declared.owner.Owner.TheVariants.{Free, Vm}
 use Rattle.kc_types.specs.declared.resource.Resource.TheVariants as resource
+use Rattle.kc_types.specs.Slots.{slot_of}
 use Rattle.kc_model.specs.State.{State}
 use Rattle.kc_model.specs.Lawful.{IsLawful}
 use Rattle.kc_model.specs.Next.{next}
-use Rattle.kc_model.specs.Resources.{Resource, Resources, IsWithin, need, names_frame, slot_of, uses_free, of_slot, exists_slot}
+use Rattle.kc_model.specs.Resources.{Resource, Resources, IsWithin, need, names_frame, uses_free, of_slot, exists_slot}
 use Rattle.kc_model.specs.Footprints.{call_at, reach, footprint}
 use Rattle.kc_model.proofs.States.Sizes.{sized-next}
 use Rattle.kc_waves.specs.Reorder.{IsDue, IsTaken}

@@ -49,6 +49,13 @@ pub trait Line {
         requires { vec_len text.old + longest_call ≤ vec_capacity text.old }
         ensures line { text.new.items ≡ text.old.items ++ line self.now }
         ensures capacity { vec_capacity text.old ≤ vec_capacity text.new };
+
+    /// Lets go of it once its line was written out.
+    fn end(self)
+    where
+        Self: Sized + Drop,
+    {
+    }
 }
 
 impl Line for Reply {
@@ -56,6 +63,12 @@ impl Line for Reply {
 
     fn push(&self, text: &mut Vec<u8>) {
         push_reply(text, self);
+    }
+
+    fn end(self) {
+        if let Reply::Data(data) = self {
+            data.let_go_written();
+        }
     }
 }
 
@@ -112,6 +125,7 @@ pub fn give_lines<K: Sink, L: Line + Drop>(
             piece.clear();
         }
         line.push(&mut piece);
+        line.end();
     }
     write_whole(out, &piece)
 }

@@ -1,6 +1,7 @@
 //! A call of an actor.
 ghost use Rattle.std.specs.Prelude.{◌≡◌, IfOk};
 ghost use Rattle.kc_types.specs.Actors.{actor};
+ghost use Rattle.kc_types.specs.Slots.{slot_of};
 
 use crate::{Data, Memory};
 use std::alloc::Global;
@@ -138,6 +139,33 @@ pub fn actor_of(call: &Call) -> Actor
         | Call::RevokeRange { vm, vcpu, .. }
         | Call::Drop { vm, vcpu, .. } => Actor::Vcpu(*vm, *vcpu),
         _ => Actor::Host,
+    }
+}
+
+/// The slot that a call names.
+pub fn slot_of(call: &Call) -> Option<u32>
+    ensures { result ≡ slot_of call.now }
+{
+    match call {
+        Call::Take
+        | Call::Give { .. }
+        | Call::HostFault { .. }
+        | Call::HostRead { .. }
+        | Call::HostWrite { .. } => None,
+        Call::RegisterVm { vm }
+        | Call::RegisterVcpu { vm, .. }
+        | Call::SetBoot { vm, .. }
+        | Call::Remap { vm, .. }
+        | Call::Verify { vm }
+        | Call::Map { vm, .. }
+        | Call::GuestRead { vm, .. }
+        | Call::GuestWrite { vm, .. }
+        | Call::Grant { vm, .. }
+        | Call::Revoke { vm, .. }
+        | Call::GrantRange { vm, .. }
+        | Call::RevokeRange { vm, .. }
+        | Call::Drop { vm, .. }
+        | Call::Clear { vm } => Some(*vm),
     }
 }
 

@@ -18,7 +18,7 @@ mod secret;
 mod slot;
 mod version;
 
-pub use call::{Actor, Call, actor_of};
+pub use call::{Actor, Call, actor_of, slot_of};
 pub use config::{Config, ConfigFault};
 pub use custody::{
     Bar, Change, Custody, Event, FrameChange, Life, MeasuredImage, MeasuredImages, PhaseChange,
@@ -33,7 +33,7 @@ pub use limits::{
 pub use link::{Ends, Link};
 pub use memory::Memory;
 pub use numbers::{FrameNo, Gfn, VcpuId, VmId};
-pub use owner::Owner;
+pub use owner::{Owner, vm_of};
 pub use refusal::Refusal;
 pub use reply::Reply;
 pub use reply_buffer::ReplyBuffer;

@@ -1,4 +1,7 @@
 //! Who owns a frame.
+ghost use Rattle.std.specs.Prelude.{◌≡◌};
+ghost use Rattle.kc_types.specs.Slots.{vm_of};
+
 use crate::VmId;
 
 /// The owner of a frame: each frame has exactly one at a time.
@@ -12,4 +15,14 @@ pub enum Owner {
     Free,
     /// The VM in a slot.
     Vm(VmId),
+}
+
+/// The slot of the VM that is the owner, if one is.
+pub fn vm_of(owner: Owner) -> Option<u32>
+    ensures { result ≡ vm_of owner }
+{
+    match owner {
+        Owner::Vm(vm) => Some(vm.index() as u32),
+        Owner::Core | Owner::Host | Owner::Free => None,
+    }
 }

@@ -91,6 +91,14 @@ impl SecretBytes {
         Ok(SecretBytes { bytes })
     }
 
+    /// Lets the bytes go. The memory of more than `most` of them is not zeroed.
+    pub(crate) fn let_go_long(self, most: usize) {
+        let SecretBytes { bytes } = self;
+        if bytes.len() <= most {
+            let _zeroed = SecretBytes { bytes };
+        }
+    }
+
     /// Keeps the first `len` bytes, or all if there are fewer.
     pub fn truncate(&mut self, len: usize)
         ensures { self.new ≡ take len self.old }

@@ -7,7 +7,7 @@ use Rattle.kc_types.specs.declared.owner.Owner.{Owner}
 use Rattle.kc_types.specs.declared.owner.Owner.TheVariants.{Free, Vm}
 use Rattle.kc_model.specs.State.{State}
 use Rattle.kc_model.specs.Lawful.{IsLawful}
-use Rattle.kc_model.specs.Resources.{Resource, names_frame, slot_of, uses_free, of_slot, listed_in, touched, need, IsWithin}
+use Rattle.kc_model.specs.Resources.{Resource, names_frame, uses_free, of_slot, listed_in, touched, need, IsWithin}
 use Rattle.kc_model.specs.Footprints.{call_at, state_at, gains, reach, footprint, part_at}
 use Rattle.kc_model.specs.Local.{IsOrderly}
 use Rattle.kc_model.proofs.States.Sizes.{sized-next}
@@ -15,6 +15,7 @@ use Rattle.kc_model.proofs.Footprints.Grows.{grows-next}
 use Rattle.kc_model.proofs.Local.Orderly.{listed-owned}
 use Rattle.kc_model.proofs.Local.Agreeing.{keeps-others}
 use Rattle.kc_types.specs.declared.resource.Resource.TheVariants as resource
+use Rattle.kc_types.specs.Slots.{slot_of}
 
 abbrev pub IsHeldWithin : (Owner → ℕ → Bool) → (Owner → ℕ → Bool) → Type 0
 IsHeldWithin held wider = (owner : Owner) (f : ℕ) → held owner f ≡ true → wider owner f ≡ true

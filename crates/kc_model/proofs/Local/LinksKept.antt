@@ -7,7 +7,7 @@ use Rattle.kc_types.specs.declared.owner.Owner.{Owner}
 use Rattle.kc_types.specs.declared.owner.Owner.TheVariants.{Core, Host, Free, Vm}
 use Rattle.kc_model.specs.State.{State, Frame, Slot, frame_at, slot_at}
 use Rattle.kc_model.specs.Next.{next}
-use Rattle.kc_model.specs.Resources.{Resource, is_in, names_frame, slot_of, uses_free, of_slot, exists_slot, listed_in, need}
+use Rattle.kc_model.specs.Resources.{Resource, is_in, names_frame, uses_free, of_slot, exists_slot, listed_in, need}
 use Rattle.kc_model.specs.Links.{link_in, list_of}
 use Rattle.kc_model.specs.Linked.{frame_and_link, slot_and_ends, free_ends, linked_slot, ends_of, linked_part_of}
 use Rattle.kc_model.specs.Local.{IsOrderly}
@@ -15,6 +15,7 @@ use Rattle.kc_model.proofs.Local.Needs.{by_slot, by_free}
 use Rattle.kc_model.proofs.Local.Agreeing.{keeps-others, frame_of_part, slot_of_part, free_of_part}
 use Rattle.kc_types.specs.Configuration.{slot_count}
 use Rattle.kc_types.specs.declared.resource.Resource.TheVariants as resource
+use Rattle.kc_types.specs.Slots.{slot_of}
 
 -- each list holds the frames of its owner
 pub record ListsAll (m : State) : Type 0 where

@@ -8,7 +8,7 @@ use Rattle.std.proofs.lemmas.Grind.{common_steps}
 use Rattle.kc_types.specs.declared.call.Call.{Call}
 use Rattle.kc_model.specs.State.{State, Slot, Image, slot_at, mapped_at}
 use Rattle.kc_model.specs.Refusals.{backing, pages_of, is_short}
-use Rattle.kc_model.specs.Resources.{Resources, is_in, names_frame, slot_of, uses_free, of_slot, listed_in, need, IsWithin}
+use Rattle.kc_model.specs.Resources.{Resources, is_in, names_frame, uses_free, of_slot, listed_in, need, IsWithin}
 use Rattle.kc_model.specs.Local.{IsOrderly, HasMappedPages}
 use Rattle.kc_model.proofs.Local.Merges.{HasFrame, HasSlot}
 use Rattle.kc_model.proofs.Local.GuestLocals.{HasMapped, HasFrames}
@@ -16,6 +16,7 @@ use Rattle.kc_model.proofs.Local.VerifyLocal.{HasImages}
 use Rattle.kc_model.proofs.States.Slots.{slot-past}
 use Rattle.kc_types.specs.Configuration.{slot_count}
 use Rattle.kc_types.specs.declared.resource.Resource.TheVariants as resource
+use Rattle.kc_types.specs.Slots.{slot_of}
 
 pub by_name : (a b c d : Bool) → a ≡ true → b ≡ true → ((a && b) || c || d) ≡ true
 by_name true true c d x y = refl

@@ -5,12 +5,13 @@ use Rattle.std.specs.FinMap as map
 use Rattle.kc_types.specs.declared.call.Call.{Call}
 use Rattle.kc_types.specs.declared.owner.Owner.TheVariants.{Core}
 use Rattle.kc_model.specs.State.{State, Slot, slot_at, empty_slot, untouched}
-use Rattle.kc_model.specs.Resources.{Resources, Resource, pick, merged, is_in, names_frame, slot_of, uses_free, of_slot, exists_slot, listed_in, need, IsWithin}
+use Rattle.kc_model.specs.Resources.{Resources, Resource, pick, merged, is_in, names_frame, uses_free, of_slot, exists_slot, listed_in, need, IsWithin}
 use Rattle.kc_model.specs.Local.{IsOrderly, IsOrderlySlot, cut}
 use Rattle.kc_model.proofs.Local.Merges.{slot-merged, free-merged}
 use Rattle.kc_model.proofs.States.Members.{same_number}
 use Rattle.kc_types.specs.Configuration.{slot_count}
 use Rattle.kc_types.specs.declared.resource.Resource.TheVariants as resource
+use Rattle.kc_types.specs.Slots.{slot_of}
 
 length-pick : {X : Type 0} (test : ℕ → Bool) (d : X) (xs ys : List X) → length (pick test d xs ys) ≡ length xs
 length-pick test d [] ys = refl

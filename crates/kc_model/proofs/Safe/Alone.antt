@@ -8,12 +8,12 @@ use Rattle.kc_types.specs.declared.call.Call.{Call}
 use Rattle.kc_types.specs.declared.call.Call.TheVariants.{Take, Give, HostFault, HostRead, HostWrite, RegisterVm, RegisterVcpu, SetBoot, Remap, Verify, Map, GuestRead, GuestWrite, Grant, Revoke, GrantRange, RevokeRange, Drop, Clear}
 use Rattle.kc_types.specs.declared.refusal.Refusal.{Refusal}
 use Rattle.kc_types.specs.declared.owner.Owner.TheVariants.{Core, Host, Free, Vm}
+use Rattle.kc_types.specs.Slots.{slot_of}
 use Rattle.kc_model.specs.State.{State, Frame, Image, Slot, frame_at, slot_at, mapped_at, untouched, empty_slot}
 use Rattle.kc_model.specs.Refusals.{refusal, backing, conditions, next_gfn, pending}
 use Rattle.kc_model.specs.Effects.{effect, host_takes, hand, freed, guest_read, guest_written, trimmed, all_trimmed, verified, first_failing, is_approved, frames_under, changed_each, granted, revoked}
 use Rattle.kc_model.specs.Next.{next, unless_refused}
 use Rattle.kc_model.specs.Lawful.{IsLawful}
-use Rattle.kc_model.specs.Resources.{slot_of}
 use Rattle.kc_model.specs.Passing.{IsLeftAlone, LeavesAlone, CountsAll, IsPassedOn}
 use Rattle.kc_model.proofs.States.Lists.{changed-other}
 use Rattle.kc_model.proofs.States.Changes.{slot-elsewhere, vm-same}

@@ -11,12 +11,12 @@ use Rattle.kc_types.specs.declared.reply.Reply.{Reply}
 use Rattle.kc_types.specs.declared.refusal.Refusal.{Refusal}
 use Rattle.kc_types.specs.declared.owner.Owner.{Owner}
 use Rattle.kc_types.specs.declared.owner.Owner.TheVariants.{Core, Host, Free, Vm}
+use Rattle.kc_types.specs.Slots.{slot_of}
 use Rattle.kc_model.specs.State.{State, frame_at, overwritten, mapped_at}
 use Rattle.kc_model.specs.Refusals.{refusal, conditions, backing, next_gfn, pending, bad_vm, first_of_these, guest_access}
 use Rattle.kc_model.specs.Effects.{Outcome, effect, guest_written}
 use Rattle.kc_model.specs.Next.{next, unless_refused}
 use Rattle.kc_model.specs.Lawful.{IsLawful, same_owner}
-use Rattle.kc_model.specs.Resources.{slot_of}
 use Rattle.kc_model.specs.Blind.{has_gfn}
 use Rattle.kc_model.specs.Undisturbed.{watched, HasTheSame, Input, own_call, image_page, fresh_page, host_bytes, if_served, if_named, by_host, input, watched_reply, with_answer, verifies, watched_call}
 use Rattle.kc_model.proofs.Refusals.Served.{none-of}

@@ -11,12 +11,12 @@ use Rattle.kc_types.specs.declared.call.Call.TheVariants.{HostFault, HostWrite, 
 use Rattle.kc_types.specs.declared.refusal.Refusal.{Refusal}
 use Rattle.kc_types.specs.declared.owner.Owner.{Owner}
 use Rattle.kc_types.specs.declared.owner.Owner.TheVariants.{Core, Vm}
+use Rattle.kc_types.specs.Slots.{slot_of}
 use Rattle.kc_model.specs.State.{State, Frame, Slot, frame_at, slot_at, mapped_at, untouched, empty_slot, overwritten}
 use Rattle.kc_model.specs.Refusals.{refusal, backing}
 use Rattle.kc_model.specs.Effects.{effect}
 use Rattle.kc_model.specs.Next.{next, unless_refused}
 use Rattle.kc_model.specs.Lawful.{IsLawful, same_owner}
-use Rattle.kc_model.specs.Resources.{slot_of}
 use Rattle.kc_model.specs.Blind.{has_gfn}
 use Rattle.kc_model.specs.Undisturbed.{page_of, page_under, own_slot, HasTheSame, Input, own_call, host_bytes, if_served, if_named, by_host, input, watched_call}
 use Rattle.kc_model.proofs.States.Frames.{part-set}
