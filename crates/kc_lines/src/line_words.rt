@@ -57,7 +57,7 @@ impl<'a> LineWords<'a> {
         }
     }
 
-    /// Returns nothing if there is no word left, and `None` otherwise.
+    /// Returns `Some(())` if there is no word left, and `None` otherwise.
     pub fn end(mut self) -> Option<()>
         ensures value { result ≡ at_end self.entry }
         ensures ended { MatchOption result (self.entry ≡ [] → ⊥) (λ done. self.entry ≡ []) }
