@@ -23,7 +23,7 @@ data_word_is word e =
     let b = and_parts (list_all is_lower_digit word) (not (length word == 0)) a.0 in
     record { digits = b.0; some = eqb-false _ _ (not-true _ b.1); few = leb-true _ _ a.1 }
 
--- ---- a lower case digit is the one that is written of its value
+-- ---- a lower case digit is the one that is written for its value
 
 unfoldable pub all_below : (ℕ → Bool) → ℕ → Bool
 all_below t zero = true
@@ -135,7 +135,7 @@ data_of-encode_lower bytes fits =
     let test : is_data_word (encode_lower bytes) ≡ true = and_from _ _ (and_from _ _ (encoded_is_lower bytes fits) (ap not (ne_eqb (length (encode_lower bytes)) 0 (λ z. absurd (omega (arith, sizes, fits.nonempty)))))) (le-leb _ _ (omega (arith, sizes, fits.within))) in
     rw (test, decode_of-encode_lower bytes (data_is_bytes bytes fits)) refl
 
--- ---- reading two digits after two
+-- ---- reading digits in pairs
 
 abbrev value_again : ℕ → Bool
 value_again c = cond (is_lower_digit c) (get_or lower_digits (digit_value c) 0 == c) true
