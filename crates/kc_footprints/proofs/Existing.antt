@@ -38,7 +38,7 @@ reach-low m calls is (suc k) owner f differs h =
       | inr new ↦ gains-low m.config (reach m calls k) (λ v f there. reach-low m calls is k (Vm v) f refl there) (call_at calls k) owner f new
     ]
 
--- ---- the same of the planner's numbers
+-- ---- the same for the planner's numbers
 
 at_low : (o : Option ℕ) (n f : ℕ) → IfSome o (λ x. x < n) → is_at o f ≡ true → f < n
 at_low None n f low h = cc
