@@ -1,4 +1,4 @@
--- No findings exactly for a sound dump.
+-- There are no findings exactly if the dump is sound.
 use Rattle.std.proofs.Common.{ℕ, zero, suc, ◌≡◌, ◌<◌, ◌+◌, inl, inr, Bool, true, false, ◌&&◌, ◌||◌, not, nat_lt, List, [], ◌∷◌, length, get_or, Option, Some, None, is_some, refl, sym, ap, subst, ◌∙◌, arith}
 use Rattle.std.specs.Prelude.{◌↔◌, ◌==◌}
 use Rattle.std.proofs.lemmas.Bool.{cases_lt, eqb-true, ltb-false, le-ltb, false≢true}
@@ -63,7 +63,7 @@ empty-slot slot e phase =
     let entries = no-items slot.entries (eqb-true (length slot.entries) 0 (negated (length slot.entries == 0) a.1)) in
     λ i. record { phase = phase i; list = record { head = head i; tail = tail i; count = count i }; leaves = leaves i; entries = entries i }
 
--- what a frame that says so has
+-- the owner and the guest frame of a frame that agrees with an entry
 said-parts : (lines : List FrameLine) (v g f : ℕ) → says lines v g f ≡ true → (line_owner lines f ≡ Vm v) × ((line_at lines f).gfn ≡ Some g)
 said-parts lines v g f h =
     let parts = both-parts (same_owner (line_owner lines f) (Vm v)) (is_gfn (line_at lines f).gfn g) h in
@@ -237,7 +237,7 @@ module _ (d : Dumped) where
         zeros = none-kind kind.Bytes (λ f low. (is-clear f low).bytes);
       }
 
-  -- the findings of a dump are none exactly where it is sound
+  -- a dump has no findings exactly if it is sound
   pub none-sound : (found : List Finding) → AreFindings d found → (found ≡ []) ↔ IsSound d
   none-sound found are = (
     λ none. all-sound are.lists are.good (nothing-found are.lists are.good (sym are.named ∙ none)),

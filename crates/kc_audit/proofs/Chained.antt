@@ -1,4 +1,4 @@
--- A walk that counts all frames of an owner finds its list, where there is one.
+-- A walk that counts all frames of an owner finds its list, if there is one.
 use Rattle.std.proofs.Common.{◌≡◌, ℕ, ◌<◌, ◌≤◌, zero, suc, inl, inr, Bool, true, false, cond, Option, Some, None, List, [], ◌∷◌, length, get_or, refl, ap, sym, ◌∙◌, arith}
 use Rattle.std.specs.Prelude.{slice_get}
 use Rattle.std.specs.Option.{option_map}
@@ -23,7 +23,7 @@ use Rattle.kc_dump.proofs.Sums.{sum-same, sum-tight, sum-times}
 use Rattle.kc_model.proofs.States.Owners.{same-itself, same-is}
 
 module _ (lines : List FrameLine) (owner : Owner) where
-  -- what is left of a sequence, from here on
+  -- the rest of a sequence, from here on
   record Part (tail before here : Option ℕ) (n : ℕ) (fs : List ℕ) : Type 0 where
     head : here ≡ first_or None fs
     last : tail ≡ last_or before fs

@@ -1,4 +1,4 @@
--- One frame more is counted.
+-- One more frame is counted.
 use Rattle.std.proofs.Common.{ℕ, zero, suc, ◌≡◌, ◌<◌, ◌≤◌, ◌+◌, inl, inr, Bool, true, false, cond, List, get_or, set, Some, None, nat_eq, eq-eqb, refl, sym, ap, ◌∙◌, arith, length-set, get_or-set_same, get_or-set_other}
 use Rattle.std.proofs.lemmas.Bool.{cases_eq, ne_eqb}
 use Rattle.std.proofs.lemmas.Option.{same_Some}
@@ -12,7 +12,7 @@ use Rattle.kc_dump.specs.Sums.{sum_below}
 use Rattle.kc_audit.specs.Findings.{list_owner}
 use Rattle.kc_audit.specs.Counts.{list_place, AreOwnerCounts}
 
--- no more frames than there are
+-- no more frames are counted than there are
 pub sum-low : (lines : List FrameLine) (owner : Owner) (n : ℕ) → sum_below (owned lines owner) n ≤ n
 sum-low lines owner zero = omega arith
 sum-low lines owner (suc n) = let rest = sum-low lines owner n in let last = one (same_owner (line_owner lines n) owner) in omega (arith, rest, last)

@@ -7,7 +7,7 @@ use Rattle.kc_types.specs.declared.owner.Owner.{Owner}
 use Rattle.kc_dump.specs.declared.line.FrameLine.{FrameLine}
 use Rattle.kc_audit.specs.Walking.{ComesNext, Walks, next_in}
 
--- what is left of a walk before one more frame
+-- the rest of a walk before one more frame
 abbrev pub Goes : List FrameLine → Owner → Option ℕ → Option ℕ → Option ℕ → ℕ → Type 0
 Goes lines owner tail before here n = MatchOption here ⊥ (λ f. ComesNext lines owner before f × Walks lines owner tail (Some f) (next_in (slice_get lines f)) n)
 

@@ -26,7 +26,7 @@ module _ (d : Dumped) (marks : List Bool) (are : AreMarks d marks) where
       let line = line_at d.frames f in
       λ i. record (verdict_by d.core f (get_or marks f false) line) { gfn = gfn-same f line.owner line.gfn refl refl i }
 
-  -- one verdict more
+  -- one more verdict
   pub judged-more : (lines : List FrameLine) (start i f : ℕ) (out : List FrameVerdict) (line : FrameLine) (x : FrameVerdict) → lines ≡ d.frames → f ≡ start + i → f < length lines → line ≡ get_or lines f line → i < length out
       → take i out ≡ map (verdict_of d) (range_with_len start i) → x ≡ verdict_by d.core f (get_or marks f false) line → take (i + 1) (set out i x) ≡ map (verdict_of d) (range_with_len start (i + 1))
   judged-more lines start i f out line x same place within is low so_far judged =
@@ -37,7 +37,7 @@ module _ (d : Dumped) (marks : List Bool) (are : AreMarks d marks) where
 pub few-verdicts : (d : Dumped) (verdicts : List FrameVerdict) → length d.frames ≤ frame_limit → verdicts ≡ verdicts_of d → length verdicts ≤ frame_limit
 few-verdicts d verdicts few is = let long = ap (λ (vs : List FrameVerdict). length vs) is ∙ length-map-range_with_len (verdict_of d) 0 (length d.frames) in omega (arith, long, few)
 
--- the place of a verdict of a chunk among all verdicts
+-- the place among all verdicts of a verdict in a chunk
 pub judged-place : (d : Dumped) (n start offset i : ℕ) (none : FrameVerdict) (after : List FrameVerdict) → after ≡ map (verdict_of d) (range_with_len start n) → offset < n → start + offset ≡ i → i < length d.frames
     → get_or after offset none ≡ get_or (verdicts_of d) i none
 judged-place d n start offset i none after is low here within =

@@ -1,4 +1,4 @@
--- A frame keeps what it should exactly where its verdict shows nothing.
+-- A frame is sound exactly if its verdict shows nothing.
 use Rattle.std.proofs.Common.{ℕ, ◌≡◌, ◌≢◌, ◌<◌, inl, inr, Bool, true, false, ◌&&◌, ◌||◌, not, nat_lt, nat_le, List, Option, Some, None, is_some, IsTrue, refl, sym, ap, arith}
 use Rattle.std.specs.Prelude.{◌↔◌, ◌⊎◌, ◌==◌}
 use Rattle.std.specs.Cmp.Lexicographic.{pointwise, same_text, other_text}
@@ -73,7 +73,7 @@ placed-core core f Host is = opposite (nat_lt f core) (λ e. let no = is.1 (ltb-
 placed-core core f Free is = opposite (nat_lt f core) (λ e. let no = is.1 (ltb-true f core e) in cc)
 placed-core core f (Vm v) is = opposite (nat_lt f core) (λ e. let no = is.1 (ltb-true f core e) in cc)
 
--- a frame of no list has no neighbours
+-- a frame in no list has no neighbours
 alone : (prev next : Option ℕ) → (is_some prev || is_some next) ≡ false → ◌≡◌ {A = Link} (record { prev = prev; next = next }) unlinked
 alone prev next e =
     let parts = or-parts (is_some prev) (is_some next) e in
@@ -107,7 +107,7 @@ gfn-there mapped Host gfn e = e
 gfn-there mapped Free gfn e = e
 gfn-there mapped (Vm v) gfn e = negated (is_some gfn) (or-parts (not (is_some gfn)) (not mapped) e).0
 
--- and its table maps it
+-- its table maps it
 pub gfn-mapped : (mapped : Bool) (owner : Owner) (gfn : Option ℕ) (v : ℕ) → wrong_gfn mapped owner gfn ≡ false → owner ≡ Vm v → mapped ≡ true
 gfn-mapped mapped Core gfn v e same = cc
 gfn-mapped mapped Host gfn v e same = cc
@@ -144,7 +144,7 @@ reach-right present owner share reached = by_present present reached
     by_present true r = by_reach (r refl)
     by_present false r = refl
 
--- a frame whose verdict shows nothing keeps what it should
+-- a frame whose verdict shows nothing is sound
 pub sound-frame : (core f : ℕ) (mapped : Bool) (line : FrameLine) → IsClear (verdict_by core f mapped line) → IsSoundFrame core f line
 sound-frame core f mapped line clear = record {
   placed = core-placed core f line.owner clear.core_owner;
@@ -157,7 +157,7 @@ sound-frame core f mapped line clear = record {
       (sym (negated (pointwise ◌==◌ line.digest (sha256 zero_page)) (and-right (same_owner line.owner Free) (not (pointwise ◌==◌ line.digest (sha256 zero_page))) clear.bytes (ap (λ o. same_owner o Free) free))));
 }
 
--- and the other way round, where its table maps it
+-- and conversely, if its table maps it
 pub frame-clear : (core f : ℕ) (mapped : Bool) (line : FrameLine) → IsSoundFrame core f line → (is_vm line.owner ≡ true → mapped ≡ true) → IsClear (verdict_by core f mapped line)
 frame-clear core f mapped line is there = record {
   core_owner = placed-core core f line.owner is.placed;

@@ -1,4 +1,4 @@
--- What it says of a list of findings that it is empty.
+-- What follows if a list of findings is empty.
 use Rattle.std.proofs.Common.{ℕ, zero, suc, ◌≡◌, ◌<◌, ◌≤◌, ◌+◌, inl, inr, Bool, true, false, ◌&&◌, ◌||◌, cond, List, [], ◌∷◌, ◌++◌, length, get_or, nat_eq, refl, sym, ap, ◌∙◌, arith}
 use Rattle.std.specs.Prelude.{◌/◌}
 use Rattle.std.proofs.lemmas.Bool.{and_from, cases_eq, cases_lt}
@@ -19,7 +19,7 @@ pub parts-none : (xs ys : List Finding) → xs ≡ [] → ys ≡ [] → xs ++ ys
 parts-none [] ys x y = y
 parts-none (z ∷ xs) ys x y = cc
 
--- nothing is named exactly where nothing is wrong
+-- nothing is named exactly if nothing is wrong
 pub named-none : {X : Type 0} (wrong : X → Bool) (name : ℕ → X → Finding) (i : ℕ) (xs : List X) (d : X) → named_where wrong name i xs ≡ [] → (k : ℕ) → k < length xs → wrong (get_or xs k d) ≡ false
 named-none wrong name i [] d e k low = absurd (omega (arith, low))
 named-none wrong name i (x ∷ xs) d e zero low = by_test (wrong x) e
@@ -39,7 +39,7 @@ none-named wrong name i (x ∷ xs) d right =
     ap (λ b. cond b (name i x ∷ named_where wrong name (i + 1) xs) (named_where wrong name (i + 1) xs)) (right 0 (omega arith))
     ∙ none-named wrong name (i + 1) xs d (λ k low. right (suc k) (omega (arith, low)))
 
--- each slot's entries are said by their frames
+-- each slot's entries agree with their frames
 pub entries-none : (lines : List FrameLine) (v : ℕ) (slots : List SlotDump) → all_entries_named lines v slots ≡ [] → (k : ℕ) → k < length slots → entries_named lines (v + k) (get_or slots k empty_dump).entries ≡ []
 entries-none lines v [] e k low = absurd (omega (arith, low))
 entries-none lines v (slot ∷ slots) e zero low =
@@ -57,7 +57,7 @@ none-entries lines v (slot ∷ slots) none = parts-none (entries_named lines v s
 zero-of : (n : ℕ) → (0 < n → ⊥) → n ≡ 0
 zero-of n never = elim (cases_lt 0 n) [ inl some ↦ absurd (never some) | inr none ↦ omega (arith, none) ]
 
--- a list has no double exactly where it has each number once at most
+-- a list has no double exactly if it has each number at most once
 pub double-once : (xs : List ℕ) → has_double xs ≡ false → (r : ℕ) → times_in xs r ≤ 1
 double-once [] e r = omega arith
 double-once (x ∷ xs) e r = by_parts (λ q. double-once xs q r) (is_in xs x) (has_double xs) refl refl e
@@ -85,7 +85,7 @@ once-double (x ∷ xs) once =
     by_parts true b never q = absurd (never refl)
     by_parts false b never q = q
 
--- a root slot is among the leaves where it has one
+-- a root slot has a leaf if it is among those that have leaves
 leaf-in : (leaves : List ℕ) (g : ℕ) → has_leaf leaves g ≡ is_in leaves (g / 512)
 leaf-in [] g = refl
 leaf-in (x ∷ xs) g = ap (λ b. nat_eq x (g / 512) || b) (leaf-in xs g)

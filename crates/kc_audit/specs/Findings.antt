@@ -89,11 +89,11 @@ abbrev pub all_rooted : List ℕ → List (ℕ × ℕ) → Bool
 all_rooted leaves [] = true
 all_rooted leaves (e ∷ es) = is_in leaves (e.0 / 512) && all_rooted leaves es
 
--- a root slot stands twice, there are too many, or a mapped guest frame has none
+-- a root slot is there twice, there are too many, or the root slot of a mapped guest frame is not there
 abbrev pub wrong_leaves : ℕ → SlotDump → Bool
 wrong_leaves limit slot = nat_lt limit (length slot.leaves) || has_double slot.leaves || not (all_rooted slot.leaves slot.entries)
 
--- the slot is empty, and its list, leaves or entries aren't
+-- the slot is empty, and its list, leaves or entries are not
 abbrev pub wrong_empty : SlotDump → Bool
 wrong_empty slot = is_empty slot.phase && (is_some slot.list.head || is_some slot.list.tail || not (slot.list.count == 0) || not (length slot.leaves == 0) || not (length slot.entries == 0))
 
@@ -103,7 +103,7 @@ leaves_named limit = named_where (wrong_leaves limit) (λ v slot. finding.Leaves
 abbrev pub empty_named : ℕ → List SlotDump → List Finding
 empty_named = named_where wrong_empty (λ v slot. finding.Empty v)
 
--- the findings, by kinds, where these lists are good
+-- the findings, by kinds, if these lists are good
 abbrev pub findings_by : Dumped → List Bool → List Finding
 findings_by d lists =
     frames_named kind.CoreOwner 0 (verdicts_of d)
@@ -117,7 +117,7 @@ findings_by d lists =
     ++ empty_named 0 d.slots
     ++ frames_named kind.Bytes 0 (verdicts_of d)
 
--- the findings of a dump: each kind in its place, each subject once, rising
+-- the findings of a dump: by kinds in their order, each subject once, in ascending order
 pub record AreFindings (d : Dumped) (found : List Finding) : Type 0 where
   pub lists : List Bool
   pub good : AreGoodLists d lists

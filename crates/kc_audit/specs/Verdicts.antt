@@ -1,4 +1,4 @@
--- What is wrong with a frame by itself.
+-- What is wrong with a frame alone.
 use Rattle.std.specs.Prelude.{ℕ, ◌==◌, ◌&&◌, ◌||◌, not, nat_lt, nat_le, Bool, false, Option, is_some}
 use Rattle.std.specs.Cmp.Lexicographic.{pointwise}
 use Rattle.sha2.specs.Sha256.{sha256}
@@ -13,21 +13,21 @@ use Rattle.kc_audit.specs.declared.verdict.FrameVerdict.{FrameVerdict}
 use Rattle.kc_audit.specs.declared.verdict.FrameKind.{FrameKind}
 use Rattle.kc_audit.specs.declared.verdict.FrameKind.TheVariants as kind
 
--- a frame past the core's is the core's, or one of the core's isn't
+-- a frame past the core's is the core's, or one of the core's is not
 abbrev pub wrong_core : ℕ → ℕ → Owner → Bool
 wrong_core core f Core = nat_le core f
 wrong_core core f Host = nat_lt f core
 wrong_core core f Free = nat_lt f core
 wrong_core core f (Vm v) = nat_lt f core
 
--- a frame of no list has a neighbour
+-- a frame in no list has a neighbour
 abbrev pub wrong_link : Owner → Option ℕ → Option ℕ → Bool
 wrong_link Core prev next = is_some prev || is_some next
 wrong_link Host prev next = is_some prev || is_some next
 wrong_link Free prev next = false
 wrong_link (Vm v) prev next = false
 
--- a VM's frame isn't mapped where its record says, or another's says so
+-- a VM's frame is not mapped where its record says, or another's frame has a guest frame
 abbrev pub wrong_gfn : Bool → Owner → Option ℕ → Bool
 wrong_gfn mapped (Vm v) gfn = not (is_some gfn) || not mapped
 wrong_gfn mapped Core gfn = is_some gfn

@@ -8,7 +8,7 @@ ghost use Rattle.kc_audit.specs.Walking.{ComesNext, Walks, count_owned};
 use kc_dump::FrameLine;
 use kc_types::{Ends, FrameNo, Owner};
 
-/// Whether a frame may come next in a list: it exists, is the owner's, and the one before it is this one.
+/// Whether a frame may come next in a list: it exists, is the owner's, and is preceded by the given one.
 fn fits(lines: &[FrameLine], owner: &Owner, before: Option<FrameNo>, frame: FrameNo) -> bool
     ensures fits { IsTrue result ↔ ComesNext lines.now owner.now before frame }
     ensures within { IsTrue result → frame < length lines.now }
@@ -38,9 +38,9 @@ fn walks(lines: &[FrameLine], owner: &Owner, ends: &Ends) -> bool
     at.is_none() && before == ends.tail
 }
 
-/// Whether ends and links spell, forwards and backwards, a sequence that holds just the frames of an owner, each
-/// once. `owned` is how many frames the owner has. A walk that follows the links both ways meets no frame twice, so
-/// it takes no more steps than the owner has frames, and where it takes so many it met them all.
+/// Whether ends and links spell, forwards and backwards, a sequence of exactly the frames of an owner, each once.
+/// `owned` is the number of the owner's frames. A walk that follows the links both ways meets no frame twice, so it
+/// takes no more steps than the owner has frames, and if it takes as many, it met them all.
 pub fn has_list(lines: &[FrameLine], owner: &Owner, ends: &Ends, owned: u32) -> bool
     requires listed { same_owner Core owner.now ≡ false }
     requires owned { owned ≡ count_owned lines.now owner.now }

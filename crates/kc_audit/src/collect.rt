@@ -29,7 +29,7 @@ fn push_frames(
     Ok(())
 }
 
-/// The finding that names a list: at place 0 the free list, at the next ones those of the slots.
+/// The finding that names a list: at place 0 the free list, after it those of the slots.
 fn list_name(place: usize) -> Finding
     requires { place ≤ slot_limit }
     ensures { result ≡ list_name place }
@@ -41,7 +41,7 @@ fn list_name(place: usize) -> Finding
     }
 }
 
-/// Names the lists that aren't good.
+/// Names the lists that are not good.
 fn push_lists(found: &mut Vec<Finding>, lists: &[bool]) -> Result<(), Memory>
     requires { length lists.now ≤ slot_limit + 1 }
     ensures { OnOk result (found.new.items ≡ found.old.items ++ lists_named 0 lists.now) }
@@ -54,7 +54,7 @@ fn push_lists(found: &mut Vec<Finding>, lists: &[bool]) -> Result<(), Memory>
     Ok(())
 }
 
-/// Names the entries of a slot whose frames don't say the same.
+/// Names the entries of a slot with which their frames do not agree.
 fn push_entries(
     found: &mut Vec<Finding>,
     lines: &[FrameLine],
@@ -72,7 +72,7 @@ fn push_entries(
     Ok(())
 }
 
-/// Names the entries of all slots whose frames don't say the same.
+/// Names the entries of all slots with which their frames do not agree.
 fn push_all_entries(
     found: &mut Vec<Finding>,
     lines: &[FrameLine],

@@ -7,8 +7,8 @@ use kc_dump::{Dump, FrameLine};
 use kc_types::{Memory, Owner, SLOT_LIMIT};
 use std::alloc::Global;
 
-/// The place of an owner's list: 0 for the free list, a slot's number and one for its list; `None` for the core and
-/// the host, who have none.
+/// The place of an owner's list: 0 for the free list, a slot's number plus one for its list; `None` for the core and
+/// the host, which have none.
 fn place_of(owner: &Owner) -> Option<usize>
     ensures value { result ≡ list_place owner.now }
     ensures low { IfSome result (λ place. place ≤ slot_limit) }
@@ -33,7 +33,7 @@ fn count(lines: &[FrameLine], counts: &mut [u32])
     }
 }
 
-/// How many frames each list should hold.
+/// The number of frames that each list should hold.
 pub fn counts(alloc: Global, dump: &Dump) -> Result<Vec<u32>, Memory>
     // No clause can rule out that memory runs out: a test audits dumps.
     ensures { IfOk result (λ counts. AreOwnerCounts dump.now.frames (length dump.now.frames) (slot_limit + 1) counts.items) }

@@ -9,7 +9,7 @@ ghost use Rattle.kc_audit.specs.Findings.{verdict_of};
 use crate::verdict::{FrameVerdict, judge};
 use kc_dump::Dump;
 
-/// The verdicts on the frames from a place on.
+/// Judges the frames from a place on.
 pub fn judge_frames(
     dump: &Dump,
     marks: &[bool],

@@ -1,4 +1,4 @@
-//! What is wrong with a slot by itself.
+//! What is wrong with a slot alone.
 ghost use Rattle.std.specs.Prelude.{◌≡◌, ◌||◌, false, true};
 ghost use Rattle.kc_model.specs.Resources.{is_in};
 ghost use Rattle.kc_audit.specs.Findings.{wrong_leaves, wrong_empty, has_double, all_rooted};
@@ -17,7 +17,7 @@ fn is_in(numbers: &[u32], number: u32) -> bool
     false
 }
 
-/// Whether a root slot stands twice.
+/// Whether a root slot is there twice.
 fn has_double(leaves: &[u32]) -> bool
     ensures { result ≡ has_double leaves.now }
 {
@@ -41,8 +41,8 @@ fn all_rooted(leaves: &[u32], entries: &[(Gfn, FrameNo)]) -> bool
     true
 }
 
-/// Whether a root slot stands twice, there are more than the limit, or a mapped guest frame has none. Where there are
-/// not too many, they are few, so looking each up takes a bounded time.
+/// Whether a root slot is there twice, there are more than the limit, or the root slot of a mapped guest frame is not
+/// there. If there are not too many, looking each up takes a bounded time.
 pub fn wrong_leaves(limit: u32, slot: &SlotDump) -> bool
     ensures { result ≡ wrong_leaves limit slot.now }
 {
@@ -51,7 +51,7 @@ pub fn wrong_leaves(limit: u32, slot: &SlotDump) -> bool
         || !all_rooted(slot.leaves(), slot.entries())
 }
 
-/// Whether the slot is empty and its list, leaves or entries aren't.
+/// Whether the slot is empty, and its list, leaves or entries are not.
 pub fn wrong_empty(slot: &SlotDump) -> bool
     ensures { result ≡ wrong_empty slot.now }
 {

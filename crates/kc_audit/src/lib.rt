@@ -1,4 +1,4 @@
-//! The audit of dumps: what is found in a dump that no core in order shows, and the lines that report it. Dumps are
+//! The audit of dumps: findings, which a core in order never shows, and the lines that report them. Dumps are
 //! re-exported from `kc_dump`, the digests of pages from `kc_digests`.
 #![tactic(auto)]
 

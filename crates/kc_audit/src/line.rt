@@ -54,7 +54,7 @@ fn push_finding(line: &mut ArrayString<160>, finding: Finding)
     }
 }
 
-/// The text of a finding: its kind, and then the slot, guest frame or frame.
+/// The text of a finding: its kind, followed by the slot, guest frame or frame.
 pub fn finding_text(finding: Finding) -> ArrayString<160>
     ensures { result.bytes ≡ finding_text finding }
 {
@@ -74,7 +74,7 @@ fn push_first(line: &mut ArrayString<160>, found: &[Finding])
     }
 }
 
-/// Appends how many findings there are, and the first.
+/// Appends the number of findings, and the first.
 fn push_found(line: &mut ArrayString<160>, found: &[Finding])
     requires { array_string_len line.old + 99 ≤ 160 }
     ensures bytes { line.new.bytes ≡ line.old.bytes ++ found_text found.now }
@@ -86,8 +86,8 @@ fn push_found(line: &mut ArrayString<160>, found: &[Finding])
     push_first(line, found);
 }
 
-/// The report of an audit of a dump of so many frames: a compact JSON object (RFC 8259) with the number of findings, the
-/// text of the first, empty where there is none, and the frames, and a line feed.
+/// The report of an audit of a dump of `frames` frames: a compact JSON object (RFC 8259) with the number of findings,
+/// the text of the first (empty if there is none) and the number of frames, and a line feed.
 fn report(found: &[Finding], frames: usize) -> ArrayString<160>
     ensures { result.bytes ≡ report_of found.now frames }
 {
@@ -109,7 +109,7 @@ fn finding_line(finding: Finding) -> ArrayString<160>
     line
 }
 
-/// Each finding in its line.
+/// Each finding as a line.
 fn finding_lines(alloc: Global, found: &[Finding]) -> Result<Vec<u8>, Memory>
     ensures { IfOk result (λ text. text.items ≡ flat_map finding_line found.now) }
 {
@@ -120,7 +120,7 @@ fn finding_lines(alloc: Global, found: &[Finding]) -> Result<Vec<u8>, Memory>
     Ok(text)
 }
 
-/// The same where all are wanted, and else no text.
+/// Each finding as a line if all are wanted, otherwise no text.
 fn all_text(alloc: Global, all: bool, found: &[Finding]) -> Result<Vec<u8>, Memory>
     ensures { IfOk result (λ text. text.items ≡ all_text all found.now) }
 {
@@ -131,8 +131,8 @@ fn all_text(alloc: Global, all: bool, found: &[Finding]) -> Result<Vec<u8>, Memo
     }
 }
 
-/// What an audit writes of a dump of so many frames: its report, a line, and where `all` is set each finding before it, in
-/// their order, as a compact JSON object in a line of its own. `Memory` where a growth was refused.
+/// The output of an audit of a dump of `frames` frames: its report, as one line, and if `all` is set, before it each
+/// finding in order, as a compact JSON object on a line of its own. `Memory` if memory cannot be had.
 pub fn written(
     alloc: Global,
     all: bool,

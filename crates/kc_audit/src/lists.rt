@@ -9,7 +9,7 @@ use crate::chain::has_list;
 use kc_dump::Dump;
 use kc_types::{Owner, VmId};
 
-/// Whether ends and links spell a list: at place 0 the free list, at the next ones those of the slots.
+/// Whether ends and links spell a list: at place 0 the free list, after it those of the slots.
 fn judge_list(dump: &Dump, counts: &[u32], place: usize) -> bool
     requires place { place < length dump.now.slots + 1 }
     requires counts { AreOwnerCounts dump.now.frames (length dump.now.frames) (slot_limit + 1) counts.now }
@@ -23,7 +23,7 @@ fn judge_list(dump: &Dump, counts: &[u32], place: usize) -> bool
     has_list(dump.frames(), &Owner::Vm(vm), slot.list(), counts[place])
 }
 
-/// For each list from a place on, whether ends and links spell it.
+/// Judges each list from a place on: whether ends and links spell it.
 pub fn judge_lists(dump: &Dump, counts: &[u32], start: usize, out: &mut [bool])
     requires within { start + length out.old ≤ length dump.now.slots + 1 }
     requires few { length dump.now.slots ≤ slot_limit }

@@ -1,4 +1,4 @@
-//! Which frames the tables map where their records say.
+//! Which frames the tables map where the frames' records say.
 ghost use Rattle.std.specs.Prelude.{◌≡◌, ℕ, ◌<◌, ◌||◌, true, false, length, IsTrue, IfOk, slice_index_or};
 ghost use Rattle.kc_types.specs.declared.owner.Owner.TheVariants.{Vm};
 ghost use Rattle.kc_model.specs.Lawful.{same_owner};
@@ -50,8 +50,7 @@ fn mark_slots(dump: &Dump, marks: &mut [bool])
     }
 }
 
-/// For each frame of a VM, whether its table maps it where its record says, in time that grows with frames and
-/// entries.
+/// For each frame of a VM, whether its table maps it where its record says, in time linear in frames and entries.
 pub fn marks(alloc: Global, dump: &Dump) -> Result<Vec<bool>, Memory>
     // No clause can rule out that memory runs out: a test audits dumps.
     ensures { IfOk result (λ marks. AreMarks dump.now marks.items) }

@@ -1,4 +1,4 @@
-//! The audit of a dump by several threads.
+//! The audit of a dump with several threads.
 ghost use Rattle.std.specs.Prelude.{◌≡◌, ◌+◌, ◌≤◌, ◌↔◌, [], length, map, IfOk};
 ghost use Rattle.std.specs.List.{range_with_len};
 ghost use Rattle.sha2.specs.Sha256.{sha256};
@@ -23,7 +23,7 @@ use rayon::prelude::par_chunks_mut_for_each;
 use std::alloc::Global;
 use std::thread::Threads;
 
-/// Judging a frame takes some nanoseconds and starting a thread some microseconds.
+/// Judging a frame takes nanoseconds; starting a thread takes microseconds.
 const FRAMES_A_CHUNK: usize = 4_096;
 /// One thread judges all lists of version 1.
 const LISTS_A_CHUNK: usize = 32;
@@ -99,7 +99,7 @@ fn lists(rt: &(impl Threads + Sync), alloc: Global, dump: &Dump) -> Result<Vec<b
     Ok(lists)
 }
 
-/// What `audit` finds, with the frames and the lists judged by several threads.
+/// Does what `audit` does, with several threads that judge the frames and the lists.
 pub fn audit_parallel(
     rt: &(impl Threads + Sync),
     alloc: Global,

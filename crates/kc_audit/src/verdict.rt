@@ -110,8 +110,8 @@ fn is_free(owner: &Owner) -> bool
     *owner == Owner::Free
 }
 
-/// What is wrong with a frame. `core` is how many frames are the core's, `mapped` whether the table of its VM maps
-/// it where the record says, `zeros` the digest of a page of zero bytes.
+/// What is wrong with a frame. `core` is the number of the core's frames, `mapped` whether the table of its VM maps it
+/// where the record says, `zeros` the digest of a page of zero bytes.
 pub fn judge(
     core: u32,
     frame: u32,

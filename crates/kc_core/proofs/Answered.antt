@@ -50,7 +50,7 @@ answer-served config old new call reply served replied left linked places =
       places = places;
     }
 
--- a call that changes a slot alone, and not the ends of its list
+-- a call that changes only a slot, and not the ends of the slot's list
 pub answer-slot : (config : Configuration) (h : Held) (v : ℕ) (vm new : VmSlot) (call : Call) (reply : Reply) → IsLinked config h → vm_at h v ≡ Some vm → new.slot.frames ≡ vm.slot.frames → new.capacity ≡ vm.capacity
     → refusal (state_of config h) call ≡ None → effect (state_of config h) call ≡ (reply, with_slot (state_of config h) v (unlinked_slot new.slot (listed (links_of h) new.slot.frames)))
     → IsAnswer config h (with_vm h v new) call reply

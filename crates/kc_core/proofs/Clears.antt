@@ -43,7 +43,7 @@ module _ (config : Configuration) (old mid : Held) (v : ℕ) (list : Ends) (is :
   ends_are : list ≡ is.there.vm.slot.frames
   ends_are = rw is.there.is at is.had
 
-  -- the list is spelled as before
+  -- the links spell the list as before
   listed-kept : listed (links_of mid) list ≡ listed_frames old v
   listed-kept = ap (λ (links : Links). listed links list) is.emptied.links ∙ ap (λ ends. listed (links_of old) ends) ends_are ∙ sym (frames-here old v is.there.vm is.there.is)
 

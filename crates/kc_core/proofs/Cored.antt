@@ -1,4 +1,4 @@
--- A core keeps its parts whole, and calls find what they need in them.
+-- A core keeps its parts together, and calls find what they need in them.
 use Rattle.std.proofs.Common.{ℕ, ◌≡◌, ◌<◌, Bool, true, false, ◌&&◌, ◌||◌, nat_lt, nat_eq, Option, Some, None, is_some, Result, Ok, Err, OnOk, OnErr, refl, sym, ap, ◌∙◌}
 use Rattle.std.proofs.lemmas.Bool.{ltb-true, eqb-true, and_parts}
 use Rattle.kc_types.specs.Configuration.{Configuration, slot_count}
@@ -66,7 +66,7 @@ module _ (config : Configuration) (h : Held) (is : IsCore config h) where
       here (resource.Vm w) needed = slot-here (slot_of call) w needed
       here resource.Free needed = is.whole.free
 
--- a core keeps itself where all that was here stays, and the state is lawful
+-- a core stays a core if everything that was here stays, and the state is lawful
 pub core-kept : (config : Configuration) (old new : Held) → IsCore config old → IsLawful (state_of config new) → IsLinked config new → KeepsPlaces old new → IsCore config new
 core-kept config old new is lawful linked places = record {
   lawful = lawful;
@@ -80,7 +80,7 @@ core-kept config old new is lawful linked places = record {
   };
 }
 
--- a call that is answered, or that is out of memory, leaves the state lawful
+-- a call that is answered, or that runs out of memory, leaves the state lawful
 pub lawful-left : {X E : Type 0} (answer : Result X E) (config : Configuration) (old new : Held) (call : Call) → IsLawful (state_of config old)
     → OnOk answer (state_of config new ≡ (next (state_of config old) call).1) → OnErr answer (new ≡ old) → IsLawful (state_of config new)
 lawful-left (Ok reply) config old new call is state same = rw state (lawful-next _ call is)

@@ -36,7 +36,7 @@ state-freed config old new f page freed_page low at same to move free =
     ∙ ap (λ (s : State). record s { free = free_of new }) (changed config old f page freed_page (λ frame. record frame { owner = Free; gfn = None; present = false; bytes = zero_page }) low at same to)
     ∙ ap (λ fs. record (with_frame m f (record (frame_at m f) { owner = Free; gfn = None; present = false; bytes = zero_page })) { free = fs }) (free ∙ ap (λ fs. fs ++ f ∷ []) kept)
 
--- a slot's table has lost a guest frame that was this frame
+-- a slot's table has lost the guest frame at which it had this frame
 pub record IsUnmapping (config : Configuration) (old : Held) (v g f : ℕ) (vm : VmSlot) (table : Table) : Type 0 where
   pub orderly : IsOrderly (state_of config old)
   pub linked : IsLinked config old
@@ -49,7 +49,7 @@ module _ (config : Configuration) (old : Held) (v g f : ℕ) (vm : VmSlot) (tabl
   abbrev pub unmapped_vm : VmSlot
   unmapped_vm = with_table vm table
 
-  -- the guest frame is not mapped any more
+  -- the guest frame is no longer mapped
   abbrev pub unmapped : Held
   unmapped = with_vm old v unmapped_vm
 

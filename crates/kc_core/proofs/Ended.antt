@@ -15,7 +15,7 @@ use Rattle.kc_parts.specs.States.{list_in, state_of}
 use Rattle.kc_core.specs.KCore.{IsCore}
 use Rattle.kc_core.proofs.Shown.{vm-listed}
 
--- the first and the last of a sequence, by its links and by itself
+-- the first and the last of a sequence are the same by its links and by itself
 pub first-same : (fs : List ℕ) → first_or None fs ≡ first_of fs
 first-same [] = refl
 first-same (f ∷ fs) = refl

@@ -1,4 +1,4 @@
--- The first element that fails a test, found place by place.
+-- Finding the first element that fails a test, place by place.
 use Rattle.std.proofs.Common.{ℕ, zero, suc, ◌≡◌, ◌<◌, ◌+◌, Bool, true, false, cond, Option, Some, None, List, [], ◌∷◌, All, length, get_or, take, map, refl, ap, ap₂, ◌∙◌, arith}
 use Rattle.std.specs.Option.{option_map}
 use Rattle.kc_model.specs.Effects.{first_failing}
@@ -6,13 +6,13 @@ use Rattle.kc_model.specs.Effects.{first_failing}
 abbrev pub at_first : Bool → Option ℕ → Option ℕ
 at_first passes later = cond passes (option_map (λ place. place + 1) later) (Some 0)
 
--- where the first passes, none fails exactly where none of the others does
+-- none fails exactly if the first passes and none of the others fails
 none-later : (passes : Bool) (later : Option ℕ) → at_first passes later ≡ None → (passes ≡ true) × (later ≡ None)
 none-later true None is = (refl, refl)
 none-later true (Some place) is = cc
 none-later false later is = cc
 
--- one place more passes
+-- the next place passes too
 pub none-more : {X : Type 0} (test : X → Bool) (xs : List X) (i : ℕ) (d : X) → first_failing test (take i xs) ≡ None → i < length xs → test (get_or xs i d) ≡ true → first_failing test (take (i + 1) xs) ≡ None
 none-more test [] i d none low passes = absurd (omega (arith, low))
 none-more test (x ∷ xs) zero d none low passes = ap (λ first. at_first first (first_failing test (take 0 xs))) passes
@@ -30,7 +30,7 @@ fails-at test (x ∷ xs) (suc i) d none low fails =
     let next : i + 1 ≡ suc i = omega arith in
     ap (λ first. at_first first (first_failing test xs)) both.0 ∙ ap (at_first true) (fails-at test xs i d both.1 (omega (arith, low)) fails) ∙ ap Some next
 
--- the test of what is made of each element
+-- a test of the values made of the elements
 pub fails-map : {X Y : Type 0} (test : X → Bool) (made : Y → Bool) (make : X → Y) (xs : List X) → All (λ x. made (make x) ≡ test x) xs → first_failing made (map make xs) ≡ first_failing test xs
 fails-map test made make [] same = refl
 fails-map test made make (x ∷ xs) same =

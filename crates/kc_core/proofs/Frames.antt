@@ -1,4 +1,4 @@
--- A frame of parts that is here, and its change.
+-- A frame of parts that is here changes.
 use Rattle.std.proofs.Common.{ℕ, ◌≡◌, ◌<◌, inl, inr, true, false, ◌∷◌, Option, Some, None, is_some, is_none, refl, sym, ap, ◌∙◌, arith}
 use Rattle.std.proofs.lemmas.Bool.{cases_eq}
 use Rattle.kc_types.specs.Configuration.{Configuration}
@@ -26,7 +26,7 @@ use Rattle.kc_core.specs.Applying.{KeepsPlaces}
 pub frame-is : (config : Configuration) (h : Held) (f : ℕ) (page : Page) → f < config.frames → page_at h f ≡ Some page → frame_at (state_of config h) f ≡ frame_of page
 frame-is config h f page low at = frame-seen config h f low ∙ ap frame_in at
 
--- the state where one page is changed as the frame is changed
+-- the state if one page is changed as the frame is changed
 pub changed : (config : Configuration) (h : Held) (f : ℕ) (page new : Page) (change : Frame → Frame) → f < config.frames → page_at h f ≡ Some page → link_of new ≡ link_of page → frame_of new ≡ change (frame_of page)
     → state_of config (with_page h f new) ≡ with_frame (state_of config h) f (change (frame_at (state_of config h) f))
 changed config h f page new change low at same to = state-page config h f page new at same ∙ ap (with_frame (state_of config h) f) (to ∙ ap change (sym (frame-is config h f page low at)))
@@ -40,14 +40,14 @@ none-some None (Some y) e = cc
 none-some (Some x) None e = cc
 none-some (Some x) (Some y) e = refl
 
--- what is here is the same, so the same lists are elsewhere
+-- the same parts are here, so the same lists are elsewhere
 lacks-same : (old new : Held) → ((r : Resource) → here_of new r ≡ here_of old r) → (p : Owner) → lacks_list new p ≡ lacks_list old p
 lacks-same old new here Core = refl
 lacks-same old new here Host = refl
 lacks-same old new here Free = none-some new.free old.free (here resource.Free)
 lacks-same old new here (Vm v) = none-some (vm_at new v) (vm_at old v) (here (resource.Vm v))
 
--- a page changes and keeps its links, and its owner where its list is elsewhere
+-- a page changes, and keeps its links, and its owner if its list is elsewhere
 pub places-page : (h : Held) (f : ℕ) (page new : Page) → page_at h f ≡ Some page → link_of new ≡ link_of page → (is_away h f ≡ true → new.meta.owner ≡ page.meta.owner) → KeepsPlaces h (with_page h f new)
 places-page h f page new at same own = record {
   numbers = refl;
@@ -92,11 +92,11 @@ places-through old mid new first second = record {
       (two.0 ∙ one.0, two.1 ∙ one.1);
 }
 
--- who owns a frame is seen
+-- the owner of a frame is the state's
 pub host-owner : (config : Configuration) (h : Held) (f : ℕ) → f < config.frames → (frame_at (state_of config h) f).owner ≡ Host → owner_at h f ≡ Host
 host-owner config h f low host = sym (ap (λ (frame : Frame). frame.owner) (frame-seen config h f low)) ∙ host
 
--- a frame of the host's is in no list, so in none that is elsewhere
+-- a frame of the host's is in no list, so not in one that is elsewhere
 pub host-near : (h : Held) (f : ℕ) → owner_at h f ≡ Host → is_away h f ≡ false
 host-near h f host = ap (lacks_list h) host
 
@@ -110,7 +110,7 @@ taken-near config old mid f linked move first = by_ends old.free refl first
         let inside : 0 < times_in (listed (links_of old) ends) f = rw was (let one = times-same f (free_of mid) in omega (arith, one)) in
         ap (lacks_list mid) (move.owners f ∙ linked.lists.owned Free ends f e inside) ∙ none-some mid.free old.free (move.here resource.Free) ∙ ap is_none e
 
--- the list of a frame of a slot that is here is here too
+-- if a slot is here, so is the list of its frames
 pub owned-near : (h : Held) (v f : ℕ) → owner_at h f ≡ Vm v → is_some (vm_at h v) ≡ true → is_away h f ≡ false
 owned-near h v f own some = ap (lacks_list h) own ∙ by_vm (vm_at h v) some
   where

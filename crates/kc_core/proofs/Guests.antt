@@ -24,7 +24,7 @@ use Rattle.kc_parts.proofs.Looked.{slot-is}
 pub few-granted : (m : State) (v c g : ℕ) → refusal m (Grant v c g) ≡ None → share_at m v g < 100
 few-granted m v c g served = leb-false 100 _ (when-none _ _ (guest_frame-served m v c g _ served).1)
 
--- the state where a virtual processor of a slot that is here waits for another guest frame, or for none
+-- the state if a virtual processor of a slot that is here waits for another guest frame, or for none
 pub state-faulted : (config : Configuration) (h : Held) (v c : ℕ) (fault : Option ℕ) (vm new : VmSlot) → v < slot_count config → vm_at h v ≡ Some vm → new ≡ record vm { slot = slots.awaiting vm.slot c fault }
     → state_of config (with_vm h v new) ≡ with_fault (state_of config h) v c fault
 state-faulted config h v c fault vm new low at is =

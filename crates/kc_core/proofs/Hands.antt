@@ -1,4 +1,4 @@
--- A frame of the host's that is handed to a slot.
+-- A frame of the host's is handed to a slot.
 use Rattle.std.proofs.Common.{ℕ, ◌≡◌, ◌<◌, true, false, List, [], ◌∷◌, ◌++◌, ◌+◌, length, get_or, set, Option, Some, None, Result, Ok, Err, IsOk, refl, sym, ap, ◌∙◌}
 use Rattle.std.specs.FinMap as map
 use Rattle.std.proofs.lemmas.List.{set-set}
@@ -47,7 +47,7 @@ pub map-ok : (answer : Result Unit MapFault) (fault : Option MapFault) → fault
 map-ok (Ok x) fault none is = refl
 map-ok (Err e) fault none is = let no = rw none at is in cc
 
--- a slot's table has got a guest frame, and its frame, the host's, a new record
+-- a slot's table has gained a guest frame, and the guest frame's frame, which was the host's, a new record
 pub record IsHanding (config : Configuration) (old : Held) (v g f : ℕ) (vm : VmSlot) (table : Table) (page new_page : Page) : Type 0 where
   pub linked : IsLinked config old
   pub low : v < slot_count config
@@ -66,7 +66,7 @@ module _ (config : Configuration) (old : Held) (v g f : ℕ) (vm : VmSlot) (tabl
   abbrev pub mapped : Held
   mapped = with_vm old v mapped_vm
 
-  -- and the frame is the slot's
+  -- the frame is the slot's
   abbrev pub owned : Held
   owned = held.with_page mapped f new_page
 
@@ -126,7 +126,7 @@ pub remap-page : (m : State) (v i f : ℕ) → refusal m (Remap v i f) ≡ None 
 remap-page m v i f served =
     none-of (bad_vm m v ∷ bad_frame m f ∷ next_page_refusal (linked_slot (slot_at m v)) i ∷ not_host m f ∷ tables_full m v (next_gfn m v i) ∷ []) (sym (refusal-remap m v i f) ∙ served) 2
 
--- after the hand the slot is as before, but for the frame
+-- after the hand the slot is as before, except for the frame
 module _ (config : Configuration) (old new : Held) (v g f : ℕ) (vm : VmSlot) (state : state_of config new ≡ hand (state_of config old) v g f) (low : v < length (state_of config old).slots) (low' : v < slot_count config) (at : vm_at new v ≡ Some vm) where
   slot-after : unlinked_slot vm.slot (listed (links_of new) vm.slot.frames) ≡ slot_at (hand (state_of config old) v g f) v
   slot-after = sym (slot-is config new v vm low' at) ∙ ap (λ (s : State). slot_at s v) state

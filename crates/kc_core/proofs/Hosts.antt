@@ -53,7 +53,7 @@ take-none config h none = rw none refl
 pub state-none : (config : Configuration) (old new : Held) → IsFreeMove old new → free_of old ≡ [] → free_of new ≡ [] → state_of config new ≡ state_of config old
 state-none config old new move before after = move.state config ∙ ap (λ fs. record (state_of config old) { free = fs }) (after ∙ sym before)
 
--- one is
+-- a frame is free
 pub take-some : (config : Configuration) (h : Held) (f : ℕ) (rest : List ℕ) → free_of h ≡ f ∷ rest → (refusal (state_of config h) Take ≡ None) × (reply.Frame f ≡ (effect (state_of config h) Take).0)
 take-some config h f rest first = (rw (first, ne_eqb (suc (length rest)) 0 (λ e. omega (arith, e))) refl, ap (λ fs. (host_takes (state_of config h) fs).0) (sym first))
 
@@ -69,7 +69,7 @@ state-taken config old mid f page new move free low at same to =
 pub linked-taken : (config : Configuration) (mid : Held) (f : ℕ) (page new : Page) → IsLinked config mid → IsLoose mid f → page_at mid f ≡ Some page → link_of new ≡ link_of page → IsLinked config (with_page mid f new)
 linked-taken config mid f page new linked loose at same = linked-moved config mid f page new linked at same loose.absent (λ host. loose.alone)
 
--- a page of no list is in none after it changed
+-- a page in no list is in none after it changed
 pub loose-page : (h : Held) (f : ℕ) (page new : Page) → page_at h f ≡ Some page → link_of new ≡ link_of page → IsLoose h f → IsLoose (with_page h f new) f
 loose-page h f page new at same loose = record {
   alone = ap (λ (l : Links). l f) (links-kept h f page new at same) ∙ loose.alone;

@@ -31,7 +31,7 @@ use Rattle.kc_core.proofs.FirstFailing.{fails-map}
 use Rattle.kc_parts.proofs.Looked.{slot-is}
 use Rattle.kc_core.proofs.Needed.{slot-needed, mapped-needed}
 
--- where a guest frame leads, in a slot that is here
+-- the frame to which a guest frame leads, in a slot that is here
 pub mapped-seen : (config : Configuration) (h : Held) (v : ℕ) (vm : VmSlot) (g : ℕ) → v < slot_count config → vm_at h v ≡ Some vm → mapped_at (state_of config h) v g ≡ map.get vm.slot.mapped g
 mapped-seen config h v vm g low at = ap (λ (there : Slot). map.get there.mapped g) (slot-is config h v vm low at)
 
@@ -87,14 +87,14 @@ images-seen config h v vm images low at is = ap (λ (there : Slot). there.images
 pub images-kept : (config : Configuration) (old new : Held) (v : ℕ) (vm : VmSlot) (images : List Image) → v < slot_count config → new.vms ≡ old.vms → vm_at new v ≡ Some vm → images ≡ vm.slot.images → (slot_at (state_of config old) v).images ≡ images
 images-kept config old new v vm images low slots at is = images-seen config old v vm images low (ap (λ (vms : HeldSlots). held_slot vms v) (sym slots) ∙ at) is
 
--- an image is here as long as the places and the slots stay
+-- an image stays here as long as the places and the slots stay
 pub image-still : (old new : Held) (v : ℕ) (image : Image) → KeepsPlaces old new → new.vms ≡ old.vms → IsImageHere old (mapped_in (vm_at old v)) image → IsImageHere new (mapped_in (vm_at new v)) image
 image-still old new v image places slots here = subst (λ (vms : HeldSlots). IsImageHere new (mapped_in (held_slot vms v)) image) (sym slots) (record {
   mapped_pages = here.mapped_pages;
   pages = λ g from below. places.here (resource.Frame (backing (mapped_in (vm_at old v) g))) ∙ here.pages g from below;
 })
 
--- one image more is trimmed
+-- one more image is trimmed
 pub all_trimmed-more : (m : State) (v : ℕ) (images : List Image) (i : ℕ) (d : Image) → i < length images → all_trimmed m v (take (i + 1) images) ≡ trimmed (all_trimmed m v (take i images)) v (get_or images i d)
 all_trimmed-more m v [] i d low = absurd (omega (arith, low))
 all_trimmed-more m v (image ∷ images) zero d low = refl
@@ -102,7 +102,7 @@ all_trimmed-more m v (image ∷ images) (suc i) d low =
     let next : suc i + 1 ≡ suc (i + 1) = omega arith in
     ap (λ n. all_trimmed m v (take n (image ∷ images))) next ∙ all_trimmed-more (trimmed m v image) v images i d (omega (arith, low))
 
--- the slot of a served verifying is here
+-- the slot of a `verify` that is served is here
 pub slot-verified : (config : Configuration) (h : Held) (v : ℕ) → IsAble config h (Verify v) → refusal (state_of config h) (Verify v) ≡ None → is_some (vm_at h v) ≡ true
 slot-verified config h v able served = slot-needed config h (Verify v) able v refl (verify-served (state_of config h) v served).0
 

@@ -1,4 +1,4 @@
--- Slots that are marked, one after another.
+-- Marking slots, one after another.
 use Rattle.std.proofs.Common.{ℕ, ◌≡◌, ◌<◌, ◌≤◌, ◌+◌, ◌∙◌, inl, inr, Bool, false, List, length, get_or, set, sym, ap, arith, get_or-set_same, get_or-set_other}
 use Rattle.std.proofs.lemmas.Bool.{cases_eq}
 use Rattle.kc_types.specs.Configuration.{Configuration, slot_count, slots_of}
@@ -9,7 +9,7 @@ use Rattle.kc_model.specs.Refusals.{is_active}
 use Rattle.kc_model.specs.Lawful.{IsLawful}
 use Rattle.kc_model.proofs.States.Slots.{slot-past}
 
--- one mark more
+-- one more mark
 pub marked-more : (marks : List Bool) (vm : ℕ) (mark : Bool) (test : ℕ → Bool) → vm < length marks → ((v : ℕ) → v < vm → get_or marks v false ≡ test v) → mark ≡ test vm → (v : ℕ) → v < vm + 1 → get_or (set marks vm mark) v false ≡ test v
 marked-more marks vm mark test room so_far is v low = elim (cases_eq v vm) [
   | inl same ↦ ap (λ x. get_or (set marks vm mark) x false) same ∙ get_or-set_same marks vm mark false room ∙ is ∙ ap test (sym same)

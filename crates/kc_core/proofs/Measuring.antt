@@ -37,7 +37,7 @@ take-min n page whole = elim (cases_lt n 4096) [
   | inr le ↦ let e : min n 4096 ≡ 4096 = omega arith in let short : length page ≤ n = omega arith in let same : length page ≤ 4096 = omega arith in rw e (take_all n page short ∙ sym (take_all 4096 page same))
 ]
 
--- the used bytes of one page more
+-- the used bytes of one more page
 cut-more : (before page : List ℕ) (len : ℕ) → length page ≡ 4096 → take len (before ++ page) ≡ take len before ++ take (min (len - length before) 4096) page
 cut-more before page len whole = take-split len before page ∙ ap (λ rest. take len before ++ rest) (take-min (len - length before) page whole)
 
@@ -62,7 +62,7 @@ same_bytes-refl : (xs : List ℕ) → same_bytes xs xs ≡ true
 same_bytes-refl [] = refl
 same_bytes-refl (x ∷ xs) = ap (λ first. cond first (same_bytes xs xs) false) (eq-eqb x x refl) ∙ same_bytes-refl xs
 
--- a digest is approved where it is one of the list
+-- a digest is approved if it is in the list
 pub approved-is : (answer : Bool) (approved : List (List ℕ)) (digest : List ℕ) → IsTrue answer ↔ Contains approved digest → answer ≡ list_any (λ other. same_bytes other digest) approved
 approved-is true approved digest tells =
     let found = tells.0 refl in
@@ -79,7 +79,7 @@ approved-is false approved digest tells = by_any (list_any (λ other. same_bytes
         no : IsTrue false → ⊥
         no is = cc
 
--- the used bytes of an image's last page, after its pages before
+-- the used bytes of an image's last page, after the pages before it
 pub last-fed : (bytes : ℕ → List ℕ) (base len last used : ℕ) → 0 < len → last ≡ pages_of len - 1 → used ≡ len - last * 4096 → length (joined bytes base last) ≡ 4096 * last
     → length (bytes (base + last)) ≡ 4096 → joined bytes base last ++ take used (bytes (base + last)) ≡ take len (joined bytes base (pages_of len))
 last-fed bytes base len last used some is part before whole =

@@ -1,4 +1,4 @@
--- Why a virtual processor of a slot of parts can make no call.
+-- Why a virtual processor of a slot of parts cannot make a call.
 use Rattle.std.proofs.Common.{ℕ, ◌≡◌, ◌<◌, Bool, not, [], ◌∷◌, get_or, Option, Some, None, sym, ap, ◌∙◌}
 use Rattle.kc_types.specs.Configuration.{Configuration, slot_count}
 use Rattle.kc_types.specs.declared.refusal.Refusal.{Refusal}
@@ -11,7 +11,7 @@ use Rattle.kc_parts.specs.Parts.{Held, vm_at, links_of}
 use Rattle.kc_parts.specs.States.{slot_in, state_of}
 use Rattle.kc_parts.proofs.Seen.{slot-seen}
 
--- why it can make none, by the phase of its slot and whether it is registered there
+-- why it cannot make a call, by the phase of its slot and whether it is registered there
 abbrev pub refusal_in : Phase → Bool → Option Refusal
 refusal_in phase registered = first_of_these (when (is_empty phase) NoVm ∷ when (not (is_active phase)) WrongPhase ∷ when (not registered) NoVcpu ∷ [])
 

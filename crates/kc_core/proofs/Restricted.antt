@@ -113,7 +113,7 @@ module _ (m : State) (here : Resources) (old new : Held) (call : Call) (reply : 
       by_vm None at = let some : is_some (vm_at new v) ≡ true = here-new (resource.Vm v) ∙ e in let no = rw at at some in cc
       by_vm (Some vm) at = (vm.slot.frames, ap (option_map (λ (vm : VmSlot). vm.slot.frames)) at, ap (λ (s : Slot). s.frames) (slot-new v vm e at))
 
-  -- with the ends of a list all its frames are here still
+  -- if the ends of a list are here, so still are all its frames
   pub closed-after : IsClosed after here
   closed-after = record {
     exist = subst (λ config. IsWithin here (exists_in config)) (sym config-after) closed.exist;
@@ -131,7 +131,7 @@ module _ (m : State) (here : Resources) (old new : Held) (call : Call) (reply : 
   link-new : (f : ℕ) (page : Page) → here (resource.Frame f) ≡ true → page_at new f ≡ Some page → links_of new f ≡ Some (link_of page)
   link-new f page e at = let few = few-frames m.config is.config in let low = frame-low f e in rw (lt-ltb f frame_limit (omega (arith, low, few)), at) refl
 
-  -- where its list's ends are elsewhere, the frame's link stays, and the list too
+  -- if the ends of its list are elsewhere, the frame's link stays, and the list too
   away-link : (p : Owner) (f : ℕ) (page : Page) → has_ends here p ≡ false → here (resource.Frame f) ≡ true → page_at new f ≡ Some page
       → (owner-old : (frame_at m f).owner ≡ p) → lacks_list old p ≡ true → list_of after p ≡ list_of m p → ((link : Link) → seen_link p link ≡ link) → link_of page ≡ link_in (list_of after p) f
   away-link p f page none e at owner-old lacks same listed-p =
@@ -144,7 +144,7 @@ module _ (m : State) (here : Resources) (old new : Held) (call : Call) (reply : 
       ∙ sym (listed-p (link_of there.it)) ∙ sym (ap (λ o. seen_link o (link_of there.it)) mine) ∙ ap link_shown there.same
       ∙ ap (λ o. link_in (list_of m o) f) owner-old ∙ ap (λ fs. link_in fs f) (sym same)
 
-  -- where they are here, the link is the list's
+  -- if they are here, the link is the list's
   here-link : (p : Owner) (f : ℕ) (page : Page) → has_ends here p ≡ true → here (resource.Frame f) ≡ true → page_at new f ≡ Some page → is_in (list_of after p) f ≡ true → link_of page ≡ link_in (list_of after p) f
   here-link p f page ends e at inside =
       let list = list-new p ends in
@@ -191,7 +191,7 @@ module _ (m : State) (here : Resources) (old new : Held) (call : Call) (reply : 
           let before : is_in (slot_at m v).frames f ≡ true = rw same at inside in
           away-link (Vm v) f page t e at (owned-is m is (Vm v) f before) (ap is_none (vm-none m here old is closed cut_is v t)) same (λ link. refl)
 
-  -- and it is left as the parts of the next state
+  -- the parts that are left are those of the next state
   pub restricted-after : IsRestricted after here new
   restricted-after = record {
     parts = parts;

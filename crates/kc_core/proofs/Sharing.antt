@@ -21,7 +21,7 @@ use Rattle.kc_parts.specs.States.{state_of}
 use Rattle.kc_core.specs.Applying.{IsAble, KeepsPlaces}
 use Rattle.kc_core.proofs.Needed.{mapped-needed}
 
--- one frame that is changed, as the frame at its guest frame
+-- one frame changes, as the frame at its guest frame
 pub each-one : (change : Frame → Frame) (m : State) (v g f : ℕ) → mapped_at m v g ≡ Some f → with_frame m f (change (frame_at m f)) ≡ with_each m v (g ∷ []) change
 each-one change m v g f mapped = ap (λ at. with_frame m (backing at) (change (frame_at m (backing at)))) (sym mapped)
 
@@ -29,7 +29,7 @@ each-one change m v g f mapped = ap (λ at. with_frame m (backing at) (change (f
 pub mapped-still : (m now : State) (v g : ℕ) → now.slots ≡ m.slots → mapped_at m v g ≡ Some (backing (mapped_at m v g)) → mapped_at now v g ≡ Some (backing (mapped_at m v g))
 mapped-still m now v g slots mapped = ap (λ (slots : List Slot). map.get (get_or slots v empty_slot).mapped g) slots ∙ mapped
 
--- and its page, which is here, where the places stay too
+-- the page there is still here, if the places stay too
 pub page-still : (config : Configuration) (old now : Held) (call : Call) (v g f : ℕ) → IsAble config old call → slot_of call ≡ Some v → v < slot_count config → mapped_at (state_of config old) v g ≡ Some (backing (mapped_at (state_of config old) v g))
     → mapped_at (state_of config now) v g ≡ Some (backing (mapped_at (state_of config old) v g)) → KeepsPlaces old now → mapped_at (state_of config now) v g ≡ Some f → is_some (page_at now f) ≡ true
 page-still config old now call v g f able names low mapped still places found =
@@ -41,7 +41,7 @@ page-still config old now call v g f able names low mapped still places found =
 pub one-done : (change : Frame → Frame) (m new goal : State) (v g n left : ℕ) → n ≡ suc left → new ≡ with_each m v (g ∷ []) change → with_each m v (range_with_len g n) change ≡ goal → with_each new v (range_with_len (g + 1) left) change ≡ goal
 one-done change m new goal v g n left more is to = rw is (rw more at to)
 
--- none is left
+-- no guest frame is left
 pub all-done : (change : Frame → Frame) (m goal : State) (v g n : ℕ) → n ≡ 0 → with_each m v (range_with_len g n) change ≡ goal → m ≡ goal
 all-done change m goal v g n none to = rw none at to
 
@@ -61,7 +61,7 @@ share-more m new v g h before now is few more = rw is (by_frame (backing (mapped
       | inr other ↦ rw (get_or-set_other m.frames f k (granted (frame_at m f)) (untouched Core) other) (omega (arith, few, more))
     ]
 
--- each frame of a served grant is granted less than 100 times
+-- if a grant is served, each of the frames has fewer than 100 grants
 pub few-ranged : (m : State) (v c g n : ℕ) → refusal m (GrantRange v c g n) ≡ None → (h : ℕ) → g ≤ h → h < g + n → share_at m v h < 100
 few-ranged m v c g n served h low high =
     leb-false 100 (share_at m v h) (none-in (λ h. nat_le 100 (share_at m v h)) g n h (when-none _ _ (guest_range-served m v c g n _ served).1) low high)

@@ -1,4 +1,4 @@
--- What a core shows of its parts is the state's.
+-- What a core shows of its parts is what the state has.
 use Rattle.std.proofs.Common.{ℕ, suc, ◌≡◌, ◌<◌, ◌≤◌, ◌+◌, Bool, true, false, cond, List, [], ◌∷◌, ◌++◌, length, map, Option, Some, None, is_some, eq-eqb, refl, sym, ap, ◌∙◌, arith}
 use Rattle.std.specs.Prelude.{filter}
 use Rattle.std.specs.List.{range_with_len, slice_get}
@@ -112,7 +112,7 @@ vm-absent config h v at low = ap (λ (slot : Slot). slot.frames) (slot-seen conf
 pub vm-past : (config : Configuration) (h : Held) (v : ℕ) → slot_count config ≤ v → (slot_at (state_of config h) v).frames ≡ []
 vm-past config h v past = ap (λ (slot : Slot). slot.frames) (get_or_past (state_of config h).slots v empty_slot (rw (length-map-range_with_len (λ w. slot_in (links_of h) (vm_at h w)) 0 (slot_count config)) past))
 
--- the numbers that pass a test, one number later
+-- the numbers that pass a test, for one more number
 filtered-more : (test : ℕ → Bool) (n : ℕ) → filter test (range_with_len 0 (n + 1)) ≡ filter test (range_with_len 0 n) ++ cond (test n) (n ∷ []) []
 filtered-more test n =
     let more : range_with_len 0 (n + 1) ≡ range_with_len 0 n ++ n ∷ [] = sym (map-id (range_with_len 0 (n + 1))) ∙ map-range_with_len_more (λ f. f) 0 n n (omega arith) ∙ ap (λ fs. fs ++ n ∷ []) (map-id (range_with_len 0 n)) in

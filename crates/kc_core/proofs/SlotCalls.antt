@@ -1,4 +1,4 @@
--- The calls that change a slot alone.
+-- The calls that change only a slot.
 use Rattle.std.proofs.Common.{ℕ, ◌≡◌, ◌<◌, ◌≤◌, ◌+◌, ◌++◌, ◌∷◌, [], ◌⊎◌, inl, inr, true, ◌||◌, ◌==◌, nat_lt, nat_le, None, Some, Option, List, length, refl, ap, ◌∙◌, arith}
 use Rattle.std.proofs.lemmas.Grind.{common_steps}
 use Rattle.kc_types.specs.Configuration.{Configuration, slot_count}
@@ -90,7 +90,7 @@ answer-set_boot config h v base len number vm new linked low fits at served coun
     (refusal-set_boot m v base len vm.slot _ low fits there ∙ served)
     (ap (λ (slot : Slot). (reply.Image (length slot.images), with_slot m v (record slot { images = slot.images ++ record { base = base; len = len; pages = 0 } ∷ [] }))) there))
 
--- an image that is refused before its slot is looked at
+-- an image that is refused before its slot is looked up
 pub refusal-bad_gfn : (m : State) (v base len : ℕ) → v < slot_count m.config → (gfn_limit ≤ base) ⊎ (gfn_limit < base + pages_of len) → refusal m (SetBoot v base len) ≡ Some BadGfn
 refusal-bad_gfn m v base len low past = rw (vm-fits m v low, bad) refl
   where

@@ -16,7 +16,7 @@ use Rattle.kc_parts.specs.Parts.{Held, vm_at, links_of}
 use Rattle.kc_parts.specs.States.{slot_in, unlinked_slot, state_of}
 use Rattle.kc_parts.proofs.Seen.{slot-seen}
 
--- a slot that is here is that of its number, but for its list
+-- a slot that is here is the slot of its number, except for its list
 pub slot-shown : (config : Configuration) (h : Held) (v : ℕ) → v < slot_count config → (there : Option (Bor VmSlot)) → option_copied there ≡ vm_at h v
     → IfSome there (λ slot. slot_at (state_of config h) v ≡ unlinked_slot slot.now.slot (slot_at (state_of config h) v).frames)
 slot-shown config h v low None is = tt
@@ -40,7 +40,7 @@ module _ (m : State) (is : IsLawful m) where
   pub unmapped-past_slots : (v g : ℕ) → slot_count m.config ≤ v → mapped_at m v g ≡ None
   unmapped-past_slots v g past = ap (λ (there : Slot). map.get there.mapped g) (slot-past m v is.slots past) ∙ map.get-empty nat_cmp g
 
-  -- a mapped guest frame is that of a frame, which is below the limit
+  -- a mapped guest frame leads to a frame below the limit
   mapped-low : (v g f : ℕ) → v < slot_count m.config → mapped_at m v g ≡ Some f → g < gfn_limit
   mapped-low v g f low at =
       let frame = (is.mapped v g f low).0 at in

@@ -15,7 +15,7 @@ use Rattle.kc_parts.specs.States.{state_of, IsLinked}
 use Rattle.kc_parts.proofs.SlotChanges.{state-vm, linked-vm}
 use Rattle.kc_parts.proofs.Looked.{slot-is}
 
--- a slot that is here boots where the state says so
+-- a slot that is here is booting if the state says so
 pub booting-here : (config : Configuration) (h : Held) (v : ℕ) (vm : VmSlot) → refusal (state_of config h) (Verify v) ≡ None → vm_at h v ≡ Some vm → vm.slot.phase ≡ Booting
 booting-here config h v vm served at =
     let seen = verify-served (state_of config h) v served in

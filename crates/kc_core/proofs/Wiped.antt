@@ -43,7 +43,7 @@ frames-whole config h pages is count each =
     each k (rw (← count) low) ∙ ap (page_at h) (ap (λ ns. get_or ns k 0) numbers ∙ get_or-range_with_len 0 config.frames k 0 within))
     ∙ ap (λ n. map (λ f. frame_in (page_at h f)) (range_with_len 0 n)) long
 
--- pages of which each keeps its record, and is changed as a frame is
+-- pages keep their records, and each is changed as a frame is
 module _ (config : Configuration) (h : Held) (page_to : Page → Page) (frame_to : Frame → Frame)
     (recorded : (page : Page) → (page_to page).meta ≡ page.meta) (framed : (page : Page) → frame_of (page_to page) ≡ frame_to (frame_of page)) (none : frame_to (untouched Core) ≡ untouched Core) where
   abbrev changed : Held
@@ -110,14 +110,14 @@ module _ (config : Configuration) (h : Held) (page_to : Page → Page) (frame_to
       ends Free = refl
       ends (Vm v) = refl
 
--- all bytes zeroed
+-- all bytes are zeroed
 pub state-clean : (config : Configuration) (h : Held) → state_of config (record h { pages = map scrubbed_page h.pages }) ≡ wiped (state_of config h)
 state-clean config h = state-changed config h scrubbed_page wiped_frame (λ page. refl) (λ page. refl) refl
 
 pub core-clean : (config : Configuration) (h : Held) → IsCore config h → IsCore config (record h { pages = map scrubbed_page h.pages })
 core-clean config h is = core-changed config h scrubbed_page wiped_frame (λ page. refl) (λ page. refl) refl (lawful-wiped (state_of config h) is.lawful) is
 
--- those of active VMs zeroed
+-- the bytes of active VMs' pages are zeroed
 module _ (config : Configuration) (h : Held) (marks : List Bool) (active : (v : ℕ) → slice_index_or marks v false ≡ is_active (slot_at (state_of config h) v).phase) where
   page-blank : (owner : Owner) → is_marked marks owner ≡ is_guests (state_of config h) owner
   page-blank Core = refl

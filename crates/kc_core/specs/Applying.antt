@@ -1,4 +1,4 @@
--- What a call does with parts, beside what the rules say.
+-- What a call does with parts, besides what the rules say.
 use Rattle.std.specs.Prelude.{ℕ, ◌≡◌, true, Result, Ok, Err}
 use Rattle.kc_types.specs.declared.call.Call.{Call}
 use Rattle.kc_types.specs.declared.memory.Memory.{Memory}
@@ -14,7 +14,8 @@ use Rattle.kc_parts.specs.States.{state_of, here_of, owner_at, is_away, IsLinked
 use Rattle.kc_core.specs.declared.unserved.Unserved.{Unserved}
 use Rattle.kc_core.specs.declared.unserved.Unserved.TheVariants.{Refused, OutOfMemory}
 
--- the same places of frames and of slots, and the same parts in them; frames of a list whose ends are elsewhere keep their owner and their links
+-- the places of frames and of slots are the same, and so are the parts in them; frames of a list whose ends are
+-- elsewhere keep their owner and their links
 pub record KeepsPlaces (old new : Held) : Type 0 where
   pub numbers : new.numbers ≡ old.numbers
   pub slots : new.vms.numbers ≡ old.vms.numbers
@@ -22,7 +23,7 @@ pub record KeepsPlaces (old new : Held) : Type 0 where
   pub here : (r : Resource) → here_of new r ≡ here_of old r
   pub away : (f : ℕ) → is_away old f ≡ true → (owner_at new f ≡ owner_at old f) × (links_of new f ≡ links_of old f)
 
--- parts on which a call can be made: as orderly as those of a lawful state, with all that the call needs here
+-- a call can be made on the parts: they are as orderly as those of a lawful state, and what the call needs is here
 pub record IsAble (config : Configuration) (h : Held) (call : Call) : Type 0 where
   pub orderly : IsOrderly (state_of config h)
   pub linked : IsLinked config h
@@ -35,12 +36,12 @@ pub record IsAnswer (config : Configuration) (old new : Held) (call : Call) (ans
   pub linked : IsLinked config new
   pub places : KeepsPlaces old new
 
--- the reply to a call that is carried out is its own, and to a call that is not, that it is refused, and why
+-- the reply to a call that is carried out, or that it is refused, and why
 abbrev pub reply_of : Result Reply Refusal → Reply
 reply_of (Ok reply) = reply
 reply_of (Err why) = reply.Refused why
 
--- the same of a call for which there may be no memory, and then there is no reply
+-- the same for a call for which memory may run out, and then there is no reply
 abbrev pub answer_of : Result Reply Unserved → Result Reply Memory
 answer_of (Ok reply) = Ok reply
 answer_of (Err (Refused why)) = Ok (reply.Refused why)

@@ -1,4 +1,4 @@
--- Pages of VMs whose slots are marked, zeroed.
+-- Zeroing the pages of VMs whose slots are marked.
 use Rattle.std.specs.Prelude.{Bool, false, List, slice_index_or, if◌then◌else◌}
 use Rattle.kc_types.specs.declared.owner.Owner.{Owner}
 use Rattle.kc_types.specs.declared.owner.Owner.TheVariants.{Vm}
@@ -10,6 +10,6 @@ abbrev pub is_marked : List Bool → Owner → Bool
 is_marked marks (Vm v) = slice_index_or marks v false
 is_marked marks _ = false
 
--- the page with zero bytes where such a VM owns it
+-- the page, with zero bytes if such a VM owns it
 abbrev pub blank_page : List Bool → Page → Page
 blank_page marks page = record page { bytes = if is_marked marks page.meta.owner then zero_page else page.bytes }

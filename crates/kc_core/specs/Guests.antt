@@ -19,12 +19,14 @@ pub record IsMapping (m : State) (v g : ℕ) (found : Mapping) : Type 0 where
   pub gfn : found.gfn ≡ g
   pub mapped : mapped_at m v g ≡ Some found.frame
 
--- the first refusal of a call on a mapped guest frame, whatever its last condition is, or the frame there, and then only the last condition counts
+-- the first refusal of a call on a mapped guest frame, whatever its last condition is; or the frame there, and then
+-- only the last condition counts
 abbrev pub AnswersMapped : State → ℕ → ℕ → ℕ → Result Mapping Refusal → Type 0
 AnswersMapped m v c g (Ok found) = IsMapping m v g found × ((last : Option Refusal) → first_of_these (guest_frame m v c g last) ≡ last)
 AnswersMapped m v c g (Err refusal) = (last : Option Refusal) → first_of_these (guest_frame m v c g last) ≡ Some refusal
 
--- the same of a call on the guest frames of a range: its first refusal, or none, and then each of them is mapped and only the last condition counts
+-- the first refusal of a call on the guest frames of a range, or none, and then each of them is mapped and only the
+-- last condition counts
 abbrev pub AnswersRange : {X : Type 0} → State → ℕ → ℕ → ℕ → ℕ → Result X Refusal → Type 0
 AnswersRange m v c g n (Ok found) = (g + n ≤ gfn_limit) × (any_from g n (λ h. is_none (mapped_at m v h)) ≡ false) × ((last : Option Refusal) → first_of_these (guest_range m v c g n last) ≡ last)
 AnswersRange m v c g n (Err refusal) = (last : Option Refusal) → first_of_these (guest_range m v c g n last) ≡ Some refusal

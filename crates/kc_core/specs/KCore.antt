@@ -1,4 +1,4 @@
--- What a core keeps of its parts.
+-- What holds of a core's parts.
 use Rattle.std.specs.Prelude.{ℕ, ◌≡◌, Bool, true, false, if◌then◌else◌, is_none, length, Some, None}
 use Rattle.std.specs.Option.{option_map}
 use Rattle.kc_types.specs.Configuration.{Configuration}
@@ -20,20 +20,20 @@ pub record IsCore (config : Configuration) (parts : Held) : Type 0 where
   pub linked : IsLinked config parts
   pub whole : IsWhole config parts
 
--- whether the owner's frames stand in a list
+-- whether the owner's frames are in a list
 abbrev pub has_list : Owner → Bool
 has_list Core = false
 has_list Host = false
 has_list Free = true
 has_list (Vm v) = true
 
--- the record of a page, with its neighbours where its owner has a list
+-- the record of a page, with its neighbours if its owner has a list
 abbrev pub shown : PageRecord → PageRecord
 shown meta = record meta { prev = if has_list meta.owner then meta.prev else None; next = if has_list meta.owner then meta.next else None }
 
 abbrev pub ShowsRecord : Held → ℕ → PageRecord → Type 0
 ShowsRecord parts f meta = Some meta ≡ option_map (λ (page : Page). shown page.meta) (page_at parts f)
 
--- how many frames `verify` of a slot hashes: all that the slot has, or none where the call is refused
+-- the number of frames that `verify` of a slot hashes: all that the slot has, or none if the call is refused
 abbrev pub frames_to_hash : State → ℕ → ℕ
 frames_to_hash m v = if is_none (refusal m (Verify v)) then length (slot_at m v).frames else 0

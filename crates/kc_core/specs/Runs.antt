@@ -1,4 +1,4 @@
--- Where a run that is out of memory stops.
+-- Where a run stops when memory runs out.
 use Rattle.std.specs.Prelude.{ℕ, ◌≡◌, ◌≤◌, List, length, take}
 use Rattle.kc_types.specs.declared.call.Call.{Call}
 use Rattle.kc_types.specs.declared.reply.Reply.{Reply}

@@ -11,7 +11,7 @@ use Rattle.kc_vms.specs.Vm.{VmSlot}
 use Rattle.kc_parts.specs.Parts.{Held, page_at}
 use Rattle.kc_parts.specs.States.{frame_in}
 
--- where a slot leads from a guest frame; nowhere if it is not here
+-- the frame to which a slot leads from a guest frame, or none if the slot is not here
 abbrev pub mapped_in : Option VmSlot → ℕ → Option ℕ
 mapped_in (Some vm) g = map.get vm.slot.mapped g
 mapped_in None g = None
@@ -23,7 +23,7 @@ page_under h mapped g = page_at h (backing (mapped g))
 abbrev pub bytes_under : Held → (ℕ → Option ℕ) → ℕ → List ℕ
 bytes_under h mapped g = (frame_in (page_under h mapped g)).bytes
 
--- the bytes of an image, of its pages joined
+-- the bytes of an image: those of its pages, joined
 abbrev pub bytes_of_image : Held → (ℕ → Option ℕ) → Image → List ℕ
 bytes_of_image h mapped image = take image.len (flat_map (bytes_under h mapped) (gfns_of image))
 

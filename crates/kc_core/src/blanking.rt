@@ -5,7 +5,7 @@ ghost use Rattle.kc_core.specs.Blanking.{is_marked, blank_page};
 use kc_page::Page;
 use kc_types::Owner;
 
-/// A mark for each slot that there may be.
+/// A mark for each possible slot.
 pub type Marks = [bool; 64];
 
 /// Whether the owner is a VM whose slot is marked.
@@ -27,7 +27,7 @@ fn blank_marked(page: &mut Page, marks: &Marks)
     }
 }
 
-/// Zeroes the pages of VMs whose slots are marked, and keeps all other pages, and all records.
+/// Zeroes the pages of VMs whose slots are marked, and keeps all other pages and all records.
 pub fn blank_each(pages: &mut [Page], marks: &Marks)
     ensures { pages.new ≡ map (blank_page marks.now) pages.old }
 {

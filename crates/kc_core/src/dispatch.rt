@@ -1,4 +1,4 @@
-//! A call, by its kind.
+//! Making a call, by its kind.
 ghost use Rattle.std.specs.Prelude.{◌≡◌, ◌≤◌, true, IfOk, IsOk, IsErr, OnOk, OnErr};
 ghost use Rattle.kc_types.specs.ReplyBytes.{is_data, most_reply_bytes};
 ghost use Rattle.kc_model.specs.Next.{next};
@@ -16,7 +16,8 @@ use crate::verify::verify;
 use kc_parts::Parts;
 use kc_types::{Call, Config, Memory, Reply, ReplyBuffer};
 
-/// Carries out a call, or says why not. The buffer is for the bytes of the reply, and grows where it is too small for them.
+/// Carries out a call, or returns why not. The buffer is for the bytes of the reply, and grows if it is too small for
+/// them.
 fn serve(
     parts: &mut Parts,
     config: &Config,
@@ -80,9 +81,10 @@ fn serve(
     }
 }
 
-/// Answers a call on parts that hold what it needs, and leaves all else as it was: with the first refusal that applies, and
-/// then nothing has changed, or with its effect. The buffer is for the bytes of the reply, and grows where it is too small for
-/// them: `Memory` where that was refused, which comes only where the reply would be bytes, and then nothing has changed.
+/// Answers a call on parts that hold what it needs, and leaves everything else as it was. The reply is the first
+/// refusal that applies, and then nothing changes, or that of the call's effect. The buffer is for the bytes of the
+/// reply, and grows if it is too small for them: `Memory` if memory cannot be had, which only happens if the reply
+/// would be bytes, and then nothing changes.
 pub fn apply(
     parts: &mut Parts,
     config: &Config,
@@ -105,7 +107,7 @@ pub fn apply(
     }
 }
 
-/// What `apply` does, with room for all bytes that the reply may have: nothing takes memory.
+/// Does what `apply` does, with room for all bytes that the reply may have, so that nothing takes memory.
 pub fn answer(parts: &mut Parts, config: &Config, call: &Call, buffer: ReplyBuffer) -> Reply
     requires able { IsAble config.now parts.old call.now }
     requires fits { most_reply_bytes call.now ≤ buffer }

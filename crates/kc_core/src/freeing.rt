@@ -1,4 +1,4 @@
-//! The calls by which frames of a slot are free again: it gives up one, or is cleared and gives up all.
+//! The calls that free frames of a slot: it gives up one, or is cleared and gives up all.
 ghost use Rattle.std.specs.Prelude.{◌≡◌, ◌<◌, false, IsSome, IfOk};
 ghost use Rattle.kc_types.specs.declared.call.Call.TheVariants.{Drop, Clear};
 ghost use Rattle.kc_types.specs.Refusals.{Answers};
@@ -31,7 +31,8 @@ fn unshared_frame(
     Ok(found)
 }
 
-/// A frame that left its owner's list, whose ends are here, becomes the last of the free ones, with zero bytes.
+/// Frees a frame that left its owner's list, whose ends are here: it becomes the last of the free ones, with zero
+/// bytes.
 fn free_frame(parts: &mut Parts, config: &Config, frame: FrameNo)
     requires linked { IsLinked config.now parts.old }
     requires here { IsSome (page_at parts.old frame) }
@@ -50,7 +51,7 @@ fn free_frame(parts: &mut Parts, config: &Config, frame: FrameNo)
     parts.append_free(frame);
 }
 
-/// A slot gives up a guest frame, and its frame goes to the end of the free list.
+/// Gives up a guest frame of a slot: its frame goes to the end of the free list.
 pub fn drop_page(
     parts: &mut Parts,
     config: &Config,
@@ -70,7 +71,7 @@ pub fn drop_page(
     Ok(Reply::Done)
 }
 
-/// The slot of this number, which has a VM.
+/// The slot of this number, if it has a VM.
 fn used_slot(parts: &Parts, config: &Config, vm: u32) -> Result<VmId, Refusal>
     ensures answer { Answers result (refusal (state_of config.now parts.now) (Clear vm)) }
     ensures slot { IfOk result (λ slot. slot ≡ vm) }
@@ -84,8 +85,7 @@ fn used_slot(parts: &Parts, config: &Config, vm: u32) -> Result<VmId, Refusal>
     }
 }
 
-/// A slot is empty again, and its frames, with zero bytes, go to the end of the free list in the order in which
-/// they came.
+/// Empties a slot: its frames, with zero bytes, go to the end of the free list in the order in which they came.
 pub fn clear(parts: &mut Parts, config: &Config, vm: u32) -> Result<Reply, Refusal>
     requires { IsAble config.now parts.old (Clear vm) }
     ensures { IsAnswer config.now parts.old parts.new (Clear vm) (reply_of result) }

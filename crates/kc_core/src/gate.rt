@@ -1,6 +1,6 @@
 //! What runs just before and just after each call.
 
-/// It is told each call by its number, on the thread that makes the call. A gate that sleeps or locks holds what it
+/// A gate is given each call's number, on the thread that makes the call. A gate that sleeps or locks holds what it
 /// needs for that in its own fields.
 pub trait Gate {
     /// Runs just before call `number`, counted from 0 over all calls of the run.
@@ -9,7 +9,7 @@ pub trait Gate {
     /// Runs just after call `number`, counted from 0 over all calls of the run.
     fn after(&self, number: usize);
 
-    /// Whether a call may have to wait for another call's. Where none does, a wave may be taken on one thread.
+    /// Whether a call may have to wait for another one. If none does, a wave may run on one thread.
     fn may_wait(&self) -> bool {
         true
     }

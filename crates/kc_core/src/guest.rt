@@ -43,7 +43,7 @@ fn accessed(
     Ok((at, slot.table().get(at.gfn)))
 }
 
-/// A registered virtual processor of an active slot waits for a guest frame.
+/// Lets a registered virtual processor of an active slot wait for a guest frame.
 fn set_fault(parts: &mut Parts, config: &Config, at: GuestFrame)
     requires exists { at.vm < slot_count config.now }
     requires here { IsSome (vm_at parts.old at.vm) }
@@ -57,7 +57,7 @@ fn set_fault(parts: &mut Parts, config: &Config, at: GuestFrame)
     parts.slot_mut(at.vm).set_fault(at.vcpu, at.gfn);
 }
 
-/// A virtual processor waits for nothing.
+/// Lets a virtual processor wait for nothing.
 pub fn spend_fault(parts: &mut Parts, config: &Config, vm: VmId, vcpu: VcpuId)
     requires exists { vm < slot_count config.now }
     requires here { IsSome (vm_at parts.old vm) }
@@ -69,8 +69,8 @@ pub fn spend_fault(parts: &mut Parts, config: &Config, vm: VmId, vcpu: VcpuId)
     parts.slot_mut(vm).spend_fault(vcpu);
 }
 
-/// Reads bytes of a guest frame that is mapped; where it is not, the virtual processor waits for it. `OutOfMemory`
-/// where there was no room for the bytes.
+/// Reads bytes of a guest frame that is mapped; if it is not, the virtual processor waits for it. `OutOfMemory` if
+/// memory for the bytes cannot be had.
 pub fn guest_read(
     parts: &mut Parts,
     config: &Config,
@@ -99,7 +99,7 @@ pub fn guest_read(
     Ok(Reply::Data(bytes))
 }
 
-/// Writes bytes to a guest frame that is mapped; where it is not, the virtual processor waits for it.
+/// Writes bytes to a guest frame that is mapped; if it is not, the virtual processor waits for it.
 pub fn guest_write(
     parts: &mut Parts,
     config: &Config,

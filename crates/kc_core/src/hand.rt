@@ -17,7 +17,7 @@ use crate::naming::{expect_vcpu, named_vcpu};
 use kc_parts::Parts;
 use kc_types::{Config, FrameNo, Gfn, Owner, Refusal, Reply, VcpuId, VmId};
 
-/// Why a frame can't be handed to a slot at a guest frame.
+/// Why a frame cannot be handed to a slot at a guest frame.
 fn expect_room(
     parts: &Parts,
     config: &Config,
@@ -38,7 +38,7 @@ fn expect_room(
     Ok(())
 }
 
-/// A frame of the host's becomes the last in the list of a slot, which sees it at a guest frame.
+/// Hands a frame of the host's to a slot, which sees it at a guest frame and has it last in its list.
 fn hand(parts: &mut Parts, config: &Config, vm: VmId, gfn: Gfn, frame: FrameNo)
     requires linked { IsLinked config.now parts.old }
     requires slot { IsSome (vm_at parts.old vm) }
@@ -95,7 +95,7 @@ fn next_page(
     })
 }
 
-/// A frame of the host's becomes the next page of a boot image.
+/// Hands over a frame of the host's as the next page of a boot image.
 pub fn remap(
     parts: &mut Parts,
     config: &Config,
@@ -153,7 +153,7 @@ fn awaited_frame(
     })
 }
 
-/// A frame of the host's goes where a virtual processor waits for one.
+/// Maps a frame of the host's where a virtual processor waits for one.
 pub fn map(
     parts: &mut Parts,
     config: &Config,

@@ -15,7 +15,7 @@ use crate::unserved::Unserved;
 use kc_parts::Parts;
 use kc_types::{Config, Data, FrameNo, Owner, PAGE_SIZE, Refusal, Reply, ReplyBuffer};
 
-/// The first free frame becomes the host's.
+/// Gives the host the first free frame.
 pub fn take(parts: &mut Parts, config: &Config) -> Result<Reply, Refusal>
     requires { IsAble config.now parts.old Take }
     ensures { IsAnswer config.now parts.old parts.new Take (reply_of result) }
@@ -29,7 +29,7 @@ pub fn take(parts: &mut Parts, config: &Config) -> Result<Reply, Refusal>
     Ok(Reply::Frame(frame.number()))
 }
 
-/// The frame of this number, which is the host's.
+/// The frame of this number, if it is the host's.
 fn host_frame(parts: &Parts, config: &Config, frame: u32) -> Result<FrameNo, Refusal>
     ensures answer { Answers result (refusal (state_of config.now parts.now) (Give frame)) }
     ensures frame { IfOk result (λ found. found ≡ frame) }
@@ -43,7 +43,7 @@ fn host_frame(parts: &Parts, config: &Config, frame: u32) -> Result<FrameNo, Ref
     Ok(found)
 }
 
-/// A frame of the host's becomes free.
+/// Frees a frame of the host's.
 pub fn give(parts: &mut Parts, config: &Config, frame: u32) -> Result<Reply, Refusal>
     requires { IsAble config.now parts.old (Give frame) }
     ensures { IsAnswer config.now parts.old parts.new (Give frame) (reply_of result) }
@@ -57,7 +57,7 @@ pub fn give(parts: &mut Parts, config: &Config, frame: u32) -> Result<Reply, Ref
     Ok(Reply::Done)
 }
 
-/// The frame of this number, which the host may reach: it is its own, or shared.
+/// The frame of this number, if the host may reach it: it is the host's own, or shared.
 fn reachable_frame(parts: &Parts, config: &Config, frame: u32) -> Result<FrameNo, Refusal>
     ensures answer { Answers result (refusal (state_of config.now parts.now) (HostFault frame)) }
     ensures frame { IfOk result (λ found. found ≡ frame) }
@@ -83,7 +83,7 @@ pub fn host_fault(parts: &mut Parts, config: &Config, frame: u32) -> Result<Repl
     Ok(Reply::Done)
 }
 
-/// The frame of this number, of which the host may read or write `len` bytes from `offset` on.
+/// The frame of this number, if the host may read or write `len` bytes of it from `offset` on.
 fn present_frame(
     parts: &Parts,
     config: &Config,
@@ -106,7 +106,7 @@ fn present_frame(
     Ok(found)
 }
 
-/// Bytes of a frame, `len` of them from `offset` on. `OutOfMemory` where there was no room for them.
+/// Reads `len` bytes of a frame from `offset` on. `OutOfMemory` if memory for them cannot be had.
 pub fn host_read(
     parts: &Parts,
     config: &Config,

@@ -36,7 +36,7 @@ use std::alloc::Global;
 use std::marker::Model;
 use std::thread::Threads;
 
-/// The trusted core, seen as its state. Every value of it is lawful, and no call makes it otherwise.
+/// The trusted core, seen as its state. Every value is lawful, and every call leaves it so.
 #[derive(Drop)]
 pub struct KCore {
     alloc: Global,
@@ -62,18 +62,18 @@ impl Model for KCore {
     ghost invariant = { λ k. IsCore k.config k.parts };
 }
 
-/// Where a run was out of memory.
+/// Where a run stopped when memory ran out.
 #[derive(Drop)]
 pub struct RunStop {
-    /// How many calls of the trace are done.
+    /// The number of calls of the trace that are done.
     pub done: usize,
     /// Their replies, in order.
     pub replies: Vec<Reply>,
 }
 
 impl KCore {
-    /// The core in the boot state of its configuration, with all its frames made and zeroed; `Memory` where a
-    /// growth was refused.
+    /// Makes a core in the boot state of its configuration, with all its frames made and zeroed; `Memory` if memory
+    /// cannot be had.
     pub fn boot(alloc: Global, config: Config) -> Result<KCore, Memory>
         // No clause can rule out that memory runs out: tests boot cores.
         ensures state { IfOk result (λ core. core ≡ boot config) }
@@ -87,7 +87,7 @@ impl KCore {
         })
     }
 
-    /// The core of a configuration and parts: all of them are here, linked, and those of a lawful state.
+    /// Makes a core of a configuration and parts: all of them are here, linked, and those of a lawful state.
     pub fn from_parts(alloc: Global, config: Config, parts: Parts) -> KCore
         requires { IsCore config parts }
         ensures { result ≡ state_of config parts }
@@ -99,7 +99,8 @@ impl KCore {
         }
     }
 
-    /// The configuration and the parts, all of them here: what `from_parts` makes this core of again.
+    /// Takes the core apart into its configuration and its parts, all of them here, of which `from_parts` makes it
+    /// again.
     pub fn into_parts(self) -> (Config, Parts)
         ensures core { IsCore result.0 result.1 }
         ensures state { state_of result.0 result.1 ≡ self }
@@ -107,8 +108,8 @@ impl KCore {
         (self.config, self.parts)
     }
 
-    /// Answers a call: with the first refusal that applies, and then nothing has changed, or with its effect. The
-    /// bytes of the reply lie in a buffer made before by `Call::reply_buffer`, and nothing takes memory.
+    /// Answers a call: with the first refusal that applies, and then nothing changes, or with its effect. The bytes of
+    /// the reply go into a buffer made before by `Call::reply_buffer`, and nothing takes memory.
     pub fn answer(&mut self, call: &Call, buffer: ReplyBuffer) -> Reply
         requires { most_reply_bytes call.now ≤ buffer }
         ensures reply { result ≡ (next self.old call.now).0 }
@@ -118,8 +119,8 @@ impl KCore {
         answer(&mut self.parts, &self.config, call, buffer)
     }
 
-    /// Answers a call. `Memory` where a growth was refused, which comes only where the reply would be bytes, and then
-    /// nothing has changed.
+    /// Answers a call. `Memory` if memory cannot be had, which only happens if the reply would be bytes, and then
+    /// nothing changes.
     pub fn call(&mut self, call: &Call) -> Result<Reply, Memory>
         ensures reply { IfOk result (λ reply. reply ≡ (next self.old call.now).0) }
         ensures state { OnOk result (self.new ≡ (next self.old call.now).1) }
@@ -131,7 +132,7 @@ impl KCore {
         apply(&mut self.parts, &self.config, call, buffer)
     }
 
-    /// Answers `verify` of a VM slot, 0 to 63, as `call` does, and gives the images that it measured.
+    /// Answers `verify` of a VM slot, 0 to 63, as `call` does, and returns the images that it measured.
     pub fn verify(&mut self, vm: u32) -> Verified
         ensures reply { result.reply ≡ (next self.old (Verify vm)).0 }
         ensures images { result.images.items ≡ images_by self.old (Verify vm) }
@@ -144,16 +145,16 @@ impl KCore {
         }
     }
 
-    /// Answers a trace, call by call, and gives the replies in order.
+    /// Answers a trace, call by call, and returns the replies in order.
     pub fn run(&mut self, alloc: Global, calls: &[Call]) -> Result<Vec<Reply>, RunStop>
         ensures promises { KeepsPromises self.old calls.now }
         ensures blind { IfOk result (λ replies. ShowsNothing self.old calls.now replies.items self.new) }
         ensures replies { IfOk result (λ replies. replies.items ≡ replies_from self.old calls.now) }
         ensures state { OnOk result (self.new ≡ state_after self.old calls.now) }
-        // Such a stop comes where memory runs out alone, which no clause can rule out: tests run to the end.
+        // The run only stops if memory runs out, which no clause can rule out: tests run to the end.
         ensures stop { IfErr result (λ stop. StopsAfter self.old calls.now stop.done stop.replies.items self.new) }
     {
-        // Opened here, the core is known to be lawful from the first call on.
+        // Using the parts here shows that the core is lawful from the first call on.
         let _ = &self.parts;
         let Ok(mut replies) = Vec::with_capacity(alloc, calls.len()) else {
             return Err(RunStop {
@@ -178,8 +179,7 @@ impl KCore {
         &self.config
     }
 
-    /// The record of a frame, with its neighbours in the list of its owner; `None` for a frame that does not
-    /// exist.
+    /// The record of a frame, with its neighbours in the list of its owner; `None` if the frame does not exist.
     pub fn page_record(&self, frame: u32) -> Option<PageRecord>
         ensures exists { IsSome result ↔ (frame < self.now.config.frames) }
         ensures value { IfSome result (IsRecordOf self.now frame) }
@@ -188,7 +188,7 @@ impl KCore {
         Some(page_record(&self.parts, frame))
     }
 
-    /// The bytes of a frame; `None` for a frame that does not exist.
+    /// The bytes of a frame; `None` if the frame does not exist.
     pub fn bytes(&self, frame: u32) -> Option<&PageBytes>
         ensures exists { IsSome result ↔ (frame < self.now.config.frames) }
         ensures value { IfSome result (λ bytes. bytes.now ≡ (frame_at self.now frame).bytes) }
@@ -197,8 +197,8 @@ impl KCore {
         Some(&page.bytes)
     }
 
-    /// The frames of an owner: free frames and a VM's in the order of their list, the core's and the host's by
-    /// rising number. `Memory` where a growth was refused.
+    /// The frames of an owner: free frames and a VM's in the order of their list, the core's and the host's in
+    /// ascending order. `Memory` if memory cannot be had.
     pub fn frames_of(&self, owner: Owner) -> Result<Vec<FrameNo>, Memory>
         // No clause can rule out that memory runs out: a test lists frames.
         ensures { IfOk result (λ frames. frames.items ≡ frames_of self.now owner) }
@@ -216,7 +216,7 @@ impl KCore {
         }
     }
 
-    /// The ends of the list of a VM slot's frames; `None` for a slot that does not exist.
+    /// The ends of the list of a VM slot's frames; `None` if the slot does not exist.
     pub fn slot_ends(&self, vm: u32) -> Option<Ends>
         ensures exists { IsSome result ↔ (vm < slot_count self.now.config) }
         ensures value { IfSome result (λ ends. ends ≡ ends_of (slot_at self.now vm).frames) }
@@ -224,8 +224,8 @@ impl KCore {
         Some(*self.try_slot(vm)?.list())
     }
 
-    /// The mapped guest frames of a VM slot with their frames, by rising guest frame; none for a slot that does not
-    /// exist. `Memory` where a growth was refused.
+    /// The mapped guest frames of a VM slot with their frames, by ascending guest frame; none if the slot does not
+    /// exist. `Memory` if memory cannot be had.
     pub fn entries(&self, alloc: Global, vm: u32) -> Result<Vec<(Gfn, FrameNo)>, Memory>
         // No clause can rule out that memory runs out: a test lists entries.
         ensures { IfOk result (λ entries. entries.items ≡ finite.entries (slot_at self.now vm).mapped) }
@@ -236,7 +236,7 @@ impl KCore {
         }
     }
 
-    /// The VM slot of this number, which is the state's but for the list of its frames; `None` where there is none.
+    /// The VM slot of this number, which is the state's except for the list of its frames; `None` if there is none.
     fn try_slot(&self, vm: u32) -> Option<&Vm>
         ensures exists { IsSome result ↔ (vm < slot_count self.now.config) }
         ensures value { IfSome result (λ slot. slot_at self.now vm ≡ unlinked_slot slot.now.slot (slot_at self.now vm).frames) }
@@ -246,7 +246,7 @@ impl KCore {
         self.parts.try_slot(self.config.vm(vm)?)
     }
 
-    /// The phase of a VM slot, 0 to 63; `None` for a slot that does not exist.
+    /// The phase of a VM slot, 0 to 63; `None` if the slot does not exist.
     pub fn phase(&self, vm: u32) -> Option<Phase>
         ensures exists { IsSome result ↔ (vm < slot_count self.now.config) }
         ensures value { IfSome result (λ phase. phase ≡ (slot_at self.now vm).phase) }
@@ -254,7 +254,7 @@ impl KCore {
         Some(self.try_slot(vm)?.phase())
     }
 
-    /// How many frames `verify` of a VM slot hashes: all that the slot has, or none where the call is refused.
+    /// The number of frames that `verify` of a VM slot hashes: all that the slot has, or none if the call is refused.
     pub fn frames_to_hash(&self, vm: u32) -> u32
         ensures { result ≡ frames_to_hash self.now vm }
     {
@@ -267,8 +267,8 @@ impl KCore {
         }
     }
 
-    /// The guest frame that a virtual processor, 0 to 7, of a VM slot, 0 to 63, waits for; `None` where the slot
-    /// or the virtual processor does not exist, or where it waits for nothing.
+    /// The guest frame that a virtual processor, 0 to 7, of a VM slot, 0 to 63, waits for; `None` if the slot or the
+    /// virtual processor does not exist, or if it waits for nothing.
     pub fn fault(&self, vm: u32, vcpu: u32) -> Option<Gfn>
         ensures exists { IsSome result → (vm < slot_count self.now.config) × (vcpu < vcpu_limit) }
         ensures value { result ≡ (vcpu_at self.now vm vcpu).fault }
@@ -277,7 +277,7 @@ impl KCore {
         Gfn::try_new(slot.vcpu(VcpuId::try_new(vcpu)?).fault?)
     }
 
-    /// A virtual processor, 0 to 7, of a VM slot, 0 to 63; `None` where either does not exist.
+    /// A virtual processor, 0 to 7, of a VM slot, 0 to 63; `None` if either does not exist.
     pub fn vcpu(&self, vm: u32, vcpu: u32) -> Option<Vcpu>
         ensures exists { IsSome result ↔ ((vm < slot_count self.now.config) × (vcpu < vcpu_limit)) }
         ensures value { IfSome result (λ there. there ≡ vcpu_at self.now vm vcpu) }
@@ -286,7 +286,7 @@ impl KCore {
         Some(slot.vcpu(VcpuId::try_new(vcpu)?))
     }
 
-    /// The boot images of a VM slot, 0 to 63, by their numbers; `None` for a VM slot that does not exist.
+    /// The boot images of a VM slot, 0 to 63, in the order of their numbers; `None` if the slot does not exist.
     pub fn images(&self, vm: u32) -> Option<&[Image]>
         ensures exists { IsSome result ↔ (vm < slot_count self.now.config) }
         ensures value { IfSome result (λ images. images.now ≡ (slot_at self.now vm).images) }
@@ -294,8 +294,8 @@ impl KCore {
         Some(self.try_slot(vm)?.images())
     }
 
-    /// The frame at a guest frame, 0 to 262,143, of a VM slot, 0 to 63; `None` where the slot or the guest frame
-    /// does not exist, or where nothing is mapped there.
+    /// The frame at a guest frame, 0 to 262,143, of a VM slot, 0 to 63; `None` if the slot or the guest frame does not
+    /// exist, or if nothing is mapped there.
     pub fn lookup(&self, vm: u32, gfn: u32) -> Option<FrameNo>
         ensures exists { IsSome result → (vm < slot_count self.now.config) × (gfn < gfn_limit) }
         ensures value { result ≡ mapped_at self.now vm gfn }
@@ -304,8 +304,8 @@ impl KCore {
         table.get(Gfn::try_new(gfn)?)
     }
 
-    /// The root slots, 0 to 511, that have leaves in the table of a VM slot, 0 to 63, in the order in which they
-    /// took them; `None` for a VM slot that does not exist.
+    /// The root slots, 0 to 511, that have leaves in the table of a VM slot, 0 to 63, in the order in which they took
+    /// them; `None` if the VM slot does not exist.
     pub fn leaves(&self, vm: u32) -> Option<&[u32]>
         ensures exists { IsSome result ↔ (vm < slot_count self.now.config) }
         ensures value { IfSome result (λ leaves. leaves.now ≡ (slot_at self.now vm).leaves) }
@@ -320,7 +320,7 @@ impl KCore {
         self.parts.pages()
     }
 
-    /// Whether the VM in a slot is active; not in a slot that does not exist.
+    /// Whether the VM in a slot is active; false if the slot does not exist.
     fn is_active(&self, vm: u32) -> bool
         ensures value { result ≡ is_active (slot_at self.now vm).phase }
         ensures lawful { IsLawful self.now }
@@ -342,8 +342,8 @@ impl KCore {
         marks
     }
 
-    /// Zeroes the pages of active VMs, and changes nothing else: what is left shows nothing of what they wrote there, and
-    /// leads to the same custody (law `blanking`).
+    /// Zeroes the pages of active VMs, and changes nothing else: what is left shows nothing of what they wrote there,
+    /// and leads to the same custody (law `blanking`).
     pub fn blank(&mut self)
         ensures { self.new ≡ blank_state self.old }
     {
@@ -351,8 +351,8 @@ impl KCore {
         blank_each(self.parts.pages_mut(), &active);
     }
 
-    /// Zeroes all bytes, by several threads, and changes nothing else. It is never refused: where no thread can be
-    /// started, this one does all.
+    /// Zeroes all bytes, with several threads, and changes nothing else. It cannot fail: if no thread can be started,
+    /// this one does everything.
     pub fn wipe(&mut self, rt: &(impl Threads + Sync))
         ensures { self.new ≡ wiped self.old }
     {

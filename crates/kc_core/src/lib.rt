@@ -1,4 +1,5 @@
-//! One call on the parts that it needs; the core, which is all parts on one thread; and the gate round each call.
+//! One call on the parts that it needs; the core, which has all parts and runs on one thread; and the gate around each
+//! call.
 #![tactic(auto)]
 
 mod blanking;

@@ -14,8 +14,8 @@ use kc_parts::Parts;
 use kc_types::{Config, Ends, FrameNo, Memory, Owner, VmId};
 use std::alloc::Global;
 
-/// The record of a frame that is here, with its neighbours in the list of its owner: the core's and the host's
-/// frames are in no list.
+/// The record of a frame that is here, with its neighbours in the list of its owner; the core's and the host's frames
+/// are in no list.
 pub fn page_record(parts: &Parts, frame: FrameNo) -> PageRecord
     requires { IsSome (page_at parts.now frame) }
     ensures { ShowsRecord parts.now frame result }
@@ -43,7 +43,7 @@ fn listed(alloc: Global, parts: &Parts, ends: &Ends) -> Result<Vec<FrameNo>, Mem
     Ok(frames)
 }
 
-/// Who owns a frame that exists; the core where it is not here.
+/// The owner of a frame that exists; the core if the frame is not here.
 fn owner_at(parts: &Parts, config: &Config, frame: u32) -> Owner
     requires { frame < config.now.frames }
     ensures { result ≡ (frame_at (state_of config.now parts.now) frame).owner }
@@ -61,7 +61,7 @@ fn is_owned_by(parts: &Parts, config: &Config, frame: u32, owner: &Owner) -> boo
     owner_at(parts, config, frame) == *owner
 }
 
-/// The frames of an owner, by rising number.
+/// The frames of an owner, in ascending order.
 fn owned_by(
     alloc: Global,
     parts: &Parts,
@@ -79,7 +79,7 @@ fn owned_by(
     Ok(frames)
 }
 
-/// The frames of an owner: free frames and a VM's in the order of their list, others by rising number.
+/// The frames of an owner: free frames and a VM's in the order of their list, others in ascending order.
 pub fn frames_of(
     alloc: Global,
     parts: &Parts,

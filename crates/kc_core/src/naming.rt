@@ -58,7 +58,8 @@ pub fn guest_frame(config: &Config, vm: u32, vcpu: u32, gfn: u32) -> Result<Gues
     Ok(GuestFrame { vm, vcpu, gfn })
 }
 
-/// The slot in which a virtual processor makes its call: it is active, and the virtual processor is registered in it.
+/// The slot in which a virtual processor makes its call, if it is active and the virtual processor is registered in
+/// it.
 pub fn expect_vcpu<'a>(
     parts: &'a Parts,
     config: &Config,
@@ -83,7 +84,7 @@ pub fn expect_vcpu<'a>(
     }
 }
 
-/// The frame at a guest frame of a slot, by its number; `None` where none is mapped there.
+/// The frame at a guest frame of a slot, by its number; `None` if nothing is mapped there.
 pub fn mapped_at(parts: &Parts, config: &Config, vm: VmId, gfn: u32) -> Option<FrameNo>
     requires exists { vm < slot_count config.now }
     requires low { gfn < gfn_limit }

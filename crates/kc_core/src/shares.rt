@@ -1,4 +1,4 @@
-//! Granting the host access to guest frames, one or those of a range, and taking it back.
+//! Granting the host access to one guest frame or to a range of them, and taking it back.
 ghost use Rattle.std.specs.Prelude.{◌≡◌, ◌+◌, ◌-◌, ◌<◌, ◌==◌, false, if◌then◌else◌, IsSome, IfOk, ◌≤◌, nat_le, is_none};
 ghost use Rattle.kc_types.specs.declared.call.Call.TheVariants.{Grant, Revoke, GrantRange, RevokeRange};
 ghost use Rattle.kc_model.specs.State.{frame_at, mapped_at, with_frame};
@@ -36,7 +36,7 @@ fn grantable_frame(
     Ok(found.frame)
 }
 
-/// The frame at a guest frame of which a grant of the host's may be taken back.
+/// The frame at a guest frame of which one of the host's grants may be taken back.
 fn shared_frame(
     parts: &Parts,
     config: &Config,
@@ -54,7 +54,7 @@ fn shared_frame(
     Ok(found.frame)
 }
 
-/// The host has one grant more to a frame.
+/// Grants the host access to a frame once more.
 pub fn grant_frame(parts: &mut Parts, config: &Config, frame: FrameNo)
     requires here { IsSome (page_at parts.old frame) }
     requires few { IsWord ((frame_at (state_of config.now parts.old) frame).share + 1) }
@@ -67,8 +67,7 @@ pub fn grant_frame(parts: &mut Parts, config: &Config, frame: FrameNo)
     page.meta.share += 1;
 }
 
-/// The record of a frame to which the host has one grant less, and which it no longer reaches where that was
-/// the last.
+/// The record of a frame with one grant less, which the host no longer reaches if that was the last.
 fn revoked(meta: PageRecord) -> PageRecord
     ensures { result ≡ record meta { share = meta.share - 1; present = if meta.share == 1 then false else meta.present } }
 {
@@ -79,7 +78,7 @@ fn revoked(meta: PageRecord) -> PageRecord
     }
 }
 
-/// The host has one grant less to a frame.
+/// Takes one of the host's grants of a frame back.
 pub fn revoke_frame(parts: &mut Parts, config: &Config, frame: FrameNo)
     requires here { IsSome (page_at parts.old frame) }
     requires linked { IsLinked config.now parts.old }
@@ -91,7 +90,7 @@ pub fn revoke_frame(parts: &mut Parts, config: &Config, frame: FrameNo)
     page.meta = revoked(page.meta);
 }
 
-/// The host is granted access to a guest frame once more.
+/// Grants the host access to a guest frame once more.
 pub fn grant(
     parts: &mut Parts,
     config: &Config,
@@ -107,7 +106,7 @@ pub fn grant(
     Ok(Reply::Done)
 }
 
-/// A grant of the host's to a guest frame is taken back.
+/// Takes one of the host's grants of a guest frame back.
 pub fn revoke(
     parts: &mut Parts,
     config: &Config,
@@ -132,7 +131,7 @@ fn any_unmapped(parts: &Parts, config: &Config, vm: VmId, gfn: u32, count: u32) 
     (gfn..gfn + count).any(|at| mapped_at(parts, config, vm, at).is_none())
 }
 
-/// How often the frame at a mapped guest frame is granted; where none is mapped, frame 0.
+/// The number of grants of the frame at a guest frame; those of frame 0 if nothing is mapped there.
 fn share_of(parts: &Parts, config: &Config, vm: VmId, gfn: u32) -> u32
     requires exists { vm < slot_count config.now }
     requires low { gfn < gfn_limit }
@@ -163,7 +162,8 @@ fn any_unshared(parts: &Parts, config: &Config, vm: VmId, gfn: u32, count: u32) 
     (gfn..gfn + count).any(|at| share_of(parts, config, vm, at) == 0)
 }
 
-/// The slot in which a virtual processor may make a call on `count` guest frames from `gfn` on: all of them are mapped.
+/// The slot in which a virtual processor may make a call on `count` guest frames from `gfn` on, all of which are
+/// mapped.
 fn expect_range(
     parts: &Parts,
     config: &Config,
@@ -190,7 +190,7 @@ fn expect_range(
     Ok(slot)
 }
 
-/// The slot of `count` guest frames to each of which the host may be granted access once more.
+/// The slot, if the host may be granted access once more to each of `count` guest frames from `gfn` on.
 fn expect_grantable(
     parts: &Parts,
     config: &Config,
@@ -210,7 +210,7 @@ fn expect_grantable(
     Ok(slot)
 }
 
-/// The slot of `count` guest frames of each of which a grant of the host's may be taken back.
+/// The slot, if one of the host's grants may be taken back of each of `count` guest frames from `gfn` on.
 fn expect_shared(
     parts: &Parts,
     config: &Config,
@@ -230,7 +230,7 @@ fn expect_shared(
     Ok(slot)
 }
 
-/// The host is granted access to each of `count` guest frames from `gfn` on once more.
+/// Grants the host access to each of `count` guest frames from `gfn` on once more.
 pub fn grant_range(
     parts: &mut Parts,
     config: &Config,
@@ -250,7 +250,7 @@ pub fn grant_range(
     Ok(Reply::Done)
 }
 
-/// A grant of the host's to each of `count` guest frames from `gfn` on is taken back.
+/// Takes back one of the host's grants of each of `count` guest frames from `gfn` on.
 pub fn revoke_range(
     parts: &mut Parts,
     config: &Config,

@@ -1,4 +1,4 @@
-//! The calls that change a slot alone: it is registered, gets virtual processors, and its boot images are described.
+//! The calls that change only a slot: it is registered, gets virtual processors, and its boot images are described.
 ghost use Rattle.kc_types.specs.declared.call.Call.TheVariants.{RegisterVm, RegisterVcpu, SetBoot};
 ghost use Rattle.kc_core.specs.Applying.{IsAble, IsAnswer, reply_of};
 
@@ -6,7 +6,7 @@ use kc_parts::Parts;
 use kc_types::{Config, GFN_LIMIT, IMAGE_SIZE_LIMIT, Refusal, Reply, VcpuId};
 use kc_vms::pages_of;
 
-/// An empty slot becomes booting.
+/// Registers a VM: an empty slot becomes booting.
 pub fn register_vm(parts: &mut Parts, config: &Config, vm: u32) -> Result<Reply, Refusal>
     requires { IsAble config.now parts.old (RegisterVm vm) }
     ensures { IsAnswer config.now parts.old parts.new (RegisterVm vm) (reply_of result) }
@@ -19,7 +19,7 @@ pub fn register_vm(parts: &mut Parts, config: &Config, vm: u32) -> Result<Reply,
     Ok(Reply::Done)
 }
 
-/// A booting slot gets a virtual processor.
+/// Registers a virtual processor of a booting slot.
 pub fn register_vcpu(
     parts: &mut Parts,
     config: &Config,
@@ -40,7 +40,7 @@ pub fn register_vcpu(
     Ok(Reply::Done)
 }
 
-/// A booting slot gets a boot image of `len` bytes from guest frame `base` on, whose pages are still to come.
+/// Sets a boot image of `len` bytes from guest frame `base` on for a booting slot; its pages are still to come.
 pub fn set_boot(
     parts: &mut Parts,
     config: &Config,

@@ -48,7 +48,7 @@ fn page_under<'a>(parts: &'a Parts, table: &Stage2, gfn: u32) -> &'a Page
     parts.page(backing(table, gfn))
 }
 
-/// The bytes of a page of an image, by its number from the image's first page on.
+/// The bytes of a page of an image, by its number, counted from the image's first page.
 fn page_of<'a>(parts: &'a Parts, table: &Stage2, image: &Image, number: u32) -> &'a [u8]
     requires lawful { IsLawfulImage image.now }
     requires here { IsImageHere parts.now (finite.get table.now.mapped) image.now }
@@ -83,7 +83,7 @@ fn pages_of_four<'a>(
     ]
 }
 
-/// The digests of four images' bytes, of one length, side by side.
+/// The digests of the bytes of four images of one length, computed side by side.
 fn digests_of_four(parts: &Parts, table: &Stage2, images: &[Image]) -> [[u8; 32]; 4]
     requires four { AreFourAlike images.now }
     requires lawful { All IsLawfulImage images.now }
@@ -100,7 +100,7 @@ fn digests_of_four(parts: &Parts, table: &Stage2, images: &[Image]) -> [[u8; 32]
     measure.finish(pages_of_four(parts, table, images, last), used as usize)
 }
 
-/// The digest of an image's bytes, page by page.
+/// The digest of an image's bytes, computed page by page.
 fn digest_of(parts: &Parts, table: &Stage2, image: &Image) -> [u8; 32]
     requires lawful { IsLawfulImage image.now }
     requires here { IsImageHere parts.now (finite.get table.now.mapped) image.now }
@@ -230,8 +230,7 @@ fn lacks_pages(slot: &Vm) -> bool
     images.is_empty() || any_is_short(images)
 }
 
-/// The slot of this number, which is booting and has all pages of its images. A slot that is not here counts as
-/// empty.
+/// The slot of this number, if it is booting and has all pages of its images. A slot that is not here counts as empty.
 pub(crate) fn booted_slot(parts: &Parts, config: &Config, vm: u32) -> Result<VmId, Refusal>
     ensures answer { Answers result (refusal (state_of config.now parts.now) (Verify vm)) }
     ensures slot { IfOk result (λ slot. slot ≡ vm) }
@@ -253,16 +252,16 @@ pub(crate) fn booted_slot(parts: &Parts, config: &Config, vm: u32) -> Result<VmI
     }
 }
 
-/// The answer of `verify`, and the images that it measured.
+/// The reply to `verify`, and the images that it measured.
 #[derive(Drop)]
 pub struct Verified {
     pub reply: Reply,
-    /// Where the call was not refused the slot's images, by their numbers.
+    /// The slot's images, in the order of their numbers, if the call was not refused.
     pub images: ArrayVec<MeasuredImage, IMAGE_LIMIT>,
 }
 
 impl Verified {
-    /// The answer of a `verify` that is refused: it measured nothing.
+    /// The reply to a `verify` that is refused: it measured nothing.
     pub(crate) fn refused(refusal: Refusal) -> Verified
         ensures reply { result.reply ≡ Refused refusal }
         ensures images { result.images.items ≡ [] }
@@ -274,9 +273,9 @@ impl Verified {
     }
 }
 
-/// Measures the images of a slot, which is booting and has all their pages: it becomes active if all are approved,
-/// and dead if one is not. It stands apart from its judge, since what it needs of the slot is all of it: that no
-/// condition holds, and no one value that the judge could hand over.
+/// Measures the images of a slot, which is booting and has all their pages: it becomes active if all are approved, and
+/// dead if one is not. This is a function of its own, since it needs more of the slot than one value that the function
+/// that judges the call could return: that no condition for a refusal holds.
 fn measure_slot(parts: &mut Parts, config: &Config, vm: VmId) -> Verified
     requires served { refusal (state_of config.now parts.old) (Verify vm) ≡ None }
     requires able { IsAble config.now parts.old (Verify vm) }
@@ -302,7 +301,7 @@ fn measure_slot(parts: &mut Parts, config: &Config, vm: VmId) -> Verified
     }
 }
 
-/// The slot becomes active if all its images are approved, and dead if one is not.
+/// Verifies a slot: it becomes active if all its images are approved, and dead if one is not.
 #[inline(never)]
 pub fn verify(parts: &mut Parts, config: &Config, vm: u32) -> Result<Verified, Refusal>
     requires { IsAble config.now parts.old (Verify vm) }

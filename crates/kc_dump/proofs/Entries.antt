@@ -1,4 +1,4 @@
--- What a table maps, by its entries and by its look-ups.
+-- What a table maps, by its entries and by look-ups.
 use Rattle.std.proofs.Common.{ℕ, zero, suc, ◌≡◌, ◌<◌, inl, inr, Bool, true, false, ◌&&◌, ◌||◌, cond, List, [], ◌∷◌, length, get_or, Some, nat_eq, eq-eqb, refl, sym, ap, subst, ◌∙◌, arith}
 use Rattle.std.specs.Prelude.{◌↔◌, ◌==◌, T}
 use Rattle.std.specs.List.{list_any}
@@ -59,11 +59,11 @@ entry-find g f (e ∷ es) h = elim (cases_eq e.0 g) [
       )
 ]
 
--- an entry stands in the list of them exactly where the map answers so
+-- an entry is in the list exactly if looking it up in the map gives it
 pub entry-get : (m : FinMap nat_cmp ℕ) (g f : ℕ) → (list_any (λ (e : ℕ × ℕ). e.0 == g && e.1 == f) (entries m) ≡ true) ↔ (get m g ≡ Some f)
 entry-get m g f = rw (get-entries m g) (entry-find g f (entries m) (entries_sorted m))
 
--- an entry that is among them stands at a place
+-- the place of an entry in the list
 pub record EntryPlace (es : List (ℕ × ℕ)) (g f : ℕ) (d : ℕ × ℕ) : Type 0 where
   pub place : ℕ
   pub within : place < length es

@@ -39,7 +39,7 @@ pub sum-ones : (a : ℕ → ℕ) (n : ℕ) → ((f : ℕ) → a f ≤ 1) → sum
 sum-ones a zero one = omega arith
 sum-ones a (suc n) one = let rest = sum-ones a n one in let last = one n in omega (arith, rest, last)
 
--- where no number has more in the first, and the sum is no less, each has as much
+-- if the first function is nowhere larger, and its sum is no less, the two are equal at each number
 pub sum-tight : (a b : ℕ → ℕ) (n : ℕ) → ((f : ℕ) → a f ≤ b f) → sum_below b n ≤ sum_below a n → (f : ℕ) → f < n → a f ≡ b f
 sum-tight a b zero most tight f low = absurd (omega (arith, low))
 sum-tight a b (suc n) most tight f low =
@@ -52,7 +52,7 @@ sum-tight a b (suc n) most tight f low =
           let same : a n ≡ b n = omega (arith, rest, last, tight) in ap a here ∙ same ∙ ap b (sym here)
     ]
 
--- a list is as long as its numbers stand in it
+-- the length of a list is the sum of how often each number is in it
 pub sum-times : (fs : List ℕ) (n : ℕ) → ((f : ℕ) → 0 < times_in fs f → f < n) → sum_below (times_in fs) n ≡ length fs
 sum-times [] n low = sum-none (times_in []) n (λ f l. refl)
 sum-times (x ∷ xs) n low =

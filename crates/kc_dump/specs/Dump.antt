@@ -12,14 +12,16 @@ use Rattle.kc_types.specs.declared.slot.Phase.TheVariants.{Empty}
 use Rattle.kc_links.specs.Chain.{Links}
 use Rattle.kc_dump.specs.declared.line.FrameLine.{FrameLine}
 
--- a slot: `list` are the ends of its list, `leaves` its root slots in order taken, `entries` its guest frames with their frames, by rising guest frame
+-- a slot: `list` has the ends of its list, `leaves` its root slots in the order in which they took leaves, `entries`
+-- its guest frames with their frames, by ascending guest frame
 pub record SlotDump : Type 0 where
   pub phase : Phase
   pub list : Ends
   pub leaves : List ℕ
   pub entries : List (ℕ × ℕ)
 
--- the version is the configuration's; the first `core` frames are the core's, a table has at most `leaves` leaves, `free` are the ends of the free list
+-- the version is the configuration's; the first `core` frames are the core's, a table has at most `leaves` leaves, and
+-- `free` has the ends of the free list
 pub record Dumped : Type 0 where
   pub version : Version
   pub core : ℕ
@@ -28,7 +30,7 @@ pub record Dumped : Type 0 where
   pub slots : List SlotDump
   pub frames : List FrameLine
 
--- what stands under a number past the last frame
+-- the line of a frame past the last one
 abbrev pub absent_line : FrameLine
 absent_line = record { owner = Core; share = 0; gfn = None; present = false; prev = None; next = None; digest = [] }
 

@@ -7,11 +7,11 @@ use Rattle.kc_links.specs.Ending.{Chain}
 use Rattle.kc_dump.specs.declared.line.FrameLine.{FrameLine}
 use Rattle.kc_dump.specs.Dump.{line_owner, line_links}
 
--- 1 for a frame of the owner, and else 0
+-- 1 for a frame of the owner, and otherwise 0
 abbrev pub owned : List FrameLine → Owner → ℕ → ℕ
 owned lines owner f = if same_owner (line_owner lines f) owner then 1 else 0
 
--- ends and links spell the sequence, forwards and backwards, and it holds each frame of the owner once, and no other
+-- ends and links spell the sequence, forwards and backwards, and it has each frame of the owner once, and no other
 pub record Spells (lines : List FrameLine) (owner : Owner) (ends : Ends) (frames : List ℕ) : Type 0 where
   pub chain : Chain (line_links lines) ends frames
   pub each : (f : ℕ) → times_in frames f ≡ owned lines owner f

@@ -1,4 +1,4 @@
--- Which numbers a dump holds.
+-- Which numbers a dump may have.
 use Rattle.std.specs.Prelude.{ℕ, suc, ◌≡◌, ◌<◌, ◌≤◌, ◌==◌, ◌&&◌, nat_lt, nat_le, Bool, true, length, Option, Some, None, slice_index_or}
 use Rattle.std.specs.List.{list_all}
 use Rattle.kc_types.specs.Limits.{byte_limit, leaf_limit, leaf_entries, gfn_limit, share_limit}
@@ -10,12 +10,12 @@ use Rattle.kc_types.specs.declared.owner.Owner.TheVariants.{Core, Host, Free, Vm
 use Rattle.kc_dump.specs.declared.line.FrameLine.{FrameLine}
 use Rattle.kc_dump.specs.Dump.{Dumped, line_at, slot_dump_at}
 
--- there is none, or it is below the limit
+-- there is no number, or it is below the limit
 abbrev pub is_below : ℕ → Option ℕ → Bool
 is_below limit None = true
 is_below limit (Some n) = nat_lt n limit
 
--- the ends of a list in a dump of so many frames
+-- the ends of a list in a dump of this many frames
 abbrev pub are_ends : ℕ → Ends → Bool
 are_ends frames ends = is_below frames ends.head && is_below frames ends.tail && nat_le ends.count frames
 
@@ -35,7 +35,7 @@ is_frame version frames frame =
     is_owner version frame.owner && nat_le frame.share share_limit && is_below gfn_limit frame.gfn && is_below frames frame.prev && is_below frames frame.next
     && length frame.digest == 32 && list_all (λ b. nat_lt b 256) frame.digest
 
--- what every dump keeps
+-- what holds of every dump
 pub record IsDump (d : Dumped) : Type 0 where
   pub some_frames : 0 < length d.frames
   pub few_frames : length d.frames ≤ most_frames d.version
@@ -45,10 +45,10 @@ pub record IsDump (d : Dumped) : Type 0 where
   pub slots : length d.slots ≡ slots_of d.version
   pub free : are_ends (length d.frames) d.free ≡ true
   pub lists : (v : ℕ) → v < length d.slots → are_ends (length d.frames) (slot_dump_at d v).list ≡ true
-  -- a slot may show more leaves than its table can have, but no more than a text of a gigabyte names
+  -- a slot may show more leaves than its table can have, but no more than a text of a gigabyte can name
   pub leaves : (v : ℕ) → length (slot_dump_at d v).leaves ≤ byte_limit
   pub roots : (v n : ℕ) → v < length d.slots → n < length (slot_dump_at d v).leaves → slice_index_or (slot_dump_at d v).leaves n 0 < leaf_entries
   pub entries : (v n : ℕ) → v < length d.slots → n < length (slot_dump_at d v).entries → is_entry d.version (length d.frames) v (slice_index_or (slot_dump_at d v).entries n (0, 0)) ≡ true
-  -- by rising guest frame
+  -- by ascending guest frame
   pub rising : (v n : ℕ) → v < length d.slots → suc n < length (slot_dump_at d v).entries → (slice_index_or (slot_dump_at d v).entries n (0, 0)).0 < (slice_index_or (slot_dump_at d v).entries (suc n) (0, 0)).0
   pub frames : (f : ℕ) → f < length d.frames → is_frame d.version (length d.frames) (line_at d.frames f) ≡ true

@@ -10,7 +10,7 @@ use Rattle.kc_dump.specs.declared.line.FrameLine.{FrameLine}
 use Rattle.kc_dump.specs.Dump.{Dumped, SlotDump, line_at, line_owner, line_link, slot_dump_at, empty_dump, maps}
 use Rattle.kc_dump.specs.Lists.{HasList}
 
--- what the frame of this number keeps by itself
+-- what holds of the frame of this number alone
 pub record IsSoundFrame (core : ℕ) (f : ℕ) (line : FrameLine) : Type 0 where
   -- the core owns the first frames and no other
   pub placed : (line.owner ≡ Core) ↔ (f < core)
@@ -24,7 +24,7 @@ pub record IsSoundFrame (core : ℕ) (f : ℕ) (line : FrameLine) : Type 0 where
   pub reached : IsTrue line.present → (line.owner ≡ Host) ⊎ (0 < line.share)
   pub zeroed : line.owner ≡ Free → line.digest ≡ sha256 zero_page
 
--- what one slot keeps by itself
+-- what holds of one slot alone
 pub record IsSoundSlot (leaves : ℕ) (slot : SlotDump) : Type 0 where
   pub few_leaves : length slot.leaves ≤ leaves
   pub leaves_once : (root : ℕ) → times_in slot.leaves root ≤ 1
@@ -35,8 +35,8 @@ pub record IsSoundSlot (leaves : ℕ) (slot : SlotDump) : Type 0 where
 pub record IsSound (d : Dumped) : Type 0 where
   pub each_frame : (f : ℕ) → f < length d.frames → IsSoundFrame d.core f (line_at d.frames f)
   pub each_slot : (v : ℕ) → v < length d.slots → IsSoundSlot d.leaves (slot_dump_at d v)
-  -- ends and links spell the lists of the free frames and of each slot's
+  -- ends and links spell the lists of the free frames and of each slot's frames
   pub free : HasList d.frames Free d.free
   pub listed : (v : ℕ) → v < length d.slots → HasList d.frames (Vm v) (slot_dump_at d v).list
-  -- a table maps a guest frame to a frame exactly where the frame says so
+  -- a table maps a guest frame to a frame exactly if the frame says so
   pub mapped : (v g f : ℕ) → (maps (slot_dump_at d v) g f ≡ true) ↔ ((line_owner d.frames f ≡ Vm v) × ((line_at d.frames f).gfn ≡ Some g))

@@ -30,7 +30,7 @@ impl Model for Dump {
 }
 
 impl Dump {
-    /// A dump of these parts, whose numbers are in range.
+    /// Makes a dump of these parts, whose numbers are in range.
     pub fn new(
         version: Version,
         core: u32,
@@ -59,14 +59,14 @@ impl Dump {
         self.version
     }
 
-    /// How many frames are the core's, the first ones.
+    /// The number of the core's frames, which are the first.
     pub fn core(&self) -> u32
         ensures { result ≡ self.now.core }
     {
         self.core
     }
 
-    /// How many leaves a table can have.
+    /// The most leaves that a table can have.
     pub fn leaves(&self) -> u32
         ensures { result ≡ self.now.leaves }
     {
@@ -80,7 +80,7 @@ impl Dump {
         &self.free
     }
 
-    /// The VM slots, by their numbers: 16, in version 2 64.
+    /// The VM slots, in the order of their numbers: 16 (in version 2, 64).
     pub fn slots(&self) -> &[SlotDump]
         ensures value { result.now ≡ self.now.slots }
         ensures few { length self.now.slots ≤ slot_limit }
@@ -89,7 +89,7 @@ impl Dump {
         self.slots.as_slice()
     }
 
-    /// The frames, by their numbers: at most 8,192, in version 2 65,536.
+    /// The frames, in the order of their numbers: at most 8,192 (in version 2, 65,536).
     pub fn frames(&self) -> &[FrameLine]
         ensures value { result.now ≡ self.now.frames }
         ensures few { length self.now.frames ≤ frame_limit }

@@ -1,4 +1,4 @@
-//! What a dump says of one frame.
+//! What a dump says about one frame.
 use kc_types::{FrameNo, Gfn, Owner};
 
 /// The record of a frame, and the SHA-256 digest (FIPS 180-4) of its page.

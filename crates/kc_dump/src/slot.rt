@@ -1,11 +1,11 @@
-//! What a dump says of one VM slot.
+//! What a dump says about one VM slot.
 ghost use Rattle.std.specs.Prelude.{◌≡◌, ◌++◌, ◌∷◌, [], OnOk};
 
 use kc_types::{Ends, FrameNo, Gfn, Memory, Phase};
 use std::marker::Model;
 
 /// A VM slot: its phase, the ends of the list of its frames, the root slots of its table that have leaves, in the
-/// order in which they took them, and its mapped guest frames with their frames, rising.
+/// order in which they took them, and its mapped guest frames with their frames, ascending.
 #[derive(Debug, Drop)]
 pub struct SlotDump {
     phase: Phase,
@@ -25,7 +25,7 @@ impl Model for SlotDump {
 impl SlotDump {
     ghost use Rattle.kc_dump.specs.Dump.{SlotDump as Value_of_slot};
 
-    /// A slot of these.
+    /// Makes a slot of these parts.
     pub fn new(phase: Phase, list: Ends, leaves: Vec<u32>, entries: Vec<(Gfn, FrameNo)>) -> SlotDump
         ensures { result ≡ record { phase = phase; list = list; leaves = leaves.items; entries = entries.items } }
     {
@@ -58,14 +58,14 @@ impl SlotDump {
         self.leaves.as_slice()
     }
 
-    /// The mapped guest frames with their frames, rising.
+    /// The mapped guest frames with their frames, ascending.
     pub fn entries(&self) -> &[(Gfn, FrameNo)]
         ensures { result.now ≡ self.now.entries }
     {
         self.entries.as_slice()
     }
 
-    /// One more root slot that has a leaf.
+    /// Adds a root slot that has a leaf.
     pub fn push_leaf(&mut self, root: u32) -> Result<(), Memory>
         ensures { OnOk result (self.new ≡ record self.old { leaves = self.old.leaves ++ root ∷ [] }) }
     {
@@ -73,7 +73,7 @@ impl SlotDump {
         Ok(())
     }
 
-    /// One more mapped guest frame, with its frame.
+    /// Adds a mapped guest frame with its frame.
     pub fn push_entry(&mut self, gfn: Gfn, frame: FrameNo) -> Result<(), Memory>
         ensures { OnOk result (self.new ≡ record self.old { entries = self.old.entries ++ (gfn, frame) ∷ [] }) }
     {

@@ -1,4 +1,4 @@
--- The lines of a dump may come one behind the other, and lines that may are those of a dump in range.
+-- The lines of a dump may follow one another, and lines that may are those of a dump in range.
 use Rattle.std.proofs.Common.{ℕ, zero, suc, ◌≡◌, ◌<◌, ◌≤◌, ◌+◌, Bool, true, ◌&&◌, ◌||◌, nat_lt, nat_le, List, [], ◌∷◌, ◌++◌, length, get_or, refl, sym, subst, ◌∙◌, append_assoc, arith, inl, inr, eq-eqb}
 use Rattle.std.specs.Prelude.{◌==◌, ◌⊎◌}
 use Rattle.std.specs.List.{list_all}
@@ -23,7 +23,7 @@ end-both place [] ys = refl
 end-both place (x ∷ xs) ys = end-both (behind place x) xs ys
 
 module _ (version : Version) (n : ℕ) where
-  -- the parts of what may come
+  -- what holds of a line that may come
   pub record May (place : Place) (l : DumpLine) : Type 0 where
     pub order : place.section ≤ section l
     pub next : comes version place l ≡ true
@@ -65,7 +65,7 @@ module _ (version : Version) (n : ℕ) where
       and_from _ _ (may-from place (vm_of place.vm x) (omega (arith, order)) (eq-eqb _ _ refl) (and_from _ _ (lt-ltb place.vm (slots_of version) (omega (arith, few))) (each 0 (omega arith))))
       (vms-chain (behind place (vm_of place.vm x)) xs r order (omega (arith, few)) (λ k low. each (suc k) (omega (arith, low))) (subst (λ v. chain version n (record place { vm = v }) r ≡ true) (let e : place.vm + suc (length xs) ≡ place.vm + 1 + length xs = omega arith in e) next))
 
-  -- the lines of each slot, of which those of one may come behind those of the slots before
+  -- the lines of each slot, where those of one slot may come after those of the slots before it
   gather-chain : {X : Type 0} (pick : SlotDump → List X) (make : ℕ → ℕ → X → DumpLine) (Ready : ℕ → Place → Type 0) (Slot : ℕ → SlotDump → Type 0)
       → ((v : ℕ) (slot : SlotDump) (place : Place) (r : List DumpLine) → Slot v slot → Ready v place → ((q : Place) → Ready (v + 1) q → chain version n q r ≡ true) → chain version n place (made (make v) 0 (pick slot) ++ r) ≡ true)
       → (v : ℕ) (slots : List SlotDump) (place : Place) (r : List DumpLine) → ((k : ℕ) → k < length slots → Slot (v + k) (get_or slots k empty_dump)) → Ready v place → ((w : ℕ) (q : Place) → Ready w q → chain version n q r ≡ true) → chain version n place (gather pick make v slots ++ r) ≡ true
@@ -75,7 +75,7 @@ module _ (version : Version) (n : ℕ) where
       (one v slot place (gather pick make (v + 1) slots ++ r) (subst (λ w. Slot w slot) (let e : v + 0 ≡ v = omega arith in e) (each 0 (omega arith))) ready
       (λ q h. gather-chain pick make Ready Slot one (v + 1) slots q r (λ k low. subst (λ w. Slot w (get_or slots k empty_dump)) (let e : v + suc k ≡ v + 1 + k = omega arith in e) (each (suc k) (omega (arith, low)))) h next))
 
-  -- behind all slots, and so many leaves of this one
+  -- after all slots, and this many leaves of this one
   abbrev leaf_place : ℕ → ℕ → ℕ → Place
   leaf_place s u k = record start { section = s; vm = slots_of version; leaf = (u, k) }
 
@@ -87,7 +87,7 @@ module _ (version : Version) (n : ℕ) where
       and_from _ _ (may-from (leaf_place s u k) (LeafOf v i x) order (and_from _ _ (eq-eqb (slots_of version) (slots_of version) refl) place) (and_from _ _ (and_from _ _ (lt-ltb v (slots_of version) low) (lt-ltb i byte_limit (omega (arith, few)))) (lt-ltb x leaf_entries (each 0 (omega arith)))))
       (leaf-run v (i + 1) 1 v (i + 1) xs r (omega arith) low (omega (arith, few)) (λ j l. each (suc j) (omega (arith, l))) (inr (refl, refl)) next)
 
-  -- behind all slots, with no frame yet
+  -- after all slots, with no frame yet
   abbrev Open : Place → Type 0
   Open place = (place.section ≤ 2) × (place.vm ≡ slots_of version) × (place.frame ≡ 0)
 
@@ -102,7 +102,7 @@ module _ (version : Version) (n : ℕ) where
 
   -- ---- and lines that are a chain are in range
 
-  -- entries of a slot rise
+  -- entries of a slot ascend
   run-rising : (v i : ℕ) (place : Place) (xs : List (ℕ × ℕ)) (r : List DumpLine) → chain version n place (made (λ i e. EntryOf v e) i xs ++ r) ≡ true → (k : ℕ) → suc k < length xs → (get_or xs k (0, 0)).0 < (get_or xs (suc k) (0, 0)).0
   run-rising v i place [] r e k low = absurd (omega (arith, low))
   run-rising v i place (x ∷ []) r e k low = absurd (omega (arith, low))

@@ -1,4 +1,4 @@
--- A text has the lines of one dump at most, and no dump's text is refused.
+-- A text has the lines of at most one dump, and the text of a dump is never refused.
 use Rattle.std.proofs.Common.{ℕ, zero, suc, ◌≡◌, ◌<◌, ◌≤◌, ◌+◌, cond, List, [], ◌∷◌, ◌++◌, length, get_or, Option, Some, None, refl, sym, ap, ◌∙◌, arith, eq-eqb, true, subst, append_assoc}
 use Rattle.std.specs.Prelude.{◌==◌, Result, Ok, Err, MatchResult}
 use Rattle.std.specs.List.{filter_map, flat_map, list_all}
@@ -26,7 +26,7 @@ use Rattle.kc_dump_text.specs.Begun.{first_line, IsTextOf, IsStuck}
 use Rattle.kc_dump_text.proofs.ReadLines.{first-spelled, line-bytes}
 use Rattle.kc_dump_text.proofs.Chains.{all-front, few-of, dump-range}
 
--- what a line says of this slot, and of a frame
+-- what a line says about this slot, and about a frame
 abbrev front : ℕ → DumpLine → Option (Phase × Ends)
 front v (VmOf w phase ends) = cond (w == v) (Some (phase, ends)) None
 front v _ = None
@@ -56,7 +56,7 @@ gather-none h pick make v [] none = refl
 gather-none h pick make v (slot ∷ slots) none =
     filter_map-append h (made (make v) 0 (pick slot)) (gather pick make (v + 1) slots) ∙ rw (made-none h (make v) 0 (pick slot) (λ i x. none v i x (omega arith)), gather-none h pick make (v + 1) slots (λ w i x low. none w i x (omega (arith, low)))) refl
 
--- of the lines of all slots those of one
+-- among the lines of all slots, those of one
 gather-one : {X : Type 0} (h : DumpLine → Option X) (pick : SlotDump → List X) (make : ℕ → ℕ → X → DumpLine) (v k : ℕ) (slots : List SlotDump) → ((w i : ℕ) (x : X) → h (make w i x) ≡ cond (w == v + k) (Some x) None) → k < length slots
     → filter_map h (gather pick make v slots) ≡ pick (get_or slots k empty_dump)
 gather-one h pick make v k [] one low = absurd (omega (arith, low))
@@ -67,7 +67,7 @@ gather-one h pick make v (suc k) (slot ∷ slots) one low =
     filter_map-append h (made (make v) 0 (pick slot)) (gather pick make (v + 1) slots)
     ∙ rw (made-none h (make v) 0 (pick slot) (λ i x. one v i x ∙ rw (ne_eqb v (v + suc k) (λ e. omega (arith, e))) refl)) (gather-one h pick make (v + 1) k slots (λ w i x. one w i x ∙ ap (λ n. cond (w == n) (Some x) None) (let e : v + suc k ≡ v + 1 + k = omega arith in e)) (omega (arith, low)))
 
--- the lines of slots as what each has once
+-- the lines of slots, as those of something that each slot has once
 fronts : (v : ℕ) (slots : List SlotDump) → made vm_of v slots ≡ gather {X = Phase × Ends} (λ slot. (slot.phase, slot.list) ∷ []) (λ w i f. VmOf w f.0 f.1) v slots
 fronts v [] = refl
 fronts v (slot ∷ slots) = ap (λ (ls : List DumpLine). vm_of v slot ∷ ls) (fronts (v + 1) slots)
@@ -110,7 +110,7 @@ lines-one d e version long lines =
     λ i. record { phase = (fronts i).0; list = (fronts i).1; leaves = roots i; entries = entries i }) in
     λ i. record { version = version i; core = core i; leaves = leaves i; free = free i; slots = slots i; frames = frames i }
 
--- lines whose text another's begins with are its first lines
+-- if a text begins with the text of these lines, the lines are its first
 follow : (v w : Version) (m n : ℕ) → m ≤ frame_limit → n ≤ frame_limit → (xs ys : List DumpLine) (r : List ℕ) → list_all (in_range v m) xs ≡ true → list_all (in_range w n) ys ≡ true → flat_map spell xs ++ r ≡ flat_map spell ys → (zs : List DumpLine) × (ys ≡ xs ++ zs) × (r ≡ flat_map spell zs)
 follow v w m n few less [] ys r a b e = (ys, refl, e)
 follow v w m n few less (x ∷ xs) [] r a b e = (let low = line-bytes x (flat_map spell xs ++ r) [] (sym e ∙ append_assoc (spell x) (flat_map spell xs) r) in absurd (omega (arith, low)))
@@ -123,7 +123,7 @@ follow v w m n few less (x ∷ xs) (y ∷ ys) r a b e =
     let rest = follow v w m n few less xs ys r p.1 q.1 (append_cancel_left (spell x) (flat_map spell xs ++ r) (flat_map spell ys) (other ∙ ap (λ (l : DumpLine). spell l ++ flat_map spell ys) (sym same))) in
     (rest.0, ap (λ (l : DumpLine). l ∷ ys) (sym same) ∙ ap (λ (ls : List DumpLine). x ∷ ls) rest.1, rest.2)
 
--- a text has one header at most
+-- a text has at most one header
 header-same : (v w : Version) (a b : List ℕ) → dump_header v ++ a ≡ dump_header w ++ b → (v ≡ w) × (a ≡ b)
 header-same One One a b e = (refl, append_cancel_left (dump_header One) a b e)
 header-same Two Two a b e = (refl, append_cancel_left (dump_header Two) a b e)
@@ -141,14 +141,14 @@ not-stopped version text rest d fault is e s =
     let f = follow b.0.version d.version _ _ (few-of b.0 b.2.range) (few-of d is.range) s.lines (dump_lines d) s.rest (all-front _ s.lines b.1 (subst (λ ls. list_all (in_range b.0.version (length b.0.frames)) ls ≡ true) b.2.spelled (dump-range b.0 b.2.range))) (dump-range d is.range) (sym s.stops.whole ∙ sym h.1) in
     s.stops.stuck d f.0 (record { range = is.range; same = h.0; spelled = f.1 }) (starts s.rest f.0 f.2)
 
--- no text of a dump is refused
+-- the text of a dump is never refused
 pub not-refused : (text : List ℕ) (d : Dumped) (fault : DumpFault) → length text ≤ byte_limit → IsDumpText text d → IsRefusedDump text fault → fault ≡ Memory
 not-refused text d NoHeader short is r = absurd (r d.version (flat_map spell (dump_lines d)) is.whole)
 not-refused text d Memory short is r = refl
 not-refused text d (BadLine n) short is r = absurd (not-stopped r.0 text r.1 d (BadLine n) is r.2 r.3)
 not-refused text d (Frame f) short is r = absurd (not-stopped r.0 text r.1 d (Frame f) is r.2 r.3)
 
--- a text is one dump's at most
+-- a text is that of at most one dump
 pub one-dump : (text : List ℕ) (d e : Dumped) → length text ≤ byte_limit → IsDumpText text d → IsDumpText text e → d ≡ e
 one-dump text d e short is other =
     let h = header-same d.version e.version (flat_map spell (dump_lines d)) (flat_map spell (dump_lines e)) (sym is.whole ∙ other.whole) in
@@ -159,7 +159,7 @@ one-dump text d e short is other =
     nothing-more [] e = refl
     nothing-more (l ∷ zs) e = (let low = line-bytes l (flat_map spell zs) [] e in absurd (omega (arith, low)))
 
--- ---- behind the header
+-- ---- after the header
 
 pub whole-text : (version : Version) (text rest : List ℕ) (d : Dumped) → text ≡ dump_header version ++ rest → IsTextOf version rest d → IsDumpText text d
 whole-text version text rest d e w = record { whole = e ∙ ap (λ (l : List ℕ). dump_header version ++ l) w.whole ∙ ap (λ v. dump_header v ++ flat_map spell (dump_lines d)) (sym w.same); range = w.range }
@@ -170,7 +170,7 @@ refused version text rest Memory e h = tt
 refused version text rest (BadLine n) e h = (version, rest, e, h)
 refused version text rest (Frame f) e h = (version, rest, e, h)
 
--- what is read behind it is what is read of the whole
+-- what is read after the header is what is read of the whole
 pub read-found : (version : Version) (text rest : List ℕ) (result : Result Dumped DumpFault) → text ≡ dump_header version ++ rest → MatchResult result (λ d. IsTextOf version rest d) (λ fault. IsStuck version rest fault) → MatchResult result (λ d. IsDumpText text d) (λ fault. IsRefusedDump text fault)
 read-found version text rest (Ok d) e h = whole-text version text rest d e h
 read-found version text rest (Err fault) e h = refused version text rest fault e h

@@ -1,4 +1,4 @@
--- One line more of a dump begun.
+-- One more line of a begun dump.
 use Rattle.std.proofs.Common.{ℕ, zero, suc, ◌≡◌, ◌<◌, ◌≤◌, ◌+◌, Bool, true, ◌&&◌, nat_lt, nat_le, List, [], ◌∷◌, ◌++◌, length, get_or, set, refl, sym, ap, ◌∙◌, append_assoc, arith, inl, inr, length-append}
 use Rattle.std.specs.Prelude.{◌==◌}
 use Rattle.std.specs.List.{flat_map}
@@ -20,7 +20,7 @@ made-push : {X : Type 0} (make : ℕ → X → DumpLine) (i : ℕ) (xs : List X)
 made-push make i [] x = ap (λ n. make n x ∷ []) (let e : i ≡ i + 0 = omega arith in e)
 made-push make i (y ∷ xs) x = ap (λ (l : List DumpLine). make i y ∷ l) (made-push make (i + 1) xs x ∙ ap (λ n. made make (i + 1) xs ++ make n x ∷ []) (let e : i + 1 + length xs ≡ i + suc (length xs) = omega arith in e))
 
--- from this slot on they have none
+-- the slots from this one on have none
 abbrev Bare : {X : Type 0} → (SlotDump → List X) → ℕ → List SlotDump → Type 0
 Bare pick n slots = (k : ℕ) → n ≤ k → pick (get_or slots k empty_dump) ≡ []
 
@@ -62,12 +62,12 @@ vms-same v (suc k) (slot ∷ slots) new low same = rw (vms-same (v + 1) k slots 
 kept : {X : Type 0} (pick : SlotDump → List X) (slots : List SlotDump) (w : ℕ) (new : SlotDump) (j : ℕ) → w < length slots → pick new ≡ pick (get_or slots w empty_dump) → pick (get_or (set slots w new) j empty_dump) ≡ pick (get_or slots j empty_dump)
 kept pick slots w new j low same = elim (cases_eq j w) [ inl e ↦ rw (e, get_or-set_same slots w new empty_dump low) same | inr e ↦ ap pick (get_or-set_other slots w j new empty_dump e) ]
 
--- where there are no leaves and no entries
+-- there are no leaves and no entries
 bare-tables : (slots : List SlotDump) (lines : List DumpLine) → NoLeaves 0 slots → NoEntries 0 slots → made vm_of 0 slots ++ (leaves_of 0 slots ++ (entries_of 0 slots ++ lines)) ≡ made vm_of 0 slots ++ lines
 bare-tables slots lines leaves entries = rw (gather-bare (λ (s : SlotDump). s.leaves) LeafOf 0 slots leaves, gather-bare (λ (s : SlotDump). s.entries) (λ v i e. EntryOf v e) 0 slots entries) refl
 
 module _ (version : Version) (n : ℕ) where
-  -- a line that comes names a slot that is there
+  -- a line that may come names a slot that exists
   pub has-slot : (d : Dumped) (place : Place) (l : DumpLine) → IsAt d place → may version n place l ≡ true → HasSlot d.slots l
   has-slot d place (SizeOf f c k) here is = tt
   has-slot d place (FreeOf ends) here is = tt
@@ -153,7 +153,7 @@ module _ (version : Version) (n : ℕ) where
       let end_place = ap (end start) a.1 ∙ end-both start (rest_of d) (l ∷ []) ∙ ap (λ p. behind p l) b.behind in
       (record { same = b.same; sizes = b.sizes; free = b.free; chain = chain; behind = end_place; right = place-more place l b.right (may-parts version n place l is); here = a.0 }, ap (λ (ls : List DumpLine). SizeOf n d.core d.leaves ∷ FreeOf d.free ∷ ls) a.1)
 
--- one line more of the text
+-- one more line of the text
 pub reads-more : (n : ℕ) (d0 d e : Dumped) (l : DumpLine) (text rest more : List ℕ) → begun_lines n e ≡ begun_lines n d ++ l ∷ [] → ReadsOn n d0 text d rest → rest ≡ spell l ++ more → ReadsOn n d0 text e more
 reads-more n d0 d e l text rest more grown reads cut = reads ∙ ap (λ (s : List ℕ). flat_map spell (begun_lines n d) ++ s) cut ∙ again (flat_map spell (begun_lines n d)) ∙ sym (ap (λ (ls : List DumpLine). flat_map spell ls ++ more) grown ∙ ap (λ (s : List ℕ). s ++ more) (flat_map-append spell (begun_lines n d) (l ∷ [])))
   where

@@ -55,7 +55,7 @@ pub all-bytes : (xs : List ℕ) → ((k : ℕ) → get_or xs k 0 < 256) → list
 all-bytes [] h = refl
 all-bytes (x ∷ xs) h = and_from _ _ (lt-ltb x 256 (h 0)) (all-bytes xs (λ k. h (suc k)))
 
--- each line with numbers in range, in a dump of so many frames
+-- each line with numbers in range, in a dump of this many frames
 module _ (version : Version) (n : ℕ) (few : n ≤ frame_limit) where
   ends-to : (ends : Ends) → are_ends n ends ≡ true → Reads (list_all is_word) ends_of (ends_words ends) ends
   ends-to ends is =
@@ -160,7 +160,7 @@ first-spelled version n l rest few is = ap first_line (spelled-cut l rest) ∙ r
 pub read-first : (bytes rest : List ℕ) (l : DumpLine) → line_read bytes ≡ Some l → bytes ++ 10 ∷ rest ≡ spell l ++ rest
 read-first bytes rest l read = ap (λ (b : List ℕ). b ++ 10 ∷ rest) (line-from bytes l read) ∙ sym (spelled-cut l rest)
 
--- a line has a byte at least
+-- a line has at least one byte
 pub line-bytes : (l : DumpLine) (rest text : List ℕ) → text ≡ spell l ++ rest → length rest < length text
 line-bytes l rest text e = let a = ap length (e ∙ spelled-cut l rest) in let b = length-append (bare l) (10 ∷ rest) in omega (arith, a, b)
 

@@ -30,7 +30,7 @@ pub record Reads {W X : Type 0} (test : W → Bool) (read : W → Option X) (wor
   pub passes : test word ≡ true
   pub found : read word ≡ Some x
 
--- what is read, behind what was read before, is what is spelled
+-- what is read, after what was read before, is what is spelled
 pub record From {W X : Type 0} (spelled : X → W) (before : W → W) (read : W → Option X) : Type 0 where
   pub same : (word : W) (x : X) → read word ≡ Some x → before word ≡ spelled x
 
@@ -43,7 +43,7 @@ mapped-from {W} {X} {Y} {part} {spelled} {before} {read} f is from = record { sa
 pub nothing-from : {W X : Type 0} {spelled : X → W} {before : W → W} → From spelled before nothing
 nothing-from = record { same = λ word x e. absurd cc }
 
--- what the rest reads is not the name, where the rest does not read the name
+-- what the rest reads is not the name, if the rest does not read the name
 choose-to : {X : Type 0} {rest : List ℕ → Option X} {word : List ℕ} {x : X} (name : List ℕ) (made : X) → rest name ≡ None → Reads is_word rest word x → Reads is_word (choose name made rest) word x
 choose-to {X} {rest} {word} {x} name made none h =
     elim (cases_Bool (bytes_eq word name)) [ inl is ↦ let same = name_is word name is in let found : rest name ≡ Some x = rw same at h.found in absurd cc | inr other ↦ record { passes = h.passes; found = rw other h.found } ]

@@ -8,7 +8,7 @@ use Rattle.kc_dump_text.specs.DumpText.{dump_header, spell, made, gather, vm_of,
 use Rattle.kc_dump_text.specs.declared.dump_line.DumpLine.{DumpLine}
 use Rattle.kc_dump_text.specs.declared.dump_line.DumpLine.TheVariants.{SizeOf, FreeOf, FrameOf}
 
--- the lines of one slot more
+-- the lines of one more slot
 pub slot-more : {X : Type 0} (pick : SlotDump → List X) (make : ℕ → ℕ → X → DumpLine) (slots : List SlotDump) (v : ℕ) (slot : SlotDump) (text before more : List ℕ) → v < length slots → slot ≡ get_or slots v slot → before ++ flat_map spell (gather pick make v (drop v slots)) ≡ text
     → more ≡ before ++ flat_map spell (made (make v) 0 (pick slot)) → more ++ flat_map spell (gather pick make (v + 1) (drop (v + 1) slots)) ≡ text
 slot-more pick make slots v slot text before more lt is begun grown =

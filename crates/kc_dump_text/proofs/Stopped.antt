@@ -1,4 +1,4 @@
--- Where no line may come, no dump goes on.
+-- If no line may come, no dump goes on.
 use Rattle.std.proofs.Common.{ℕ, zero, suc, ◌≡◌, ◌<◌, ◌≤◌, ◌+◌, ◌-◌, Bool, true, false, ◌&&◌, nat_lt, List, [], ◌∷◌, ◌++◌, length, replicate, Some, refl, sym, ap, subst, ◌∙◌, append_assoc, arith, inl, inr, eq-eqb}
 use Rattle.std.specs.Prelude.{◌==◌, ◌⊎◌, not}
 use Rattle.std.specs.List.{flat_map, list_all, filter_map}
@@ -26,7 +26,7 @@ use Rattle.kc_dump_text.proofs.Chains.{may-parts, may-from, chain-range, chain-b
 use Rattle.kc_dump_text.proofs.Growing.{begun-more}
 use Rattle.kc_dump_text.proofs.Followed.{frame, frames-picked}
 
--- ---- each dump begun is the beginning of a dump
+-- ---- each begun dump is the beginning of a dump
 
 -- a frame of the core, all zeros
 abbrev zero-frame : FrameLine
@@ -36,7 +36,7 @@ module _ (version : Version) (n : ℕ) where
   abbrev pub Goes : List DumpLine → Type 0
   Goes lines = (d : Dumped) × (next : List DumpLine) × GoesOn version lines d next
 
-  -- with one line more, and what follows that
+  -- one more line, and what follows it
   more : (d : Dumped) (place : Place) (l : DumpLine) → IsBegun version n d place → may version n place l ≡ true → (IsBegun version n (with_line d l) (behind place l) → Goes (begun_lines n (with_line d l))) → (e : Dumped) × (next : List DumpLine) × GoesOn version (begun_lines n d) e (l ∷ next)
   more d place l b is rest =
       let a = begun-more version n d place l b is in
@@ -46,7 +46,7 @@ module _ (version : Version) (n : ℕ) where
   zero-may : (d : Dumped) (place : Place) → IsBegun version n d place → place.vm ≡ slots_of version → place.frame < n → may version n place (FrameOf place.frame zero-frame) ≡ true
   zero-may d place b all low = may-from version n place (FrameOf place.frame zero-frame) b.right.order (and_from _ _ (eq-eqb _ _ all) (eq-eqb _ _ refl)) (and_from _ _ (lt-ltb place.frame n low) refl)
 
-  -- with slots without a VM, and then frames of the core, so many lines
+  -- slots without a VM and then frames of the core, this many lines in all
   goes : (k : ℕ) (d : Dumped) (place : Place) → IsBegun version n d place → (slots_of version - place.vm) + (n - place.frame) ≡ k → Goes (begun_lines n d)
   goes zero d place b left =
       let few = b.right.slots in
@@ -67,14 +67,14 @@ module _ (version : Version) (n : ℕ) where
         (g.0, l ∷ g.1, g.2)
   ]
 
--- ---- where no dump goes on
+-- ---- no dump goes on
 
--- a text that goes on with no such line does not begin with one
+-- a text that does not go on with such a line does not begin with one
 none-such : (is : DumpLine → Bool) (rest : List ℕ) (l : DumpLine) → HasNone is rest → first_line rest ≡ Some l → is l ≡ true → ⊥
 none-such is rest l none first holds = let e : true ≡ false = sym holds ∙ ap (begins is) (sym first) ∙ none in absurd cc
 
 module _ (version : Version) (text : List ℕ) where
-  -- a dump goes on with such a line, or with nothing where there is more
+  -- a dump goes on with such a line, or with nothing although there is more
   stops : (n : ℕ) (lines : List DumpLine) (rest : List ℕ) (is : DumpLine → Bool) → text ≡ flat_map spell lines ++ rest → Goes version n lines → HasNone is rest
       → ((d : Dumped) (next : List DumpLine) → GoesOn version lines d next → ((next ≡ []) × (rest ≡ [] → ⊥)) ⊎ ((l : DumpLine) × (ls : List DumpLine) × (next ≡ l ∷ ls) × (is l ≡ true))) → DumpStopsAt version text lines rest
   stops n lines rest is whole goes none due = record {
@@ -88,7 +88,7 @@ module _ (version : Version) (text : List ℕ) where
     ];
   }
 
-  -- ---- the two first lines
+  -- ---- the first two lines
 
   pub begun-none : (n core leaves : ℕ) (ends : Ends) → is_size version (SizeOf n core leaves) ≡ true → are_ends n ends ≡ true → IsBegun version n (nothing version core leaves ends) start
   begun-none n core leaves ends size free =
@@ -118,7 +118,7 @@ module _ (version : Version) (text : List ℕ) where
       (λ d next on. (let e = on.spelled in let same : length d.frames ≡ n = cc in inr (FreeOf d.free, rest_of d, cc, subst (λ m. are_ends m d.free ≡ true) same on.range.free))) in
       record { lines = lines; rest = rest; stops = stuck; why = (refl, λ f l. (let e = l.due.spelled in absurd cc)) }
 
-  -- ---- the lines behind them
+  -- ---- the lines after them
 
   module _ (n : ℕ) (p : Dumped) (place : Place) (rest : List ℕ) (b : IsBegun version n p place) (whole : text ≡ flat_map spell (begun_lines n p) ++ rest) where
     -- a dump that goes on has as many frames, and its next lines may come
@@ -130,7 +130,7 @@ module _ (version : Version) (text : List ℕ) where
         let all : chain version n start (rest_of d) ≡ true = subst (λ w. chain w n start (rest_of d) ≡ true) on.same (subst (λ m. chain d.version m start (rest_of d) ≡ true) long (dump-chain d on.range)) in
         (long, lines, rw b.behind at (chain-behind version n start (rest_of p) next (subst (λ ls. chain version n start ls ≡ true) lines all)))
 
-    -- one that ends there has no slot and no frame more
+    -- a dump that ends there has no further slot and no further frame
     ended : (d : Dumped) → GoesOn version (begun_lines n p) d [] → (place.vm ≡ slots_of version) × (place.frame ≡ n)
     ended d on =
         let g = goes-on d [] on in
@@ -148,7 +148,7 @@ module _ (version : Version) (text : List ℕ) where
           due d [] on = let e = ended d on in inl (refl, more e.0 e.1)
           due d (l ∷ ls) on = inr (l, ls, refl, (and_parts (may version n place l) _ (goes-on d (l ∷ ls) on).2).0)
 
-      -- the line of the next frame is due
+      -- the line of the next frame should come
       pub frame-missing : place.vm ≡ slots_of version → place.frame < n → (rest ≡ []) ⊎ HasOther version n place.frame rest → DumpStopsFor version text (Frame place.frame)
       frame-missing all low why =
           let f = place.frame in
@@ -163,7 +163,7 @@ module _ (version : Version) (text : List ℕ) where
           ] in
           record { lines = begun_lines n p; rest = rest; stops = none-goes (next.0, FrameOf f zero-frame ∷ next.1, next.2) (λ all end none. omega (arith, end, low)); why = record { dump = next.0; frame = zero-frame; next = next.1; due = next.2; why = why } }
 
-      -- none is, or the rest is of another kind
+      -- no frame's line should come, or the rest is of another kind
       pub bad-line : (m : ℕ) → m ≡ newlines (flat_map spell (begun_lines n p)) + 2 → (place.vm == slots_of version && place.frame == n && length rest == 0) ≡ false
           → (place.vm ≡ slots_of version → place.frame < n → (rest ≡ [] → ⊥) × HasNone (is_other version n place.frame) rest) → DumpStopsFor version text (BadLine m)
       bad-line m count more others =
@@ -205,6 +205,6 @@ module _ (version : Version) (text : List ℕ) where
           same = b.same;
         }
 
--- the two first lines of a text
+-- the first two lines of a text
 pub two-lines : (size free text behind more : List ℕ) → text ≡ size ++ behind → behind ≡ free ++ more → text ≡ (size ++ (free ++ [])) ++ more
 two-lines size free text behind more a b = a ∙ ap (λ (s : List ℕ). size ++ s) b ∙ simp (append_assoc, append-nil)

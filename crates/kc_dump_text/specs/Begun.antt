@@ -1,4 +1,4 @@
--- A dump of which some lines were read.
+-- A dump of which some lines have been read.
 use Rattle.std.specs.Prelude.{ℕ, ◌≡◌, ◌<◌, ◌≤◌, ◌+◌, ◌==◌, Bool, true, false, List, [], ◌∷◌, ◌++◌, length, slice_set, slice_index_or, Option, Some, None, option_map, option_and_then, if◌then◌else◌}
 use Rattle.std.specs.List.{flat_map}
 use Rattle.kc_types.specs.Configuration.{slots_of}
@@ -17,12 +17,12 @@ use Rattle.kc_dump_text.specs.Lines.{line_read}
 use Rattle.kc_dump_text.specs.Places.{is_size, is_other, start, chain, end}
 use Rattle.kc_dump_text.specs.Refused.{DumpStopsFor}
 
--- the bytes before the first newline, where there is one
+-- the bytes before the first newline, if there is one
 abbrev pub first_bytes : List ℕ → Option (List ℕ)
 first_bytes [] = None
 first_bytes (b ∷ bytes) = if b == 10 then Some [] else option_map (λ more. b ∷ more) (first_bytes bytes)
 
--- the first line of a text, where it is one of a dump
+-- the first line of a text, if it is one of a dump
 abbrev pub first_line : List ℕ → Option DumpLine
 first_line text = option_and_then line_read (first_bytes text)
 
@@ -30,20 +30,20 @@ abbrev pub newlines : List ℕ → ℕ
 newlines [] = 0
 newlines (b ∷ bytes) = (if b == 10 then 1 else 0) + newlines bytes
 
--- the first line of the text is such a one
+-- the first line of the text passes the test
 abbrev pub begins : (DumpLine → Bool) → Option DumpLine → Bool
 begins is None = false
 begins is (Some l) = is l
 
--- the text goes on with no such line
+-- the text does not go on with a line that passes the test
 abbrev pub HasNone : (DumpLine → Bool) → List ℕ → Type 0
 HasNone is text = begins is (first_line text) ≡ false
 
--- the text goes on with the line of such a frame
+-- the text goes on with the line of another frame than this
 abbrev pub HasOther : Version → ℕ → ℕ → List ℕ → Type 0
 HasOther version frames f text = (g : ℕ) × (frame : FrameLine) × (more : List ℕ) × (text ≡ spell (FrameOf g frame) ++ more) × (is_other version frames f (FrameOf g frame) ≡ true)
 
--- no line of a slot yet
+-- no line of a slot or a frame has been read
 abbrev pub nothing : Version → ℕ → ℕ → Ends → Dumped
 nothing version core leaves free = record { version = version; core = core; leaves = leaves; free = free; slots = []; frames = [] }
 
@@ -62,21 +62,21 @@ frames_with frames _ = frames
 abbrev pub with_line : Dumped → DumpLine → Dumped
 with_line d l = record d { slots = slots_with d.slots l; frames = frames_with d.frames l }
 
--- the slot of the line is there
+-- the slot of the line exists
 abbrev pub HasSlot : List SlotDump → DumpLine → Type 0
 HasSlot slots (LeafOf v n root) = v < length slots
 HasSlot slots (EntryOf v entry) = v < length slots
 HasSlot slots _ = Unit {0}
 
--- from this slot on they have no leaves
+-- the slots from this one on have no leaves
 abbrev pub NoLeaves : ℕ → List SlotDump → Type 0
 NoLeaves n slots = (k : ℕ) → n ≤ k → (slice_index_or slots k empty_dump).leaves ≡ []
 
--- from this slot on they have no entries
+-- the slots from this one on have no entries
 abbrev pub NoEntries : ℕ → List SlotDump → Type 0
 NoEntries n slots = (k : ℕ) → n ≤ k → (slice_index_or slots k empty_dump).entries ≡ []
 
--- a place that lines lead to: where slots are missing nothing else was read
+-- a place that lines lead to: if slots are missing nothing else was read
 pub record IsPlace (version : Version) (n : ℕ) (place : Place) : Type 0 where
   pub order : place.section ≤ 3
   pub slots : place.vm ≤ slots_of version
@@ -94,15 +94,15 @@ pub record IsAt (d : Dumped) (place : Place) : Type 0 where
   pub before_entries : place.section < 2 → NoEntries 0 d.slots
   pub before_frames : place.section < 3 → d.frames ≡ []
 
--- the lines of a dump begun that is to have so many frames
+-- the lines of a begun dump that should have this many frames
 abbrev pub begun_lines : ℕ → Dumped → List DumpLine
 begun_lines frames d = SizeOf frames d.core d.leaves ∷ FreeOf d.free ∷ rest_of d
 
--- a dump begun and the text behind it, and the same further on
+-- a begun dump and the text after it, and the same further on
 abbrev pub ReadsOn : ℕ → Dumped → List ℕ → Dumped → List ℕ → Type 0
 ReadsOn frames d text e rest = flat_map spell (begun_lines frames d) ++ text ≡ flat_map spell (begun_lines frames e) ++ rest
 
--- the numbers of its two first lines are in range, and the others may come one behind the other, up to this place
+-- the numbers of its first two lines are in range, and the other lines may follow one another, up to this place
 pub record IsBegun (version : Version) (n : ℕ) (d : Dumped) (place : Place) : Type 0 where
   pub same : d.version ≡ version
   pub sizes : is_size version (SizeOf n d.core d.leaves) ≡ true
@@ -112,13 +112,13 @@ pub record IsBegun (version : Version) (n : ℕ) (d : Dumped) (place : Place) : 
   pub right : IsPlace version n place
   pub here : IsAt d place
 
--- the text behind the header is the lines of this dump
+-- the text after the header has the lines of this dump
 pub record IsTextOf (version : Version) (text : List ℕ) (d : Dumped) : Type 0 where
   pub whole : text ≡ flat_map spell (dump_lines d)
   pub range : IsDump d
   pub same : d.version ≡ version
 
--- the text behind the header is the lines of no dump, or memory ran out
+-- the text after the header does not have the lines of a dump, or memory ran out
 abbrev pub IsStuck : Version → List ℕ → DumpFault → Type 0
 IsStuck version text NoHeader = ⊥
 IsStuck version text (BadLine n) = DumpStopsFor version text (BadLine n)

@@ -15,7 +15,7 @@ use Rattle.kc_dump.specs.Dump.{Dumped, SlotDump}
 use Rattle.kc_dump_text.specs.declared.dump_line.DumpLine.{DumpLine}
 use Rattle.kc_dump_text.specs.declared.dump_line.DumpLine.TheVariants.{SizeOf, FreeOf, VmOf, LeafOf, EntryOf, FrameOf}
 
--- words, each behind a space
+-- words, each after a space
 abbrev pub spaced : List (List ℕ) → List ℕ
 spaced [] = []
 spaced (word ∷ words) = 32 ∷ (word ++ spaced words)
@@ -24,7 +24,7 @@ spaced (word ∷ words) = 32 ∷ (word ++ spaced words)
 abbrev pub line : List ℕ → List (List ℕ) → List ℕ
 line name words = name ++ (spaced words ++ 10 ∷ [])
 
--- a number, or a dash where there is none
+-- a number, or a dash if there is none
 abbrev pub or_dash : Option ℕ → List ℕ
 or_dash None = codes "-"
 or_dash (Some n) = decimal n
@@ -57,11 +57,11 @@ abbrev pub dump_header : Version → List ℕ
 dump_header One = codes "kcore-dump 1" ++ 10 ∷ []
 dump_header Two = codes "kcore-dump 2" ++ 10 ∷ []
 
--- the words of a frame's line behind its share
+-- the words of a frame's line after its share
 abbrev pub frame_rest : FrameLine → List (List ℕ)
 frame_rest frame = or_dash frame.gfn ∷ bit frame.present ∷ or_dash frame.prev ∷ or_dash frame.next ∷ encode_lower frame.digest ∷ []
 
--- the words of a frame's line behind its number
+-- the words of a frame's line after its number
 abbrev pub frame_words : FrameLine → List (List ℕ)
 frame_words frame = owner_word frame.owner ∷ decimal frame.share ∷ frame_rest frame
 
@@ -74,7 +74,7 @@ name_of (LeafOf v n root) = codes "leaf"
 name_of (EntryOf v entry) = codes "entry"
 name_of (FrameOf f frame) = codes "frame"
 
--- the words behind it
+-- the words after the name
 abbrev pub words_of : DumpLine → List (List ℕ)
 words_of (SizeOf frames core leaves) = decimal frames ∷ decimal core ∷ decimal leaves ∷ []
 words_of (FreeOf ends) = ends_words ends
@@ -87,7 +87,7 @@ words_of (FrameOf f frame) = decimal f ∷ frame_words frame
 abbrev pub spell : DumpLine → List ℕ
 spell l = line (name_of l) (words_of l)
 
--- a line each, by number from this one on
+-- a line for each element, by number from this one on
 abbrev pub made : {X : Type 0} → (ℕ → X → DumpLine) → ℕ → List X → List DumpLine
 made make i [] = []
 made make i (x ∷ xs) = make i x ∷ made make (i + 1) xs
@@ -96,24 +96,24 @@ made make i (x ∷ xs) = make i x ∷ made make (i + 1) xs
 abbrev pub vm_of : ℕ → SlotDump → DumpLine
 vm_of v slot = VmOf v slot.phase slot.list
 
--- the lines of something of each of these slots, of which the first has this number
+-- the lines of some elements of each of these slots, the first of which has this number
 abbrev pub gather : {X : Type 0} → (SlotDump → List X) → (ℕ → ℕ → X → DumpLine) → ℕ → List SlotDump → List DumpLine
 gather pick make v [] = []
 gather pick make v (slot ∷ slots) = made (make v) 0 (pick slot) ++ gather pick make (v + 1) slots
 
--- their leaves
+-- the lines of their leaves
 abbrev pub leaves_of : ℕ → List SlotDump → List DumpLine
 leaves_of v slots = gather (λ slot. slot.leaves) LeafOf v slots
 
--- their entries
+-- the lines of their entries
 abbrev pub entries_of : ℕ → List SlotDump → List DumpLine
 entries_of v slots = gather (λ slot. slot.entries) (λ v i entry. EntryOf v entry) v slots
 
--- the lines of a dump behind that of the free list
+-- the lines of a dump after that of the free list
 abbrev pub rest_of : Dumped → List DumpLine
 rest_of d = made vm_of 0 d.slots ++ (leaves_of 0 d.slots ++ (entries_of 0 d.slots ++ made FrameOf 0 d.frames))
 
--- the lines of a dump behind its header
+-- the lines of a dump after its header
 abbrev pub dump_lines : Dumped → List DumpLine
 dump_lines d = SizeOf (length d.frames) d.core d.leaves ∷ FreeOf d.free ∷ rest_of d
 

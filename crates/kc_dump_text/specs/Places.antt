@@ -1,4 +1,4 @@
--- Which line may stand behind which.
+-- Which line may come after which.
 use Rattle.std.specs.Prelude.{ℕ, ◌+◌, ◌==◌, ◌&&◌, ◌||◌, not, nat_lt, nat_le, Bool, true, false, List, [], ◌∷◌}
 use Rattle.kc_types.specs.Limits.{byte_limit, leaf_limit, leaf_entries}
 use Rattle.kc_types.specs.Configuration.{most_frames, slots_of}
@@ -8,7 +8,7 @@ use Rattle.kc_dump_text.specs.declared.place.Place.{Place}
 use Rattle.kc_dump_text.specs.declared.dump_line.DumpLine.{DumpLine}
 use Rattle.kc_dump_text.specs.declared.dump_line.DumpLine.TheVariants.{SizeOf, FreeOf, VmOf, LeafOf, EntryOf, FrameOf}
 
--- the numbers of a line are in range; no slot shows more leaves than a text of a gigabyte names
+-- the numbers of a line are in range; no slot shows more leaves than a text of a gigabyte can name
 abbrev pub in_range : Version → ℕ → DumpLine → Bool
 in_range version n (SizeOf frames core leaves) = nat_lt 0 frames && nat_le frames (most_frames version) && nat_le core frames && nat_lt 0 leaves && nat_le leaves leaf_limit
 in_range version n (FreeOf ends) = are_ends n ends
@@ -27,14 +27,15 @@ abbrev pub is_free : ℕ → DumpLine → Bool
 is_free frames (FreeOf ends) = are_ends frames ends
 is_free frames _ = false
 
--- the section of a line behind these two: slots, leaves, entries, frames
+-- the section of a line after these two: slots, leaves, entries, frames
 abbrev pub section : DumpLine → ℕ
 section (LeafOf v n root) = 1
 section (EntryOf v entry) = 2
 section (FrameOf f frame) = 3
 section _ = 0
 
--- the place is the line's: the next slot; the next leaf of the last slot, or the first of a later one; an entry of the last slot at the least guest frame or above it, or one of a later slot; the next frame
+-- the line is the next: the next slot; the next leaf of the last slot, or the first of a later one; an entry of the
+-- last slot that is not below the lowest guest frame that may follow, or one of a later slot; the next frame
 abbrev pub comes : Version → Place → DumpLine → Bool
 comes version place (VmOf v phase ends) = v == place.vm
 comes version place (LeafOf v n root) = place.vm == slots_of version && ((v == place.leaf.0 && n == place.leaf.1) || (nat_lt place.leaf.0 v && n == 0))
@@ -42,11 +43,11 @@ comes version place (EntryOf v entry) = place.vm == slots_of version && (nat_lt 
 comes version place (FrameOf f frame) = place.vm == slots_of version && f == place.frame
 comes version place _ = false
 
--- the line may come at this place, in a dump of so many frames
+-- the line may come at this place, in a dump of this many frames
 abbrev pub may : Version → ℕ → Place → DumpLine → Bool
 may version frames place l = nat_le place.section (section l) && comes version place l && in_range version frames l
 
--- the place behind a line
+-- the place after a line
 abbrev pub behind : Place → DumpLine → Place
 behind place (VmOf v phase ends) = record place { vm = v + 1 }
 behind place (LeafOf v n root) = record place { section = 1; leaf = (v, n + 1) }
@@ -54,16 +55,16 @@ behind place (EntryOf v entry) = record place { section = 2; entry = (v, entry.0
 behind place (FrameOf f frame) = record place { section = 3; frame = f + 1 }
 behind place _ = place
 
--- the place in front of all slots
+-- the place before all slots
 abbrev pub start : Place
 start = record { section = 0; vm = 0; leaf = (0, 0); entry = (0, 0); frame = 0 }
 
--- the lines may come one behind the other from this place on
+-- the lines may follow one another from this place on
 abbrev pub chain : Version → ℕ → Place → List DumpLine → Bool
 chain version frames place [] = true
 chain version frames place (l ∷ lines) = may version frames place l && chain version frames (behind place l) lines
 
--- the place behind them
+-- the place after them
 abbrev pub end : Place → List DumpLine → Place
 end place [] = place
 end place (l ∷ lines) = end (behind place l) lines

@@ -1,4 +1,4 @@
--- What the words of a dump's line are read as.
+-- How the words of a dump's line are read.
 use Rattle.std.specs.Prelude.{ℕ, ◌==◌, nat_lt, Bool, true, false, List, length, codes, Option, Some, None, option_map, option_and_then, if◌then◌else◌}
 use Rattle.std.specs.Str.{bytes_eq}
 use Rattle.kc_types.specs.Limits.{slot_limit}
@@ -12,11 +12,11 @@ use Rattle.kc_lines.specs.Words.{number_in, data_of}
 abbrev pub under : ℕ → ℕ → Option ℕ
 under limit n = if nat_lt n limit then Some n else None
 
--- a word that is such a number
+-- a word that spells such a number
 abbrev pub below_of : ℕ → List ℕ → Option ℕ
 below_of limit word = option_and_then (under limit) (number_in word)
 
--- this value for this word, and for any other what the rest makes of it
+-- this value for this word, and for any other what the rest reads
 abbrev pub choose : {X : Type 0} → List ℕ → X → (List ℕ → Option X) → List ℕ → Option X
 choose name x rest word = if bytes_eq word name then Some x else rest word
 
@@ -40,6 +40,6 @@ phase_of = choose (codes "empty") Empty (choose (codes "booting") Booting (choos
 abbrev pub owner_of : List ℕ → Option Owner
 owner_of = choose (codes "core") Core (choose (codes "host") Host (choose (codes "free") Free (λ word. option_map Vm (below_of slot_limit word))))
 
--- 32 bytes in lower case digits
+-- the 32 bytes that the lower case digits spell
 unfoldable pub digest_in : List ℕ → Option (List ℕ)
 digest_in word = if length word == 64 then data_of word else None

@@ -1,4 +1,4 @@
-//! A dump of which some lines were read.
+//! A dump of which some lines have been read.
 ghost use Rattle.std.specs.Prelude.{◌≡◌, OnOk};
 ghost use Rattle.kc_dump.specs.Ranges.{IsDump};
 ghost use Rattle.kc_dump_text.specs.Begun.{nothing, with_line, HasSlot};
@@ -29,7 +29,7 @@ impl Model for Begun {
 }
 
 impl Begun {
-    /// No slot and no frame yet.
+    /// Begins a dump without slots and frames.
     pub fn new(alloc: Global, version: Version, core: u32, leaves: u32, free: Ends) -> Begun
         ensures { result ≡ nothing version core leaves free }
     {
@@ -43,7 +43,7 @@ impl Begun {
         }
     }
 
-    /// Takes what a line says. `Memory` where a growth was refused.
+    /// Adds what a line says. `Memory` if memory cannot be had.
     pub fn push(&mut self, alloc: Global, line: DumpLine) -> Result<(), Memory>
         requires { HasSlot self.old.slots line }
         ensures { OnOk result (self.new ≡ with_line self.old line) }
@@ -63,7 +63,7 @@ impl Begun {
         Ok(())
     }
 
-    /// The dump of these parts.
+    /// Makes a dump of these parts.
     pub fn into_dump(self) -> Dump
         requires { IsDump self }
         ensures { result ≡ self }

@@ -1,4 +1,4 @@
-//! Why a text is no dump.
+//! Why a text is not a dump.
 ghost use Rattle.std.specs.Prelude.{◌≡◌, ◌≤◌, length};
 ghost use Rattle.kc_dump_text.specs.Faults.{dump_fault_words, dump_fault_end};
 ghost use Rattle.kc_dump_text.specs.declared.fault.DumpFault.TheVariants.{Memory};
@@ -7,21 +7,21 @@ use kc_types::Memory as Want;
 use std::error::Error;
 use std::fmt;
 
-/// Why a text is no dump. Lines are taken from the front, and the first fault is answered.
+/// Why a text is not a dump. Lines are taken from the front, and the first fault is returned.
 #[derive(Clone, Copy, Debug, PartialEq, Eq)]
 pub enum DumpFault {
     /// The text does not begin with the header and its newline.
     NoHeader,
-    /// No line of this number may stand there, counted from 1 with the header as the first.
+    /// The line of this number may not come there. The header is line 1.
     BadLine(u32),
-    /// The line of this frame is due, and another frame's stands there, or none.
+    /// The line of this frame should come next, but there is that of another frame, or none.
     Frame(u32),
-    /// A growth of memory was refused.
+    /// Memory could not be had.
     Memory,
 }
 
 impl DumpFault {
-    /// What is wrong; of a line or a frame, what is said before its number.
+    /// What is wrong; for a line or a frame, the text before its number.
     pub const fn words(&self) -> &'static str
         ensures text { result.now ≡ dump_fault_words self.now }
         ensures short { length result.now ≤ 40 }
@@ -34,7 +34,7 @@ impl DumpFault {
         }
     }
 
-    /// What is said behind the number.
+    /// The text after the number.
     pub const fn end(&self) -> &'static str
         ensures text { result.now ≡ dump_fault_end self.now }
         ensures short { length result.now ≤ 20 }

@@ -21,7 +21,7 @@ fn read_size_line(mut words: LineWords) -> Option<DumpLine>
     Some(DumpLine::SizeOf(frames, core, leaves))
 }
 
-/// The ends of a list, behind which nothing stands.
+/// The ends of a list, with nothing after them.
 fn read_ends(mut words: LineWords) -> Option<Ends>
     ensures { result ≡ ends_of words.entry }
 {
@@ -66,7 +66,7 @@ fn read_entry_line(mut words: LineWords) -> Option<DumpLine>
     Some(DumpLine::EntryOf(vm, (gfn, frame)))
 }
 
-/// The record of a frame, behind which nothing stands.
+/// The record of a frame, with nothing after it.
 fn read_record(mut words: LineWords) -> Option<FrameLine>
     ensures { result ≡ record_of words.entry }
 {
@@ -96,7 +96,7 @@ fn read_frame_line(mut words: LineWords) -> Option<DumpLine>
     Some(DumpLine::FrameOf(number, read_record(words)?))
 }
 
-/// The line that these bytes are, without its newline.
+/// The line that these bytes spell, without its newline.
 #[tactic(auto, unfolding(crate::specs::Lines::line_of_words))]
 pub fn read_line(line: &[u8]) -> Option<DumpLine>
     ensures { result ≡ line_read line.now }

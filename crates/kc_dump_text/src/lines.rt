@@ -1,4 +1,4 @@
-//! The lines of a dump, for which there is room.
+//! Appending the lines of a dump to a text that has room for them.
 ghost use Rattle.std.specs.Prelude.{◌≡◌, ◌≤◌, ◌+◌, ◌++◌, ◌∷◌, [], length, vec_len, vec_capacity};
 ghost use Rattle.std.specs.Fmt.{decimal};
 ghost use Rattle.kc_dump_text.specs.DumpText.{spaced, or_dash, bit, phase_word, owner_word, ends_words, line, frame_rest, spell};
@@ -8,7 +8,7 @@ use kc_dump::{FrameLine, SlotDump};
 use kc_lines::{push_bytes, push_digits, push_number};
 use kc_types::{Ends, FrameNo, Gfn, Owner, Phase};
 
-/// The bytes of the longest line, with its newline: a frame's.
+/// The bytes of the longest line, which is a frame's, with its newline.
 pub const LONGEST_LINE: usize = 160;
 
 /// Appends a space and a word.
@@ -111,7 +111,7 @@ pub fn push_free_line(text: &mut Vec<u8>, ends: &Ends)
     push_bytes(text, b"\n");
 }
 
-/// Appends the line of a name and three numbers.
+/// Appends a line of a name and three numbers.
 pub fn push_three(text: &mut Vec<u8>, name: &[u8], first: u32, second: u32, third: u32)
     requires room { vec_len text.old + 160 ≤ vec_capacity text.old }
     requires short { length name.now ≤ 8 }
@@ -136,7 +136,7 @@ pub fn push_vm_line(text: &mut Vec<u8>, vm: u32, slot: &SlotDump)
     push_bytes(text, b"\n");
 }
 
-/// Appends what a frame's line says behind its share.
+/// Appends what a frame's line has after its share.
 fn push_frame_rest(text: &mut Vec<u8>, frame: &FrameLine)
     requires { vec_len text.old + 110 ≤ vec_capacity text.old }
     ensures { text.new.items ≡ text.old.items ++ (spaced (frame_rest frame.now) ++ 10 ∷ []) }

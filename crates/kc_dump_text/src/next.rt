@@ -1,4 +1,4 @@
-//! The next line of a dump's text, where it is one that may come.
+//! The next line of a dump's text, if it is one that may come.
 ghost use Rattle.std.specs.Prelude.{◌≡◌, ◌++◌, true, None, Some, IfOk, MatchOption};
 ghost use Rattle.kc_dump.specs.Ranges.{are_ends};
 ghost use Rattle.kc_dump_text.specs.DumpText.{spell};
@@ -16,7 +16,7 @@ use kc_lines::split_line;
 use kc_types::{Ends, Memory, Version};
 use std::alloc::Global;
 
-/// The first line, where it is one of a dump, and what stands behind it.
+/// The first line, if it is one of a dump, and what is after it.
 pub fn next_line(text: &[u8]) -> Option<(DumpLine, &[u8])>
     ensures { MatchOption result (first_line text.now ≡ None) (λ cut. (first_line text.now ≡ Some cut.0) × (text.now ≡ spell cut.0 ++ cut.1.now)) }
 {
@@ -68,7 +68,7 @@ pub fn next_free(frames: u32, text: &[u8]) -> Option<(Ends, &[u8])>
     }
 }
 
-/// The line that may come at this place, and the place behind it.
+/// The line that may come at this place, and the place after it.
 fn next_at(sizes: Sizes, place: Place, text: &[u8]) -> Option<(DumpLine, Place, &[u8])>
     ensures { MatchOption result (HasNone (may sizes.version sizes.frames place) text.now)
         (λ cut. (text.now ≡ spell cut.0 ++ cut.2.now) × (may sizes.version sizes.frames place cut.0 ≡ true) × (cut.1 ≡ behind place cut.0)) }
@@ -82,7 +82,7 @@ fn next_at(sizes: Sizes, place: Place, text: &[u8]) -> Option<(DumpLine, Place, 
     Some((line, next, rest))
 }
 
-/// Reads the lines behind the two first, as long as one may come, and answers the place behind them and the rest.
+/// Reads the lines after the first two, as long as one may come, and returns the place after them and the rest.
 pub fn read_lines<'a>(
     alloc: Global,
     sizes: Sizes,
@@ -102,7 +102,7 @@ pub fn read_lines<'a>(
     Ok((place, rest))
 }
 
-/// The line of a frame in range, but not of this one.
+/// The line of a frame in range other than this one.
 pub fn next_other(sizes: Sizes, number: u32, text: &[u8]) -> Option<(u32, FrameLine, &[u8])>
     ensures { MatchOption result (HasNone (is_other sizes.version sizes.frames number) text.now)
         (λ cut. (text.now ≡ spell (FrameOf cut.0 cut.1) ++ cut.2.now) × (is_other sizes.version sizes.frames number (FrameOf cut.0 cut.1) ≡ true)) }

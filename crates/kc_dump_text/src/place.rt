@@ -1,4 +1,4 @@
-//! Where a text stands, and which line may come there.
+//! A place in a dump's text, and which line may come there.
 ghost use Rattle.std.specs.Prelude.{◌≡◌, true, false, MatchOption};
 ghost use Rattle.kc_dump_text.specs.Places.{start, section, in_range, comes, may, behind};
 
@@ -6,29 +6,29 @@ use crate::dump_line::DumpLine;
 use crate::ranges::{are_ends, are_sizes, is_entry, is_frame};
 use kc_types::{BYTE_LIMIT, LEAF_ENTRIES, Version};
 
-/// The version, and how many frames there are to be.
+/// The version, and the number of frames that there should be.
 #[derive(Clone, Copy, Debug)]
 pub struct Sizes {
     pub version: Version,
     pub frames: u32,
 }
 
-/// What was read of a dump behind its two first lines.
+/// What was read of a dump after its first two lines.
 #[derive(Clone, Copy, Debug)]
 pub struct Place {
     /// The section of the last line: slots, leaves, entries, frames, from 0 on.
     pub section: u32,
-    /// How many slots.
+    /// The number of slots.
     pub vm: u32,
-    /// The slot of the last leaf, and how many it has.
+    /// The slot of the last leaf, and the number of its leaves.
     pub leaf: (u32, u32),
-    /// The slot of the last entry, and the least guest frame that may follow.
+    /// The slot of the last entry, and the lowest guest frame that may follow.
     pub entry: (u32, u32),
-    /// How many frames.
+    /// The number of frames.
     pub frame: u32,
 }
 
-/// The section of a line behind the two first.
+/// The section of a line after the first two.
 fn section(line: &DumpLine) -> u32
     ensures { result ≡ section line.now }
 {
@@ -40,7 +40,7 @@ fn section(line: &DumpLine) -> u32
     }
 }
 
-/// The numbers of a line are in range.
+/// Whether the numbers of a line are in range.
 fn in_range(sizes: Sizes, line: &DumpLine) -> bool
     ensures { result ≡ in_range sizes.version sizes.frames line.now }
 {
@@ -64,7 +64,7 @@ fn in_range(sizes: Sizes, line: &DumpLine) -> bool
 }
 
 impl Place {
-    /// In front of all slots.
+    /// The place before all slots.
     pub fn start() -> Place
         ensures { result ≡ start }
     {
@@ -77,7 +77,7 @@ impl Place {
         }
     }
 
-    /// A line is the next of its section.
+    /// Whether a line is the next of its section.
     fn comes(self, version: Version, line: &DumpLine) -> bool
         ensures { result ≡ comes version self line.now }
     {
@@ -104,7 +104,7 @@ impl Place {
         self.section <= section(line) && self.comes(sizes.version, line) && in_range(sizes, line)
     }
 
-    /// The place behind a line, where the line may come at this one.
+    /// The place after a line, if the line may come at this one.
     pub fn behind(self, sizes: Sizes, line: &DumpLine) -> Option<Place>
         ensures { MatchOption result (may sizes.version sizes.frames self line.now ≡ false) (λ next. (may sizes.version sizes.frames self line.now ≡ true) × (next ≡ behind self line.now)) }
     {

@@ -63,7 +63,7 @@ fn is_long(digest: &[u8]) -> bool
     digest.len() == 32
 }
 
-/// Each element of a list of bytes is a byte.
+/// Whether each element of a list is a byte.
 fn are_bytes(bytes: &[u8]) -> bool
     ensures { result ≡ list_all (λ b. nat_lt b 256) bytes.now }
 {

@@ -34,7 +34,7 @@ fn count_newlines(bytes: &[u8]) -> u32
     count
 }
 
-/// The number of the first line of the rest, where the text is what stands behind the header.
+/// The number of the first line of the rest, if the text is what is after the header.
 fn line_number(text: &[u8], rest: &[u8]) -> u32
     requires few { length text.now ≤ byte_limit }
     requires within { length rest.now ≤ length text.now }
@@ -43,7 +43,7 @@ fn line_number(text: &[u8], rest: &[u8]) -> u32
     count_newlines(&text[..text.len() - rest.len()]) + 2
 }
 
-/// Whether a frame is due at this place, and there is no rest, or it begins with the line of another.
+/// Whether a frame should come at this place, and there is no rest, or the rest begins with the line of another frame.
 fn lacks_frame(sizes: Sizes, place: Place, rest: &[u8]) -> bool
     ensures yes { result ≡ true → (place.vm ≡ slots_of sizes.version) × (place.frame < sizes.frames) × ((rest.now ≡ []) ⊎ HasOther sizes.version sizes.frames place.frame rest.now) }
     ensures no { result ≡ false → place.vm ≡ slots_of sizes.version → place.frame < sizes.frames → (rest.now ≡ [] → ⊥) × HasNone (is_other sizes.version sizes.frames place.frame) rest.now }
@@ -67,7 +67,7 @@ fn is_whole(sizes: Sizes, place: Place, rest: &[u8]) -> bool
     place.vm == sizes.version.slots() && place.frame == sizes.frames && rest.is_empty()
 }
 
-/// The dump begun, where it is whole, and else what is wrong behind it.
+/// Returns the dump if it is whole, and otherwise what is wrong after what was read.
 fn finish(
     sizes: Sizes,
     begun: Begun,
@@ -90,7 +90,7 @@ fn finish(
     Err(DumpFault::BadLine(line_number(text, rest)))
 }
 
-/// The dump whose lines these are.
+/// Reads the dump that has these lines.
 fn read_behind_header(alloc: Global, version: Version, text: &[u8]) -> Result<Dump, DumpFault>
     requires { length text.now ≤ byte_limit }
     ensures { MatchResult result (λ dump. IsTextOf version text.now dump) (λ fault. IsStuck version text.now fault) }
@@ -107,7 +107,7 @@ fn read_behind_header(alloc: Global, version: Version, text: &[u8]) -> Result<Du
     finish(sizes, begun, place, text, rest)
 }
 
-/// The version of the dump and what stands behind its header, if the text begins with one.
+/// The version of the dump and what is after its header, if the text begins with one.
 fn behind_header(text: &[u8]) -> Option<(Version, &[u8])>
     ensures { MatchOption result ((version : Version) (rest : List ℕ) → text.now ≡ dump_header version ++ rest → ⊥) (λ cut. text.now ≡ dump_header cut.0 ++ cut.1.now) }
 {
@@ -124,10 +124,11 @@ fn behind_header(text: &[u8]) -> Option<(Version, &[u8])>
     }
 }
 
-/// The dump that a text is, of at most 1,073,741,824 bytes. Memory is the only fault that says nothing of the text.
+/// Reads the dump that a text spells, of at most 1,073,741,824 bytes. `Memory` is the only fault that says nothing
+/// about the text.
 pub fn read_dump(alloc: Global, text: &[u8]) -> Result<Dump, DumpFault>
     requires { length text.now ≤ byte_limit }
-    // What is read is a dump, and what is refused is none, for its first fault.
+    // What is read is a dump, and what is refused is not, for its first fault.
     ensures found { MatchResult result (λ dump. IsDumpText text.now dump) (λ fault. IsRefusedDump text.now fault) }
 
     // A dump's text is read as that dump, unless memory runs out.

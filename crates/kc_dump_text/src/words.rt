@@ -1,4 +1,4 @@
-//! What the words of a dump's line are read as.
+//! How the words of a dump's line are read.
 ghost use Rattle.std.specs.Prelude.{◌≡◌};
 ghost use Rattle.kc_types.specs.Limits.{frame_limit, slot_limit, gfn_limit};
 ghost use Rattle.kc_dump_text.specs.Words.{below_of, or_dash_of, bit_of, phase_of, owner_of, digest_in};
@@ -24,7 +24,7 @@ fn read_vm(word: &[u8]) -> Option<VmId>
     VmId::try_new(read_number(word)?)
 }
 
-/// A frame, or none for a dash.
+/// A frame, or `None` for a dash.
 pub fn read_frame_or_dash(word: &[u8]) -> Option<Option<FrameNo>>
     ensures { result ≡ or_dash_of frame_limit word.now }
 {
@@ -34,7 +34,7 @@ pub fn read_frame_or_dash(word: &[u8]) -> Option<Option<FrameNo>>
     Some(Some(read_frame(word)?))
 }
 
-/// A guest frame, or none for a dash.
+/// A guest frame, or `None` for a dash.
 pub fn read_gfn_or_dash(word: &[u8]) -> Option<Option<Gfn>>
     ensures { result ≡ or_dash_of gfn_limit word.now }
 {
@@ -86,7 +86,7 @@ pub fn read_owner(word: &[u8]) -> Option<Owner>
     }
 }
 
-/// The 32 bytes that 64 lower case digits are.
+/// The 32 bytes that 64 lower case digits spell.
 #[tactic(auto, using(kc_lines::proofs::Digits::no_digits), unfolding(crate::specs::Words::digest_in))]
 pub fn read_digest(word: &[u8]) -> Option<[u8; 32]>
     ensures { result ≡ digest_in word.now }

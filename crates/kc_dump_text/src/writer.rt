@@ -79,7 +79,7 @@ fn push_all_entries(text: &mut Vec<u8>, slots: &[SlotDump]) -> Result<(), Memory
     Ok(())
 }
 
-/// The line of sizes.
+/// Appends the line of sizes.
 fn push_size(text: &mut Vec<u8>, dump: &Dump) -> Result<(), Memory>
     ensures { OnOk result (text.new.items ≡ text.old.items ++ spell (SizeOf (length dump.now.frames) dump.now.core dump.now.leaves)) }
 {
@@ -89,7 +89,7 @@ fn push_size(text: &mut Vec<u8>, dump: &Dump) -> Result<(), Memory>
     Ok(())
 }
 
-/// The line of the free list.
+/// Appends the line of the free list.
 fn push_free(text: &mut Vec<u8>, dump: &Dump) -> Result<(), Memory>
     ensures { OnOk result (text.new.items ≡ text.old.items ++ spell (FreeOf dump.now.free)) }
 {
@@ -98,7 +98,7 @@ fn push_free(text: &mut Vec<u8>, dump: &Dump) -> Result<(), Memory>
     Ok(())
 }
 
-/// The first line.
+/// Appends the first line.
 fn push_header(text: &mut Vec<u8>, version: Version) -> Result<(), Memory>
     ensures { OnOk result (text.new.items ≡ text.old.items ++ dump_header version) }
 {
@@ -126,7 +126,7 @@ fn text_of(alloc: Global, dump: &Dump) -> Result<Vec<u8>, Memory>
     Ok(text)
 }
 
-/// The one text of a dump, which is read as that dump. `Memory` where a growth was refused.
+/// Writes the one text of a dump, which is read as that dump. `Memory` if memory cannot be had.
 pub fn write_dump(alloc: Global, dump: &Dump) -> Result<Vec<u8>, Memory>
     // No clause can rule out that memory runs out: a test writes dumps.
     ensures text { IfOk result (λ text. text.items ≡ dump_text dump.now) }

@@ -1,4 +1,4 @@
--- Sets that take in a number.
+-- Sets gain a number.
 use Rattle.std.proofs.Common.{◌≡◌, ◌≢◌, ℕ, zero, suc, ◌+◌, ◌*◌, ◌<◌, ◌≤◌, ◌^◌, Bool, true, false, ◌&&◌, ◌||◌, List, [], ◌∷◌, ◌++◌, length, get_or, set, take, replicate, refl, sym, ◌∙◌, ap, arith, inl, inr, length-append}
 use Rattle.std.specs.Prelude.{eqb}
 use Rattle.std.specs.List.{IsDistinct}
@@ -35,7 +35,7 @@ module _ (p f : ℕ) (a b : List (List ℕ)) (low : p < length a) (sets : b ≡ 
   this_set : get_or b p [] ≡ with_member (get_or a p []) f
   this_set = rw sets (get_or-set_same a p (with_member (get_or a p []) f) [] low)
 
-  -- what holds of a set that stays, and of the one that takes the number in, holds of each
+  -- what holds of a set that stays, and of the one that gains the number, holds of each
   each_set : (P : ℕ → List ℕ → List ℕ → Type 0) → ((q : ℕ) → q ≢ p → P q (get_or a q []) (get_or a q [])) → P p (get_or a p []) (with_member (get_or a p []) f) → (q : ℕ) → P q (get_or a q []) (get_or b q [])
   each_set P stays new q =
       elim (cases_eq q p) [

@@ -28,11 +28,11 @@ differs v n low = grind (arith, nat_tests)
 pub at_below : (n x y : ℕ) → is_at (below n (Some x)) y ≡ (nat_lt x n && eqb x y)
 at_below n x y = cond_both (nat_lt x n) (Some x) None (λ o. is_at o y ≡ (nat_lt x n && eqb x y)) (λ less. rw less refl) (λ past. rw past refl)
 
--- where the second is below, the first needs no asking
+-- the first test holds if the second number is below n
 pub low_too : (n x y : ℕ) → y < n → (nat_lt x n && eqb x y) ≡ eqb x y
 low_too n x y low = grind (arith, nat_tests)
 
--- nothing below n is n
+-- no number below n is n
 pub not_past : (n : ℕ) (o : Option ℕ) → is_at (below n o) n ≡ false
 not_past n None = refl
 not_past n (Some x) = at_below n x n ∙ grind (arith, nat_tests)
@@ -111,7 +111,7 @@ module _ (m : State) (calls : List Call) (pairs : List (ℕ × ℕ)) (owned : Is
       rw (names_are m.config calls k low)
       (touched_is m.config (model.reach m calls k) (may_have (slot_count m.config) (has_pair pairs) (map (names_of m.config) calls) k) so_far.by_slot so_far.by_free (call_at calls k) x)
 
-  -- a plan over the planner's numbers is one over resources
+  -- a plan over the planner's numbers is a plan over resources
   pub carried : (wave : ℕ → ℕ) (k : ℕ) → k < length calls → ComesJustAfter (touches (slot_count m.config) (has_pair pairs) (map (names_of m.config) calls)) wave k → ComesJustAfter (footprint m calls) wave k
   carried wave k low it = record {
     above = λ j x before tj tk. it.above j x before (touches_is j x (omega arith) ∙ tj) (touches_is k x low ∙ tk);

@@ -37,7 +37,7 @@ module _ (config : Configuration) (calls : List Call) (pairs : List (ℕ × ℕ)
   frame_low n few o None e low = tt
   frame_low n few o (Some f) e low = let l : f < n = subst (λ (q : Option ℕ). IfSome q (λ x. x < n)) (sym e) low in omega arith
 
-  -- the footprints have only numbers of what can be, each once
+  -- the footprints have only numbers that exist, each once
   pub are_there : HaveFramesBelow config.frames pairs → config.frames ≤ frame_limit → slot_count config ≤ slot_limit → length sets ≡ slot_count config + 1
       → ((p f : ℕ) → has_member (get_or sets p []) f ≡ may_have (slot_count config) (has_pair pairs) (map (names_of config) calls) (length (map (names_of config) calls)) p f)
       → ((p : ℕ) → IsDistinct eqb (get_or sets p [])) → AreThere sets kept

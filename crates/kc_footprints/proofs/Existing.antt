@@ -21,7 +21,7 @@ low-same n g f h =
     let parts = and_parts (nat_lt g n) (nat_eq g f) h in
     subst (λ x. x < n) (eqb-true g f parts.1) (ltb-true g n parts.0)
 
--- the frames that a free list or a slot may get exist, where those that they may have do
+-- the frames that the free list or a slot may gain exist, if those that they may have do
 gains-low : (config : Configuration) (held : Owner → ℕ → Bool) → ((v f : ℕ) → held (Vm v) f ≡ true → f < config.frames) → (call : Call) (owner : Owner) (f : ℕ) → gains config held call owner f ≡ true → f < config.frames
 gains-low config held low (Give g) Free f h = low-same config.frames g f h
 gains-low config held low (Drop v c g) Free f h = low v f (and_parts (nat_lt v (slot_count config)) (held (Vm v) f) h).1
@@ -38,7 +38,7 @@ reach-low m calls is (suc k) owner f differs h =
       | inr new ↦ gains-low m.config (reach m calls k) (λ v f there. reach-low m calls is k (Vm v) f refl there) (call_at calls k) owner f new
     ]
 
--- ---- the same of the planner's numbers
+-- ---- the same for the planner's numbers
 
 at_low : (o : Option ℕ) (n f : ℕ) → IfSome o (λ x. x < n) → is_at o f ≡ true → f < n
 at_low None n f low h = cc

@@ -1,4 +1,4 @@
--- A principal gets a frame, and the free list what a slot may have.
+-- A principal gains a frame, and the free list what a slot may have.
 use Rattle.std.proofs.Common.{◌≡◌, ℕ, ◌+◌, ◌<◌, ◌≤◌, true, ◌&&◌, ◌||◌, List, [], length, get_or, set, take, refl, sym, ◌∙◌, ap, arith, inl, inr}
 use Rattle.std.specs.Prelude.{eqb}
 use Rattle.std.proofs.lemmas.Bool.{and_from, cases_Bool, cases_eq, eq-eqb, or_left, or_right}
@@ -28,13 +28,13 @@ related_more n p f a b near low has_p has_n is so_far = record {
     old : (q r : ℕ) → is_related b q r ≡ true → has_member (get_or near q []) r ≡ true
     old q r h = raised q r ∙ or_left (is_related b q r) (eqb p q && eqb n r) h
 
--- principals are near while the same ones are related and more
+-- principals stay near if the same ones are related, and more
 near_stays : (a b : Reached) → ((p q : ℕ) → is_related a p q ≡ true → is_related b p q ≡ true) → (p q : ℕ) → is_near a p q ≡ true → is_near b p q ≡ true
 near_stays a b more p q near =
     let was : (eqb p q || (is_related a p q || is_related a q p)) ≡ true = sym (near_is a p q) ∙ near in
     near_is b p q ∙ grind (arith, nat_tests, more p q, more q p, cases_Bool (is_related a p q), cases_Bool (is_related a q p), cases_Bool (is_related b p q))
 
--- m has the frame in the set of p, and b has the principals related to p besides
+-- m has the frame in the set of p, and b has the principals related to p too
 module _ (size free p f n : ℕ) (a m b : Reached) (low : p < size) (exact : IsExact size free a) (added : m.sets ≡ set a.sets p (with_member (members_of a p) f)) (near : m.near ≡ a.near) (freed : m.freed ≡ a.freed)
     (count : n ≡ size) (related : IsRelated n p f m b) where
   sets : b.sets ≡ set a.sets p (with_member (members_of a p) f)
@@ -128,7 +128,7 @@ freeing_more size free v n f a b c low under at so_far joined = record {
   freed = joined.freed ∙ so_far.freed;
 }
 
--- and once all are there
+-- after that all are there
 pub freed_all : (size free v n : ℕ) (a b : Reached) → v < free → free < size → length (members_of a v) ≤ n → IsFreeing size free v n a b
     → IsWider size free (λ p f. eqb free p && has_member (members_of a v) f) a (record { sets = b.sets; near = b.near; freed = set b.freed v (length (members_of a v)) })
 freed_all size free v n a b low free_low all so_far = record {

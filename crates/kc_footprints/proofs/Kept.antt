@@ -1,4 +1,4 @@
--- Footprints stay what they are while principals get more.
+-- Footprints stay what they are while principals gain more.
 use Rattle.std.proofs.Common.{◌≡◌, ℕ, ◌+◌, ◌<◌, Bool, List, [], ◌∷◌, ◌++◌, length, get_or, refl, sym, ◌∙◌, ap, subst, arith, inl, inr}
 use Rattle.std.specs.Prelude.{Option, Some, None, IfSome, option_map}
 use Rattle.std.proofs.lemmas.Bool.{cases_lt, cond_both}
@@ -45,7 +45,7 @@ module _ (free : ℕ) (before : ℕ → ℕ → Bool) (sets : List (List ℕ)) (
       free_low : IfSome (free_of free n) (λ p. p < length sets)
       free_low = cond_both n.free (Some free) None (λ o. IfSome o (λ p. p < length sets)) (λ yes. omega arith) (λ no. tt)
 
--- one call more
+-- one more call
 pub footprints_more : (free : ℕ) (start : ℕ → ℕ → Bool) (cs : List Names) (a b : Reached) (footprints more : List Footprint) (n : Names) → n ≡ names_at cs (length footprints) → IfSome n.slot (λ v. v < free)
     → ((p f : ℕ) → has_member (members_of a p) f ≡ may_have free start cs (length footprints) p f)
     → length a.sets ≡ free + 1 → length b.sets ≡ free + 1 → IsGrown a b → more ≡ footprints ++ footprint_of a.sets free n ∷ []

@@ -27,7 +27,7 @@ first_by_place (x ∷ xs) f (suc n) low = grind (arith, nat_tests, first_by_plac
 
 pub ruleset places = (leb_tells, eqb_tells, first_by_place)
 
--- a frame more, or one that is listed already
+-- one more frame, or one that is listed already
 pub listed_more : (test : ℕ → Bool) (xs : List ℕ) (i m : ℕ) (b : Bool) (before mid : List Resource) → i < length xs → get_or xs i 0 ≡ m → test m ≡ b
     → mid ≡ before ++ map resource.Frame (filter test (take i xs)) → mid ++ cond b (resource.Frame m ∷ []) [] ≡ before ++ map resource.Frame (filter test (take (i + 1) xs))
 listed_more test xs i m b before mid low at is so_far =
@@ -149,7 +149,7 @@ module _ (sets : List (List ℕ)) where
     first_has : (r : Resource) → is_wanted first r ≡ (is_wanted (frame_part footprint.frame) r || is_wanted (slot_part sets footprint.frame footprint.slot) r)
     first_has r = list_any-append (same_resource r) (frame_part footprint.frame) (slot_part sets footprint.frame footprint.slot)
 
-    -- just what the footprint has
+    -- the listed resources are exactly what the footprint has
     pub members_are : (r : Resource) → is_wanted footprint_items r ≡ footprint_has sets footprint r
     members_are r = list_any-append (same_resource r) first (free_part sets footprint.frame footprint.slot footprint.free) ∙ ap (λ b. b || is_wanted (free_part sets footprint.frame footprint.slot footprint.free) r) (first_has r) ∙ by r
       where
@@ -159,7 +159,7 @@ module _ (sets : List (List ℕ)) where
             rw (frames_wanted (option_to_list footprint.frame) (resource.Vm v), slot_slot footprint.frame footprint.slot v, free_slot footprint.frame footprint.slot footprint.free v) (or-false (is_of footprint.slot v))
         by resource.Free = rw (frames_wanted (option_to_list footprint.frame) resource.Free, slot_free footprint.frame footprint.slot, free_free footprint.frame footprint.slot footprint.free) refl
 
-    -- each once
+    -- each is listed once
     pub members_once : ((p : ℕ) → IsDistinct eqb (get_or sets p [])) → IsDistinct same_resource footprint_items
     members_once once =
         once_both first (free_part sets footprint.frame footprint.slot footprint.free)

@@ -27,7 +27,8 @@ AreLast free start cs wave n s =
 abbrev pub Goes : (ℕ → ℕ) → List ℕ → Type 0
 Goes wave waves = (j : ℕ) → j < length waves → wave j ≡ get_or waves j 0
 
--- the waves of the first calls are planned, whatever those of the later ones are, and h and s are what the planner keeps then
+-- the waves of the first calls are planned, whatever those of the later ones are, and h and s are what the planner
+-- then has
 pub record IsGoing (frames free : ℕ) (start : ℕ → ℕ → Bool) (cs : List Names) (waves : List ℕ) (h : Reached) (s : Stamps) : Type 0 where
   pub planned : (wave : ℕ → ℕ) → Goes wave waves → (k : ℕ) → k < length waves → ComesJustAfter (touches free start cs) wave k
   pub tracked : (wave : ℕ → ℕ) → Goes wave waves → AreLast free start cs wave (length waves) s
@@ -115,7 +116,7 @@ module _ (frames free : ℕ) (start : ℕ → ℕ → Bool) (cs : List Names) (r
         just_after (λ j f. is_at (names_at cs j).frame f) (λ j p. names_principal free (names_at cs j) p) (λ j. has_part free (may_have free start cs j)) (touches free start cs) shape
         wave (free + 1) (length waves) s named_below (going.tracked wave (earlier wave goes)) high found (last_is wave goes)
 
-    -- the next wave comes at most one later than there are calls
+    -- the next wave is at most one past the number of calls
     pub high_low : high ≤ length waves
     high_low =
         let wave : ℕ → ℕ = λ j. get_or (waves ++ suc high ∷ []) j 0 in

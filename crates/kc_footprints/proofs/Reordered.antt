@@ -1,4 +1,4 @@
--- The calls of a trace in another order give the same replies and the same end.
+-- The calls of a trace in another order give the same replies and the same final state.
 use Rattle.std.proofs.Common.{ℕ, zero, suc, ◌≡◌, ◌<◌, Bool, true, false, List, [], ◌∷◌, length, refl, sym, ap, subst, ◌∙◌, arith}
 use Rattle.kc_types.specs.declared.call.Call.{Call}
 use Rattle.kc_types.specs.declared.owner.Owner.TheVariants.{Core}
@@ -62,7 +62,7 @@ module _ (m : State) (calls : List Call) (is : IsLawful m) where
   by_touch done k store r due holds step true touched = step.here.parts r touched ∙ sym (due_leaves (footprint m calls) (part_at m calls) (length calls) done k r due touched)
   by_touch done k store r due holds step false outside = step.elsewhere r outside ∙ holds.1 r ∙ sym (due_keeps (footprint m calls) (part_at m calls) (length calls) done k r outside)
 
-  -- and so it is after the next call
+  -- and so it has after the next call
   holds-next : (done : ℕ → Bool) (k : ℕ) (store : State) → IsDue (footprint m calls) (length calls) done k → Holds done store → Holds (with_number k done) (next store (call_at calls k)).1
   holds-next done k store due holds = (
     sized-then m store (next store (call_at calls k)).1 holds.0 (sized-next store (call_at calls k)),
@@ -81,7 +81,7 @@ module _ (m : State) (calls : List Call) (is : IsLawful m) where
   holds-first : Holds (λ j. false) m
   holds-first = (size-at m calls zero, λ r. sym (rest (footprint m calls) (part_at m calls) (λ j. false) (length calls) zero r (omega arith) (λ j le lt t. refl)))
 
-  -- after the calls of an order those that come next answer what they answer in the trace's order
+  -- after the calls of an order, those that come next get the replies that they get in the trace's order
   pub alike : (order more : List ℕ) (done final : ℕ → Bool) → IsTaken (footprint m calls) (length calls) (λ j. false) order done → IsTaken (footprint m calls) (length calls) done more final
       → AnswersAlike m calls (after_order calls m order) more
   alike order more done final taken onward = alike-after more done final (after_order calls m order) onward (holds-after order (λ j. false) done m taken holds-first)
@@ -93,7 +93,7 @@ module _ (m : State) (calls : List Call) (is : IsLawful m) where
       within r (sym (need-merged (footprint m calls k) (state_at m calls k) store (call_at calls k) within r)
       ∙ ap (λ s. need s (call_at calls k) r) (merged-agrees (footprint m calls k) (state_at m calls k) store (agrees done k store due holds)) ∙ needed)
 
-  -- where all are done, each resource is as the trace's order leaves it
+  -- if all are done, each resource is as the trace's order leaves it
   same-end : (final : ℕ → Bool) (store : State) → ((j : ℕ) → j < length calls → final j ≡ true) → Holds final store → store ≡ state_at m calls (length calls)
   same-end final store all holds =
       same-state (state_at m calls (length calls)) store (size-between m (state_at m calls (length calls)) store (size-at m calls (length calls)) holds.0)

@@ -1,4 +1,4 @@
--- How what calls name, what principals may have and what calls touch hang together.
+-- How what calls name, what principals may have and what calls touch are related.
 use Rattle.std.proofs.Common.{◌≡◌, ℕ, suc, ◌+◌, ◌<◌, ◌≤◌, Bool, true, ◌&&◌, ◌||◌, nat_lt, List, refl, sym, arith, inl, inr}
 use Rattle.std.specs.Prelude.{◌⊎◌, eqb, Option, Some, None, IfSome}
 use Rattle.std.proofs.Math.Nat.{eq-or-lt_of_le}
@@ -18,7 +18,7 @@ named_reach : (free : ℕ) (r : ℕ → ℕ → Bool) (slot : Option ℕ) (named
 named_reach free r None named p f h has = grind (arith, nat_tests, cases_Bool named)
 named_reach free r (Some v) named p f h has = grind (arith, nat_tests, cases_Bool named, cases_Bool (r v f))
 
--- and the other way round
+-- and conversely
 reach_named : (free : ℕ) (r : ℕ → ℕ → Bool) (slot : Option ℕ) (named : Bool) (f : ℕ) → (reach_of r slot f || (named && r free f)) ≡ true
     → (p : ℕ) × ((is_at slot p || (named && eqb free p)) ≡ true) × (r p f ≡ true)
 reach_named free r None named f h = (free, grind (arith, nat_tests, cases_Bool named), grind (arith, cases_Bool named))

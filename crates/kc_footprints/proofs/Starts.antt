@@ -11,7 +11,7 @@ use Rattle.kc_footprints.specs.Planner.{Reached, HasOneOwnerEach, IsStart, has_p
 use Rattle.kc_footprints.proofs.Near.{near_same}
 use Rattle.kc_footprints.proofs.Added.{set_has, set_once}
 
--- what the pairs have so far
+-- the sets have the pairs so far
 pub record AreOwned (size : ℕ) (pairs : List (ℕ × ℕ)) (sets : List (List ℕ)) : Type 0 where
   pub count : length sets ≡ size
   pub has : (p f : ℕ) → has_member (get_or sets p []) f ≡ has_pair pairs p f
@@ -36,7 +36,7 @@ owned_more n i p f pairs d a b low below first second is so_far =
       once = λ q. set_once p f a b there is q (so_far.once q);
     }
 
--- where no frame has two owners, no principals are related
+-- if no frame has two owners, no principals are related
 pub start_of : (n free : ℕ) (pairs : List (ℕ × ℕ)) (h : Reached) → n < 2 ^ 32 → HasOneOwnerEach pairs → AreOwned n pairs h.sets → h.near ≡ replicate n [] → h.freed ≡ replicate n 0 → IsStart n free pairs h
 start_of n free pairs h few one owned near freed = record {
   exact = record {

@@ -1,4 +1,4 @@
--- One call more is planned and tracked.
+-- One more call is planned and tracked.
 use Rattle.std.proofs.Common.{◌≡◌, ℕ, zero, suc, ◌+◌, ◌-◌, ◌<◌, ◌≤◌, Bool, true, false, cond, refl, ap, arith, inl, inr}
 use Rattle.std.specs.Prelude.{◌⊎◌}
 use Rattle.std.proofs.Math.Nat.{eq-or-lt_of_le}
@@ -11,7 +11,7 @@ use Rattle.kc_footprints.proofs.Tracked.{Shape, IsNear, AreTracked}
 
 module _ (names_frame names_principal : ℕ → ℕ → Bool) (has : ℕ → ℕ → Resource → Bool) (touches : ℕ → Resource → Bool) (shape : Shape names_frame names_principal has touches)
     (wave : ℕ → ℕ) (size k : ℕ) (s : Stamps) (named_below : (j p : ℕ) → names_principal j p ≡ true → p < size) (tracked : AreTracked names_frame names_principal has touches wave size k s) where
-  -- what a principal may have at a time it may have later
+  -- what a principal may have at some time it may have later
   later : (d j p : ℕ) (r : Resource) → has j p r ≡ true → has (d + j) p r ≡ true
   later zero j p r h = let e : 0 + j ≡ j = omega arith in rw e h
   later (suc d) j p r h = let e : suc d + j ≡ suc (d + j) = omega arith in rw e (shape.keeps (d + j) p r (later d j p r h))

@@ -21,7 +21,7 @@ pub below_low : (n : ℕ) (o : Option ℕ) → IfSome (below n o) (λ x. x < n)
 below_low n None = tt
 below_low n (Some x) = cond_both (nat_lt x n) (Some x) None (λ o. IfSome o (λ y. y < n)) (λ less. ltb-true x n less) (λ past. tt)
 
--- the numbers that calls name are there
+-- the numbers that calls name exist
 pub names_range : (config : Configuration) (calls : List Call) (k : ℕ) → k < length (map (names_of config) calls) → IsInRange config.frames (slot_count config) (names_at (map (names_of config) calls) k)
 names_range config calls k low =
     let below_calls : k < length calls = rw (length-map calls (names_of config)) at low in

@@ -12,16 +12,17 @@ use Rattle.kc_waves.specs.Order.{IsPlan, Commutes}
 abbrev pub HasNeeds : Type 0
 HasNeeds = (m : State) (calls : List Call) → IsLawful m → (k : ℕ) → k < length calls → IsWithin (need (state_at m calls k) (call_at calls k)) (footprint m calls k)
 
--- the wave of each call is the length of the longest chain of calls that ends with it, each sharing a resource with the next
+-- the wave of each call is the length of the longest chain of calls that ends with it, each of which shares a resource
+-- with the next
 abbrev pub IsWaves : State → List Call → (ℕ → ℕ) → Type 0
 IsWaves m calls wave = IsPlan (footprint m calls) wave (length calls)
 
--- what a call's footprint has before it is what the waves before its own leave, and the last wave leaves the end
+-- before a call its footprint has what the waves before its own leave, and the last wave leaves the final state
 abbrev pub IsCommuting : Type 0
 IsCommuting = (m : State) (calls : List Call) (wave : ℕ → ℕ) → IsLawful m → IsWaves m calls wave
     → Commutes (footprint m calls) wave (part_at m calls) (length calls)
 
--- the same with links in the frames, and a list's ends in its place
+-- the same with links in the frames, and with a list's ends in place of the list
 abbrev pub IsCommutingLinked : Type 0
 IsCommutingLinked = (m : State) (calls : List Call) (wave : ℕ → ℕ) → IsLawful m → IsWaves m calls wave
     → Commutes (footprint m calls) wave (linked_part_at m calls) (length calls)

@@ -8,7 +8,7 @@ use Rattle.kc_footprints.specs.Commuting.{IsWaves}
 use Rattle.kc_footprints.specs.Spans.{Footprints, footprint_has, footprint_at}
 use Rattle.kc_footprints.specs.Plan.{wave_of}
 
--- they are the footprints of the calls, and the waves are theirs
+-- these are the footprints of the calls, and the waves are theirs
 pub record AreFootprints (m : State) (calls : List Call) (footprints : Footprints) : Type 0 where
   pub count : length footprints.calls ≡ length calls
   pub touches : (k : ℕ) (r : Resource) → k < length calls → footprint_has footprints.sets (footprint_at footprints k) r ≡ footprint m calls k r

@@ -1,13 +1,15 @@
--- The last waves by which a planner finds the next one without a walk over what a call touches; over any names and reach.
+-- The last waves, by which a planner finds the next one without a walk over what a call touches; over any names and
+-- reach.
 use Rattle.std.specs.Prelude.{◌≡◌, ℕ, ◌≤◌, ◌<◌, Bool, true, cond, List, get_or, ◌⊎◌}
 
--- the last wave of a call that named a frame, that of one that named a principal, and the highest of one that touched a principal or what it may have
+-- the last wave of a call that named a frame, the last of one that named a principal, and the highest of one that
+-- touched a principal or what it may have
 pub record Stamps : Type 0 where
   pub frame_waves : List ℕ
   pub principal_waves : List ℕ
   pub reach_waves : List ℕ
 
--- 0 is no wave
+-- 0 stands for no wave
 abbrev pub frame_wave : Stamps → ℕ → ℕ
 frame_wave s f = get_or s.frame_waves f 0
 
@@ -20,7 +22,7 @@ reach_wave s p = get_or s.reach_waves p 0
 -- names_frame f: the call names the frame f;  names_principal p: it names the principal p;
 -- reach p f: before the call the principal p may have the frame f
 module _ (names_frame names_principal : ℕ → Bool) (reach : ℕ → ℕ → Bool) where
-  -- high is the highest wave of a call that shares something with this call, as far as the last waves tell
+  -- high is the highest wave of a call that shares something with this call, as the last waves show it
   pub record IsFound (size high : ℕ) (s : Stamps) : Type 0 where
     pub named : (f : ℕ) → names_frame f ≡ true → frame_wave s f ≤ high
     pub had : (f p : ℕ) → names_frame f ≡ true → p < size → reach p f ≡ true → principal_wave s p ≤ high
@@ -29,7 +31,7 @@ module _ (names_frame names_principal : ℕ → Bool) (reach : ℕ → ℕ → B
         ⊎ (((f : ℕ) × (p : ℕ) × (names_frame f ≡ true) × (p < size) × (reach p f ≡ true) × (principal_wave s p ≡ high))
         ⊎ ((p : ℕ) × (names_principal p ≡ true) × (reach_wave s p ≡ high))))
 
-  -- the call, of wave w, is written down
+  -- the call, of wave w, is recorded
   pub record IsNoted (size w : ℕ) (near : ℕ → ℕ → Bool) (s t : Stamps) : Type 0 where
     pub frame_is : (f : ℕ) → frame_wave t f ≡ cond (names_frame f) w (frame_wave s f)
     pub principal_is : (p : ℕ) → principal_wave t p ≡ cond (names_principal p) w (principal_wave s p)

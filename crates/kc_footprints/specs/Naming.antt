@@ -26,7 +26,7 @@ gain_of (Drop v c g) = FreeTakesReach
 gain_of (Clear v) = FreeTakesReach
 gain_of _ = Nothing
 
--- the number, where it is below n
+-- the number, if it is below n
 abbrev pub below : ℕ → Option ℕ → Option ℕ
 below n None = None
 below n (Some x) = if nat_lt x n then Some x else None

@@ -1,4 +1,4 @@
--- The principals of a state by number: slots by theirs, and the free list after them.
+-- The principals of a state by number: slots by their own, and the free list after them.
 use Rattle.std.specs.Prelude.{◌≡◌, ℕ, ◌<◌, List, Option, Some, None}
 use Rattle.kc_types.specs.Configuration.{slot_count}
 use Rattle.kc_types.specs.declared.owner.Owner.{Owner}

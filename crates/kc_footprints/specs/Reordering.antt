@@ -14,12 +14,12 @@ abbrev pub after_order : List Call → State → List ℕ → State
 after_order calls store [] = store
 after_order calls store (k ∷ ks) = after_order calls (next store (call_at calls k)).1 ks
 
--- each call answers what it answers in the trace's order
+-- each call gets the reply that it gets in the trace's order
 abbrev pub AnswersAlike : State → List Call → State → List ℕ → Type 0
 AnswersAlike m calls store [] = Unit {0}
 AnswersAlike m calls store (k ∷ ks) = ((next store (call_at calls k)).0 ≡ reply_at m calls k) × AnswersAlike m calls (next store (call_at calls k)).1 ks
 
--- an order in which calls that share a resource keep theirs gives the same replies and the same end
+-- an order in which calls that share a resource keep their order gives the same replies and the same final state
 abbrev pub IsOrderFree : Type 0
 IsOrderFree = (m : State) (calls : List Call) (order : List ℕ) → IsLawful m → IsReordering (footprint m calls) (length calls) (λ k. false) order
     → AnswersAlike m calls m order × (after_order calls m order ≡ state_after m calls)

@@ -43,20 +43,20 @@ pub record IsSpan (sets : List (List ℕ)) (s : Span) : Type 0 where
   pub principal : s.principal < length sets
   pub within : s.length ≤ size_of (get_or sets s.principal [])
 
--- what the footprint says is there
+-- what the footprint names exists
 pub record IsThere (sets : List (List ℕ)) (footprint : Footprint) : Type 0 where
   pub frame : IfSome footprint.frame (λ f. f < frame_limit)
   pub slot : IfSome footprint.slot (IsSpan sets)
   pub slot_low : IfSome footprint.slot (λ s. s.principal < slot_limit)
   pub free : IfSome footprint.free (IsSpan sets)
 
--- so it is with each of them, no principal may have a frame twice, and frames have numbers of frames
+-- this holds of each footprint, no principal may have a frame twice, and frames have numbers of frames
 pub record AreThere (sets : List (List ℕ)) (footprints : List Footprint) : Type 0 where
   pub low : (p i : ℕ) → i < size_of (get_or sets p []) → get_or (get_or sets p []) i 0 < frame_limit
   pub once : (p : ℕ) → IsDistinct eqb (get_or sets p [])
   pub each : (k : ℕ) → k < length footprints → IsThere sets (get_or footprints k no_footprint)
 
--- the first of what a principal may have, but for the frame and for what the other principal has
+-- the first of what a principal may have, except the frame and what the other principal has
 abbrev pub numbers_of : List (List ℕ) → Option ℕ → Option Span → Span → List ℕ
 numbers_of sets frame other s = filter (λ f. not (is_at frame f || has_frame sets other f)) (take s.length (get_or sets s.principal []))
 
@@ -87,21 +87,21 @@ free_part sets frame slot free = principal_part sets free_itself frame slot free
 abbrev pub span_of : List (List ℕ) → ℕ → Span
 span_of sets p = record { principal = p; length = size_of (get_or sets p []) }
 
--- the free list, where the call names it
+-- the free list, if the call names it
 abbrev pub free_of : ℕ → Names → Option ℕ
 free_of free n = if n.free then Some free else None
 
 abbrev pub footprint_of : List (List ℕ) → ℕ → Names → Footprint
 footprint_of sets free n = record { frame = n.frame; slot = option_map (span_of sets) n.slot; free = option_map (span_of sets) (free_of free n) }
 
--- the span is that of the principal, where there is one, and its frames are those that the principal may have by `before`
+-- the span is that of the principal, if there is one, and its frames are those that the principal may have by `before`
 pub record IsSpanOf (sets : List (List ℕ)) (before : ℕ → ℕ → Bool) (o : Option ℕ) (span : Option Span) : Type 0 where
   pub there : is_some span ≡ is_some o
   pub principal : (p : ℕ) → is_of span p ≡ is_at o p
   pub frames : (f : ℕ) → has_frame sets span f ≡ reach_of before o f
   pub within : IfSome span (IsSpan sets)
 
--- the footprint says what a call of these names touches, where `before` says what principals may have before it
+-- the footprint says what a call with these names touches, if `before` says what principals may have before it
 pub record IsFootprintOf (end : ℕ) (before : ℕ → ℕ → Bool) (n : Names) (sets : List (List ℕ)) (footprint : Footprint) : Type 0 where
   pub frame : footprint.frame ≡ n.frame
   pub slot : IsSpanOf sets before n.slot footprint.slot

@@ -1,4 +1,4 @@
--- What a call does in a store that has the right parts in its footprint alone.
+-- What a call does in a store that has the right parts only in the call's footprint.
 use Rattle.std.specs.Prelude.{ℕ, ◌≡◌, ◌<◌, suc, false, List, length}
 use Rattle.kc_types.specs.declared.call.Call.{Call}
 use Rattle.kc_model.specs.State.{State}

@@ -1,4 +1,4 @@
-//! What each call of a trace may touch, kept as lengths into what slots and the free list may have.
+//! What each call of a trace may touch, kept as lengths of what slots and the free list may have.
 ghost use Rattle.std.specs.Prelude.{◌≡◌, ℕ, ◌<◌, ◌||◌, ◌++◌, [], eqb, get_or, length, IfOk, OnOk, IfSome};
 ghost use Rattle.kc_types.specs.Limits.{frame_limit, slot_limit};
 ghost use Rattle.kc_types.specs.declared.resource.Resource.TheVariants as resource;
@@ -13,7 +13,8 @@ use kc_types::{FrameNo, Memory, Resource, VmId};
 use std::alloc::{AllocError, Global};
 use std::marker::Model;
 
-/// A principal, a slot or the free list, and how many of what it may have at the end it may have already.
+/// A principal, which is a slot or the free list, and how many of the frames that it may have at the end it may have
+/// now.
 #[derive(Clone, Copy)]
 pub(crate) struct Span {
     pub(crate) principal: u32,
@@ -76,7 +77,7 @@ fn slot_of(number: u32) -> Resource
 }
 
 impl Footprints {
-    /// What a walk over the calls has found.
+    /// Takes over what a walk over the calls has found.
     pub(crate) fn of_walk(walk: Walk) -> Footprints
         requires { AreThere walk.sets.items walk.footprints.items }
         ensures sets { result.sets ≡ walk.sets.items }
@@ -104,7 +105,7 @@ impl Footprints {
         self.calls.len()
     }
 
-    /// What a call may touch, as it is kept.
+    /// What a call may touch, in the form in which it is kept.
     fn footprint(&self, number: usize) -> Footprint
         requires { number < length self.now.calls }
         ensures value { result ≡ footprint_at self.now number }
@@ -114,10 +115,10 @@ impl Footprints {
         self.calls[number]
     }
 
-    /// How many parts a call may touch at most; one that it names and that a slot or the free list may have as well counts
-    /// twice. Takes no longer for more of them.
+    /// An upper bound of the number of parts that a call may touch: a frame that the call names, and that a slot or
+    /// the free list may have as well, counts twice. Takes the same time for any number of parts.
     pub fn count_at_most(&self, number: usize) -> u32
-        // No clause: whether threads are worth starting is weighed by it, and any number would do.
+        // No clause: it is used to decide if threads are worth starting, and any number would do.
         requires { number < length self.now.calls }
     {
         let footprint = self.footprint(number);
@@ -126,7 +127,7 @@ impl Footprints {
             .saturating_add(1)
     }
 
-    /// How many parts a principal stands for: itself and what it may have.
+    /// The number of parts of a principal: itself and what it may have.
     fn count_of(span: Option<Span>) -> u32 {
         match span {
             Some(span) => u32::try_from(span.length)
@@ -159,7 +160,7 @@ impl Footprints {
         is_frame(frame, number) || self.has(span, number)
     }
 
-    /// Lists the first of what a principal may have, but for the frame and for what the other principal has.
+    /// Lists the first of what a principal may have, except the frame and what the other principal has.
     fn list(
         &self,
         members: &mut Vec<Resource>,
@@ -183,7 +184,7 @@ impl Footprints {
         Ok(())
     }
 
-    /// Lists a slot and the first of what it may have, where the frame is listed already.
+    /// Lists a slot and the first of what it may have, if the frame is listed already.
     fn list_slot(
         &self,
         members: &mut Vec<Resource>,
@@ -201,7 +202,8 @@ impl Footprints {
         Ok(())
     }
 
-    /// Lists the free list and the first of what it may have, where the frame is listed already, and what the slot may have.
+    /// Lists the free list and the first of what it may have, if the frame and what the slot may have are listed
+    /// already.
     fn list_free(
         &self,
         members: &mut Vec<Resource>,
@@ -230,8 +232,8 @@ impl Footprints {
         Ok(())
     }
 
-    /// What a call may touch, each member once, in no order to rely on. A call's number is its place in the trace, from 0.
-    /// `Memory` where a growth was refused.
+    /// The resources that a call may touch, each once, in no particular order. A call's number is its place in the
+    /// trace, from 0. `Memory` if memory cannot be had.
     pub fn of(&self, alloc: Global, number: usize) -> Result<Vec<Resource>, Memory>
         requires { number < length self.now.calls }
         ensures members { IfOk result (λ members. (r : _) → is_wanted members.items r ≡ footprint_has self.now.sets (footprint_at self.now number) r) }

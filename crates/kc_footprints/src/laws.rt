@@ -1,4 +1,4 @@
-//! Laws over the definitions alone.
+//! Laws over the definitions only.
 
 ghost use Rattle.kc_footprints.specs.Commuting.{IsCommuting, IsCommutingLinked, HasNeeds};
 ghost use Rattle.kc_footprints.specs.Stepping.{IsStepping};
@@ -9,7 +9,7 @@ pub fn needs()
     ensures { HasNeeds }
 {}
 
-/// A call does its step in a store that has the right parts in its footprint, and anything elsewhere.
+/// A call does its step in a store that has the right parts in its footprint, whatever the store has elsewhere.
 pub fn stepping()
     ensures { IsStepping }
 {}
@@ -20,8 +20,8 @@ pub fn commuting()
     ensures linked { IsCommutingLinked }
 {}
 
-/// An order in which calls that share a resource keep theirs gives the same replies and the same end,
-/// and wave after wave is such an order.
+/// An order in which calls that share a resource keep their order gives the same replies and the same final state;
+/// wave after wave is such an order.
 pub fn reordering()
     ensures any { IsOrderFree }
     ensures by_waves { IsWaveOrderFree }

@@ -1,4 +1,4 @@
-//! What each call of a trace may touch, and the waves in which the calls are taken.
+//! What each call of a trace may touch, and the waves in which the calls are made.
 #![tactic(auto)]
 
 mod footprints;

@@ -5,19 +5,19 @@ ghost use Rattle.kc_footprints.specs.Naming.{named_frame, gain_of, below, names_
 
 use kc_types::{Call, Config, slot_of};
 
-/// What a principal, a slot or the free list, may get by a call.
+/// What a principal, which is a slot or the free list, may gain by a call.
 #[derive(Clone, Copy)]
 pub(crate) enum Gain {
     Nothing,
-    /// The named slot may get the named frame.
+    /// The named slot may gain the named frame.
     SlotTakesFrame,
-    /// The free list may get the named frame.
+    /// The free list may gain the named frame.
     FreeTakesFrame,
-    /// The free list may get what the named slot may have.
+    /// The free list may gain what the named slot may have.
     FreeTakesReach,
 }
 
-/// What a call names: a frame and a slot that exist, the free list.
+/// What a call names: a frame and a slot that exist, and whether the free list.
 #[derive(Clone, Copy)]
 pub(crate) struct Names {
     pub(crate) frame: Option<u32>,
@@ -40,7 +40,7 @@ pub(crate) fn names_of(config: &Config, call: &Call) -> Names
     }
 }
 
-/// A number that is below the bound.
+/// A number, if it is below the bound.
 fn below(number: Option<u32>, bound: u32) -> Option<u32>
     ensures { result ≡ below bound number }
 {

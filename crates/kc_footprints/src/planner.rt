@@ -1,4 +1,4 @@
-//! A planner whose cost for a call does not grow with what the call may touch.
+//! A planner that takes the same time for a call, whatever the call may touch.
 ghost use Rattle.std.specs.Prelude.{◌≡◌, ℕ, ◌+◌, ◌<◌, ◌≤◌, ◌^◌, length, get_or, set, replicate, [], eqb};
 ghost use Rattle.std.specs.Prelude.{IfOk, IfSome, MatchOption, ◌⊎◌, if◌then◌else◌};
 ghost use Rattle.std.specs.List.{IsDistinct};
@@ -14,11 +14,11 @@ use crate::reaches::{Reaches, start};
 use std::alloc::{AllocError, Global};
 use std::marker::Model;
 
-/// The last wave of a call that named a frame, that of a call that named a principal, and the highest of a call
+/// The last wave of a call that named a frame, the last of a call that named a principal, and the highest of a call
 /// that touched a principal or what it may have.
 #[derive(Drop)]
 pub(crate) struct Planner {
-    // By frame; the others by principal. 0 is no wave.
+    // By frame; the others are by principal. 0 stands for no wave.
     frame_waves: Vec<u32>,
     principal_waves: Vec<u32>,
     reach_waves: Vec<u32>,
@@ -36,7 +36,7 @@ impl Model for Planner {
     } };
 }
 
-/// The larger of two.
+/// The larger of two numbers.
 fn larger(a: u32, b: u32) -> u32
     ensures left { a ≤ result }
     ensures right { b ≤ result }
@@ -77,7 +77,7 @@ impl Planner {
         highest
     }
 
-    /// The highest wave of a call that shares something with a call of these names.
+    /// The highest wave of a call that shares something with a call with these names.
     pub(crate) fn highest(&self, reaches: &Reaches, free: usize, names: &Names) -> u32
         requires range { IsInRange (length self.now.frame_waves) free names.now }
         requires free { free < length self.now.reach_waves }
@@ -119,7 +119,7 @@ impl Planner {
         if named { self.reach_waves[free] } else { 0 }
     }
 
-    /// Raises the highest waves of the principals that a call touches, or what they may have.
+    /// Raises the highest wave of each principal if a call touches it or what it may have.
     pub(crate) fn raise(&mut self, reaches: &Reaches, free: usize, names: &Names, wave: u32)
         requires slot { IfSome names.now.slot (λ v. v < free) }
         requires free { free < length self.old.reach_waves }
@@ -137,7 +137,7 @@ impl Planner {
         }
     }
 
-    /// Writes down the wave of a call of these names.
+    /// Records the wave of a call with these names.
     pub(crate) fn note(&mut self, reaches: &Reaches, free: usize, names: &Names, wave: u32)
         requires range { IsInRange (length self.old.frame_waves) free names.now }
         requires free { free < length self.old.reach_waves }
@@ -184,7 +184,7 @@ impl Planner {
 }
 
 /// What a walk over the calls of a trace finds: what each principal may have at its end, what each call touches, and
-/// the wave of each.
+/// the wave of each call.
 #[derive(Drop)]
 pub(crate) struct Walk {
     pub(crate) sets: Vec<ReachSet>,

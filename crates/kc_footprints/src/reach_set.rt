@@ -1,4 +1,4 @@
-//! A set of numbers that only grows and keeps the order in which they came.
+//! A set of numbers that only grows, and keeps the order in which they came.
 
 ghost use Rattle.std.specs.Prelude.{◌≡◌, length, slice_get, [], OnOk, OnErr};
 ghost use Rattle.kc_footprints.specs.Members.{position_in, with_member};
@@ -50,7 +50,7 @@ impl ReachSet {
         self.members.get_index(place).copied()
     }
 
-    /// Takes a number in.
+    /// Adds a number.
     pub(crate) fn add(&mut self, number: u32) -> Result<(), AllocError>
         ensures ok { OnOk result (self.new ≡ with_member self.old number) }
         ensures err { OnErr result (self.new ≡ self.old) }

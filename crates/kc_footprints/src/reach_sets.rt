@@ -1,4 +1,4 @@
-//! The sets of several principals, in which one look tells whether a number is a member.
+//! The sets of several principals, in which membership takes one look-up.
 ghost use Rattle.std.specs.Prelude.{◌≡◌, ◌<◌, ◌^◌, length, get_or, set, replicate, [], IfOk, OnOk, OnErr};
 ghost use Rattle.kc_footprints.specs.Members.{has_member, with_member};
 
@@ -10,7 +10,7 @@ use std::marker::Model;
 #[derive(Drop)]
 pub(crate) struct ReachSets {
     sets: Vec<ReachSet>,
-    // For each number from 0 on a flag for each principal: whether its set has the number. What is past the end is false.
+    // For each number from 0 on, a flag for each principal: whether its set has the number. Missing flags are false.
     flags: Vec<bool>,
 }
 
@@ -26,7 +26,8 @@ impl Model for ReachSets {
 }
 
 impl ReachSets {
-    /// Empty sets, with room for the flags of this many numbers; those of higher numbers are made when they come.
+    /// Makes empty sets, with room for the flags of this many numbers; those of higher numbers are made when they
+    /// come.
     pub(crate) fn new(
         alloc: Global,
         principals: usize,
@@ -68,7 +69,7 @@ impl ReachSets {
         &self.sets[principal]
     }
 
-    /// Takes a number into a principal's set.
+    /// Adds a number to a principal's set.
     pub(crate) fn add(&mut self, principal: usize, number: u32) -> Result<(), AllocError>
         requires { principal < length self.old }
         ensures ok { OnOk result (self.new ≡ set self.old principal (with_member (get_or self.old principal []) number)) }
@@ -85,7 +86,7 @@ impl ReachSets {
         Ok(())
     }
 
-    /// The sets alone.
+    /// Returns the sets only.
     pub(crate) fn into_sets(self) -> Vec<ReachSet>
         ensures { result.items ≡ self }
     {

@@ -11,7 +11,8 @@ use crate::reach_sets::ReachSets;
 use std::alloc::{AllocError, Global};
 use std::marker::Model;
 
-/// What each principal may have, which principals may have a frame in common, and how much of each slot's frames the free list may have.
+/// What each principal may have, which principals may have a frame in common, and how many of each slot's frames the
+/// free list may have.
 #[derive(Drop)]
 pub(crate) struct Reaches {
     sets: ReachSets,
@@ -36,7 +37,7 @@ impl Reaches {
         self.sets.contains(principal, frame)
     }
 
-    /// Whether two principals are one, or may have a frame in common.
+    /// Whether two principals are the same, or may have a frame in common.
     #[tactic(auto, unfolding(crate::specs::Planner::is_near))]
     fn is_near(&self, principal: usize, other: u32) -> bool
         requires principal { principal < length self.now.near }
@@ -87,7 +88,7 @@ impl Reaches {
         }
     }
 
-    /// What a call of these names may touch.
+    /// What a call with these names may touch.
     pub(crate) fn footprint(&self, free: usize, names: &Names) -> Footprint
         requires free { free < length self.now.sets }
         requires few { free < 2 ^ 32 }
@@ -161,7 +162,7 @@ impl Reaches {
         Ok(())
     }
 
-    /// Lets principals have what they get by a call.
+    /// Lets principals have what they gain by a call.
     pub(crate) fn gain(&mut self, free: usize, names: &Names) -> Result<(), AllocError>
         requires free { free < length self.old.sets }
         requires slot { IfSome names.now.slot (λ v. v < free) }
@@ -176,7 +177,7 @@ impl Reaches {
         }
     }
 
-    /// Lets a slot have a frame, where both are named.
+    /// Lets a slot have a frame, if both are named.
     pub(crate) fn join_named(
         &mut self,
         slot: Option<u32>,
@@ -194,7 +195,7 @@ impl Reaches {
         Ok(())
     }
 
-    /// Lets the free list have a frame, where both are named.
+    /// Lets the free list have a frame, if both are named.
     pub(crate) fn join_free(
         &mut self,
         named: bool,
@@ -211,7 +212,7 @@ impl Reaches {
         Ok(())
     }
 
-    /// Lets the free list have what a slot may have, where both are named.
+    /// Lets the free list have what a slot may have, if both are named.
     pub(crate) fn join_reach(
         &mut self,
         named: bool,
@@ -232,7 +233,7 @@ impl Reaches {
     }
 }
 
-/// What the principals may have at the start, with room for this many frames. No frame is owned by two.
+/// Sets what the principals may have at the start, with room for this many frames. No frame has two owners.
 pub(crate) fn start(
     alloc: Global,
     frames: usize,

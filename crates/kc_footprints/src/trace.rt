@@ -1,4 +1,4 @@
-//! What the calls of a trace may touch, and the waves in which they are taken.
+//! What the calls of a trace may touch, and the waves in which they are made.
 ghost use Rattle.std.specs.Prelude.{◌≡◌, ◌+◌, ◌<◌, ◌^◌, length, IfOk, map};
 ghost use Rattle.kc_types.specs.Configuration.{slot_count};
 ghost use Rattle.kc_model.specs.State.{State};
@@ -24,10 +24,10 @@ fn names_of_all(alloc: Global, config: &Config, calls: &[Call]) -> Result<Vec<Na
     Ok(names)
 }
 
-/// What these calls may touch, and their waves, which count from 1; `Memory` where a growth was refused. Of the state
-/// from which they start only the owners are asked for, as pairs of a principal and a frame that it owns: a slot by its
-/// number, and the free list by the number of slots. There are fewer than 2^32 calls, since a wave's number is a `u32`;
-/// a trace has at most 65,536.
+/// What these calls may touch, and their waves, which count from 1; `Memory` if memory cannot be had. Of the state
+/// from which they start only the owners are needed, as pairs of a principal and a frame that it owns: a slot is given
+/// by its number, and the free list by the number of slots. There are fewer than 2^32 calls, since a wave's number is
+/// a `u32`; a trace has at most 65,536.
 pub fn footprints_from(
     alloc: Global,
     config: &Config,

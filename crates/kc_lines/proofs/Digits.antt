@@ -23,7 +23,7 @@ data_word_is word e =
     let b = and_parts (list_all is_lower_digit word) (not (length word == 0)) a.0 in
     record { digits = b.0; some = eqb-false _ _ (not-true _ b.1); few = leb-true _ _ a.1 }
 
--- ---- a lower case digit is the one that is written of its value
+-- ---- a lower case digit is the one that is written for its value
 
 unfoldable pub all_below : (ℕ → Bool) → ℕ → Bool
 all_below t zero = true
@@ -94,7 +94,7 @@ lower_pairs i (a ∷ b ∷ rest) bytes e h =
     let low : p0.0 % 16 ≡ p2.0 = omega (arith, da.0, db.0, byte) in
     rw (← whole, high, low, da.1, db.1, ← ih) refl
 
--- data is bytes, also past its end
+-- data are bytes, also past their end
 data_is_bytes : (bytes : List ℕ) → IsData bytes → IsBytes bytes
 data_is_bytes bytes fits i =
     elim (cases_lt i (length bytes)) [
@@ -135,7 +135,7 @@ data_of-encode_lower bytes fits =
     let test : is_data_word (encode_lower bytes) ≡ true = and_from _ _ (and_from _ _ (encoded_is_lower bytes fits) (ap not (ne_eqb (length (encode_lower bytes)) 0 (λ z. absurd (omega (arith, sizes, fits.nonempty)))))) (le-leb _ _ (omega (arith, sizes, fits.within))) in
     rw (test, decode_of-encode_lower bytes (data_is_bytes bytes fits)) refl
 
--- ---- reading two digits after two
+-- ---- reading digits in pairs
 
 abbrev value_again : ℕ → Bool
 value_again c = cond (is_lower_digit c) (get_or lower_digits (digit_value c) 0 == c) true
@@ -175,7 +175,7 @@ two_more word i lt =
     let place : 2 * (i + 1) ≡ 2 * i + 1 + 1 = omega arith in
     ap (λ (n : ℕ). take n word) place ∙ two ∙ ap (λ (l : List ℕ). l ++ get_or word (2 * i + 1) 0 ∷ []) one ∙ append_assoc (take (2 * i) word) (get_or word (2 * i) 0 ∷ []) (get_or word (2 * i + 1) 0 ∷ [])
 
--- so many digits are read
+-- this many digits are read
 pub record IsDecoded (valid : Bool) (word bytes : List ℕ) (i : ℕ) : Type 0 where
   pub valid_is : valid ≡ list_all is_lower_digit (take (2 * i) word)
   pub spelled : valid ≡ true → take (2 * i) word ≡ encode_lower (take i bytes)
@@ -215,7 +215,7 @@ none_unless : (found : Option (List ℕ)) → ((bytes : List ℕ) → found ≡ 
 none_unless None h = refl
 none_unless (Some bytes) h = absurd (h bytes refl)
 
--- a word of another length is none
+-- a word of another length is not data
 pub no_length : (word : List ℕ) → (not (length word == 0) && nat_le (length word) 8192 && (length word % 2 == 0)) ≡ false → data_of word ≡ None
 no_length word e =
     none_unless (data_of word) (λ bytes h.
@@ -234,7 +234,7 @@ has_length word e =
     let some : length word ≢ 0 = eqb-false _ _ (not-true _ b.0) in
     (omega arith, leb-true _ _ b.1, eqb-true _ _ a.1)
 
--- a word with another byte than digits is none
+-- a word with a byte that is not a digit is not data
 pub no_digits : (word : List ℕ) → list_all is_lower_digit word ≡ false → data_of word ≡ None
 unfolding data_of
 no_digits word e = rw e refl
@@ -250,13 +250,13 @@ written_over bytes others n size same =
     let none : drop (length bytes) others ≡ [] = drop_all (length bytes) others (omega arith) in
     ap (λ (l : List ℕ). take n (bytes ++ l)) none ∙ ap (take n) (append-nil bytes) ∙ take_all n bytes (omega arith)
 
--- a word that spells bytes is read as these
+-- a word that spells bytes is read as those bytes
 pub read_as_spelled : (word bytes : List ℕ) → 0 < length word → length word ≤ 8192 → word ≡ encode_lower bytes → All (λ b. b < 256) bytes → data_of word ≡ Some bytes
 read_as_spelled word bytes nonempty short spelled each =
     let size : length word ≡ 2 * length bytes = ap length spelled ∙ length-encode_with lower_digits bytes in
     ap data_of spelled ∙ data_of-encode_lower bytes (record { nonempty = omega (arith, nonempty, size); within = omega (arith, short, size); each_byte = each })
 
--- what is made of the bytes of a word is what the word is read as
+-- the bytes made of a word are what the word is read as
 pub data_is_made : (word bytes : List ℕ) (found : Option (List ℕ)) → (not (length word == 0) && nat_le (length word) 8192 && (length word % 2 == 0)) ≡ true → word ≡ encode_lower bytes → All (λ b. b < 256) bytes
     → IsSome found ↔ ((0 < length bytes) × (length bytes ≤ 4096)) → IfSome found (λ made. made ≡ bytes) → found ≡ data_of word
 data_is_made word bytes found e spelled each valid value =

@@ -1,4 +1,4 @@
--- Digits written two after two.
+-- Digits written in pairs.
 use Rattle.std.proofs.Common.{◌≡◌, ◌<◌, ◌+◌, ◌*◌, ◌%◌, ◌/◌, ℕ, true, false, cond, List, [], ◌∷◌, ◌++◌, length, get_or, set, take, refl, sym, ap, ◌∙◌, arith, append_assoc}
 use Rattle.std.specs.Prelude.{◌==◌, nat_lt}
 use Rattle.std.proofs.lemmas.List.{take_more, take_more_set, take_all, length-set}
@@ -22,7 +22,7 @@ high_digit v past lt =
     let t = at_below (λ k. cond (nat_lt k 10) true (87 + k == get_or lower_digits k 0)) 16 v high_digits lt in
     eqb-true _ _ (rw past at t)
 
--- so many bytes are written
+-- this many bytes are written
 pub record IsEncoded (bytes digits : List ℕ) (i : ℕ) : Type 0 where
   pub written : take (2 * i) digits ≡ encode_lower (take i bytes)
   pub size : length digits ≡ 2 * length bytes

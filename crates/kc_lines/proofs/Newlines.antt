@@ -20,7 +20,7 @@ prefix_holds q (suc n) (x ∷ xs) le =
 abbrev is_newline : ℕ → Bool
 is_newline b = b == 10
 
--- a line, and what stands behind its newline
+-- a line, and what is after its newline
 pub line_ends_at : (xs : List ℕ) (at : ℕ) → position is_newline xs ≡ Some at → IsOneLine (take at xs) × (xs ≡ take at xs ++ 10 ∷ drop (at + 1) xs)
 line_ends_at xs at e =
     elim (chosen (nat_lt (position_or_len is_newline xs) (length xs)) (Some (position_or_len is_newline xs)) None (Some at) e) [
@@ -39,6 +39,6 @@ no_newline xs e =
       | inr h ↦ rw (take_all (length xs) xs (omega arith)) at (prefix_holds (λ b. not (b == 10)) (length xs) xs (ltb-false _ _ h.0))
     ]
 
--- what stands behind the first so many bytes
+-- what is after this many bytes
 pub tail_is : (n : ℕ) (xs : List ℕ) → take (length xs - n) (drop n xs) ≡ drop n xs
 tail_is n xs = take_all (length xs - n) (drop n xs) (omega (arith, length-drop n xs))

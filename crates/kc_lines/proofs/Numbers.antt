@@ -16,7 +16,7 @@ AreDigits word = list_all is_ascii_digit word ≡ true
 pub own : IsNumeralModel AreDigits (digits_value 10)
 own = numerals_by_value AreDigits (search rules)
 
--- a numeral, in the words of the facts
+-- a numeral, as the facts describe it
 pub record IsNumeralWord (word : List ℕ) : Type 0 where
   pub digits : AreDigits word
   pub some : 0 < length word

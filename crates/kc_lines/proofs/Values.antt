@@ -1,4 +1,4 @@
--- The number that digits write, cut off where it is too large.
+-- The number that digits spell, cut off if it is too large.
 use Rattle.std.proofs.Common.{◌≡◌, ◌≤◌, ◌<◌, ◌+◌, ◌*◌, ◌%◌, ◌^◌, ℕ, Bool, true, false, cond, List, length, get_or, take, Some, None, refl, sym, ap, ◌∙◌, arith, inl, inr}
 use Rattle.std.specs.Prelude.{◌==◌, nat_le}
 use Rattle.std.specs.Char.{is_ascii_digit, digit_value}
@@ -36,7 +36,7 @@ digit_at word i all lt =
       | inr h ↦ absurd (let none = list_all_at is_ascii_digit word i 0 lt h in let e : false ≡ true = sym none ∙ all in cc)
     ]
 
--- one digit more
+-- one more digit
 more_is : (word : List ℕ) (i : ℕ) → list_all is_ascii_digit word ≡ true → i < length word → digits_value 10 (take (i + 1) word) ≡ digits_value 10 (take i word) * 10 + get_or word i 0 % 16
 more_is word i all lt = digits_value_more 10 word i lt ∙ ap (λ d. digits_value 10 (take i word) * 10 + d) (value_of_digit (get_or word i 0) (digit_at word i all lt))
 
@@ -81,7 +81,7 @@ none_when : (word : List ℕ) → is_numeral word ≡ true → 2 ^ 32 ≤ digits
 unfolding number_in
 none_when word e past = rw (e, le-ltb (digits_value 10 word) (2 ^ 32) past) refl
 
--- one that was
+-- a number that was cut off
 pub no_value : (word : List ℕ) (v : ℕ) → is_numeral word ≡ true → IsCut (digits_value 10 word) v → 2 ^ 32 ≤ v → None ≡ number_in word
 no_value word v e cut le =
     elim (cases_lt (digits_value 10 word) (2 ^ 32)) [
@@ -89,7 +89,7 @@ no_value word v e cut le =
       | inr past ↦ none_when word e past
     ]
 
--- digits are a numeral where they have no leading zero
+-- digits are a numeral exactly if they have no leading zero
 pub digits_numeral : (digits : List ℕ) (b : Bool) → list_all is_ascii_digit digits ≡ true → b ≡ has_no_leading_zero digits → is_numeral digits ≡ b
 digits_numeral digits b e h = rw e (sym h)
 

@@ -1,4 +1,4 @@
--- Words joined by spaces, and cut at them again.
+-- Words joined by spaces, and split at spaces again.
 use Rattle.std.proofs.Common.{◌≡◌, ◌⊎◌, ◌<◌, ◌+◌, ◌-◌, ℕ, suc, Bool, true, false, cond, List, [], ◌∷◌, ◌++◌, length, get_or, take, drop, Option, Some, None, refl, sym, ap, ◌∙◌, arith, inl, inr, length-append}
 use Rattle.std.specs.Prelude.{◌^◌, ◌&&◌, ◌==◌, not, nat_le, position, nat_lt, option_map, option_and_then}
 use Rattle.std.specs.List.{list_all, slice_split, join_with_byte, position_or_len}
@@ -44,7 +44,7 @@ is_plain b = not (b == 32) && not (b == 10)
 abbrev pub is_word : List ℕ → Bool
 is_word word = list_all is_plain word
 
--- a test that implies another holds of each element where the other does
+-- if one test implies another, all elements that pass the one pass the other
 all_weaker : (p q : ℕ → Bool) → ((c : ℕ) → p c ≡ true → q c ≡ true) → (xs : List ℕ) → list_all p xs ≡ true → list_all q xs ≡ true
 all_weaker p q h [] e = refl
 all_weaker p q h (x ∷ xs) e =
@@ -76,14 +76,14 @@ split_word (x ∷ word) rest e =
     let parts = and_parts (is_plain x) (is_word word) e in
     rw (plain_is_no_space x parts.0, split_word word rest parts.1) refl
 
--- joined words are cut into the same words
+-- joined words are split into the same words
 pub split_join : (word : List ℕ) (words : List (List ℕ)) → list_all is_word (word ∷ words) ≡ true → slice_split is_space (join_with_byte 32 (word ∷ words)) ≡ word ∷ words
 split_join word [] e = split_last word (and_parts (is_word word) true e).0
 split_join word (next ∷ words) e =
     let parts = and_parts (is_word word) (list_all is_word (next ∷ words)) e in
     split_word word (join_with_byte 32 (next ∷ words)) parts.0 ∙ ap (λ ws. word ∷ ws) (split_join next words parts.1)
 
--- a line has a word at least
+-- a line has at least one word
 pub some_word : (line : List ℕ) → slice_split is_space line ≡ [] → ⊥
 some_word line e = omega (arith, length-slice_split is_space line, ap length e)
 
@@ -103,7 +103,7 @@ join_is_one_line word (next ∷ words) e =
     let parts = and_parts (is_word word) (list_all is_word (next ∷ words)) e in
     one_line_append word (32 ∷ join_with_byte 32 (next ∷ words)) (word_is_one_line word parts.0) (join_is_one_line next words parts.1)
 
--- the bytes of some words, each with its space
+-- the number of bytes of some words, each with its space
 abbrev pub width : List (List ℕ) → ℕ
 width [] = 0
 width (word ∷ words) = 1 + length word + width words

@@ -7,23 +7,23 @@ use Rattle.std.specs.Str.Parse.{digits_value}
 use Rattle.hex.specs.Hex.{decode_of}
 use Rattle.kc_types.specs.Limits.{page_size}
 
--- some digits, with no leading zero but a single one
+-- some digits, without a leading zero unless it is the only digit
 abbrev pub has_no_leading_zero : List ℕ → Bool
 has_no_leading_zero digits = not (length digits == 0) && (length digits == 1 || not (slice_index digits 0 == 48))
 
--- digits with no leading zero
+-- digits without a leading zero
 abbrev pub is_numeral : List ℕ → Bool
 is_numeral word = list_all is_ascii_digit word && has_no_leading_zero word
 
--- a number of 32 bits
+-- the word as a number of 32 bits
 unfoldable pub number_in : List ℕ → Option ℕ
 number_in word = if is_numeral word && nat_lt (digits_value 10 word) (2 ^ 32) then Some (digits_value 10 word) else None
 
--- a line that is one word, as a number
+-- the line is one word, and this is it as a number
 abbrev pub IsLastNumber : List ℕ → Option ℕ → Type 0
 IsLastNumber line number = (slice_split (λ b. b == 32) line ≡ line ∷ []) × (number ≡ number_in line)
 
--- the first word of a line as a number, and what stands behind the space after it
+-- the first word of a line as a number, and what is after the space that follows it
 abbrev pub IsFirstNumber : List ℕ → Option ℕ → List ℕ → Type 0
 IsFirstNumber line number rest = (word : List ℕ) × (slice_split (λ b. b == 32) line ≡ word ∷ slice_split (λ b. b == 32) rest) × (number ≡ number_in word)
 
@@ -35,11 +35,11 @@ is_lower_digit c = (nat_le 48 c && nat_le c 57) || (nat_le 97 c && nat_le c 102)
 abbrev pub digit_value : ℕ → ℕ
 digit_value c = if nat_lt c 97 then c % 16 else (c % 16 + 9) % 16
 
--- from 1 to 8,192 lower case digits
+-- 1 to 8,192 lower case digits
 abbrev pub is_data_word : List ℕ → Bool
 is_data_word word = list_all is_lower_digit word && not (length word == 0) && nat_le (length word) (2 * page_size)
 
--- from 1 to 4,096 bytes, in lower case digits
+-- the 1 to 4,096 bytes that the lower case digits spell
 unfoldable pub data_of : List ℕ → Option (List ℕ)
 data_of word = if is_data_word word then result_ok (decode_of word) else None
 
@@ -48,7 +48,7 @@ abbrev pub words_left : Option (List ℕ) → List (List ℕ)
 words_left None = []
 words_left (Some text) = slice_split (λ b. b == 32) text
 
--- something where no word is left
+-- something if no word is left
 abbrev pub at_end : List (List ℕ) → Option (Unit {0})
 at_end [] = Some tt
 at_end (word ∷ words) = None

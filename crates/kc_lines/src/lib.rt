@@ -1,5 +1,5 @@
-//! What texts share: lines and words cut off, a number in its one spelling, bytes in lower case digits, and bytes
-//! appended where there is room.
+//! What texts share: cutting off lines and words, numbers in their one spelling, bytes as lower case digits, and
+//! appending bytes without growing memory.
 #![tactic(auto)]
 
 mod line_words;

@@ -6,7 +6,7 @@ ghost use Rattle.kc_lines.specs.Words.{at_end};
 use crate::reading::split_word;
 use std::marker::Model;
 
-/// The words of a line that are still to be read, seen as the list of them.
+/// The words of a line that are still to be read, seen as a list.
 #[derive(Drop)]
 pub struct LineWords<'a> {
     rest: Option<&'a [u8]>,
@@ -57,7 +57,7 @@ impl<'a> LineWords<'a> {
         }
     }
 
-    /// Nothing, if there is no word left.
+    /// Returns `Some(())` if there is no word left, and `None` otherwise.
     pub fn end(mut self) -> Option<()>
         ensures value { result ≡ at_end self.entry }
         ensures ended { MatchOption result (self.entry ≡ [] → ⊥) (λ done. self.entry ≡ []) }

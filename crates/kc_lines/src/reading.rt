@@ -1,4 +1,4 @@
-//! Lines cut off a text, words cut off a line, and what a word spells: a number, or bytes.
+//! Cutting lines off a text and words off a line, and reading a word as a number or as bytes.
 ghost use Rattle.std.specs.Prelude.{◌≡◌, ◌==◌, ◌*◌, ◌%◌, ◌<◌, ◌≤◌, ◌^◌, ◌&&◌, not, nat_le, true, [], ◌∷◌, ◌++◌, length, position, take, All, IfOk, IsTrue, MatchOption};
 ghost use Rattle.std.specs.Char.{is_ascii_digit};
 ghost use Rattle.std.specs.List.{list_all, slice_split};
@@ -13,14 +13,14 @@ use kc_types::{Data, PAGE_SIZE, SHORT_SIZE};
 use memchr::memchr;
 use std::alloc::{AllocError, Global};
 
-/// The place of the first such byte, many bytes looked at in one step.
+/// The place of the first such byte, found by looking at many bytes in one step.
 fn first_at(byte: u8, bytes: &[u8]) -> Option<usize>
     ensures { result ≡ position (λ b. b == byte) bytes.now }
 {
     memchr(byte, bytes)
 }
 
-/// What stands in front of the first newline and what behind it, where there is one.
+/// Splits a text into what is before its first newline and what is after it; `None` if there is no newline.
 pub fn split_line(bytes: &[u8]) -> Option<(&[u8], &[u8])>
     ensures { MatchOption result (IsOneLine bytes.now) (λ cut. IsOneLine cut.0.now × (bytes.now ≡ cut.0.now ++ 10 ∷ cut.1.now)) }
 {
@@ -30,7 +30,7 @@ pub fn split_line(bytes: &[u8]) -> Option<(&[u8], &[u8])>
     }
 }
 
-/// The first word of a line and what stands behind the space after it, or nothing where the line is one word.
+/// Splits a line into its first word and what is after the space that follows; `None` if the line is one word.
 pub fn split_word(line: &[u8]) -> Option<(&[u8], &[u8])>
     ensures { MatchOption result (slice_split (λ b. b == 32) line.now ≡ line.now ∷ [])
         (λ cut. slice_split (λ b. b == 32) line.now ≡ cut.0.now ∷ slice_split (λ b. b == 32) cut.1.now) }
@@ -47,7 +47,7 @@ fn are_digits(word: &[u8]) -> bool
     word.iter().all(|byte| byte.is_ascii_digit())
 }
 
-/// Whether digits are some and begin with no zero but a single one.
+/// Whether there are digits, without a leading zero unless it is the only digit.
 fn has_no_leading_zero(digits: &[u8]) -> bool
     ensures { result ≡ has_no_leading_zero digits.now }
 {
@@ -57,7 +57,7 @@ fn has_no_leading_zero(digits: &[u8]) -> bool
 /// One more than the largest number of 32 bits.
 const TOO_LARGE: u64 = 4_294_967_296;
 
-/// The number that digits write, cut off at 4,294,967,296.
+/// The number that the digits spell; 4,294,967,296 if it is that or larger.
 fn value_of(word: &[u8]) -> u64
     requires { list_all is_ascii_digit word.now ≡ true }
     ensures below { digits_value 10 word.now < 2 ^ 32 → result ≡ digits_value 10 word.now }
@@ -73,7 +73,7 @@ fn value_of(word: &[u8]) -> u64
     value
 }
 
-/// The number that digits are, up to 4,294,967,295.
+/// The number that digits spell, up to 4,294,967,295.
 fn read_digits(digits: &[u8]) -> Option<u32>
     requires { list_all is_ascii_digit digits.now ≡ true }
     ensures { result ≡ number_in digits.now }
@@ -89,7 +89,7 @@ fn read_digits(digits: &[u8]) -> Option<u32>
     }
 }
 
-/// The number that a word is, up to 4,294,967,295.
+/// The number that a word spells, up to 4,294,967,295.
 pub fn read_number(word: &[u8]) -> Option<u32>
     ensures { result ≡ number_in word.now }
 {
@@ -103,7 +103,7 @@ pub fn read_number(word: &[u8]) -> Option<u32>
 /// The most digits of a number of 32 bits.
 const MOST_DIGITS: usize = 10;
 
-/// How many digits a line begins with, as far as they may be a number.
+/// The number of digits that a line begins with, as far as they may be a number.
 fn count_digits(line: &[u8]) -> usize
     ensures within { result ≤ length line.now }
     ensures digits { list_all is_ascii_digit (take result line.now) ≡ true }
@@ -116,7 +116,7 @@ fn count_digits(line: &[u8]) -> usize
     count
 }
 
-/// The first word of a line as a number, up to 4,294,967,295, and what stands behind the space after it, or nothing where
+/// The first word of a line as a number, up to 4,294,967,295, and what is after the space that follows, or nothing if
 /// the line is one word.
 pub fn split_number(line: &[u8]) -> (Option<u32>, Option<&[u8]>)
     ensures { MatchOption result.1
@@ -143,7 +143,7 @@ fn is_lower_digit(byte: u8) -> bool
     (b'0' <= byte && byte <= b'9') || (b'a' <= byte && byte <= b'f')
 }
 
-/// The value of a lower case digit. Of another byte it is any.
+/// The value of a lower case digit. For another byte it may be any value.
 fn digit_value(byte: u8) -> u8
     ensures value { result ≡ digit_value byte }
     ensures small { result < 16 }
@@ -155,15 +155,15 @@ fn digit_value(byte: u8) -> u8
     }
 }
 
-/// Whether a word is as long as two digits for each of 1 to 4,096 bytes.
+/// Whether a word has the length of two digits for each of 1 to 4,096 bytes.
 fn has_data_length(word: &[u8]) -> bool
     ensures { result ≡ (not (length word.now == 0) && nat_le (length word.now) (2 * page_size) && (length word.now % 2 == 0)) }
 {
     !word.is_empty() && word.len() <= 2 * PAGE_SIZE as usize && word.len() % 2 == 0
 }
 
-/// Writes the bytes of a word of lower case digits, and says whether it is one. There is no early end, so that
-/// many bytes are read at once.
+/// Writes the bytes that a word of lower case digits spells, and returns whether the word has only such digits. It
+/// never ends early, so that many bytes are read at once.
 pub fn decode_into(word: &[u8], bytes: &mut [u8]) -> bool
     requires { length word.now ≡ 2 * length bytes.old }
     ensures valid { result ≡ list_all is_lower_digit word.now }
@@ -180,7 +180,7 @@ pub fn decode_into(word: &[u8], bytes: &mut [u8]) -> bool
     valid
 }
 
-/// The bytes of a word of so few lower case digits that they take no memory.
+/// The bytes of a word with so few lower case digits that they need no memory of their own.
 fn read_short_data(word: &[u8]) -> Option<Data>
     requires some { 0 < length word.now }
     requires few { length word.now ≤ 2 * short_size }
@@ -196,7 +196,7 @@ fn read_short_data(word: &[u8]) -> Option<Data>
     }
 }
 
-/// The bytes that a word of lower case hexadecimal digits is, 1 to 4,096 of them.
+/// The 1 to 4,096 bytes that a word of lower case hexadecimal digits spells.
 pub fn read_data(alloc: Global, word: &[u8]) -> Result<Option<Data>, AllocError>
     ensures { IfOk result (λ found. found ≡ data_of word.now) }
 {

@@ -1,4 +1,4 @@
-//! Bytes appended where there is room for them, so that memory does not grow.
+//! Appending bytes to a text that has room for them, so that memory does not grow.
 ghost use Rattle.std.specs.Prelude.{◌≡◌, ◌<◌, ◌≤◌, ◌+◌, ◌*◌, ◌++◌, ◌∷◌, length, slice_index, vec_len, vec_capacity};
 ghost use Rattle.std.specs.Fmt.{decimal};
 ghost use Rattle.hex.specs.Hex.{encode_lower, lower_digits};
@@ -17,7 +17,7 @@ fn digit_of(value: u8) -> u8
     }
 }
 
-/// Writes the digits of bytes, two for each. Nothing is looked up, so that many bytes are written at once.
+/// Writes the digits of bytes, two for each. It uses no table, so that many bytes are written at once.
 fn encode_into(bytes: &[u8], digits: &mut [u8])
     requires { length digits.old ≡ 2 * length bytes.now }
     ensures { digits.new ≡ encode_lower bytes.now }
@@ -39,7 +39,7 @@ pub fn push_bytes(text: &mut Vec<u8>, bytes: &[u8])
     text.extend_from_slice(bytes).unwrap();
 }
 
-/// Appends the digits of bytes for which there is room, each written where it is to stay.
+/// Appends the digits of bytes for which there is room, each written straight to its place.
 pub fn push_digits(text: &mut Vec<u8>, bytes: &[u8])
     requires { vec_len text.old + 2 * length bytes.now ≤ vec_capacity text.old }
     ensures items { text.new.items ≡ text.old.items ++ encode_lower bytes.now }

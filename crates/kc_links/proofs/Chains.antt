@@ -33,7 +33,7 @@ links_appended m ends f = with_link (pointing_forward m ends.tail (Some f)) f (r
 abbrev pub ends_appended : Ends → ℕ → Ends
 ends_appended ends f = let moved = starting ends ends.tail (Some f) in record moved { tail = Some f; count = moved.count + 1 }
 
--- behind a first frame the start stays
+-- the start of the list stays if the frame is put after another
 pub starting-later : (x : ℕ) (xs : List ℕ) (ends : Ends) (next : Option ℕ) → starting ends (last_or (Some x) xs) next ≡ ends
 starting-later x [] ends next = refl
 starting-later x (y ∷ ys) ends next = starting-later y ys ends next
@@ -69,7 +69,7 @@ links_unlinked m f link = with_link (pointing_back (pointing_forward m link.prev
 abbrev pub ends_unlinked : Ends → Link → Ends
 ends_unlinked ends link = let moved = stopping (starting ends link.prev link.next) link.next link.prev in record moved { count = moved.count - 1 }
 
--- the link of a frame that stands between these
+-- the link of a frame between these lists
 abbrev pub between : List ℕ → List ℕ → Link
 between a b = record { prev = last_or None a; next = first_or None b }
 
@@ -108,7 +108,7 @@ once-parts a b once = (
   λ g some. let h = once g in let e = times_in-append a b g in omega (arith, h, e, some),
 )
 
--- the frame between two parts, as the chain has it
+-- the link of the frame between two parts of a chain
 pub between-link : (m : Links) (a b : List ℕ) (f : ℕ) → NamesNeighbours m None (a ++ f ∷ b) None → m f ≡ Some (between a b)
 between-link m a b f linked = (linked-split m None a (f ∷ b) None linked).1.0
 
@@ -156,7 +156,7 @@ leaves-list m n ends new fs links same chain = rw (links, same) (chain-is_list m
 pub leaves-frames : (m n : Links) (ends new : Ends) (fs : List ℕ) → n ≡ m → new ≡ ends → Chain m ends fs → listed n new ≡ fs
 leaves-frames m n ends new fs links same chain = rw (links, same) (chain-listed m ends fs chain)
 
--- a frame of the list, as an answer to a call has it
+-- a frame of the list, in the form that an answer to a call uses
 pub list-between : (m : Links) (ends : Ends) (f : ℕ) (link : Link) → (list : IsList m ends) → (some : 0 < times_in (listed m ends) f) → m f ≡ Some link → (parts : Around (listed m ends) f) → link ≡ between parts.before parts.after
 list-between m ends f link list some is parts =
     let linked : NamesNeighbours m None (parts.before ++ f ∷ parts.after) None = subst (λ l. NamesNeighbours m None l None) parts.whole list.linked in
@@ -183,7 +183,7 @@ none-listed m ends (f ∷ fs) chain none = let some = chain.head in absurd cc
 pub list-none : (m : Links) (ends : Ends) → IsList m ends → ends.head ≡ None → listed m ends ≡ []
 list-none m ends list none = none-listed m ends (listed m ends) list none
 
--- the first frame off a list leaves the others
+-- taking the first frame off a list leaves the others
 first-without : (m : Links) (ends : Ends) (fs : List ℕ) (f : ℕ) → Chain m ends fs → ends.head ≡ Some f → fs ≡ f ∷ without fs f
 first-without m ends [] f chain is = let none = chain.head in absurd cc
 first-without m ends (x ∷ xs) f chain is =

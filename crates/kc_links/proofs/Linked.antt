@@ -1,4 +1,4 @@
--- What changes of links do to frames that are linked one after another.
+-- How changes of links affect frames that are linked one after another.
 use Rattle.std.proofs.Common.{ℕ, ◌≡◌, ◌<◌, ◌+◌, ◌⊎◌, inl, inr, List, [], ◌∷◌, ◌++◌, Option, Some, None, IsSome, eq-eqb, refl, sym, ap, ◌∙◌, arith}
 use Rattle.std.proofs.lemmas.Bool.{cases_eq, ne_eqb}
 use Rattle.kc_model.specs.Lawful.{times_in}
@@ -63,7 +63,7 @@ linked-join m before [] b after front back = back
 linked-join m before (f ∷ fs) b after front back =
     (front.0 ∙ ap (λ next. Some (record { prev = before; next = next })) (sym (first-append after fs b)), linked-join m (Some f) fs b after front.1 back)
 
--- the last frame's next one is another
+-- the frame after the last one is another
 pub linked-forward : (m : Links) (before : Option ℕ) (fs : List ℕ) (after next : Option ℕ) → NamesNeighbours m before fs after → IsOnce fs → NamesNeighbours (pointing_forward m (last_or before fs) next) before fs next
 linked-forward m before [] after next linked once = tt
 linked-forward m before (f ∷ []) after next linked once =
@@ -76,7 +76,7 @@ linked-forward m before (f ∷ g ∷ gs) after next linked once = (
   linked-forward m (Some f) (g ∷ gs) after next linked.1 (once-rest f (g ∷ gs) once),
 )
 
--- the one before the first frame is another
+-- the frame before the first one is another
 pub linked-back : (m : Links) (before : Option ℕ) (fs : List ℕ) (after prev : Option ℕ) → NamesNeighbours m before fs after → IsOnce fs → NamesNeighbours (pointing_back m (first_or after fs) prev) prev fs after
 linked-back m before [] after prev linked once = tt
 linked-back m before (f ∷ fs) after prev linked once = (

@@ -1,4 +1,4 @@
--- Links and ends that spell a list are those that the definitions give it.
+-- Links and ends that spell a list are those that the definitions give the list.
 use Rattle.std.proofs.Common.{ℕ, ◌≡◌, ◌≢◌, ◌<◌, inl, inr, List, [], ◌∷◌, Option, Some, None, eq-eqb, refl, sym, ap, ◌∙◌, arith}
 use Rattle.std.proofs.lemmas.Bool.{cases_eq, ne_eqb}
 use Rattle.kc_types.specs.declared.link.Ends.{Ends}
@@ -31,7 +31,7 @@ link_in-linked links before (x ∷ xs) f linked some = elim (cases_eq x f) [
   | inr other ↦ rw (ne_eqb x f other) (link_in-linked links (Some x) xs f linked.1 (rw (times-other x xs f (λ e. other (sym e))) at some))
 ]
 
--- links that are the list's at each of its frames link it
+-- links that are the list's at each of its frames link the list
 linked-each : (links : Links) (before : Option ℕ) (xs : List ℕ) → IsOnce xs → ((f : ℕ) → 0 < times_in xs f → links f ≡ Some (link_after before xs f)) → NamesNeighbours links before xs None
 linked-each links before [] once each = tt
 linked-each links before (x ∷ xs) once each = (

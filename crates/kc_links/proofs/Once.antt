@@ -1,4 +1,4 @@
--- Linked frames stand once each, and are those that the links spell.
+-- Linked frames are each in the list once, and are those that the links spell.
 use Rattle.std.proofs.Common.{ℕ, zero, suc, ◌≡◌, ◌<◌, ◌≤◌, ◌+◌, inl, inr, List, [], ◌∷◌, length, Option, Some, None, refl, sym, ap, subst, ◌∙◌, arith}
 use Rattle.std.proofs.lemmas.Bool.{cases_eq}
 use Rattle.kc_model.specs.Lawful.{times_in}
@@ -11,7 +11,7 @@ abbrev pub prev_of : Option Link → Option ℕ
 prev_of None = None
 prev_of (Some link) = link.prev
 
--- so many steps back the front is met
+-- this many steps back lead to the front
 abbrev pub IsDeep : Links → ℕ → Option ℕ → Type 0
 IsDeep m n None = n ≡ 0
 IsDeep m zero (Some f) = ⊥

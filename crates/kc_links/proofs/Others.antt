@@ -1,4 +1,4 @@
--- A list that a call doesn't touch stays as it is.
+-- A list that a call does not touch stays as it is.
 use Rattle.std.proofs.Common.{ℕ, ◌≡◌, inl, inr, List, [], ◌∷◌, None, eq-eqb, refl, sym, ◌∙◌, arith}
 use Rattle.std.proofs.lemmas.Bool.{cases_eq, ne_eqb}
 use Rattle.kc_model.specs.Lawful.{times_in}

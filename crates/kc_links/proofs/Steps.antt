@@ -74,7 +74,7 @@ splice-others m to from list other g none =
     back-other (pointing_forward m to.tail from.head) from.head to.tail g (λ is. let some = head-inside m from g other is in absurd (omega (arith, whole, none, some)))
     ∙ forward-other m to.tail from.head g (λ is. let some = tail-inside m to g list is in absurd (omega (arith, whole, none, some)))
 
--- a list of frames below a bound is no longer than it
+-- a list of different frames below a bound is no longer than the bound
 differs : (f : ℕ) (fs : List ℕ) → times_in fs f ≡ 0 → AllByRecursion (λ g. eqb f g ≡ false) fs
 differs f [] none = tt
 differs f (x ∷ xs) none = elim (cases_eq f x) [

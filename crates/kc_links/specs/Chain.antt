@@ -22,7 +22,7 @@ abbrev pub or_unlinked : Option Link → Link
 or_unlinked None = unlinked
 or_unlinked (Some link) = link
 
--- the links where the frame's next one, or the one before it, is another
+-- the links with another frame after the given one, or before it
 abbrev pub pointing_forward : Links → Option ℕ → Option ℕ → Links
 pointing_forward links None next = links
 pointing_forward links (Some f) next = with_link links f (record (or_unlinked (links f)) { next = next })
@@ -31,7 +31,7 @@ abbrev pub pointing_back : Links → Option ℕ → Option ℕ → Links
 pointing_back links None prev = links
 pointing_back links (Some f) prev = with_link links f (record (or_unlinked (links f)) { prev = prev })
 
--- the first and the last of a list, or what is given for an empty one
+-- the first and the last of a list, or the given frame for an empty list
 abbrev pub first_or : Option ℕ → List ℕ → Option ℕ
 first_or after [] = after
 first_or after (f ∷ fs) = Some f
@@ -40,7 +40,7 @@ abbrev pub last_or : Option ℕ → List ℕ → Option ℕ
 last_or before [] = before
 last_or before (f ∷ fs) = last_or (Some f) fs
 
--- each frame's link names its neighbours: at the front the one before them all, at the back the one after them all
+-- each frame's link names its neighbours; `before` precedes the first frame, and `after` follows the last
 abbrev pub NamesNeighbours : Links → Option ℕ → List ℕ → Option ℕ → Type 0
 NamesNeighbours links before [] after = Unit {0}
 NamesNeighbours links before (f ∷ fs) after = (links f ≡ Some (record { prev = before; next = first_or after fs })) × NamesNeighbours links (Some f) fs after
@@ -49,7 +49,7 @@ abbrev pub next_of : Option Link → Option ℕ
 next_of None = None
 next_of (Some link) = link.next
 
--- the frames met from one on, where this many are left
+-- the frames that the links lead to from one on, if this many are left
 abbrev pub spelled : Links → ℕ → Option ℕ → List ℕ
 spelled links zero at = []
 spelled links (suc n) None = []

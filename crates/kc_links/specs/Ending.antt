@@ -19,7 +19,7 @@ listed links ends = spelled links ends.count ends.head
 abbrev pub IsList : Links → Ends → Type 0
 IsList links ends = Chain links ends (listed links ends)
 
--- the ends where the list starts or stops with another frame
+-- the ends of a list that starts or stops with another frame
 abbrev pub starting : Ends → Option ℕ → Option ℕ → Ends
 starting ends None next = record ends { head = next }
 starting ends (Some f) next = ends
@@ -28,10 +28,10 @@ abbrev pub stopping : Ends → Option ℕ → Option ℕ → Ends
 stopping ends None prev = record ends { tail = prev }
 stopping ends (Some f) prev = ends
 
--- the links of all frames but these stay
+-- the links of all other frames stay
 abbrev pub KeepsOthers : Links → Links → List ℕ → Type 0
 KeepsOthers old new frames = (other : ℕ) → times_in frames other ≡ 0 → new other ≡ old other
 
--- no frame of one list stands in the other
+-- no frame is in both lists
 abbrev pub AreApart : List ℕ → List ℕ → Type 0
 AreApart a b = (f : ℕ) → 0 < times_in a f → times_in b f ≡ 0

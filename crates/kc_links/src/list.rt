@@ -1,4 +1,4 @@
-//! Frames put into lists and taken out of them.
+//! Putting frames into lists and taking them out.
 ghost use Rattle.std.specs.Prelude.{◌≡◌, ◌+◌, ◌<◌, [], ◌∷◌, ◌++◌, Option, Some, None, IfSome, MatchOption};
 ghost use Rattle.kc_links.specs.Chain.{pointing_forward, pointing_back, unlinked, Holds};
 ghost use Rattle.kc_links.specs.Ending.{listed, IsList, KeepsOthers, AreApart, starting, stopping};
@@ -8,7 +8,7 @@ ghost use Rattle.kc_model.specs.Effects.{without};
 use crate::LinkStore;
 use kc_types::{Ends, FrameNo, Link};
 
-/// Lets the next frame after `at` be this one; no frame stands for the start of the list.
+/// Sets the frame after `at` to `next`; `at` is `None` for the start of the list.
 fn point_forward<S: LinkStore>(
     store: &mut S,
     ends: &mut Ends,
@@ -35,7 +35,7 @@ fn point_forward<S: LinkStore>(
     }
 }
 
-/// Lets the frame before `at` be this one; no frame stands for the end of the list.
+/// Sets the frame before `at` to `prev`; `at` is `None` for the end of the list.
 fn point_back<S: LinkStore>(
     store: &mut S,
     ends: &mut Ends,
@@ -62,7 +62,7 @@ fn point_back<S: LinkStore>(
     }
 }
 
-/// Puts a frame that is in no list at the end.
+/// Appends a frame that is in no list.
 pub fn append<S: LinkStore>(store: &mut S, ends: &mut Ends, frame: FrameNo)
     requires list { IsList (S.links store.old) ends.old }
     requires alone { S.links store.old frame ≡ Some unlinked }
@@ -82,7 +82,7 @@ pub fn append<S: LinkStore>(store: &mut S, ends: &mut Ends, frame: FrameNo)
     ends.count += 1;
 }
 
-/// Takes a frame off the list, wherever it stands in it.
+/// Takes a frame off the list, wherever it is in it.
 pub fn unlink<S: LinkStore>(store: &mut S, ends: &mut Ends, frame: FrameNo)
     requires list { IsList (S.links store.old) ends.old }
     requires inside { 0 < times_in (listed (S.links store.old) ends.old) frame }
@@ -113,7 +113,7 @@ pub fn pop_front<S: LinkStore>(store: &mut S, ends: &mut Ends) -> Option<FrameNo
     Some(frame)
 }
 
-/// Appends one list to another, and leaves it empty.
+/// Appends the second list to the first, and leaves the second empty.
 pub fn splice<S: LinkStore>(store: &mut S, to: &mut Ends, from: &mut Ends)
     requires list { IsList (S.links store.old) to.old }
     requires other_list { IsList (S.links store.old) from.old }

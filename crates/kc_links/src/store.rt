@@ -1,19 +1,19 @@
-//! What holds links.
+//! Stores of links.
 ghost use Rattle.std.specs.Prelude.{◌≡◌, ℕ, ◌<◌, Option, IsSome};
 ghost use Rattle.kc_types.specs.Limits.{frame_limit};
 ghost use Rattle.kc_links.specs.Chain.{Links, with_link};
 
 use kc_types::{FrameNo, Link};
 
-/// What holds the links of some frames.
+/// A store of the links of some frames.
 pub trait LinkStore {
-    /// The links, of the frames that are here.
+    /// The links of the frames that are here.
     ghost links: { Self → Links };
 
-    /// Two stores are the same but for their links.
+    /// Two stores are the same except for their links.
     ghost same_rest: { Self → Self → Type 0 };
 
-    /// The link of a frame, or `None` where the frame is not here.
+    /// The link of a frame, or `None` if the frame is not here.
     fn link(&self, frame: FrameNo) -> Option<Link>
         ensures { result ≡ links self.now frame };
 
@@ -26,7 +26,7 @@ pub trait LinkStore {
     /// Only frames have links.
     ghost within: { (store : Self) (f : ℕ) → IsSome (links store f) → f < frame_limit };
 
-    /// A store is the same as itself, and as what a store like it is the same as.
+    /// Being the same is reflexive and transitive.
     ghost rest_kept: { (store : Self) → same_rest store store };
 
     ghost rest_through: { (old mid new : Self) → same_rest old mid → same_rest mid new → same_rest old new };

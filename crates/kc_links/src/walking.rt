@@ -15,7 +15,7 @@ pub struct FrameWalk<'a, S: LinkStore> {
     left: u32,
 }
 
-/// The frames of a list, from the first to the last, as the links spell them.
+/// Walks through a list from its first frame to its last, as the links spell it.
 pub fn walk<'a, S: LinkStore>(store: &'a S, ends: &Ends) -> FrameWalk<'a, S>
     ensures { spelled (S.links result.store.now) result.left result.at ≡ listed (S.links store.now) ends.now }
 {

@@ -18,7 +18,8 @@ pub record MayAccess (m : State) (v c g off len f : ℕ) : Type 0 where
   pub some : 0 < len
   pub within : off + len ≤ page_size
 
--- such a read is answered with the page's bytes and such a write is done; and a slot that is not empty is cleared whenever that is asked
+-- such a read is answered with the page's bytes, such a write is done, and `clear` is done for every slot that is not
+-- empty
 abbrev pub ServesAlways : State → Call → Reply → State → Type 0
 ServesAlways old (GuestRead v c g off len) answer new = (f : ℕ) → MayAccess old v c g off len f → answer ≡ reply.Data (slice_range (frame_at old f).bytes off (off + len))
 ServesAlways old (GuestWrite v c g off bytes) answer new = (f : ℕ) → MayAccess old v c g off (length bytes) f → answer ≡ reply.Done
@@ -31,7 +32,7 @@ takes_page v g (Drop w c h) = (w == v) && (h == g)
 takes_page v g (Clear w) = w == v
 takes_page v g _ = false
 
--- by any other call a page stays where it is mapped
+-- any other call leaves a page where it is mapped
 abbrev pub KeepsPages : State → Call → Reply → State → Type 0
 KeepsPages old call answer new = (v g f : ℕ) → mapped_at old v g ≡ Some f → takes_page v g call ≡ false → mapped_at new v g ≡ Some f
 

@@ -1,4 +1,5 @@
--- States without secrets: the pages of active VMs are zeroed, and a volume of redacted calls leads from one to the next.
+-- States without secrets: the pages of active VMs are zeroed, and a volume of redacted calls leads from one to the
+-- next.
 use Rattle.std.specs.Prelude.{◌≡◌, Bool, false, List, [], ◌∷◌, map, if◌then◌else◌}
 use Rattle.kc_types.specs.declared.call.Call.{Call}
 use Rattle.kc_types.specs.declared.owner.Owner.{Owner}
@@ -11,7 +12,7 @@ use Rattle.kc_model.specs.Custody.{custody}
 use Rattle.kc_model.specs.Events.{events}
 use Rattle.kc_model.specs.Redaction.{all_frames, redacted, redacted_in, DifferInBytes}
 
--- whether an active VM is the owner
+-- whether the owner is an active VM
 abbrev pub is_guests : State → Owner → Bool
 is_guests m (Vm v) = is_active (slot_at m v).phase
 is_guests m _ = false
@@ -19,16 +20,17 @@ is_guests m _ = false
 abbrev pub blank_frame : State → Frame → Frame
 blank_frame m frame = record frame { bytes = if is_guests m frame.owner then zero_page else frame.bytes }
 
--- the state with zeroed pages in the place of those of active VMs
+-- the state with the pages of active VMs zeroed
 abbrev pub blank_state : State → State
 blank_state m = record m { frames = map (blank_frame m) m.frames }
 
--- the calls without any byte that a virtual processor writes, or the host at a frame of an active VM
+-- the calls without the bytes that virtual processors write, and that the host writes to frames of active VMs
 abbrev pub redacted_from : State → List Call → List Call
 redacted_from m [] = []
 redacted_from m (call ∷ calls) = redacted_in all_frames m call ∷ redacted_from (next m call).1 calls
 
--- calls that lead from a blank state to the blank state that the calls themselves lead to, and tell all events, and so the custody, of these
+-- the other calls, from the blank state, have the events of the calls themselves, and so their custody, and lead to
+-- the blank state that those lead to
 pub record TellsBlank (m : State) (calls others : List Call) : Type 0 where
   pub left : blank_state (state_after (blank_state m) others) ≡ blank_state (state_after m calls)
   pub events : events (blank_state m) others ≡ events m calls

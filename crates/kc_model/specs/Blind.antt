@@ -21,7 +21,7 @@ abbrev pub has_gfn : (ℕ → Bool) → Option ℕ → Bool
 has_gfn gfns None = false
 has_gfn gfns (Some g) = gfns g
 
--- whether the slot, which is active or not, maps the frame at one of these guest frames
+-- whether the frame is mapped at one of these guest frames of the slot, which is active or not
 abbrev pub is_secret : Secret → Bool → Frame → Bool
 is_secret s active frame = same_owner frame.owner (Vm s.vm) && (has_gfn s.gfns frame.gfn && active)
 
@@ -56,12 +56,12 @@ grants_secret s _ = false
 abbrev pub IsPrivate : Secret → State → Type 0
 IsPrivate s m = (f : ℕ) → is_secret s (is_running m s.vm) (frame_at m f) ≡ true → (frame_at m f).share ≡ 0
 
--- the states differ in secret bytes alone
+-- the states differ only in secret bytes
 pub record AreAlike (s : Secret) (m n : State) : Type 0 where
   pub same : hidden s m ≡ hidden s n
   pub private : IsPrivate s m
 
--- the traces differ in the bytes of writes to secret guest frames alone
+-- the traces differ only in the bytes of writes to secret guest frames
 abbrev pub AlikeTraces : Secret → List Call → List Call → Type 0
 AlikeTraces s calls others = map (hidden_call s) calls ≡ map (hidden_call s) others
 
@@ -76,17 +76,17 @@ pub record SeesTheSame (s : Secret) (m n : State) (calls others : List Call) : T
   pub replies : SameReplies s calls (replies_from m calls) (replies_from n others)
   pub states : AreAlike s (state_after m calls) (state_after n others)
 
--- whatever the slot and its secret guest frames: a trace that grants none of them shows nothing of their bytes
+-- for every slot and every set of secret guest frames, a trace that grants none of them shows nothing of their bytes
 abbrev pub HostIsBlind : State → List Call → Type 0
 HostIsBlind m calls = (s : Secret) (n : State) (others : List Call) → IsLawful n → AreAlike s m n → AlikeTraces s calls others
     → AllByRecursion (λ call. grants_secret s call ≡ false) calls → SeesTheSame s m n calls others
 
--- the same of a run that answered: of its replies and the state that it left
+-- the same of a run that was answered, by its replies and the state that it left
 abbrev pub ShowsNothing : State → List Call → List Reply → State → Type 0
 ShowsNothing old calls replies new = (s : Secret) (n : State) (others : List Call) → IsLawful n → AreAlike s old n → AlikeTraces s calls others
     → AllByRecursion (λ call. grants_secret s call ≡ false) calls → SameReplies s calls replies (replies_from n others) × AreAlike s new (state_after n others)
 
--- the same of a run from boot, beside any other trace in the same configuration
+-- the same of a run from boot, compared to any other trace in the same configuration
 abbrev pub ShowsNothingFromBoot : Configuration → List Call → List Reply → State → Type 0
 ShowsNothingFromBoot c calls replies new = (s : Secret) (others : List Call) → AlikeTraces s calls others
     → AllByRecursion (λ call. grants_secret s call ≡ false) calls → SameReplies s calls replies (replies_from (boot c) others) × AreAlike s new (state_after (boot c) others)

@@ -6,7 +6,7 @@ use Rattle.kc_types.specs.declared.owner.Owner.{Owner}
 use Rattle.kc_types.specs.declared.owner.Owner.TheVariants.{Core, Host, Free}
 use Rattle.kc_model.specs.State.{Frame, State, Slot, untouched, empty_slot}
 
--- the first frames are the core's, the next the host's, the rest is free
+-- the first frames are the core's, the next the host's, and the rest are free
 abbrev pub boot_owner : Configuration → ℕ → Owner
 boot_owner c f = if nat_lt f c.core then Core else (if nat_lt f (c.core + c.host) then Host else Free)
 

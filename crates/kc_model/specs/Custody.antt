@@ -1,4 +1,4 @@
--- Custody: what is told of each frame and slot, and every change of it, call by call.
+-- Custody: what is reported of each frame and slot, and every change of it, call by call.
 use Rattle.std.specs.Prelude.{ℕ, ◌+◌, Bool, true, false, not, ◌&&◌, ◌==◌, List, [], ◌∷◌, ◌++◌, map, filter, Option, Some, None}
 use Rattle.std.specs.List.{range_with_len}
 use Rattle.sha2.specs.Sha256.{sha256}
@@ -20,7 +20,8 @@ use Rattle.kc_model.specs.Refusals.{refusal}
 use Rattle.kc_model.specs.Effects.{image_bytes}
 use Rattle.kc_model.specs.Next.{next}
 
--- the custody of a frame: who owns it, where its VM sees it, how often it is shared, whether the host reaches it. All of it but its bytes
+-- the custody of a frame, which is all of it but its bytes: who owns it, where its VM sees it, how often it is shared,
+-- and whether the host reaches it
 abbrev pub custody_of : Frame → Custody
 custody_of frame = record { owner = frame.owner; gfn = frame.gfn; share = frame.share; present = frame.present }
 
@@ -43,11 +44,11 @@ same_custody a b = same_owner a.owner b.owner && same_gfn a.gfn b.gfn && (a.shar
 abbrev pub has_moved : State → State → ℕ → Bool
 has_moved old new f = not (same_custody (custody_at old f) (custody_at new f))
 
--- the frame's custody in both
+-- the change of the frame's custody between two states
 abbrev pub frame_change : ℕ → State → State → ℕ → FrameChange
 frame_change line old new f = record { line = line; frame = f; before = custody_at old f; after = custody_at new f }
 
--- the changes of frames by a call: of all frames, rising, those whose custody differs before and after it
+-- the changes of frames by a call, in ascending order: those whose custody differs before and after it
 abbrev pub frame_changes_by : ℕ → State → State → List FrameChange
 frame_changes_by line old new = map (frame_change line old new) (filter (has_moved old new) (range_with_len 0 old.config.frames))
 
@@ -73,35 +74,35 @@ abbrev pub images_unless : Option Refusal → List MeasuredImage → List Measur
 images_unless None images = images
 images_unless (Some refused) images = []
 
--- the images that a call measures: of `verify` where it is not refused, the slot's, and else none
+-- the images that a call measures: the slot's, if the call is a `verify` that is not refused, and otherwise none
 abbrev pub images_by : State → Call → List MeasuredImage
 images_by m (Verify v) = images_unless (refusal m (Verify v)) (measured_images m v)
 images_by m _ = []
 
--- a slot is measured where it becomes active or dead
+-- a slot is measured when it becomes active or dead
 abbrev pub images_for : Phase → List MeasuredImage → List MeasuredImage
 images_for Active images = images
 images_for Dead images = images
 images_for _ images = []
 
--- the slot's phase after a call, and its images as they stood before it where they were measured
+-- the slot's phase after a call, with its images as they were before it if the call measured them
 abbrev pub phase_change : ℕ → State → State → ℕ → PhaseChange
 phase_change line old new v = record { line = line; vm = v; phase = (slot_at new v).phase; images = images_for (slot_at new v).phase (measured_images old v) }
 
--- the changes of slots by a call: of all slots, rising, those whose phase differs before and after it
+-- the changes of slots by a call, in ascending order: those whose phase differs before and after it
 abbrev pub phase_changes_by : ℕ → State → State → List PhaseChange
 phase_changes_by line old new = map (phase_change line old new) (filter (has_turned old new) (range_with_len 0 (slot_count old.config)))
 
--- the changes by a call: of frames, and then of slots
+-- the changes by a call: first of frames, then of slots
 abbrev pub changes_by : ℕ → State → State → List Change
 changes_by line old new = map change.Frame (frame_changes_by line old new) ++ map change.Phase (phase_changes_by line old new)
 
--- the changes by calls, one after another; the first call has this line
+-- the changes by calls, one after another; the first call is on line `n`
 abbrev pub custody_from : ℕ → State → List Call → List Change
 custody_from n m [] = []
 custody_from n m (call ∷ calls) = changes_by n m (next m call).1 ++ custody_from (n + 1) (next m call).1 calls
 
--- the line of a trace's first call: its header is line 1
+-- the line of a trace's first call, since line 1 is its header
 abbrev pub first_line : ℕ
 first_line = 2
 

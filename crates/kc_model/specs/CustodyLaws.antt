@@ -1,4 +1,4 @@
--- What the changes of a trace say of the calls between them.
+-- What the changes of a trace say about the calls between them.
 use Rattle.std.specs.Prelude.{ℕ, ◌≡◌, ◌<◌, ◌≤◌, ◌+◌, ◌⊎◌, Bool, false, ◌&&◌, ◌==◌, List, [], ◌∷◌, length, All, Contains}
 use Rattle.std.specs.List.{list_any}
 use Rattle.kc_types.specs.Configuration.{slot_count}
@@ -25,16 +25,16 @@ is_of_frame n f (change.Phase told) = false
 abbrev pub is_told : List Change → ℕ → ℕ → Bool
 is_told changes n f = list_any (is_of_frame n f) changes
 
--- there is a change for a frame and a call exactly where the call changed the frame's custody
+-- there is a change for a frame and a call exactly if the call changed the frame's custody
 abbrev pub IsExact : State → List Call → Type 0
 IsExact m calls = (k f : ℕ) → k < length calls → f < m.config.frames → is_told (custody m calls) (first_line + k) f ≡ has_moved (state_at m calls k) (state_at m calls (k + 1)) f
 
--- a stretch of calls of a trace, from place i up to but without j
+-- a stretch of calls of a trace, from place i up to but not including j
 pub record IsStretch (calls : List Call) (i j : ℕ) : Type 0 where
   pub begins : i ≤ j
   pub ends : j ≤ length calls
 
--- no change of the frame is told for a call of the stretch
+-- no change of the frame is reported for a call of the stretch
 abbrev pub HasNoChange : State → List Call → ℕ → ℕ → ℕ → Type 0
 HasNoChange m calls i j f = (n : ℕ) → i ≤ n → n < j → is_told (custody m calls) (first_line + n) f ≡ false
 
@@ -42,7 +42,8 @@ HasNoChange m calls i j f = (n : ℕ) → i ≤ n → n < j → is_told (custody
 abbrev pub StaysInCustody : State → List Call → Type 0
 StaysInCustody m calls = (i j f : ℕ) → IsStretch calls i j → HasNoChange m calls i j f → (k : ℕ) → i ≤ k → k ≤ j → custody_at (state_at m calls k) f ≡ custody_at (state_at m calls i) f
 
--- the calls of a VM that write to its memory: of its virtual processors, and the one that measures it and zeroes what lies behind its images
+-- the calls that write to a VM's memory for it: its virtual processors' writes, and the call that measures it and
+-- zeroes what lies after its images
 abbrev pub writes_for : ℕ → Call → Bool
 writes_for v (GuestWrite w c g off bytes) = w == v
 writes_for v (Verify w) = w == v
@@ -56,12 +57,12 @@ IsKeptFrom f _ _ = Unit {0}
 
 -- what a call of such a stretch leaves of a VM's frame that is not shared
 pub record StaysPrivate (m : State) (calls : List Call) (v f k : ℕ) : Type 0 where
-  -- its bytes change by writes for its VM alone
+  -- its bytes change only by writes for its VM
   pub bytes : writes_for v (call_at calls k) ≡ false → (frame_at (state_at m calls (k + 1)) f).bytes ≡ (frame_at (state_at m calls k) f).bytes
   -- and the host is served none of them
   pub unseen : IsKeptFrom f (call_at calls k) (reply_at m calls k)
 
--- through a stretch without a change of a frame that is a VM's and not shared before it, the VM's bytes stay its own
+-- if a frame is a VM's and not shared, its bytes stay the VM's own through a stretch without a change of it
 abbrev pub KeepsPrivate : State → List Call → Type 0
 KeepsPrivate m calls = (i j v f : ℕ) → IsStretch calls i j → HasNoChange m calls i j f
     → (custody_at (state_at m calls i) f).owner ≡ Vm v → (custody_at (state_at m calls i) f).share ≡ 0
@@ -72,7 +73,7 @@ abbrev pub is_write_of : ℕ → Call → Bool
 is_write_of v (GuestWrite w c g off bytes) = w == v
 is_write_of v _ = false
 
--- the same through a stretch before which the VM is active: then its virtual processors' writes alone change the bytes
+-- if the VM is active before the stretch, only its virtual processors' writes change the bytes
 abbrev pub KeepsActive : State → List Call → Type 0
 KeepsActive m calls = (i j v f : ℕ) → IsStretch calls i j → HasNoChange m calls i j f
     → (custody_at (state_at m calls i) f).owner ≡ Vm v → (custody_at (state_at m calls i) f).share ≡ 0 → IsActive (state_at m calls i) v
@@ -83,24 +84,24 @@ abbrev pub is_of_slot : ℕ → ℕ → Change → Bool
 is_of_slot n v (change.Frame told) = false
 is_of_slot n v (change.Phase told) = (told.line == n) && (told.vm == v)
 
--- there is a change of a slot for a call exactly where the call changed the slot's phase
+-- there is a change of a slot for a call exactly if the call changed the slot's phase
 abbrev pub IsExactForSlots : State → List Call → Type 0
 IsExactForSlots m calls = (k v : ℕ) → k < length calls → v < slot_count m.config → list_any (is_of_slot (first_line + k) v) (custody m calls) ≡ has_turned (state_at m calls k) (state_at m calls (k + 1)) v
 
--- whether it tells that the slot is empty after the call on this line
+-- whether it reports that the slot is empty after the call on this line
 abbrev pub is_end_of : ℕ → ℕ → Change → Bool
 is_end_of n v (change.Frame told) = false
 is_end_of n v (change.Phase told) = (told.line == n) && ((told.vm == v) && same_phase told.phase Empty)
 
--- it is not told of a call of the stretch that the slot is empty after it
+-- no call of the stretch is reported to have emptied the slot
 abbrev pub HasNoEnd : State → List Call → ℕ → ℕ → ℕ → Type 0
 HasNoEnd m calls i j v = (n : ℕ) → i ≤ n → n < j → list_any (is_end_of (first_line + n) v) (custody m calls) ≡ false
 
--- a slot that is active stays active until it is told that it is empty
+-- a slot that is active stays active until it is reported empty
 abbrev pub StaysActive : State → List Call → Type 0
 StaysActive m calls = (i j v : ℕ) → IsStretch calls i j → HasNoEnd m calls i j v → IsActive (state_at m calls i) v → IsActive (state_at m calls j) v
 
--- a change of a frame tells its custody before and after the call on its line
+-- a change of a frame gives the frame's custody before and after the call on its line
 pub record TellsFrame (m : State) (calls : List Call) (told : FrameChange) : Type 0 where
   pub before : (k : ℕ) → told.line ≡ first_line + k → custody_at (state_at m calls k) told.frame ≡ told.before
   pub after : (k : ℕ) → told.line ≡ first_line + k → custody_at (state_at m calls (k + 1)) told.frame ≡ told.after
@@ -109,12 +110,12 @@ abbrev pub IsFrameTold : State → List Call → Change → Type 0
 IsFrameTold m calls (change.Frame told) = TellsFrame m calls told
 IsFrameTold m calls (change.Phase told) = Unit {0}
 
--- each change of a frame does
+-- each change of a frame does this
 abbrev pub TellsFrames : State → List Call → Type 0
 TellsFrames m calls = All (IsFrameTold m calls) (custody m calls)
 
--- a change of a slot tells its phase after the call on its line, and its images as they stood before it where they were measured;
--- where the phase is active, the configuration approves the digest of each of them
+-- a change of a slot gives its phase after the call on its line, and its images as they were before it if they were
+-- measured; if the phase is active, the configuration approves the digest of each of them
 pub record TellsPhase (m : State) (calls : List Call) (told : PhaseChange) : Type 0 where
   pub phase : (k : ℕ) → told.line ≡ first_line + k → (slot_at (state_at m calls (k + 1)) told.vm).phase ≡ told.phase
   pub images : (k : ℕ) → told.line ≡ first_line + k → images_for told.phase (measured_images (state_at m calls k) told.vm) ≡ told.images
@@ -124,28 +125,28 @@ abbrev pub IsPhaseTold : State → List Call → Change → Type 0
 IsPhaseTold m calls (change.Frame told) = Unit {0}
 IsPhaseTold m calls (change.Phase told) = TellsPhase m calls told
 
--- each change of a slot does
+-- each change of a slot does this
 abbrev pub TellsPhases : State → List Call → Type 0
 TellsPhases m calls = All (IsPhaseTold m calls) (custody m calls)
 
--- a change is of a frame or a slot that there is, by a call of the trace
+-- a change is of a frame or slot that exists, by a call of the trace
 abbrev pub IsWithin : State → List Call → Change → Type 0
 IsWithin m calls (change.Frame told) = (first_line ≤ told.line) × (told.line < first_line + length calls) × (told.frame < m.config.frames)
 IsWithin m calls (change.Phase told) = (first_line ≤ told.line) × (told.line < first_line + length calls) × (told.vm < slot_count m.config)
 
--- one stands before another by its line, and on one line frames before slots, and both by their numbers
+-- changes are in the order of their lines; on one line frames come before slots, and both are in ascending order
 abbrev pub Precedes : Change → Change → Type 0
 Precedes (change.Frame a) (change.Frame b) = (a.line < b.line) ⊎ ((a.line ≡ b.line) × (a.frame < b.frame))
 Precedes (change.Frame a) (change.Phase b) = a.line ≤ b.line
 Precedes (change.Phase a) (change.Frame b) = a.line < b.line
 Precedes (change.Phase a) (change.Phase b) = (a.line < b.line) ⊎ ((a.line ≡ b.line) × (a.vm < b.vm))
 
--- each stands before all that come later
+-- each precedes all later ones
 abbrev pub IsInOrder : List Change → Type 0
 IsInOrder [] = Unit {0}
 IsInOrder (told ∷ more) = All (Precedes told) more × IsInOrder more
 
--- the laws, of every trace from a lawful state
+-- the laws hold of every trace from a lawful state
 pub record IsCustody (m : State) (calls : List Call) : Type 0 where
   pub exact : IsExact m calls
   pub stays : StaysInCustody m calls

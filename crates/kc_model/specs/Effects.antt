@@ -21,7 +21,7 @@ use Rattle.kc_model.specs.Refusals.{backing, pending, next_gfn, pages_of}
 abbrev pub Outcome : Type 0
 Outcome = Reply × State
 
--- the frame's bytes from an offset on
+-- the reply has the frame's bytes from an offset on
 abbrev pub read : Frame → ℕ → ℕ → Reply
 read frame off len = reply.Data (slice_range frame.bytes off (off + len))
 
@@ -38,7 +38,7 @@ host_takes m (f ∷ rest) = (reply.Frame f, record (with_frame m f (record (fram
 abbrev pub given : State → ℕ → State
 given m f = record (with_frame m f (record (frame_at m f) { owner = Free; present = false; bytes = zero_page })) { free = m.free ++ f ∷ [] }
 
--- the leaves with the root slot of the guest frame among them
+-- the leaves, with one for the guest frame's root slot
 abbrev pub with_leaf : List ℕ → ℕ → List ℕ
 with_leaf leaves g = if list_any (λ root. root == g / leaf_entries) leaves then leaves else leaves ++ g / leaf_entries ∷ []
 
@@ -63,7 +63,7 @@ gfns_of image = range_with_len image.base (pages_of image.len)
 abbrev pub bytes_at : State → ℕ → ℕ → List ℕ
 bytes_at m v g = (frame_at m (backing (mapped_at m v g))).bytes
 
--- the bytes of an image, of its pages joined
+-- the bytes of an image: those of its pages, joined
 abbrev pub image_bytes : State → ℕ → Image → List ℕ
 image_bytes m v image = take image.len (flat_map (bytes_at m v) (gfns_of image))
 
@@ -101,11 +101,11 @@ abbrev pub guest_written : State → ℕ → ℕ → ℕ → ℕ → List ℕ �
 guest_written m v c g off bytes (Some f) = (reply.Done, with_fault (written m f off bytes) v c None)
 guest_written m v c g off bytes None = (reply.Fault g, with_fault m v c (Some g))
 
--- a frame to which the host has one grant more
+-- a frame to which the host has one more grant
 abbrev pub granted : Frame → Frame
 granted frame = record frame { share = frame.share + 1 }
 
--- a frame to which the host has one grant less, and which it no longer reaches where that was the last
+-- a frame to which the host has one grant less, and which it no longer reaches if that was the last
 abbrev pub revoked : Frame → Frame
 revoked frame = record frame { share = frame.share - 1; present = if frame.share == 1 then false else frame.present }
 
@@ -130,7 +130,7 @@ without frames f = filter (λ other. not (other == f)) frames
 abbrev pub freed : State → ℕ → State
 freed m f = record (with_frame m f (record (frame_at m f) { owner = Free; gfn = None; present = false; bytes = zero_page })) { free = m.free ++ f ∷ [] }
 
--- the frame goes back to the free list, out of the slot's list and table
+-- the frame goes to the free list, and leaves the slot's list and table
 abbrev pub dropped : State → ℕ → ℕ → ℕ → State
 dropped m v g f = with_slot (freed m f) v (record (slot_at m v) { frames = without (slot_at m v).frames f; mapped = map.remove (slot_at m v).mapped g })
 

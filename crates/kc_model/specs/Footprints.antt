@@ -1,4 +1,4 @@
--- The state before each call of a trace, and what the call may touch, by names alone.
+-- The state before each call of a trace, and what the call may touch, judged only by the names in the calls.
 use Rattle.std.specs.Prelude.{ℕ, zero, suc, Bool, false, ◌&&◌, ◌||◌, ◌==◌, nat_lt, List, slice_index_or}
 use Rattle.kc_types.specs.declared.call.Call.{Call}
 use Rattle.kc_types.specs.declared.call.Call.TheVariants.{Take, Give, Remap, Map, Drop, Clear}
@@ -21,7 +21,7 @@ state_at m calls (suc k) = (next (state_at m calls k) (call_at calls k)).1
 abbrev pub reply_at : State → List Call → ℕ → Reply
 reply_at m calls k = (next (state_at m calls k) (call_at calls k)).0
 
--- the frames that an owner may get by a call, where `held` says which frames an owner may have before
+-- the frames that a call may bring an owner, where `held` says which frames an owner may have before it
 abbrev pub gains : Configuration → (Owner → ℕ → Bool) → Call → Owner → ℕ → Bool
 gains config held (Give g) Free f = nat_lt g config.frames && g == f
 gains config held (Drop v c g) Free f = nat_lt v (slot_count config) && held (Vm v) f

@@ -1,4 +1,4 @@
--- Histories: the calls that were made of one core, in order, with their replies.
+-- Histories: the calls made to one core, in order, with their replies.
 use Rattle.std.specs.Prelude.{◌≡◌, ◌==◌, ◌&&◌, Bool, true, false, List, [], ◌∷◌, if◌then◌else◌}
 use Rattle.kc_types.specs.Actors.{actor}
 use Rattle.kc_types.specs.declared.call.Call.{Call}
@@ -8,7 +8,7 @@ use Rattle.kc_types.specs.declared.reply.Reply.{Reply}
 use Rattle.kc_model.specs.State.{State}
 use Rattle.kc_model.specs.Next.{replies_from}
 
--- one thread that makes these calls, from this state on, gets these replies
+-- one thread that makes these calls from this state on gets these replies
 abbrev pub IsLegalHistory : State → List Call → List Reply → Type 0
 IsLegalHistory start calls replies = replies ≡ replies_from start calls
 

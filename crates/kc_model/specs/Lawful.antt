@@ -1,4 +1,4 @@
--- What every state of the core keeps.
+-- What holds of every state of the core.
 use Rattle.std.specs.Prelude.{ℕ, ◌+◌, ◌/◌, ◌≡◌, ◌≤◌, ◌<◌, ◌⊎◌, ◌↔◌, ◌==◌, ◌&&◌, nat_le, nat_lt, Bool, true, false, List, [], ◌∷◌, length, Some, is_some, IsTrue, All, slice_index_or, if◌then◌else◌}
 use Rattle.std.specs.List.{list_any}
 use Rattle.std.specs.FinMap as map
@@ -22,7 +22,7 @@ abbrev pub is_vm : Owner → Bool
 is_vm (Vm v) = true
 is_vm _ = false
 
--- how often the list has the frame
+-- how often the list holds the frame
 abbrev pub times_in : List ℕ → ℕ → ℕ
 times_in [] f = 0
 times_in (x ∷ xs) f = (if x == f then 1 else 0) + times_in xs f
@@ -31,12 +31,12 @@ times_in (x ∷ xs) f = (if x == f then 1 else 0) + times_in xs f
 abbrev pub ListsOnce : State → Owner → List ℕ → Type 0
 ListsOnce m owner frames = (f : ℕ) → times_in frames f ≡ (if same_owner (frame_at m f).owner owner then 1 else 0)
 
--- a page's number of bytes
+-- a page has all its bytes, and each is a byte
 pub record IsPage (bytes : List ℕ) : Type 0 where
   pub whole : length bytes ≡ page_size
   pub each_byte : All (λ b. b < 256) bytes
 
--- what the frame of this number keeps by itself
+-- what holds of the frame of this number alone
 pub record IsLawfulFrame (config : Configuration) (f : ℕ) (frame : Frame) : Type 0 where
   -- the core owns the first frames and no other
   pub core : (frame.owner ≡ Core) ↔ (f < config.core)
@@ -62,12 +62,12 @@ pub record IsLawfulImage (image : Image) : Type 0 where
   pub within : image.base + pages_of image.len ≤ gfn_limit
   pub pages : image.pages ≤ pages_of image.len
 
--- no two images have a guest frame in common
+-- no two images share a guest frame
 abbrev pub Apart : List Image → Type 0
 Apart [] = Unit {0}
 Apart (image ∷ images) = (list_any (overlaps image.base image.len) images ≡ false) × Apart images
 
--- only a registered virtual processor of an active slot waits, for a guest frame
+-- only a registered virtual processor of an active slot waits, for a guest frame that exists
 pub record IsLawfulVcpu (phase : Phase) (vcpu : Vcpu) : Type 0 where
   pub registered : (g : ℕ) → vcpu.fault ≡ Some g → vcpu.registered ≡ true
   pub active : (g : ℕ) → vcpu.fault ≡ Some g → phase ≡ Active
@@ -77,7 +77,7 @@ pub record IsLawfulVcpu (phase : Phase) (vcpu : Vcpu) : Type 0 where
 abbrev pub has_leaf : List ℕ → ℕ → Bool
 has_leaf leaves g = list_any (λ root. root == g / leaf_entries) leaves
 
--- what a slot keeps by itself
+-- what holds of a slot alone
 pub record IsLawfulSlot (config : Configuration) (slot : Slot) : Type 0 where
   pub vcpus : length slot.vcpus ≡ vcpu_limit
   pub each_vcpu : (c : ℕ) → IsLawfulVcpu slot.phase (slice_index_or slot.vcpus c absent_vcpu)
@@ -89,7 +89,7 @@ pub record IsLawfulSlot (config : Configuration) (slot : Slot) : Type 0 where
   pub each_leaf : All (λ root. root < leaf_entries) slot.leaves
   -- a mapped guest frame has a leaf
   pub rooted : (g f : ℕ) → map.get slot.mapped g ≡ Some f → has_leaf slot.leaves g ≡ true
-  -- while booting the images' pages so far are mapped, and nothing else
+  -- during boot the images' pages so far are mapped, and nothing else
   pub booting : slot.phase ≡ Booting → (g : ℕ) → is_some (map.get slot.mapped g) ≡ list_any (holds g) slot.images
   -- an empty slot is as at boot
   pub empty : slot.phase ≡ Empty → slot ≡ empty_slot
@@ -102,7 +102,7 @@ pub record IsLawful (m : State) : Type 0 where
   pub each_slot : (v : ℕ) → v < slot_count m.config → IsLawfulSlot m.config (slot_at m v)
   pub free : ListsOnce m Free m.free
   pub listed : (v : ℕ) → v < slot_count m.config → ListsOnce m (Vm v) (slot_at m v).frames
-  -- a table maps a guest frame to a frame exactly where the frame says so
+  -- a table maps a guest frame to a frame exactly if the frame says so
   pub mapped : (v g f : ℕ) → v < slot_count m.config → (mapped_at m v g ≡ Some f) ↔ (((frame_at m f).owner ≡ Vm v) × ((frame_at m f).gfn ≡ Some g))
   -- only an active slot shares frames
   pub shared : (v f : ℕ) → v < slot_count m.config → (frame_at m f).owner ≡ Vm v → 0 < (frame_at m f).share → (slot_at m v).phase ≡ Active

@@ -1,4 +1,4 @@
--- The parts of a state whose lists are links in the frames: a frame with its neighbours, a list by its ends.
+-- The parts of a state in which lists are links in the frames: a frame with its neighbours, a list by its ends.
 use Rattle.std.specs.Prelude.{ℕ, List, [], ◌∷◌, length, Option, Some, None}
 use Rattle.kc_types.specs.declared.call.Call.{Call}
 use Rattle.kc_model.specs.State.{State, Frame, SlotOf, Slot, frame_at, slot_at}
@@ -8,16 +8,16 @@ use Rattle.kc_model.specs.Links.{Link, first_of, link_at}
 use Rattle.kc_model.specs.Footprints.{state_at}
 use Rattle.kc_types.specs.declared.resource.Resource.TheVariants as resource
 
--- the last of a list, or what stands before it
+-- the last of a list, or what comes before the list if it is empty
 abbrev pub last_of : Option ℕ → List ℕ → Option ℕ
 last_of before [] = before
 last_of before (x ∷ xs) = last_of (Some x) xs
 
--- the ends of a list, and how many frames it has
+-- the ends of a list, and the number of its frames
 abbrev pub ends_of : List ℕ → Ends
 ends_of xs = record { head = first_of xs; tail = last_of None xs; count = length xs }
 
--- a slot with the ends of its list in the list's place
+-- a slot with the ends of its list in place of the list
 abbrev pub LinkedSlot : Type 0
 LinkedSlot = SlotOf Ends
 

@@ -11,7 +11,7 @@ abbrev pub first_of : List ℕ → Option ℕ
 first_of [] = None
 first_of (x ∷ xs) = Some x
 
--- the neighbours of the frame in the list, before which this one stands
+-- the neighbours of the frame in the list, which follows `before`
 abbrev pub link_after : Option ℕ → List ℕ → ℕ → Link
 link_after before [] f = record { prev = None; next = None }
 link_after before (x ∷ xs) f = cond (x == f) (record { prev = before; next = first_of xs }) (link_after (Some x) xs f)
@@ -30,11 +30,11 @@ list_of m (Vm v) = (slot_at m v).frames
 abbrev pub link_at : State → ℕ → Link
 link_at m f = link_in (list_of m (frame_at m f).owner) f
 
--- the frames of an owner, by rising number
+-- the frames of an owner, in ascending order
 abbrev pub owned_by : State → Owner → List ℕ
 owned_by m owner = filter (λ f. same_owner (frame_at m f).owner owner) (range_with_len 0 (length m.frames))
 
--- the frames of an owner: in the order of its list, or by rising number where it has none
+-- the frames of an owner: in the order of its list, or in ascending order if it has none
 abbrev pub frames_of : State → Owner → List ℕ
 frames_of m Core = owned_by m Core
 frames_of m Host = owned_by m Host

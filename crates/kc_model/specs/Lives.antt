@@ -18,12 +18,13 @@ abbrev pub is_owned_by : ℕ → Owner → Bool
 is_owned_by v (Vm w) = w == v
 is_owned_by v _ = false
 
--- whether the slot is in this phase after it, and was not before
+-- whether the slot is in this phase after the event, and was not before
 abbrev pub is_turn : ℕ → Phase → Event → Bool
 is_turn v phase (event.Change (change.Phase told)) = (told.vm == v) && same_phase told.phase phase
 is_turn v phase _ = false
 
--- what stands behind a VM's registering and up to its end: to the event that empties its slot, or short of its next registering
+-- the events of a life after the one that registers the VM: up to the event that empties its slot, or to just before
+-- its next registering
 abbrev pub life_in : ℕ → List Event → List Event
 life_in v [] = []
 life_in v (told ∷ more) = if is_turn v Booting told then [] else if is_turn v Empty told then told ∷ [] else told ∷ life_in v more
@@ -34,22 +35,22 @@ line_of_turn v phase [] = None
 line_of_turn v phase (event.Change (change.Phase told) ∷ more) = if (told.vm == v) && same_phase told.phase phase then Some told.line else line_of_turn v phase more
 line_of_turn v phase (_ ∷ more) = line_of_turn v phase more
 
--- whether it measures the slot: then the slot is active or dead after it
+-- whether the event measures the slot, which is then active or dead
 abbrev pub is_measuring : ℕ → Event → Bool
 is_measuring v told = if is_turn v Active told then true else is_turn v Dead told
 
--- the images that the first event that measures the slot tells
+-- the images given by the first event that measures the slot
 abbrev pub images_told : ℕ → List Event → List MeasuredImage
 images_told v [] = []
 images_told v (event.Change (change.Phase told) ∷ more) = if is_measuring v (event.Change (change.Phase told)) then told.images else images_told v more
 images_told v (_ ∷ more) = images_told v more
 
--- whether the VM owns a frame after it, and did not before
+-- whether the VM owns a frame after the event that it did not own before
 abbrev pub is_gain : ℕ → Event → Bool
 is_gain v (event.Change (change.Frame told)) = not (is_owned_by v told.before.owner) && is_owned_by v told.after.owner
 is_gain v _ = false
 
--- and the other way round
+-- whether the VM owned a frame before the event that it does not own after it
 abbrev pub is_loss : ℕ → Event → Bool
 is_loss v (event.Change (change.Frame told)) = is_owned_by v told.before.owner && not (is_owned_by v told.after.owner)
 is_loss v _ = false
@@ -58,16 +59,16 @@ abbrev pub frame_gained : ℕ → Event → Option ℕ
 frame_gained v (event.Change (change.Frame told)) = if is_gain v (event.Change (change.Frame told)) then Some told.frame else None
 frame_gained v _ = None
 
--- the frames that it gains, as often as it gains them
+-- the frames that it gains, each as often as it gains it
 abbrev pub frames_gained : ℕ → List Event → List ℕ
 frames_gained v told = filter_map (frame_gained v) told
 
--- how many different numbers there are
+-- the number of different numbers in the list
 abbrev pub count_different : List ℕ → ℕ
 count_different [] = 0
 count_different (x ∷ xs) = if is_in xs x then count_different xs else count_different xs + 1
 
--- how many frames the VM has at once, at most, beyond those that it has before these events
+-- the most frames that the VM has at once, beyond those that it has before these events
 abbrev pub most_beyond : ℕ → List Event → ℕ
 most_beyond v [] = 0
 most_beyond v (told ∷ more) = if is_gain v told then most_beyond v more + 1 else if is_loss v told then most_beyond v more - 1 else most_beyond v more
@@ -86,7 +87,8 @@ end_of_sharing f [] = None
 end_of_sharing f (event.Change (change.Frame told) ∷ more) = if (told.frame == f) && (told.after.share == 0) then Some told.line else end_of_sharing f more
 end_of_sharing f (_ ∷ more) = end_of_sharing f more
 
--- the stretch that begins with an event after which the VM shares a frame that it did not share before, among those behind it
+-- the stretch that begins with this event, if after it the VM shares a frame that it did not share before; `more` are
+-- the events after it
 abbrev pub sharing_from : ℕ → Event → List Event → List Sharing
 sharing_from v (event.Change (change.Frame told)) more =
     if is_owned_by v told.after.owner && ((told.before.share == 0) && nat_lt 0 told.after.share)
@@ -99,7 +101,7 @@ abbrev pub sharings : ℕ → List Event → List Sharing
 sharings v [] = []
 sharings v (told ∷ more) = if is_turn v Booting told then [] else if is_turn v Empty told then [] else sharing_from v told more ++ sharings v more
 
--- the life of the VM that was registered on this line, by what stands behind that
+-- the life of the VM that was registered on this line, by the events after that
 abbrev pub life_of : ℕ → ℕ → List Event → Life
 life_of v line more = record {
   vm = v;
@@ -127,7 +129,7 @@ abbrev pub lives : List Event → List Life
 lives [] = []
 lives (told ∷ more) = life_from told more ++ lives more
 
--- of one slot, or of all
+-- the lives of one slot, or of all
 abbrev pub is_life_of : ℕ → Life → Bool
 is_life_of v life = life.vm == v
 

@@ -1,4 +1,4 @@
--- That a call depends on what it needs alone, and changes nothing else.
+-- A call depends only on what it needs, and changes nothing else.
 use Rattle.std.specs.Prelude.{ℕ, ◌≡◌, ◌<◌, ◌≤◌, ◌+◌, true, List, [], All, length, Some, None, is_some, slice_index_or}
 use Rattle.kc_types.specs.declared.call.Call.{Call}
 use Rattle.std.specs.Ordering.{nat_cmp}
@@ -11,11 +11,11 @@ use Rattle.kc_model.specs.Next.{next}
 use Rattle.kc_model.specs.Resources.{Resource, Resources, merged, is_in, part_of}
 use Rattle.kc_types.specs.Configuration.{slot_count}
 
--- the outcome, with the rest beside the resources
+-- the outcome, with the rest outside the resources
 abbrev pub outcome_merged : Resources → Outcome → State → Outcome
 outcome_merged here outcome rest = (outcome.0, merged here outcome.1 rest)
 
--- the call does with the resources what it does with the whole state, and leaves the rest, whatever the rest is
+-- the call does with the resources what it does with the whole state, and leaves the rest as it is, whatever it is
 abbrev pub IsLocal : Resources → State → State → Call → Type 0
 IsLocal here m rest call = next (merged here m rest) call ≡ outcome_merged here (next m call) rest
 
@@ -35,19 +35,19 @@ pub record IsOrderlySlot (there : Slot) : Type 0 where
   pub next_page : there.phase ≡ Booting → (i : ℕ) (absent : Image) → i < length there.images → (slice_index_or there.images i absent).pages < pages_of (slice_index_or there.images i absent).len
       → map.get there.mapped ((slice_index_or there.images i absent).base + (slice_index_or there.images i absent).pages) ≡ None
 
--- what a call needs of the state that it is made in: a consequence of being lawful
+-- what a call needs of the state that it is made in, which follows if the state is lawful
 pub record IsOrderly (m : State) : Type 0 where
   pub frames : length m.frames ≡ m.config.frames
   pub slots : length m.slots ≡ slot_count m.config
   pub each_slot : (v : ℕ) → v < slot_count m.config → IsOrderlySlot (slot_at m v)
 
--- no call changes the configuration, or how many frames and slots there are
+-- the configuration and the numbers of frames and slots are the same
 pub record IsSameSize (old new : State) : Type 0 where
   pub config : new.config ≡ old.config
   pub frames : length new.frames ≡ length old.frames
   pub slots : length new.slots ≡ length old.slots
 
--- two states of one size have the same at each of the resources
+-- two states of one size agree at each of the resources
 pub record AgreesOn (here : Resources) (m other : State) : Type 0 where
   pub size : IsSameSize m other
   pub parts : (r : Resource) → here r ≡ true → part_of other r ≡ part_of m r

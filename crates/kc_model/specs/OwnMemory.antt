@@ -11,12 +11,14 @@ use Rattle.kc_model.specs.Custody.{custody_at}
 use Rattle.kc_model.specs.CustodyLaws.{IsStretch, HasNoChange}
 use Rattle.kc_model.specs.Safety.{EachStep, IsActive}
 
--- the bytes of a VM's page at a guest frame after a call that was answered so: what its virtual processors write there is written over them, and nothing else is
+-- the bytes of a VM's page at a guest frame after a call with this reply: only what the VM's virtual processors write
+-- there is written over them
 abbrev pub page_after : ℕ → ℕ → Call → Reply → List ℕ → List ℕ
 page_after v g (GuestWrite w c h off written) reply.Done bytes = if (w == v) && (h == g) then overwritten bytes off written else bytes
 page_after v g _ _ bytes = bytes
 
--- through a stretch without a change of an active VM's frame that is not shared, each call leaves of the page's bytes what the VM's own writes to its guest frame leave
+-- through a stretch without a change of an active VM's frame that is not shared, each call leaves the page with its
+-- bytes and the VM's own writes to its guest frame over them
 abbrev pub KeepsWritten : State → List Call → Type 0
 KeepsWritten m calls = (i j v g f : ℕ) → IsStretch calls i j → HasNoChange m calls i j f
     → (custody_at (state_at m calls i) f).owner ≡ Vm v → (custody_at (state_at m calls i) f).gfn ≡ Some g → (custody_at (state_at m calls i) f).share ≡ 0 → IsActive (state_at m calls i) v

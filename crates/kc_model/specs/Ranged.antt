@@ -1,4 +1,4 @@
--- Numbers and bytes that their types hold.
+-- Numbers and bytes within the range of their types.
 use Rattle.std.specs.Prelude.{ℕ, ◌<◌}
 use Rattle.kc_types.specs.Bytes.{IsData}
 use Rattle.kc_types.specs.declared.call.Call.{Call}
@@ -7,7 +7,7 @@ use Rattle.kc_types.specs.declared.call.Call.TheVariants.{Take, Give, HostFault,
 abbrev pub IsWord : ℕ → Type 0
 IsWord n = n < 4294967296
 
--- each number of the call is a word, and its bytes are between one and a page
+-- each number of the call is a word, and its bytes are at least one and at most a page
 abbrev pub IsRanged : Call → Type 0
 IsRanged Take = Unit {0}
 IsRanged (Give f) = IsWord f

@@ -14,7 +14,7 @@ use Rattle.kc_model.specs.Slot.{next_gfn_of}
 use Rattle.kc_types.specs.Configuration.{slot_count}
 use Rattle.kc_types.specs.Limits.{page_size, vcpu_limit, gfn_limit, leaf_entries, image_limit, image_size_limit, share_limit, range_limit}
 
--- the refusal where the condition holds
+-- the refusal if the condition holds
 abbrev pub when : Bool → Refusal → Option Refusal
 when condition refusal = if condition then Some refusal else None
 
@@ -90,11 +90,11 @@ backing (Some f) = f
 abbrev pub share_at : State → ℕ → ℕ → ℕ
 share_at m v g = (frame_at m (backing (mapped_at m v g))).share
 
--- the root slot of the guest frame has no leaf and the pool has none left
+-- the root slot of the guest frame has no leaf, and the pool has none left
 abbrev pub tables_full : State → ℕ → ℕ → Option Refusal
 tables_full m v g = when (not (list_any (λ root. root == g / leaf_entries) (slot_at m v).leaves) && nat_le m.config.leaves (length (slot_at m v).leaves)) TablesFull
 
--- the guest frames of two images have one in common
+-- two images have a guest frame in common
 abbrev pub overlaps : ℕ → ℕ → Image → Bool
 overlaps base len image = nat_lt base (image.base + pages_of image.len) && nat_lt image.base (base + pages_of len)
 
@@ -109,11 +109,11 @@ next_gfn m v i = next_gfn_of (slot_at m v) i
 abbrev pub pending : State → ℕ → ℕ → ℕ
 pending m v c = backing (vcpu_at m v c).fault
 
--- what a virtual processor's read or write is refused for
+-- why a virtual processor's read or write is refused
 abbrev pub guest_access : State → ℕ → ℕ → ℕ → ℕ → ℕ → List (Option Refusal)
 guest_access m v c g off len = bad_vm m v ∷ bad_vcpu c ∷ bad_gfn g ∷ bad_range off len ∷ no_vm m v ∷ not_active m v ∷ no_vcpu m v c ∷ []
 
--- what a virtual processor's call on a mapped guest frame is refused for, at last for something of its own
+-- why a virtual processor's call on a mapped guest frame is refused; `last` is the condition of its own
 abbrev pub guest_frame : State → ℕ → ℕ → ℕ → Option Refusal → List (Option Refusal)
 guest_frame m v c g last = bad_vm m v ∷ bad_vcpu c ∷ bad_gfn g ∷ no_vm m v ∷ not_active m v ∷ no_vcpu m v c ∷ not_mapped m v g ∷ last ∷ []
 
@@ -130,7 +130,7 @@ guest_range m v c g n last = bad_vm m v ∷ bad_vcpu c
     ∷ when (any_from g n (λ h. is_none (mapped_at m v h))) NotMapped
     ∷ last ∷ []
 
--- what a call may be refused for, in the order in which it is asked
+-- the conditions for which a call is refused, in the order in which they are tried
 abbrev pub conditions : State → Call → List (Option Refusal)
 conditions m Take = when (length m.free == 0) NoFree ∷ []
 conditions m (Give f) = bad_frame m f ∷ not_host m f ∷ []

@@ -1,4 +1,5 @@
--- What a call may touch: the resources of a state, and the state made of some resources of one state and the others of another.
+-- What a call may touch: the resources of a state, and a state made of some resources of one state and the others of
+-- another.
 use Rattle.std.specs.Prelude.{ℕ, suc, ◌≡◌, Bool, true, false, cond, ◌&&◌, ◌||◌, ◌==◌, nat_lt, List, [], ◌∷◌, drop, slice_index_or, Option, Some, None}
 use Rattle.std.specs.List.{list_any}
 use Rattle.kc_types.specs.Slots.{slot_of}
@@ -11,7 +12,7 @@ pub use Rattle.kc_types.specs.declared.resource.Resource.{Resource}
 use Rattle.kc_model.specs.State.{State, Frame, Slot, frame_at, slot_at, untouched, empty_slot}
 use Rattle.kc_types.specs.declared.resource.Resource.TheVariants as resource
 
--- the two resources are one
+-- the two resources are the same
 abbrev pub same_resource : Resource → Resource → Bool
 same_resource (resource.Frame f) (resource.Frame g) = f == g
 same_resource (resource.Frame f) (resource.Vm w) = false
@@ -34,12 +35,12 @@ Resources = Resource → Bool
 abbrev pub IsWithin : Resources → Resources → Type 0
 IsWithin inner outer = (r : Resource) → inner r ≡ true → outer r ≡ true
 
--- each place of the first list where the test says so, and of the second elsewhere
+-- the elements of the first list at the places for which the test holds, and of the second list elsewhere
 abbrev pub pick : {X : Type 0} → (ℕ → Bool) → X → List X → List X → List X
 pick test default [] ys = []
 pick test default (x ∷ xs) ys = cond (test 0) x (slice_index_or ys 0 default) ∷ pick (λ i. test (suc i)) default xs (drop 1 ys)
 
--- the state at the resources, and the rest elsewhere
+-- the state made of the first state's resources and the second's for the rest
 abbrev pub merged : Resources → State → State → State
 merged here m rest = record {
   config = m.config;
@@ -84,7 +85,7 @@ abbrev pub exists_slot : Configuration → Option ℕ → ℕ → Bool
 exists_slot config None w = false
 exists_slot config (Some v) w = nat_lt v (slot_count config) && v == w
 
--- a frame that the owner of the slot holds
+-- whether the VM in the slot holds the frame
 abbrev pub of_slot : Configuration → (Owner → ℕ → Bool) → Option ℕ → ℕ → Bool
 of_slot config held None f = false
 of_slot config held (Some v) f = nat_lt v (slot_count config) && held (Vm v) f

@@ -13,7 +13,7 @@ use Rattle.kc_model.specs.Next.{next, state_after}
 use Rattle.kc_model.specs.Lawful.{ListsOnce}
 use Rattle.kc_types.specs.Configuration.{slot_count}
 
--- a fact of each call of a trace: of the state before it, the call, its reply and the state after it
+-- a fact holds of each call of a trace: of the state before it, the call, its reply and the state after it
 abbrev pub EachStep : (State → Call → Reply → State → Type 0) → State → List Call → Type 0
 EachStep Step m [] = Unit {0}
 EachStep Step m (call ∷ calls) = Step m call (next m call).0 (next m call).1 × EachStep Step (next m call).1 calls
@@ -67,7 +67,8 @@ abbrev pub IsMeasured : ℕ → State → List Call → Type 0
 IsMeasured v m [] = ⊥
 IsMeasured v m (call ∷ calls) = (Measures v m call (next m call).0 × EachStep (NeverCleared v) (next m call).1 calls) ⊎ IsMeasured v (next m call).1 calls
 
--- who owns a frame, whom the host reaches, what was measured and whose bytes stay: every trace keeps it
+-- at each step a frame has one owner, the host is served only at open frames and private bytes stay; and a slot that
+-- becomes active was measured
 pub record IsSafe (m : State) (calls : List Call) : Type 0 where
   pub one_owner : EachStep KeepsOneOwner m calls
   pub host_access : EachStep ServesOpenFrames m calls

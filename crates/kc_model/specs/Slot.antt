@@ -1,4 +1,5 @@
--- A VM slot as a value, and how it changes. Its frames are a list in the state of the core, and the ends of that list where links spell it.
+-- A VM slot as a value, and how it changes. Its frames are a list in the state of the core, or the ends of that list
+-- if links spell it.
 use Rattle.std.specs.Prelude.{ℕ, ◌+◌, false, List, [], ◌∷◌, ◌++◌, replicate, slice_index_or, slice_set, Option, None}
 use Rattle.std.specs.Ordering.{nat_cmp}
 use Rattle.std.specs.FinMap as map
@@ -8,7 +9,8 @@ pub use Rattle.kc_types.specs.declared.slot.Image.{Image}
 use Rattle.kc_types.specs.declared.slot.Phase.{Phase}
 use Rattle.kc_types.specs.declared.slot.Phase.TheVariants.{Empty}
 
--- `frames` are its frames in order of arrival, `mapped` leads from guest frames to frames, `leaves` are its root slots in order taken
+-- `frames` are its frames in order of arrival, `mapped` leads from guest frames to frames, `leaves` are its root slots
+-- in the order in which they were taken
 pub record SlotOf (Frames : Type 0) : Type 0 where
   pub phase : Phase
   pub vcpus : List Vcpu
@@ -30,7 +32,7 @@ no_vcpus = replicate vcpu_limit absent_vcpu
 abbrev pub empty_slot : Slot
 empty_slot = record { phase = Empty; vcpus = no_vcpus; images = []; frames = []; mapped = map.empty; leaves = [] }
 
--- what stands under a number
+-- what the slot has under a number
 abbrev pub vcpu_of : {Frames : Type 0} → SlotOf Frames → ℕ → Vcpu
 vcpu_of slot c = slice_index_or slot.vcpus c absent_vcpu
 
@@ -51,7 +53,7 @@ with_vcpu slot c vcpu = record slot { vcpus = slice_set slot.vcpus c vcpu }
 abbrev pub awaiting : {Frames : Type 0} → SlotOf Frames → ℕ → Option ℕ → SlotOf Frames
 awaiting slot c fault = with_vcpu slot c (record (vcpu_of slot c) { fault = fault })
 
--- the slot with an image more, which has no pages yet, and with a page more of an image
+-- the slot with one more image, which has no pages yet, and with one more page of an image
 abbrev pub with_image : {Frames : Type 0} → SlotOf Frames → ℕ → ℕ → SlotOf Frames
 with_image slot base len = record slot { images = slot.images ++ record { base = base; len = len; pages = 0 } ∷ [] }
 

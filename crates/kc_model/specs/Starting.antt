@@ -10,18 +10,19 @@ use Rattle.kc_model.specs.Effects.{is_approved, bytes_at, gfns_of, image_bytes}
 use Rattle.kc_model.specs.Lawful.{holds}
 use Rattle.kc_model.specs.Safety.{EachStep, IsActive}
 
--- the pages of an image, joined, are its bytes, and zeros from its end to the end of its last page
+-- the pages of an image, joined, are its bytes, and then zeros up to the end of its last page
 abbrev pub IsPadded : State → ℕ → Image → Type 0
 IsPadded m v image = flat_map (bytes_at m v) (gfns_of image) ≡ image_bytes m v image ++ replicate (page_size * pages_of image.len - image.len) 0
 
--- the memory of the slot is its boot images and zeros: all of their pages and no other, and the digest of what each of them now holds is approved
+-- the memory of the slot is its boot images and zeros: all of their pages and no others, and the digest of what each
+-- image now holds is approved
 pub record IsItsImages (m : State) (v : ℕ) : Type 0 where
   pub whole : list_any is_short (slot_at m v).images ≡ false
   pub only : (g : ℕ) → is_some (mapped_at m v g) ≡ list_any (holds g) (slot_at m v).images
   pub approved : list_all (is_approved m v) (slot_at m v).images ≡ true
   pub padded : All (IsPadded m v) (slot_at m v).images
 
--- whatever call makes a slot active, it then runs what was measured and approved, and nothing else
+-- if a call makes a slot active, the slot runs what was measured and approved, and nothing else
 abbrev pub StartsMeasured : State → Call → Reply → State → Type 0
 StartsMeasured old call answer new = (v : ℕ) → (IsActive old v → ⊥) → IsActive new v → IsItsImages new v
 

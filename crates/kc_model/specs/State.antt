@@ -23,15 +23,15 @@ pub record State : Type 0 where
   pub free : List ℕ
   pub slots : List Slot
 
--- a page of zero bytes. It does not unfold by itself, since it is 4,096 long
+-- a page of zero bytes; it does not unfold by itself, since it is 4,096 long
 unfoldable pub zero_page : List ℕ
 zero_page = replicate page_size 0
 
--- a frame that nothing was done to
+-- a frame as it is before anything is done to it
 abbrev pub untouched : Owner → Frame
 untouched owner = record { owner = owner; share = 0; gfn = None; present = false; bytes = zero_page }
 
--- what stands under a number, and the untouched value where there is none
+-- what the state has under a number, and the untouched value if there is nothing
 abbrev pub frame_at : State → ℕ → Frame
 frame_at m f = slice_index_or m.frames f (untouched Core)
 

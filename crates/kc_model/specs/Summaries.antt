@@ -18,7 +18,7 @@ use Rattle.kc_model.specs.CustodyLaws.{IsStretch}
 use Rattle.kc_model.specs.Events.{events}
 use Rattle.kc_model.specs.Lives.{is_owned_by, lives}
 
--- the place after the call on a line: after line 1, the header, no call has been made
+-- the place after the call on a line; after line 1, the header, no call has been made
 abbrev pub place_after : ℕ → ℕ
 place_after line = line - 1
 
@@ -31,11 +31,11 @@ last_place calls (Some line) = place_after line
 abbrev pub phase_at : State → List Call → ℕ → ℕ → Phase
 phase_at m calls v k = (slot_at (state_at m calls k) v).phase
 
--- how many frames its list has there
+-- the number of frames in its list at a place
 abbrev pub listed_at : State → List Call → ℕ → ℕ → ℕ
 listed_at m calls v k = length (slot_at (state_at m calls k) v).frames
 
--- whether its VM owns the frame there
+-- whether its VM owns the frame at a place
 abbrev pub owns_at : State → List Call → ℕ → ℕ → ℕ → Bool
 owns_at m calls v f k = is_owned_by v (frame_at (state_at m calls k) f).owner
 
@@ -44,21 +44,21 @@ abbrev pub registered_by : Call → Reply → Option ℕ
 registered_by (RegisterVm v) reply.Done = Some v
 registered_by _ _ = None
 
--- the call is a read that the host is served at a frame of the VM
+-- the call is a read by the host that is served at a frame of the VM
 abbrev pub reads_from : ℕ → State → Call → Reply → Bool
 reads_from v m (HostRead f off len) (reply.Data bytes) = is_owned_by v (frame_at m f).owner
 reads_from v m _ _ = false
 
--- the call is such a write
+-- the call is a write by the host that is served at a frame of the VM
 abbrev pub writes_to : ℕ → State → Call → Reply → Bool
 writes_to v m (HostWrite f off bytes) reply.Done = is_owned_by v (frame_at m f).owner
 writes_to v m _ _ = false
 
--- how many of the calls from place i to j pass a test
+-- the number of calls from place i to j that pass a test
 abbrev pub calls_that : (State → Call → Reply → Bool) → State → List Call → ℕ → ℕ → ℕ
 calls_that test m calls i j = count_by (λ k. test (state_at m calls k) (call_at calls k) (reply_at m calls k)) (range_with_len i (j - i))
 
--- how many frames pass a test
+-- the number of frames that pass a test
 abbrev pub frames_that : (ℕ → Bool) → State → ℕ
 frames_that test m = count_by test (range_with_len 0 m.config.frames)
 
@@ -67,11 +67,11 @@ abbrev pub measured_on : State → List Call → ℕ → Option ℕ → List Mea
 measured_on m calls v None = []
 measured_on m calls v (Some line) = measured_images (state_at m calls (line - first_line)) v
 
--- how many grants a frame has at a place
+-- the number of grants of a frame at a place
 abbrev pub grants_at : State → List Call → ℕ → ℕ → ℕ
 grants_at m calls f k = (frame_at (state_at m calls k) f).share
 
--- the call at a place is the first to share the frame, which is the VM's
+-- the call at a place begins to share the frame, which is the VM's
 abbrev pub shares_first : State → List Call → ℕ → ℕ → ℕ → Bool
 shares_first m calls v k f = owns_at m calls v f (k + 1) && ((grants_at m calls f k == 0) && nat_lt 0 (grants_at m calls f (k + 1)))
 
@@ -79,7 +79,8 @@ shares_first m calls v k f = owns_at m calls v f (k + 1) && ((grants_at m calls 
 abbrev pub unshared_by : State → List Call → ℕ → ℕ → Option ℕ
 unshared_by m calls f i = find (λ k. grants_at m calls f (k + 1) == 0) (range_with_len i (length calls - i))
 
--- the sharing that this call begins: it ends on the line of the next call after which the frame is not shared
+-- the sharing that the call at this place begins, which ends on the line of the next call after which the frame is not
+-- shared
 abbrev pub sharing_at : State → List Call → ℕ → ℕ → Sharing
 sharing_at m calls k f = record {
   frame = f;
@@ -88,14 +89,14 @@ sharing_at m calls k f = record {
   to = option_map (λ n. first_line + n) (unshared_by m calls f (k + 1));
 }
 
--- from place i to j the slot is first in this phase after the call on this line, or in no state if there is no line
+-- from place i to j the slot is first in this phase after the call on this line, or never if there is no line
 abbrev pub IsFirstIn : State → List Call → ℕ → Phase → ℕ → ℕ → Option ℕ → Type 0
 IsFirstIn m calls v phase i j None = (k : ℕ) → i ≤ k → k ≤ j → phase_at m calls v k ≢ phase
 IsFirstIn m calls v phase i j (Some line) =
     (i ≤ place_after line) × (place_after line ≤ j) × (phase_at m calls v (place_after line) ≡ phase)
     × ((k : ℕ) → i ≤ k → k < place_after line → phase_at m calls v k ≢ phase)
 
--- no state from place i to j has more frames in the slot's list, and one has as many
+-- no state from place i to j has more frames in the slot's list, and one has exactly this many
 pub record IsMost (m : State) (calls : List Call) (v i j most : ℕ) : Type 0 where
   pub no_more : (k : ℕ) → i ≤ k → k ≤ j → listed_at m calls v k ≤ most
   pub as_many : (k : ℕ) × (i ≤ k) × (k ≤ j) × (listed_at m calls v k ≡ most)
@@ -106,26 +107,26 @@ pub record IsSummary (m : State) (calls : List Call) (life : Life) (first last :
   -- the call on its first line registers the slot
   pub within : first_line ≤ life.registered
   pub registered : registered_by (call_at calls (life.registered - first_line)) (reply_at m calls (life.registered - first_line)) ≡ Some life.vm
-  -- the slot is active, dead and empty after the calls on these lines, and not before
+  -- the slot becomes active, dead and empty by the calls on these lines, and not before
   pub active : IsFirstIn m calls life.vm Active first last life.active
   pub dead : IsFirstIn m calls life.vm Dead first last life.dead
   pub cleared : IsFirstIn m calls life.vm Empty first (length calls) life.cleared
-  -- it is measured once at most, and its images are those that are measured then
+  -- it is measured at most once, and its images are those that are measured then
   pub once : (life.active ≡ None) ⊎ (life.dead ≡ None)
   pub images : life.images ≡ measured_on m calls life.vm life.active ++ measured_on m calls life.vm life.dead
-  -- of all frames, those that the VM owns at any of its places
+  -- `frames` counts all frames that the VM owns at any of its places
   pub frames : life.frames ≡ frames_that (λ f. list_any (owns_at m calls life.vm f) (range_with_len first (last + 1 - first))) m
   pub most : IsMost m calls life.vm first last life.most
   pub left : life.left ≡ listed_at m calls life.vm last
-  -- call by call, the frames that it owns before and not after it
+  -- `returned` counts, call by call, the frames that it owns before and not after it
   pub returned : life.returned ≡ sum_by (λ k. frames_that (λ f. owns_at m calls life.vm f k && not (owns_at m calls life.vm f (k + 1))) m) (range_with_len first (last - first))
   pub reads : life.reads ≡ calls_that (reads_from life.vm) m calls first last
   pub writes : life.writes ≡ calls_that (writes_to life.vm) m calls first last
-  -- call by call, the sharings that it begins, by rising frames
+  -- `shared` has, call by call, the sharings that it begins, by frames in ascending order
   pub shared : life.shared ≡ flat_map (λ k. map (sharing_at m calls k) (filter (shares_first m calls life.vm k) (range_with_len 0 m.config.frames))) (range_with_len first (last - first))
 
 pub record AreSummaries (m : State) (calls : List Call) : Type 0 where
-  -- of each life that the events of a trace tell
+  -- each life that the events of a trace give is so
   pub each : All (λ life. IsSummary m calls life (place_after life.registered) (last_place calls life.cleared)) (lives (events m calls))
-  -- there is one for each call that registers a slot, in their order
+  -- there is a life for each call that registers a slot, in their order
   pub all : map (λ life. life.registered) (lives (events m calls)) ≡ map (λ k. first_line + k) (filter (λ k. is_some (registered_by (call_at calls k) (reply_at m calls k))) (range_with_len 0 (length calls)))

@@ -17,7 +17,7 @@ use Rattle.kc_model.specs.Lawful.{IsLawful, same_owner}
 use Rattle.kc_model.specs.Boot.{boot}
 use Rattle.kc_model.specs.Blind.{Secret, IsPrivate, has_gfn, grants_secret}
 
--- some guest frames of a VM are watched. What it has at one: how often the frame there is shared, and its bytes where it is watched
+-- what a VM has at a guest frame: how often the frame there is shared, and its bytes if the guest frame is watched
 pub record Page : Type 0 where
   pub share : ℕ
   pub bytes : List ℕ
@@ -39,7 +39,8 @@ page_at s m v g = page_under s m.frames g (mapped_at m v g)
 abbrev pub own_slot : Slot → SlotOf (Unit {0})
 own_slot there = record { phase = there.phase; vcpus = there.vcpus; images = there.images; frames = tt; mapped = map.empty; leaves = there.leaves }
 
--- the VM has the same in both states: the limits, its slot, and its pages by guest frames. Which frames they are, and all that is others', may differ
+-- the VM has the same in both states: the limits, its slot, and its pages by guest frames; which frames they are, and
+-- all that belongs to others, may differ
 pub record HasTheSame (s : ℕ → Bool) (v : ℕ) (m n : State) : Type 0 where
   pub slots : slot_count m.config ≡ slot_count n.config
   pub leaves : m.config.leaves ≡ n.config.leaves
@@ -47,14 +48,15 @@ pub record HasTheSame (s : ℕ → Bool) (v : ℕ) (m n : State) : Type 0 where
   pub slot : own_slot (slot_at m v) ≡ own_slot (slot_at n v)
   pub pages : (g : ℕ) → page_at s m v g ≡ page_at s n v g
 
--- what reaches a VM by a call: a call that names it; a page of an image, or one that a virtual processor waits for, with its bytes; bytes that the host writes to a page
+-- what reaches a VM by a call: a call that names it; a page of an image, or one that a virtual processor waits for,
+-- with its bytes; or bytes that the host writes to a page
 pub data Input : Type 0 where
   own_call : Call → Input
   image_page : ℕ → List ℕ → Input
   fresh_page : ℕ → List ℕ → Input
   host_bytes : ℕ → ℕ → List ℕ → Input
 
--- the call without the bytes that it writes where it is not watched, but with their number
+-- the call without the bytes that it writes to guest frames that are not watched, but with their number
 abbrev pub watched_call : (ℕ → Bool) → Call → Call
 watched_call s (GuestWrite v c g off bytes) = GuestWrite v c g off (if s g then bytes else replicate (length bytes) 0)
 watched_call s call = call
@@ -67,11 +69,12 @@ abbrev pub if_named : ℕ → Option ℕ → Option Input → Option Input
 if_named v None input = None
 if_named v (Some w) input = if w == v then input else None
 
--- what the host's write to a frame is to the VM: something only where it is the frame at a watched guest frame
+-- what the host's write to a frame means for the VM: something only if the frame is at a watched guest frame
 abbrev pub by_host : (ℕ → Bool) → ℕ → Frame → ℕ → List ℕ → Option Input
 by_host s v frame off bytes = if same_owner frame.owner (Vm v) && has_gfn s frame.gfn then Some (host_bytes (backing frame.gfn) off bytes) else None
 
--- by a refused call of the host nothing reaches a VM, and by any call that does not name it nothing but what the host writes to its pages
+-- nothing reaches a VM by a refused call of the host, and by a call that does not name it only what the host writes to
+-- its pages
 abbrev pub input : (ℕ → Bool) → ℕ → State → Call → Option Input
 input s v m (HostWrite f off bytes) = if_served (refusal m (HostWrite f off bytes)) (by_host s v (frame_at m f) off bytes)
 input s v m (Remap w i f) = if_named v (Some w) (if_served (refusal m (Remap w i f)) (Some (image_page i (watched s (next_gfn m w i) (frame_at m f).bytes))))
@@ -101,7 +104,8 @@ abbrev pub with_answer : (ℕ → Bool) → Option Input → Reply → List Repl
 with_answer s (Some (own_call call)) answer later = watched_reply s call answer ∷ later
 with_answer s _ answer later = later
 
--- the replies to the calls of its virtual processors, and to the host's that name the VM and are served, but for hand-overs
+-- the replies to the calls of its virtual processors, and to the host's calls that name the VM and are served, except
+-- hand-overs
 abbrev pub answers : (ℕ → Bool) → ℕ → State → List Call → List Reply
 answers s v m [] = []
 answers s v m (call ∷ calls) = with_answer s (input s v m call) (next m call).0 (answers s v (next m call).1 calls)
@@ -118,7 +122,8 @@ pub record IsTreatedAlike (s : ℕ → Bool) (v : ℕ) (m n : State) (calls othe
   pub told : answers s v m calls ≡ answers s v n others
   pub states : HasTheSame s v (state_after m calls) (state_after n others)
 
--- whatever the VM and its watched guest frames: by two traces by which the same reaches it, from states in which it has the same, it is answered the same and has the same again, whatever else the host and the other VMs do in them
+-- for every VM and every choice of watched guest frames: two traces by which the same reaches it, from states in which
+-- it has the same, answer it the same and leave it the same, whatever else the host and the other VMs do in them
 abbrev pub TreatsAlike : State → List Call → Type 0
 TreatsAlike m calls = (s : ℕ → Bool) (v : ℕ) (n : State) (others : List Call) → IsLawful n → HasTheSame s v m n
     → inputs s v m calls ≡ inputs s v n others → IsMeasuredWhole s v calls → IsTreatedAlike s v m n calls others
@@ -127,7 +132,7 @@ abbrev pub is_by_host : Input → Bool
 is_by_host (host_bytes g off bytes) = true
 is_by_host _ = false
 
--- where none of the watched pages is shared, and the trace grants none, nothing that the host writes reaches the VM
+-- if no watched page is shared, and the trace grants none, nothing that the host writes reaches the VM
 abbrev pub KeepsUnwritten : State → List Call → Type 0
 KeepsUnwritten m calls = (s : Secret) → IsPrivate s m → AllByRecursion (λ call. grants_secret s call ≡ false) calls → AllByRecursion (λ i. is_by_host i ≡ false) (inputs s.gfns s.vm m calls)
 
@@ -140,7 +145,8 @@ pub record IsUndisturbed (m : State) (calls : List Call) : Type 0 where
   pub unwritten : KeepsUnwritten m calls
   pub fewer : WatchesFewer m
 
--- the same from boot, beside any other trace on any other machine with the same limits of a VM and the same approved images, however many frames it has
+-- the same from boot, compared to any other trace on any other machine with the same limits of a VM and the same
+-- approved images, however many frames it has
 abbrev pub IsUndisturbedFromBoot : Configuration → List Call → Type 0
 IsUndisturbedFromBoot c calls = (s : ℕ → Bool) (v : ℕ) (d : Configuration) (others : List Call) → IsConfiguration d → slot_count c ≡ slot_count d → c.leaves ≡ d.leaves → c.approved ≡ d.approved
     → inputs s v (boot c) calls ≡ inputs s v (boot d) others → IsMeasuredWhole s v calls → IsTreatedAlike s v (boot c) (boot d) calls others

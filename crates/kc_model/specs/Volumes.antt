@@ -1,4 +1,5 @@
--- A long run in volumes, each of which begins in the state that the one before it leaves. A state stands in the world as its text.
+-- A long run in volumes, each of which begins in the state that the one before it leaves. Outside the core a state is
+-- known by its text.
 use Rattle.std.specs.Prelude.{ℕ, ◌≡◌, ◌<◌, ◌≤◌, List, [], ◌∷◌, ◌++◌, length, All}
 use Rattle.kc_types.specs.declared.call.Call.{Call}
 use Rattle.kc_types.specs.declared.reply.Reply.{Reply}
@@ -12,22 +13,23 @@ pub record IsDigest (digest : List ℕ) : Type 0 where
   pub long : length digest ≡ 32
   pub each : All (λ b. b < 256) digest
 
--- a lawful state whose approved digests are digests, as the type of a configuration has them
+-- a lawful state whose approved digests are 32 bytes each, as the type of a configuration has them
 pub record IsCoreState (m : State) : Type 0 where
   pub lawful : IsLawful m
   pub digests : All IsDigest m.config.approved
 
--- no text of at most a gigabyte is that of two states
+-- no text of at most a gigabyte is the text of two states
 abbrev pub TellsApart : (State → List ℕ) → Type 0
 TellsApart spelled = (m n : State) → IsCoreState m → IsCoreState n → length (spelled m) ≤ byte_limit → spelled m ≡ spelled n → m ≡ n
 
--- some calls in order, with their replies, and the text of the state behind them
+-- calls in order, with their replies, and the text of the state after them
 pub record Volume : Type 0 where
   pub calls : List Call
   pub replies : List Reply
   pub left : List ℕ
 
--- one thread that makes the calls from a state of this text on gets the volume's replies, and leaves a state of the volume's text
+-- one thread that makes the calls from a state of this text on gets the volume's replies, and leaves a state of the
+-- volume's text
 pub record IsReplayedFrom (spelled : State → List ℕ) (text : List ℕ) (volume : Volume) : Type 0 where
   pub start : State
   pub told : IsCoreState start
@@ -50,7 +52,7 @@ abbrev pub all_replies : List Volume → List Reply
 all_replies [] = []
 all_replies (volume ∷ volumes) = volume.replies ++ all_replies volumes
 
--- the text behind the last volume
+-- the text after the last volume
 abbrev pub last_text : List ℕ → List Volume → List ℕ
 last_text text [] = text
 last_text text (volume ∷ volumes) = last_text volume.left volumes

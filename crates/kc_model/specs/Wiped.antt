@@ -1,4 +1,4 @@
--- The state without a byte that any frame held.
+-- The state without any byte that a frame held.
 use Rattle.std.specs.Prelude.{map}
 use Rattle.kc_model.specs.State.{State, Frame, zero_page}
 

@@ -1,4 +1,4 @@
-//! What the core's calls mean: the state as a value, and what each call answers and leaves.
+//! What the core's calls mean: the state as a value, what each call answers, and the state that it leaves.
 #![tactic(auto)]
 
 pub mod laws;

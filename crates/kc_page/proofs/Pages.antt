@@ -10,13 +10,13 @@ use Rattle.kc_page.specs.PageBytes.{page_of, IsHeld, zeroed_from}
 pub page_of_zeros : (is_zero : Bool) (bytes : List ℕ) → is_zero ≡ true → page_of is_zero bytes ≡ zero_page
 page_of_zeros is_zero bytes e = rw e refl
 
--- zeroing the end of a page of zero bytes
+-- zeroing the end of a page of zero bytes changes nothing
 pub zeroed_zero_page : (n : ℕ) → n ≤ 4096 → zero_page ≡ zeroed_from zero_page n
 zeroed_zero_page n le =
     let all : n + (4096 - n) ≡ 4096 = omega arith in
     rw zero_page-replicate (sym (ap (λ (l : List ℕ). l ++ replicate (4096 - n) 0) (take-replicate n 4096 0 le) ∙ replicate-append-replicate n (4096 - n) 0 ∙ ap (λ k. replicate k 0) all))
 
--- writing zeros over a page of zero bytes
+-- writing zeros over a page of zero bytes changes nothing
 pub zeros_over_zeros : (n : ℕ) (bytes : List ℕ) → bytes ≡ replicate (length bytes) 0 → as_bytes bytes ≡ bytes → n + length bytes ≤ 4096 → zero_page ≡ overwritten zero_page n bytes
 zeros_over_zeros n bytes zeros same le =
     let m = length bytes in
@@ -26,7 +26,7 @@ zeros_over_zeros n bytes zeros same le =
     let all : n + m + (4096 - (n + m)) ≡ 4096 = omega (arith, le) in
     zero_page-replicate ∙ sym (ap₂ ◌++◌ begun back ∙ replicate-append-replicate (n + m) (4096 - (n + m)) 0 ∙ ap (λ k. replicate k 0) all)
 
--- filling what is empty
+-- filling empty memory
 pub filled : (n : ℕ) (old new : List ℕ) (ok : Bool) → length old ≡ n → n ≡ 0 → ok ≡ true → new ≡ (if ok then take 4096 old ++ replicate (4096 - n) 0 else old) → new ≡ zero_page
 filled n [] new ok size none done is =
     let all : new ≡ replicate (4096 - n) 0 = rw done at is in

@@ -7,11 +7,12 @@ use Rattle.kc_model.specs.State.{zero_page}
 abbrev pub zeroed_from : List ℕ → ℕ → List ℕ
 zeroed_from bytes n = take n bytes ++ replicate (page_size - n) 0
 
--- the page that bytes in memory are: zeros where it is known to be zero
+-- the page that bytes in memory are: zeros if it is known to be zero
 abbrev pub page_of : Bool → List ℕ → List ℕ
 page_of is_zero bytes = if is_zero then zero_page else bytes
 
--- memory for a page, of which nothing or all is filled: all from the first write on, and zeros where the page is known to be zero
+-- memory for a page is filled completely or not at all: completely from the first write on, and with zeros if the page
+-- is known to be zero
 pub record IsHeld (is_written is_zero : Bool) (filled capacity : ℕ) (bytes : List ℕ) : Type 0 where
   pub unwritten : is_written ≡ false → is_zero ≡ true
   pub nothing : is_written ≡ false → filled ≡ 0

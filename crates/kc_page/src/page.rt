@@ -11,14 +11,14 @@ use std::alloc::Global;
 use std::marker::Model;
 use std::thread::Threads;
 
-/// What is shown of each page that was never written.
+/// The bytes of each page that was never written.
 const ZEROS: &[u8; 4096] = &[0; 4096];
 
-/// The 4,096 bytes of a page, seen as the list of them. They lie on the heap, so a page moves as a few words.
+/// The 4,096 bytes of a page, seen as a list. They lie on the heap, so that a page moves as a few words.
 ///
-/// The memory is there from the start. Until the first write it holds nothing and the page is zero, so a page that is
-/// never written is never zeroed; nor is one that is known to be zero. What once was written is zeroed and not forgotten,
-/// also where the page is dropped.
+/// The memory is there from the start. Until the first write it is not filled and the page counts as zero, so a page
+/// that is never written is never zeroed; nor is one that is known to be zero. Bytes that were written are zeroed
+/// before their memory is freed, also if the page is dropped.
 pub struct PageBytes {
     bytes: Vec<u8>,
     is_written: bool,
@@ -47,7 +47,7 @@ fn fill_with_zeros(bytes: &mut Vec<u8>)
     bytes.resize(PAGE_SIZE as usize, 0).unwrap();
 }
 
-/// Whether all bytes, of a page at most, are zero.
+/// Whether all bytes, at most a page of them, are zero.
 fn are_zero(bytes: &[u8]) -> bool
     requires { length bytes.now ≤ page_size }
     ensures { IsTrue result ↔ (bytes.now ≡ replicate (length bytes.now) 0) }
@@ -64,7 +64,7 @@ impl Drop for PageBytes {
 }
 
 impl PageBytes {
-    /// The only end of a page: its bytes are zero.
+    /// Frees a page whose bytes are zero; no other function frees one.
     fn let_go(self)
         requires { self ≡ zero_page }
     {
@@ -75,7 +75,7 @@ impl PageBytes {
         } = self;
     }
 
-    /// A page of zero bytes, or `Memory` where a growth was refused.
+    /// Makes a page of zero bytes; `Memory` if memory cannot be had.
     pub fn zeroed(alloc: Global) -> Result<PageBytes, Memory>
         // No clause can rule out that memory runs out: tests make pages.
         ensures { IfOk result (λ page. page ≡ zero_page) }
@@ -99,14 +99,14 @@ impl PageBytes {
         }
     }
 
-    /// Whether all bytes are known to be zero. A page of zeros that were written is not.
+    /// Whether all bytes are known to be zero. If zeros were written, they are not known to be.
     pub fn is_known_zero(&self) -> bool
         ensures { result ≡ true → self.now ≡ zero_page }
     {
         self.is_zero
     }
 
-    /// A copy of `len` bytes from `offset` on, in a buffer made before, which takes no memory.
+    /// Copies `len` bytes from `offset` on into a buffer made before, which takes no memory.
     pub fn read(&self, offset: usize, len: usize, buffer: ReplyBuffer) -> Data
         requires some { 0 < len }
         requires within { offset + len ≤ page_size }
@@ -116,7 +116,7 @@ impl PageBytes {
         buffer.filled(&self.as_slice()[offset..offset + len])
     }
 
-    /// Writes these bytes from `offset` on. A page that is known to be zero stays as it is if they are zeros.
+    /// Writes these bytes from `offset` on. A page that is known to be zero stays so if they are zeros.
     pub fn write(&mut self, offset: usize, bytes: &[u8])
         requires some { 0 < length bytes.now }
         requires within { offset + length bytes.now ≤ page_size }
@@ -143,7 +143,7 @@ impl PageBytes {
         }
     }
 
-    /// Zeroes the bytes from place `n` on and keeps those before it.
+    /// Zeroes the bytes from place `n` on, and keeps those before it.
     pub fn zero_from(&mut self, n: usize)
         requires { n ≤ page_size }
         ensures { self.new ≡ zeroed_from self.old n }
@@ -154,7 +154,7 @@ impl PageBytes {
     }
 }
 
-/// What the core keeps of a frame beside its bytes.
+/// What the core records of a frame besides its bytes.
 #[derive(Clone, Copy, Debug, PartialEq, Eq)]
 pub struct PageRecord {
     pub owner: Owner,
@@ -177,7 +177,7 @@ pub struct Page {
     pub bytes: PageBytes,
 }
 
-/// Zeroes the bytes of all pages and keeps their records.
+/// Zeroes the bytes of all pages, and keeps their records.
 pub fn scrub_each(pages: &mut [Page])
     ensures { pages.new ≡ map scrubbed_page pages.old }
 {
@@ -186,13 +186,13 @@ pub fn scrub_each(pages: &mut [Page])
     }
 }
 
-/// Some 100 microseconds of work for a thread.
+/// The pages of a chunk: about 100 microseconds of work for a thread.
 const PAGES_A_CHUNK: usize = 256;
 
-/// So many pages to zero are worth several threads.
+/// From this many pages to zero on, several threads are worth starting.
 const MANY_PAGES: usize = 2_048;
 
-/// How many pages are not known to be zero.
+/// The number of pages that are not known to be zero.
 fn to_scrub(pages: &[Page]) -> usize {
     pages
         .iter()
@@ -200,8 +200,8 @@ fn to_scrub(pages: &[Page]) -> usize {
         .count()
 }
 
-/// Zeroes the bytes of all pages and keeps their records, by several threads where 2,048 pages and more are not known to
-/// be zero. It is never refused: where no thread can be started, this one does all.
+/// Zeroes the bytes of all pages, and keeps their records; with several threads if 2,048 pages or more are not known
+/// to be zero. It cannot fail: if no thread can be started, this one does everything.
 pub fn scrub_all(rt: &(impl Threads + Sync), pages: &mut [Page])
     ensures { pages.new ≡ map scrubbed_page pages.old }
 {

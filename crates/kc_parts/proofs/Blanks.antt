@@ -12,14 +12,14 @@ use Rattle.kc_parts.specs.Moves.{page_among}
 use Rattle.kc_parts.proofs.Places.{place-found, filled-at}
 use Rattle.kc_parts.proofs.Writing.{filled-here}
 
--- where all places are filled there is no blank
+-- if all places are filled there is no blank
 pub blanks-filled : (n : ℕ) (ps : List Page) → AreBlanks (replicate n true) ps
 blanks-filled zero ps i e = cc
 blanks-filled (suc n) ps zero e = cc
 blanks-filled (suc n) [] (suc i) e = refl
 blanks-filled (suc n) (p ∷ ps) (suc i) e = blanks-filled n ps i e
 
--- a page changes where a place is filled, or past the places
+-- the page of a filled place changes, or one past the places
 blanks-page : (hs : List Bool) (ps : List Page) (i : ℕ) (p : Page) → get_or hs i true ≡ true → AreBlanks hs ps → AreBlanks hs (set ps i p)
 blanks-page [] ps i p at are k e = cc
 blanks-page (h ∷ hs) [] i p at are k e = refl
@@ -83,7 +83,7 @@ held-set ns hs ps i b p ok held = record {
   blanks = blanks-set hs ps i b p ok held.blanks;
 }
 
--- what stands at a frame's place that is empty is a blank
+-- the page at a frame's empty place is a blank
 pub blank-there : (ns : List ℕ) (hs : List Bool) (ps : List Page) (f : ℕ) (d : Page) → IsHeld ns hs ps → place_of ns f < length ns → page_among ns hs ps f ≡ None → get_or ps (place_of ns f) d ≡ blank_page
 blank-there ns hs ps f d held low none = by_flag (get_or hs (place_of ns f) true) refl
   where
@@ -95,7 +95,7 @@ blank-there ns hs ps f d held low none = by_flag (get_or hs (place_of ns f) true
         let no : Some (get_or ps (place_of ns f) d) ≡ None = sym some ∙ none in
         cc
 
--- where no page is taken out there is no blank
+-- if no page is taken out there is no blank
 full-blanks : (h : Held) (ps : List Page) → IsHeld h.numbers h.filled h.pages → IsFull h → AreBlanks h.filled ps
 full-blanks h ps held full i e = elim (cases_lt i (length h.filled)) [
   | inl low ↦
@@ -108,7 +108,7 @@ full-blanks h ps held full i e = elim (cases_lt i (length h.filled)) [
   | inr past ↦ let no : true ≡ false = sym (get_or_past h.filled i true past) ∙ e in cc
 ]
 
--- and all pages may become any pages
+-- and all pages may become any others
 pub held-refilled : (h : Held) (n : ℕ) (ps : List Page) → IsHeld h.numbers h.filled h.pages → IsFull h → n ≡ length h.pages → IsHeld h.numbers h.filled (take n (ps ++ drop (length ps) h.pages))
 held-refilled h n ps held full is = record {
   rising = held.rising;
@@ -118,7 +118,7 @@ held-refilled h n ps held full is = record {
   blanks = full-blanks h (take n (ps ++ drop (length ps) h.pages)) held full;
 }
 
--- blanks have no bytes but zeros, so they stay blanks where all pages are scrubbed
+-- a blank has only zero bytes, so it stays a blank when all pages are scrubbed
 blank-scrubbed : (ps : List Page) (i : ℕ) → get_or ps i blank_page ≡ blank_page → get_or (map scrubbed_page ps) i blank_page ≡ blank_page
 blank-scrubbed [] i e = refl
 blank-scrubbed (p ∷ ps) zero e = ap scrubbed_page e

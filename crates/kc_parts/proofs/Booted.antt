@@ -54,7 +54,7 @@ by_zero (suc n) a b = b
 abbrev linking : Option ℕ → Option ℕ → Option Link
 linking prev next = Some (record { prev = prev; next = next })
 
--- frames that are linked by rising number
+-- frames that are linked in ascending order
 linked-range : (links : Links) (a n : ℕ) (before after : Option ℕ)
     → ((k : ℕ) → k < n → links (a + k) ≡ linking (by_zero k before (Some (a + k - 1))) (cond (nat_eq (suc k) n) after (Some (a + k + 1))))
     → NamesNeighbours links before (range_with_len a n) after
@@ -274,7 +274,7 @@ module _ (config : Configuration) (is : IsConfiguration config) where
             | inr none ↦ ap (slot_in (links_of booted)) none
           ]
 
-  -- what is made part by part
+  -- the parts made one by one
   pub made : (parts : Held) (pages : List Page) (vms : List (Option VmSlot)) (free : Ends)
       → parts ≡ parts_of pages vms free → pages ≡ map (boot_page config) (range_with_len 0 config.frames) → vms ≡ replicate (slot_count config) (Some (empty_vm config.leaves)) → free ≡ boot_ends config
       → parts ≡ booted

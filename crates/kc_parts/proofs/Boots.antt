@@ -1,4 +1,4 @@
--- The parts of the boot state, one after another and all together.
+-- The parts of the boot state, one by one and all together.
 use Rattle.std.proofs.Common.{ℕ, zero, suc, ◌≡◌, ◌<◌, ◌≤◌, ◌+◌, true, false, cond, eq-eqb, [], ◌∷◌, ◌++◌, List, length, get_or, map, replicate, Option, None, refl, sym, ap, ◌∙◌, arith}
 use Rattle.std.specs.List.{range_with_len, slice_get}
 use Rattle.std.proofs.lemmas.Bool.{ne_eqb}
@@ -14,7 +14,7 @@ numbers-more n = sym (map-id (range_with_len 0 (n + 1))) ∙ map-range_with_len_
 pub pages-more : {X : Type 0} (at : ℕ → X) (n : ℕ) → map at (range_with_len 0 (n + 1)) ≡ map at (range_with_len 0 n) ++ at n ∷ []
 pages-more at n = map-range_with_len_more at 0 n n (omega arith)
 
--- where all numbers from one on have places, each is at its distance
+-- if all numbers from one on have places, each is at its distance from it
 place-range : (a n k : ℕ) → k < n → place_of (range_with_len a n) (a + k) ≡ k
 place-range a zero k lt = absurd (omega (arith, lt))
 place-range a (suc n) zero lt = rw (eq-eqb a (a + 0) (omega arith)) refl
@@ -33,7 +33,7 @@ unfilled-range : (a n f : ℕ) → a + n ≤ f → is_filled (range_with_len a n
 unfilled-range a zero f le = refl
 unfilled-range a (suc n) f le = rw (ne_eqb a f (λ same. omega (arith, le, same))) (unfilled-range (a + 1) n f (omega (arith, le)))
 
--- the page of a frame where all have places and all are here
+-- the page of a frame if all frames have places and are here
 pub page-whole : (h : Held) (n f : ℕ) → h.numbers ≡ range_with_len 0 n → h.filled ≡ replicate n true → f < n → page_at h f ≡ slice_get h.pages f
 page-whole h n f numbers here lt =
     let e : 0 + f ≡ f = omega arith in
@@ -62,7 +62,7 @@ cell-range a (suc n) (suc k) c lt =
     let e : a + suc k ≡ (a + 1) + k = omega arith in
     rw (ne_eqb (a + suc k) a (λ same. omega (arith, same))) (ap (cell_in (range_with_len (a + 1) n) (replicate n c)) e ∙ cell-range (a + 1) n k c (omega (arith, lt)))
 
--- what stands at a number where all places have the same
+-- the element for a number if all places have the same
 pub cell-whole : {X : Type 0} (n k : ℕ) (c : Option X) → k < n → cell_in (range_with_len 0 n) (replicate n c) k ≡ c
 cell-whole n k c lt = let e : k ≡ 0 + k = omega arith in ap (cell_in (range_with_len 0 n) (replicate n c)) e ∙ cell-range 0 n k c lt
 
@@ -79,7 +79,7 @@ cell-range-at a (suc n) (suc k) (c ∷ cs) e =
     let s : a + suc k ≡ (a + 1) + k = omega arith in
     rw (ne_eqb (a + suc k) a (λ same. omega (arith, same))) (ap (cell_in (range_with_len (a + 1) n) cs) s ∙ cell-range-at (a + 1) n k cs (omega (arith, e)))
 
--- what stands at a number where all have places
+-- the element for a number if all numbers have places
 pub cell-at : {X : Type 0} (cs : List (Option X)) (k : ℕ) → cell_in (range_with_len 0 (length cs)) cs k ≡ get_or cs k None
 cell-at cs k = let e : k ≡ 0 + k = omega arith in ap (cell_in (range_with_len 0 (length cs)) cs) e ∙ cell-range-at 0 (length cs) k cs refl
 

@@ -1,4 +1,4 @@
--- What stands at the places of numbers.
+-- The elements at the places of numbers.
 use Rattle.std.proofs.Common.{ℕ, zero, suc, ◌≡◌, ◌≢◌, ◌<◌, Bool, true, false, cond, ◌||◌, nat_eq, List, [], ◌∷◌, length, get_or, set, replicate, Option, Some, None, refl, sym, ◌∙◌, ap, arith}
 use Rattle.std.proofs.lemmas.Bool.{ne_eqb, eqb-true}
 use Rattle.kc_vms.specs.Vm.{VmSlot}
@@ -61,7 +61,7 @@ cell-other_place {X} (m ∷ ns) (c ∷ cs) n k x other = rw (swapped m n) (by_fi
     by_first true same rest = rw (ne_eqb k m (λ is. other (is ∙ sym (eqb-true n m same)))) refl
     by_first false same rest = ap (cond (nat_eq k m) c) rest
 
--- what is written back as it was
+-- writing an element back changes nothing
 pub cell-same : {X : Type 0} (ns : List ℕ) (cs : List (Option X)) (n : ℕ) (x : X) → cell_in ns cs n ≡ Some x → set cs (place_of ns n) (Some x) ≡ cs
 cell-same [] cs n x e = cc
 cell-same (m ∷ ns) [] n x e = cc
@@ -85,7 +85,7 @@ cell-among {X} (m ∷ ns) (c ∷ cs) n = by_first (nat_eq n m) (cell-among ns cs
     by_first true rest = refl
     by_first false rest = rest
 
--- where all places have the same
+-- all places have nothing
 pub cell-none : {X : Type 0} (ns : List ℕ) (k n : ℕ) → cell_in {X = X} ns (replicate k None) n ≡ None
 cell-none [] k n = refl
 cell-none (m ∷ ns) zero n = refl

@@ -1,4 +1,4 @@
--- A slot that is emptied, and its frames, which become untouched and free.
+-- A slot is emptied, and its frames become untouched and free.
 use Rattle.std.proofs.Common.{ℕ, zero, suc, ◌≡◌, ◌≢◌, ◌<◌, ◌+◌, inl, inr, true, IsSome, List, [], ◌∷◌, ◌++◌, Option, Some, None, is_some, is_none, cond, Bool, false, nat_lt, set, refl, sym, ap, ◌∙◌, arith}
 use Rattle.std.specs.Option.{option_map}
 use Rattle.std.proofs.lemmas.Bool.{cases_eq}
@@ -28,7 +28,7 @@ use Rattle.kc_parts.proofs.SlotChanges.{vm-set, vm-other, here-vm, state-vm}
 use Rattle.kc_parts.proofs.SlotLists.{frames-here, slot-owned, ends-here}
 use Rattle.kc_parts.proofs.Moving.{same_or_other}
 
--- pages change, and all else stays but what a page says beside its links
+-- only pages change, and of a page only what it has besides its links
 pub record IsScrubbing (old new : Held) : Type 0 where
   pub numbers : new.numbers ≡ old.numbers
   pub filled : new.filled ≡ old.filled
@@ -78,7 +78,7 @@ here-rest h f fs here g some = (one-scrubbed h f).pages g ∙ here g (omega (ari
 here-first : (h : Held) (f : ℕ) (fs : List ℕ) → AreHere h (f ∷ fs) → is_some (page_at h f) ≡ true
 here-first h f fs here = here f (let one = times-same f fs in omega (arith, one))
 
--- a free frame stays free, and a scrubbed one is
+-- a free frame stays free, and a scrubbed frame is free
 owner-stays : (h : Held) (f g : ℕ) → owner_at h g ≡ Free → owner_at (with_scrubbed h f) g ≡ Free
 owner-stays h f g free = by_page (page_at h f) refl
   where
@@ -180,7 +180,7 @@ walk-none h (suc n) = refl
 pub walk-step : (h : Held) (n left f : ℕ) → left ≡ suc n → all_scrubbed (with_scrubbed h f) (spelled (links_of (with_scrubbed h f)) n (next_of (links_of h f))) ≡ all_scrubbed h (spelled (links_of h) left (Some f))
 walk-step h n left f is = rw is (ap (λ (links : Links). all_scrubbed (with_scrubbed h f) (spelled links n (next_of (links_of h f)))) (links-scrubbed h f))
 
--- and at its end all are scrubbed
+-- at its end all are scrubbed
 pub walk-listed : (old new : Held) (ends : Ends) (left : ℕ) (at : Option ℕ) → left ≡ 0 → all_scrubbed new (spelled (links_of new) left at) ≡ all_scrubbed old (spelled (links_of old) ends.count ends.head) → new ≡ all_scrubbed old (listed (links_of old) ends)
 unfolding listed
 walk-listed old new ends left at none walked = ap (λ n. all_scrubbed new (spelled (links_of new) n at)) (sym none) ∙ walked
@@ -212,7 +212,7 @@ module _ (old : Held) (v : ℕ) (vm : VmSlot) (at : vm_at old v ≡ Some vm) whe
   abbrev pub reset : Held
   reset = with_vm old v (empty_vm vm.capacity)
 
-  -- and its frames are scrubbed
+  -- the slot's frames are scrubbed
   abbrev pub emptied : Held
   emptied = all_scrubbed reset fs
 
@@ -260,7 +260,7 @@ module _ (old : Held) (v : ℕ) (vm : VmSlot) (at : vm_at old v ≡ Some vm) whe
       capacity-in (Some vm) = vm.capacity
       capacity-in None = 0
 
-  -- the slot's frames are here, and in no list of another
+  -- the slot's frames are here, and in no other list
   here-listed : AreLists (links_of old) (ends_at old) (owner_at old) → AreHere reset fs
   here-listed are g some = held-here old g (inside-held (links_of old) vm.slot.frames g (are.spelled (Vm v) vm.slot.frames (ends-here old v vm at)) some)
 

@@ -8,7 +8,7 @@ use Rattle.kc_page.specs.declared.page.Page.{Page}
 use Rattle.kc_parts.specs.Parts.{IsRising, is_among, place_of, is_filled, cell_in}
 use Rattle.kc_parts.proofs.Places.{rising-rest}
 
--- what the places have
+-- the pages of the filled places
 abbrev pub cells : List Bool → List Page → List (Option Page)
 cells [] ps = []
 cells (b ∷ bs) [] = []
@@ -57,7 +57,7 @@ cells-append [] (q ∷ ps) b p e = absurd (omega (arith, e))
 cells-append (h ∷ hs) [] b p e = absurd (omega (arith, e))
 cells-append (h ∷ hs) (q ∷ ps) b p e = ap (λ cs. cond h (Some q) None ∷ cs) (cells-append hs ps b p (omega (arith, e)))
 
--- no place, no cell
+-- a number without a place has no element
 pub cell-no_place : {X : Type 0} (ns : List ℕ) (cs : List (Option X)) (f : ℕ) → ((k : ℕ) → k < length ns → get_or ns k 0 ≢ f) → cell_in ns cs f ≡ None
 cell-no_place [] cs f none = refl
 cell-no_place (n ∷ ns) [] f none = refl

@@ -1,4 +1,4 @@
--- The free list takes a frame in, or gives one out.
+-- The free list gains a frame, or gives one away.
 use Rattle.std.proofs.Common.{ℕ, ◌≡◌, ◌≢◌, ◌<◌, inl, inr, List, [], ◌∷◌, ◌++◌, Option, Some, None, is_some, is_none, IfSome, MatchOption, refl, sym, ap, ◌∙◌, arith}
 use Rattle.std.specs.List.{range_with_len}
 use Rattle.std.specs.Option.{option_map}
@@ -68,7 +68,7 @@ module _ (old mid : Held) (e e' : Ends) (frames : List ℕ) (rest : IsSameRest o
       here-all (resource.Vm v) = here-stays old mid Free frames rest are keeps owned (resource.Vm v)
       here-all resource.Free = sym (ap is_some free_is)
 
-  -- a frame that was taken off the list is in none
+  -- a frame that was taken off the list is in no list
   pub loose-popped : (f : ℕ) → listed (links_of old) e ≡ f ∷ listed (links_of mid) e' → frames ≡ listed (links_of old) e → links_of mid f ≡ Some unlinked → IsLoose moved f
   loose-popped f was frames_are alone = record {
     alone = alone;
@@ -98,7 +98,7 @@ pub popped-within : (old new : List ℕ) (r : Option ℕ) → MatchOption r ((ol
 popped-within old new None gave g some = rw gave.0 (rw gave.1 at some)
 popped-within old new (Some f) gave g some = rw gave (omega (arith, some))
 
--- the frames of a list with one more
+-- the frames of a list with one more frame
 pub owned-appended : (owner_at : ℕ → Owner) (owner : Owner) (fs : List ℕ) (f : ℕ) → ((g : ℕ) → 0 < times_in fs g → owner_at g ≡ owner) → owner_at f ≡ owner → (g : ℕ) → 0 < times_in (fs ++ f ∷ []) g → owner_at g ≡ owner
 owned-appended owner_at owner fs f owned mine g some = elim (cases_eq g f) [
   | inl same ↦ ap owner_at same ∙ mine

@@ -7,7 +7,7 @@ use Rattle.kc_parts.specs.Parts.{Held}
 use Rattle.kc_parts.specs.Booting.{IsWhole}
 use Rattle.kc_parts.specs.Cuts.{IsFull}
 
--- where all of a configuration is here, no page is taken out
+-- if everything of a configuration is here, no page is taken out
 pub full_from_whole : (config : Configuration) (h : Held) → IsWhole config h → IsFull h
 full_from_whole config h whole i low =
     let within : i < config.frames = omega (arith, rw (whole.numbers, length-range_with_len 0 config.frames) at low) in

@@ -1,4 +1,4 @@
--- A look-up shows the frame or the slot of the state.
+-- Looking up finds the frame or the slot of the state.
 use Rattle.std.proofs.Common.{ℕ, ◌≡◌, ◌<◌, ◌≤◌, ◌/◌, inl, inr, Bool, true, false, not, ◌&&◌, ◌||◌, ◌==◌, nat_le, nat_lt, List, length, Some, None, get_or, refl, sym, ap, ◌∙◌, arith}
 use Rattle.std.proofs.lemmas.List.{get_or_past}
 use Rattle.std.proofs.lemmas.List.FromFn.{length-map-range_with_len}
@@ -50,7 +50,7 @@ vcpu-none slot c is = sym (ap (λ (there : Slot). get_or there.vcpus c absent_vc
 pub mapped-none : (slot : Slot) (g : ℕ) → slot ≡ empty_slot → None ≡ map.get slot.mapped g
 mapped-none slot g is = sym (ap (λ (there : Slot). map.get there.mapped g) is ∙ map.get-empty nat_cmp g)
 
--- a slot's table takes a guest frame where the state says so
+-- a slot's table takes a guest frame if the state says so
 pub fits-seen : (m : State) (v g : ℕ) (vm : VmSlot) (frames : List ℕ) → slot_at m v ≡ unlinked_slot vm.slot frames → vm.capacity ≡ m.config.leaves → tables_full m v g ≡ when (not (fits (slot_table vm) g)) TablesFull
 fits-seen m v g vm frames is capacity = rw is (ap (λ full. when full TablesFull) (rw (← capacity) (turned (list_any (λ root. root == g / 512) vm.slot.leaves) vm.capacity (length vm.slot.leaves))))
   where

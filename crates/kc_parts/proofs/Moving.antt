@@ -1,4 +1,4 @@
--- Lists of several owners over one store of links, where one of them changes.
+-- Lists of several owners over one store of links, one of which changes.
 use Rattle.std.proofs.Common.{ℕ, zero, suc, ◌≡◌, ◌≢◌, ◌<◌, ◌⊎◌, inl, inr, List, Option, Some, refl, sym, ap, ◌∙◌, arith}
 use Rattle.std.proofs.lemmas.Bool.{cases_eq}
 use Rattle.std.proofs.lemmas.Option.{same_Some}
@@ -37,7 +37,7 @@ none-or-some : (n : ℕ) → (n ≡ 0) ⊎ (0 < n)
 none-or-some zero = inl refl
 none-or-some (suc n) = inr (omega arith)
 
--- one owner's list and links change, among frames that are that owner's
+-- one owner's list and links change, among frames of that owner
 module _ (links links' : Links) (ends ends' : Owner → Option Ends) (owner_at : ℕ → Owner) (mine : Owner) (frames : List ℕ)
     (are : AreLists links ends owner_at) (keeps : KeepsOthers links links' frames) (owned : (f : ℕ) → 0 < times_in frames f → owner_at f ≡ mine) where
   apart : (p : Owner) (e : Ends) → p ≢ mine → ends p ≡ Some e → AreApart (listed links e) frames
@@ -83,7 +83,7 @@ lists-owner links ends owner_at owner_at' f are same none alone = record {
   ];
 }
 
--- owners may be said otherwise
+-- equal owners make the same lists
 pub lists-same : (links links' : Links) (ends ends' : Owner → Option Ends) (owner_at owner_at' : ℕ → Owner) → links' ≡ links → ((p : Owner) → ends' p ≡ ends p) → ((g : ℕ) → owner_at' g ≡ owner_at g)
     → AreLists links ends owner_at → AreLists links' ends' owner_at'
 lists-same links links' ends ends' owner_at owner_at' links_are ends_are owners_are are = record {

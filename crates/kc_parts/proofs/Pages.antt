@@ -1,4 +1,4 @@
--- A page that is changed, and the pages of the other frames.
+-- A page changes, and the pages of the other frames stay.
 use Rattle.std.proofs.Common.{ℕ, zero, suc, ◌≡◌, ◌≢◌, ◌<◌, inl, inr, Bool, true, false, cond, nat_eq, nat_lt, List, [], ◌∷◌, length, length-set, get_or, set, Some, None, refl, sym, ap, ◌∙◌, arith}
 use Rattle.std.specs.List.{slice_get}
 use Rattle.std.specs.Option.{option_map}
@@ -31,7 +31,7 @@ filled-number (n ∷ ns) (h ∷ hs) f filled = by_first (nat_eq n f) refl filled
     by_first true same filled rest = eqb-true n f same
     by_first false other filled rest = rest filled
 
--- where a frame has its page, no other frame has
+-- no other frame has its page at a frame's place
 place-apart : (h : Held) (f g : ℕ) → place_in h f < length h.pages → g ≢ f → place_in h g ≢ place_in h f
 place-apart h f g within other = by_filled (is_filled h.numbers h.filled f) (is_filled h.numbers h.filled g) refl refl within
   where
@@ -52,13 +52,13 @@ page-other h f g old new is other =
     ap (slice_get (set h.pages (place_in h f) new)) (place-kept h f g new)
     ∙ slice_get-set_other h.pages (place_in h f) (place_in h g) new (place-apart h f g (slice_get_within h.pages (place_in h f) old is) other)
 
--- what is read of a page stays for all frames where it stays for the changed one
+-- what is read of a page stays for all frames if it stays for the changed one
 pub kept-at : {X : Type 0} (read : Page → X) (h : Held) (f : ℕ) (old new : Page) → page_at h f ≡ Some old → read new ≡ read old → (g : ℕ) → option_map read (page_at (with_page h f new) g) ≡ option_map read (page_at h g)
 kept-at read h f old new is same g = elim (cases_eq g f) [
   | inl e ↦ rw e (ap (option_map read) (page-set h f old new is) ∙ ap Some same ∙ sym (ap (option_map read) is))
   | inr other ↦ ap (option_map read) (page-other h f g old new is other)
 ]
 
--- links stay where a page keeps its own
+-- links stay if a page keeps its own
 pub links-kept : (h : Held) (f : ℕ) (old new : Page) → page_at h f ≡ Some old → link_of new ≡ link_of old → links_of (with_page h f new) ≡ links_of h
 links-kept h f old new is same = fun_ext (λ g. ap (λ there. cond (nat_lt g frame_limit) there None) (kept-at link_of h f old new is same g))

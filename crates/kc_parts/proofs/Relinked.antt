@@ -1,4 +1,4 @@
--- Parts whose links changed among the frames of one owner, whose list changed: what is seen of all else stays.
+-- The links among the frames of one owner change, and so does the owner's list: what is seen of everything else stays.
 use Rattle.std.proofs.Common.{ℕ, zero, suc, ◌≡◌, ◌≢◌, ◌<◌, true, false, List, Option, Some, None, is_some, refl, sym, ap, ◌∙◌, arith}
 use Rattle.std.specs.Option.{option_map}
 use Rattle.kc_types.specs.declared.link.Ends.{Ends}
@@ -71,7 +71,7 @@ module _ (old new : Held) (mine : Owner) (frames : List ℕ) (rest : IsSameRest 
       by_count zero count = refl
       by_count (suc n) count = absurd (other (sym (are.owned p e f is (rw count (omega arith))) ∙ own))
 
-  -- where the ends of the changed list are here, frames whose list is elsewhere keep their links
+  -- if the ends of the changed list are here, frames whose list is elsewhere keep their links
   pub away-stays : lacks_list old mine ≡ false → (f : ℕ) → is_away old f ≡ true → links_of new f ≡ links_of old f
   away-stays here f away = by_count (times_in frames f) refl
     where

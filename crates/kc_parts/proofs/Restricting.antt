@@ -1,4 +1,4 @@
--- Parts that are a state's are linked, and are seen as what is cut from it.
+-- Parts that are a state's are linked, and are seen as what is cut from the state.
 use Rattle.std.proofs.Common.{ℕ, zero, suc, ◌≡◌, ◌<◌, ◌≤◌, ◌+◌, Bool, true, false, cond, List, [], ◌∷◌, length, map, get_or, Option, Some, None, is_some, refl, sym, ap, ◌∙◌, subst, arith}
 use Rattle.std.specs.List.{range_with_len}
 use Rattle.std.specs.Option.{option_map}
@@ -49,7 +49,7 @@ abbrev pub ends_shown : LinkedPart → Ends
 ends_shown (free_ends ends) = ends
 ends_shown _ = ends_of []
 
--- a table that has the list's at the numbers of a test, and the default elsewhere
+-- a list that has another's elements at the numbers that pass a test, and the default elsewhere
 pub picked : {X : Type 0} (test : ℕ → Bool) (d : X) (xs : List X) (look : ℕ → X) (a n : ℕ) → n ≡ length xs → ((i : ℕ) → i < n → look (a + i) ≡ cond (test i) (get_or xs i d) d) → map look (range_with_len a n) ≡ pick test d xs []
 picked test d [] look a zero is each = refl
 picked test d [] look a (suc n) is each = absurd (omega (arith, is))
@@ -58,7 +58,7 @@ picked test d (x ∷ xs) look a (suc n) is each =
     let first : look a ≡ cond (test 0) x d = ap look (let e : a ≡ a + 0 = omega arith in e) ∙ each 0 (omega arith) in
     rw (first, picked (λ i. test (suc i)) d xs look (a + 1) n (omega (arith, is)) (λ i low. ap look (let e : a + 1 + i ≡ a + suc i = omega arith in e) ∙ each (suc i) (omega (arith, low)))) refl
 
--- what is there of what is shown
+-- what is there shows what should be shown
 pub record IsShown {A : Type 0} (part : A → LinkedPart) (there : Option A) (shown : LinkedPart) : Type 0 where
   pub it : A
   pub is : there ≡ Some it
@@ -181,7 +181,7 @@ module _ (m : State) (here : Resources) (h : Held) (is : IsLawful m) (closed : I
   pub list-chain : (p : Owner) → has_ends here p ≡ true → Chain (links_of h) (ends_of (list_of m p)) (list_of m p)
   list-chain p ends = chain-each (links_of h) (list_of m p) (once-list p ends) (λ f some. list-link p ends f (held-times_in (list_of m p) f some))
 
-  -- the ends of a list that are here
+  -- the ends of a list that is here
   pub ends-are : (p : Owner) (ends : Ends) → ends_at h p ≡ Some ends → (has_ends here p ≡ true) × (ends ≡ ends_of (list_of m p))
   ends-are Core ends e = cc
   ends-are Host ends e = cc

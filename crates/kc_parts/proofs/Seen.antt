@@ -19,7 +19,7 @@ use Rattle.kc_parts.specs.States.{frame_in, slot_in, list_in, state_of, owner_at
 use Rattle.kc_parts.proofs.Pages.{page-set, page-other, kept-at, links-kept}
 use Rattle.kc_parts.proofs.Moving.{lists-owner, lists-same}
 
--- a table by number that differs at one number is the table with that place set
+-- a list made of a function that changes at one number is the list with that element set
 set-from : {X : Type 0} (old new : ℕ → X) (a n k : ℕ) (x : X) → new (a + k) ≡ x → ((g : ℕ) → g ≢ a + k → new g ≡ old g) → map new (range_with_len a n) ≡ set (map old (range_with_len a n)) k x
 set-from old new a zero k x is others = refl
 set-from old new a (suc n) zero x is others =
@@ -69,7 +69,7 @@ here-page h f old new is g = elim (cases_eq g f) [
   | inr other ↦ ap is_some (page-other h f g old new is other)
 ]
 
--- a page changes and keeps its links and its owner
+-- a page changes, and keeps its links and its owner
 pub linked-kept : (config : Configuration) (h : Held) (f : ℕ) (old new : Page) → IsLinked config h → page_at h f ≡ Some old → link_of new ≡ link_of old → new.meta.owner ≡ old.meta.owner → IsLinked config (with_page h f new)
 linked-kept config h f old new linked is same owner = record {
   frames = λ g here. linked.frames g (sym (here-page h f old new is g) ∙ here);
@@ -88,7 +88,7 @@ linked-kept config h f old new linked is same owner = record {
         inner (Some x) = x
         inner None = Core
 
--- a page of no list changes and keeps its links
+-- a page in no list changes, and keeps its links
 pub linked-moved : (config : Configuration) (h : Held) (f : ℕ) (old new : Page) → IsLinked config h → page_at h f ≡ Some old → link_of new ≡ link_of old
     → ((p : Owner) (e : Ends) → ends_at h p ≡ Some e → times_in (listed (links_of h) e) f ≡ 0) → (new.meta.owner ≡ Host → links_of h f ≡ Some unlinked) → IsLinked config (with_page h f new)
 linked-moved config h f old new linked is same none alone = record {

@@ -1,4 +1,4 @@
--- What parts are seen as where one slot changes.
+-- What parts are seen as when one slot changes.
 use Rattle.std.proofs.Common.{ℕ, ◌≡◌, ◌≢◌, inl, inr, List, Option, Some, None, is_some, refl, sym, ap, ◌∙◌}
 use Rattle.std.specs.Option.{option_map}
 use Rattle.std.proofs.lemmas.Bool.{cases_eq}
@@ -22,11 +22,11 @@ vm-set h v old new is = cell-at_place h.vms.numbers h.vms.slots v old new is
 pub vm-other : (h : Held) (v w : ℕ) (new : VmSlot) → w ≢ v → vm_at (with_vm h v new) w ≡ vm_at h w
 vm-other h v w new other = cell-other_place h.vms.numbers h.vms.slots v w (Some new) other
 
--- a slot that is written back as it was
+-- writing a slot back changes nothing
 pub vm-same : (h : Held) (v : ℕ) (vm : VmSlot) → vm_at h v ≡ Some vm → with_vm h v vm ≡ h
 vm-same h v vm is = ap (λ (slots : List (Option VmSlot)). record h { vms = record { numbers = h.vms.numbers; slots = slots } }) (cell-same h.vms.numbers h.vms.slots v vm is)
 
--- what is read of a slot stays for all slots where it stays for the changed one
+-- what is read of a slot stays for all slots if it stays for the changed one
 pub vm-kept : {X : Type 0} (read : VmSlot → X) (h : Held) (v : ℕ) (old new : VmSlot) → vm_at h v ≡ Some old → read new ≡ read old → (w : ℕ) → option_map read (vm_at (with_vm h v new) w) ≡ option_map read (vm_at h w)
 vm-kept read h v old new is same w = elim (cases_eq w v) [
   | inl e ↦ rw e (ap (option_map read) (vm-set h v old new is) ∙ ap Some same ∙ sym (ap (option_map read) is))
@@ -57,7 +57,7 @@ ends-vm h v old new is same Host = refl
 ends-vm h v old new is same Free = refl
 ends-vm h v old new is same (Vm w) = vm-kept (λ vm. vm.slot.frames) h v old new is same w
 
--- a slot changes and keeps the ends of its list
+-- a slot changes, and keeps the ends of its list
 pub linked-vm : (config : Configuration) (h : Held) (v : ℕ) (old new : VmSlot) → IsLinked config h → vm_at h v ≡ Some old → new.slot.frames ≡ old.slot.frames → new.capacity ≡ old.capacity → IsLinked config (with_vm h v new)
 linked-vm config h v old new linked is same capacity = record {
   frames = linked.frames;

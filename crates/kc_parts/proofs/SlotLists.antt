@@ -1,4 +1,4 @@
--- The list of a slot takes a frame in, or gives one out.
+-- The list of a slot gains a frame, or gives one away.
 use Rattle.std.proofs.Common.{ℕ, ◌≡◌, ◌≢◌, ◌<◌, inl, inr, List, Option, Some, None, is_none, IfSome, refl, sym, ap, ◌∙◌, arith}
 use Rattle.std.specs.List.{range_with_len}
 use Rattle.std.specs.Option.{option_map}
@@ -109,7 +109,7 @@ module _ (old mid : Held) (v : ℕ) (vm : VmSlot) (e' : Ends) (frames : List ℕ
           vm-in (Some there) = there
           vm-in None = vm
 
-  -- a frame that was taken off the list is in none
+  -- a frame that was taken off the list is in no list
   pub loose-left : (f : ℕ) → 0 < times_in frames f → times_in (listed (links_of mid) e') f ≡ 0 → links_of mid f ≡ Some unlinked → IsLoose moved f
   loose-left f mine gone alone = record { alone = alone; absent = absent-from }
     where

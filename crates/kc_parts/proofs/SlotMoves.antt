@@ -1,4 +1,4 @@
--- Slots that move from places to places.
+-- Slots move from places to other places.
 use Rattle.std.proofs.Common.{ℕ, ◌≡◌, ◌<◌, ◌≤◌, Bool, true, false, cond, length, get_or, take, refl, sym, ◌∙◌, ap}
 use Rattle.std.specs.Prelude.{Option, Some, None}
 use Rattle.std.proofs.lemmas.List.{take_all}
@@ -23,7 +23,7 @@ next-fits i n from to left joined vm nothing low is was here =
     by_moved true o e = cc
     by_moved false o e = refl
 
--- all that was there has moved
+-- everything that was there has moved
 pub all-moved : (n : ℕ) (from to left joined : HeldSlots) → length from.numbers ≤ n → AreMoved (take n from.numbers) from to left joined → (v : ℕ) → held_slot joined v ≡ either (held_slot to v) (held_slot from v)
 all-moved n from to left joined all moved v =
     moved.joined_is v ∙ ap (λ ns. either (held_slot to v) (cond (is_among ns v) (held_slot from v) None)) (take_all n from.numbers all) ∙ ap (either (held_slot to v)) (cell-among from.numbers from.slots v)

@@ -14,7 +14,7 @@ none-of : {A : Type 0} → (part : A → HeldPart) (o : Option A) → option_map
 none-of part None e = refl
 none-of part (Some x) e = cc
 
--- what is in the one part was in the whole, and is in the other no more
+-- what is in the one part was in the whole, and is not in the other
 some-split : {A : Type 0} → (part : A → HeldPart) (b : Bool) (before rest taken : Option A) → ((x y : A) → part x ≡ part y → x ≡ y)
     → option_map part taken ≡ cond b (option_map part before) None → option_map part rest ≡ cond b None (option_map part before)
     → (x : A) → taken ≡ Some x → (before ≡ Some x) × (rest ≡ None)

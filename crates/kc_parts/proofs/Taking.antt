@@ -1,4 +1,4 @@
--- What is kept while pages are taken out, and what the whole comes to.
+-- What is kept while pages are taken out, and what it comes to in the end.
 use Rattle.std.proofs.Common.{ℕ, zero, suc, ◌≡◌, ◌<◌, ◌≤◌, ◌+◌, Bool, true, false, cond, nat_eq, List, [], ◌∷◌, length, get_or, take, map, replicate, refl, sym, ◌∙◌, ap, arith}
 use Rattle.std.specs.Prelude.{Option, Some, None, IsSome}
 use Rattle.std.specs.Option.{option_map}
@@ -85,7 +85,7 @@ split-whole wanted ns start rest taken among pages others slots left ends kept p
 pub same-pages : (before mid after : Held) (free : Option Ends) → WithSlots before mid → after ≡ record mid { free = free } → (f : ℕ) → page_at after f ≡ page_at before f
 same-pages before mid after free slots ends f = ap (λ h. page_at h f) ends ∙ ap (λ h. page_at h f) slots
 
--- what is taken out is all filled
+-- all places of what is taken out are filled
 pub held-taken : (wanted : List Resource) (ns : List ℕ) (hs : List Bool) (ps : List Page) (start : Held) (n : ℕ) → AreFramesOf wanted ns → hs ≡ replicate n true → n ≡ length ns → map Some ps ≡ map (page_at start) ns → IsHeld ns hs ps
 held-taken wanted ns hs ps start n are filled count pages = record {
   rising = are.rising;
@@ -95,7 +95,7 @@ held-taken wanted ns hs ps start n are filled count pages = record {
   blanks = rw filled (blanks-filled n ps);
 }
 
--- the same, in the words that the steps leave
+-- the same, in the form that the steps leave
 pub split-end : (wanted : List Resource) (ns : List ℕ) (hs : List Bool) (ps : List Page) (empty vms : HeldSlots) (ends : Option Ends) (start mid freed rest : Held) (asked : Bool) (n : ℕ)
     → AreFramesOf wanted ns → hs ≡ replicate n true → n ≡ length ns → map Some ps ≡ map (page_at freed) ns → IsLifted ns freed rest
     → AreSlotsFor (is_wanted wanted) empty.numbers → ((v : ℕ) → held_slot empty v ≡ None) → AreMoved empty.numbers start.vms empty mid.vms vms → WithSlots start mid → ends ≡ cond asked mid.free None → freed ≡ record mid { free = cond asked None mid.free } → asked ≡ is_wanted wanted resource.Free
@@ -113,7 +113,7 @@ split-end wanted ns hs ps empty vms ends start mid freed rest asked n are filled
     (lifted.numbers ∙ ap (λ h. h.numbers) kept ∙ ap (λ h. h.numbers) slots_only)
     (ap (λ vs. vs.numbers) (lifted.vms ∙ ap (λ h. h.vms) kept) ∙ moved.left_places)
 
--- all that came out is here
+-- everything that came out is here
 pub taken-full : (wanted : List Resource) (start rest taken : Held) → AreHere start wanted → IsSplit start (is_wanted wanted) rest taken → AreAmong wanted taken.numbers → IsFull taken
 taken-full wanted start rest taken here split among i low =
     let n = get_or taken.numbers i 0 in

@@ -13,7 +13,7 @@ use Rattle.kc_parts.specs.Parts.{Held, HeldSlots, page_at, vm_at}
 abbrev pub first_free : Configuration → ℕ
 first_free config = config.core + config.host
 
--- the free frames are linked by rising number, the others are in no list
+-- the free frames are linked in ascending order, the others are in no list
 abbrev pub boot_prev : Configuration → ℕ → Option ℕ
 boot_prev config f = cond (nat_lt (first_free config) f) (Some (f - 1)) None
 
@@ -51,7 +51,7 @@ parts_of pages vms free = record {
 abbrev pub boot_slots : Configuration → HeldSlots
 boot_slots config = record { numbers = range_with_len 0 (slot_count config); slots = replicate (slot_count config) (Some (empty_vm config.leaves)) }
 
--- all that the configuration has is here, in the places of its numbers, and no slot past its last
+-- everything that the configuration has is here, in the places of its numbers, and there is no slot past the last
 pub record IsWhole (config : Configuration) (h : Held) : Type 0 where
   pub numbers : h.numbers ≡ range_with_len 0 config.frames
   pub frames : (f : ℕ) → f < config.frames → is_some (page_at h f) ≡ true

@@ -8,13 +8,14 @@ use Rattle.kc_page.specs.declared.page.Page.{Page}
 use Rattle.kc_vms.specs.Vm.{VmSlot}
 use Rattle.kc_parts.specs.Parts.{Held, IsRising, HasPlace, is_among, page_at, vm_at}
 
--- what can be held of one resource: a page with its record and links, a slot with the ends of its list, the ends of the free list
+-- what can be held of one resource: a page with its record and links, a slot with the ends of its list, or the ends of
+-- the free list
 pub data HeldPart : Type 0 where
   page_part : Page → HeldPart
   slot_part : VmSlot → HeldPart
   ends_part : Ends → HeldPart
 
--- what is held of a resource, and nothing where it is not here
+-- what is held of a resource, or nothing if it is not here
 abbrev pub held_at : Held → Resource → Option HeldPart
 held_at h (resource.Frame f) = option_map page_part (page_at h f)
 held_at h (resource.Vm v) = option_map slot_part (vm_at h v)
@@ -24,7 +25,7 @@ held_at h resource.Free = option_map ends_part h.free
 abbrev pub AreHere : Held → List Resource → Type 0
 AreHere h wanted = (r : Resource) → is_wanted wanted r ≡ true → IsSome (held_at h r)
 
--- taken has what passes the test of what there was before, and rest has all else; rest keeps its places
+-- `taken` has what was there before and passes the test, `rest` has everything else and keeps its places
 pub record IsSplit (before : Held) (test : Resource → Bool) (rest taken : Held) : Type 0 where
   pub taken_is : (r : Resource) → held_at taken r ≡ cond (test r) (held_at before r) None
   pub rest_is : (r : Resource) → held_at rest r ≡ cond (test r) None (held_at before r)
@@ -36,18 +37,18 @@ pub record AreSlotsFor (test : Resource → Bool) (numbers : List ℕ) : Type 0 
   pub members : (v : ℕ) → is_among numbers v ≡ test (resource.Vm v)
   pub rising : IsRising numbers
 
--- for whatever other has, h has a place, and nothing in it
+-- `h` has a place for whatever `other` has, with nothing in it
 pub record FitsInto (h other : Held) : Type 0 where
   pub pages : (f : ℕ) (page : Page) → page_at other f ≡ Some page → HasPlace h.numbers f × (page_at h f ≡ None)
   pub slots : (v : ℕ) (vm : VmSlot) → vm_at other v ≡ Some vm → HasPlace h.vms.numbers v × (vm_at h v ≡ None)
   pub ends : (ends : Ends) → other.free ≡ Some ends → h.free ≡ None
 
--- the first where there is one, else the second
+-- the first if there is one, and otherwise the second
 abbrev pub either : {X : Type 0} → Option X → Option X → Option X
 either (Some x) second = Some x
 either None second = second
 
--- after has what either of the two has
+-- `after` has what either of the two has
 abbrev pub IsJoin : Held → Held → Held → Type 0
 IsJoin one other after = (r : Resource) → held_at after r ≡ either (held_at one r) (held_at other r)
 

@@ -1,4 +1,4 @@
--- A slot that is emptied, and its frames, which become untouched and free.
+-- A slot is emptied, and its frames become untouched and free.
 use Rattle.std.specs.Prelude.{ℕ, ◌≡◌, ◌<◌, true, false, List, [], ◌∷◌, Option, Some, None, slice_set}
 use Rattle.kc_types.specs.Configuration.{Configuration, slot_count}
 use Rattle.kc_types.specs.declared.owner.Owner.TheVariants.{Free}
@@ -10,25 +10,25 @@ use Rattle.kc_page.specs.declared.page.Page.{Page}
 use Rattle.kc_parts.specs.Parts.{Held, page_at, with_page, links_of}
 use Rattle.kc_parts.specs.States.{state_of, here_of, owner_at, is_away, listed_frames, IsLinked}
 
--- the page of an untouched free frame, with the links that it had
+-- the page of an untouched free frame, with the links that the frame had
 abbrev pub untouched_page : Page → Page
 untouched_page page = record { meta = record page.meta { owner = Free; share = 0; gfn = None; present = false }; bytes = zero_page }
 
--- the parts with such a page of the frame, if it has one
+-- the parts with such a page for the frame, if it has a page
 abbrev pub with_untouched : Held → ℕ → Option Page → Held
 with_untouched h f None = h
 with_untouched h f (Some page) = with_page h f (untouched_page page)
 
--- the parts where the frame is untouched and free, if it is here
+-- the parts with the frame untouched and free, if it is here
 abbrev pub with_scrubbed : Held → ℕ → Held
 with_scrubbed h f = with_untouched h f (page_at h f)
 
--- the parts where each of these frames is
+-- the parts with each of these frames untouched and free
 abbrev pub all_scrubbed : Held → List ℕ → Held
 all_scrubbed h [] = h
 all_scrubbed h (f ∷ fs) = all_scrubbed (with_scrubbed h f) fs
 
--- the slot is as at boot, its frames are untouched free ones of no list, and nothing else that is seen has changed
+-- the slot is as at boot, its frames are untouched, free and in no list, and nothing else that is seen has changed
 pub record IsEmptied (v : ℕ) (old new : Held) : Type 0 where
   pub numbers : new.numbers ≡ old.numbers
   pub slots : new.vms.numbers ≡ old.vms.numbers

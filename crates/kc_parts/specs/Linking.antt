@@ -8,7 +8,7 @@ use Rattle.kc_types.specs.declared.link.Link.{Link}
 use Rattle.kc_page.specs.Page.{frame_of}
 use Rattle.kc_parts.specs.Parts.{Held, page_at, links_of}
 
--- two parts are the same but for the links of their frames
+-- two parts are the same except for the links of their frames
 pub record IsSameRest (old new : Held) : Type 0 where
   pub numbers : new.numbers ≡ old.numbers
   pub filled : new.filled ≡ old.filled

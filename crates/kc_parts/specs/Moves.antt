@@ -20,20 +20,20 @@ AreSlotsAmong wanted numbers = (v : ℕ) → is_among numbers v ≡ is_wanted wa
 abbrev pub AreFrames : List ℕ → Type 0
 AreFrames numbers = (i : ℕ) → get_or numbers i 0 < frame_limit
 
--- the frames that are wanted, rising
+-- the frames that are wanted, ascending
 pub record AreFramesOf (wanted : List Resource) (numbers : List ℕ) : Type 0 where
   pub rising : IsRising numbers
   pub frames : AreFrames numbers
   pub members : AreAmong wanted numbers
 
--- after has this at the frame's place, and all else of before
+-- `after` has this at the frame's place, and everything else as before
 pub record IsWrite (f : ℕ) (page : Option Page) (before after : Held) : Type 0 where
   pub numbers : after.numbers ≡ before.numbers
   pub vms : after.vms ≡ before.vms
   pub free : after.free ≡ before.free
   pub pages : (g : ℕ) → page_at after g ≡ cond (g == f) page (page_at before g)
 
--- after lacks the pages of these frames, and has all else of before
+-- `after` lacks the pages of these frames, and has everything else as before
 pub record IsLifted (frames : List ℕ) (before after : Held) : Type 0 where
   pub numbers : after.numbers ≡ before.numbers
   pub vms : after.vms ≡ before.vms
@@ -48,7 +48,7 @@ page_among numbers filled pages f = slice_get pages (cond (is_filled numbers fil
 abbrev pub IsEmptyPlace : Held → ℕ → Type 0
 IsEmptyPlace h f = HasPlace h.numbers f × (page_at h f ≡ None)
 
--- after has what before has, and also the pages
+-- `after` has what `before` has, and the pages too
 pub record IsLaid (pages_of : ℕ → Option Page) (before after : Held) : Type 0 where
   pub numbers : after.numbers ≡ before.numbers
   pub vms : after.vms ≡ before.vms
@@ -59,7 +59,7 @@ pub record IsLaid (pages_of : ℕ → Option Page) (before after : Held) : Type 
 abbrev pub only_at : ℕ → Option Page → ℕ → Option Page
 only_at f page g = cond (g == f) page None
 
--- all but the slots is the same
+-- everything but the slots is the same
 abbrev pub WithSlots : Held → Held → Type 0
 WithSlots before after = after ≡ record before { vms = after.vms }
 
@@ -67,12 +67,12 @@ WithSlots before after = after ≡ record before { vms = after.vms }
 abbrev pub IsEmptySlot : HeldSlots → ℕ → Type 0
 IsEmptySlot held v = HasPlace held.numbers v × (held_slot held v ≡ None)
 
--- after has this at the slot's place, and all else of before
+-- `after` has this at the slot's place, and everything else as before
 pub record IsSlotWrite (v : ℕ) (vm : Option VmSlot) (before after : HeldSlots) : Type 0 where
   pub numbers : after.numbers ≡ before.numbers
   pub slots : (w : ℕ) → held_slot after w ≡ cond (w == v) vm (held_slot before w)
 
--- the slots of these numbers, as far as they were there, have left the one and joined the other
+-- the slots with these numbers that were in the one have left it and joined the other
 pub record AreMoved (moved : List ℕ) (from to left joined : HeldSlots) : Type 0 where
   pub left_is : (v : ℕ) → held_slot left v ≡ cond (is_among moved v) None (held_slot from v)
   pub joined_is : (v : ℕ) → held_slot joined v ≡ either (held_slot to v) (cond (is_among moved v) (held_slot from v) None)

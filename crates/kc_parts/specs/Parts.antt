@@ -12,12 +12,14 @@ use Rattle.kc_page.specs.declared.page.Page.{Page}
 use Rattle.kc_vms.specs.Vm.{VmSlot}
 use Rattle.kc_links.specs.Chain.{Links}
 
--- `numbers` are the slots that there are places for, rising; `slots` has at each place its slot, and nothing where it is taken out
+-- `numbers` are the slots that there are places for, ascending; `slots` has the slot at each place, or nothing if it
+-- is taken out
 pub record HeldSlots : Type 0 where
   pub numbers : List ℕ
   pub slots : List (Option VmSlot)
 
--- `numbers` are the frames that there are places for, rising; `filled` says which places are; `pages` has a page at each place, a blank at an empty one
+-- `numbers` are the frames that there are places for, ascending; `filled` says which places are filled; `pages` has a
+-- page at each place, which is blank if the place is empty
 pub record Held : Type 0 where
   pub numbers : List ℕ
   pub filled : List Bool
@@ -28,7 +30,7 @@ pub record Held : Type 0 where
 abbrev pub IsRising : List ℕ → Type 0
 IsRising numbers = (i j : ℕ) → i < j → j < length numbers → get_or numbers i 0 < get_or numbers j 0
 
--- the page that stands where none is: its record says nothing, and its bytes are zero
+-- the page at a place that is empty: its record says nothing, and its bytes are zero
 abbrev pub blank_page : Page
 blank_page = record {
   meta = record { owner = Core; share = 0; gfn = None; present = false; prev = None; next = None };
@@ -39,7 +41,7 @@ blank_page = record {
 abbrev pub AreBlanks : List Bool → List Page → Type 0
 AreBlanks filled held = (i : ℕ) → get_or filled i true ≡ false → get_or held i blank_page ≡ blank_page
 
--- what the representation keeps
+-- what holds of the representation
 pub record IsHeld (numbers : List ℕ) (filled : List Bool) (held : List Page) : Type 0 where
   pub rising : IsRising numbers
   pub frames : (i : ℕ) → get_or numbers i 0 < frame_limit
@@ -47,7 +49,7 @@ pub record IsHeld (numbers : List ℕ) (filled : List Bool) (held : List Page) :
   pub pages : length held ≡ length numbers
   pub blanks : AreBlanks filled held
 
--- what the representation keeps of slots
+-- what holds of the representation of slots
 pub record AreHeldSlots (numbers : List ℕ) (slots : List (Option VmSlot)) : Type 0 where
   pub rising : IsRising numbers
   pub places : length slots ≡ length numbers
@@ -56,7 +58,7 @@ pub record AreHeldSlots (numbers : List ℕ) (slots : List (Option VmSlot)) : Ty
 abbrev pub is_among : List ℕ → ℕ → Bool
 is_among numbers n = list_any (λ number. n == number) numbers
 
--- the place of a number, and the number of places where it has none
+-- the place of a number, or the number of places if it has none
 abbrev pub place_of : List ℕ → ℕ → ℕ
 place_of [] n = 0
 place_of (number ∷ numbers) n = cond (number == n) 0 (suc (place_of numbers n))
@@ -65,7 +67,7 @@ place_of (number ∷ numbers) n = cond (number == n) 0 (suc (place_of numbers n)
 abbrev pub HasPlace : List ℕ → ℕ → Type 0
 HasPlace numbers n = place_of numbers n < length numbers
 
--- what stands at the place of the number, and nothing where it has none
+-- the element at the place of the number, or nothing if it has none
 abbrev pub cell_in : {X : Type 0} → List ℕ → List (Option X) → ℕ → Option X
 cell_in [] cells n = None
 cell_in (number ∷ numbers) [] n = None
@@ -77,14 +79,14 @@ is_filled [] filled f = false
 is_filled (number ∷ numbers) [] f = false
 is_filled (number ∷ numbers) (flag ∷ filled) f = cond (number == f) flag (is_filled numbers filled f)
 
--- the place where the frame's page is, and the number of pages where it is not here
+-- the place of a frame's page, or the number of pages if it is not here
 abbrev pub place_in : Held → ℕ → ℕ
 place_in h f = cond (is_filled h.numbers h.filled f) (place_of h.numbers f) (length h.pages)
 
 abbrev pub page_at : Held → ℕ → Option Page
 page_at h f = slice_get h.pages (place_in h f)
 
--- a slot by its number, and nothing where it is not here
+-- a slot by its number, or nothing if it is not here
 abbrev pub held_slot : HeldSlots → ℕ → Option VmSlot
 held_slot held v = cell_in held.numbers held.slots v
 
@@ -111,7 +113,7 @@ link_of page = record { prev = page.meta.prev; next = page.meta.next }
 abbrev pub links_of : Held → Links
 links_of h f = cond (nat_lt f frame_limit) (option_map link_of (page_at h f)) None
 
--- the ends of an owner's list, where they are here: the core and the host have none
+-- the ends of an owner's list, if they are here; the core and the host have none
 abbrev pub ends_at : Held → Owner → Option Ends
 ends_at h Core = None
 ends_at h Host = None

@@ -1,4 +1,4 @@
--- Parts that are a state's at some resources, with its links and ends.
+-- Parts that hold a state's resources, with the state's links and ends.
 use Rattle.std.specs.Prelude.{ℕ, ◌≡◌, Bool, true, false, cond, nat_lt, Option, Some, None}
 use Rattle.std.specs.Option.{option_map}
 use Rattle.kc_types.specs.Configuration.{Configuration, slot_count}
@@ -17,7 +17,7 @@ use Rattle.kc_parts.specs.Parts.{Held, vm_at, link_of}
 use Rattle.kc_parts.specs.Cuts.{HeldPart, held_at}
 use Rattle.kc_parts.specs.Cuts.HeldPart.{page_part, slot_part, ends_part}
 
--- the neighbours of a page: those of the core's pages mean nothing
+-- the neighbours of a page; those of the core's pages mean nothing
 abbrev pub seen_link : Owner → Link → Link
 seen_link Core link = unlinked
 seen_link _ link = link
@@ -31,7 +31,7 @@ seen_part (ends_part ends) = free_ends ends
 abbrev pub seen_at : Held → Resource → Option LinkedPart
 seen_at h r = option_map seen_part (held_at h r)
 
--- the resources that there are
+-- the resources that exist
 abbrev pub exists_in : Configuration → Resources
 exists_in config (resource.Frame f) = nat_lt f config.frames
 exists_in config (resource.Vm v) = nat_lt v (slot_count config)
@@ -49,7 +49,7 @@ has_ends here Host = false
 has_ends here Free = here resource.Free
 has_ends here (Vm v) = here (resource.Vm v)
 
--- resources that exist, and with the ends of a list all its frames
+-- the resources exist, and include all frames of a list if they include its ends
 pub record IsClosed (m : State) (here : Resources) : Type 0 where
   pub exist : IsWithin here (exists_in m.config)
   pub lists : (owner : Owner) (f : ℕ) → has_ends here owner ≡ true → is_in (list_of m owner) f ≡ true → here (resource.Frame f) ≡ true

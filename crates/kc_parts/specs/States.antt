@@ -1,4 +1,4 @@
--- Parts seen as a state, with the untouched value where a part is not here.
+-- Parts seen as a state, with the untouched value for a part that is not here.
 use Rattle.std.specs.Prelude.{ℕ, ◌≡◌, ◌<◌, Bool, true, false, is_some, is_none, List, [], map, Option, Some, None}
 use Rattle.std.specs.List.{range_with_len}
 use Rattle.kc_types.specs.Configuration.{Configuration, slot_count}
@@ -26,7 +26,7 @@ abbrev pub list_in : Links → Option Ends → List ℕ
 list_in links (Some ends) = listed links ends
 list_in links None = []
 
--- a slot with a list in the place of its ends
+-- a slot with a list in place of the list's ends
 abbrev pub unlinked_slot : LinkedSlot → List ℕ → Slot
 unlinked_slot slot frames = record { phase = slot.phase; vcpus = slot.vcpus; images = slot.images; frames = frames; mapped = slot.mapped; leaves = slot.leaves }
 
@@ -51,21 +51,22 @@ here_of h resource.Free = is_some h.free
 abbrev pub owner_at : Held → ℕ → Owner
 owner_at h f = (frame_in (page_at h f)).owner
 
--- the ends of the owner's list are not here; the host's frames are in no list, and the core's no call may touch
+-- the ends of the owner's list are not here; this never holds of the host, whose frames are in no list, and always of
+-- the core, whose frames no call may touch
 abbrev pub lacks_list : Held → Owner → Bool
 lacks_list h Core = true
 lacks_list h Host = false
 lacks_list h Free = is_none h.free
 lacks_list h (Vm v) = is_none (vm_at h v)
 
--- the ends of the frame's list are elsewhere: whoever has them counts on its owner and its links
+-- the ends of the frame's list are elsewhere, and whoever has them relies on its owner and its links
 abbrev pub is_away : Held → ℕ → Bool
 is_away h f = lacks_list h (owner_at h f)
 
--- the links of the frames spell each owner's list whose ends are here
+-- the links of the frames spell the list of each owner whose ends are here
 pub record AreLists (links : Links) (ends_at : Owner → Option Ends) (owner_at : ℕ → Owner) : Type 0 where
   pub spelled : (owner : Owner) (ends : Ends) → ends_at owner ≡ Some ends → IsList links ends
-  -- a list has its owner's frames alone
+  -- a list has only frames of its owner
   pub owned : (owner : Owner) (ends : Ends) (f : ℕ) → ends_at owner ≡ Some ends → 0 < times_in (listed links ends) f → owner_at f ≡ owner
   -- the host's frames are in no list
   pub alone : (f : ℕ) → owner_at f ≡ Host → links f ≡ Some unlinked
@@ -76,7 +77,7 @@ pub record IsLinked (config : Configuration) (h : Held) : Type 0 where
   pub vms : (v : ℕ) (vm : VmSlot) → vm_at h v ≡ Some vm → vm.capacity ≡ config.leaves
   pub lists : AreLists (links_of h) (ends_at h) (owner_at h)
 
--- the free list, where its ends are here
+-- the free list, if its ends are here
 abbrev pub free_of : Held → List ℕ
 free_of h = list_in (links_of h) h.free
 
@@ -96,7 +97,7 @@ pub record IsFreeMove (old new : Held) : Type 0 where
   pub state : (config : Configuration) → state_of config new ≡ record (state_of config old) { free = free_of new }
   pub linked : (config : Configuration) → IsLinked config old → IsLinked config new
 
--- the list of a slot, where the slot is here
+-- the list of a slot, if the slot is here
 abbrev pub listed_frames : Held → ℕ → List ℕ
 listed_frames h v = (slot_in (links_of h) (vm_at h v)).frames
 

@@ -1,4 +1,4 @@
-//! Blank pages, which stand where no page is.
+//! Blank pages, which take the place of missing ones.
 ghost use Rattle.std.specs.Prelude.{◌≡◌, IfOk};
 ghost use Rattle.kc_parts.specs.Parts.{blank_page};
 
@@ -26,7 +26,7 @@ impl Model for Blank {
 }
 
 impl Blank {
-    /// A new blank, or `Memory` where a growth was refused.
+    /// Makes a blank; `Memory` if memory cannot be had.
     pub(crate) fn make(alloc: Global) -> Result<Blank, Memory>
         // No clause can rule out that memory runs out: tests take parts out.
         ensures { IfOk result (λ blank. blank ≡ blank_page) }
@@ -45,7 +45,7 @@ impl Blank {
         })
     }
 
-    /// The page as the blank that it is.
+    /// Takes a page that is blank as a blank.
     pub(crate) fn from_page(page: Page) -> Blank
         requires { page ≡ blank_page }
         ensures { result ≡ page }

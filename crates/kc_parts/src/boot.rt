@@ -11,7 +11,7 @@ use kc_types::{Config, Ends, FrameNo, Memory, Owner};
 use kc_vms::Vm;
 use std::alloc::Global;
 
-/// Who owns a frame at boot.
+/// The owner of a frame at boot.
 fn boot_owner(config: &Config, frame: u32) -> Owner
     ensures { result ≡ boot_owner config.now frame }
 {
@@ -89,7 +89,7 @@ pub fn all_numbers(alloc: Global, count: u32) -> Result<Vec<u32>, Memory>
     Ok(numbers)
 }
 
-/// As many places, all of them filled.
+/// A list of this many filled places.
 pub fn all_filled(alloc: Global, count: u32) -> Result<Vec<bool>, Memory>
     ensures { IfOk result (λ filled. filled.items ≡ replicate count true) }
 {

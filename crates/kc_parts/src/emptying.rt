@@ -1,4 +1,4 @@
-//! A slot is emptied: its frames become untouched and free.
+//! Emptying a slot: its frames become untouched and free.
 ghost use Rattle.std.specs.Prelude.{◌≡◌, IsSome, IfSome};
 ghost use Rattle.kc_links.specs.Chain.{next_of};
 ghost use Rattle.kc_links.specs.Ending.{listed};
@@ -17,7 +17,7 @@ impl Parts {
         self.link(frame)?.next
     }
 
-    /// Lets a frame be untouched and free, if it is here. It keeps its links.
+    /// Makes a frame untouched and free, if it is here. It keeps its links.
     fn scrub_frame(&mut self, frame: FrameNo)
         ensures { self.new ≡ with_scrubbed self.old frame }
     {
@@ -30,7 +30,7 @@ impl Parts {
         }
     }
 
-    /// Lets each frame of a list be untouched and free. They stay linked.
+    /// Makes each frame of a list untouched and free. The frames stay linked.
     fn scrub_list(&mut self, list: &Ends)
         ensures { self.new ≡ all_scrubbed self.old (listed (links_of self.old) list.now) }
     {
@@ -43,8 +43,8 @@ impl Parts {
         }
     }
 
-    /// Lets a slot, which is here, be as at boot. Its frames become untouched and free, but are in no list: the
-    /// answer has the ends of the one in which they are still linked.
+    /// Empties a slot, which is here: it is then as at boot. Its frames become untouched and free, but are in no list;
+    /// returns the ends of the list in which they are still linked.
     pub fn empty_slot(&mut self, vm: VmId) -> Ends
         requires { IsSome (vm_at self.old vm) }
         ensures list { IfSome (vm_at self.old vm) (λ slot. result ≡ slot.slot.frames) }

@@ -1,4 +1,4 @@
-//! Parts of the core: the frames, VM slots and the free list that are in one hand.
+//! Parts of the core: frames, VM slots and the free list, as far as one holder has them.
 #![tactic(auto)]
 
 mod blank;

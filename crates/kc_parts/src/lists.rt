@@ -23,7 +23,7 @@ impl Parts {
         }
     }
 
-    /// Takes the first frame off the free list, which is here; `None` where it is empty.
+    /// Takes the first frame off the free list, which is here; `None` if the list is empty.
     pub fn pop_free(&mut self) -> Option<FrameNo>
         requires here { IsSome self.old.free }
         requires lists { AreLists (links_of self.old) (ends_at self.old) (owner_at self.old) }
@@ -37,7 +37,7 @@ impl Parts {
         frame
     }
 
-    /// Puts a free frame that is in no list at the end of the free list, which is here.
+    /// Appends a free frame that is in no list to the free list, which is here.
     pub fn append_free(&mut self, frame: FrameNo)
         requires here { IsSome self.old.free }
         requires lists { AreLists (links_of self.old) (ends_at self.old) (owner_at self.old) }
@@ -53,7 +53,7 @@ impl Parts {
         }
     }
 
-    /// Puts a list of free frames, which are in no other list, at the end of the free list, which is here.
+    /// Appends a list of free frames, which are in no other list, to the free list, which is here.
     pub fn append_list(&mut self, mut list: Ends)
         requires here { IsSome self.old.free }
         requires lists { AreLists (links_of self.old) (ends_at self.old) (owner_at self.old) }
@@ -80,7 +80,7 @@ impl Parts {
         }
     }
 
-    /// Puts a frame of a slot's that is in no list at the end of the list of the slot, which is here.
+    /// Appends a frame of a slot's that is in no list to the list of the slot, which is here.
     pub fn append_vm(&mut self, vm: VmId, frame: FrameNo)
         requires here { IsSome (vm_at self.old vm) }
         requires lists { AreLists (links_of self.old) (ends_at self.old) (owner_at self.old) }
@@ -96,7 +96,7 @@ impl Parts {
         }
     }
 
-    /// Takes a frame off the list of a slot, which is here, by the ends of that list.
+    /// Takes a frame off the list of a slot, which is here, given the ends of that list.
     pub fn unlink_vm(&mut self, vm: VmId, mut list: Ends, frame: FrameNo)
         requires ends { ends_at self.old (owner.Vm vm) ≡ Some list }
         requires lists { AreLists (links_of self.old) (ends_at self.old) (owner_at self.old) }

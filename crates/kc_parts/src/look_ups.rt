@@ -1,4 +1,4 @@
-//! Look-ups by number: what is not here counts as untouched.
+//! Looking up by number: what is not here counts as untouched.
 ghost use Rattle.std.specs.Prelude.{◌≡◌, ◌<◌, not, IfOk, Some};
 ghost use Rattle.std.specs.Option.{option_copied};
 ghost use Rattle.kc_types.specs.Configuration.{slot_count};
@@ -42,7 +42,7 @@ impl Parts {
         }
     }
 
-    /// A slot that exists, where it is here.
+    /// A slot that exists, if it is here.
     fn slot_of(&self, config: &Config, vm: VmId) -> Option<&Vm>
         requires { vm < slot_count config.now }
         ensures value { slot_at (state_of config.now self.now) vm ≡ slot_in (links_of self.now) (option_copied result) }
@@ -87,7 +87,7 @@ impl Parts {
         }
     }
 
-    /// The guest frame of the next page of a slot's image, or why it has none.
+    /// The guest frame of the next page of a slot's image, or why there is none.
     pub fn next_page_of(&self, config: &Config, vm: VmId, image: u32) -> Result<Gfn, Refusal>
         requires { vm < slot_count config.now }
         ensures answer { Answers result (next_page_refusal (linked_slot (slot_at (state_of config.now self.now) vm)) image) }

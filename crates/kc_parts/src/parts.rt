@@ -1,4 +1,4 @@
-//! Pages, slots and the ends of the free list, taken out and put back.
+//! A store of pages, slots and the ends of the free list, which can be taken out and put back.
 ghost use Rattle.std.specs.Prelude.{◌≡◌, ◌↔◌, ℕ, ◌<◌, ◌≤◌, IsTrue, is_some, length, get_or, slice_get, IsSome, IfOk, OnOk, OnErr, Option, Some, None, map, cond, true, false, replicate};
 ghost use Rattle.std.specs.List.{range_with_len};
 ghost use Rattle.std.specs.Option.{option_copied, option_copied_mut};
@@ -21,7 +21,7 @@ use std::alloc::Global;
 use std::marker::Model;
 use std::mem::{replace, swap};
 
-/// The numbers of as many frames, which are all here, and these slots in the places of their numbers.
+/// The numbers of this many frames, which are all here, and these slots in the places of their numbers.
 fn all_places(
     alloc: Global,
     frames: u32,
@@ -37,8 +37,9 @@ fn all_places(
     Ok((numbers, filled, VmSlots::whole(alloc, vms)?))
 }
 
-/// A store of pages, VM slots and the ends of the free list. Each page and each slot has a place of its own, by rising
-/// number, which stays when it is taken out, with a blank page in it: so putting it back takes no memory.
+/// A store of pages, VM slots and the ends of the free list. Each page and each slot has a place of its own, in the
+/// order of the numbers. The place stays when the page or slot is taken out, with a blank page in it, so that putting
+/// it back takes no memory.
 #[derive(Drop)]
 pub struct Parts {
     numbers: Vec<u32>,
@@ -75,8 +76,8 @@ impl Parts {
     ghost use Rattle.kc_parts.specs.Cuts.{AreHere, IsSplit, AreSlotsFor, FitsInto, IsJoin, IsFull, held_at};
     ghost use Rattle.kc_parts.specs.Moves.{IsWrite, IsLifted, IsLaid, IsEmptyPlace, AreMoved, WithSlots, only_at, page_among};
 
-    /// All parts of the boot state: every frame of the configuration, zeroed, every slot, empty, and the free
-    /// list by rising number; `Memory` where a growth was refused.
+    /// Makes all parts of the boot state: every frame of the configuration, zeroed; every slot, empty; and the free
+    /// list, in ascending order. `Memory` if memory cannot be had.
     pub fn boot(alloc: Global, config: &Config) -> Result<Parts, Memory>
         // No clause can rule out that memory runs out: a test boots parts.
         ensures state { IfOk result (λ parts. state_of config.now parts ≡ boot config.now) }
@@ -91,8 +92,8 @@ impl Parts {
         Parts::whole(alloc, pages, vms, boot_ends(config))
     }
 
-    /// Pages and slots, each in the place of its number, and the ends of the free list. `Memory` where a growth was
-    /// refused, and then the pages are wiped.
+    /// Makes parts of pages and slots, each in the place of its number, and the ends of the free list. `Memory` if
+    /// memory cannot be had, and then the pages are wiped.
     pub fn whole(
         alloc: Global,
         mut pages: Vec<Page>,
@@ -120,7 +121,7 @@ impl Parts {
         }
     }
 
-    /// The place where a frame's page is, and the number of pages where it is not here.
+    /// The place of a frame's page, or the number of pages if it is not here.
     fn place_in(&self, frame: FrameNo) -> usize
         ensures { result ≡ place_in self.now frame }
     {
@@ -132,7 +133,7 @@ impl Parts {
         }
     }
 
-    /// The page of a frame; `None` where it is not here.
+    /// The page of a frame; `None` if it is not here.
     pub fn try_page(&self, frame: FrameNo) -> Option<&Page>
         ensures { option_copied result ≡ page_at self.now frame }
     {
@@ -140,7 +141,7 @@ impl Parts {
         self.pages.get(at)
     }
 
-    /// The page of a frame, for writing; `None` where it is not here.
+    /// Lends the page of a frame for writing; `None` if it is not here.
     pub fn try_page_mut(&mut self, frame: FrameNo) -> Option<&mut Page>
         ensures value { option_copied_mut result ≡ page_at self.old frame }
         ensures* writes_back { sem 𝓛 (LendsPage self.entry frame result) }
@@ -157,7 +158,7 @@ impl Parts {
         self.try_page(frame).unwrap()
     }
 
-    /// The page of a frame that is here, for writing.
+    /// Lends the page of a frame that is here for writing.
     pub fn page_mut(&mut self, frame: FrameNo) -> &mut Page
         requires { IsSome (page_at self.old frame) }
         ensures value { page_at self.old frame ≡ Some result.now }
@@ -166,14 +167,14 @@ impl Parts {
         self.try_page_mut(frame).unwrap()
     }
 
-    /// A VM slot; `None` where it is not here.
+    /// A VM slot; `None` if it is not here.
     pub fn try_slot(&self, vm: VmId) -> Option<&Vm>
         ensures { option_copied result ≡ vm_at self.now vm }
     {
         self.vms.get(vm)
     }
 
-    /// A VM slot, for writing; `None` where it is not here.
+    /// Lends a VM slot for writing; `None` if it is not here.
     pub fn try_slot_mut(&mut self, vm: VmId) -> Option<&mut Vm>
         ensures value { option_copied_mut result ≡ vm_at self.old vm }
         ensures* writes_back { sem 𝓛 (LendsVm self.entry vm result) }
@@ -189,7 +190,7 @@ impl Parts {
         self.try_slot(vm).unwrap()
     }
 
-    /// A VM slot that is here, for writing.
+    /// Lends a VM slot that is here for writing.
     pub fn slot_mut(&mut self, vm: VmId) -> &mut Vm
         requires { IsSome (vm_at self.old vm) }
         ensures value { vm_at self.old vm ≡ Some result.now }
@@ -198,14 +199,14 @@ impl Parts {
         self.try_slot_mut(vm).unwrap()
     }
 
-    /// The ends of the free list; `None` where they are not here.
+    /// The ends of the free list; `None` if they are not here.
     pub fn free(&self) -> Option<&Ends>
         ensures { option_copied result ≡ self.now.free }
     {
         self.free.as_ref()
     }
 
-    /// The ends of the free list, for writing; `None` where they are not here.
+    /// Lends the ends of the free list for writing; `None` if they are not here.
     pub fn free_mut(&mut self) -> Option<&mut Ends>
         ensures value { option_copied_mut result ≡ self.old.free }
         ensures* writes_back { sem 𝓛 (LendsFree self.entry result) }
@@ -213,7 +214,7 @@ impl Parts {
         self.free.as_mut()
     }
 
-    /// How many frames and slots it can hold without memory.
+    /// The number of frames and slots that fit in without taking memory.
     pub fn place_counts(&self) -> PlaceCounts
         ensures { result ≡ record { frames = length self.now.numbers; slots = length self.now.vms.numbers } }
     {
@@ -223,7 +224,7 @@ impl Parts {
         }
     }
 
-    /// All pages, by rising frame number, where none is taken out.
+    /// All pages, by ascending frame number, if none is taken out.
     pub fn pages(&self) -> &[Page]
         requires { IsFull self.now }
         ensures value { result.now ≡ self.now.pages }
@@ -233,7 +234,7 @@ impl Parts {
         self.pages.as_slice()
     }
 
-    /// All pages, by rising frame number, for writing, where none is taken out.
+    /// Lends all pages for writing, by ascending frame number, if none is taken out.
     pub fn pages_mut(&mut self) -> &mut [Page]
         requires { IsFull self.old }
         ensures* writes_back { sem 𝓛 (LendsPages self.entry result) }
@@ -251,9 +252,9 @@ impl Parts {
         scrub_each(self.pages.as_mut_slice());
     }
 
-    /// Takes the resources out, all of which are here. What comes out has room for just these: a place for each
-    /// frame and for each slot. A resource may be named more than once. `Memory` where a growth was refused, and
-    /// then nothing has changed.
+    /// Takes these resources out, all of which are here. What comes out has room for just these: a place for each
+    /// frame and for each slot. A resource may be named more than once. `Memory` if memory cannot be had, and then
+    /// nothing changes.
     pub fn take_out(&mut self, alloc: Global, wanted: &[Resource]) -> Result<Parts, Memory>
         requires { AreHere self.old wanted.now }
         // No clause can rule out that memory runs out: tests take parts out.
@@ -304,8 +305,8 @@ impl Parts {
         self.lay_pages(numbers, filled, pages);
     }
 
-    /// A blank, from the stock if it has one. Where it has none, the stock first takes the room for a blank of each
-    /// place, so blanks that come back need no memory.
+    /// Takes a blank from the stock. If the stock is empty, it first gets room for a blank of each place, so that
+    /// blanks that come back need no memory, and then a blank is made.
     fn blank(&mut self, alloc: Global) -> Result<Blank, Memory>
         ensures { self.new ≡ self.old }
     {
@@ -316,7 +317,7 @@ impl Parts {
         Blank::make(alloc)
     }
 
-    /// This many blank pages.
+    /// Takes this many blank pages.
     fn blank_pages(&mut self, alloc: Global, count: usize) -> Result<Vec<Page>, Memory>
         ensures kept { self.new ≡ self.old }
         ensures blank { IfOk result (λ pages. pages.items ≡ replicate count blank_page) }
@@ -328,7 +329,7 @@ impl Parts {
         Ok(pages)
     }
 
-    /// Keeps a blank in the stock, where that has room.
+    /// Keeps a blank in the stock, if that has room.
     fn keep_blank(&mut self, blank: Blank)
         ensures { self.new ≡ self.old }
     {
@@ -339,7 +340,7 @@ impl Parts {
         }
     }
 
-    /// Takes the slots that these places, which are empty, are for.
+    /// Takes out the slots for which these places, which are empty, are made.
     fn lift_slots(&mut self, vms: &mut VmSlots)
         requires { (v : ℕ) → held_slot vms.old v ≡ None }
         ensures moved { AreMoved vms.old.numbers self.old.vms vms.old self.new.vms vms.new }
@@ -348,7 +349,7 @@ impl Parts {
         vms.take_from(&mut self.vms);
     }
 
-    /// Takes the ends of the free list, where asked.
+    /// Takes the ends of the free list, if asked.
     fn lift_free(&mut self, asked: bool) -> Option<Ends>
         ensures ends { result ≡ cond asked self.old.free None }
         ensures rest { self.new ≡ record self.old { free = cond asked None self.old.free } }
@@ -395,7 +396,7 @@ impl Parts {
         }
     }
 
-    /// Lays a page into its place, which is empty, if it means something; else it is a blank to be kept.
+    /// Lays a page into its place, which is empty, if `filled`; otherwise the page is a blank, which is kept.
     fn lay_back(&mut self, number: u32, filled: bool, page: Page)
         requires empty { filled ≡ true → IsEmptyPlace self.old number }
         requires blank { filled ≡ false → page ≡ blank_page }

@@ -1,6 +1,6 @@
-//! How many places a store has.
+//! The numbers of places in a store.
 
-/// How many pages and slots a store has places for.
+/// The numbers of pages and slots that a store has places for.
 #[derive(Clone, Copy, Debug, PartialEq, Eq)]
 pub struct PlaceCounts {
     /// Places for frames, filled or empty.

@@ -1,4 +1,4 @@
-//! VM slots in places, and how they move from place to place.
+//! VM slots in places, and how they move between places.
 ghost use Rattle.std.specs.Prelude.{◌≡◌, ◌≤◌, ℕ, [], ◌∷◌, length, replicate, slice_index_or, IfOk, Some, None};
 ghost use Rattle.std.specs.Option.{option_copied, option_copied_mut};
 ghost use Rattle.std.specs.Borrow.{sem};
@@ -17,8 +17,8 @@ use kc_vms::Vm;
 use std::alloc::Global;
 use std::marker::Model;
 
-/// VM slots in places of their own, by rising number. A place stays where it is when its slot is taken out, so
-/// what is put back needs no memory.
+/// VM slots in places of their own, in the order of their numbers. A place stays when its slot is taken out, so that
+/// putting it back takes no memory.
 #[derive(Drop)]
 pub(crate) struct VmSlots {
     numbers: Vec<u32>,
@@ -41,7 +41,7 @@ impl Model for VmSlots {
 }
 
 impl VmSlots {
-    /// These slots, each in the place of its number.
+    /// Puts these slots each in the place of its number.
     pub(crate) fn whole(alloc: Global, slots: Vec<Option<Vm>>) -> Result<VmSlots, Memory>
         requires { length slots.items ≤ slot_limit }
         ensures { IfOk result (λ made. made ≡ slots_of slots.items) }
@@ -52,7 +52,7 @@ impl VmSlots {
         })
     }
 
-    /// A place for each of these slots, with nothing in it.
+    /// Makes a place for each of these slots, with nothing in it.
     pub(crate) fn places(alloc: Global, numbers: Vec<u32>) -> Result<VmSlots, Memory>
         requires { IsRising numbers.items }
         ensures { IfOk result (λ slots. slots ≡ record { numbers = numbers.items; slots = replicate (length numbers.items) None }) }
@@ -64,14 +64,14 @@ impl VmSlots {
         Ok(VmSlots { numbers, slots })
     }
 
-    /// How many slots there are places for.
+    /// The number of slots that there are places for.
     pub(crate) fn count(&self) -> usize
         ensures { result ≡ length self.now.numbers }
     {
         self.numbers.len()
     }
 
-    /// The place of a slot, and the number of places where it has none.
+    /// The place of a slot, or the number of places if it has none.
     #[tactic(auto, using(crate::proofs::Cells::cell_place))]
     fn place(&self, number: u32) -> usize
         ensures place { result ≡ place_of self.now.numbers number }
@@ -80,7 +80,7 @@ impl VmSlots {
         place_of(self.numbers.as_slice(), number)
     }
 
-    /// A slot; `None` where it is not here.
+    /// A slot; `None` if it is not here.
     pub(crate) fn get(&self, vm: VmId) -> Option<&Vm>
         ensures { option_copied result ≡ held_slot self.now vm }
     {
@@ -88,7 +88,7 @@ impl VmSlots {
         self.slots.get(at)?.as_ref()
     }
 
-    /// A slot, for writing; `None` where it is not here.
+    /// Lends a slot for writing; `None` if it is not here.
     pub(crate) fn get_mut(&mut self, vm: VmId) -> Option<&mut Vm>
         ensures value { option_copied_mut result ≡ held_slot self.old vm }
         ensures* writes_back { sem 𝓛 (LendsSlot self.entry vm result) }
@@ -97,7 +97,7 @@ impl VmSlots {
         self.slots.get_mut(at)?.as_mut()
     }
 
-    /// Takes a slot out of its place; `None` where it is not here.
+    /// Takes a slot out of its place; `None` if it is not here.
     fn take(&mut self, number: u32) -> Option<Vm>
         ensures taken { result ≡ held_slot self.old number }
         ensures rest { IsSlotWrite number None self.old self.new }
@@ -115,7 +115,7 @@ impl VmSlots {
         self.slots[at] = Some(vm);
     }
 
-    /// Fills the places, which are empty, with what another has of their slots.
+    /// Fills the places, which are empty, with those of their slots that another has.
     pub(crate) fn take_from(&mut self, other: &mut VmSlots)
         requires { (v : ℕ) → held_slot self.old v ≡ None }
         ensures { AreMoved self.old.numbers other.old self.old other.new self.new }

@@ -1,4 +1,4 @@
--- Redacted calls are those of a trace under the same header.
+-- The redacted calls of a trace make a trace under the same header.
 use Rattle.std.proofs.Common.{ℕ, zero, suc, ◌≡◌, ◌+◌, ◌-◌, ◌*◌, Bool, true, false, List, [], ◌∷◌, ◌++◌, take, length, replicate, refl, sym, ap, ◌∙◌, arith, append_assoc, append-nil}
 use Rattle.std.proofs.lemmas.List.{length-replicate, length-map, take_all}
 use Rattle.std.specs.Prelude.{if◌then◌else◌}
@@ -32,7 +32,7 @@ digits_of_zeros (suc n) =
     let twice : 2 * suc n ≡ suc (suc (2 * n)) = omega arith in
     rw twice (ap (λ digits. 48 ∷ 48 ∷ digits) (digits_of_zeros n))
 
--- a text that was made longer by zeros
+-- a text that zeros made longer
 pub padded : (old new : List ℕ) (total n count : ℕ) (ok : Bool) → length old ≡ n → total ≡ n + count → ok ≡ true → new ≡ (if ok then take total old ++ replicate (total - n) 48 else old) → new ≡ old ++ replicate count 48
 padded old new total n count ok size sum done is =
     let made : new ≡ take total old ++ replicate (total - n) 48 = rw done at is in
@@ -105,7 +105,7 @@ host-number : (m : State) (calls : List Call) → length (redacted_from m calls)
 host-number m [] = refl
 host-number m (call ∷ calls) = ap suc (host-number (next m call).1 calls)
 
--- calls differ in nothing from themselves, and no frame is one of those that are not kept
+-- calls do not differ from themselves, and every frame is kept
 same-calls : (m : State) (calls : List Call) → DifferInCalls all_frames m calls calls
 same-calls m [] = tt
 same-calls m (call ∷ calls) = (refl, same-calls (next m call).1 calls)

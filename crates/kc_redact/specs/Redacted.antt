@@ -1,4 +1,5 @@
--- A trace without the bytes that virtual processors write, or the host to frames of active VMs, and what it still says.
+-- A trace without the bytes that virtual processors write, and that the host writes to frames of active VMs, and what
+-- it still says.
 use Rattle.std.specs.Prelude.{ℕ, ◌≡◌, List, [], ◌∷◌, ◌++◌}
 use Rattle.kc_types.specs.declared.call.Call.{Call}
 use Rattle.kc_types.specs.declared.version.Version.{Version}
@@ -15,7 +16,8 @@ use Rattle.kc_trace.specs.Trace.{IsTrace}
 abbrev pub redacted_line : Call → List ℕ
 redacted_line call = line_of (redacted_call call) ++ 10 ∷ []
 
--- the text is a trace, and the other is that of its calls without these bytes, under the same header; from whatever state, both have the same events and the same custody
+-- the text is a trace, and the other text is that of its calls without these bytes, under the same header; from
+-- whatever state, both have the same events and the same custody
 pub record IsRedaction (text other : List ℕ) (calls : List Call) : Type 0 where
   pub version : Version
   pub read : IsTrace text calls
@@ -25,7 +27,10 @@ pub record IsRedaction (text other : List ℕ) (calls : List Call) : Type 0 wher
   pub events : (m : State) → IsLawful m → events m (redacted calls) ≡ events m calls
   pub custody : (m : State) → IsLawful m → custody m (redacted calls) ≡ custody m calls
 
--- the text is a trace, and the other is, under the same header, that of its calls without these bytes, and without those that the host writes to a frame of a VM that is active just before the call, if the calls begin in this state; from this state, and from every lawful one that differs from it in bytes of active VMs' frames alone, the other's calls have the events and the custody that the trace has from this state
+-- the text is a trace, and the other text is, under the same header, that of its calls without these bytes, and
+-- without those that the host writes to a frame of a VM that is active just before the call, if the calls begin in
+-- this state; from this state, and from every lawful one that differs from it only in bytes of active VMs' frames, the
+-- other text's calls have the events and the custody that the trace has from this state
 pub record IsHostRedaction (m : State) (text other : List ℕ) (calls : List Call) : Type 0 where
   pub version : Version
   pub read : IsTrace text calls

@@ -1,4 +1,4 @@
--- What a witness has seen: the redacted trace of some calls, under the header under which every call may stand.
+-- What a witness has seen: the redacted trace of some calls, under the header under which any call may come.
 use Rattle.std.specs.Prelude.{ℕ, List}
 use Rattle.sha2.specs.Hashers.{Holds256}
 use Rattle.sha2.specs.declared.Sha256.{Sha256}
@@ -11,6 +11,6 @@ use Rattle.kc_redact.specs.Redacted.{redacted}
 abbrev pub witnessed : List Call → List ℕ
 witnessed calls = text_of Two (redacted calls)
 
--- its hasher has taken it
+-- the hasher has taken the redacted trace of these calls
 abbrev pub HasSeen : Sha256 → List Call → Type 0
 HasSeen hasher calls = Holds256 hasher (witnessed calls)

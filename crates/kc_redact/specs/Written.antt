@@ -11,7 +11,7 @@ abbrev pub call_at : Target → ℕ → List ℕ → Call
 call_at (targets.Guest vm vcpu gfn) offset bytes = GuestWrite vm vcpu gfn offset bytes
 call_at (targets.Host frame) offset bytes = HostWrite frame offset bytes
 
--- the call that writes so many zeros there
+-- the call that writes this many zeros there
 abbrev pub written_call : Written → Call
 written_call written = call_at written.target written.offset (replicate written.len 0)
 

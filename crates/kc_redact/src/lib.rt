@@ -1,5 +1,5 @@
-//! Traces without the bytes that virtual processors write, or the host to frames of active VMs, and the digest of such a trace
-//! as it grows.
+//! Traces without the bytes that virtual processors write, and that the host writes to frames of active VMs, and the
+//! digest of such a trace as it grows.
 #![tactic(auto)]
 
 mod redacting;

@@ -1,4 +1,4 @@
-//! The lines of calls, without the bytes that virtual processors write, or the host.
+//! The lines of calls without the bytes that virtual processors or the host write.
 ghost use Rattle.std.specs.Prelude.{◌≡◌, ◌≤◌, ◌+◌, ◌*◌, ◌++◌, ◌∷◌, [], replicate, vec_len, vec_capacity};
 ghost use Rattle.hex.specs.Hex.{encode_lower};
 ghost use Rattle.kc_types.specs.Limits.{page_size};
@@ -10,14 +10,14 @@ use kc_lines::{push_bytes, push_number};
 use kc_trace::push_call;
 use kc_types::Call;
 
-/// Who writes, and to which frame: a virtual processor by a guest frame number, the host by a frame number.
+/// The writer, and the frame that it writes to: a virtual processor names a guest frame, the host a frame.
 #[derive(Clone, Copy, Debug)]
 pub enum Target {
     Guest { vm: u32, vcpu: u32, gfn: u32 },
     Host { frame: u32 },
 }
 
-/// Where a write goes, and how many bytes it has.
+/// A write without its bytes: where it goes, and how many bytes it has.
 #[derive(Clone, Copy, Debug)]
 pub struct Written {
     pub target: Target,
@@ -25,7 +25,7 @@ pub struct Written {
     pub len: usize,
 }
 
-/// Appends the digits of so many zero bytes, for which there is room.
+/// Appends the digits of this many zero bytes, for which there is room.
 fn push_zeros(text: &mut Vec<u8>, len: usize)
     requires { vec_len text.old + 2 * len ≤ vec_capacity text.old }
     ensures items { text.new.items ≡ text.old.items ++ encode_lower (replicate len 0) }
@@ -35,7 +35,7 @@ fn push_zeros(text: &mut Vec<u8>, len: usize)
     text.resize(text.len() + 2 * len, b'0').unwrap();
 }
 
-/// Appends the name of a write, and the numbers that say who writes and to which frame.
+/// Appends the name of a write, and the numbers of the writer and the frame.
 fn push_target(text: &mut Vec<u8>, target: Target)
     requires { vec_len text.old + 39 ≤ vec_capacity text.old }
     ensures items { text.new.items ≡ text.old.items ++ written_target target }
@@ -80,7 +80,8 @@ pub fn push_written(text: &mut Vec<u8>, written: Written)
     push_bytes(text, b"\n");
 }
 
-/// Appends the line of a call as a redacted trace has it, and its newline, for which there is room: memory does not grow.
+/// Appends the line of a call as a redacted trace has it, and its newline, for which there is room: memory does not
+/// grow.
 pub fn push_redacted(text: &mut Vec<u8>, call: &Call)
     requires { vec_len text.old + longest_call ≤ vec_capacity text.old }
     ensures line { text.new.items ≡ text.old.items ++ redacted_line call.now }

@@ -11,7 +11,7 @@ use sha2::{Digest, Sha256};
 use std::alloc::Global;
 use std::marker::Model;
 
-/// The hasher of a trace without calls, which has its header: that under which every call may stand.
+/// Makes a hasher that has taken the header under which any call may come, and no calls.
 fn at_start() -> Sha256
     ensures { HasSeen result [] }
 {
@@ -24,7 +24,7 @@ fn at_start() -> Sha256
 #[derive(Drop)]
 pub struct Witness {
     hasher: Sha256,
-    /// Room for any line.
+    /// Room for the longest line.
     line: Vec<u8>,
 }
 
@@ -41,7 +41,7 @@ impl Model for Witness {
 }
 
 impl Witness {
-    /// Of a trace without calls; `Memory` where a growth was refused.
+    /// Makes the witness of a trace without calls; `Memory` if memory cannot be had.
     pub fn new(alloc: Global) -> Result<Witness, Memory>
         // No clause can rule out that memory runs out: tests ask digests.
         ensures { IfOk result (λ witness. HasSeen witness []) }
@@ -52,7 +52,7 @@ impl Witness {
         })
     }
 
-    /// One call more. No memory is taken.
+    /// Adds a call. It takes no memory.
     pub fn note(&mut self, call: &Call)
         ensures { (calls : List Call) → HasSeen self.old calls → HasSeen self.new (calls ++ call.now ∷ []) }
     {
@@ -61,7 +61,7 @@ impl Witness {
         self.hasher.update(self.line.as_slice());
     }
 
-    /// The digest of the redacted trace so far: what `sha256sum` prints of it.
+    /// The digest of the redacted trace so far, as `sha256sum` prints it for that trace.
     pub fn digest(&self) -> [u8; 32]
         ensures { (calls : List Call) → HasSeen self.now calls → result ≡ sha256 (witnessed calls) }
     {
@@ -69,7 +69,7 @@ impl Witness {
         hasher.finalize()
     }
 
-    /// Goes on with a trace without calls. No memory is taken.
+    /// Starts again with a trace without calls. It takes no memory.
     pub fn restart(&mut self)
         ensures { HasSeen self.new [] }
     {

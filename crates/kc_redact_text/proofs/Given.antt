@@ -1,4 +1,4 @@
--- What a redaction writes is given.
+-- What a redaction writes reaches the sink.
 use Rattle.std.proofs.Common.{◌≡◌, ◌++◌, ℕ, List, Option, Some, None, take, sym, ap, ◌∙◌}
 use Rattle.std.specs.Prelude.{IfSome}
 use Rattle.std.specs.Io.KnownBytes.{Appends}
@@ -14,7 +14,7 @@ use Rattle.kc_redact_text.specs.Made.{redacted_by}
 use Rattle.kc_redact_text.specs.Reading.{IsHeadAndCalls}
 use Rattle.kc_redact_text.specs.Redacts.{Redacts, BeginsRedaction, IsHostRedacted}
 
--- the header that was read, and the lines of the calls that are kept
+-- the header that was read, and the lines of the calls that were kept
 text_is : (core : Option State) (text head : List ℕ) (kept : List Call) (read : IsHeadAndCalls core text head kept) → head ++ lines_of kept ≡ text_of read.read.version (redacted_by core read.calls)
 text_is core text head kept read =
     let version = read.read.version in

@@ -1,4 +1,4 @@
--- Calls redacted as they come, in two stretches as in one.
+-- Redacting calls as they come in two stretches is redacting them in one.
 use Rattle.std.proofs.Common.{append_assoc, ◌≡◌, ℕ, Bool, true, false, not, List, [], ◌∷◌, ◌++◌, Option, Some, None, refl, sym, ap, ◌∙◌}
 use Rattle.std.proofs.lemmas.List.{map-append}
 use Rattle.std.specs.Prelude.{if◌then◌else◌}
@@ -71,7 +71,7 @@ by-then core now xs call is =
 pub after-then : (core now : Option State) (xs : List Call) (call : Call) → now ≡ core_after core xs → core_after core (xs ++ call ∷ []) ≡ core_next now call
 after-then core now xs call is = after-append core xs (call ∷ []) ∙ after-one (core_after core xs) call ∙ ap (λ c. core_next c call) (sym is)
 
--- one call more is kept
+-- one more call is kept
 pub kept-then : (core now : Option State) (first so_far new xs : List Call) (call kept : Call) → so_far ≡ first ++ redacted_by core xs → now ≡ core_after core xs → kept ≡ redacted_next now call → new ≡ so_far ++ kept ∷ [] → new ≡ first ++ redacted_by core (xs ++ call ∷ [])
 kept-then core now first so_far new xs call kept is at one added =
     added ∙ ap (λ l. l ++ kept ∷ []) is ∙ append_assoc first (redacted_by core xs) (kept ∷ [])

@@ -1,4 +1,4 @@
--- A trace that is read from a source, piece after piece, and redacted.
+-- A trace is read from a source, piece after piece, and redacted.
 use Rattle.std.proofs.Common.{◌≡◌, ◌≤◌, ◌<◌, ◌+◌, ◌-◌, ℕ, Bool, List, [], ◌++◌, length, take, drop, Option, Some, None, Ok, refl, sym, ap, subst, ◌∙◌, append_assoc, append-nil, length-append, arith, inl, inr}
 use Rattle.std.specs.Prelude.{IfSome}
 use Rattle.std.specs.Io.KnownBytes.{Consumes, IsAtEnd}
@@ -35,7 +35,7 @@ pub taken_ok : (core made : Option State) (before after : Redacting) (piece : Li
 taken_ok core made before after piece more told none total grown done left now consumed =
     (more, grown, goes_on_ok (stream_of before) (stream_of before) (stream_of after) piece [] more more (length piece) left left now (stays (stream_of before) left) consumed told none refl total refl, done)
 
--- no calls more are kept
+-- no more calls are kept
 none-kept : (core : Option State) (before after : Redacting) → after.calls ≡ before.calls → after.calls.items ≡ before.calls.items ++ redacted_by core []
 none-kept core before after same = rw (same, by-none core) (sym (append-nil before.calls.items))
 
@@ -93,7 +93,7 @@ head_is text head here begun calls is within short len read =
           ap (take 14) (is ∙ ap (λ front. front ++ here) all) ∙ take_at head here 14 len
     ]
 
--- what a read moves to the bytes after those that were read
+-- what a read adds to the bytes that were read before
 pub head_more : (head buffer : List ℕ) (used n : ℕ) → length head ≡ 14 → used ≤ 14 → length buffer ≡ 14 - used → n ≤ length buffer → take (used + n) (put_mid used (14 - used) head buffer) ≡ take used head ++ take n buffer
 head_more head buffer used n size within len le =
     let front : length (take used head) ≡ used = omega (arith, length-take used head, size, within) in
@@ -107,7 +107,7 @@ head_size head buffer used size within len =
 
 -- ---- the whole trace
 
--- behind the first bytes of a source
+-- after the first bytes of a source
 pub begun_read : (core made : Option State) (source here : Option (List ℕ)) (start mid : Redacting) (piece : List ℕ) → ((first : Option (List ℕ)) → HasRead (stream_of start) [] [] first first) → Consumes source here piece
     → HasTaken core made start mid piece → (bytes : List ℕ) × (calls : List Call) × HasRead (stream_of mid) bytes calls source here
 begun_read core made source here start mid piece fresh consumed taken =
@@ -137,7 +137,7 @@ whole_read core made last source here now head begun start mid end fresh none co
     let kept : end.calls.items ≡ redacted_by core all.0 = all.1 ∙ ap (λ front. front ++ redacted_by core all.0) none in
     head_and_calls core source here head begun all.0 end.calls.items consumed within short size (judge _ all.0 source now more.1 ended) kept
 
--- a fault of reading is that of the source alone
+-- a read fails only if the source does
 pub read_is : (fault : ReadFault) → read_fault fault ≡ texts.Read → fault ≡ reads.Read
 read_is reads.Memory e = cc
 read_is reads.Read e = refl

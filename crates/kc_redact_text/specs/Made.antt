@@ -1,4 +1,4 @@
--- Calls redacted as they come, and made on a core, if there is one.
+-- Calls that are redacted as they come, and made on a core, if there is one.
 use Rattle.std.specs.Prelude.{Bool, false, List, Option, Some, None}
 use Rattle.kc_types.specs.declared.call.Call.{Call}
 use Rattle.kc_types.specs.declared.call.Call.TheVariants.{HostWrite}
@@ -12,7 +12,8 @@ abbrev pub is_hidden : State → Call → Bool
 is_hidden m (HostWrite f off bytes) = is_guests m (frame_at m f).owner
 is_hidden m _ = false
 
--- a call redacted: without a core plainly, and else also without what the host writes to a frame of an active VM
+-- a call redacted: plainly if there is no core, and otherwise also without what the host writes to a frame of an
+-- active VM
 abbrev pub redacted_next : Option State → Call → Call
 redacted_next None call = redacted_call call
 redacted_next (Some m) call = redacted_in all_frames m call
@@ -22,7 +23,7 @@ abbrev pub core_next : Option State → Call → Option State
 core_next None call = None
 core_next (Some m) call = Some (next m call).1
 
--- the same of calls in order
+-- the same for calls in order
 abbrev pub redacted_by : Option State → List Call → List Call
 redacted_by None calls = redacted calls
 redacted_by (Some m) calls = redacted_from m calls

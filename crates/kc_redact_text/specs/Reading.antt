@@ -1,4 +1,4 @@
--- How far a trace that is redacted was read.
+-- How far a trace that is redacted has been read.
 use Rattle.std.specs.Prelude.{◌≡◌, ◌≢◌, ℕ, List, ◌++◌, take, Option}
 use Rattle.std.specs.Io.KnownBytes.{Consumes}
 use Rattle.kc_types.specs.declared.call.Call.{Call}
@@ -11,16 +11,17 @@ use Rattle.kc_texts.specs.declared.fault.TextFault.TheVariants as texts
 use Rattle.kc_redact_text.specs.Made.{redacted_by, core_after}
 use Rattle.kc_redact_text.specs.declared.reading.Redacting.{Redacting}
 
--- the reader of the trace, and how many bytes it was fed
+-- the reader of the trace, and the number of bytes that it was fed
 abbrev pub stream_of : Redacting → Streamed
 stream_of r = record { reader = r.reader; total = r.total }
 
--- whatever was read before, some calls came from there on, and are kept redacted; they were made on the core, if there is one
+-- whatever was read before, some calls came after it, and are kept redacted; they were made on the core, if there is
+-- one
 abbrev pub HasGoneOn : Option State → Option State → Redacting → Redacting → Option (List ℕ) → Option (List ℕ) → Type 0
 HasGoneOn core made before after left now =
     (more : List Call) × (after.calls.items ≡ before.calls.items ++ redacted_by core more) × GoesOn (stream_of before) (stream_of after) left now more × (made ≡ core_after core more)
 
--- the same by these bytes of any source
+-- the same for these bytes of any source
 abbrev pub HasTaken : Option State → Option State → Redacting → Redacting → List ℕ → Type 0
 HasTaken core made before after piece = (left now : Option (List ℕ)) → Consumes left now piece → HasGoneOn core made before after left now
 
@@ -31,7 +32,7 @@ pub record IsHeadAndCalls (core : Option State) (text head : List ℕ) (kept : L
   pub header : take 14 text ≡ head
   pub redacted : kept ≡ redacted_by core calls
 
--- the trace is refused, and out of memory is never reported as that; or memory or the source failed
+-- the trace is refused, and running out of memory is never reported as that; or memory ran out, or the source failed
 abbrev pub IsReadingFault : TextFault → Type 0
 IsReadingFault (texts.Trace fault) = fault ≢ traces.Memory
 IsReadingFault texts.Memory = Unit {0}

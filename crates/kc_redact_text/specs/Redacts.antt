@@ -1,4 +1,4 @@
--- What the engines of redaction leave of what their sources held.
+-- What the engines of redaction write, by what their sources held.
 use Rattle.std.specs.Prelude.{◌≢◌, ℕ, List, take, Option, Some, None}
 use Rattle.std.specs.Io.KnownBytes.{Appends}
 use Rattle.kc_types.specs.declared.call.Call.{Call}
@@ -15,12 +15,13 @@ abbrev pub Redacts : Option (List ℕ) → Option (List ℕ) → Option (List �
 Redacts None old new = Unit {0}
 Redacts (Some text) old new = (other : List ℕ) × (calls : List Call) × IsRedaction text other calls × Appends old new other
 
--- the same of a beginning of it
+-- the same for the beginning of the redacted trace
 abbrev pub BeginsRedaction : Option (List ℕ) → Option (List ℕ) → Option (List ℕ) → Type 0
 BeginsRedaction None old new = Unit {0}
 BeginsRedaction (Some text) old new = (other : List ℕ) × (calls : List Call) × (n : ℕ) × IsRedaction text other calls × Appends old new (take n other)
 
--- the trace is refused, and out of memory is never reported as that; or memory, the source or the sink failed
+-- the trace is refused, and running out of memory is never reported as that; or memory ran out, or the source or the
+-- sink failed
 abbrev pub IsRedactFault : TextFault → Type 0
 IsRedactFault (texts.Trace fault) = fault ≢ traces.Memory
 IsRedactFault texts.Memory = Unit {0}
@@ -28,11 +29,13 @@ IsRedactFault texts.Read = Unit {0}
 IsRedactFault texts.Write = Unit {0}
 IsRedactFault _ = ⊥
 
--- the text is the trace without the bytes of the host either that go to frames of active VMs, if the calls begin in the state that the first text tells
+-- the text is the trace without these bytes, and also without those that the host writes to frames of active VMs, if
+-- the calls begin in the state that the first text describes
 abbrev pub IsHostRedacted : Origin → List ℕ → List ℕ → List ℕ → Type 0
 IsHostRedacted origin start_text trace_text text = (m : State) × (calls : List Call) × BeginsIn origin start_text m × IsHostRedaction m trace_text text calls
 
--- what the calls begin with is refused, or it is one of those faults; the same before anything is written
+-- what the calls begin with is refused, or it is one of the faults above; before anything is written the sink has not
+-- failed
 abbrev pub IsHostRedactFault : TextFault → Type 0
 IsHostRedactFault (texts.Config fault) = Unit {0}
 IsHostRedactFault (texts.State fault) = Unit {0}

@@ -16,7 +16,7 @@ enum Kept {
     Whole(Call),
 }
 
-/// A call of a redacted trace. Of the bytes that are written by it and not shown it keeps only how many they are.
+/// A call of a redacted trace. Of bytes that it writes and that are not shown it keeps only the number.
 #[derive(Debug, Drop)]
 pub struct RedactedCall {
     kept: Kept,
@@ -34,7 +34,8 @@ impl Model for RedactedCall {
 }
 
 impl RedactedCall {
-    /// The call, with zeros in the place of the bytes that a virtual processor writes by it. The memory of these is zeroed.
+    /// Redacts a call: it has zeros in place of the bytes that a virtual processor writes. The memory of those is
+    /// zeroed.
     pub fn new(call: Call) -> RedactedCall
         ensures { result ≡ redacted_call call }
     {
@@ -58,8 +59,8 @@ impl RedactedCall {
         }
     }
 
-    /// The call, with zeros in the place of the bytes that are written by it, also of those that the host writes. The memory
-    /// of these is zeroed.
+    /// Redacts a call: it has zeros in place of the bytes that it writes, also of those that the host writes. The
+    /// memory of those is zeroed.
     pub fn blanked(call: Call) -> RedactedCall
         ensures { result ≡ blanked_call call }
     {

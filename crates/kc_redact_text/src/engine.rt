@@ -1,4 +1,4 @@
-//! A trace read, redacted and written.
+//! Reading a trace, redacting it and writing it.
 ghost use Rattle.std.specs.Prelude.{◌≡◌, ◌⊎◌, ◌++◌, ◌∷◌, [], ℕ, List, take, false, IfErr, IfSome, OnOk, Err};
 ghost use Rattle.std.specs.Io.KnownBytes.{Appends, IsAtEnd};
 ghost use Rattle.kc_trace.specs.declared.fault.TraceFault.{TraceFault};
@@ -13,7 +13,7 @@ use kc_lines::push_bytes;
 use kc_texts::{Sink, Source, TextFault, empty_piece, give_lines};
 use std::alloc::Global;
 
-/// Writes the header of a trace and its calls. All memory that this takes is there before the first byte is written.
+/// Writes the header of a trace and its calls. All memory that this needs is taken before the first byte is written.
 pub(crate) fn give_redacted<K: Sink>(
     alloc: Global,
     head: &[u8; HEADER],
@@ -35,12 +35,12 @@ pub(crate) fn give_redacted<K: Sink>(
     }
 }
 
-/// Reads a trace to its end, and writes it with zeros in the place of the bytes that virtual processors write: the same
+/// Reads a trace to its end, and writes it with zeros in place of the bytes that virtual processors write: the same
 /// header and the same lines, each as long as it was.
 ///
-/// Nothing is written but after the whole trace was read. A source that fails, or that has more than 1,073,741,824 bytes,
-/// is `Read`, also where its bytes so far are refused already. Out of memory comes before a fault of the trace that stands
-/// further on.
+/// Nothing is written before the whole trace has been read. A source that fails, or that has more than 1,073,741,824
+/// bytes, is `Read`, even if its bytes so far are refused already. Running out of memory is reported before a fault of
+/// the trace that is further on.
 pub fn redact_text<T: Source, K: Sink>(
     alloc: Global,
     trace: &mut T,
@@ -54,7 +54,7 @@ pub fn redact_text<T: Source, K: Sink>(
     ensures sources { TellsSources (seen (T.failed trace.new) (T.left trace.old) (T.left trace.new) ∷ []) result }
     ensures sink { TellsSink (K.failed out.new) (BeginsRedaction (T.left trace.old) (K.taken out.old) (K.taken out.new)) (out.new ≡ out.old) result }
 
-    // A fault of the trace is that of all the bytes that the source held, and no other fault comes.
+    // A fault of the trace is that of all the bytes that the source held, and there are no other faults.
     ensures trace { (fault : TraceFault) → result ≡ Err (TextFault.Trace fault) → IfSome (T.left trace.old) (λ text. IsRefused text fault) × IsAtEnd (T.left trace.new) }
     ensures others { IfErr result IsRedactFault }
 {

@@ -1,4 +1,4 @@
-//! A trace read, its calls made as they are read, redacted, and written.
+//! Reading a trace, making its calls as they are read, redacting and writing it.
 ghost use Rattle.std.specs.Prelude.{◌≡◌, ◌∷◌, [], List, false, true, Some, IfOk, IfErr, IfSome, OnOk, Err};
 ghost use Rattle.std.specs.Io.KnownBytes.{IsAtEnd};
 ghost use Rattle.kc_model.specs.State.{State};
@@ -20,8 +20,8 @@ use kc_texts::{Origin, Sink, Source, TextFault};
 use std::alloc::Global;
 use std::thread::Threads;
 
-/// Reads a trace and makes its calls on a core, as they are read: its header, and its calls, redacted. The core is wiped before
-/// it goes, whatever the outcome.
+/// Reads a trace and makes its calls on a core as they are read; returns its header and its calls, redacted. The core
+/// is wiped before it is dropped, whatever the outcome.
 fn read_made<T: Source>(
     rt: &(impl Threads + Sync),
     alloc: Global,
@@ -44,7 +44,8 @@ fn read_made<T: Source>(
     read
 }
 
-/// Reads what the calls begin with to its end, and a trace as its calls are made: its header, and its calls, redacted.
+/// Reads to its end the text of what the calls begin with, and then a trace as its calls are made; returns the trace's
+/// header and its calls, redacted.
 fn read_both<C: Source, T: Source>(
     rt: &(impl Threads + Sync),
     alloc: Global,
@@ -64,13 +65,14 @@ fn read_both<C: Source, T: Source>(
     read_made(rt, alloc, core, trace)
 }
 
-/// Reads what the calls begin with and a trace, each to its end, makes the trace's calls on one thread as they are read, and
-/// writes the trace with zeros in the place of the bytes that virtual processors write, and of those that the host writes to a
-/// frame of a VM that is active then: the same header and the same lines, each as long as it was.
+/// Reads the text of what the calls begin with, and a trace, each to its end; makes the trace's calls on one thread as
+/// they are read; and writes the trace with zeros in place of the bytes that virtual processors write, and that the
+/// host writes to a frame of a VM that is active at that point: the same header and the same lines, each as long as it
+/// was.
 ///
-/// Nothing is written but after the whole trace was read and answered. A source that fails, or that has more than
-/// 1,073,741,824 bytes, is `Read`, also where its bytes so far are refused already. Out of memory comes before a fault of
-/// the trace that stands further on.
+/// Nothing is written before the whole trace has been read and answered. A source that fails, or that has more than
+/// 1,073,741,824 bytes, is `Read`, even if its bytes so far are refused already. Running out of memory is reported
+/// before a fault of the trace that is further on.
 pub fn redact_host_text<C: Source, T: Source, K: Sink>(
     rt: &(impl Threads + Sync),
     alloc: Global,
@@ -84,12 +86,12 @@ pub fn redact_host_text<C: Source, T: Source, K: Sink>(
     requires trace { T.failed trace.old ≡ false }
     requires out { K.failed out.old ≡ false }
 
-    // What is written is the redacted trace of the trace, from the state on that the start's text tells.
+    // What is written is the redacted trace of the trace, from the state on that the start's text describes.
     ensures ok { OnOk result (Writes (IsHostRedacted origin) (C.left start.old) (T.left trace.old) (K.taken out.old) (K.taken out.new)) }
     ensures sources { TellsSources (seen (C.failed start.new) (C.left start.old) (C.left start.new) ∷ seen (T.failed trace.new) (T.left trace.old) (T.left trace.new) ∷ []) result }
     ensures texts { TellsTexts origin (seen (C.failed start.new) (C.left start.old) (C.left start.new)) (seen (T.failed trace.new) (T.left trace.old) (T.left trace.new)) (trace.new ≡ trace.old) result }
     ensures sink { TellsSink (K.failed out.new) (Begins (IsHostRedacted origin) (C.left start.old) (T.left trace.old) (K.taken out.old) (K.taken out.new)) (out.new ≡ out.old) result }
-    // No other fault comes.
+    // There are no other faults.
     ensures others { IfErr result IsHostRedactFault }
 {
     let (head, calls) = read_both(rt, alloc, start, trace, origin, lanes)?;

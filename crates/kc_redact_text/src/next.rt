@@ -9,21 +9,21 @@ use crate::calls::RedactedCall;
 use kc_core::KCore;
 use kc_types::{Call, Memory, Owner, Phase};
 
-/// Whether the VM in a slot is active; not in a slot that does not exist.
+/// Whether the VM in a slot is active; false if the slot does not exist.
 fn is_active(core: &KCore, vm: u32) -> bool
     ensures { result ≡ is_active (slot_at core.now vm).phase }
 {
     match core.phase(vm) {
         Some(phase) => matches!(phase, Phase::Active),
         None => {
-            // What follows of a core's state being lawful, which this clause tells.
+            // Using the core here shows that its state is lawful, from which this follows.
             let _config = core.config();
             false
         },
     }
 }
 
-/// The owner of a frame; one that does not exist is as one of the core's.
+/// The owner of a frame; the core if the frame does not exist.
 fn owner_of(core: &KCore, frame: u32) -> Owner
     ensures { result ≡ (frame_at core.now frame).owner }
 {
@@ -47,7 +47,7 @@ fn is_guests(core: &KCore, owner: Owner) -> bool
     }
 }
 
-/// Whether the host writes by a call to a frame of an active VM.
+/// Whether the host writes to a frame of an active VM by this call.
 fn is_hidden(core: &KCore, call: &Call) -> bool
     ensures { result ≡ is_hidden core.now call.now }
 {
@@ -57,8 +57,8 @@ fn is_hidden(core: &KCore, call: &Call) -> bool
     }
 }
 
-/// Redacts a call: what a virtual processor writes, and if there is a core, also what the host writes to a frame of a VM that
-/// is active before the call, which is then made on the core. `Memory` where a growth was refused.
+/// Redacts a call: what a virtual processor writes, and if there is a core, also what the host writes to a frame of a
+/// VM that is active before the call, which is then made on the core. `Memory` if memory cannot be had.
 pub(crate) fn redact_next(core: &mut Option<KCore>, call: Call) -> Result<RedactedCall, Memory>
     ensures call { IfOk result (λ kept. kept ≡ redacted_next core.old call) }
     ensures core { OnOk result (core.new ≡ core_next core.old call) }

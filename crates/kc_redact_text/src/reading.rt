@@ -1,4 +1,4 @@
-//! A trace that is redacted as it is read.
+//! Redacting a trace as it is read.
 ghost use Rattle.std.specs.Prelude.{◌≡◌, ◌≢◌, ◌<◌, ◌≤◌, ◌+◌, ◌++◌, [], ℕ, List, Option, false, true, length, take, is_err, IfOk, IfErr, IfSome, OnOk, Err};
 ghost use Rattle.std.specs.Io.KnownBytes.{Consumes, IsAtEnd};
 ghost use Rattle.kc_types.specs.Limits.{byte_limit};
@@ -18,10 +18,10 @@ use kc_trace::{TraceFault, TraceReader};
 use kc_types::{BYTE_LIMIT, Call, Memory, SecretBytes};
 use std::alloc::Global;
 
-/// How many bytes the header of a trace has, with its newline.
+/// The bytes of the header of a trace, with its newline.
 pub const HEADER: usize = 14;
 
-/// Reads the bytes that a source begins with, as many as a header has, or all if there are fewer, and answers how many.
+/// Reads the first bytes of a source, as many as a header has, or all if there are fewer, and returns how many.
 fn read_head<T: Source>(source: &mut T, head: &mut [u8; HEADER]) -> Result<usize, Failed>
     requires { T.failed source.old ≡ false }
     ensures within { IfOk result (λ n. n ≤ 14) }
@@ -40,8 +40,8 @@ fn read_head<T: Source>(source: &mut T, head: &mut [u8; HEADER]) -> Result<usize
     Ok(used)
 }
 
-/// Appends some calls as a redacted trace has them, and makes them on the core, if there is one. The memory of the bytes that
-/// it does not have is zeroed.
+/// Appends some calls as a redacted trace has them, and makes them on the core, if there is one. The memory of the
+/// bytes that are left out is zeroed.
 fn push_each(
     calls: &mut Vec<RedactedCall>,
     core: &mut Option<KCore>,
@@ -67,7 +67,7 @@ struct Redacting {
 }
 
 impl Redacting {
-    /// In front of the header.
+    /// Starts before the header.
     fn new(alloc: Global) -> Redacting
         ensures read { (first : Option (List ℕ)) → HasRead (stream_of result) [] [] first first }
         ensures calls { result.calls.items ≡ [] }
@@ -80,7 +80,7 @@ impl Redacting {
         }
     }
 
-    /// Takes the next bytes. After a fault of the trace, which the reader reports at its end, they are only counted.
+    /// Takes the next bytes. After a fault of the trace, which the reader reports at its end, bytes are only counted.
     fn take(
         &mut self,
         alloc: Global,
@@ -107,7 +107,7 @@ impl Redacting {
         }
     }
 
-    /// Takes all that a source has left. The memory of a piece is zeroed before it goes.
+    /// Takes the rest of a source. The memory of a piece is zeroed before it is freed.
     fn take_rest<T: Source>(
         &mut self,
         alloc: Global,
@@ -139,8 +139,8 @@ impl Redacting {
     }
 }
 
-/// The header of the trace that a source has left, and its calls, redacted: if there is a core, they are made on it as they are
-/// read.
+/// Reads the rest of a source as a trace; returns its header and its calls, redacted. If there is a core, the calls
+/// are made on it as they are read.
 pub fn read_redacted<T: Source>(
     alloc: Global,
     core: &mut Option<KCore>,

@@ -42,12 +42,12 @@ module _ (m : State) (calls : List Call) (footprints : ℕ → Resources) (is : 
       by_test true t = absurd (are.apart j k r hj hk other t e)
       by_test false t = refl
 
-  -- where what earlier calls of the wave leave agrees with the start on a call's footprint, it needs the same
+  -- if what earlier calls of the wave leave agrees with the start on a call's footprint, the call needs the same
   needs-same : (s : State) (k : ℕ) → k < length calls → AgreesOn (footprints k) m s → (r : Resource) → need s (call_at calls k) r ≡ need m (call_at calls k) r
   needs-same s k low agrees r =
       sym (ap (λ s. need s (call_at calls k) r) (merged-agrees (footprints k) m s agrees)) ∙ need-merged (footprints k) m s (call_at calls k) (are.needs k low) r
 
-  -- and it does
+  -- and it does agree
   mutual-agrees : (i k : ℕ) → i ≤ k → k < length calls → AgreesOn (footprints k) m (state_at m calls i)
   mutual-agrees zero k le low = record { size = size-at m calls zero; parts = λ r e. refl }
   mutual-agrees (suc i) k le low = record {
@@ -69,7 +69,7 @@ module _ (m : State) (calls : List Call) (footprints : ℕ → Resources) (is : 
       links-kept (state_at m calls k) (call_at calls k) (orderly-at m calls is k low) (lists-all (state_at m calls k) (lawful k (omega (arith, low)))) r
       (from-need (need (state_at m calls k) (call_at calls k) r) (footprints k r) (needs-at k low r) none)
 
-  -- from call i on to call i + d none touches r
+  -- from call i up to call i + d none touches r
   keeps-more : (d i : ℕ) (r : Resource) → d + i ≤ length calls → ((j : ℕ) → i ≤ j → j < d + i → footprints j r ≡ false) → linked_part_of (state_at m calls (d + i)) r ≡ linked_part_of (state_at m calls i) r
   keeps-more zero i r le none = let e : 0 + i ≡ i = omega arith in rw e refl
   keeps-more (suc d) i r le none =
@@ -82,7 +82,7 @@ module _ (m : State) (calls : List Call) (footprints : ℕ → Resources) (is : 
       subst (λ n. linked_part_of (state_at m calls n) r ≡ linked_part_of (state_at m calls i) r) e
       (keeps-more (j - i) i r (omega (arith, e, within)) (λ k from below. none k from (omega (arith, e, below))))
 
-  -- on its footprint a call finds the start, and what it leaves stays to the end
+  -- in its footprint a call finds what was there at the start, and what it leaves there stays to the end
   finds : (k : ℕ) (r : Resource) → k < length calls → footprints k r ≡ true → linked_part_of (state_at m calls k) r ≡ linked_part_of m r
   finds k r low e = keeps-between 0 k r (omega arith) (omega (arith, low)) (λ j from below. not-in j k r (omega (arith, below, low)) low (λ same. omega (arith, same, below)) e)
 
@@ -92,7 +92,7 @@ module _ (m : State) (calls : List Call) (footprints : ℕ → Resources) (is : 
   untouched : (r : Resource) → ((k : ℕ) → k < length calls → footprints k r ≡ false) → linked_part_of (state_at m calls (length calls)) r ≡ linked_part_of m r
   untouched r none = keeps-between 0 (length calls) r (omega arith) (omega arith) (λ k from below. none k below)
 
-  -- with a list's ends a footprint has all its frames
+  -- a footprint with a list's ends has all its frames
   pub closed-at : (k : ℕ) → k < length calls → IsClosed (state_at m calls k) (footprints k)
   closed-at k low = record {
     exist = subst (λ config. IsWithin (footprints k) (exists_in config)) (sym (config-at k)) (are.exist k low);
@@ -158,7 +158,7 @@ module _ (m : State) (calls : List Call) (footprints : ℕ → Resources) (is : 
       of-slot true was None vm split at = cc
       of-slot true was (Some t) vm split at = cc
 
-  -- once all calls are out, what stays is what they leave
+  -- when all calls are out, what is here is what they leave
   pub all-out : (ks : List ℕ) (h : Held) → ((k : ℕ) (r : Resource) → k < length calls → footprints k r ≡ true → out footprints ks r ≡ true) → IsRest m footprints ks h → IsRest (state_at m calls (length calls)) footprints ks h
   all-out ks h all left = record {
     parts = λ r. left.parts r ∙ by_out r (out footprints ks r) refl;

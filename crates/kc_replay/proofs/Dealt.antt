@@ -1,4 +1,4 @@
--- The lists of workers with the item of one call more, or fewer.
+-- The lists of workers with one more item, or one fewer.
 use Rattle.std.proofs.Common.{ℕ, zero, suc, ◌≡◌, ◌≢◌, ◌<◌, ◌⊎◌, inl, inr, true, false, List, [], ◌∷◌, ◌++◌, length, length-append, get_or, set, map, replicate, All, refl, sym, ap, subst, ◌∙◌, arith}
 use Rattle.std.specs.Prelude.{◌%◌, ◌==◌, if◌then◌else◌, Bool}
 use Rattle.std.specs.List.{AllZip}
@@ -30,7 +30,7 @@ module _ {T : Type 0} (R : ℕ → T → Type 0) where
   unfolding dealt_to
   dealt-none n w low = subst (λ (ts : List T). AllZip R [] ts) (sym (get_or-same n [] w)) tt
 
-  -- each worker's list, where the workers are so many
+  -- each worker's list, for this number of workers
   more-at : (n p w : ℕ) (lists : List (List T)) (t : T) → length lists ≡ n → 0 < n → ((v : ℕ) → v < n → AllZip R (dealt_to n v p) (get_or lists v [])) → R p t → w < n → ((w ≡ p % n) ⊎ (w ≢ p % n))
       → AllZip R (dealt_to n w (suc p)) (get_or (set lists (p % n) (get_or lists (p % n) [] ++ t ∷ [])) w [])
   more-at n p w lists t is some all one low (inl same) =
@@ -86,7 +86,7 @@ module _ {T : Type 0} (R : ℕ → T → Type 0) where
     dealt-fewer w low = subst (λ k. AllZip R (dealt_to k w p) (get_or left w [])) (sym size) (fewer-at w (omega (arith, low, size)) (cases_eq w (p % (length lists))))
 
 module _ {A B : Type 0} (R : A → B → Type 0) (P : B → Type 0) (f : (a : A) (b : B) → R a b → P b) where
-  -- what follows of each item holds of all
+  -- what follows from each item holds of all
   all-zipped : (xs : List A) (ys : List B) → AllZip R xs ys → All P ys
   all-zipped [] [] zip k d low = absurd (omega (arith, low))
   all-zipped [] (y ∷ ys) zip k d low = absurd zip
@@ -106,7 +106,7 @@ module _ {L T : Type 0} (items : L → List T) (R : ℕ → T → Type 0) (count
   pub all-dealt : (P : T → Type 0) → ((i : ℕ) (t : T) → R i t → P t) → All (λ l. All P (items l)) lists
   all-dealt P f k d low = all-zipped R P f (dealt_to (length (map items lists)) k count) (items (get_or lists k d)) (list-of k d low)
 
-  -- and what workers make of their lists is dealt as these are
+  -- and what workers make of their lists is dealt as the lists are
   module _ {M F : Type 0} (made : M → List F) (Q : T → F → Type 0) (S : ℕ → F → Type 0) (f : (i : ℕ) (t : T) (f : F) → R i t → Q t f → S i f) (done : List M) (zip : AllZip (λ l m. AllZip Q (items l) (made m)) lists done) where
     same : length done ≡ length lists
     same = zip_length (λ l m. AllZip Q (items l) (made m)) lists done zip
@@ -135,7 +135,7 @@ set_again [] i a b = refl
 set_again (x ∷ xs) zero a b = refl
 set_again (x ∷ xs) (suc i) a b = ap (λ ys. x ∷ ys) (set_again xs i a b)
 
--- one worker's list, as it is found and as it is left
+-- one worker's list, as it was and as it is left
 module _ {L T : Type 0} (items : L → List T) (lists : List L) (place n : ℕ) (one left : L) (t : T) (is : n ≡ length lists) (some : 0 < length lists) (here : one ≡ get_or lists (place % n) one) where
   low : place % n < length lists
   low = let below = mod_below place n (omega (arith, is, some)) in omega (arith, below, is)

@@ -24,7 +24,7 @@ use Rattle.kc_replay.specs.Wave.{IsWave, AreReplied, wave_calls}
 use Rattle.kc_footprints.specs.Plan.{AreCallNumbers, AreCallsOf}
 use Rattle.kc_replay.proofs.Ready.{config-order, apart-in-wave}
 
--- the calls of the waves up to w are taken, in whatever order, and their replies stand in their places
+-- the calls of the waves up to w are made, in whatever order, and their replies are in their places
 pub record IsUpTo (m : State) (calls : List Call) (wave : ℕ → ℕ) (w : ℕ) (store : State) (replies : List Reply) : Type 0 where
   pub order : List ℕ
   pub done : ℕ → Bool
@@ -39,7 +39,7 @@ either-true : (b d : Bool) → d ≡ true → (b || d) ≡ true
 either-true true d e = refl
 either-true false d e = e
 
--- a set with one number more has what it had
+-- a set with one more number has what it had
 done-kept : (done : ℕ → Bool) (k j : ℕ) → done j ≡ true → with_number k done j ≡ true
 done-kept done k j e = either-true (j == k) (done j) e
 
@@ -53,7 +53,7 @@ done-this done k = by_place (cases_eq k k)
 done-other : (done : ℕ → Bool) (k j : ℕ) → j ≢ k → with_number k done j ≡ done j
 done-other done k j other = let differ = ne_eqb j k other in rw differ refl
 
--- the set with all these numbers more
+-- the set with all these numbers added
 pub done_after : List ℕ → (ℕ → Bool) → ℕ → Bool
 done_after [] done = done
 done_after (k ∷ ks) done = done_after ks (with_number k done)
@@ -83,7 +83,7 @@ after-only (k ∷ ks) done j e = by_rest (after-only ks (with_number k done) j e
     by_rest (inr at) = inr (suc at.0, (let low = at.1 in omega (arith, low)), at.2)
 
 module _ {Res : Type 0} (touches : ℕ → Res → Bool) (n : ℕ) where
-  -- calls taken after others
+  -- calls made after others
   pub taken-more : (done mid final : ℕ → Bool) (order more : List ℕ) → IsTaken touches n done order mid → IsTaken touches n mid more final → IsTaken touches n done (order ++ more) final
   taken-more done mid final [] more same onward = subst (λ (d : ℕ → Bool). IsTaken touches n d more final) same onward
   taken-more done mid final (k ∷ ks) more due onward = (due.0, taken-more (with_number k done) mid final ks more due.1 onward)
@@ -194,7 +194,7 @@ module _ (m : State) (calls : List Call) (is : IsLawful m) (wave : ℕ → ℕ) 
           no_higher = λ j below did. let le = higher j below did in omega (arith, le, at);
         })
 
-    -- the next wave can be made side by side
+    -- the calls of the next wave can be made side by side
     pub wave-next : IsWave store calls footprints members
     wave-next = subst (λ (s : State). IsWave s calls footprints members) (sym up.state) (record {
       lawful = lawful-taken (footprint m calls) calls up.order (λ j. false) up.done m up.taken is;
@@ -217,7 +217,7 @@ module _ (m : State) (calls : List Call) (is : IsLawful m) (wave : ℕ → ℕ) 
     above-next j low (inl did) = higher j low did
     above-next j low (inr at) = let e : wave j ≡ suc w = ap wave (sym at.2) ∙ are.same at.0 at.1 in omega (arith, e)
 
-    -- the calls of the next wave are taken
+    -- the calls of the next wave are made
     pub up-to-next : (after : State) (given : List Reply) → AreReplied store calls members replies given → after ≡ state_at store (wave_calls calls members) (length members) → IsUpTo m calls wave (suc w) after given
     up-to-next after given replied end = record {
       order = up.order ++ members;
@@ -242,7 +242,7 @@ module _ (m : State) (calls : List Call) (is : IsLawful m) (wave : ℕ → ℕ) 
         by_wave k low le (inr more) = given-at k (are.all k low (omega (arith, more, le)))
 
 module _ (m : State) (calls : List Call) (members : List ℕ) (numbers : AreCallNumbers (length calls) members) (replies : List Reply) (place : ℕ) (reply : Reply) (low : place < length members) (size : length replies ≡ length calls) where
-  -- the replies of one call more of a wave
+  -- the reply to one more call of a wave
   pub given-more : reply ≡ reply_at m (wave_calls calls members) place → ((i : ℕ) → i < place → i < length members → get_or replies (get_or members i 0) Done ≡ reply_at m (wave_calls calls members) i)
       → (i : ℕ) → i < place + 1 → i < length members → get_or (set replies (get_or members place 0) reply) (get_or members i 0) Done ≡ reply_at m (wave_calls calls members) i
   given-more is before i less below = by_place (cases_eq i place)
@@ -261,6 +261,6 @@ state-one m calls k = let e : k + 1 ≡ suc k = omega arith in rw e refl
 pub numbers_of : (m : State) (calls : List Call) (footprints : ℕ → Resources) (members : List ℕ) → IsWave m calls footprints members → AreCallNumbers (length calls) members
 numbers_of m calls footprints members wave = record { within = wave.within; once = wave.once }
 
--- a list that was written over whole
+-- a list that was written over as a whole
 pub written-whole : {X : Type 0} (xs ys : List X) (n : ℕ) → n ≡ length xs → take n (xs ++ drop (length xs) ys) ≡ xs
 written-whole xs ys n e = rw e (take-append_seam xs (drop (length xs) ys))

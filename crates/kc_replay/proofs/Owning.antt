@@ -22,7 +22,7 @@ pub record IsOwnedBelow (m : State) (n : ℕ) (pairs : List (ℕ × ℕ)) : Type
   pub has : (p f : ℕ) → has_pair pairs p f ≡ (nat_lt f n && is_at (principal_of (slot_count m.config) (frame_at m f).owner) p)
   pub low : (i : ℕ) → i < length pairs → (get_or pairs i (0, 0)).0 < slot_count m.config + 1
 
--- one frame more
+-- one more frame
 pub none_more : (m : State) (n : ℕ) (pairs : List (ℕ × ℕ)) → principal_of (slot_count m.config) (frame_at m n).owner ≡ None → IsOwnedBelow m n pairs → IsOwnedBelow m (n + 1) pairs
 none_more m n pairs none so_far = record { has = λ p f. so_far.has p f ∙ by p f (eqb n f) refl; low = so_far.low }
   where
@@ -96,7 +96,7 @@ of_free n owner.Host = refl
 of_free n owner.Free = eq-eqb n n refl
 of_free n (owner.Vm w) = not_past n (Some w)
 
--- what is not the core's is there
+-- a frame that is not the core's exists
 asked : (m : State) → IsLawful m → (o : Owner) → same_owner owner.Core o ≡ false → (f : ℕ) → (nat_lt f m.config.frames && same_owner (frame_at m f).owner o) ≡ same_owner (frame_at m f).owner o
 asked m lawful o differs f = by (same_owner (frame_at m f).owner o) refl
   where

@@ -84,7 +84,7 @@ pick-whole : {X : Type 0} (test : ℕ → Bool) (d : X) (xs : List X) → ((i : 
 pick-whole test d [] all = refl
 pick-whole test d (x ∷ xs) all = rw (all 0 (omega arith), pick-whole (λ i. test (suc i)) d xs (λ i low. all (suc i) (omega (arith, low)))) refl
 
--- the cut of all that there is is the state
+-- the cut of everything is the state
 cut-whole : (m : State) → IsLawful m → cut m (exists_in m.config) ≡ m
 cut-whole m is = λ i. record {
   config = m.config;
@@ -124,7 +124,7 @@ module _ (m : State) (calls : List Call) (footprints : ℕ → Resources) (membe
   abbrev pub last : State
   last = state_at m (wave_calls calls members) (length (wave_calls calls members))
 
-  -- all of the wave's calls are out
+  -- all calls of the wave are out
   pub switched : (h : Held) → IsRest m (footprints_at footprints members) (down_from (length members)) h → IsRest (state_at m (wave_calls calls members) (length (wave_calls calls members))) (footprints_at footprints members) (down_from (length members)) h
   switched h left =
       all-out m (wave_calls calls members) (footprints_at footprints members) wave.lawful wave.apart (down_from (length members)) h

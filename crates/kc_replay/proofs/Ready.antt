@@ -34,7 +34,7 @@ three-low false false true n f h x y z = z refl
 three-low false false false n f h x y z = cc
 
 module _ (m : State) (calls : List Call) (is : IsLawful m) where
-  -- a footprint has only what there is
+  -- a footprint has only what exists
   pub footprint-exists : (k : ℕ) → IsWithin (footprint m calls k) (exists_in m.config)
   footprint-exists k (resource.Frame f) h =
       lt-ltb f m.config.frames
@@ -55,7 +55,7 @@ module _ (m : State) (calls : List Call) (is : IsLawful m) where
           subst (λ x. x < slot_count m.config) (eqb-true w v parts.1) (ltb-true w (slot_count m.config) parts.0)
   footprint-exists k resource.Free h = refl
 
-  -- the calls of one wave, all of them due after those of the order
+  -- the calls of one wave, all of them due after those in the order
   pub apart-in-wave : (wave : ℕ → ℕ) (order : List ℕ) (done : ℕ → Bool) (footprints : ℕ → Resources) (members : List ℕ) (w : ℕ) → IsWaves m calls wave
       → IsTaken (footprint m calls) (length calls) (λ j. false) order done
       → ((i : ℕ) → i < length members → IsDue (footprint m calls) (length calls) done (get_or members i 0))

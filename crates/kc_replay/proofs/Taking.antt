@@ -81,7 +81,7 @@ module _ (config : Configuration) (h : Held) (is : IsCore config h) where
           list-here (Vm v) vm.slot.frames f page (ap (option_map (λ (vm : VmSlot). vm.slot.frames)) e) (sym (ap (λ (s : Slot). s.frames) (slot-seen config h v v_low ∙ ap (slot_in (links_of h)) e))) low at
           ((lists-all (state_of config h) is.lawful).slots v f v_low own)
 
-  -- it has all places
+  -- a core has all places
   slots-whole : (v : ℕ) → v < slot_count config → HasPlace h.vms.numbers v
   slots-whole v low = by_vm (vm_at h v) refl
     where
@@ -126,7 +126,7 @@ module _ (config : Configuration) (h : Held) (is : IsCore config h) where
               ap (λ x. Some (free_ends x)) (chain-ends (links_of h) ends (listed (links_of h) ends) chain ∙ ap (λ there. ends_of (list_in (links_of h) there)) (sym e))
 
 module _ (m : State) (calls : List Call) (footprints : ℕ → Resources) (are : AreApart m calls footprints) where
-  -- the footprints of earlier calls have nothing of a later one's
+  -- the footprints of earlier calls have nothing that a later call's has
   pub out-earlier : (i k : ℕ) (r : Resource) → i ≤ k → k < length calls → footprints k r ≡ true → out footprints (down_from i) r ≡ false
   out-earlier zero k r le low e = refl
   out-earlier (suc i) k r le low e =
@@ -215,7 +215,7 @@ module _ (m : State) (calls : List Call) (footprints : ℕ → Resources) (membe
         parts = restricted-after s (footprints_at footprints members i) task.parts done.left.parts call done.reply lawful closed at.parts needs answer;
       }
 
--- what stands in a list doesn't rest on what is said where there is nothing
+-- what a list has does not depend on the default for what it does not have
 pub any-default : {X : Type 0} (xs : List X) (i : ℕ) (a b : X) → i < length xs → get_or xs i a ≡ get_or xs i b
 any-default [] i a b low = absurd (omega (arith, low))
 any-default (x ∷ xs) zero a b low = refl

@@ -25,7 +25,7 @@ wiped-page (Some p) page e = ap (λ (x : Page). x.bytes) (sym (same_Some (scrubb
 page-clean : (h : Held) (f : ℕ) → page_at (record h { pages = map scrubbed_page h.pages }) f ≡ option_map scrubbed_page (page_at h f)
 page-clean h f = ap (λ n. slice_get (map scrubbed_page h.pages) (cond (is_filled h.numbers h.filled f) (place_of h.numbers f) n)) (length-map h.pages scrubbed_page) ∙ slice_get-map scrubbed_page h.pages (place_in h f)
 
--- pages that were wiped have no bytes but zeros
+-- pages that were wiped have only zero bytes
 pub no-bytes : (config : Configuration) (h : Held) → HasNoBytes (record h { pages = map scrubbed_page h.pages })
 no-bytes config h f page e = wiped-page (page_at h f) page (sym (page-clean h f) ∙ e)
 

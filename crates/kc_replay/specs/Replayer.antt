@@ -7,13 +7,14 @@ use Rattle.kc_model.specs.Next.{replies_from, state_after}
 use Rattle.kc_model.specs.Blind.{ShowsNothing}
 use Rattle.kc_replay.specs.declared.segment.Outcome.{Outcome}
 
--- the state that the calls so far left, none after a segment that failed, how many calls came, and how many workers may take them
+-- the state that the calls so far left, or none after a segment that failed; the number of calls so far; and the
+-- number of workers
 pub record Replaying : Type 0 where
   pub state : Option State
   pub fed : ℕ
   pub workers : ℕ
 
--- the replies to some calls and the state behind them are those of one thread
+-- the replies to some calls and the state after them are those of one thread
 pub record IsFed (before after : Replaying) (calls : List Call) (replies : List Reply) : Type 0 where
   pub start : State
   pub from : before.state ≡ Some start
@@ -22,7 +23,7 @@ pub record IsFed (before after : Replaying) (calls : List Call) (replies : List 
   pub fed : after.fed ≡ before.fed + length calls
   pub workers : after.workers ≡ before.workers
 
--- the replies and the core are those of one thread that takes the calls in order, and neither shows what no VM granted
+-- the replies and the core are those of one thread that makes the calls in order, and neither shows what no VM granted
 pub record IsReplayOf (m : State) (calls : List Call) (outcome : Outcome) : Type 0 where
   pub replies : outcome.replies.items ≡ replies_from m calls
   pub state : outcome.core ≡ state_after m calls
@@ -33,7 +34,7 @@ unfoldable pub replies_to_each : State → List (List Call) → List Reply
 replies_to_each m [] = []
 replies_to_each m (calls ∷ segments) = replies_from m calls ++ replies_to_each (state_after m calls) segments
 
--- the state behind segments in turn
+-- the state after segments in turn
 unfoldable pub state_after_each : State → List (List Call) → State
 state_after_each m [] = m
 state_after_each m (calls ∷ segments) = state_after_each (state_after m calls) segments

@@ -24,7 +24,7 @@ use Rattle.kc_replay.specs.declared.task.Finished.{Finished}
 pub record AreApart (m : State) (calls : List Call) (footprints : ℕ → Resources) : Type 0 where
   pub needs : (k : ℕ) → k < length calls → IsWithin (need m (call_at calls k)) (footprints k)
   pub exist : (k : ℕ) → k < length calls → IsWithin (footprints k) (exists_in m.config)
-  -- a footprint has no list but those that its call needs
+  -- a footprint has no list except those that its call needs
   pub slots : (k v : ℕ) → k < length calls → footprints k (resource.Vm v) ≡ true → need m (call_at calls k) (resource.Vm v) ≡ true
   pub free : (k : ℕ) → k < length calls → footprints k resource.Free ≡ true → need m (call_at calls k) resource.Free ≡ true
   pub apart : (j k : ℕ) (r : Resource) → j < length calls → k < length calls → j ≢ k → footprints j r ≡ true → footprints k r ≡ true → ⊥
@@ -33,12 +33,12 @@ pub record AreApart (m : State) (calls : List Call) (footprints : ℕ → Resour
 abbrev pub out : (ℕ → Resources) → List ℕ → Resources
 out footprints ks r = list_any (λ k. footprints k r) ks
 
--- the store lacks what the calls may touch, and has all else of the state
+-- the store lacks what the calls may touch, and has everything else of the state
 pub record IsRest (m : State) (footprints : ℕ → Resources) (ks : List ℕ) (h : Held) : Type 0 where
   pub parts : (r : Resource) → seen_at h r ≡ cond (out footprints ks r) None (cond (exists_in m.config r) (Some (linked_part_of m r)) None)
   pub capacities : (v : ℕ) (vm : VmSlot) → vm_at h v ≡ Some vm → vm.capacity ≡ m.config.leaves
 
--- the store has a place for all of the configuration
+-- the store has a place for everything in the configuration
 pub record HasPlaces (config : Configuration) (h : Held) : Type 0 where
   pub numbers : h.numbers ≡ range_with_len 0 config.frames
   pub slots : (v : ℕ) → v < slot_count config → HasPlace h.vms.numbers v
@@ -71,10 +71,10 @@ pub record IsWave (m : State) (calls : List Call) (footprints : ℕ → Resource
   pub lawful : IsLawful m
   pub within : (i : ℕ) → i < length members → slice_index_or members i 0 < length calls
   pub apart : AreApart m (wave_calls calls members) (footprints_at footprints members)
-  -- no call stands twice
+  -- no call is in the wave twice
   pub once : (i j : ℕ) → i < length members → j < length members → i ≢ j → slice_index_or members i 0 ≢ slice_index_or members j 0
 
--- the first numbers, the highest first
+-- the first numbers in descending order
 abbrev pub down_from : ℕ → List ℕ
 down_from zero = []
 down_from (suc i) = i ∷ down_from i
@@ -89,17 +89,17 @@ pub record IsFinishedAt (m : State) (calls : List Call) (footprints : ℕ → Re
   pub reply : done.reply ≡ reply_at m (wave_calls calls members) i
   pub parts : IsRestricted (state_at m (wave_calls calls members) (suc i)) (footprints_at footprints members i) done.left.parts
 
--- the wave's calls have their replies, and all else is as before
+-- the wave's calls have their replies, and all others are as before
 pub record AreReplied (m : State) (calls : List Call) (members : List ℕ) (old new : List Reply) : Type 0 where
   pub given : (i : ℕ) → i < length members → slice_index_or new (slice_index_or members i 0) Done ≡ reply_at m (wave_calls calls members) i
   pub kept : (k : ℕ) → ((i : ℕ) → i < length members → slice_index_or members i 0 ≢ k) → slice_index_or new k Done ≡ slice_index_or old k Done
   pub size : length new ≡ length old
 
--- no page that is here has bytes but zeros
+-- no page that is here has bytes other than zero
 abbrev pub HasNoBytes : Held → Type 0
 HasNoBytes h = (f : ℕ) (page : Page) → page_at h f ≡ Some page → page.bytes ≡ zero_page
 
--- what is left of a core that failed, wiped: it has the places of the configuration, and no page with bytes but zeros
+-- what is left of a core that failed and was wiped: it has the places of the configuration, and all its bytes are zero
 pub record IsWiped (config : Configuration) (left : Held) : Type 0 where
   pub places : HasPlaces config left
   pub bytes : HasNoBytes left

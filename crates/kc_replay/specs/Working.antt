@@ -22,6 +22,6 @@ pub record Finishes (config : Configuration) (calls : List Call) (task : Task) (
 abbrev pub AnswersAll : Configuration → List Call → List Task → List Finished → Type 0
 AnswersAll config calls tasks done = AllZip (Finishes config calls) tasks done
 
--- what stands for no configuration
+-- a configuration for a setting that has none
 abbrev pub no_config : Configuration
 no_config = record { version = One; frames = 0; core = 0; host = 0; leaves = 0; approved = [] }

@@ -1,19 +1,19 @@
-//! What may be spent on plans, so that workers cost little more than one thread where they gain nothing.
+//! What may be spent on plans, so that workers cost little more than one thread even if they gain nothing.
 
-/// What footprints and a plan take for a call, in the time that they take for a frame of the core (some 30 ns).
+/// What footprints and a plan cost for a call, in units of what they cost for a frame of the core (about 30 ns).
 const PLAN_FOR_A_CALL: u64 = 32;
 
-/// What is put by for plans when a call is made: about a fifth of what the shortest calls take.
+/// What each call saves up for plans: about a fifth of what the shortest calls take.
 const EARNED_BY_A_CALL: u64 = 3;
 
-/// What is put by for plans when workers hash a frame: about a fifth of what SHA-256 takes for it.
+/// What each frame that workers hash saves up for plans: about a fifth of what SHA-256 takes for it.
 const EARNED_BY_A_FRAME: u64 = 96;
 
-/// What is there from the start: a plan of 4,096 calls of a core of 65,536 frames, some 6 ms.
+/// What is there at the start: the price of a plan of 4,096 calls of a core of 65,536 frames, about 6 ms.
 const START: u64 = 65_536 + 4_096 * PLAN_FOR_A_CALL;
 
-/// What may be spent on plans. A plan that starts no thread is time lost, and what a segment will hash shows only in its
-/// plan; so plans are paid for out of what calls and frames take.
+/// What may be spent on plans. A plan that starts no thread is time lost, and how much a segment will hash is only
+/// known once it is planned; so plans are paid for out of the time that calls and frames take.
 #[derive(Clone, Copy)]
 pub(crate) struct Budget {
     left: u64,
@@ -29,20 +29,20 @@ impl Budget {
         }
     }
 
-    /// Puts by for calls that are made.
+    /// Saves up for calls that are made.
     pub(crate) fn add_calls(&mut self, calls: usize) {
         let earned = EARNED_BY_A_CALL.saturating_mul(calls as u64);
         self.left = self.left.saturating_add(earned);
     }
 
-    /// Puts by for frames that workers hash.
+    /// Saves up for frames that workers hash.
     pub(crate) fn add_frames(&mut self, frames: u32) {
         let earned = EARNED_BY_A_FRAME.saturating_mul(u64::from(frames));
         self.left = self.left.saturating_add(earned);
     }
 
-    /// Pays for a plan of some calls of a core of so many frames, if there is enough for it. The first plan is made at any
-    /// price, so that a trace which comes in one piece has one.
+    /// Pays for a plan of some calls of a core of this many frames, if there is enough for it. The first plan is made
+    /// at any price, so that a trace that comes in one piece has one.
     pub(crate) fn pay(&mut self, frames: u32, calls: usize) -> bool {
         let price = PLAN_FOR_A_CALL
             .saturating_mul(calls as u64)

@@ -5,7 +5,7 @@ use kc_footprints::Footprints;
 use kc_types::Call;
 use std::alloc::Global;
 
-/// Who makes calls: 1 to 64 workers, with memory from here, and each call let through by the gate.
+/// Who makes calls: 1 to 64 workers, the allocator that they use, and the gate that lets each call through.
 #[derive(Drop)]
 pub(crate) struct Crew<'a, R, G: Gate> {
     pub(crate) rt: &'a R,

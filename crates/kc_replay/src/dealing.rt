@@ -1,4 +1,4 @@
-//! The tasks of a wave dealt to workers, and what they left taken back.
+//! Dealing the tasks of a wave to workers, and taking back what they left.
 ghost use Rattle.std.specs.Prelude.{◌≡◌, ◌<◌, ◌%◌, ◌++◌, ◌∷◌, [], length, get_or, map, replicate, set, IfOk, OnOk};
 ghost use Rattle.kc_replay.specs.Dealing.{with_dealt};
 
@@ -6,7 +6,7 @@ use crate::task::{Finished, Task};
 use kc_types::Memory;
 use std::alloc::Global;
 
-/// A list for each worker, with no task yet.
+/// Makes a list for each worker, with no task yet.
 pub(crate) fn no_tasks(alloc: Global, workers: usize) -> Result<Vec<Vec<Task>>, Memory>
     ensures { IfOk result (λ lists. map (λ list. list.items) lists.items ≡ replicate workers []) }
 {
@@ -17,8 +17,8 @@ pub(crate) fn no_tasks(alloc: Global, workers: usize) -> Result<Vec<Vec<Task>>, 
     Ok(lists)
 }
 
-/// Deals the task of a wave's call to the worker whose number is the call's place in the wave, modulo how many workers
-/// there are.
+/// Deals the task of a wave's call to the worker whose number is the call's place in the wave modulo the number of
+/// workers.
 pub(crate) fn deal(lists: &mut Vec<Vec<Task>>, place: usize, task: Task) -> Result<(), Memory>
     requires { 0 < length lists.old.items }
     ensures { OnOk result (map (λ list. list.items) lists.new.items ≡ with_dealt (map (λ list. list.items) lists.old.items) place task) }

@@ -1,4 +1,4 @@
-//! What a segment leaves that failed.
+//! What a failed segment leaves.
 ghost use Rattle.std.specs.Prelude.{◌≡◌};
 ghost use Rattle.kc_replay.specs.Wave.{IsWiped};
 
@@ -15,7 +15,7 @@ pub(crate) struct Failed {
 }
 
 impl Failed {
-    /// `Memory`, and the parts of a core that is wiped first, by several threads.
+    /// `Memory`, and the parts of a core, which is wiped first, with several threads.
     pub(crate) fn for_memory<R: Threads + Sync>(rt: &R, core: KCore) -> Failed
         ensures fault { result.fault ≡ ReplayFault.Memory }
         ensures wiped { IsWiped core.config result.left }

@@ -3,19 +3,19 @@ use kc_types::Memory;
 use std::alloc::{AllocError, AllocFailed};
 use thiserror::Error;
 
-/// Why a replay gave no outcome.
+/// Why a replay has no outcome.
 #[derive(Clone, Copy, Debug, PartialEq, Eq, Error)]
 pub enum ReplayFault {
     /// The number of workers is 0 or above 64.
     #[error("bad number of workers")]
     BadWorkers,
-    /// A growth of memory was refused.
+    /// Memory could not be had.
     #[error("out of memory")]
     Memory,
     /// A worker could not be started.
     #[error("a worker could not be started")]
     Start,
-    /// A segment of the trace failed before.
+    /// An earlier segment of the trace failed.
     #[error("an earlier segment failed")]
     Broken,
 }

@@ -1,5 +1,5 @@
-//! What each call of a trace may touch that starts from a core, the waves in which the calls are taken, and the calls
-//! taken by workers, wave after wave, with what one thread gives that takes them in order.
+//! What each call of a trace from a core on may touch, the waves in which the calls are made, and workers that make
+//! them wave after wave, with the results of one thread that makes them in order.
 #![tactic(auto)]
 
 mod budget;

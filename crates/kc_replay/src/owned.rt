@@ -1,4 +1,4 @@
-//! Which slot owns a frame at the start of a trace, or that the free list does.
+//! Which frames each slot and the free list own at the start of a trace.
 ghost use Rattle.std.specs.Prelude.{◌≡◌, ◌+◌, ◌<◌, IfOk};
 ghost use Rattle.kc_types.specs.Configuration.{slot_count};
 ghost use Rattle.kc_footprints.specs.Owned.{IsOwned, principal_of};
@@ -8,7 +8,7 @@ use kc_core::KCore;
 use kc_types::{Memory, Owner};
 use std::alloc::Global;
 
-/// The number of an owner: a slot's is its own, that of the free list comes after them; others have none.
+/// The number of an owner: a slot's is its own, that of the free list comes after them, and others have none.
 fn principal_of(owner: Owner, slots: usize) -> Option<usize>
     ensures { result ≡ principal_of slots owner }
 {

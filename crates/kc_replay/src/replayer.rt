@@ -22,11 +22,11 @@ use std::marker::Model;
 use std::sync::Wait;
 use std::thread::Threads;
 
-/// The gate of a segment: it tells its calls by their places in the whole trace.
+/// The gate of a segment, which gives calls the numbers of their places in the whole trace.
 #[derive(Drop)]
 struct SegmentGate<'a, G: Gate> {
     gate: &'a G,
-    /// How many calls came before the segment.
+    /// The number of calls before the segment.
     fed: usize,
 }
 
@@ -44,14 +44,15 @@ impl<'a, G: Gate> Gate for SegmentGate<'a, G> {
     }
 }
 
-/// A replay whose trace comes in segments, cut anywhere. Between two segments it is the core that the calls so far leave;
-/// what each call may touch is worked out anew in each segment, so no segment costs more for what came before it.
+/// A replay whose trace comes in segments, cut anywhere. Between two segments it is the core that the calls so far
+/// leave; what each call may touch is worked out anew in each segment, so that no segment costs more because of
+/// earlier ones.
 #[derive(Drop)]
 pub struct Replayer {
-    /// The core; none after a segment that failed.
+    /// The core; `None` after a segment that failed.
     core: Option<KCore>,
     workers: usize,
-    /// How many calls came so far.
+    /// The number of calls so far.
     fed: usize,
     budget: Budget,
 }
@@ -74,8 +75,8 @@ impl Model for Replayer {
 }
 
 impl Replayer {
-    /// A replay in the boot state, by 1 to 64 workers: `BadWorkers` for any other number of them, which is judged first,
-    /// and `Memory` where a growth was refused.
+    /// Starts a replay in the boot state, by 1 to 64 workers: `BadWorkers` for any other number, which is judged
+    /// first, and `Memory` if memory cannot be had.
     pub fn new(alloc: Global, config: Config, workers: usize) -> Result<Replayer, ReplayFault>
         ensures start { IfOk result (λ replayer. replayer ≡ record { state = Some (boot config); fed = 0; workers = workers }) }
         ensures lawful { OnOk result (IsLawful (boot config)) }
@@ -92,7 +93,7 @@ impl Replayer {
         }
     }
 
-    /// A replay from a core on, by 1 to 64 workers: `BadWorkers` for any other number of them, and no other fault.
+    /// Starts a replay from a core on, by 1 to 64 workers: `BadWorkers` for any other number, and no other fault.
     pub fn from_core(core: KCore, workers: usize) -> Result<Replayer, ReplayFault>
         ensures start { IfOk result (λ replayer. replayer ≡ record { state = Some core; fed = 0; workers = workers }) }
         ensures workers { OnOk result ((0 < workers) × (workers ≤ worker_limit)) }
@@ -109,7 +110,7 @@ impl Replayer {
         })
     }
 
-    /// How many calls may still come: 65,536 less those that came.
+    /// The number of calls that may still come: 65,536 less those that came.
     pub fn left(&self) -> usize
         ensures value { result ≡ call_limit - self.now.fed }
         ensures few { self.now.fed ≤ call_limit }
@@ -117,11 +118,11 @@ impl Replayer {
         CALL_LIMIT - self.fed
     }
 
-    /// Makes the calls of a segment, and gives their replies in its order: replies, page records, lists, tables and bytes
-    /// are those of one thread that takes all calls in the order of the trace. The gate is told each call by its place in
-    /// the whole trace.
+    /// Makes the calls of a segment, and returns their replies in its order: replies, page records, lists, tables and
+    /// bytes are those of one thread that makes all calls in the order of the trace. The gate is given each call's
+    /// place in the whole trace.
     ///
-    /// `Start` where a worker could not be started, else `Memory` where a growth was refused; then all pages are wiped,
+    /// `Start` if a worker could not be started, otherwise `Memory` if memory cannot be had; then all pages are wiped,
     /// and every further answer is `Broken`.
     pub fn feed<R: Threads + Wait + Sync, G: Gate + Sync>(
         &mut self,
@@ -166,7 +167,7 @@ impl Replayer {
         }
     }
 
-    /// The core that the calls so far leave; none where a segment failed.
+    /// The core that the calls so far leave; `None` if a segment failed.
     pub fn core(&self) -> Option<&KCore>
         ensures { option_map (λ core. core.now) result ≡ self.now.state }
     {
@@ -180,7 +181,7 @@ impl Replayer {
         self.fed = 0;
     }
 
-    /// The core that all calls leave; `Broken` where a segment failed.
+    /// Returns the core that all calls leave; `Broken` if a segment failed.
     pub fn finish(self) -> Result<KCore, ReplayFault>
         ensures core { IfOk result (λ core. self.state ≡ Some core) }
         ensures broken { IfErr result (λ fault. (fault ≡ Broken) × (self.state ≡ None)) }
@@ -193,9 +194,9 @@ impl Replayer {
 }
 
 /// Makes the calls of a trace from the boot state on, by 1 to 64 workers: the replies, in the order of the trace, and
-/// the core with its page records, lists, tables and bytes are those of one thread that takes the calls in that order.
-/// `BadWorkers` for any other number of workers; `Start` where a worker could not be started, else `Memory` where a
-/// growth was refused, and then all pages are wiped.
+/// the core with its page records, lists, tables and bytes are those of one thread that makes the calls in that order.
+/// `BadWorkers` for any other number of workers; `Start` if a worker could not be started, otherwise `Memory` if
+/// memory cannot be had, and then all pages are wiped.
 pub fn replay<R: Threads + Wait + Sync, G: Gate + Sync>(
     rt: &R,
     alloc: Global,
@@ -221,10 +222,10 @@ pub fn replay<R: Threads + Wait + Sync, G: Gate + Sync>(
     Ok(Outcome { replies, core })
 }
 
-/// Makes the calls of a volume from a core on, by 1 to 64 workers: the replies, in the order of the volume, and the core
-/// with its page records, lists, tables and bytes are those of one thread that takes the calls in that order.
-/// `BadWorkers` for any other number of workers; `Start` where a worker could not be started, else `Memory` where a
-/// growth was refused, and then all pages are wiped.
+/// Makes the calls of a volume from a core on, by 1 to 64 workers: the replies, in the order of the volume, and the
+/// core with its page records, lists, tables and bytes are those of one thread that makes the calls in that order.
+/// `BadWorkers` for any other number of workers; `Start` if a worker could not be started, otherwise `Memory` if
+/// memory cannot be had, and then all pages are wiped.
 pub fn replay_from<R: Threads + Wait + Sync, G: Gate + Sync>(
     rt: &R,
     alloc: Global,

@@ -55,7 +55,7 @@ fn answer_wave<G: Gate>(
     Ok(())
 }
 
-/// Makes the calls of a wave by workers.
+/// Has the calls of a wave made by workers.
 fn share_wave<R: Threads + Wait + Sync, G: Gate + Sync>(
     crew: &Crew<R, G>,
     core: KCore,
@@ -78,22 +78,22 @@ fn share_wave<R: Threads + Wait + Sync, G: Gate + Sync>(
     }
 }
 
-/// So many frames to hash are worth a thread. A frame takes SHA-256 some 12 to 15 µs (8,192 frames 94 to 124 ms on one
-/// thread), so these take 0.4 ms and more, where starting a thread takes 0.02 to 0.03 ms.
+/// The number of frames to hash that is worth a thread. SHA-256 takes about 12 to 15 µs for a frame (8,192 frames take
+/// 94 to 124 ms on one thread), so these take 0.4 ms or more; starting a thread takes 0.02 to 0.03 ms.
 const FRAMES_WORTH_A_THREAD: u32 = 32;
 
-/// So many parts may be taken out for each frame that is hashed beside others. One that is taken out and put back takes
-/// some 0.1 to 1 µs, most of it for the blank page that takes its place, so these take at most a third of what is gained.
-/// What other calls do costs no more than taking parts out.
+/// The number of parts that may be taken out for each frame that is hashed beside others. Taking a part out and
+/// putting it back takes about 0.1 to 1 µs, most of it for the blank page that takes its place, so these take at most
+/// a third of what is gained. What other calls do costs no more than taking parts out.
 const PARTS_FOR_A_FRAME: u32 = 4;
 
-/// So many parts, and one for five frames of the core, may be out at once: a blank page takes as much memory as the page
-/// in whose place it stands.
+/// The number of parts that may be out at once, besides one for every five frames of the core: a blank page takes as
+/// much memory as the page that it replaces.
 const PARTS_OUT: u32 = 512;
 
 const FRAMES_FOR_A_PART: u32 = 5;
 
-/// How many frames a call hashes.
+/// The number of frames that a call hashes.
 fn hashed(core: &KCore, call: &Call) -> u32 {
     match call {
         Call::Verify { vm } => core.frames_to_hash(*vm),
@@ -104,13 +104,13 @@ fn hashed(core: &KCore, call: &Call) -> u32 {
 /// What the calls of a wave hash, and what they take out.
 #[derive(Clone, Copy)]
 struct Work {
-    /// How many calls hash frames.
+    /// The number of calls that hash frames.
     hashing: usize,
-    /// How many frames all of them hash.
+    /// The number of frames that all of them hash.
     frames: u32,
-    /// How many frames they hash but the longest of them.
+    /// The number of frames that they hash, except the longest of them.
     beside: u32,
-    /// How many parts the calls may touch, at most.
+    /// The most parts that the calls may touch.
     parts: u32,
 }
 
@@ -139,8 +139,8 @@ impl Work {
         }
     }
 
-    /// How many threads this is worth in a core of so many frames: one for the longest call, and one more for as many
-    /// frames as are worth a thread, if what all calls may touch may be taken out for that.
+    /// The number of threads that this is worth in a core of this many frames: one for the longest call, and one more
+    /// for each group of frames worth a thread, if all that the calls may touch may be taken out for that.
     fn threads(&self, frames: u32) -> usize {
         let most_out = PARTS_OUT + frames / FRAMES_FOR_A_PART;
         if self.parts > most_out || self.parts / PARTS_FOR_A_FRAME > self.beside {
@@ -151,7 +151,7 @@ impl Work {
     }
 }
 
-/// Makes the calls of a wave: by workers where a call may wait for another, or where that is worth it.
+/// Makes the calls of a wave: by workers if a call may wait for another, or if they are worth starting.
 fn take_wave<R: Threads + Wait + Sync, G: Gate + Sync>(
     crew: &Crew<R, G>,
     core: KCore,
@@ -185,7 +185,7 @@ fn take_wave<R: Threads + Wait + Sync, G: Gate + Sync>(
     Ok(core)
 }
 
-/// A reply for each call, to be written over.
+/// Makes a reply for each call, to be replaced.
 fn no_replies(alloc: Global, count: usize) -> Result<Vec<Reply>, Memory>
     ensures { IfOk result (λ replies. length replies.items ≡ count) }
 {
@@ -255,7 +255,7 @@ fn replay_waves<R: Threads + Wait + Sync, G: Gate + Sync>(
     })
 }
 
-/// Makes some calls by workers. Where that fails all pages are wiped.
+/// Makes some calls by workers. If that fails, all pages are wiped.
 fn answer_by_waves<R: Threads + Wait + Sync, G: Gate + Sync>(
     crew: &Crew<R, G>,
     core: KCore,
@@ -273,7 +273,7 @@ fn answer_by_waves<R: Threads + Wait + Sync, G: Gate + Sync>(
     replay_waves(crew, core, calls, prepared, budget)
 }
 
-/// Makes some calls in their order, on this thread, and tells the gate of each. Where that fails all pages are wiped.
+/// Makes some calls in order on this thread, passing each through the gate. If that fails, all pages are wiped.
 fn answer_in_order<R: Threads + Sync, G: Gate>(
     crew: &Crew<R, G>,
     core: KCore,
@@ -301,7 +301,7 @@ fn answer_in_order<R: Threads + Sync, G: Gate>(
     Ok(Outcome { replies, core })
 }
 
-/// Whether at least two of the calls hash frames.
+/// Whether at least two of the calls are `verify`, which hashes frames.
 fn hash_twice(calls: &[Call]) -> bool {
     let mut hashing = 0;
     for call in calls {
@@ -315,14 +315,14 @@ fn hash_twice(calls: &[Call]) -> bool {
     false
 }
 
-/// Whether some calls are worth a plan, and it is paid for.
+/// Whether some calls are worth a plan, and the plan is paid for.
 fn is_planned<G: Gate>(core: &KCore, calls: &[Call], gate: &G, budget: &mut Budget) -> bool {
     gate.may_wait() || hash_twice(calls) && budget.pay(core.config().frames(), calls.len())
 }
 
-/// Makes some calls: by workers where there are at least two of each, and a call may wait for another or two may be worth
-/// a thread, since they hash frames, and a plan may be paid for. No other wave would start a thread, so no plan is made
-/// for it. Where that fails all pages are wiped.
+/// Answers one segment. Uses workers if there are at least two workers and two calls, and if either the gate may wait,
+/// or at least two calls hash frames and the budget pays for a plan. No other segment would start a thread, so no plan
+/// is made for it. If that fails, all pages are wiped.
 pub(crate) fn answer_segment<R: Threads + Wait + Sync, G: Gate + Sync>(
     crew: &Crew<R, G>,
     core: KCore,

@@ -3,7 +3,7 @@
 use kc_parts::Parts;
 use kc_types::Reply;
 
-/// A call with parts on which it can be made, or that it left.
+/// A call with parts on which it can be made, or which it left.
 #[derive(Drop)]
 pub(crate) struct Task {
     /// The call's place in the trace.

@@ -1,4 +1,4 @@
-//! What the calls of a trace may touch that starts from a core.
+//! What the calls of a trace from a core on may touch.
 ghost use Rattle.std.specs.Prelude.{◌<◌, ◌^◌, length, IfOk};
 ghost use Rattle.kc_footprints.specs.Footprints.{AreFootprints};
 
@@ -8,8 +8,9 @@ use kc_footprints::{Footprints, footprints_from};
 use kc_types::{Call, Memory};
 use std::alloc::Global;
 
-/// What the calls of a trace may touch that starts from this core, and their waves, which count from 1; `Memory` where
-/// a growth was refused. There are fewer than 2^32 calls, since a wave's number is a `u32`; a trace has at most 65,536.
+/// What the calls of a trace that starts from this core may touch, and their waves, which count from 1; `Memory` if
+/// memory cannot be had. There are fewer than 2^32 calls, since a wave's number is a `u32`; a trace has at most
+/// 65,536.
 pub fn footprints(alloc: Global, core: &KCore, calls: &[Call]) -> Result<Footprints, Memory>
     requires { length calls.now < 2 ^ 32 }
     ensures { IfOk result (AreFootprints core.now calls.now) }

@@ -19,7 +19,7 @@ use std::alloc::Global;
 use std::sync::Wait;
 use std::thread::Threads;
 
-/// Takes out what the calls of a wave may touch, and deals it to workers.
+/// Takes out what the calls of a wave may touch, and deals it to workers as tasks.
 fn take_tasks(
     alloc: Global,
     store: &mut Parts,
@@ -55,7 +55,7 @@ fn write_reply(replies: &mut [Reply], number: usize, reply: Reply)
     replies[number] = reply;
 }
 
-/// Puts back what so many calls of a wave left, and writes their replies into their places.
+/// Puts back what this many calls of a wave left, and writes their replies into their places.
 fn put_all(store: &mut Parts, mut lists: Vec<Vec<Finished>>, count: usize, replies: &mut [Reply])
     ghost wave: { Wave }
     requires wave { IsWave wave.start wave.calls wave.footprints wave.members }
@@ -80,7 +80,7 @@ fn put_all(store: &mut Parts, mut lists: Vec<Vec<Finished>>, count: usize, repli
     }
 }
 
-/// Makes the calls of one wave, each on its own parts, and puts all back.
+/// Makes the calls of one wave, each on its own parts, and puts everything back.
 fn share_out<R: Threads + Wait + Sync, G: Gate + Sync>(
     crew: &Crew<R, G>,
     config: &Config,
@@ -107,8 +107,8 @@ fn share_out<R: Threads + Wait + Sync, G: Gate + Sync>(
     Ok(())
 }
 
-/// Makes the calls of one wave, each on its own parts, by as many workers, and puts all back. Where that fails, all
-/// pages are wiped: those of the store here, those that were out where they were dropped.
+/// Makes the calls of one wave, each on its own parts, by this many workers, and puts everything back. If that fails,
+/// all pages are wiped: those in the store here, and those that were out when they were dropped.
 pub(crate) fn run_wave<R: Threads + Wait + Sync, G: Gate + Sync>(
     crew: &Crew<R, G>,
     config: &Config,

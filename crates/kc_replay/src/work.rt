@@ -60,7 +60,7 @@ fn work<G: Gate>(
     Ok(done)
 }
 
-/// Stands for the configuration and the trace that workers are given, which their promise names.
+/// The configuration and the trace that workers are given, as their promise names them.
 pub(crate) trait Setting {
     ghost config: { Configuration };
 
@@ -81,7 +81,7 @@ impl<S: Setting> Promise<Result<Vec<Finished>, Memory>> for TasksOf<S> {
     ghost kept_by = { λ p r. IfOk r (λ done. AnswersAll S.config S.calls p.0.value.items done.items) };
 }
 
-/// A worker that runs.
+/// A running worker.
 type Running<S> = PromisedHandle<Result<Vec<Finished>, Memory>, TasksOf<S>>;
 
 /// Waits for all workers.
@@ -106,8 +106,8 @@ fn join_workers<R: Threads, S: Setting>(
     if short { Err(Memory) } else { Ok(all) }
 }
 
-/// Has the calls of each list made by a worker of its own, those of the last by the calling thread, and joins them all.
-/// `Start` where a worker could not be started, else `Memory` where a growth was refused.
+/// Has the calls of each list made by a worker of its own, those of the last list by the calling thread, and waits for
+/// all. `Start` if a worker could not be started, otherwise `Memory` if memory cannot be had.
 pub(crate) fn run_workers<R: Threads + Wait + Sync, G: Gate + Sync>(
     crew: &Crew<R, G>,
     config: &Config,
@@ -144,7 +144,7 @@ fn start_worker<'s, E, G: Gate + Sync, S: Setting>(
     }
 }
 
-/// Has the calls of each list made by a worker of its own, and those of one by the calling thread, and joins them all.
+/// Has the calls of each list made by a worker of its own, and those of one by the calling thread, and waits for all.
 fn run_beside<R: Threads + Wait + Sync, G: Gate + Sync, S: Setting>(
     crew: &Crew<R, G>,
     config: &Config,

@@ -50,7 +50,7 @@ pub trait Line {
         ensures line { text.new.items ≡ text.old.items ++ line self.now }
         ensures capacity { vec_capacity text.old ≤ vec_capacity text.new };
 
-    /// Lets go of it once its line was written out.
+    /// Ends it after its line was written out.
     fn end(self)
     where
         Self: Sized + Drop,

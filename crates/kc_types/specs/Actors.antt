@@ -4,7 +4,7 @@ use Rattle.kc_types.specs.declared.call.Call.TheVariants.{GuestRead, GuestWrite,
 use Rattle.kc_types.specs.declared.call.Actor.{Actor}
 use Rattle.kc_types.specs.declared.call.Actor.TheVariants.{Host, Vcpu}
 
--- a virtual processor reads, writes, grants, revokes and drops; the host makes all other calls
+-- a virtual processor makes reads, writes, grants, revokes and drops; the host makes all other calls
 abbrev pub actor : Call → Actor
 actor (GuestRead vm vcpu gfn offset len) = Vcpu vm vcpu
 actor (GuestWrite vm vcpu gfn offset bytes) = Vcpu vm vcpu

@@ -5,17 +5,17 @@ use Rattle.kc_types.specs.declared.data.Owned.{Owned}
 use Rattle.kc_types.specs.declared.data.Owned.TheVariants.{Short, Alone, Shared}
 use Rattle.kc_types.specs.declared.data.TheConstants.{SHORT_SIZE}
 
--- between one byte and a whole page of bytes
+-- there is at least one byte, and at most a whole page
 pub record IsData (bytes : List ℕ) : Type 0 where
   pub nonempty : 0 < length bytes
   pub within : length bytes ≤ page_size
   pub each_byte : All (λ b. b < 256) bytes
 
--- the most bytes that take no memory
+-- the most bytes that need no memory of their own
 abbrev pub short_size : ℕ
 short_size = SHORT_SIZE
 
--- the bytes, wherever they stand and whether one value owns them or several
+-- the bytes, wherever they are kept and whether one value owns them or several
 abbrev pub owned_bytes : Owned → List ℕ
 owned_bytes (Short bytes) = bytes.items
 owned_bytes (Alone bytes) = bytes

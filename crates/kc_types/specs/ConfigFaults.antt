@@ -5,7 +5,7 @@ use Rattle.kc_types.specs.Configuration.{Configuration, most_frames}
 use Rattle.kc_types.specs.declared.config.ConfigFault.{ConfigFault}
 use Rattle.kc_types.specs.declared.config.ConfigFault.TheVariants.{Frames, CoreHost, Leaves, TooManyDigests}
 
--- the first fault of a configuration; sums do not wrap
+-- the first fault of a configuration; sums do not wrap around
 abbrev pub fault_of : Configuration → Option ConfigFault
 fault_of c =
     if c.frames == 0 || nat_lt (most_frames c.version) c.frames then Some Frames
@@ -14,7 +14,7 @@ fault_of c =
     else (if nat_lt digest_limit (length c.approved) then Some TooManyDigests
     else None)))
 
--- the configuration that was asked for where it has no fault, and its first fault else
+-- the result is the wanted configuration if it has no fault, and otherwise its first fault
 abbrev pub Configures : Result Configuration ConfigFault → Configuration → Type 0
 Configures (Ok config) wanted = (fault_of wanted ≡ None) × (config ≡ wanted)
 Configures (Err fault) wanted = fault_of wanted ≡ Some fault

@@ -9,13 +9,13 @@ abbrev pub most_frames : Version → ℕ
 most_frames One = first_frame_limit
 most_frames Two = frame_limit
 
--- the VM slots of a core
+-- the number of VM slots of a core
 abbrev pub slots_of : Version → ℕ
 slots_of One = first_slot_limit
 slots_of Two = slot_limit
 
--- `version` sets the limits; `frames` are all frames, the first `core` of them are the core's for ever, the next `host` are the host's at boot;
--- `leaves` are the leaf tables of each VM; `approved` are the SHA-256 digests of boot images that may run
+-- `version` sets the limits; of all `frames` the first `core` are the core's for ever and the next `host` are the
+-- host's at boot; each VM has `leaves` leaf tables; `approved` are the SHA-256 digests of the boot images that may run
 pub record Configuration : Type 0 where
   pub version : Version
   pub frames : ℕ
@@ -24,11 +24,11 @@ pub record Configuration : Type 0 where
   pub leaves : ℕ
   pub approved : List (List ℕ)
 
--- how many VM slots there are
+-- the number of VM slots
 unfoldable pub slot_count : Configuration → ℕ
 slot_count c = slots_of c.version
 
--- what every configuration keeps
+-- every configuration keeps these limits
 pub record IsConfiguration (c : Configuration) : Type 0 where
   pub some_frames : 0 < c.frames
   pub few_frames : c.frames ≤ most_frames c.version

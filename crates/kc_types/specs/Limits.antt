@@ -1,4 +1,4 @@
--- The limits of `src/limits.rt`, as definitions name them.
+-- The limits of `src/limits.rt`, under the names that definitions use.
 use Rattle.std.specs.Prelude.{ℕ}
 use Rattle.kc_types.specs.declared.limits.TheConstants.{PAGE_SIZE, FRAME_LIMIT, FIRST_FRAME_LIMIT, SLOT_LIMIT, FIRST_SLOT_LIMIT, VCPU_LIMIT, GFN_LIMIT, LEAF_ENTRIES, LEAF_LIMIT, IMAGE_LIMIT, IMAGE_SIZE_LIMIT, DIGEST_LIMIT, SHARE_LIMIT, RANGE_LIMIT, CALL_LIMIT, WORKER_LIMIT, LINE_LIMIT, BYTE_LIMIT}
 

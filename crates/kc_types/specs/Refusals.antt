@@ -1,4 +1,4 @@
--- The number and the name of each refusal, and when an answer is one.
+-- The number and the name of each refusal, and when a result is one.
 use Rattle.std.specs.Prelude.{ℕ, ◌≡◌, List, codes, Option, Some, None, Result, Ok, Err}
 use Rattle.kc_types.specs.declared.refusal.Refusal.{Refusal}
 use Rattle.kc_types.specs.declared.refusal.Refusal.TheVariants.{BadVm, BadVcpu, BadFrame, BadGfn, BadRange, SlotUsed, NoVm, WrongPhase, VcpuUsed, NoVcpu, ImagesFull, Overlap, NoImage, ImageFull, ImageShort, NoFault, Mapped, NotMapped, NotHost, Protected, NotPresent, TablesFull, ShareFull, NotShared, Shared, NoFree}
@@ -32,7 +32,7 @@ number_of NotShared = 24
 number_of Shared = 25
 number_of NoFree = 26
 
--- the word that stands for it in texts
+-- the name of a refusal in texts
 abbrev pub name_of : Refusal → List ℕ
 name_of BadVm = codes "bad-vm"
 name_of BadVcpu = codes "bad-vcpu"
@@ -61,7 +61,7 @@ name_of NotShared = codes "not-shared"
 name_of Shared = codes "shared"
 name_of NoFree = codes "no-free"
 
--- the result is an error exactly where there is a refusal, and that refusal
+-- the result is an error exactly if there is a refusal, and then the error is that refusal
 abbrev pub Answers : {X Refused : Type 0} → Result X Refused → Option Refused → Type 0
 Answers (Ok x) refusal = refusal ≡ None
 Answers (Err e) refusal = refusal ≡ Some e

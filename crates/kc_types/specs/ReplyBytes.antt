@@ -1,4 +1,4 @@
--- How many bytes a reply carries, and how many the reply to a call may carry.
+-- The number of bytes that a reply carries, and the most that the reply to a call may carry.
 use Rattle.std.specs.Prelude.{ℕ, Bool, true, false, length, nat_le, if◌then◌else◌}
 use Rattle.kc_types.specs.Limits.{page_size}
 use Rattle.kc_types.specs.declared.call.Call.{Call}
@@ -6,7 +6,7 @@ use Rattle.kc_types.specs.declared.call.Call.TheVariants.{HostRead, GuestRead}
 use Rattle.kc_types.specs.declared.reply.Reply.{Reply}
 use Rattle.kc_types.specs.declared.reply.Reply.TheVariants.{Data}
 
--- the bytes that a reply carries
+-- the number of bytes that a reply carries
 abbrev pub bytes_in : Reply → ℕ
 bytes_in (Data bytes) = length bytes
 bytes_in _ = 0
@@ -16,7 +16,7 @@ abbrev pub is_data : Reply → Bool
 is_data (Data bytes) = true
 is_data _ = false
 
--- the bytes of a read, which is refused where it asks for more than a page
+-- the most bytes that a read may answer: it is refused if it asks for more than a page
 abbrev pub readable : ℕ → ℕ
 readable len = if nat_le len page_size then len else 0
 

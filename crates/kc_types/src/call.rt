@@ -7,17 +7,17 @@ use crate::{Data, Memory};
 use std::alloc::Global;
 
 /// A call with its raw numbers, which are judged when it is answered: frames, slots (`vm`), virtual processors
-/// (`vcpu`), guest frames (`gfn`, `base`), images, and offsets and lengths in bytes. Two are equal where they
-/// say the same, of data the same bytes.
+/// (`vcpu`), guest frames (`gfn`, `base`), images, and offsets and lengths in bytes. Calls are equal if their numbers
+/// and bytes are.
 #[derive(Debug, Drop, PartialEq)]
 pub enum Call {
-    /// The first free frame becomes the host's.
+    /// The host takes the first free frame.
     Take,
-    /// A frame of the host's is zeroed and becomes free.
+    /// The host gives back a frame, which is zeroed and becomes free.
     Give {
         frame: u32,
     },
-    /// The host's access to a frame that it may reach is mapped.
+    /// The host gets a frame that it may reach mapped.
     HostFault {
         frame: u32,
     },
@@ -33,32 +33,32 @@ pub enum Call {
         offset: u32,
         data: Data,
     },
-    /// An empty slot gets a VM, which begins to boot.
+    /// The host registers a VM in an empty slot; the VM begins to boot.
     RegisterVm {
         vm: u32,
     },
-    /// A booting VM gets a virtual processor.
+    /// The host registers a virtual processor of a booting VM.
     RegisterVcpu {
         vm: u32,
         vcpu: u32,
     },
-    /// A booting VM gets a boot image of `len` bytes from guest frame `base` on.
+    /// The host sets a boot image of `len` bytes from guest frame `base` on for a booting VM.
     SetBoot {
         vm: u32,
         base: u32,
         len: u32,
     },
-    /// A frame of the host's becomes the next page of a boot image.
+    /// The host hands over a frame as the next page of a boot image.
     Remap {
         vm: u32,
         image: u32,
         frame: u32,
     },
-    /// The boot images are measured, and the VM becomes active or dead.
+    /// The host has the boot images measured; the VM becomes active or dead.
     Verify {
         vm: u32,
     },
-    /// A frame of the host's is mapped at the guest frame that a virtual processor waits for.
+    /// The host maps one of its frames at the guest frame that a virtual processor waits for.
     Map {
         vm: u32,
         vcpu: u32,
@@ -86,7 +86,7 @@ pub enum Call {
         vcpu: u32,
         gfn: u32,
     },
-    /// A virtual processor takes one grant back.
+    /// A virtual processor takes back one grant.
     Revoke {
         vm: u32,
         vcpu: u32,
@@ -99,7 +99,7 @@ pub enum Call {
         gfn: u32,
         count: u32,
     },
-    /// A virtual processor takes one grant back at each of `count` guest frames from `gfn` on.
+    /// A virtual processor takes back one grant at each of `count` guest frames from `gfn` on.
     RevokeRange {
         vm: u32,
         vcpu: u32,
@@ -112,13 +112,13 @@ pub enum Call {
         vcpu: u32,
         gfn: u32,
     },
-    /// A VM ends: its frames are zeroed and become free, its slot is empty.
+    /// The host ends a VM: its frames are zeroed and become free, and its slot becomes empty.
     Clear {
         vm: u32,
     },
 }
 
-/// Who makes a call, by the call's raw numbers.
+/// The actor of a call, by the call's raw numbers.
 #[derive(Clone, Copy, Debug, PartialEq, Eq)]
 pub enum Actor {
     Host,
@@ -126,7 +126,7 @@ pub enum Actor {
     Vcpu(u32, u32),
 }
 
-/// Who makes a call.
+/// Returns who makes a call.
 pub fn actor_of(call: &Call) -> Actor
     ensures { result ≡ actor call.now }
 {
@@ -170,7 +170,7 @@ pub fn slot_of(call: &Call) -> Option<u32>
 }
 
 impl Call {
-    /// A copy, or `Memory` where a growth was refused.
+    /// Copies the call; `Memory` if memory cannot be had.
     pub fn copy(&self) -> Result<Call, Memory>
         // No clause can rule out that memory runs out: a test makes a copy.
         ensures { IfOk result (λ made. made ≡ self.now) }
@@ -281,7 +281,7 @@ impl Call {
         })
     }
 
-    /// The same call twice, which share their bytes; `Memory` where a growth was refused.
+    /// Makes two equal calls that share their bytes; `Memory` if memory cannot be had.
     pub fn share(self, alloc: Global) -> Result<(Call, Call), Memory>
         // No clause can rule out that memory runs out: tests make calls live.
         ensures { IfOk result (λ both. (both.0 ≡ self) × (both.1 ≡ self)) }

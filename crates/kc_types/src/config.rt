@@ -8,7 +8,7 @@ use crate::{DIGEST_LIMIT, FrameNo, LEAF_LIMIT, Memory, Version, VmId};
 use std::marker::Model;
 use thiserror::Error;
 
-/// Digests of 32 bytes, seen as the list of them.
+/// Digests of 32 bytes, seen as a list.
 #[derive(Debug, Drop)]
 struct Digests {
     digests: Vec<[u8; 32]>,
@@ -37,7 +37,7 @@ impl PartialEq for Digests {
     }
 }
 
-/// The trusted configuration of the core. Two are equal where their numbers and digests are.
+/// The trusted configuration of the core. Configurations are equal if their numbers and digests are.
 #[derive(Debug, Drop, PartialEq)]
 pub struct Config {
     version: Version,
@@ -60,10 +60,10 @@ impl Model for Config {
     ghost inverse = { λ v. record { version = v.version; frames = v.frames; core = v.core; host = v.host; leaves = v.leaves; approved = v.approved } };
 }
 
-/// Why there is no such configuration; the first that applies is answered.
+/// Why a configuration is refused: the first fault that applies.
 #[derive(Clone, Copy, Debug, PartialEq, Eq, Error)]
 pub enum ConfigFault {
-    /// The number of frames is 0 or above 8,192, in version 2 above 65,536.
+    /// The number of frames is 0 or above 8,192 (in version 2, above 65,536).
     #[error("frames")]
     Frames,
     /// The core's and the host's frames together are more than there are.
@@ -78,8 +78,8 @@ pub enum ConfigFault {
 }
 
 impl Config {
-    /// A configuration of version 1, with `frames` frames of 4,096 bytes, the first `core` of them the core's for
-    /// ever and the next `host` the host's at boot; with `leaves` leaf tables for each VM; and with the SHA-256
+    /// Makes a configuration of version 1: `frames` frames of 4,096 bytes, of which the first `core` belong to the
+    /// core for ever and the next `host` to the host at boot; `leaves` leaf tables for each VM; and the SHA-256
     /// digests (FIPS 180-4) of the boot images that are approved.
     pub fn try_new(
         frames: u32,
@@ -93,7 +93,7 @@ impl Config {
         Config::with_version(Version::One, frames, core, host, leaves, approved)
     }
 
-    /// The same of a version: version 2 has up to 65,536 frames, and 64 slots.
+    /// Makes a configuration of the given version: version 2 has up to 65,536 frames, and 64 slots.
     pub fn with_version(
         version: Version,
         frames: u32,
@@ -126,14 +126,14 @@ impl Config {
         })
     }
 
-    /// The version.
+    /// The version of the rules.
     pub fn version(&self) -> Version
         ensures { result ≡ self.now.version }
     {
         self.version
     }
 
-    /// The number of frames, 1 to 8,192, in version 2 to 65,536.
+    /// The number of frames, 1 to 8,192 (in version 2, to 65,536).
     pub fn frames(&self) -> u32
         ensures value { result ≡ self.now.frames }
         ensures some { 0 < result }
@@ -168,7 +168,7 @@ impl Config {
         self.leaves
     }
 
-    /// The number of VM slots: 16, in version 2 64.
+    /// The number of VM slots: 16 (in version 2, 64).
     #[tactic(auto, unfolding(crate::specs::Configuration::slot_count))]
     pub fn slots(&self) -> u32
         ensures value { result ≡ slot_count self.now }
@@ -177,7 +177,7 @@ impl Config {
         self.version.slots()
     }
 
-    /// The frame of this number; `None` where there is none.
+    /// The frame of this number; `None` if there is none.
     pub fn frame(&self, number: u32) -> Option<FrameNo>
         ensures valid { IsSome result ↔ (number < self.now.frames) }
         ensures value { IfSome result (λ frame. frame ≡ number) }
@@ -189,7 +189,7 @@ impl Config {
         }
     }
 
-    /// The VM slot of this number; `None` where there is none.
+    /// The VM slot of this number; `None` if there is none.
     pub fn vm(&self, number: u32) -> Option<VmId>
         ensures valid { IsSome result ↔ (number < slot_count self.now) }
         ensures value { IfSome result (λ vm. vm ≡ number) }
@@ -208,7 +208,7 @@ impl Config {
         self.approved.digests.as_slice()
     }
 
-    /// A copy, or `Memory` where a growth was refused.
+    /// Copies the configuration; `Memory` if memory cannot be had.
     pub fn copy(&self) -> Result<Config, Memory>
         // No clause can rule out that memory runs out: a test makes a copy.
         ensures { IfOk result (λ made. made ≡ self.now) }

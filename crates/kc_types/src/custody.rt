@@ -1,4 +1,4 @@
-//! What an auditor is told of frames and slots: their changes by calls, and what follows from these.
+//! What an audit reports of frames and slots: how calls change them, and what follows from that.
 ghost use Rattle.std.specs.Prelude.{◌≡◌, ◌≤◌, [], length, IfOk};
 ghost use Rattle.kc_types.specs.Limits.{image_limit};
 
@@ -7,7 +7,7 @@ use arrayvec::ArrayVec;
 use std::alloc::Global;
 use std::marker::Model;
 
-/// The custody of a frame: all that the core keeps of it but its bytes and its neighbours in lists.
+/// The custody of a frame: all that the core records of it except its bytes and its neighbours in lists.
 #[derive(Clone, Copy, Debug, PartialEq, Eq)]
 pub struct Custody {
     pub owner: Owner,
@@ -40,7 +40,7 @@ pub struct MeasuredImage {
     pub digest: [u8; 32],
 }
 
-/// The boot images of a slot as they were measured, at most 4, seen as the list of them.
+/// The boot images of a slot as they were measured, at most 4, seen as a list.
 #[derive(Debug, Drop)]
 pub struct MeasuredImages {
     images: Box<ArrayVec<MeasuredImage, IMAGE_LIMIT>>,
@@ -59,7 +59,7 @@ impl Model for MeasuredImages {
 }
 
 impl MeasuredImages {
-    /// No images, with room for 4; `Memory` where a growth was refused.
+    /// Makes an empty list with room for 4 images; `Memory` if memory cannot be had.
     pub fn none(alloc: Global) -> Result<MeasuredImages, Memory>
         // No clause can rule out that memory runs out: a test makes them.
         ensures { IfOk result (λ images. images ≡ []) }
@@ -70,14 +70,14 @@ impl MeasuredImages {
         }
     }
 
-    /// These images in place of those that were there.
+    /// Replaces the images.
     pub fn set(&mut self, images: ArrayVec<MeasuredImage, IMAGE_LIMIT>)
         ensures { self.new ≡ images.items }
     {
         *self.images = images;
     }
 
-    /// The images, by their numbers.
+    /// The images, in the order of their numbers.
     pub fn as_slice(&self) -> &[MeasuredImage]
         ensures value { result.now ≡ self.now }
         ensures few { length result.now ≤ image_limit }
@@ -94,18 +94,18 @@ pub struct PhaseChange {
     pub vm: u32,
     /// The phase after the call.
     pub phase: Phase,
-    /// Its boot images, where the call measured them: where it became active or dead.
+    /// The boot images, if the call measured them: the slot became active or dead.
     pub images: MeasuredImages,
 }
 
-/// What is told of a call.
+/// One change that a call makes.
 #[derive(Debug, Drop)]
 pub enum Change {
     Frame(FrameChange),
     Phase(PhaseChange),
 }
 
-/// What is noted of a call.
+/// One event of a call.
 #[derive(Debug, Drop)]
 pub enum Event {
     Change(Change),
@@ -119,15 +119,15 @@ pub enum Event {
 #[derive(Clone, Copy, Debug, PartialEq, Eq)]
 pub struct Sharing {
     pub frame: u32,
-    /// The guest frame at which its VM sees it.
+    /// The guest frame at which the VM sees it.
     pub gfn: Option<Gfn>,
     /// The line of the call that shared it.
     pub from: u32,
-    /// The line of the call that ended that; none where it is shared at the trace's end.
+    /// The line of the call that ended the sharing; `None` if the frame is still shared at the trace's end.
     pub to: Option<u32>,
 }
 
-/// Stretches in which a VM shared frames, seen as the list of them.
+/// Stretches in which a VM shared frames, seen as a list.
 #[derive(Debug, Drop)]
 pub struct Sharings {
     sharings: Vec<Sharing>,
@@ -168,32 +168,32 @@ pub struct Life {
     pub active: Option<u32>,
     /// The line of the `verify` that refused them.
     pub dead: Option<u32>,
-    /// The line of the `clear` that ended it; none where it is there at the trace's end.
+    /// The line of the `clear` that ended it; `None` if the VM is still there at the trace's end.
     pub cleared: Option<u32>,
     /// Its boot images as they were measured.
     pub images: MeasuredImages,
-    /// How many frames it ever owned.
+    /// The number of frames it ever owned.
     pub frames: usize,
-    /// How many it owned at once, at most.
+    /// The most frames it owned at once.
     pub most: usize,
-    /// How many it owns at the end.
+    /// The number of frames it owns at the end.
     pub left: usize,
-    /// How often it gave a frame back.
+    /// The number of times it gave a frame back.
     pub returned: usize,
-    /// How many reads and writes of the host its shared frames served.
+    /// The number of reads and writes by the host that its shared frames served.
     pub reads: usize,
     pub writes: usize,
-    /// When it shared which frames, in the order in which that began.
+    /// What it shared and when, in the order in which the sharing began.
     pub shared: Sharings,
 }
 
-/// A stretch of lines after whose calls a frame has the same custody.
+/// A stretch of lines during which a frame's custody does not change.
 #[derive(Clone, Copy, Debug, PartialEq, Eq)]
 pub struct Bar {
     pub frame: u32,
     pub custody: Custody,
     /// The first line.
     pub from: u32,
-    /// The line behind the last one.
+    /// The line after the last one.
     pub to: u32,
 }

@@ -9,13 +9,13 @@ use std::alloc::Global;
 use std::marker::Model;
 use std::sync::Arc;
 
-/// The most bytes that take no memory.
+/// The most bytes that need no memory of their own.
 pub const SHORT_SIZE: usize = 20;
 
-/// The most bytes whose memory is zeroed though they were written out.
+/// The most bytes whose memory is zeroed although they were written out.
 const ZEROED_SIZE: usize = 1024;
 
-/// Bytes that stand in the value itself, that it owns, or that several values own.
+/// Bytes inside the value itself, or that it owns, or that several values share.
 #[derive(Debug, Drop)]
 enum Owned {
     Short(ArrayVec<u8, SHORT_SIZE>),
@@ -23,8 +23,8 @@ enum Owned {
     Shared(Arc<SecretBytes>),
 }
 
-/// One byte to a whole page of 4,096 bytes, seen as the list of them. Two are equal where their bytes are. Up to 20 bytes
-/// stand in the value itself, and then it takes no memory; the memory of more is zeroed before it goes.
+/// One byte to a whole page of 4,096 bytes, seen as a list. Equal if the bytes are equal. Up to 20 bytes are kept
+/// inside the value itself, without memory of their own; the memory of more is zeroed before it is freed.
 #[derive(Debug, Drop)]
 pub struct Data {
     bytes: Owned,
@@ -42,7 +42,7 @@ impl Model for Data {
 }
 
 impl Data {
-    /// The bytes handed over, or `None` where there are none or more than 4,096.
+    /// Makes data of these bytes; `None` if there are none or more than 4,096.
     pub fn try_new(bytes: Vec<u8>) -> Option<Data>
         ensures valid { IsSome result ↔ ((0 < length bytes.items) × (length bytes.items ≤ page_size)) }
         ensures value { IfSome result (λ made. made ≡ bytes.items) }
@@ -56,7 +56,7 @@ impl Data {
         }
     }
 
-    /// These 1 to 20 bytes, which take no memory.
+    /// Makes data of 1 to 20 bytes, without memory of its own.
     pub fn short(bytes: &[u8]) -> Data
         requires some { 0 < length bytes.now }
         requires few { length bytes.now ≤ short_size }
@@ -79,7 +79,7 @@ impl Data {
         }
     }
 
-    /// An equal value, which shares the bytes where they are shared already; `Memory` where a growth was refused.
+    /// Makes an equal value, which shares the bytes if they are shared already; `Memory` if memory cannot be had.
     pub fn copy(&self) -> Result<Data, Memory>
         // No clause can rule out that memory runs out: a test makes a copy.
         ensures { IfOk result (λ made. made ≡ self.now) }
@@ -92,8 +92,8 @@ impl Data {
         Ok(Data { bytes })
     }
 
-    /// Lets go of bytes that were written out. The memory of more than 1,024 of them is not zeroed then: that would make a
-    /// replay of whole pages read more than 3 percent slower.
+    /// Frees bytes that were written out. The memory of more than 1,024 of them is not zeroed: that would make a replay of
+    /// whole pages read more than 3 percent slower.
     pub fn let_go_written(self) {
         let Data { bytes } = self;
         if let Owned::Alone(bytes) = bytes {
@@ -101,8 +101,8 @@ impl Data {
         }
     }
 
-    /// The same bytes for two owners, which share them where they take memory. The data are handed back where the growth that sharing takes
-    /// was refused.
+    /// Makes two equal values, which share the bytes if these have memory of their own. Hands the data back if the
+    /// memory that sharing needs cannot be had.
     pub fn share(self, alloc: Global) -> Result<(Data, Data), Data>
         // No clause can rule out that memory runs out: tests share data.
         ensures { MatchResult result (λ both. (both.0 ≡ self) × (both.1 ≡ self)) (λ back. back ≡ self) }

@@ -1,4 +1,4 @@
-//! What every layer speaks of: numbers with their range, calls, replies, refusals, the configuration, out of memory.
+//! What every layer uses: numbers with their range, calls, replies, refusals, the configuration, out of memory.
 #![tactic(auto)]
 
 mod call;

@@ -1,21 +1,21 @@
-//! The limits of the rules and of their types, each a number here and nowhere else. Definitions have them under the
+//! The limits of the rules and of their types, each defined here and nowhere else. Definitions have them under the
 //! same names, in `specs/Limits.antt`.
 
-/// The bytes of a page.
+/// The bytes in a page.
 pub const PAGE_SIZE: u32 = 4_096;
-/// Frame numbers are below this, and so many frames may a configuration of version 2 have.
+/// Frame numbers are below this, and a configuration of version 2 has up to this many frames.
 pub const FRAME_LIMIT: u32 = 65_536;
 /// The most frames of a configuration of version 1.
 pub const FIRST_FRAME_LIMIT: u32 = 8_192;
-/// Slot numbers are below this, and so many VM slots has version 2.
+/// Slot numbers are below this, and version 2 has this many VM slots.
 pub const SLOT_LIMIT: u32 = 64;
 /// The VM slots of version 1.
 pub const FIRST_SLOT_LIMIT: u32 = 16;
-/// The virtual processors of a VM.
+/// The number of virtual processors of a VM.
 pub const VCPU_LIMIT: usize = 8;
 /// Guest frame numbers are below this: a guest sees at most 1 GiB.
 pub const GFN_LIMIT: u32 = 262_144;
-/// The entries of a leaf table, and of a root.
+/// The number of entries of a leaf table, and of a root.
 pub const LEAF_ENTRIES: usize = 512;
 /// The most leaf tables of a VM.
 pub const LEAF_LIMIT: u32 = 64;
@@ -35,5 +35,5 @@ pub const CALL_LIMIT: usize = 65_536;
 pub const WORKER_LIMIT: usize = 64;
 /// The most bytes of a line of a trace, without its newline.
 pub const LINE_LIMIT: usize = 8_243;
-/// The most bytes that are read of a source.
+/// The most bytes that are read from a source.
 pub const BYTE_LIMIT: usize = 1_073_741_824;

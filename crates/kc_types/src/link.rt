@@ -3,14 +3,14 @@ ghost use Rattle.std.specs.Prelude.{◌≡◌, None};
 
 use crate::FrameNo;
 
-/// The neighbours of a frame in its list; none and none for a frame in no list.
+/// The neighbours of a frame in its list; both `None` for a frame in no list.
 #[derive(Clone, Copy, Debug, PartialEq, Eq)]
 pub struct Link {
     pub prev: Option<FrameNo>,
     pub next: Option<FrameNo>,
 }
 
-/// The ends of a list of frames, and how many it has.
+/// The ends of a list of frames, and the number of its frames.
 #[derive(Clone, Copy, Debug, PartialEq, Eq)]
 pub struct Ends {
     pub head: Option<FrameNo>,
@@ -27,7 +27,7 @@ impl Link {
 }
 
 impl Ends {
-    /// The ends of a list with no frames.
+    /// Returns the ends of an empty list.
     pub fn empty() -> Ends
         ensures { result ≡ record { head = None; tail = None; count = 0 } }
     {

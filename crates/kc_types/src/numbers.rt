@@ -5,8 +5,7 @@ ghost use Rattle.kc_types.specs.Limits.{frame_limit, slot_limit, vcpu_limit, gfn
 use crate::{FRAME_LIMIT, GFN_LIMIT, SLOT_LIMIT, VCPU_LIMIT};
 use std::marker::Model;
 
-/// The number of a frame of 4,096 bytes, 0 to 65,535. Whether the frame exists is a matter of the
-/// configuration.
+/// The number of a frame of 4,096 bytes, 0 to 65,535. Whether the frame exists depends on the configuration.
 #[derive(Clone, Copy, Debug, PartialEq, Eq)]
 pub struct FrameNo {
     number: u16,
@@ -45,7 +44,7 @@ impl FrameNo {
         u32::from(self.number)
     }
 
-    /// The number as a place in a list of all frames.
+    /// The number as an index into a list of all frames.
     pub fn index(self) -> usize
         ensures value { result ≡ self }
         ensures within { result < frame_limit }
@@ -54,8 +53,7 @@ impl FrameNo {
     }
 }
 
-/// The number of a VM slot, 0 to 63. Whether the slot exists is a matter of the
-/// configuration.
+/// The number of a VM slot, 0 to 63. Whether the slot exists depends on the configuration.
 #[derive(Clone, Copy, Debug, PartialEq, Eq)]
 pub struct VmId {
     number: u8,
@@ -86,7 +84,7 @@ impl VmId {
         }
     }
 
-    /// The number as a place in a list of all slots.
+    /// The number as an index into a list of all slots.
     pub fn index(self) -> usize
         ensures value { result ≡ self }
         ensures within { result < slot_limit }
@@ -126,7 +124,7 @@ impl VcpuId {
         }
     }
 
-    /// The number as a place in a list of the virtual processors of a VM.
+    /// The number as an index into a list of the virtual processors of a VM.
     pub fn index(self) -> usize
         ensures value { result ≡ self }
         ensures within { result < vcpu_limit }

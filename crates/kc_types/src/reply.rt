@@ -1,9 +1,9 @@
-//! What a call is answered.
+//! Replies to calls.
 ghost use Rattle.std.specs.Prelude.{◌≡◌, IfOk};
 
 use crate::{Data, Memory, Refusal};
 
-/// The answer to a call. Two are equal where they say the same, of data the same bytes.
+/// The reply to a call. Replies are equal if they say the same, with the same bytes.
 #[derive(Debug, Drop, PartialEq)]
 pub enum Reply {
     /// The call took effect.
@@ -14,7 +14,7 @@ pub enum Reply {
     Image(u32),
     /// The bytes read.
     Data(Data),
-    /// The guest frame that the virtual processor waits for now.
+    /// The guest frame that the virtual processor now waits for.
     Fault(u32),
     /// The first image that is not approved.
     Rejected(u32),
@@ -23,7 +23,7 @@ pub enum Reply {
 }
 
 impl Reply {
-    /// A copy, or `Memory` where a growth was refused.
+    /// Copies the reply; `Memory` if memory cannot be had.
     pub fn copy(&self) -> Result<Reply, Memory>
         // No clause can rule out that memory runs out: a test makes a copy.
         ensures { IfOk result (λ made. made ≡ self.now) }

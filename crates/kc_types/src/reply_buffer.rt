@@ -1,4 +1,4 @@
-//! The buffer of a reply, made before its call.
+//! The buffer of a reply, made before its call is answered.
 ghost use Rattle.std.specs.Prelude.{◌≡◌, ◌<◌, ◌≤◌, length, IfOk, IsOk};
 ghost use Rattle.kc_types.specs.Limits.{page_size};
 ghost use Rattle.kc_types.specs.ReplyBytes.{bytes_in, readable, most_reply_bytes};
@@ -7,7 +7,8 @@ use crate::{Call, Data, Memory, PAGE_SIZE, Reply, SHORT_SIZE};
 use std::alloc::Global;
 use std::marker::Model;
 
-/// The buffer of one reply, seen as how many bytes it has room for. Up to 20 bytes need no memory, so each has room for them.
+/// The buffer of one reply, seen as the number of bytes it has room for. Every buffer has room for 20 bytes, which
+/// need no memory.
 #[derive(Debug, Drop)]
 pub struct ReplyBuffer {
     reserved: Vec<u8>,
@@ -25,14 +26,14 @@ impl Model for ReplyBuffer {
 }
 
 impl ReplyBuffer {
-    /// A buffer for no bytes, which takes no memory.
+    /// Makes a buffer for no bytes, which takes no memory.
     pub fn none(alloc: Global) -> ReplyBuffer {
         ReplyBuffer {
             reserved: Vec::new(alloc),
         }
     }
 
-    /// The buffer, grown to this many bytes where it has room for fewer; `Memory` where that growth was refused.
+    /// Grows the buffer to `len` bytes if it has room for fewer; `Memory` if memory cannot be had.
     pub fn at_least(self, len: usize) -> Result<ReplyBuffer, Memory>
         // No clause can rule out that memory runs out: tests make reads.
         ensures enough { IfOk result (λ buffer. len ≤ buffer) }
@@ -45,7 +46,7 @@ impl ReplyBuffer {
         Ok(ReplyBuffer { reserved })
     }
 
-    /// These 1 to 4,096 bytes in the buffer, which takes no memory.
+    /// Puts these 1 to 4,096 bytes into the buffer, which takes no memory.
     pub fn filled(self, bytes: &[u8]) -> Data
         requires some { 0 < length bytes.now }
         requires page { length bytes.now ≤ page_size }
@@ -61,7 +62,7 @@ impl ReplyBuffer {
     }
 }
 
-/// The bytes that a read of this length may answer.
+/// The most bytes that a read of this length can answer.
 fn readable(len: u32) -> usize
     ensures { result ≡ readable len }
 {
@@ -69,8 +70,8 @@ fn readable(len: u32) -> usize
 }
 
 impl Call {
-    /// A buffer for the bytes of the call's reply, made before the call is; `Memory` where a growth was refused, which
-    /// comes for reads alone.
+    /// Makes a buffer for the bytes of the call's reply, before the call is answered; `Memory` if memory cannot be
+    /// had, which only happens for reads.
     pub fn reply_buffer(&self, alloc: Global) -> Result<ReplyBuffer, Memory>
         ensures enough { IfOk result (λ buffer. most_reply_bytes self.now ≤ buffer) }
         ensures none { most_reply_bytes self.now ≡ 0 → IsOk result }
@@ -85,8 +86,8 @@ impl Call {
 }
 
 impl Reply {
-    /// The same reply twice, which share their bytes. Where a growth for that was refused they are copied into a buffer
-    /// made before, so that memory cannot run out.
+    /// Makes two equal replies, which share their bytes. If the memory that sharing needs cannot be had, the bytes are
+    /// copied into `buffer`, which was made before, so that memory cannot run out.
     pub fn share(self, alloc: Global, buffer: ReplyBuffer) -> (Reply, Reply)
         requires { bytes_in self ≤ buffer }
         ensures reply { result.0 ≡ self }

@@ -1,4 +1,4 @@
-//! Bytes whose memory is zeroed before it goes.
+//! Bytes whose memory is zeroed before it is freed.
 ghost use Rattle.std.specs.Prelude.{◌≡◌, ℕ, ◌-◌, ◌≤◌, ◌++◌, [], All, length, take, replicate, IfOk, vec_len, vec_capacity};
 ghost use Rattle.std.specs.Borrow.{sem};
 ghost use Rattle.kc_types.specs.Secret.{LendsBytes};
@@ -7,8 +7,8 @@ use crate::Memory;
 use std::alloc::Global;
 use std::marker::Model;
 
-/// Bytes that nobody is to find in memory later, seen as the list of them. Whoever lets them go, all their memory is
-/// zeroed first. They never grow in place: more room is other memory, and the old is let go.
+/// Bytes that must not be found in memory later, seen as a list. All their memory is zeroed before it is freed,
+/// whoever frees it, except by `let_go_long`. They never grow in place: more room is new memory, and the old memory is zeroed and freed.
 #[derive(Debug)]
 pub struct SecretBytes {
     bytes: Vec<u8>,
@@ -32,7 +32,7 @@ fn zero_all(bytes: &mut Vec<u8>)
     bytes.resize(room, 0).unwrap();
 }
 
-/// The only end of these bytes: each is zero.
+/// Frees these bytes, each of which is zero; no other function does.
 fn let_go(bytes: Vec<u8>)
     requires { All (λ b. b ≡ 0) bytes.items }
 {}
@@ -46,7 +46,7 @@ impl Drop for SecretBytes {
 }
 
 impl SecretBytes {
-    /// The bytes handed over.
+    /// Takes over these bytes.
     pub fn new(bytes: Vec<u8>) -> SecretBytes
         ensures { result ≡ bytes.items }
     {
@@ -60,7 +60,7 @@ impl SecretBytes {
         self.bytes.as_slice()
     }
 
-    /// The bytes, to be changed.
+    /// Lends the bytes, to be changed.
     pub fn as_mut_slice(&mut self) -> &mut [u8]
         ensures* writes_back { sem 𝓛 (LendsBytes self.entry result) }
         ensures value { result.now ≡ self.old }
@@ -68,7 +68,7 @@ impl SecretBytes {
         self.bytes.as_mut_slice()
     }
 
-    /// An equal value; `Memory` where a growth was refused.
+    /// Makes an equal value; `Memory` if memory cannot be had.
     pub fn copy(&self) -> Result<SecretBytes, Memory>
         // No clause can rule out that memory runs out: a test makes a copy.
         ensures { IfOk result (λ made. made ≡ self.now) }
@@ -78,7 +78,8 @@ impl SecretBytes {
         })
     }
 
-    /// The same bytes in other memory, with zeros behind them, `len` in all; `Memory` where that memory was refused.
+    /// Makes a longer value in new memory: the same bytes and then zeros, `len` in all; `Memory` if memory cannot be
+    /// had.
     pub fn longer(&self, alloc: Global, len: usize) -> Result<SecretBytes, Memory>
         requires { length self.now ≤ len }
         // No clause can rule out that memory runs out: tests read texts.
@@ -91,7 +92,7 @@ impl SecretBytes {
         Ok(SecretBytes { bytes })
     }
 
-    /// Lets the bytes go. The memory of more than `most` of them is not zeroed.
+    /// Frees the bytes. The memory of more than `most` of them is not zeroed.
     pub(crate) fn let_go_long(self, most: usize) {
         let SecretBytes { bytes } = self;
         if bytes.len() <= most {

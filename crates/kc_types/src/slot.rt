@@ -9,7 +9,7 @@ pub enum Phase {
     Booting,
     /// A VM whose boot images were measured and approved.
     Active,
-    /// A VM with a boot image that was measured and not approved.
+    /// A VM with a boot image that was measured and is not approved.
     Dead,
 }
 

@@ -1,11 +1,11 @@
-//! The version of the rules that a configuration asks for, and of texts.
+//! Versions: of the rules that a configuration asks for, and of texts.
 ghost use Rattle.std.specs.Prelude.{◌≡◌, ◌≤◌};
 ghost use Rattle.kc_types.specs.Limits.{slot_limit};
 ghost use Rattle.kc_types.specs.Configuration.{most_frames, slots_of};
 
 use crate::{FIRST_FRAME_LIMIT, FIRST_SLOT_LIMIT, FRAME_LIMIT, SLOT_LIMIT};
 
-/// The first version, and the second, with larger limits and two calls more.
+/// The first version, and the second, which has larger limits and two more calls.
 #[derive(Clone, Copy, Debug, PartialEq, Eq)]
 pub enum Version {
     One,

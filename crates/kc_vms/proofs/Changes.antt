@@ -58,7 +58,7 @@ led-fresh t leaves pool s leaf kept none within is left taken pushed = (
   λ still. let l = kept.table.taken in omega (arith, l, left),
 )
 
--- whether a root slot has a leaf, as the leaves tell it
+-- whether a root slot has a leaf, by the list of leaves
 pub has_slot-root : (t : Levels) (s : ℕ) (v : Option ℕ) → IsLevels t → get_or t.root.items s None ≡ v → is_some v ≡ has_slot t.leaves.items s
 has_slot-root t s None kept is = sym (has_slot-none t.root.items t.leaves.items t.pool s kept.table is)
 has_slot-root t s (Some leaf) kept is = sym (has_slot-led t.root.items t.leaves.items t.pool s leaf kept.table is)

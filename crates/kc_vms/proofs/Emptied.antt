@@ -22,7 +22,7 @@ emptied-pool p is = record {
   rest = λ k later. get-emptied p.entries k;
 }
 
--- what stands in a vector after all of it was lent and emptied
+-- the contents of a vector after all of it was lent and emptied
 pub emptied-whole : (n : ℕ) (es new : List (Option ℕ)) → n ≡ length es → new ≡ map emptied es → take n (new ++ drop (length new) es) ≡ map emptied es
 emptied-whole n es new long is =
     let e : n ≡ length new = long ∙ sym (length-map es emptied) ∙ sym (ap length is) in

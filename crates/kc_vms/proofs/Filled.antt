@@ -1,4 +1,4 @@
--- A table that is filled: its leaves are taken, and then its entries are mapped.
+-- A table is filled: its leaves are taken, and then its entries are mapped.
 use Rattle.std.proofs.Common.{ℕ, zero, suc, ◌≡◌, ◌<◌, ◌≤◌, ◌+◌, true, false, List, [], ◌∷◌, ◌++◌, length, get_or, take, Option, Some, None, Result, Ok, Err, refl, sym, ap, subst, ◌∙◌, arith, eq-eqb}
 use Rattle.std.proofs.lemmas.Bool.{ne_eqb}
 use Rattle.std.proofs.lemmas.List.{take_more}
@@ -32,7 +32,7 @@ in-times [] i d low = absurd (omega (arith, low))
 in-times (root ∷ roots) zero d low = let first = first-times root roots in omega (arith, first)
 in-times (root ∷ roots) (suc i) d low = let here = in-times roots i d (omega (arith, low)) in let rest = rest-times root roots (get_or roots i d) in omega (arith, here, rest)
 
--- a root slot that stands in a list once does not stand before its place
+-- a root slot that is in a list once is not in it before its place
 pub root-fresh : (roots : List ℕ) (i d : ℕ) → i < length roots → ((root : ℕ) → times_in roots root ≤ 1) → has_slot (take i roots) (get_or roots i d) ≡ false
 root-fresh [] i d low once = absurd (omega (arith, low))
 root-fresh (root ∷ roots) zero d low once = refl

@@ -1,4 +1,4 @@
--- Whether a slot may be as it is told.
+-- Whether a slot may be as described.
 use Rattle.std.proofs.Common.{ℕ, zero, suc, ◌≡◌, ◌<◌, Bool, false, inl, inr, List, [], ◌∷◌, length, get_or, take, refl, sym, subst, ◌∙◌, arith, All}
 use Rattle.std.specs.Prelude.{◌↔◌}
 use Rattle.std.proofs.lemmas.List.{ext_get_or, get_or_past, get_or_default}
@@ -14,7 +14,7 @@ use Rattle.kc_model.proofs.States.Slots.{length-no_vcpus, at-no_vcpus, waits-not
 pub all-absent : (vcpus : List Vcpu) → length vcpus ≡ 8 → All (λ (vcpu : Vcpu). vcpu ≡ absent_vcpu) vcpus → vcpus ≡ no_vcpus
 all-absent vcpus eight all = ext_get_or absent_vcpu vcpus no_vcpus (eight ∙ sym length-no_vcpus) (λ i low. all i absent_vcpu low ∙ sym (at-no_vcpus i))
 
--- each virtual processor, and what stands past the last
+-- each virtual processor, and the absent one past the last
 pub each-vcpu : (phase : Phase) (vcpus : List Vcpu) → All (IsLawfulVcpu phase) vcpus ↔ ((c : ℕ) → IsLawfulVcpu phase (get_or vcpus c absent_vcpu))
 each-vcpu phase vcpus = (
   λ all c. elim (cases_lt c (length vcpus)) [

@@ -1,4 +1,4 @@
--- What a slot keeps by itself, change by change.
+-- What holds of a slot alone, change by change.
 use Rattle.std.proofs.Common.{ℕ, zero, suc, ◌≡◌, ◌<◌, ◌≤◌, ◌+◌, false, not, nat_le, None, List, [], ◌∷◌, ◌++◌, length, get_or, set, drop, replicate, refl, sym, ap, ◌∙◌, subst, arith, length-set, length-append}
 use Rattle.std.proofs.lemmas.List.{take_at}
 use Rattle.std.proofs.lemmas.List.Elements.{All-set, All-push}
@@ -62,7 +62,7 @@ slot-spent phase vcpus now images c is same lt =
       empty_images = is.empty_images;
     })
 
--- an image more, with no pages yet
+-- one more image, with no pages yet
 pub slot-with_image : (phase : Phase) (vcpus : List Vcpu) (images : List Image) (base len : ℕ) → IsSlot phase vcpus images → (phase ≡ Empty → ⊥) → length images < 4
     → 0 < len → len ≤ 1048576 → base + pages_of len ≤ 262144 → list_any (overlaps base len) images ≡ false → IsSlot phase vcpus (images ++ record { base = base; len = len; pages = 0 } ∷ [])
 slot-with_image phase vcpus images base len is used few some small within none =
@@ -77,7 +77,7 @@ slot-with_image phase vcpus images base len is used few some small within none =
       empty_images = λ h. absurd (used h);
     }
 
--- a page more of an image
+-- one more page of an image
 pub slot-with_page : (phase : Phase) (vcpus : List Vcpu) (images now : List Image) (i : ℕ) (absent : Image) → IsSlot phase vcpus images → now ≡ images → i < length images
     → (get_or images i absent).pages < pages_of (get_or images i absent).len
     → IsSlot phase vcpus (refill (length images) images (set now i (record (get_or now i absent) { pages = (get_or now i absent).pages + 1 })))

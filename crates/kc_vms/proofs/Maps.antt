@@ -52,6 +52,6 @@ map_of-below look (suc n) q below = elim (cases_eq q n) [
   | inr other ↦ put-other (look n) n q (map_of look n) other ∙ map_of-below look n q (omega arith)
 ]
 
--- two maps that agree below a bound, and have nothing past it
+-- two maps that agree below a bound and have nothing past it
 pub maps-same : (a b : FinMap nat_cmp ℕ) (n : ℕ) → ((q : ℕ) → n ≤ q → get a q ≡ get b q) → ((q : ℕ) → q < n → get a q ≡ get b q) → a ≡ b
 maps-same a b n past below = same_map nat_cmp_total nat_cmp-IsAntisymmetric a b (λ q. elim (cases_lt q n) [ inl lt ↦ below q lt | inr le ↦ past q le ])

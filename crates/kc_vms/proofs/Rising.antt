@@ -1,4 +1,4 @@
--- The entries of the map that a look-up function is, by rising guest frame.
+-- The entries of the map that a look-up function is, by ascending guest frame.
 use Rattle.std.proofs.Common.{ℕ, zero, suc, ◌≡◌, ◌<◌, ◌≤◌, ◌+◌, ◌*◌, ◌/◌, ◌%◌, get_or, List, [], ◌∷◌, ◌++◌, length, take, Option, Some, None, refl, sym, ap, subst, ◌∙◌, arith}
 use Rattle.std.proofs.lemmas.List.{append-nil, take_more}
 use Rattle.std.specs.declared.cmp.Ordering.{Ordering}
@@ -11,7 +11,7 @@ use Rattle.kc_vms.proofs.Maps.{keys-other}
 use Rattle.kc_vms.specs.TablePool.{Pool, entry_at}
 use Rattle.kc_vms.specs.Levels.{put, map_of, look_up, mapped_by}
 
--- the entry of a guest frame, where it is mapped
+-- the entry of a guest frame, if it is mapped
 abbrev pub entry_of : Option ℕ → ℕ → List (ℕ × ℕ)
 entry_of None g = []
 entry_of (Some f) g = (g, f) ∷ []
@@ -80,7 +80,7 @@ unfolding AreLow
 find-low n [] low = refl
 find-low n (e ∷ es) low = rw (keys-other n e.0 (λ same. let l = low.0 in omega (arith, same, l))) (find-low n es low.1)
 
--- the entries with one guest frame more
+-- the entries with one more guest frame
 pub entries-more : (look : ℕ → Option ℕ) (n : ℕ) → entries (map_of look (suc n)) ≡ entries (map_of look n) ++ entry_of (look n) n
 unfolding map_of
 entries-more look n = put-entries (look n) (map_of look n) n (map_of-low look n)
@@ -97,7 +97,7 @@ pub mapped-entries : (root : List (Option ℕ)) (pool : Pool) → entries (mappe
 unfolding mapped_by
 mapped-entries root pool = refl
 
--- what stands in the leaf of a root slot
+-- what is in the leaf of a root slot
 look-leaf : (root : List (Option ℕ)) (pool : Pool) (slot leaf place : ℕ) → place < 512 → get_or root slot None ≡ Some leaf → look_up root pool (slot * 512 + place) ≡ entry_at pool leaf place
 look-leaf root pool slot leaf place low led =
     let s : (slot * 512 + place) / 512 ≡ slot = omega (arith, low) in

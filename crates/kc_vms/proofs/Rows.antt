@@ -1,4 +1,4 @@
--- What `remap` is refused for, with what the slot itself refuses taken together.
+-- Why `remap` is refused, with what the slot itself refuses taken together.
 use Rattle.std.proofs.Common.{ℕ, ◌≡◌, nat_le, not, [], ◌∷◌, length, Option, None, Some, refl, ap}
 use Rattle.kc_types.specs.declared.call.Call.TheVariants.{Remap}
 use Rattle.kc_types.specs.declared.refusal.Refusal.TheVariants.{NoImage, ImageFull}

@@ -48,7 +48,7 @@ mapped-removed root leaves pool g leaf table within is = maps-same _ _ 262144
       | inr other ↦ look-other root leaves pool g q leaf None table is other ∙ sym (removed-other (mapped_by root pool) g q other ∙ mapped-get root pool q below)
     ])
 
--- a guest frame that isn't mapped needs no removing
+-- a guest frame that is not mapped need not be removed
 pub mapped-absent : (root : List (Option ℕ)) (pool : Pool) (g : ℕ) → g < 262144 → look_up root pool g ≡ None → mapped_by root pool ≡ remove (mapped_by root pool) g
 mapped-absent root pool g within none = maps-same _ _ 262144
     (λ q past. sym (removed-other (mapped_by root pool) g q (λ same. absurd (omega (arith, same)))))
@@ -121,7 +121,7 @@ look-led root leaves pool s leaf table none within is g = elim (cases_eq (g / 51
   | inr other ↦ under-leaf (get_or (set root s (Some leaf)) (g / 512) None) pool (g % 512) ∙ ap (λ v. entry_under v pool (g % 512)) (get_or-set_other root s (g / 512) (Some leaf) None other)
 ]
 
--- a root with no leaves over a pool as new
+-- a root without leaves over an empty pool
 all-none : (root : List (Option ℕ)) → ((s : ℕ) → get_or root s None ≡ None) → (pool : Pool) (g : ℕ) → look_up root pool g ≡ None
 all-none root none pool g = rw (none (g / 512)) refl
 
@@ -136,7 +136,7 @@ table-new root pool none long kept taken = record {
   led = λ t k. (λ there. let here = none t in absurd cc, λ p. absurd (let lt = p.0 in omega (arith, lt)));
 }
 
--- what a look-up in two steps finds, at a guest frame or a copy of its number
+-- what a look-up in two steps finds at a guest frame, or at a copy of its number
 pub got-none : (t : Levels) (number g : ℕ) → number ≡ g → number < 262144 → get_or t.root.items (number / 512) None ≡ None → get (table_of t).mapped g ≡ None
 got-none t number g is within none = rw (← is) (mapped-get t.root.items t.pool number within ∙ look-none t.root.items t.pool number none)
 

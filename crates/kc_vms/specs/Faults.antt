@@ -1,4 +1,4 @@
--- Why a guest frame can't be mapped.
+-- Why a guest frame cannot be mapped.
 use Rattle.std.specs.Prelude.{ℕ, Option, Some, None, is_some, if◌then◌else◌}
 use Rattle.std.specs.FinMap as map
 use Rattle.kc_vms.specs.declared.table.MapFault.{MapFault}

@@ -17,7 +17,7 @@ abbrev pub put : Option ℕ → ℕ → map.FinMap nat_cmp ℕ → map.FinMap na
 put None g m = m
 put (Some f) g m = map.insert m g f
 
--- the map of the first guest frames
+-- the map of a look-up function, below a guest frame
 unfoldable pub map_of : (ℕ → Option ℕ) → ℕ → map.FinMap nat_cmp ℕ
 map_of look zero = map.empty
 map_of look (suc n) = put (look n) n (map_of look n)

@@ -1,4 +1,4 @@
--- A VM's table as a value: the map, the root slots that have leaves, and how many leaves there can be.
+-- A VM's table as a value: the map, the root slots that have leaves, and the most leaves it can have.
 use Rattle.std.specs.Prelude.{ℕ, suc, ◌≡◌, ◌<◌, ◌≤◌, ◌/◌, ◌==◌, Bool, true, ◌||◌, List, [], ◌∷◌, ◌++◌, length, slice_index_or, All, nat_lt, if◌then◌else◌, refl}
 use Rattle.std.specs.Ordering.{nat_cmp}
 use Rattle.std.specs.Coded.{Coded, code_by, coded×, coded_list, coded_ℕ}
@@ -23,21 +23,22 @@ new_table capacity = record { mapped = map.empty; leaves = []; capacity = capaci
 abbrev pub has_slot : List ℕ → ℕ → Bool
 has_slot leaves slot = list_any (λ root. root == slot) leaves
 
--- the guest frame's root slot has one
+-- the guest frame's root slot has a leaf
 abbrev pub has_leaf_of : List ℕ → ℕ → Bool
 has_leaf_of leaves g = has_slot leaves (g / leaf_entries)
 
 abbrev pub fits : Table → ℕ → Bool
 fits t g = has_leaf_of t.leaves g || nat_lt (length t.leaves) t.capacity
 
--- the leaves with the root slot among them
+-- the leaves, with one for the root slot
 abbrev pub with_root_slot : List ℕ → ℕ → List ℕ
 with_root_slot leaves slot = if has_slot leaves slot then leaves else leaves ++ slot ∷ []
 
 abbrev pub with_mapping : Table → ℕ → ℕ → Table
 with_mapping t g f = record t { mapped = map.insert t.mapped g f; leaves = with_root_slot t.leaves (g / leaf_entries) }
 
--- there is a table of so many leaves at most with these root slots, each once, and these entries, each of which has a leaf, by rising guest frame
+-- a table of at most this many leaves can have these root slots, each once, and these entries, by ascending guest
+-- frame, each of which has a leaf
 pub record AreMappings (capacity : ℕ) (roots : List ℕ) (entries : List (ℕ × ℕ)) : Type 0 where
   pub few : length roots ≤ capacity
   pub low : All (λ root. root < leaf_entries) roots

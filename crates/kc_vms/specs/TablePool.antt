@@ -32,5 +32,5 @@ pub record IsPool (p : Pool) : Type 0 where
   pub long : length p.entries ≡ p.capacity * leaf_entries
   pub within : p.taken ≤ p.capacity
   pub few : p.capacity ≤ leaf_limit
-  -- a leaf that isn't taken has no entries
+  -- a leaf that is not taken has no entries
   pub rest : (k : ℕ) → p.taken * leaf_entries ≤ k → slice_index_or p.entries k None ≡ None

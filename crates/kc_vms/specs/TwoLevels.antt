@@ -1,4 +1,4 @@
--- The two levels of a table as they stand in memory.
+-- The two levels of a table as they are in memory.
 use Rattle.std.specs.Prelude.{ℕ, List, ◌≡◌, ◌<◌, ◌≤◌, length, Option, Some, None, slice_index_or, vec_capacity}
 use Rattle.std.specs.FinMap as finite
 use Rattle.kc_vms.specs.declared.levels.Levels.{Levels}
@@ -12,7 +12,7 @@ pub record IsLevels (t : Levels) : Type 0 where
 abbrev pub table_of : Levels → Table
 table_of t = record { mapped = mapped_by t.root.items t.pool; leaves = t.leaves.items; capacity = t.pool.capacity }
 
--- the slot has this leaf now, and nothing else was changed; or it has none, and none is left
+-- the slot now has this leaf, and nothing else has changed; or it has none, and none is left
 abbrev pub Led : Levels → Levels → ℕ → Option ℕ → Type 0
 Led old new slot None = (new ≡ old) × (slice_index_or old.root.items slot None ≡ None) × (length old.leaves.items ≡ old.pool.capacity)
 Led old new slot (Some leaf) = (slice_index_or new.root.items slot None ≡ Some leaf)
@@ -20,6 +20,6 @@ Led old new slot (Some leaf) = (slice_index_or new.root.items slot None ≡ Some
     × (new.leaves.items ≡ with_root_slot old.leaves.items slot) × (new.pool.capacity ≡ old.pool.capacity)
     × ((slice_index_or old.root.items slot None ≡ None) → length old.leaves.items < old.pool.capacity)
 
--- the entries of the guest frames below this one, rising
+-- the entries of the guest frames below this one, ascending
 abbrev pub entries_below : Levels → ℕ → List (ℕ × ℕ)
 entries_below t n = finite.entries (map_of (look_up t.root.items t.pool) n)

@@ -1,4 +1,4 @@
--- A VM slot as a value, what it keeps by itself, and how it changes.
+-- A VM slot as a value, what holds of it alone, and how it changes.
 use Rattle.std.specs.Prelude.{ℕ, ◌≡◌, ◌≤◌, List, [], length, All, slice_index_or}
 use Rattle.kc_types.specs.Limits.{vcpu_limit, image_limit}
 use Rattle.kc_types.specs.declared.slot.Phase.{Phase}
@@ -8,12 +8,12 @@ use Rattle.kc_model.specs.Lawful.{IsLawfulVcpu, IsLawfulImage, Apart}
 use Rattle.kc_model.specs.Linked.{LinkedSlot, linked_slot}
 use Rattle.kc_vms.specs.Stage2.{Table}
 
--- a slot with the ends of its list, and how many leaves its table can have
+-- a slot with the ends of its list, and the most leaves that its table can have
 pub record VmSlot : Type 0 where
   pub slot : LinkedSlot
   pub capacity : ℕ
 
--- what a slot keeps by itself, whatever its list and its table are
+-- what holds of a slot alone, whatever its list and its table are
 pub record IsSlot (phase : Phase) (vcpus : List Vcpu) (images : List Image) : Type 0 where
   pub vcpu_count : length vcpus ≡ vcpu_limit
   -- only a registered virtual processor of an active slot waits

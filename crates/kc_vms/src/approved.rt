@@ -3,8 +3,8 @@ ghost use Rattle.std.specs.Prelude.{◌≡◌, ◌↔◌, ℕ, List, IsTrue, Con
 
 use std::marker::Model;
 
-/// The SHA-256 digests of the boot images that may run, seen as the list of them. They are borrowed, as from
-/// the trusted configuration.
+/// The SHA-256 digests of the boot images that may run, seen as a list. They are borrowed, for example from the
+/// trusted configuration.
 #[derive(Drop)]
 pub struct Approved<'a> {
     digests: &'a [[u8; 32]],
@@ -17,7 +17,7 @@ impl<'a> Model for Approved<'a> {
 }
 
 impl<'a> Approved<'a> {
-    /// These digests and no others.
+    /// Borrows these digests.
     pub fn new(digests: &'a [[u8; 32]]) -> Approved<'a>
         ensures { result ≡ digests.now }
     {

@@ -8,7 +8,7 @@ use crate::levels::Levels;
 use kc_types::{FrameNo, Gfn, LEAF_ENTRIES, Memory};
 use std::alloc::Global;
 
-/// The entries of the leaf of a root slot, behind those of the root slots before it.
+/// Appends the entries of the leaf of a root slot to those of the root slots before it.
 fn push_leaf(
     levels: &Levels,
     slot: usize,
@@ -30,7 +30,7 @@ fn push_leaf(
     Ok(())
 }
 
-/// All entries, by rising guest frame.
+/// All entries, by ascending guest frame.
 pub fn entries_of(alloc: Global, levels: &Levels) -> Result<Vec<(Gfn, FrameNo)>, Memory>
     requires { IsLevels levels.now }
     // No clause can rule out that memory runs out: a test lists entries.

@@ -1,4 +1,4 @@
-//! Whether a slot may be as it is told.
+//! Whether a slot may be as described.
 ghost use Rattle.std.specs.Prelude.{◌≡◌, ◌↔◌, IsTrue, All, length};
 ghost use Rattle.kc_types.specs.Limits.{vcpu_limit};
 ghost use Rattle.kc_model.specs.State.{absent_vcpu, no_vcpus};
@@ -49,7 +49,7 @@ fn are_absent(vcpus: &[Vcpu]) -> bool
     true
 }
 
-/// Whether there is such an image.
+/// Whether an image is within the limits.
 fn is_image(image: &Image) -> bool
     ensures { IsTrue result ↔ IsLawfulImage image.now }
 {

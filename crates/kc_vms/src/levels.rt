@@ -1,4 +1,4 @@
-//! The root and the leaves as they stand in memory.
+//! The root and the leaves as they are in memory.
 ghost use Rattle.std.specs.Prelude.{◌≡◌, ◌<◌, ◌≤◌, Some, map, replicate, IfOk, slice_index_or, None};
 ghost use Rattle.kc_types.specs.Limits.{leaf_entries, leaf_limit};
 ghost use Rattle.kc_vms.specs.TablePool.{emptied};
@@ -19,7 +19,7 @@ pub struct Levels {
 }
 
 impl Levels {
-    /// Levels without leaves, and room for so many; `Memory` where a growth was refused.
+    /// Makes levels with room for this many leaves, none of them taken; `Memory` if memory cannot be had.
     pub fn try_new(alloc: Global, leaves: u8) -> Result<Levels, Memory>
         requires { leaves ≤ leaf_limit }
         ensures kept { IfOk result IsLevels }
@@ -41,7 +41,7 @@ impl Levels {
         self.root[slot]
     }
 
-    /// The leaf of a root slot, which takes one where it has none.
+    /// The leaf of a root slot, which takes one if it has none.
     pub fn leaf_for(&mut self, slot: usize) -> Option<LeafNo>
         requires kept { IsLevels self.old }
         requires within { slot < leaf_entries }
@@ -57,7 +57,7 @@ impl Levels {
         Some(leaf)
     }
 
-    /// All leaves go back to the pool, and nothing is mapped.
+    /// Returns all leaves to the pool, so that nothing is mapped.
     pub fn clear(&mut self)
         requires { IsLevels self.old }
         ensures kept { IsLevels self.new }

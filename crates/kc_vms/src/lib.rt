@@ -1,5 +1,5 @@
-//! VM slots: phases, virtual processors, boot images and their measuring, the ends of the list of frames, and the table
-//! in two levels, whose leaves come from a pool.
+//! VM slots: phases, virtual processors, boot images and how they are measured, the ends of the list of frames, and
+//! the table in two levels, whose leaves come from a pool.
 #![tactic(auto)]
 
 mod approved;

@@ -15,7 +15,7 @@ pub struct Measure {
 impl Measure {
     ghost use Rattle.kc_vms.specs.Measure.{WasFed};
 
-    /// A measure that was fed no bytes.
+    /// Makes a measure that was fed no bytes.
     pub fn new() -> Measure
         ensures { WasFed result [] }
     {
@@ -24,7 +24,7 @@ impl Measure {
         }
     }
 
-    /// Feeds the first `used` bytes of a page, 0 to 4,096 of them.
+    /// Feeds the first `used` bytes of a page, 0 to 4,096.
     pub fn page(&mut self, bytes: &PageBytes, used: usize)
         requires { used ≤ page_size }
         ensures fed { (fed : List ℕ) → WasFed self.old fed → WasFed self.new (fed ++ take used bytes.now) }
@@ -33,7 +33,7 @@ impl Measure {
         self.hasher.update(&bytes.as_slice()[..used]);
     }
 
-    /// The digest of all bytes that were fed, in the order in which they were.
+    /// Returns the digest of all bytes that were fed, in the order in which they were fed.
     pub fn finish(self) -> [u8; 32]
         ensures { (fed : List ℕ) → WasFed self fed → result ≡ sha256 fed }
     {

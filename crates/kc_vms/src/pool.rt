@@ -1,4 +1,4 @@
-//! The pool that a VM's leaf tables come from.
+//! The pool of a VM's leaf tables.
 ghost use Rattle.std.specs.Prelude.{◌≡◌, ◌+◌, ◌*◌, ◌<◌, ◌≤◌, Option, Some, None, map, IfOk, MatchOption};
 ghost use Rattle.kc_types.specs.Limits.{leaf_entries, leaf_limit};
 ghost use Rattle.kc_vms.specs.TablePool.{Pool, IsPool, new_pool, entry_at, with_cell, with_taken_leaf, emptied};
@@ -28,7 +28,8 @@ impl Model for TablePool {
 }
 
 impl TablePool {
-    /// This many leaves, none of them taken, or `Memory` where a growth was refused. Nothing else takes memory.
+    /// Makes a pool of this many leaves, none of them taken; `Memory` if memory cannot be had. Nothing else takes
+    /// memory.
     #[tactic(auto, unfolding(crate::specs::TablePool::no_entries))]
     pub fn try_new(alloc: Global, leaves: u8) -> Result<TablePool, Memory>
         requires { leaves ≤ leaf_limit }
@@ -42,7 +43,7 @@ impl TablePool {
         })
     }
 
-    /// How many leaves there are, taken or not.
+    /// The number of leaves, taken or not.
     pub fn capacity(&self) -> u8
         ensures value { result ≡ self.now.capacity }
         ensures kept { IsPool self.now }
@@ -50,7 +51,7 @@ impl TablePool {
         self.capacity
     }
 
-    /// The next leaf, which has no entries.
+    /// Takes the next leaf, which has no entries.
     pub fn take_leaf(&mut self) -> Option<LeafNo>
         ensures leaf { MatchOption result ((self.old.taken ≡ self.old.capacity) × (self.new ≡ self.old)) (λ leaf. (leaf ≡ self.old.taken) × (self.old.taken < self.old.capacity) × (self.new ≡ with_taken_leaf self.old)) }
         ensures kept { IsPool self.new }
@@ -63,7 +64,7 @@ impl TablePool {
         Some(leaf)
     }
 
-    /// What stands at a place of a leaf that is taken.
+    /// The entry at a place of a leaf that is taken.
     pub fn entry(&self, leaf: LeafNo, at: usize) -> Option<FrameNo>
         requires taken { leaf < self.now.taken }
         requires within { at < leaf_entries }
@@ -72,7 +73,7 @@ impl TablePool {
         self.entries[leaf.index() * LEAF_ENTRIES + at]
     }
 
-    /// Sets what stands at a place of a leaf that is taken.
+    /// Sets the entry at a place of a leaf that is taken.
     pub fn set_entry(&mut self, leaf: LeafNo, at: usize, frame: Option<FrameNo>)
         requires taken { leaf < self.old.taken }
         requires within { at < leaf_entries }
@@ -82,7 +83,7 @@ impl TablePool {
         self.entries[leaf.index() * LEAF_ENTRIES + at] = frame;
     }
 
-    /// All leaves come back.
+    /// Takes all leaves back.
     pub fn reset(&mut self)
         ensures value { self.new ≡ new_pool self.old.capacity }
         ensures kept { IsPool self.new }

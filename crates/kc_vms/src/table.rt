@@ -12,15 +12,15 @@ use kc_types::{FrameNo, Gfn, LEAF_ENTRIES, Memory};
 use std::alloc::Global;
 use std::marker::Model;
 
-/// Why a guest frame can't be mapped. Each leaves the table as it was.
+/// Why a guest frame cannot be mapped. The table is then left as it was.
 #[derive(Clone, Copy, Debug, PartialEq, Eq)]
 pub enum MapFault {
     Mapped,
     TablesFull,
 }
 
-/// A VM's table, from guest frames to frames, and the root slots that have leaves, in the order in which they
-/// took them. After it was made it takes no memory.
+/// A VM's table, from guest frames to frames, and the root slots that have leaves, in the order in which they took
+/// them. Once made it takes no more memory.
 #[derive(Drop)]
 pub struct Stage2 {
     levels: Levels,
@@ -41,7 +41,7 @@ impl Model for Stage2 {
 }
 
 impl Stage2 {
-    /// An empty table with room for this many leaves of 512 entries, or `Memory` where a growth was refused.
+    /// Makes an empty table with room for this many leaves of 512 entries; `Memory` if memory cannot be had.
     pub fn try_new(alloc: Global, leaves: u8) -> Result<Stage2, Memory>
         requires { leaves ≤ leaf_limit }
         ensures { IfOk result (λ table. table ≡ new_table leaves) }
@@ -51,8 +51,8 @@ impl Stage2 {
         })
     }
 
-    /// A table with room for this many leaves, in which these root slots, below 512, have taken leaves in this order, and
-    /// these guest frames, rising, are mapped; `Memory` where a growth was refused.
+    /// Makes a table with room for this many leaves, in which these root slots, below 512, have taken leaves in this
+    /// order and these guest frames, ascending, are mapped; `Memory` if memory cannot be had.
     pub fn with_entries(
         alloc: Global,
         leaves: u8,
@@ -71,7 +71,7 @@ impl Stage2 {
         Ok(table)
     }
 
-    /// A root slot that has no leaf takes one.
+    /// Takes a leaf for a root slot that has none.
     fn take_leaf(&mut self, root: u32)
         requires low { root < leaf_entries }
         requires none { has_slot self.old.leaves root ≡ false }
@@ -81,7 +81,7 @@ impl Stage2 {
         let _leaf = self.levels.leaf_for(root as usize);
     }
 
-    /// Root slots take leaves, in this order.
+    /// Takes leaves for root slots, in this order.
     fn take_leaves(&mut self, roots: &[u32])
         requires none { self.old.leaves ≡ [] }
         requires roots { AreMappings self.old.capacity roots.now [] }
@@ -121,8 +121,8 @@ impl Stage2 {
         self.levels.leaves.as_slice()
     }
 
-    /// All mapped guest frames with their frames, by rising guest frame. Only the leaves that are taken are read.
-    /// `Memory` where a growth was refused.
+    /// All mapped guest frames with their frames, by ascending guest frame; `Memory` if memory cannot be had. Only the
+    /// leaves that are taken are read.
     pub fn entries(&self, alloc: Global) -> Result<Vec<(Gfn, FrameNo)>, Memory>
         // No clause can rule out that memory runs out: a test lists entries.
         ensures { IfOk result (λ entries. entries.items ≡ finite.entries self.now.mapped) }
@@ -139,8 +139,8 @@ impl Stage2 {
             || self.levels.leaves.len() < self.levels.pool.capacity() as usize
     }
 
-    /// Maps a guest frame that isn't mapped yet. `Mapped` where it is, else `TablesFull` where its root slot has
-    /// no leaf and the pool has none left.
+    /// Maps a guest frame. `Mapped` if it is mapped already; otherwise `TablesFull` if its root slot has no leaf and
+    /// the pool has none left.
     pub fn map(&mut self, gfn: Gfn, frame: FrameNo) -> Result<(), MapFault>
         ensures answer { Answers result (map_fault self.old gfn) }
         ensures ok { OnOk result (self.new ≡ with_mapping self.old gfn frame) }
@@ -158,7 +158,7 @@ impl Stage2 {
         Ok(())
     }
 
-    /// Unmaps a guest frame, and answers the frame that was there. Its leaf stays taken.
+    /// Unmaps a guest frame, and returns the frame that was there. Its leaf stays taken.
     pub fn unmap(&mut self, gfn: Gfn) -> Option<FrameNo>
         ensures value { result ≡ finite.get self.old.mapped gfn }
         ensures table { self.new ≡ record self.old { mapped = finite.remove self.old.mapped gfn } }
@@ -171,7 +171,7 @@ impl Stage2 {
         frame
     }
 
-    /// All leaves go back to the pool.
+    /// Returns all leaves to the pool.
     pub fn clear(&mut self)
         ensures { self.new ≡ new_table self.old.capacity }
     {

@@ -17,8 +17,8 @@ use kc_types::{Ends, Gfn, IMAGE_LIMIT, Image, Memory, Phase, Refusal, VCPU_LIMIT
 use std::alloc::Global;
 use std::marker::Model;
 
-/// A VM slot: its phase, its 8 virtual processors, its boot images, the ends of the list of its frames, and
-/// its table. After it was made it takes no memory.
+/// A VM slot: its phase, its 8 virtual processors, its boot images, the ends of the list of its frames, and its table.
+/// Once made it takes no more memory.
 #[derive(Drop)]
 pub struct Vm {
     phase: Phase,
@@ -46,8 +46,8 @@ impl Model for Vm {
 impl Vm {
     ghost use Rattle.kc_vms.specs.Lending.{LendsList, LendsTable};
 
-    /// An empty slot whose table has room for this many leaves of 512 entries, at most 64; `Memory` where a
-    /// growth was refused.
+    /// Makes an empty slot whose table has room for this many leaves of 512 entries, up to 64; `Memory` if memory
+    /// cannot be had.
     pub fn try_new(alloc: Global, leaves: u8) -> Result<Vm, Memory>
         requires { leaves ≤ leaf_limit }
         ensures { IfOk result (λ vm. vm ≡ empty_vm leaves) }
@@ -61,8 +61,8 @@ impl Vm {
         })
     }
 
-    /// A slot in this phase, with these virtual processors and these boot images, the ends of the list of its frames, and
-    /// its table.
+    /// Makes a slot in this phase, with these virtual processors and boot images, the ends of the list of its frames,
+    /// and its table.
     pub fn with(
         phase: Phase,
         vcpus: ArrayVec<Vcpu, VCPU_LIMIT>,
@@ -98,7 +98,7 @@ impl Vm {
         self.vcpus[vcpu.index()]
     }
 
-    /// The boot images, by their numbers.
+    /// The boot images, in the order of their numbers.
     pub fn images(&self) -> &[Image]
         ensures value { result.now ≡ self.now.slot.images }
         ensures kept { IsVm self.now }
@@ -113,7 +113,7 @@ impl Vm {
         &self.list
     }
 
-    /// The ends of the list of its frames, for writing.
+    /// Lends the ends of the list of its frames for writing.
     pub fn list_mut(&mut self) -> &mut Ends
         ensures* writes_back { sem 𝓛 (LendsList self.entry result) }
         ensures value { result.now ≡ self.old.slot.frames }
@@ -128,7 +128,7 @@ impl Vm {
         &self.table
     }
 
-    /// The table from guest frames to frames, for writing.
+    /// Lends the table from guest frames to frames for writing.
     pub fn table_mut(&mut self) -> &mut Stage2
         ensures* writes_back { sem 𝓛 (LendsTable self.entry result) }
         ensures value { result.now ≡ slot_table self.old }
@@ -136,7 +136,7 @@ impl Vm {
         &mut self.table
     }
 
-    /// An empty slot becomes booting. `SlotUsed` where it isn't empty, and then nothing has changed.
+    /// Registers a VM: the empty slot becomes booting. `SlotUsed` if it is not empty, and then nothing changes.
     pub fn register(&mut self) -> Result<(), Refusal>
         ensures answer { Answers result (register_refusal self.old.slot) }
         ensures ok { OnOk result (self.new ≡ record self.old { slot = in_phase self.old.slot Phase.Booting }) }
@@ -149,7 +149,7 @@ impl Vm {
         Ok(())
     }
 
-    /// `NoVm` where the slot is empty, else `WrongPhase` where it isn't booting.
+    /// `NoVm` if the slot is empty, `WrongPhase` if it is neither empty nor booting.
     fn expect_booting(&self) -> Result<(), Refusal>
         ensures { Answers result (first_of_these (no_vm_in self.now.slot ∷ not_booting_in self.now.slot ∷ [])) }
     {
@@ -160,9 +160,9 @@ impl Vm {
         }
     }
 
-    /// Registers a virtual processor, which waits for nothing. The first that applies, and then nothing has
-    /// changed: `NoVm` where the slot is empty, `WrongPhase` where it isn't booting, `VcpuUsed` where the
-    /// virtual processor is registered.
+    /// Registers a virtual processor, which waits for nothing. If refused, nothing changes, and the first reason that
+    /// applies is returned: `NoVm` if the slot is empty, `WrongPhase` if it is not booting, `VcpuUsed` if the virtual
+    /// processor is registered.
     pub fn add_vcpu(&mut self, vcpu: VcpuId) -> Result<(), Refusal>
         ensures answer { Answers result (add_vcpu_refusal self.old.slot vcpu) }
         ensures ok { OnOk result (self.new ≡ record self.old { slot = with_vcpu self.old.slot vcpu (record { registered = true; fault = None }) }) }
@@ -179,10 +179,10 @@ impl Vm {
         Ok(())
     }
 
-    /// Adds a boot image of `len` bytes, 1 to 1,048,576, whose first guest frame is `base`, and answers its
-    /// number, 0 to 3. It has no pages yet. The first that applies, and then nothing has changed: `NoVm` where
-    /// the slot is empty, `WrongPhase` where it isn't booting, `ImagesFull` where there are 4 images, `Overlap`
-    /// where a guest frame of the image belongs to one of them.
+    /// Adds a boot image of `len` bytes, 1 to 1,048,576, whose first guest frame is `base`, and returns its number, 0
+    /// to 3. It has no pages yet. If refused, nothing changes, and the first reason that applies is returned: `NoVm`
+    /// if the slot is empty, `WrongPhase` if it is not booting, `ImagesFull` if there are 4 images, `Overlap` if a
+    /// guest frame of the image belongs to one of them.
     pub fn add_image(&mut self, base: u32, len: u32) -> Result<u32, Refusal>
         requires some { 0 < len }
         requires small { len ≤ image_size_limit }
@@ -208,9 +208,9 @@ impl Vm {
         Ok(number)
     }
 
-    /// The guest frame of the next page of an image. The first that applies: `NoVm` where the slot is empty,
-    /// `WrongPhase` where it isn't booting, `NoImage` where no image has this number, `ImageFull` where all
-    /// pages of the image are there.
+    /// The guest frame of the next page of an image, or the first reason that applies: `NoVm` if the slot is empty,
+    /// `WrongPhase` if it is not booting, `NoImage` if no image has this number, `ImageFull` if all pages of the image
+    /// are there.
     pub fn next_page(&self, image: u32) -> Result<Gfn, Refusal>
         ensures answer { Answers result (next_page_refusal self.now.slot image) }
         ensures gfn { IfOk result (λ gfn. gfn ≡ next_gfn_of self.now.slot image) }
@@ -225,7 +225,7 @@ impl Vm {
         Ok(Gfn::try_new(image.base + image.pages).unwrap())
     }
 
-    /// An image that has a next page has one page more.
+    /// Counts one more page of an image that has a next page.
     pub fn add_page(&mut self, image: u32)
         requires { next_page_refusal self.old.slot image ≡ None }
         ensures { self.new ≡ record self.old { slot = with_image_page self.old.slot image } }
@@ -233,7 +233,7 @@ impl Vm {
         self.images[image as usize].pages += 1;
     }
 
-    /// A registered virtual processor of an active slot waits for a guest frame.
+    /// Lets a registered virtual processor of an active slot wait for a guest frame.
     pub fn set_fault(&mut self, vcpu: VcpuId, gfn: Gfn)
         requires active { self.old.slot.phase ≡ Phase.Active }
         requires registered { (vcpu_of self.old.slot vcpu).registered ≡ true }
@@ -242,14 +242,14 @@ impl Vm {
         self.vcpus[vcpu.index()].fault = Some(gfn.number());
     }
 
-    /// A virtual processor waits for nothing.
+    /// Lets a virtual processor wait for nothing.
     pub fn spend_fault(&mut self, vcpu: VcpuId)
         ensures { self.new ≡ record self.old { slot = awaiting self.old.slot vcpu None } }
     {
         self.vcpus[vcpu.index()].fault = None;
     }
 
-    /// A booting slot becomes active.
+    /// Activates a booting slot.
     pub fn activate(&mut self)
         requires { self.old.slot.phase ≡ Phase.Booting }
         ensures { self.new ≡ record self.old { slot = in_phase self.old.slot Phase.Active } }
@@ -257,7 +257,7 @@ impl Vm {
         self.phase = Phase::Active;
     }
 
-    /// A booting slot becomes dead.
+    /// Makes a booting slot dead.
     pub fn kill(&mut self)
         requires { self.old.slot.phase ≡ Phase.Booting }
         ensures { self.new ≡ record self.old { slot = in_phase self.old.slot Phase.Dead } }
@@ -265,7 +265,8 @@ impl Vm {
         self.phase = Phase::Dead;
     }
 
-    /// The slot is empty again, as it was made: no virtual processors, no images, no frames, all leaves back.
+    /// Empties the slot, which is then as it was made: no virtual processors, no images, no frames, all leaves back in
+    /// the pool.
     pub fn reset(&mut self)
         ensures { self.new ≡ empty_vm self.old.capacity }
     {
@@ -285,7 +286,7 @@ fn absent_vcpus() -> ArrayVec<Vcpu, VCPU_LIMIT>
     ArrayVec::from([Vcpu::default(); VCPU_LIMIT])
 }
 
-/// Whether an image of `len` bytes at guest frame `base` has a guest frame of this image.
+/// Whether an image of `len` bytes at guest frame `base` shares a guest frame with this image.
 fn overlaps(base: u32, len: u32, image: &Image) -> bool
     ensures { result ≡ overlaps base len image.now }
 {
@@ -293,7 +294,7 @@ fn overlaps(base: u32, len: u32, image: &Image) -> bool
         && u64::from(image.base) < u64::from(base) + u64::from(pages_of(len))
 }
 
-/// Whether an image of `len` bytes at guest frame `base` has a guest frame of one of these images.
+/// Whether an image of `len` bytes at guest frame `base` shares a guest frame with one of these images.
 pub(crate) fn overlaps_any(base: u32, len: u32, images: &[Image]) -> bool
     ensures { result ≡ list_any (overlaps base len) images.now }
 {

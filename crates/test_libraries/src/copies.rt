@@ -1,4 +1,4 @@
-//! A copy of a reply, where the program makes none.
+//! A copy of a reply, which the program never makes.
 use kc_types::{Data, Reply};
 use std::test::Fail;
 

@@ -1,4 +1,4 @@
-//! An audit by one thread, where the program has it made by several.
+//! An audit on one thread, while the program uses several.
 use crate::support::after;
 use kc_audit::audit;
 use kc_digests::Lanes;
@@ -6,11 +6,11 @@ use kc_state::dump;
 use std::alloc::Global;
 use std::thread::Threads;
 
-/// A VM boots in slot 0 with `abc` at guest frame 0, in frame 1.
+/// Boots a VM in slot 0 with `abc` at guest frame 0, in frame 1.
 const BOOTS: &str =
     "hfault 1\nhwrite 1 0 616263\nregvm 0\nregvcpu 0 0\nsetboot 0 0 3\nremap 0 0 1\nverify 0\n";
 
-/// How much is found in what these calls leave.
+/// The number of findings in what these calls leave.
 fn found_after<R: Threads + Sync>(rt: &R, alloc: Global, lines: &str) -> Option<usize> {
     let core = after(alloc, lines)?;
     let dumped = dump(rt, alloc, &core, Lanes::Eight).ok()?;

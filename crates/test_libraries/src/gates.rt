@@ -7,11 +7,11 @@ use std::sync::{Mutex, Wait};
 use std::thread;
 use std::time::Duration;
 
-/// How often a call that is held looks before it gives up, each time after 1 ms.
+/// How often a call that is held checks before it gives up; it checks every 1 ms.
 const TURNS: u32 = 10_000;
 
-/// Holds each call of a list until the one before it there has been answered, and no others. Counts how often each call is
-/// told, before and after.
+/// Holds each call of a list until the one before it in the list has been answered, and no other calls. Counts how
+/// often each call passes, before and after.
 #[derive(Drop)]
 pub struct Watch<'a, R: Wait + Clock + Sync> {
     rt: &'a R,
@@ -21,7 +21,7 @@ pub struct Watch<'a, R: Wait + Clock + Sync> {
 }
 
 impl<'a, R: Wait + Clock + Sync> Watch<'a, R> {
-    /// A gate for so many calls, of which those of a list are let in in its order.
+    /// Makes a gate for this many calls, of which those of a list are let in in its order.
     pub fn new(rt: &'a R, alloc: Global, calls: usize, order: &'a [usize]) -> Option<Watch<'a, R>> {
         Some(Watch {
             rt,
@@ -31,7 +31,7 @@ impl<'a, R: Wait + Clock + Sync> Watch<'a, R> {
         })
     }
 
-    /// Whether each call was told once, before and after, and none was held for too long.
+    /// Whether each call passed once, before and after, and none was held for too long.
     pub fn has_told_each_once(&self) -> bool {
         let counts = self.counts.lock(self.rt);
         for count in counts.iter() {
@@ -43,7 +43,7 @@ impl<'a, R: Wait + Clock + Sync> Watch<'a, R> {
     }
 }
 
-/// The call that comes before a call in a list, if any does.
+/// The call before a call in a list, if there is one.
 fn earlier(order: &[usize], number: usize) -> Option<usize> {
     let mut earlier = None;
     for it in order {
@@ -61,7 +61,7 @@ fn is_answered<R: Wait>(rt: &R, counts: &Mutex<Vec<(u32, u32)>>, number: usize) 
     number < counts.len() && counts[number].1 > 0
 }
 
-/// Waits until a call has been answered; whether it was, before the waiting was given up.
+/// Waits until a call has been answered; returns whether it was before the wait was given up.
 fn wait_for<R: Wait + Clock>(rt: &R, counts: &Mutex<Vec<(u32, u32)>>, number: usize) -> bool {
     for _turn in 0..TURNS {
         if is_answered(rt, counts, number) {

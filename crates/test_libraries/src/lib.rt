@@ -1,4 +1,4 @@
-//! Tests of what no file can tell through the program: gates, threads, how faults are shown, and calls of libraries.
+//! Tests of what no file can show through the program: gates, threads, how faults are shown, and library calls.
 #![tactic(auto)]
 
 #[cfg(test)]

@@ -13,14 +13,14 @@ use std::rt::Clock;
 use std::sync::Wait;
 use std::thread::Threads;
 
-/// Calls 0 to 9: a VM of two virtual processors boots, and each is supplied with a frame.
+/// Calls 0 to 9: a VM with two virtual processors boots, and each of them is given a frame.
 const HOST: &str =
     "hfault 1\nhwrite 1 0 616263\nregvm 0\nregvcpu 0 0\nregvcpu 0 1\nsetboot 0 0 3\nremap 0 0 1\nverify 0\nmap 0 0 2\nmap 0 1 3\n";
 
 /// Calls 10 to 12: two writes of a byte to a guest frame, and a read.
 const GUEST: &str = "gwrite 0 0 7 0 2a\ngwrite 0 0 7 0 2a\ngread 0 0 7 0 1\n";
 
-/// Calls 13 to 15: the same of another virtual processor.
+/// Calls 13 to 15: the same by another virtual processor.
 const OTHER: &str = "gwrite 0 1 8 0 2b\ngwrite 0 1 8 0 2b\ngread 0 1 8 0 1\n";
 
 /// The last program has no calls.
@@ -34,11 +34,11 @@ const ACTORS: [(Actor, &str); 4] = [
 /// The guests first touch memory before the host supplies it.
 const ORDER: [usize; 16] = [0, 1, 2, 3, 4, 5, 6, 7, 10, 13, 8, 9, 11, 14, 12, 15];
 
-/// The calls in this order, and behind each what it is answered.
+/// The calls in this order, each followed by its reply.
 const HISTORY: &str =
     "hfault 1\ndone\nhwrite 1 0 616263\ndone\nregvm 0\ndone\nregvcpu 0 0\ndone\nregvcpu 0 1\ndone\nsetboot 0 0 3\nimage 0\nremap 0 0 1\ndone\nverify 0\ndone\ngwrite 0 0 7 0 2a\nfault 7\ngwrite 0 1 8 0 2b\nfault 8\nmap 0 0 2\ndone\nmap 0 1 3\ndone\ngwrite 0 0 7 0 2a\ndone\ngwrite 0 1 8 0 2b\ndone\ngread 0 0 7 0 1\ndata 2a\ngread 0 1 8 0 1\ndata 2b\n";
 
-/// A program of each actor.
+/// The programs of the actors.
 fn programs(alloc: Global) -> Option<Vec<Program>> {
     let mut programs = Vec::new(alloc);
     for (actor, lines) in ACTORS {
@@ -48,7 +48,8 @@ fn programs(alloc: Global) -> Option<Vec<Program>> {
     Some(programs)
 }
 
-/// Runs the programs, whose calls are let in in this order; no answer where one was not told once, or held for too long.
+/// Runs the programs, whose calls are let in in this order; `None` if a call did not pass once, or was held for too
+/// long.
 fn run<R: Threads + Wait + Clock + Sync>(
     rt: &R,
     alloc: Global,
@@ -83,7 +84,7 @@ fn push_reply_line(text: &mut Vec<u8>, reply: &Reply) -> Option<()> {
     Some(())
 }
 
-/// The calls of a history, each with its reply behind it, as they are written.
+/// The calls of a history, each followed by its reply, as they are written.
 fn text_of(alloc: Global, history: &History) -> Option<Vec<u8>> {
     let mut text = Vec::new(alloc);
     for entry in history.volume().entries() {
@@ -122,7 +123,7 @@ fn threads_follow_a_script(rt: HostRuntime) {
     assert_eq!(rt; is_run(&rt, rt.alloc(), &ORDER, HISTORY), Some(true));
 }
 
-/// Whether two workers make the calls of a run's history once more, and tell each once, by its place there.
+/// Whether two workers can make the calls of a run's history again, each passing the gate once under its place there.
 fn is_made_again<R: Threads + Wait + Clock + Sync>(rt: &R, alloc: Global) -> Option<bool> {
     let config = small_config(alloc)?;
     let Ok(kept) = config.copy() else {
@@ -135,7 +136,7 @@ fn is_made_again<R: Threads + Wait + Clock + Sync>(rt: &R, alloc: Global) -> Opt
     Some(gate.has_told_each_once())
 }
 
-/// The calls are made once more, and their replies not taken from the history.
+/// The calls are made again; their replies are not taken from the history.
 #[test]
 fn the_calls_of_a_history_are_made_again(rt: HostRuntime) {
     assert_eq!(rt; is_made_again(&rt, rt.alloc()), Some(true));

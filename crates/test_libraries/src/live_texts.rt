@@ -6,7 +6,8 @@ use std::rt::Clock;
 use std::sync::Wait;
 use std::thread::Threads;
 
-/// The text of a live run whose calls are let in in this order; none where one was held too long, or not told once.
+/// The text of a live run whose calls are let in in this order; `None` if one was held for too long, or did not pass
+/// once.
 fn written<R: Threads + Wait + Clock + Sync>(
     rt: &R,
     alloc: Global,
@@ -26,7 +27,7 @@ fn written<R: Threads + Wait + Clock + Sync>(
     }
 }
 
-/// The history has the order in which the calls were answered, and not that of the trace.
+/// The history has the calls in the order in which they were answered, not in that of the trace.
 #[test]
 fn what_is_answered_first_comes_first(rt: HostRuntime) {
     let trace = b"kcore-trace 1\ntake\ngread 0 0 0 0 1\n";

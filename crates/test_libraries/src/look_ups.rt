@@ -1,10 +1,10 @@
-//! What the core shows of its state, where a program cannot ask for it.
+//! What the core shows of its state in cases where a program cannot ask for it.
 use crate::support::after;
 use kc_core::KCore;
 use kc_types::Owner;
 use std::alloc::Global;
 
-/// Whether an owner has frames of these numbers, in this order.
+/// Whether an owner has frames with these numbers, in this order.
 fn has_frames(core: &KCore, owner: Owner, numbers: &[u32]) -> bool {
     let Ok(frames) = core.frames_of(owner) else {
         return false;
@@ -20,7 +20,7 @@ fn has_frames(core: &KCore, owner: Owner, numbers: &[u32]) -> bool {
     true
 }
 
-/// Whether an owner has these frames once a free frame was taken, and frame 2 given.
+/// Whether an owner has these frames after a free frame was taken and frame 2 given.
 fn has_then(alloc: Global, owner: Owner, numbers: &[u32]) -> Option<bool> {
     let core = after(alloc, "take\ngive 2\n")?;
     Some(has_frames(&core, owner, numbers))

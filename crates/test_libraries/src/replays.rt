@@ -9,7 +9,7 @@ use std::rt::Clock;
 use std::sync::Wait;
 use std::thread::Threads;
 
-/// The replies to some calls of a small core by so many workers.
+/// The replies to some calls of a small core by this many workers.
 fn replies<R: Threads + Wait + Clock + Sync>(
     rt: &R,
     alloc: Global,
@@ -33,7 +33,8 @@ fn are_replies(alloc: Global, replies: &[Reply], text: &str) -> bool {
     }
 }
 
-/// Whether so many workers give the replies to the calls of two waves, some of which are held, and tell the gate each once.
+/// Whether this many workers give the replies to the calls of two waves, some of which are held, and each call passes
+/// the gate once.
 fn are_made_by<R: Threads + Wait + Clock + Sync>(
     rt: &R,
     alloc: Global,
@@ -70,7 +71,7 @@ fn may_end_in<R: Threads + Wait + Clock + Sync>(
     Some(gate.has_told_each_once() && are_replies(alloc, &made, text))
 }
 
-/// The replies stand in the order of the trace, whichever call ended first.
+/// The replies are in the order of the trace, whichever call ended first.
 #[test]
 fn replies_stand_in_their_places(rt: HostRuntime) {
     for order in [[2, 1, 0], [0, 1, 2], [1, 2, 0]] {

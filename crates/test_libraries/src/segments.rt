@@ -8,7 +8,7 @@ use std::rt::Clock;
 use std::sync::Wait;
 use std::thread::Threads;
 
-/// Makes the calls of a segment; whether they were made.
+/// Makes the calls of a segment; returns whether they were made.
 fn feed<R: Threads + Wait + Clock + Sync>(
     rt: &R,
     alloc: Global,
@@ -22,7 +22,7 @@ fn feed<R: Threads + Wait + Clock + Sync>(
     replayer.feed(rt, alloc, segment, gate).is_ok()
 }
 
-/// Makes some calls in segments of this length; whether they were made.
+/// Makes some calls in segments of this length; returns whether they were made.
 fn feed_all<R: Threads + Wait + Clock + Sync>(
     rt: &R,
     alloc: Global,
@@ -39,7 +39,8 @@ fn feed_all<R: Threads + Wait + Clock + Sync>(
     true
 }
 
-/// Whether each of six calls is told once by its place in the whole trace, where they come in segments of this length.
+/// Whether each of six calls passes the gate once, under its place in the whole trace, if they come in segments of
+/// this length.
 fn are_told_once<R: Threads + Wait + Clock + Sync>(
     rt: &R,
     alloc: Global,
@@ -53,7 +54,7 @@ fn are_told_once<R: Threads + Wait + Clock + Sync>(
     Some(is_fed && gate.has_told_each_once())
 }
 
-/// A gate is told each call by its place in the whole trace, wherever that is cut.
+/// A gate is given each call's place in the whole trace, wherever the trace is cut.
 #[test]
 fn gates_count_on_over_segments(rt: HostRuntime) {
     for length in [1, 2, 4, 6] {

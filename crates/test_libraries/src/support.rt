@@ -10,22 +10,23 @@ const ABC: [u8; 32] = [
     0xb0, 0x03, 0x61, 0xa3, 0x96, 0x17, 0x7a, 0x9c, 0xb4, 0x10, 0xff, 0x61, 0xf2, 0x00, 0x15, 0xad,
 ];
 
-/// Six calls: 0, 1, 3 and 5 share nothing, and 2 and 4 come after them.
+/// Six calls: 0, 1, 3 and 5 share nothing, and 2 and 4 come after some of these.
 pub const TWO_WAVES: &str = "hfault 1\nhfault 2\nhwrite 1 0 aa\ntake\nhfault 5\nhfault 3\n";
 
-/// 8 frames: 0 is the core's, 1 to 4 are the host's, 5 to 7 are free. Each VM has a leaf, and images of `abc` may run.
+/// Makes a configuration of 8 frames: 0 is the core's, 1 to 4 are the host's, 5 to 7 are free. Each VM has one leaf,
+/// and images of `abc` may run.
 pub fn small_config(alloc: Global) -> Option<Config> {
     let approved = Vec::from_slice(alloc, &[ABC]).ok()?;
     Config::try_new(8, 1, 4, 1, approved).ok()
 }
 
-/// The calls of a trace, whose header is left out.
+/// The calls of a trace given without its header.
 pub fn calls_of(alloc: Global, lines: &str) -> Option<Vec<Call>> {
     let trace = format!(in alloc; "kcore-trace 1\n{lines}").ok()?;
     read_trace(alloc, trace.as_bytes()).ok()
 }
 
-/// A small core after the calls of a trace, whose header is left out.
+/// A small core after the calls of a trace given without its header.
 pub fn after(alloc: Global, lines: &str) -> Option<KCore> {
     let mut core = KCore::boot(alloc, small_config(alloc)?).ok()?;
     let calls = calls_of(alloc, lines)?;

@@ -1,11 +1,11 @@
-//! How each fault is shown: as the line that is told of it, without its beginning and its end.
+//! How each fault is shown: the line that reports it, without its beginning and its end.
 use kc_cli::TextFault;
 use kc_dump_text::DumpFault;
 use kc_trace::{ConfigTextFault, TraceFault};
 use kc_types::ConfigFault;
 use std::alloc::Global;
 
-/// Whether a fault is shown so.
+/// Whether a fault is shown like this.
 fn is_shown(alloc: Global, fault: TextFault, words: &str) -> bool {
     match format!(in alloc; "{fault}") {
         Ok(shown) => shown.as_str() == words,

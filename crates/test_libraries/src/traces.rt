@@ -2,7 +2,7 @@
 use kc_trace::{read_trace, write_trace};
 use std::test::Fail;
 
-/// The second header is written where one of its two calls is in the list, and only there.
+/// The second header is written exactly if one of its two calls is in the list.
 #[test]
 fn what_was_read_is_written(rt: HostRuntime) -> Result<(), Fail> {
     let alloc = rt.alloc();

@@ -1,4 +1,4 @@
-//! A core that turns over while its actors call, and a follower that replays the volumes.
+//! A core that is turned over while its actors call, and a follower that replays the volumes.
 use crate::support::{calls_of, small_config};
 use kc_core::KCore;
 use kc_digests::Lanes;
@@ -12,17 +12,17 @@ use std::sync::Wait;
 use std::test::Fail;
 use std::thread::{Threads, join};
 
-/// A VM boots with its guest frame 0 in frame 1.
+/// Boots a VM with its guest frame 0 in frame 1.
 const BOOTS: &str =
     "hfault 1\nhwrite 1 0 616263\nregvm 0\nregvcpu 0 0\nsetboot 0 0 3\nremap 0 0 1\nverify 0\n";
 
-/// What the host makes over and over, and what the guest does, which shares its frame for a while.
+/// What the host calls over and over, and what the guest calls, which shares its frame for a while.
 const HOST: &str = "hfault 1\nhwrite 1 0 01\nhread 1 0 2\ntake\ngive 5\n";
 
 const GUEST: &str =
     "grant 0 0 0\ngwrite 0 0 0 1 02\ngread 0 0 0 0 2\nrevoke 0 0 0\ngwrite 0 0 0 0 03\n";
 
-/// How often each makes them, and how many of its calls come between two turns of the one that turns over.
+/// How often each makes its calls, and how many calls the one that turns over makes between two turns.
 const ROUNDS: usize = 200;
 
 const BETWEEN_TURNS: usize = 301;
@@ -59,7 +59,7 @@ fn make_calls<R: Wait>(rt: &R, core: &LiveCore, seat: &mut Seat, calls: &[Call])
     Some(())
 }
 
-/// The same, and turns the core over behind so many calls, again and again: the volumes.
+/// Does the same, and turns the core over after this many calls, again and again; returns the volumes.
 fn make_and_turn<R: Wait>(
     rt: &R,
     alloc: Global,
@@ -82,7 +82,7 @@ fn make_and_turn<R: Wait>(
     Some(volumes)
 }
 
-/// The receipts that are of a volume, and the others, in order.
+/// The receipts of a volume, and the others, in order.
 fn cut(alloc: Global, receipts: Vec<Receipt>, number: u64) -> Option<(Vec<Receipt>, Vec<Receipt>)> {
     let (mut row, mut others) = (Vec::new(alloc), Vec::new(alloc));
     for receipt in receipts {
@@ -95,7 +95,7 @@ fn cut(alloc: Global, receipts: Vec<Receipt>, number: u64) -> Option<(Vec<Receip
     Some((row, others))
 }
 
-/// Whether the receipts of host and guest that are of a volume are its own, each once; the others.
+/// Whether the receipts of host and guest for a volume are its own, each once, and the other receipts.
 fn settled(
     alloc: Global,
     volume: &Volume,
@@ -109,7 +109,7 @@ fn settled(
     Some((same, host, guest))
 }
 
-/// Whether the volumes come one behind the other, and the receipts are theirs, each once.
+/// Whether the volumes follow one another, and the receipts are theirs, each once.
 fn are_settled(
     alloc: Global,
     volumes: &[Volume],
@@ -127,7 +127,7 @@ fn are_settled(
     Some(same && host.is_empty() && guest.is_empty())
 }
 
-/// Whether two workers that replay the volumes one behind the other get their replies; the core that they leave.
+/// Whether two workers that replay the volumes in order get their replies, and the core that they leave.
 fn followed<R: Threads + Wait + Sync>(
     rt: &R,
     alloc: Global,
@@ -153,7 +153,7 @@ fn dump_of<R: Threads + Sync>(rt: &R, alloc: Global, core: &KCore) -> Option<Vec
     write_dump(alloc, &dumped).ok()
 }
 
-/// What a core leaves that was turned over while its actors called.
+/// What is left of a core that was turned over while its actors called.
 #[derive(Drop)]
 struct Turned {
     volumes: Vec<Volume>,
@@ -170,7 +170,8 @@ fn boot<R: Wait>(rt: &R, alloc: Global, core: &LiveCore, host: &mut Seat) -> Opt
     Some(())
 }
 
-/// Host and guest call from a thread each, and the host turns the core over as it goes: the volumes, the last one too.
+/// Lets host and guest call from a thread each, while the host turns the core over; returns the volumes, with the last
+/// one.
 fn volumes_of<R: Threads + Wait + Sync>(
     rt: &R,
     alloc: Global,
@@ -206,7 +207,7 @@ fn run_over<R: Threads + Wait + Sync>(rt: &R, alloc: Global) -> Option<Turned> {
     })
 }
 
-/// Whether the volumes are followed to the core that they left, and the receipts are theirs.
+/// Whether the volumes can be followed to the core that they left, and the receipts are theirs.
 fn is_followed<R: Threads + Wait + Sync>(rt: &R, alloc: Global) -> Option<bool> {
     let turned = run_over(rt, alloc)?;
     let (same, left) = followed(rt, alloc, &turned.volumes)?;
@@ -225,7 +226,7 @@ fn a_core_that_turns_over_is_followed(rt: HostRuntime) {
     assert_eq!(rt; is_followed(&rt, rt.alloc()), Some(true));
 }
 
-/// Makes so many calls of one seat, each of which is refused.
+/// Makes this many calls from one seat, each of which is refused.
 fn call_often<R: Wait>(rt: &R, core: &LiveCore, seat: &mut Seat, count: usize) -> bool {
     for _ in 0..count {
         if core.call(rt, seat, Call::HostFault { frame: 0 }).is_err() {

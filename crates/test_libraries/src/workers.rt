@@ -1,11 +1,11 @@
-//! Numbers of workers that no word asks for, since the words are judged first.
+//! Numbers of workers that cannot be asked for on the command line, which is judged first.
 use kc_cli::{Lanes, Mem, Origin, ReplayForm, ReplayOrder, TextFault, replay_text};
 use std::alloc::{AllocError, Global};
 use std::sync::Wait;
 use std::test::Fail;
 use std::thread::Threads;
 
-/// What the engine answers to so many workers, and how far it read the configuration and the trace.
+/// What the engine returns for this many workers, and how far it read the configuration and the trace.
 fn worked(
     rt: &(impl Threads + Wait + Sync),
     alloc: Global,

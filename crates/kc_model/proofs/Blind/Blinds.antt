@@ -30,7 +30,7 @@ use Rattle.kc_model.proofs.Local.VerifyLocal.{pages-same}
 use Rattle.kc_model.proofs.States.Slots.{none-at}
 use Rattle.kc_types.specs.Configuration.{slot_count}
 
--- what a call does is the same where the secret bytes are hidden
+-- a call has the same effect if the secret bytes are hidden
 pub record IsBlind (s : Secret) (m : State) (call : Call) : Type 0 where
   pub state : hidden s (effect m call).1 ≡ hidden s (effect (hidden s m) (hidden_call s call)).1
   pub answer : reads_secret s call ≡ false → (effect m call).0 ≡ (effect (hidden s m) (hidden_call s call)).0
@@ -39,7 +39,7 @@ pub record IsBlind (s : Secret) (m : State) (call : Call) : Type 0 where
 pub running-kept : (m : State) (w : ℕ) (slot : Slot) (v : ℕ) → is_active slot.phase ≡ is_active (slot_at m w).phase → is_running (with_slot m w slot) v ≡ is_running m v
 running-kept m w slot v same = part-set (λ (x : Slot). is_active x.phase) m.slots w slot empty_slot same v
 
--- a frame that is no secret, changed
+-- a frame that is not secret is changed
 opened : (s : Secret) (m : State) (f : ℕ) (change : Frame → Frame) → is_secret s (is_running m s.vm) (frame_at m f) ≡ false
     → map (hidden_frame s (is_running m s.vm)) (set m.frames f (change (frame_at m f))) ≡ map (hidden_frame s (is_running m s.vm)) (set (map (hidden_frame s (is_running m s.vm)) m.frames) f (change (frame_at (hidden s m) f)))
 opened s m f change e = frames-written s (is_running m s.vm) m.frames f (change (frame_at m f)) (change (frame_at (hidden s m) f)) (ap (λ (x : Frame). hidden_frame s (is_running m s.vm) (change x)) (sym (frame-open s m f e)))
@@ -102,7 +102,7 @@ blind-host_write s m f off bytes is private served = record {
   answer = λ _. refl;
 }
 
--- a slot alone that is written
+-- only a slot is written
 blind-slot : (s : Secret) (m : State) (w : ℕ) (slot : Slot) → is_active slot.phase ≡ is_active (slot_at m w).phase → hidden s (with_slot m w slot) ≡ hidden s (with_slot (hidden s m) w slot)
 blind-slot s m w slot same = alike-by s (with_slot m w slot) (with_slot (hidden s m) w slot) (is_running m s.vm) (running-kept m w slot s.vm same) refl refl refl (frames-kept s (is_running m s.vm) m.frames)
 

@@ -40,7 +40,7 @@ blind-answer s m call is private grants reads =
     (blind-unless (refusal m call) s m call is private grants refl).answer reads
     ∙ ap (λ refused. (unless_refused refused (hidden s m) (hidden_call s call)).0) (sym (refusal-hidden s m call))
 
--- what a call does with secrets shows without its bytes
+-- what a call does with secrets does not depend on its bytes
 grants-hidden : (s : Secret) (call : Call) → grants_secret s (hidden_call s call) ≡ grants_secret s call
 grants-hidden s (GuestWrite v c g off bytes) = refl
 grants-hidden s _ = refl

@@ -30,7 +30,7 @@ use Rattle.kc_model.proofs.Blind.Unseen.{open-mapped}
 use Rattle.kc_model.proofs.Blind.Blinds.{running-kept, running-elsewhere}
 use Rattle.kc_types.specs.Configuration.{slot_count}
 
--- a state whose slot runs or not, as told
+-- a state whose slot runs or not, as `b` says
 private-by : (s : Secret) (m : State) (b : Bool) → is_running m s.vm ≡ b → ((f : ℕ) → is_secret s b (frame_at m f) ≡ true → (frame_at m f).share ≡ 0) → IsPrivate s m
 private-by s m b running private f e = private f (subst (λ t. is_secret s t (frame_at m f) ≡ true) running e)
 
@@ -125,7 +125,7 @@ private-dropped s m v g f private =
     let x : Frame = record (frame_at m f) { owner = Free; gfn = None; present = false; bytes = zero_page } in
     private-slot s (record (with_frame m f x) { free = m.free ++ f ∷ [] }) v _ (private-write s m f x private (λ e. absurd cc)) refl
 
--- grants of frames that are no secrets, and revokes of any
+-- grants of frames that are not secret, and revokes of any
 private-grants : (s : Secret) (m : State) (v g n : ℕ) → IsPrivate s m → ((h : ℕ) → g ≤ h → h < g + n → is_secret s (is_running m s.vm) (frame_at m (backing (mapped_at m v h))) ≡ false) → IsPrivate s (with_each m v (range_with_len g n) granted)
 private-grants s m v g zero private shown = private
 private-grants s m v g (suc n) private shown =

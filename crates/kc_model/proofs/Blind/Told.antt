@@ -99,7 +99,7 @@ verifies : (v : ℕ) (m : State) (w : ℕ) (first : Option ℕ) → (v ≡ w →
 verifies v m w None other = elsewhere (all_trimmed m w (slot_at m w).images) w _ v other ∙ ap (λ (slots : List Slot). (get_or slots v empty_slot).phase) (slots-trimmed m w (slot_at m w).images)
 verifies v m w (Some i) other = elsewhere m w _ v other
 
--- a slot that is written stands in its phase, or there is none
+-- a slot that is written is in its new phase, or is empty
 written : (m : State) (w : ℕ) (slot : Slot) → ((slot_at (with_slot m w slot) w).phase ≡ slot.phase) ⊎ ((slot_at (with_slot m w slot) w).phase ≡ Empty)
 written m w slot = elim (set-here m.slots w slot empty_slot) [
   | inl is ↦ inl (ap (λ (s : Slot). s.phase) is)
@@ -166,7 +166,7 @@ pub measured-by : (m : State) (call : Call) (v : ℕ) → has_turned m (next m c
 unfolding next
 measured-by m call v turned there = measured-unless (refusal m call) m call v refl turned there
 
--- the images of a slot that is measured, where it is not the secret's
+-- the images of a slot that is measured, if it is not the secret's
 images-hidden : (s : Secret) (m : State) (w : ℕ) → IsLawful m → refusal m (Verify w) ≡ None → (w ≡ s.vm → ⊥) → measured_images m w ≡ measured_images (hidden s m) w
 images-hidden s m w is served ne = at_each (measured_image m w) (measured_image (hidden s m) w) (slot_at m w).images (λ i d lt.
     let seen = verify-served m w served in

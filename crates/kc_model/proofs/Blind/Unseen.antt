@@ -14,7 +14,7 @@ use Rattle.kc_model.specs.Blind.{Secret, has_gfn, is_secret, hidden_frame, is_ru
 use Rattle.kc_model.proofs.States.Each.{any-same}
 use Rattle.kc_types.specs.Configuration.{slot_count}
 
--- lists that a function went over
+-- a list to which a function was mapped
 pub at-map : {X : Type 0} (change : X → X) (xs : List X) (i : ℕ) (d : X) → change d ≡ d → get_or (map change xs) i d ≡ change (get_or xs i d)
 at-map change [] i d same = sym same
 at-map change (x ∷ xs) zero d same = refl
@@ -28,7 +28,7 @@ pub map-same : {X : Type 0} (change : X → X) (xs : List X) (d : X) → ((i : �
 map-same change [] d same = refl
 map-same change (x ∷ xs) d same = let first = same zero (omega arith) in let rest = map-same change xs d (λ i lt. same (suc i) (omega arith)) in cc
 
--- hiding once is hiding
+-- hiding twice is hiding once
 with_hidden : (s : Secret) (b : Bool) (frame : Frame) (t : Bool) → is_secret s b frame ≡ t → hidden_frame s b (hidden_frame s b frame) ≡ hidden_frame s b frame
 with_hidden s b frame true e = rw e refl
 with_hidden s b frame false e = rw e refl
@@ -36,7 +36,7 @@ with_hidden s b frame false e = rw e refl
 hidden_frame-twice : (s : Secret) (b : Bool) (frame : Frame) → hidden_frame s b (hidden_frame s b frame) ≡ hidden_frame s b frame
 hidden_frame-twice s b frame = with_hidden s b frame (is_secret s b frame) refl
 
--- a frame that is no secret stays
+-- a frame that is not secret stays
 pub open-frame : (s : Secret) (b : Bool) (frame : Frame) → is_secret s b frame ≡ false → hidden_frame s b frame ≡ frame
 open-frame s b frame e = ap (λ t. record frame { bytes = cond t [] frame.bytes }) e
 
@@ -78,7 +78,7 @@ hidden-idle s m idle = ap (λ (frames : List Frame). record m { frames = frames 
     not-secret : (frame : Frame) → is_secret s (is_running m s.vm) frame ≡ false
     not-secret frame = rw idle (and-false (same_owner frame.owner (Vm s.vm)) (has_gfn s.gfns frame.gfn))
 
--- frames that are no secrets
+-- frames that are not secret
 
 pub open-owner : (s : Secret) (b : Bool) (frame : Frame) → same_owner frame.owner (Vm s.vm) ≡ false → is_secret s b frame ≡ false
 open-owner s b frame e = rw e refl
@@ -99,14 +99,14 @@ and-parts false b c e = refl
 pub open-gfn : (s : Secret) (b : Bool) (frame : Frame) (g : ℕ) → frame.gfn ≡ Some g → s.gfns g ≡ false → is_secret s b frame ≡ false
 open-gfn s b frame g gfn e = and-parts _ (has_gfn s.gfns frame.gfn) b (ap (has_gfn s.gfns) gfn ∙ e)
 
--- a shared frame is no secret, where no secret is shared
+-- a shared frame is not secret if no secret is shared
 pub open-shared : (s : Secret) (m : State) (f : ℕ) → IsPrivate s m → 0 < (frame_at m f).share → is_secret s (is_running m s.vm) (frame_at m f) ≡ false
 open-shared s m f private some = elim (cases_Bool (is_secret s (is_running m s.vm) (frame_at m f))) [
   | inl secret ↦ let none = private f secret in absurd (omega arith)
   | inr open_it ↦ open_it
 ]
 
--- the mapped frame of a guest frame that is not named secret
+-- the mapped frame of a guest frame that is not one of the secret's
 pub open-mapped : (s : Secret) (m : State) (v g f : ℕ) → IsLawful m → v < slot_count m.config → mapped_at m v g ≡ Some f → names_secret s v g ≡ false → is_secret s (is_running m s.vm) (frame_at m f) ≡ false
 open-mapped s m v g f is v_in mapped other = elim (cases_eq v s.vm) [
   | inl same ↦ open-gfn s (is_running m s.vm) (frame_at m f) g ((is.mapped v g f v_in).0 mapped).1 (let t = eq-eqb v s.vm same in rw t at other)

@@ -1,4 +1,5 @@
--- Through calls without a change of an active VM's frame that is not shared, its bytes change by its own virtual processors' writes alone.
+-- Through calls without a change of an active VM's frame that is not shared, its bytes change only by its own virtual
+-- processors' writes.
 use Rattle.std.proofs.Common.{ℕ, suc, ◌≡◌, ◌<◌, ◌+◌, inl, inr, false, nat_eq, List, length, Option, None, Some, refl, sym, ap, ◌∙◌, arith}
 use Rattle.std.proofs.lemmas.Bool.{cases_Bool, eqb-true}
 use Rattle.kc_types.specs.declared.refusal.Refusal.{Refusal}
@@ -38,7 +39,7 @@ verify-still : (m : State) (v w f : ℕ) → w ≡ v → IsActive m v → (frame
 unfolding next
 verify-still m v w f same active = verify-unless (refusal m (Verify w)) m v w f refl same active
 
--- what is no write of the VM's virtual processors
+-- a call that is not a write of the VM's virtual processors
 quiet : (m : State) (call : Call) (v f : ℕ) → IsActive m v → (writes_for v call ≡ false → (frame_at (next m call).1 f).bytes ≡ (frame_at m f).bytes) → is_write_of v call ≡ false → (frame_at (next m call).1 f).bytes ≡ (frame_at m f).bytes
 quiet m (GuestWrite w c g off bytes) v f active keeps harmless = keeps harmless
 quiet m (Verify w) v f active keeps harmless = elim (cases_Bool (nat_eq w v)) [

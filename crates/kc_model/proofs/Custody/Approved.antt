@@ -19,7 +19,7 @@ use Rattle.kc_model.specs.Custody.{has_turned, measured_image, measured_images}
 use Rattle.kc_model.proofs.Safe.Measured.{becomes_active}
 use Rattle.kc_model.proofs.Custody.Same.{not-turned}
 
--- bytes are the same where the test says so
+-- bytes are the same if the test says so
 pub same_bytes-is : (xs ys : List ℕ) → same_bytes xs ys ≡ true → xs ≡ ys
 same_bytes-is [] [] same = refl
 same_bytes-is [] (y ∷ ys) same = cc

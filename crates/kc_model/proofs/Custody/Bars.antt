@@ -1,4 +1,4 @@
--- The bars of a frame follow one another from the first line to the end, and each tells its custody all along.
+-- The bars of a frame follow one another from the first line to the end, and each has its custody throughout.
 use Rattle.std.proofs.Common.{ℕ, zero, suc, ◌≡◌, ◌<◌, ◌≤◌, ◌+◌, ◌-◌, inl, inr, Bool, true, false, cond, ◌||◌, nat_eq, List, [], ◌∷◌, ◌++◌, map, filter, All, refl, sym, ap, subst, ◌∙◌, arith}
 use Rattle.std.specs.List.{range_with_len}
 use Rattle.std.proofs.lemmas.Bool.{cases_eq, eq-eqb, ne_eqb, eqb-true, or_from, and_left, and_right, cond-true, cond-false, cond_both}
@@ -54,7 +54,7 @@ next-is calls f changes lines =
     let IsLine = λ (line : ℕ). (first_line ≤ line) × (line ≤ end_of_trace calls) in
     at-next IsLine (end_of_trace calls) f changes (omega arith, omega arith) (All-weaker (IsOnLine calls) (AtFrame IsLine f) (λ told is. at-frame IsLine f told (is.0, omega (arith, is.1))) changes lines)
 
--- later changes of the frame have later lines, and of all frames and slots no earlier ones
+-- later changes of the frame have later lines, and later changes of any frame or slot do not have earlier ones
 later-of-frame : (told : FrameChange) (more : Change) → Precedes (change.Frame told) more → AtFrame (λ line. told.line < line) told.frame more
 later-of-frame told (change.Frame more) before = λ same. elim before [
   | inl lt ↦ lt
@@ -92,7 +92,7 @@ follow-later calls f (change.Frame told ∷ more) order lines =
     by_frame end false rest is lt later = later
 follow-later calls f (change.Phase told ∷ more) order lines = follow-later calls f more order.1 (All-tail (IsOnLine calls) (change.Phase told) more lines)
 
--- of the first bars of frames one is the frame's
+-- one of the first bars is the frame's
 no-first : (m : State) (end f : ℕ) (changes : List Change) (low n : ℕ) → f < low → filter (is_bar_of f) (map (first_bar m end changes) (range_with_len low n)) ≡ []
 no-first m end f changes low zero lt = refl
 no-first m end f changes low (suc n) lt = cond-false (nat_eq low f) _ _ (ne_eqb low f (λ same. omega (arith, same, lt))) ∙ no-first m end f changes (low + 1) n (omega (arith, lt))
@@ -118,12 +118,12 @@ follow m calls f lt =
     let next = next-is calls f changes (on-lines m calls) in
     subst (Follow 1 end) (sym are) (refl, omega (arith, next.0), follow-later calls f changes (ordered m calls) (on-lines m calls))
 
--- a change on another line is none of this one
+-- a change on another line is not on this one
 elsewhere : (line f : ℕ) (told : Change) → (line_of told ≡ line → ⊥) → is_of_frame line f told ≡ false
 elsewhere line f (change.Frame told) differs = and_left _ _ (ne_eqb told.line line differs)
 elsewhere line f (change.Phase told) differs = refl
 
--- nothing is told of the frame up to its first change
+-- nothing is reported of the frame up to its first change
 untold-until : (end line f : ℕ) (changes : List Change) → IsInOrder changes → line < next_line end f changes → is_told changes line f ≡ false
 untold-until end line f [] order lt = refl
 untold-until end line f (change.Frame told ∷ more) order lt = by_frame (nat_eq told.frame f) refl (untold-until end line f more order.1) lt
@@ -135,7 +135,7 @@ untold-until end line f (change.Frame told ∷ more) order lt = by_frame (nat_eq
     by_frame false is rest lt = or_from _ _ (and_right (nat_eq told.line line) _ is) (rest lt)
 untold-until end line f (change.Phase told ∷ more) order lt = untold-until end line f more order.1 lt
 
--- changes that are all that is told of later lines than this one
+-- these changes are all that is reported of lines after this one
 record AreLater (m : State) (calls : List Call) (line : ℕ) (changes : List Change) : Type 0 where
   all : (n f : ℕ) → line < n → is_told (custody m calls) n f ≡ is_told changes n f
   behind : All (λ told. line ≤ line_of told) changes
@@ -143,7 +143,7 @@ record AreLater (m : State) (calls : List Call) (line : ℕ) (changes : List Cha
   lines : All (IsOnLine calls) changes
   tell : All (IsFrameTold m calls) changes
 
--- those behind a change
+-- the changes after a change
 behind-frame : (m : State) (calls : List Call) (line : ℕ) (told : FrameChange) (more : List Change) → AreLater m calls line (change.Frame told ∷ more) → AreLater m calls told.line more
 behind-frame m calls line told more are =
     let low : line ≤ told.line = All-head (λ told. line ≤ line_of told) (change.Frame told) more are.behind in
@@ -164,7 +164,7 @@ behind-phase m calls line told more are = record {
   tell = All-tail (IsFrameTold m calls) (change.Phase told) more are.tell;
 }
 
--- from a line on up to the frame's next change its custody stays
+-- from a line up to the frame's next change its custody stays
 stays-until : (m : State) (calls : List Call) → IsLawful m → (i f : ℕ) (changes : List Change) → AreLater m calls (i + 1) changes → (k : ℕ) → i ≤ k → k + 1 < next_line (end_of_trace calls) f changes → custody_at (state_at m calls k) f ≡ custody_at (state_at m calls i) f
 stays-until m calls is i f changes are k from below =
     let next = next-is calls f changes are.lines in

@@ -1,4 +1,4 @@
--- The changes among events, the events of calls that go on, and what is read off changes alone.
+-- The changes among events, the events of one trace after another, and what is read off changes alone.
 use Rattle.std.proofs.Common.{ℕ, suc, ◌≡◌, ◌+◌, List, [], ◌∷◌, ◌++◌, map, length, refl, sym, ap, ap₂, ◌∙◌, arith, append_assoc}
 use Rattle.std.specs.List.{flat_map}
 use Rattle.std.proofs.lemmas.List.Elements.{filter_map-append}
@@ -16,7 +16,7 @@ use Rattle.kc_model.specs.Next.{next, state_after}
 use Rattle.kc_model.specs.Custody.{changes_by, custody_from, custody, first_line}
 use Rattle.kc_model.specs.Events.{of_owner, access_by, events_by, events_from, events, change_in, changes_in}
 
--- the host's accesses are no changes
+-- the host's accesses are not changes
 changes-of-reads : (owner : Owner) → changes_in (of_owner event.Read owner) ≡ []
 changes-of-reads (Vm v) = refl
 changes-of-reads _ = refl
@@ -52,7 +52,7 @@ changes-of-events_from n m (call ∷ calls) =
 pub changes-of-events : (m : State) (calls : List Call) → changes_in (events m calls) ≡ custody m calls
 changes-of-events m calls = changes-of-events_from first_line m calls
 
--- calls behind others
+-- calls after others
 pub events-append : (n : ℕ) (m : State) (xs ys : List Call) → events_from n m (xs ++ ys) ≡ events_from n m xs ++ events_from (n + length xs) (state_after m xs) ys
 events-append n m [] ys = let e : n ≡ n + 0 = omega arith in ap (λ k. events_from k m ys) e
 events-append n m (x ∷ xs) ys =

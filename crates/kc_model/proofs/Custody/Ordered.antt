@@ -1,4 +1,5 @@
--- Changes stand by line, and those of a call by frames rising and then slots rising; each is of a frame or slot that there is, by a call of the trace.
+-- Changes are in the order of their lines, and those of a call have first frames and then slots, both ascending; each
+-- is of a frame or slot that exists, by a call of the trace.
 use Rattle.std.proofs.Common.{ℕ, zero, suc, ◌≡◌, ◌<◌, ◌≤◌, ◌+◌, inl, inr, Bool, true, false, cond, List, [], ◌∷◌, ◌++◌, map, filter, All, refl, ap, arith}
 use Rattle.std.specs.List.{range_with_len}
 use Rattle.std.proofs.lemmas.List.Elements.{All-append, All-map, All-filter, All-weaker, All-head, All-tail}
@@ -35,7 +36,7 @@ of-call P n old new frames slots =
     (each-made P change.Frame (frame_change n old new) (has_moved old new) old.config.frames frames)
     (each-made P change.Phase (phase_change n old new) (has_turned old new) (slot_count old.config) slots)
 
--- each is of a frame or a slot that there is, by a call of the trace
+-- each is of a frame or slot that exists, by a call of the trace
 pub within : (m : State) (calls : List Call) → All (IsWithin m calls) (custody m calls)
 within m calls = each-call (IsWithin m calls) first_line m calls (λ k lt.
     let frames : (state_at m calls k).config.frames ≡ m.config.frames = ap (λ (c : Configuration). c.frames) (config-at m calls k) in
@@ -48,7 +49,7 @@ abbrev pub line_of : Change → ℕ
 line_of (change.Frame told) = told.line
 line_of (change.Phase told) = told.line
 
--- one of an earlier line stands before
+-- a change on an earlier line comes before
 by-line : (a b : Change) → line_of a < line_of b → Precedes a b
 by-line (change.Frame a) (change.Frame b) lt = inl lt
 by-line (change.Frame a) (change.Phase b) lt = omega arith

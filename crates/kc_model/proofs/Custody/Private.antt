@@ -56,7 +56,7 @@ clears None m w v f is served mine same =
 by-safety : (m : State) (call : Call) (v f : ℕ) → IsLawful m → (frame_at m f).owner ≡ Vm v → (frame_at m f).share ≡ 0 → changes_bytes_of v call ≡ false → (frame_at (next m call).1 f).bytes ≡ (frame_at m f).bytes
 by-safety m call v f is mine private harmless = (safe m (call ∷ []) is).integrity.0 v f mine private harmless
 
--- the bytes of a VM's frame that is not shared and stays in its custody change by writes for the VM alone
+-- the bytes of a VM's frame that is not shared and stays in its custody change only by writes for the VM
 bytes : (m : State) (call : Call) (v f : ℕ) → IsLawful m → (frame_at m f).owner ≡ Vm v → (frame_at m f).share ≡ 0 → custody_at (next m call).1 f ≡ custody_at m f → writes_for v call ≡ false → (frame_at (next m call).1 f).bytes ≡ (frame_at m f).bytes
 unfolding next
 bytes m (Drop w c g) v f is mine private same harmless = drops (refusal m (Drop w c g)) m w c g v f refl mine same
@@ -65,7 +65,7 @@ bytes m (GuestWrite w c g off written) v f is mine private same harmless = by-sa
 bytes m (Verify w) v f is mine private same harmless = by-safety m (Verify w) v f is mine private harmless
 bytes m call v f is mine private same harmless = by-safety m call v f is mine private refl
 
--- the host is served at no such frame
+-- the host is not served at such a frame
 unseen : (m new : State) (call : Call) (answer : Reply) (v f : ℕ) → ServesOpenFrames m call answer new → (frame_at m f).owner ≡ Vm v → (frame_at m f).share ≡ 0 → IsKeptFrom f call answer
 unseen m new (HostRead g off len) (reply.Data read) v f served mine private = λ same. elim served [
   | inl host ↦ let h : (frame_at m f).owner ≡ Host = subst (λ x. (frame_at m x).owner ≡ Host) same host in cc

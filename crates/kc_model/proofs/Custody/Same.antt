@@ -1,4 +1,4 @@
--- The tests of frames' custody and slots' phases say yes exactly where they are the same.
+-- The tests of frames' custody and slots' phases hold exactly if they are the same.
 use Rattle.std.proofs.Common.{ℕ, ◌≡◌, Bool, true, false, not, ◌&&◌, nat_eq, Option, None, Some, refl, sym, ap, ◌∙◌}
 use Rattle.std.proofs.lemmas.Bool.{eq-eqb, eqb-true, and_parts}
 use Rattle.kc_types.specs.declared.owner.Owner.{Owner}
@@ -39,7 +39,7 @@ flag-is false false e = refl
 abbrev custody : Owner → Option ℕ → ℕ → Bool → Custody
 custody owner gfn share present = record { owner = owner; gfn = gfn; share = share; present = present }
 
--- two custodies that pass the test are one
+-- two custodies that pass the test are the same
 pub same_custody-is : (a b : Custody) → same_custody a b ≡ true → a ≡ b
 same_custody-is a b e =
     let three = and_parts (same_owner a.owner b.owner && same_gfn a.gfn b.gfn && nat_eq a.share b.share) (same_flag a.present b.present) e in
@@ -53,7 +53,7 @@ same_custody-is a b e =
     let second : custody b.owner b.gfn a.share a.present ≡ custody b.owner b.gfn b.share b.present = rw (share, present) refl in
     first ∙ second
 
--- what is not so is not
+-- if the negation is false, the proposition is true
 not-is : (b : Bool) → not b ≡ false → b ≡ true
 not-is true h = refl
 not-is false h = cc
@@ -62,7 +62,7 @@ not-is false h = cc
 pub not-moved : (old new : State) (f : ℕ) → custody_at new f ≡ custody_at old f → has_moved old new f ≡ false
 not-moved old new f same = ap (λ c. not (same_custody (custody_at old f) c)) same ∙ ap not (same_custody-refl (custody_at old f))
 
--- and one that has not is of the same
+-- a frame that has not moved is of the same custody
 pub is-same : (old new : State) (f : ℕ) → has_moved old new f ≡ false → custody_at new f ≡ custody_at old f
 is-same old new f still = sym (same_custody-is (custody_at old f) (custody_at new f) (not-is (same_custody (custody_at old f) (custody_at new f)) still))
 

@@ -1,4 +1,4 @@
--- Through calls without a change of a frame, all that is told of it stays.
+-- Through calls without a change of a frame, its custody stays.
 use Rattle.std.proofs.Common.{ℕ, zero, suc, ◌≡◌, ◌<◌, ◌≤◌, ◌+◌, ◌-◌, inl, inr, List, length, refl, sym, ap, ◌∙◌, arith}
 use Rattle.std.proofs.lemmas.Bool.{cases_lt}
 use Rattle.std.proofs.lemmas.List.{get_or_past}
@@ -14,7 +14,7 @@ use Rattle.kc_model.proofs.Footprints.Reaches.{config-at}
 use Rattle.kc_model.proofs.Custody.Same.{is-same}
 use Rattle.kc_model.proofs.Custody.Traced.{exact}
 
--- past the last frame there is none
+-- there is no frame past the last
 past : (m : State) (calls : List Call) (f k : ℕ) → IsLawful m → k ≤ length calls → m.config.frames ≤ f → custody_at (state_at m calls k) f ≡ custody_of (untouched Core)
 past m calls f k is le beyond =
     let there = lawful-at m calls is k le in
@@ -29,7 +29,7 @@ one-call m calls i j f is stretch none k from below =
       | inr beyond ↦ past m calls f (k + 1) is (omega (arith, below, ends)) beyond ∙ sym (past m calls f k is (omega (arith, below, ends)) beyond)
     ]
 
--- so many calls behind the first
+-- this many calls after the first
 after-some : (m : State) (calls : List Call) (i j f : ℕ) → IsLawful m → IsStretch calls i j → HasNoChange m calls i j f → (n : ℕ) → i + n ≤ j → custody_at (state_at m calls (i + n)) f ≡ custody_at (state_at m calls i) f
 after-some m calls i j f is stretch none zero le = let here : i + 0 ≡ i = omega arith in rw here refl
 after-some m calls i j f is stretch none (suc n) le =

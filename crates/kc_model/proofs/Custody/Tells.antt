@@ -1,4 +1,5 @@
--- Each change tells what it says: of a frame its custody, of a slot its phase, and images that are approved where it became active.
+-- Each change is right: of a frame its custody, of a slot its phase, and that the images are approved if it became
+-- active.
 use Rattle.std.proofs.Common.{ℕ, suc, ◌≡◌, ◌<◌, ◌+◌, true, List, [], ◌∷◌, length, map, filter, get_or, All, sym, ap, ap₂, subst, ◌∙◌, arith}
 use Rattle.std.specs.Prelude.{Contains}
 use Rattle.std.specs.List.{range_with_len}
@@ -41,7 +42,7 @@ tells m calls k v turned = record {
       subst (λ phase. All (λ (image : MeasuredImage). Contains m.config.approved image.digest) (images_for phase (measured_images old v))) (sym active) approved;
 }
 
--- a change of a frame by it
+-- a change of a frame by the call
 tells-frame : (m : State) (calls : List Call) (k f : ℕ) → TellsFrame m calls (frame_change (first_line + k) (state_at m calls k) (state_at m calls (suc k)) f)
 tells-frame m calls k f = record {
   before = λ n at. let same : n ≡ k = omega (arith, at) in ap (λ i. custody_at (state_at m calls i) f) same;

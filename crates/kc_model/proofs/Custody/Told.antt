@@ -28,7 +28,7 @@ moved old new = filter (has_moved old new) (range_with_len 0 old.config.frames)
 abbrev pub turned : State → State → List ℕ
 turned old new = filter (has_turned old new) (range_with_len 0 (slot_count old.config))
 
--- it looks through the frames that moved, and the slots that turned
+-- a test looks through the frames that moved and the slots that turned
 frames-and-slots : (test : Change → Bool) (n : ℕ) (old new : State) → list_any test (changes_by n old new)
     ≡ (list_any (λ f. test (change.Frame (frame_change n old new f))) (moved old new) || list_any (λ v. test (change.Phase (phase_change n old new v))) (turned old new))
 frames-and-slots test n old new =
@@ -37,11 +37,11 @@ frames-and-slots test n old new =
     (list_any-map test change.Frame (frame_changes_by n old new) ∙ list_any-map (λ told. test (change.Frame told)) (frame_change n old new) (moved old new))
     (list_any-map test change.Phase (phase_changes_by n old new) ∙ list_any-map (λ told. test (change.Phase told)) (phase_change n old new) (turned old new))
 
--- a test of one number alone
+-- a test that only one number passes
 abbrev pub IsOfOne : (ℕ → Bool) → ℕ → Type 0
 IsOfOne test x = (y : ℕ) → (y ≡ x → ⊥) → test y ≡ false
 
--- the number is not among those of a range that is above it
+-- the number is not in a range that lies above it
 pub below-range : (test p : ℕ → Bool) (low n x : ℕ) → IsOfOne test x → x < low → list_any test (filter p (range_with_len low n)) ≡ false
 below-range test p low zero x one lt = refl
 below-range test p low (suc n) x one lt =
@@ -60,7 +60,7 @@ later-of-range : (test : ℕ → Bool) (low : ℕ) (b : Bool) (ys : List ℕ) �
 later-of-range test low true ys other = ap (λ b. b || list_any test ys) other
 later-of-range test low false ys other = refl
 
--- a number of a range is found among those that pass where it passes and the test says yes
+-- a number of a range is found among those that pass if it passes and is the tested one
 pub among-range : (test p : ℕ → Bool) (low n x : ℕ) → IsOfOne test x → low ≤ x → x < low + n → list_any test (filter p (range_with_len low n)) ≡ (p x && test x)
 among-range test p low zero x one from below = absurd (omega (arith, from, below))
 among-range test p low (suc n) x one from below = elim (cases_eq low x) [

@@ -1,4 +1,4 @@
--- The changes of a trace stand exactly where a call makes them.
+-- The changes of a trace are exactly those that its calls make.
 use Rattle.std.proofs.Common.{ℕ, zero, suc, ◌≡◌, ◌<◌, ◌+◌, Bool, false, ◌||◌, List, [], ◌∷◌, length, refl, sym, ap₂, ◌∙◌, arith}
 use Rattle.std.specs.List.{list_any}
 use Rattle.std.proofs.Math.Bool.{or-false}
@@ -22,14 +22,14 @@ module _ (test : ℕ → ℕ → Change → Bool) (found : State → State → �
       ≡ (list_any (test k x) (changes_by n m (next m call).1) || list_any (test k x) (custody_from (n + 1) (next m call).1 calls))
   first-or-later n m call calls k x = list_any-append (test k x) (changes_by n m (next m call).1) (custody_from (n + 1) (next m call).1 calls)
 
-  -- nothing of a trace is of an earlier line
+  -- nothing of a trace is on an earlier line
   untold-before : (n : ℕ) (m : State) (calls : List Call) (k x : ℕ) → k < n → list_any (test k x) (custody_from n m calls) ≡ false
   untold-before n m [] k x lt = refl
   untold-before n m (call ∷ calls) k x lt =
       first-or-later n m call calls k x
       ∙ or_from _ _ (told.other n k m (next m call).1 x (λ same. omega (arith, same, lt))) (untold-before (n + 1) (next m call).1 calls k x (omega (arith, lt)))
 
-  -- what is told of the call at this place
+  -- what is reported of the call at this place
   pub exact-from : (n : ℕ) (m : State) (calls : List Call) (k x : ℕ) → k < length calls → x < count m.config → list_any (test (n + k) x) (custody_from n m calls) ≡ found (state_at m calls k) (state_at m calls (suc k)) x
   exact-from n m [] k x lt low = absurd (omega (arith, lt))
   exact-from n m (call ∷ calls) zero x lt low =
@@ -55,6 +55,6 @@ exact = exact-at is_of_frame has_moved (λ config. config.frames) frames-told
 pub exact_for_slots : (m : State) (calls : List Call) → IsExactForSlots m calls
 exact_for_slots = exact-at is_of_slot has_turned slot_count slots-told
 
--- an end of a slot is told exactly where a call ends it
+-- an end of a slot is reported exactly if a call ends it
 pub exact_ends : (m : State) (calls : List Call) (k v : ℕ) → k < length calls → v < slot_count m.config → list_any (is_end_of (first_line + k) v) (custody m calls) ≡ has_ended (state_at m calls k) (state_at m calls (k + 1)) v
 exact_ends = exact-at is_end_of has_ended slot_count ends-told

@@ -49,7 +49,7 @@ call_6 : touches calls 6 ≡ false ∷ false ∷ false ∷ false ∷ false ∷ f
 unfolding slot_count
 call_6 = refl
 
--- a call that names nothing that exists touches nothing, and one on a slot that doesn't exist the free list alone
+-- a call that names nothing that exists touches nothing, and a call on a slot that does not exist only the free list
 absent_frame : touches (HostFault 8 ∷ []) 0 ≡ false ∷ false ∷ false ∷ false ∷ false ∷ false ∷ false ∷ false ∷ false ∷ false ∷ false ∷ false ∷ []
 unfolding slot_count
 absent_frame = refl

@@ -1,4 +1,4 @@
--- Which frames the lists may hold after a call: those of before, and those that the call's names bring.
+-- Which frames the lists may hold after a call: those from before, and those that the call's names bring.
 use Rattle.std.proofs.Common.{ℕ, zero, suc, ◌≡◌, ◌⊎◌, inl, inr, Bool, true, false, not, ◌&&◌, ◌||◌, Option, Some, None, nat_lt, nat_eq, eqb-true, List, [], ◌∷◌, ◌++◌, get_or, set, refl, sym, ap, subst, ◌∙◌}
 use Rattle.std.proofs.lemmas.Bool.{or_left, lt-ltb, and_from}
 use Rattle.kc_types.specs.declared.call.Call.{Call}
@@ -22,7 +22,7 @@ use Rattle.kc_model.proofs.Local.GuestLocals.{mapped-served}
 use Rattle.kc_model.proofs.Lawful.Verifies.{slots-trimmed}
 use Rattle.kc_model.proofs.Refusals.Answered.{vm-in, frame-in}
 
--- the lists hold no frame but those of before, and those that the call's names bring
+-- the lists hold only the frames from before and those that the call's names bring
 abbrev pub Grows : State → Call → State → Type 0
 Grows m call new = (owner : Owner) (f : ℕ) → listed_in new owner f ≡ true → (listed_in m owner f || gains m.config (listed_in m) call owner f) ≡ true
 
@@ -37,7 +37,7 @@ kept m call new free slots (Vm w) f h = or_left (is_in (slot_at m w).frames f) _
 kept-slot : (m : State) (v : ℕ) (there : Slot) → there.frames ≡ (slot_at m v).frames → (w : ℕ) → (get_or (set m.slots v there) w empty_slot).frames ≡ (slot_at m w).frames
 kept-slot m v there same w = part-set (λ (s : Slot). s.frames) m.slots v there empty_slot same w
 
--- what stands at a place after a write
+-- the element at a place after a write
 set-or : (xs : List Slot) (i : ℕ) (x : Slot) (k : ℕ) → ((k ≡ i) × (get_or (set xs i x) k empty_slot ≡ x)) ⊎ (get_or (set xs i x) k empty_slot ≡ get_or xs k empty_slot)
 set-or [] i x k = inr refl
 set-or (y ∷ ys) zero x zero = inl (refl, refl)

@@ -1,4 +1,4 @@
--- What a call needs lies in its footprint, over every trace from a lawful state.
+-- What a call needs lies in its footprint, in every trace from a lawful state.
 use Rattle.std.proofs.Common.{ℕ, zero, suc, ◌≡◌, ◌<◌, ◌≤◌, Bool, true, false, ◌&&◌, ◌||◌, Option, Some, None, nat_lt, List, length, refl, subst, ◌∙◌, arith}
 use Rattle.kc_types.specs.Configuration.{Configuration, slot_count}
 use Rattle.kc_types.specs.declared.call.Call.{Call}
@@ -78,7 +78,7 @@ module _ (m : State) (calls : List Call) (start : IsLawful m) (throughout : (k :
       touched-wider m.config (listed_in (state_at m calls k)) (reach m calls k) (listed-reached k (omega arith)) (call_at calls k) r
       (subst (λ config. touched config (listed_in (state_at m calls k)) (call_at calls k) r ≡ true) (config-at m calls k) h)
 
-  -- a call leaves all that lies outside its footprint
+  -- a call leaves everything outside its footprint as it was
   pub footprint-keeps : (k : ℕ) → k < length calls → (r : Resource) → footprint m calls k r ≡ false → part_at m calls (suc k) r ≡ part_at m calls k r
   footprint-keeps k lt r outside =
       keeps-others (state_at m calls k) (call_at calls k) (throughout k lt) r

@@ -15,7 +15,7 @@ use Rattle.kc_model.specs.Lawful.{IsLawful, IsLawfulFrame, ListsOnce, same_owner
 use Rattle.kc_model.proofs.States.ZeroPage.{zero_page-is}
 use Rattle.kc_model.proofs.States.Slots.{lawful-empty_slot, get_or-same}
 
--- a number stands once in the range that it is in
+-- a range has each of its numbers once
 pub times_in-range : (first count f : ℕ) → times_in (range_with_len first count) f ≡ cond (nat_le first f && nat_lt f (first + count)) 1 0
 times_in-range first zero f = grind (arith, common_steps)
 times_in-range first (suc count) f = let rest = times_in-range (first + 1) count f in grind (arith, common_steps, rest)

@@ -21,7 +21,7 @@ use Rattle.kc_model.proofs.States.Sizes.{length-scrubbed}
 use Rattle.kc_model.proofs.States.Changes.{vm-same}
 use Rattle.kc_model.proofs.States.Members.{times_in-append}
 
--- a frame that the list doesn't hold stays
+-- a frame that the list does not hold stays
 scrubbed-other : (frames : List Frame) (fs : List ℕ) (k : ℕ) (d : Frame) → times_in fs k ≡ 0 → get_or (scrubbed frames fs) k d ≡ get_or frames k d
 scrubbed-other frames [] k d none = refl
 scrubbed-other frames (f ∷ fs) k d none =

@@ -68,7 +68,7 @@ lawful-handed_slot config slot g f images is used g_in room few each apart booti
 host-no_vm : (owner : Owner) (w : ℕ) → owner ≡ Host → same_owner owner (Vm w) ≡ false
 host-no_vm owner w host = ap (λ (o : Owner). same_owner o (Vm w)) host
 
--- handing a host's frame to a slot, which may change otherwise too
+-- handing a frame of the host's to a slot, which may change in other ways too
 pub lawful-hand : (m : State) (v g f : ℕ) (slot : Slot) → IsLawful m → v < slot_count m.config → g < 262144 → f < length m.frames → (frame_at m f).owner ≡ Host → mapped_at m v g ≡ None
     → slot.frames ≡ (slot_at m v).frames ++ f ∷ [] → slot.mapped ≡ map.insert (slot_at m v).mapped g f → slot.phase ≡ (slot_at m v).phase → IsLawfulSlot m.config slot
     → IsLawful (with_slot (with_frame m f (handed_frame m v g f)) v slot)

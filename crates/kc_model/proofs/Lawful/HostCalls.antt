@@ -32,7 +32,7 @@ lawful-host_fault m f is served =
       gfn = frame.gfn;
     }) (λ v within. is.shared v f within)
 
--- a frame that is not free and gets other bytes
+-- a frame that is not free gets other bytes
 pub lawful-with_bytes : (m : State) (f : ℕ) (bytes : List ℕ) → IsLawful m → f < length m.frames → ((frame_at m f).owner ≡ Free → ⊥) → ((IsLawfulFrame m.config f (frame_at m f)) → IsLawfulFrame m.config f (record (frame_at m f) { bytes = bytes })) → IsLawful (with_frame m f (record (frame_at m f) { bytes = bytes }))
 lawful-with_bytes m f bytes is lt used here = lawful-with_frame m f (record (frame_at m f) { bytes = bytes }) is lt refl refl (here (is.each_frame f lt)) (λ v within. is.shared v f within)
 

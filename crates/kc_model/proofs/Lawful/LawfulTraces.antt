@@ -61,7 +61,7 @@ pub lawful-after : (m : State) (calls : List Call) → IsLawful m → IsLawful (
 lawful-after m [] is = is
 lawful-after m (call ∷ calls) is = lawful-after (next m call).1 calls (lawful-next m call is)
 
--- calls leave a core's state one
+-- calls from a core's state lead to a core's state
 pub core_state-after : (m : State) (calls : List Call) → IsCoreState m → IsCoreState (state_after m calls)
 core_state-after m calls is = record { lawful = lawful-after m calls is.lawful; digests = rw (config-after m calls) is.digests }
 

@@ -56,7 +56,7 @@ apart m v g h f k is v_in first second ne same =
     let both : h ≡ g = cc in
     ne both
 
--- frames that are changed one after another, where each change of one that fits keeps the state lawful
+-- frames are changed one after another, and each change of a frame that fits keeps the state lawful
 module _ (v : ℕ) (change : Frame → Frame) (Fits : Frame → Type 0)
     (step : (m : State) (f : ℕ) → IsLawful m → v < slot_count m.config → (slot_at m v).phase ≡ Active → (frame_at m f).owner ≡ Vm v → Fits (frame_at m f) → IsLawful (with_frame m f (change (frame_at m f)))) where
   lawful-each : (m : State) (g n : ℕ) → IsLawful m → v < slot_count m.config → (slot_at m v).phase ≡ Active

@@ -35,7 +35,7 @@ config-trimmed : (m : State) (v : ℕ) (images : List Image) → (all_trimmed m 
 config-trimmed m v [] = refl
 config-trimmed m v (image ∷ images) = config-trimmed (trimmed m v image) v images
 
--- a slot exists in the trimmed state where it did before
+-- a slot exists in the trimmed state if it did before
 pub exists-trimmed : (m : State) (v w : ℕ) (images : List Image) → w < slot_count m.config → w < slot_count (all_trimmed m v images).config
 exists-trimmed m v w images lt = subst (λ config. w < slot_count config) (sym (config-trimmed m v images)) lt
 

@@ -59,7 +59,7 @@ merged-here here m rest (resource.Frame f) is = ap frame_part (pick-get (λ f. h
 merged-here here m rest (resource.Vm v) is = ap slot_part (pick-get (λ v. here (resource.Vm v)) empty_slot m.slots rest.slots v (λ lt. is))
 merged-here here m rest resource.Free is = rw is refl
 
--- and all else has the other's
+-- everything else is the other's
 merged-elsewhere : (here : Resources) (m rest : State) (r : Resource) → IsSameSize m rest → here r ≡ false → part_of (merged here m rest) r ≡ part_of rest r
 merged-elsewhere here m rest (resource.Frame f) size is = ap frame_part (pick-other (λ f. here (resource.Frame f)) (untouched Core) m.frames rest.frames f (let h = size.frames in omega (arith, h)) is)
 merged-elsewhere here m rest (resource.Vm v) size is = ap slot_part (pick-other (λ v. here (resource.Vm v)) empty_slot m.slots rest.slots v (let h = size.slots in omega (arith, h)) is)
@@ -73,7 +73,7 @@ pub next-agreeing : (here : Resources) (m other : State) (call : Call) → IsOrd
 next-agreeing here m other call is within agrees =
     ap (λ s. next s call) (sym (merged-agrees here m other agrees)) ∙ local here m other call is within
 
--- the size of the other state after the call is that of the one
+-- the other state has the same size as the first state after the call
 after-size : (m other : State) (call : Call) → IsSameSize m other → IsSameSize (next m call).1 other
 after-size m other call size =
     let s = sized-next m call in
@@ -90,7 +90,7 @@ agrees-next here m other call is within agrees =
       },
     )
 
--- and all else of the other state stays
+-- everything else of the other state stays
 pub keeps-rest : (here : Resources) (m other : State) (call : Call) → IsOrderly m → IsWithin (need m call) here → AgreesOn here m other → (r : Resource) → here r ≡ false → part_of (next other call).1 r ≡ part_of other r
 keeps-rest here m other call is within agrees r not_here =
     ap (λ (o : Outcome). part_of o.1 r) (next-agreeing here m other call is within agrees) ∙ merged-elsewhere here (next m call).1 other r (after-size m other call agrees.size) not_here

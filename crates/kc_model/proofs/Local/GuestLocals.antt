@@ -1,4 +1,4 @@
--- The calls on a slot depend on what they need alone.
+-- The calls on a slot depend only on what they need.
 use Rattle.std.proofs.Common.{ℕ, ◌≡◌, ◌<◌, ◌+◌, Bool, true, Option, Some, None, is_some, is_none, nat_le, nat_lt, List, [], ◌∷◌, length, get_or, set, refl, sym, ap, ◌∙◌, length-set}
 use Rattle.std.specs.Prelude.{◌==◌}
 use Rattle.std.specs.FinMap as map
@@ -63,13 +63,13 @@ local-guest_write here m rest v c g off bytes has mapped = local-next here m res
     mapped_in : Slot → ℕ → Option ℕ
     mapped_in s g = map.get s.mapped g
 
--- what is refused last counts only where the guest frame is mapped
+-- what is refused last counts only if the guest frame is mapped
 unless_unmapped : (a b c d e f : Option Refusal) (at : Option ℕ) (last other : Option Refusal) → (is_some at ≡ true → last ≡ other)
     → first_of_these (a ∷ b ∷ c ∷ d ∷ e ∷ f ∷ when (is_none at) NotMapped ∷ last ∷ []) ≡ first_of_these (a ∷ b ∷ c ∷ d ∷ e ∷ f ∷ when (is_none at) NotMapped ∷ other ∷ [])
 unless_unmapped a b c d e f None last other same = refl
 unless_unmapped a b c d e f (Some _) last other same = ap (λ last. first_of_these (a ∷ b ∷ c ∷ d ∷ e ∷ f ∷ last ∷ [])) (same refl)
 
--- a served call on a mapped guest frame finds one there
+-- a served call on a mapped guest frame finds a frame there
 pub mapped-served : (m : State) (v c g : ℕ) (last : Option Refusal) → first_of_these (guest_frame m v c g last) ≡ None → is_some (mapped_at m v g) ≡ true
 mapped-served m v c g last served = ap is_some (guest_frame-served m v c g last served).0.mapped
 
@@ -99,7 +99,7 @@ local-drop here m rest v c g has mapped free = local-next here m rest (Drop v c 
     (λ served. let is = mapped (mapped-served m v c g _ served) in
     rw (slot-merged here m rest v has, frame-merged here m rest (backing (mapped_at m v g)) is, frames-set here m rest (backing (mapped_at m v g)) is, slots-set here m rest v has, free) refl)
 
--- the changes of a slot that others are made of
+-- changes of a slot, of which others consist
 hand-merged : (here : Resources) (m rest : State) (v g f : ℕ) → HasFrame here m f → HasSlot here m v → hand (merged here m rest) v g f ≡ merged here (hand m v g f) rest
 hand-merged here m rest v g f frame_in slot_in = rw (slot-merged here m rest v slot_in, frame-merged here m rest f frame_in, frames-set here m rest f frame_in, slots-set here m rest v slot_in) refl
 

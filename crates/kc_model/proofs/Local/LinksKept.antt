@@ -22,7 +22,7 @@ pub record ListsAll (m : State) : Type 0 where
   pub free : (f : ℕ) → (frame_at m f).owner ≡ Free → is_in m.free f ≡ true
   pub slots : (v f : ℕ) → v < slot_count m.config → (frame_at m f).owner ≡ Vm v → is_in (slot_at m v).frames f ≡ true
 
--- a call that needs the free list needs its frames, and one that needs a slot the slot's
+-- a call that needs the free list needs its frames, and one that needs a slot needs the slot's
 pub needs-free : (m : State) (call : Call) (f : ℕ) → uses_free call ≡ true → is_in m.free f ≡ true → need m call (resource.Frame f) ≡ true
 needs-free m call f uses listed = by_free (names_frame call f) (nat_lt f m.config.frames) (of_slot m.config (listed_in m) (slot_of call) f) (uses_free call && is_in m.free f) (and_from (uses_free call) (is_in m.free f) uses listed)
 
@@ -60,7 +60,7 @@ list-kept m call is all f outside (Vm v) e = by_name (need m call (resource.Vm v
     by_name true names = let needed = needs-slot m call v f names (all.slots v f (low-named m (slot_of call) v names) e) in cc
     by_name false free = ap (λ (s : Slot). s.frames) (ap slot_of_part (keeps-others m call is (resource.Vm v) free))
 
--- with links in the frames and ends in the lists' places, too, a call leaves what it does not need
+-- with links in the frames and ends in place of the lists, a call also leaves what it does not need
 pub links-kept : (m : State) (call : Call) → IsOrderly m → ListsAll m → (r : Resource) → need m call r ≡ false → linked_part_of (next m call).1 r ≡ linked_part_of m r
 links-kept m call is all (resource.Frame f) outside =
     let same : frame_at (next m call).1 f ≡ frame_at m f = ap frame_of_part (keeps-others m call is (resource.Frame f) outside) in

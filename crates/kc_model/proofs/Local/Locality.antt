@@ -1,4 +1,4 @@
--- Every call depends on what it needs alone, and changes nothing else.
+-- Every call depends only on what it needs, and changes nothing else.
 use Rattle.std.proofs.Common.{ℕ, ◌≡◌, None, refl}
 use Rattle.kc_types.specs.declared.call.Call.{Call}
 use Rattle.kc_types.specs.declared.call.Call.TheVariants.{Take, Give, HostFault, HostRead, HostWrite, RegisterVm, RegisterVcpu, SetBoot, Remap, Verify, Map, GuestRead, GuestWrite, Grant, Revoke, GrantRange, RevokeRange, Drop, Clear}

@@ -1,4 +1,4 @@
--- Each call depends on what it needs alone, and changes nothing else.
+-- Each call depends only on what it needs, and changes nothing else.
 use Rattle.std.proofs.Common.{ℕ, ◌≡◌, true, Option, Some, None, List, [], ◌∷◌, refl, ap, ◌∙◌}
 use Rattle.kc_types.specs.declared.call.Call.{Call}
 use Rattle.kc_types.specs.declared.call.Call.TheVariants.{Take, Give, HostFault, HostRead, HostWrite}

@@ -31,7 +31,7 @@ slot-merged here m rest v has = pick-get (λ v. here (resource.Vm v)) empty_slot
 pub free-merged : (here : Resources) (m rest : State) → here resource.Free ≡ true → (merged here m rest).free ≡ m.free
 free-merged here m rest has = ap (λ b. cond b m.free rest.free) has
 
--- a change of a frame, or of a slot, goes into the resources
+-- a change of a frame, or of a slot, is a change of the resources
 pub frames-set : (here : Resources) (m rest : State) (f : ℕ) → HasFrame here m f → (new : Frame)
     → pick (λ f. here (resource.Frame f)) (untouched Core) (set m.frames f new) rest.frames ≡ set (pick (λ f. here (resource.Frame f)) (untouched Core) m.frames rest.frames) f new
 frames-set here m rest f has new = pick-set (λ f. here (resource.Frame f)) (untouched Core) m.frames rest.frames f new has

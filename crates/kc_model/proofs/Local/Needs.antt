@@ -1,4 +1,4 @@
--- What a call needs, as the proofs of its locality want it.
+-- What a call needs, in the form that the proofs of its locality use.
 use Rattle.std.proofs.Common.{ℕ, suc, ◌≡◌, ◌<◌, ◌+◌, inl, inr, Bool, true, false, ◌&&◌, ◌||◌, Option, Some, None, is_some, nat_lt, nat_eq, eq-eqb, List, [], ◌∷◌, refl, ap, ◌∙◌, arith}
 use Rattle.std.specs.List.{list_any}
 use Rattle.std.specs.Ordering.{nat_cmp}

@@ -1,4 +1,4 @@
--- What a lawful state has of what a call needs.
+-- A lawful state has what a call needs.
 use Rattle.std.proofs.Common.{ℕ, ◌≡◌, ◌<◌, ◌+◌, inl, inr, Bool, true, false, cond, None, Some, length, get_or, refl, ap, ◌∙◌, arith}
 use Rattle.std.proofs.lemmas.Bool.{cases_lt}
 use Rattle.std.proofs.lemmas.List.{get_or_past}
@@ -21,7 +21,7 @@ of-times : (b : Bool) (n : ℕ) → 0 < n → n ≡ cond b 1 0 → b ≡ true
 of-times true n some is = refl
 of-times false n some is = absurd (omega (arith, some, is))
 
--- a listed frame is the owner's
+-- a listed frame belongs to the list's owner
 pub listed-owned : (m : State) → IsLawful m → (owner : Owner) (f : ℕ) → listed_in m owner f ≡ true → same_owner (frame_at m f).owner owner ≡ true
 listed-owned m is Core f h = cc
 listed-owned m is Host f h = cc

@@ -21,7 +21,7 @@ either_of : {X : Type 0} (b : Bool) (x y : X) → (cond b x y ≡ x) ⊎ (cond b
 either_of true x y = inl refl
 either_of false x y = inr refl
 
--- each place of a list made of two is the one's or the other's
+-- each element of a list made of two is from one of them
 pick-or : {X : Type 0} (test : ℕ → Bool) (d : X) (xs ys : List X) (i : ℕ) → i < length xs → (get_or (pick test d xs ys) i d ≡ get_or xs i d) ⊎ (get_or (pick test d xs ys) i d ≡ get_or ys i d)
 pick-or test d [] ys i lt = absurd (omega arith)
 pick-or test d (x ∷ xs) ys zero lt = either_of (test 0) x (get_or ys 0 d)
@@ -41,7 +41,7 @@ orderly-merged here m rest is others = record {
 orderly-empty : IsOrderlySlot empty_slot
 orderly-empty = record { listed = λ g f e. let none = map.get-empty {X = ℕ} nat_cmp g in cc; images = λ booting. cc; next_page = λ booting. cc }
 
--- a part of an orderly state alone is orderly
+-- a part of an orderly state is orderly
 pub orderly-cut : (m : State) (here : Resources) → IsOrderly m → IsOrderly (cut m here)
 orderly-cut m here is = orderly-merged here m (record { config = m.config; frames = []; free = []; slots = [] }) is (λ v low. orderly-empty)
 

@@ -1,4 +1,4 @@
--- The calls on the guest frames of a range depend on what they need alone.
+-- The calls on the guest frames of a range depend only on what they need.
 use Rattle.std.proofs.Common.{ℕ, zero, suc, ◌≡◌, ◌<◌, ◌+◌, ◌||◌, Bool, true, false, Option, Some, None, is_some, is_none, nat_le, nat_lt, nat_eq, List, [], ◌∷◌, length, get_or, set, refl, sym, ap, subst, ◌∙◌, eqb-true, length-set}
 use Rattle.std.specs.List.{range_with_len}
 use Rattle.std.proofs.lemmas.Bool.{or_parts}
@@ -21,7 +21,7 @@ use Rattle.kc_model.proofs.Refusals.Served.{when-none, none-of}
 use Rattle.kc_model.proofs.States.Each.{none-in, any-same}
 use Rattle.kc_types.specs.declared.resource.Resource.TheVariants as resource
 
--- frames among those here, changed
+-- frames among the resources are changed
 changed-pick : (change : Frame → Frame) (test : ℕ → Bool) (xs ys : List Frame) (fs : List ℕ) → ((f : ℕ) → is_in fs f ≡ true → f < length xs → test f ≡ true) → changed_each change (pick test (untouched Core) xs ys) fs ≡ pick test (untouched Core) (changed_each change xs fs) ys
 changed-pick change test xs ys [] has = refl
 changed-pick change test xs ys (f ∷ fs) has =
@@ -50,7 +50,7 @@ frames-here here m v g (suc n) mapped each f listed =
     by_first true e h first rest = subst (HasFrame here m) (eqb-true (backing (mapped_at m v g)) f e) first
     by_first false e h first rest = rest h
 
--- what is refused last counts only where each guest frame is mapped
+-- what is refused last counts only if each guest frame is mapped
 unless_unmapped : (a b c d e f g : Option Refusal) (unmapped : Bool) (last other : Option Refusal) → (unmapped ≡ false → last ≡ other)
     → first_of_these (a ∷ b ∷ c ∷ d ∷ e ∷ f ∷ g ∷ when unmapped NotMapped ∷ last ∷ []) ≡ first_of_these (a ∷ b ∷ c ∷ d ∷ e ∷ f ∷ g ∷ when unmapped NotMapped ∷ other ∷ [])
 unless_unmapped a b c d e f g true last other same = refl

@@ -1,4 +1,4 @@
--- Links and ends leave no choice of the list.
+-- A list is determined by its links and ends.
 use Rattle.std.proofs.Common.{ℕ, ◌≡◌, ◌<◌, ◌≤◌, ◌+◌, Bool, true, false, cond, Option, Some, None, nat_eq, List, [], ◌∷◌, refl, sym, ap, subst, ◌∙◌, arith}
 use Rattle.std.proofs.lemmas.Option.{same_Some}
 use Rattle.kc_model.specs.Lawful.{times_in}
@@ -32,6 +32,6 @@ spelled-after before (x ∷ xs) (y ∷ ys) once first links =
     ∙ ap (λ z. link_after (Some z) ys f) (sym same)) in
     ap (λ z. z ∷ xs) same ∙ ap (λ zs. y ∷ zs) rest
 
--- a list in which each number stands once is the only one with its head and with its links at its members
+-- a list that has each number once is the only one with its head and with its links at its members
 pub spelled : (xs ys : List ℕ) → IsOnce xs → first_of xs ≡ first_of ys → ((f : ℕ) → is_in xs f ≡ true → link_in xs f ≡ link_in ys f) → xs ≡ ys
 spelled xs ys once first links = spelled-after None xs ys once first links

@@ -1,4 +1,4 @@
--- Verifying a slot depends on its images' pages alone.
+-- Verifying a slot depends only on its images' pages.
 use Rattle.std.proofs.Common.{ℕ, zero, suc, ◌≡◌, ◌<◌, ◌≤◌, ◌+◌, ◌-◌, cond, Option, Some, None, List, [], ◌∷◌, refl, ap, ◌∙◌, arith, length-set}
 use Rattle.std.specs.List.{flat_map, range_with_len}
 use Rattle.std.specs.Option.{option_map}

@@ -1,4 +1,4 @@
--- Frames and states that differ in nothing but bytes that do not count.
+-- Frames and states that differ only in bytes that do not count.
 use Rattle.std.proofs.Common.{ℕ, zero, suc, ◌≡◌, inl, inr, Bool, true, false, not, List, [], ◌∷◌, length, get_or, set, refl, sym, ap, ◌∙◌, arith, length-set}
 use Rattle.std.proofs.lemmas.Bool.{cases_lt}
 use Rattle.std.proofs.lemmas.List.{get_or_past}
@@ -18,7 +18,7 @@ use Rattle.kc_model.proofs.States.ZeroPage.{length-zero_page}
 abbrev pub beside : State → List Frame → State
 beside m ys = record m { frames = ys }
 
--- of two alike frames
+-- the owners of two alike frames
 pub owner-alike : (b : Bool) (x y : Frame) → AreAlike b x y → y.owner ≡ x.owner
 owner-alike b x y alike = ap (λ (c : Custody). c.owner) alike.custody
 
@@ -31,7 +31,7 @@ present-alike b x y alike = ap (λ (c : Custody). c.present) alike.custody
 pub alike-itself : (b : Bool) (x : Frame) → AreAlike b x x
 alike-itself b x = record { custody = refl; bytes = λ h. refl }
 
--- where less counts
+-- frames are alike if less counts
 pub alike-less : (a b : Bool) (x y : Frame) → (b ≡ true → a ≡ true) → AreAlike a x y → AreAlike b x y
 alike-less a b x y less alike = record { custody = alike.custody; bytes = λ h. alike.bytes (less h) }
 
@@ -39,7 +39,7 @@ alike-less a b x y less alike = record { custody = alike.custody; bytes = λ h. 
 pub alike-unseen : (b : Bool) (x y : Frame) → b ≡ false → custody_of y ≡ custody_of x → AreAlike b x y
 alike-unseen b x y none same = record { custody = same; bytes = λ h. absurd cc }
 
--- a change of frames that asks nothing of a frame's bytes but to make the bytes anew
+-- a change of frames that does not use a frame's bytes, except to make the new ones
 pub record IsPlain (change : Frame → Frame) : Type 0 where
   pub owner : (x : Frame) → (change x).owner ≡ x.owner
   pub custody : (x y : Frame) → custody_of y ≡ custody_of x → custody_of (change y) ≡ custody_of (change x)
@@ -48,11 +48,11 @@ pub record IsPlain (change : Frame → Frame) : Type 0 where
 pub alike-changed : (change : Frame → Frame) → IsPlain change → (b : Bool) (x y : Frame) → AreAlike b x y → AreAlike b (change x) (change y)
 alike-changed change plain b x y alike = record { custody = plain.custody x y alike.custody; bytes = λ h. plain.bytes x y (alike.bytes h) }
 
--- lists of frames
+-- lists of frames that are alike, place by place
 abbrev pub AlikeFrames : (ℕ → Bool) → State → List Frame → List Frame → Type 0
 AlikeFrames kept m xs ys = (f : ℕ) → AreAlike (counts kept m f (get_or xs f (untouched Core)).owner) (get_or xs f (untouched Core)) (get_or ys f (untouched Core))
 
--- what relates two lists at each place relates them after a write of two elements that it relates
+-- what relates two lists at each place relates them after two related elements are written
 both-set : {X : Type 0} (R : ℕ → X → X → Type 0) (xs ys : List X) (f : ℕ) (x y d : X) → length ys ≡ length xs → ((k : ℕ) → R k (get_or xs k d) (get_or ys k d)) → R f x y → (k : ℕ) → R k (get_or (set xs f x) k d) (get_or (set ys f y) k d)
 both-set R [] [] f x y d number each here k = each k
 both-set R [] (b ∷ ys) f x y d number each here k = absurd cc
@@ -68,7 +68,7 @@ frames-set kept m xs ys f x y number alike here k = both-set (λ n a b. AreAlike
 pub number-set : (xs ys : List Frame) (f : ℕ) (x y : Frame) → length ys ≡ length xs → length (set ys f y) ≡ length (set xs f x)
 number-set xs ys f x y number = length-set ys f y ∙ number ∙ sym (length-set xs f x)
 
--- one frame that is changed
+-- one frame is changed
 pub frames-changed : (kept : ℕ → Bool) (m : State) (xs ys : List Frame) (f : ℕ) (change : Frame → Frame) → IsPlain change → length ys ≡ length xs → AlikeFrames kept m xs ys
     → AlikeFrames kept m (set xs f (change (get_or xs f (untouched Core)))) (set ys f (change (get_or ys f (untouched Core))))
 frames-changed kept m xs ys f change plain number alike =
@@ -77,19 +77,19 @@ frames-changed kept m xs ys f change plain number alike =
     frames-set kept m xs ys f (change x) (change y) number alike
     (alike-changed change plain (counts kept m f (change x).owner) x y (alike-less (counts kept m f x.owner) (counts kept m f (change x).owner) x y (λ h. sym (ap (counts kept m f) (plain.owner x)) ∙ h) (alike f)))
 
--- each of some frames
+-- each of some frames is changed
 pub frames-each : (kept : ℕ → Bool) (m : State) (change : Frame → Frame) → IsPlain change → (xs ys : List Frame) (fs : List ℕ) → length ys ≡ length xs → AlikeFrames kept m xs ys → AlikeFrames kept m (changed_each change xs fs) (changed_each change ys fs)
 frames-each kept m change plain xs ys [] number alike = alike
 frames-each kept m change plain xs ys (f ∷ fs) number alike =
     frames-each kept m change plain (set xs f (change (get_or xs f (untouched Core)))) (set ys f (change (get_or ys f (untouched Core)))) fs (number-set xs ys f _ _ number) (frames-changed kept m xs ys f change plain number alike)
 
--- where fewer owners' bytes count
+-- frames are alike if fewer owners' bytes count
 pub frames-less : (kept : ℕ → Bool) (m n : State) (xs ys : List Frame) → ((f : ℕ) (owner : Owner) → counts kept n f owner ≡ true → counts kept m f owner ≡ true) → AlikeFrames kept m xs ys → AlikeFrames kept n xs ys
 frames-less kept m n xs ys less alike f =
     let x = get_or xs f (untouched Core) in
     alike-less (counts kept m f x.owner) (counts kept n f x.owner) x (get_or ys f (untouched Core)) (less f x.owner) (alike f)
 
--- slots that stay active, and perhaps one that becomes so
+-- slots stay active, and perhaps one becomes active
 more-active : (slots : List Slot) (w : ℕ) (slot : Slot) → (is_active (get_or slots w empty_slot).phase ≡ true → is_active slot.phase ≡ true) → (v : ℕ) → is_active (get_or slots v empty_slot).phase ≡ true → is_active (get_or (set slots w slot) v empty_slot).phase ≡ true
 more-active [] w slot stays v h = h
 more-active (s ∷ slots) zero slot stays zero h = stays h
@@ -121,7 +121,7 @@ counts-by kept m n slots f Free = refl
 pub differ-itself : (kept : ℕ → Bool) (m : State) → DifferInBytes kept m m
 differ-itself kept m = record { config = refl; free = refl; slots = refl; number = refl; frames = λ f. alike-itself _ (frame_at m f) }
 
--- by the second's slots
+-- whether bytes count, by the second state's slots
 pub counted : (kept : ℕ → Bool) (m n : State) → DifferInBytes kept m n → (f : ℕ) → counts kept n f (frame_at n f).owner ≡ counts kept m f (frame_at m f).owner
 counted kept m n differ f = counts-by kept m n differ.slots f (frame_at n f).owner ∙ ap (counts kept m f) (owner-alike _ (frame_at m f) (frame_at n f) (differ.frames f))
 
@@ -155,7 +155,7 @@ beside-is kept m n differ =
     let same : made m.config n.frames m.free m.slots ≡ made n.config n.frames n.free n.slots = rw (config, free, slots) refl in
     same
 
--- a slot that is written by what it was
+-- a slot is changed by a function of what it was
 pub differ-slot : (kept : ℕ → Bool) (m n : State) (w : ℕ) (change : Slot → Slot) → (is_active (slot_at m w).phase ≡ true → is_active (change (slot_at m w)).phase ≡ true) → DifferInBytes kept m n
     → DifferInBytes kept (with_slot m w (change (slot_at m w))) (with_slot n w (change (slot_at n w)))
 differ-slot kept m n w change stays differ = record {

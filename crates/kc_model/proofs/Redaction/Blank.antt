@@ -1,4 +1,4 @@
--- States whose active VMs' pages are zeroed.
+-- States in which the pages of active VMs are zeroed.
 use Rattle.std.proofs.Common.{ℕ, zero, suc, ◌≡◌, ◌<◌, Bool, true, false, cond, not, List, [], ◌∷◌, map, length, replicate, Option, get_or, refl, sym, ap, subst, ◌∙◌, arith}
 use Rattle.std.proofs.lemmas.List.{length-map, length-replicate}
 use Rattle.kc_types.specs.declared.call.Call.{Call}
@@ -20,7 +20,7 @@ use Rattle.kc_model.proofs.Redaction.Traces.{bytes_decide_nothing}
 frame-blank : (m : State) (f : ℕ) → frame_at (blank_state m) f ≡ blank_frame m (frame_at m f)
 frame-blank m f = at-map (blank_frame m) m.frames f (untouched Core) refl
 
--- where all frames are kept, the bytes of active VMs' frames alone do not count
+-- if all frames are kept, only the bytes of active VMs' frames do not count
 counted-is : (m : State) (f : ℕ) (owner : Owner) → counts all_frames m f owner ≡ not (is_guests m owner)
 counted-is m f (Vm v) = refl
 counted-is m f Core = refl
@@ -76,7 +76,7 @@ lawful-blank m is = record {
   shared = λ v f low. rw (frame-blank m f) (is.shared v f low);
 }
 
--- states that differ in such bytes alone are blank alike
+-- states that differ only in such bytes have the same blank state
 frame-same : (m : State) (f : ℕ) (x y : Frame) → AreAlike (counts all_frames m f x.owner) x y → blank_frame m y ≡ blank_frame m x
 frame-same m f x y alike =
     let owner = ap (λ (c : Custody). c.owner) alike.custody in
@@ -124,7 +124,7 @@ blank-same m n differ =
     others : n.config ≡ m.config → n.free ≡ m.free → n.slots ≡ m.slots → record n { frames = map (blank_frame m) m.frames } ≡ blank_state m
     others config free slots = rw (config, free, slots) refl
 
--- redacting once is redacting
+-- redacting twice is redacting once
 length-zeros : (bytes : List ℕ) → blanked (blanked bytes) ≡ blanked bytes
 length-zeros bytes = ap (λ n. blank-of n) (length-replicate {A = ℕ} (length bytes) 0)
   where
@@ -148,7 +148,7 @@ keeps-all : (calls : List Call) → KeepsImages all_frames calls
 keeps-all [] = tt
 keeps-all (call ∷ calls) = (keeps-call call, keeps-all calls)
 
--- redacting once is redacting
+-- redacting twice is redacting once
 bytes-twice : (b : Bool) (bytes : List ℕ) → cond b (cond b bytes (blanked bytes)) (blanked (cond b bytes (blanked bytes))) ≡ cond b bytes (blanked bytes)
 bytes-twice true bytes = refl
 bytes-twice false bytes = length-zeros bytes
@@ -162,7 +162,7 @@ wholly-differ : (m : State) (calls : List Call) → DifferInCalls all_frames m c
 wholly-differ m [] = tt
 wholly-differ m (call ∷ calls) = (again m call, wholly-differ (next m call).1 calls)
 
--- from one state both tell the same
+-- from one state both have the same custody, replies and events
 pub told_alike : (m : State) (calls : List Call) → IsLawful m → TellTheSame all_frames m m calls (redacted calls)
 told_alike m calls is = bytes_decide_nothing m calls is all_frames m (redacted calls) is (differ-itself all_frames m) (redacted-differ m calls) (keeps-all calls)
 

@@ -1,4 +1,4 @@
--- Traces that lack accesses tell the same custody.
+-- Traces without such accesses have the same custody.
 use Rattle.std.proofs.Common.{ℕ, ◌≡◌, ◌<◌, ◌+◌, Bool, true, false, not, List, [], ◌∷◌, ◌++◌, map, filter, length, set, refl, sym, ap, ap₂, subst, ◌∙◌, arith, Option, None, Some, is_none, is_some}
 use Rattle.std.specs.List.{range_with_len}
 use Rattle.std.proofs.lemmas.Bool.{and_parts}
@@ -28,7 +28,7 @@ use Rattle.kc_model.proofs.Redaction.Alike.{alike-itself, alike-unseen, AlikeFra
 use Rattle.kc_model.proofs.Redaction.Told.{changes-told}
 use Rattle.kc_model.proofs.Redaction.Traces.{pair}
 
--- one frame with other bytes that do not count
+-- one frame gets other bytes, which do not count
 other-bytes : (kept : ℕ → Bool) (m : State) (f : ℕ) (bytes : List ℕ) → counts kept m f (frame_at m f).owner ≡ false → DifferInBytes kept m (with_frame m f (record (frame_at m f) { bytes = bytes }))
 other-bytes kept m f bytes none =
     let x = frame_at m f in
@@ -103,12 +103,12 @@ lacks-unless : (refused : Option Refusal) (kept : ℕ → Bool) (m : State) (cal
 lacks-unless None kept m call is may served = lacks-effect kept m call is may served
 lacks-unless (Some r) kept m call is may served = differ-itself kept m
 
--- an access that a trace may lack changes nothing but bytes that do not count
+-- an access that may be left out changes only bytes that do not count
 lacks-next : (kept : ℕ → Bool) (m : State) (call : Call) → IsLawful m → may_lack kept m call ≡ true → DifferInBytes kept m (next m call).1
 unfolding next
 lacks-next kept m call is may = lacks-unless (refusal m call) kept m call is may refl
 
--- nothing is told of it
+-- nothing is reported of it
 none-picked : {X Y : Type 0} (p : X → Bool) (g : X → Y) (xs : List X) → ((x : X) → p x ≡ false) → map g (filter p xs) ≡ []
 none-picked p g [] none = refl
 none-picked p g (x ∷ xs) none = rw (none x) (none-picked p g xs none)
@@ -121,7 +121,7 @@ nothing-told line m =
 untold : (kept : ℕ → Bool) (line : ℕ) (m n : State) → DifferInBytes kept m n → changes_by line m n ≡ []
 untold kept line m n differ = changes-told kept line m m m n (differ-itself kept m) differ (λ v turned. refl) ∙ nothing-told line m
 
--- a call that stands in both
+-- a call that is in both traces
 same-told : (kept : ℕ → Bool) (line : ℕ) (m n : State) (call : Call) → IsLawful m → IsLawful n → DifferInBytes kept m n → keeps_images kept call ≡ true → changes_by line n (next n call).1 ≡ changes_by line m (next m call).1
 same-told kept line m n call is other_is differ keeps =
     sym (changes-of-call line n call) ∙ ap changes_in ((pair kept m n call call is other_is differ refl keeps).told line) ∙ changes-of-call line m call

@@ -1,4 +1,4 @@
--- One call on two states that differ in nothing but bytes that do not count.
+-- One call on two states that differ only in bytes that do not count.
 use Rattle.std.proofs.Common.{ℕ, zero, suc, ◌≡◌, ◌<◌, ◌≤◌, ◌+◌, ◌-◌, ◌%◌, ◌⊎◌, inl, inr, Bool, true, false, cond, not, ◌&&◌, List, [], ◌∷◌, ◌++◌, length, take, replicate, get_or, set, nat_eq, nat_le, nat_lt, refl, sym, ap, subst, ◌∙◌, arith, Option, None, Some, length-drop}
 use Rattle.std.proofs.lemmas.List.{length-replicate, length-take}
 use Rattle.std.proofs.lemmas.List.Folds.{list_any_at}
@@ -81,7 +81,7 @@ module _ (kept : ℕ → Bool) (m : State) (ys : List Frame) (is : IsLawful m) (
   both : DifferInBytes kept m (beside m ys)
   both = record { config = refl; free = refl; slots = refl; number = number; frames = alike }
 
-  -- one frame that is written, with another list of free frames
+  -- one frame is written, and the list of free frames may change
   one : (f : ℕ) (x y : Frame) (free : List ℕ) → AreAlike (counts kept m f x.owner) x y → DifferInBytes kept (record (with_frame m f x) { free = free }) (record (with_frame (beside m ys) f y) { free = free })
   one f x y free here = record {
     config = refl;
@@ -91,7 +91,7 @@ module _ (kept : ℕ → Bool) (m : State) (ys : List Frame) (is : IsLawful m) (
     frames = frames-set kept m m.frames ys f x y number alike here;
   }
 
-  -- one frame that is changed
+  -- one frame is changed
   changed : (f : ℕ) (change : Frame → Frame) → IsPlain change → DifferInBytes kept (with_frame m f (change (frame_at m f))) (with_frame (beside m ys) f (change (frame_at (beside m ys) f)))
   changed f change plain = record {
     config = refl;
@@ -101,7 +101,7 @@ module _ (kept : ℕ → Bool) (m : State) (ys : List Frame) (is : IsLawful m) (
     frames = frames-changed kept m m.frames ys f change plain number alike;
   }
 
-  -- some frames that are changed
+  -- some frames are changed
   each : (v : ℕ) (gs : List ℕ) (change : Frame → Frame) → IsPlain change → DifferInBytes kept (with_each m v gs change) (with_each (beside m ys) v gs change)
   each v gs change plain =
       let fs = frames_under (slot_at m v).mapped gs in
@@ -223,7 +223,7 @@ module _ (kept : ℕ → Bool) (m : State) (ys : List Frame) (is : IsLawful m) (
         answer = same-reply (GuestWrite v c g off bytes) reply.Done;
       }
 
-  -- a frame of the host's that is handed to a slot
+  -- a frame of the host's is handed to a slot
   hands : (v g f : ℕ) → (frame_at m f).owner ≡ Host → (counts kept m f (Vm v) ≡ true → kept f ≡ true) → DifferInBytes kept (hand m v g f) (hand (beside m ys) v g f)
   hands v g f host seen =
       let x = frame_at m f in

@@ -1,4 +1,4 @@
--- What is told of a call on two states that differ in nothing but bytes that do not count.
+-- What is reported of a call on two states that differ only in bytes that do not count.
 use Rattle.std.proofs.Common.{ℕ, zero, suc, ◌≡◌, ◌<◌, ◌⊎◌, inl, inr, Bool, true, false, cond, not, ◌&&◌, List, [], ◌∷◌, ◌++◌, length, map, filter, get_or, refl, sym, ap, ap₂, subst, ◌∙◌, arith, Option, None, Some, get_or-set_other}
 use Rattle.std.proofs.lemmas.Bool.{cases_eq}
 use Rattle.std.specs.List.{range_with_len}
@@ -27,7 +27,7 @@ use Rattle.kc_model.proofs.Custody.Same.{not-turned}
 use Rattle.kc_model.proofs.Redaction.Alike.{beside, beside-is, owner-alike}
 use Rattle.kc_model.proofs.Redaction.Steps.{step, image-same}
 
--- what is picked by one test and told in one way
+-- what is picked by equal tests and made by equal functions is the same
 picked-same : {X Y : Type 0} (p q : X → Bool) (g h : X → Y) (xs : List X) → ((x : X) → p x ≡ q x) → ((x : X) → p x ≡ true → g x ≡ h x) → map g (filter p xs) ≡ map h (filter q xs)
 picked-same p q g h [] same each = refl
 picked-same p q g h (x ∷ xs) same each = step-of (picked-same p q g h xs same each) (p x) (each x) ∙ ap (λ b. map h (cond b (x ∷ filter q xs) (filter q xs))) (same x)
@@ -40,7 +40,7 @@ maps-same : {X Y : Type 0} (g h : X → Y) (xs : List X) → ((i : ℕ) (d : X) 
 maps-same g h [] same = refl
 maps-same g h (x ∷ xs) same = ap₂ ◌∷◌ (same zero x (omega arith)) (maps-same g h xs (λ i d lt. same (suc i) d (omega arith)))
 
--- what is told of frames
+-- what is reported of frames
 frames-told : (kept : ℕ → Bool) (line : ℕ) (m n m' n' : State) → DifferInBytes kept m n → DifferInBytes kept m' n' → frame_changes_by line n n' ≡ frame_changes_by line m m'
 frames-told kept line m n m' n' before after =
     let config = before.config in
@@ -49,11 +49,11 @@ frames-told kept line m n m' n' before after =
     (λ f h. ap₂ (λ a b. record { line = line; frame = f; before = a; after = b }) (before.frames f).custody (after.frames f).custody)
     ∙ ap (λ (c : Configuration). map (frame_change line m m') (filter (has_moved m m') (range_with_len 0 c.frames))) config
 
--- the images of a slot that the call turns are the same where they are told
+-- the images of a slot that the call turns are the same if they are reported
 abbrev pub SameImages : State → State → State → Type 0
 SameImages m n m' = (v : ℕ) → has_turned m m' v ≡ true → images_for (slot_at m' v).phase (measured_images n v) ≡ images_for (slot_at m' v).phase (measured_images m v)
 
--- what is told of slots
+-- what is reported of slots
 slots-told : (kept : ℕ → Bool) (line : ℕ) (m n m' n' : State) → DifferInBytes kept m n → DifferInBytes kept m' n' → SameImages m n m' → phase_changes_by line n n' ≡ phase_changes_by line m m'
 slots-told kept line m n m' n' before after images =
     let config = before.config in
@@ -66,12 +66,12 @@ slots-told kept line m n m' n' before after images =
     ∙ ap (λ told. record { line = line; vm = v; phase = (slot_at m' v).phase; images = told }) (images v (sym (turned v) ∙ h)))
     ∙ ap (λ (c : Configuration). map (phase_change line m m') (filter (has_turned m m') (range_with_len 0 (slot_count c)))) config
 
--- what is told of a call
+-- what is reported of a call
 pub changes-told : (kept : ℕ → Bool) (line : ℕ) (m n m' n' : State) → DifferInBytes kept m n → DifferInBytes kept m' n' → SameImages m n m' → changes_by line n n' ≡ changes_by line m m'
 changes-told kept line m n m' n' before after images =
     ap₂ ◌++◌ (ap (map change.Frame) (frames-told kept line m n m' n' before after)) (ap (map change.Phase) (slots-told kept line m n m' n' before after images))
 
--- a slot that is told of without images: it stays in its phase, or is booting or empty after the call
+-- a slot that is reported without images: it stays in its phase, or is booting or empty after the call
 abbrev IsQuiet : State → State → ℕ → Type 0
 IsQuiet m m' v = ((slot_at m' v).phase ≡ (slot_at m v).phase) ⊎ ((images : List MeasuredImage) → images_for (slot_at m' v).phase images ≡ [])
 
@@ -84,7 +84,7 @@ quiet-images m n m' v quiet turned = elim quiet [
 kept-phase : (m : State) (w : ℕ) (slot : Slot) (v : ℕ) → slot.phase ≡ (slot_at m w).phase → (slot_at (with_slot m w slot) v).phase ≡ (slot_at m v).phase
 kept-phase m w slot v same = part-set (λ (s : Slot). s.phase) m.slots w slot empty_slot same v
 
--- a slot that is written in a phase without images
+-- a slot is written in a phase without images
 written-quiet : (m : State) (w : ℕ) (slot : Slot) (v : ℕ) → ((images : List MeasuredImage) → images_for slot.phase images ≡ []) → IsQuiet m (with_slot m w slot) v
 written-quiet m w slot v none = elim (cases_eq v w) [
   | inl same ↦ elim (set-here m.slots w slot empty_slot) [
@@ -106,7 +106,7 @@ quiet-writes : (m : State) (w c g off : ℕ) (bytes : List ℕ) (at : Option ℕ
 quiet-writes m w c g off bytes None v = inl (kept-phase m w _ v refl)
 quiet-writes m w c g off bytes (Some f) v = inl (kept-phase m w _ v refl)
 
--- another slot than the one that is measured
+-- a slot other than the measured one
 verifies-other : (m : State) (w : ℕ) (first : Option ℕ) (v : ℕ) → (v ≡ w → ⊥) → (slot_at (verified m w first).1 v).phase ≡ (slot_at m v).phase
 verifies-other m w None v other =
     ap (λ (s : Slot). s.phase) (get_or-set_other (all_trimmed m w (slot_at m w).images).slots w v _ empty_slot other)

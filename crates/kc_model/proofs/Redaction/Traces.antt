@@ -1,4 +1,4 @@
--- Traces that differ in bytes that do not count tell the same.
+-- Traces that differ only in bytes that do not count have the same replies, events and custody.
 use Rattle.std.proofs.Common.{ℕ, suc, ◌≡◌, ◌+◌, Bool, true, false, cond, ◌&&◌, List, [], ◌∷◌, ◌++◌, length, refl, sym, ap, ap₂, subst, ◌∙◌}
 use Rattle.kc_types.specs.declared.call.Call.{Call}
 use Rattle.kc_types.specs.declared.call.Call.TheVariants.{HostWrite, GuestWrite}
@@ -14,7 +14,7 @@ use Rattle.kc_model.proofs.Redaction.Alike.{counted, differ-itself, differ-back,
 use Rattle.kc_model.proofs.Redaction.Steps.{step}
 use Rattle.kc_model.proofs.Redaction.Told.{events-told}
 
--- what a call is shows without its bytes
+-- the kind of a call does not depend on its bytes
 keeps-redacted : (kept : ℕ → Bool) (m : State) (call : Call) → keeps_images kept (redacted_in kept m call) ≡ keeps_images kept call
 keeps-redacted kept m (HostWrite f off bytes) = refl
 keeps-redacted kept m (GuestWrite v c g off bytes) = refl
@@ -25,13 +25,13 @@ reads-redacted kept m (HostWrite f off bytes) = refl
 reads-redacted kept m (GuestWrite v c g off bytes) = refl
 reads-redacted kept m _ = refl
 
--- a call is redacted in one way in both states
+-- a call is redacted in the same way in both states
 redacted-by : (kept : ℕ → Bool) (m n : State) (call : Call) → DifferInBytes kept m n → redacted_in kept n call ≡ redacted_in kept m call
 redacted-by kept m n (HostWrite f off bytes) differ = ap (λ b. HostWrite f off (cond (kept f && b) bytes (blanked bytes))) (counted kept m n differ f)
 redacted-by kept m n (GuestWrite v c g off bytes) differ = refl
 redacted-by kept m n _ differ = refl
 
--- two calls that are one once redacted
+-- two calls that are the same once redacted
 pub record IsPair (kept : ℕ → Bool) (m n : State) (call other : Call) : Type 0 where
   pub states : DifferInBytes kept (next m call).1 (next n other).1
   pub answer : IsSameReply call (next m call).0 (next n other).0

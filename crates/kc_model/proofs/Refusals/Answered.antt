@@ -1,4 +1,4 @@
--- What a call that is not refused has of each condition.
+-- What is known of each condition of a call that is not refused.
 use Rattle.std.proofs.Common.{ℕ, ◌≡◌, ◌<◌, ◌⊎◌, inl, inr, Bool, true, false, not, ◌&&◌, Option, Some, None, is_some, is_none, length, nat_le, refl, arith}
 use Rattle.std.proofs.lemmas.Grind.{common_steps}
 use Rattle.std.proofs.lemmas.Bool.{leb-false, not-false}

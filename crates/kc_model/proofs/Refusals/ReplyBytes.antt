@@ -1,4 +1,4 @@
--- A reply carries no more bytes than its call may be answered.
+-- A reply carries no more bytes than its call may be answered with.
 use Rattle.std.proofs.Common.{ℕ, ◌≡◌, ◌≤◌, ◌+◌, ◌-◌, Option, Some, None, List, [], ◌∷◌, length, drop, refl, arith}
 use Rattle.std.specs.List.{slice_range}
 use Rattle.std.proofs.lemmas.List.{length-take}
@@ -61,6 +61,6 @@ bytes-unless : (refused : Option Refusal) (m : State) (call : Call) → refusal 
 bytes-unless None m call h = bytes-effect m call h
 bytes-unless (Some r) m call h = omega arith
 
--- the reply to a call carries no more bytes than the call may be answered
+-- the reply to a call carries no more bytes than the call may be answered with
 pub bytes-next : (m : State) (call : Call) → bytes_in (next m call).0 ≤ most_reply_bytes call
 bytes-next m call = unfold next in bytes-unless (refusal m call) m call refl

@@ -26,7 +26,7 @@ when-none false r h = refl
 pub positive : (n : ℕ) → nat_eq n 0 ≡ false → 0 < n
 positive n h = grind (arith, common_steps)
 
--- what a frame is that the host may reach
+-- a frame that the host may reach
 pub reachable : (owner : Owner) (share : ℕ) → (not (is_host owner) && nat_eq share 0) ≡ false → (owner ≡ Host) ⊎ (0 < share)
 reachable Host share h = inl refl
 reachable Core share h = inr (grind (arith, common_steps))

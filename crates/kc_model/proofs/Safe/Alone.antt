@@ -1,4 +1,4 @@
--- A call of others leaves a VM alone.
+-- A call that does not name a VM leaves it alone.
 use Rattle.std.proofs.Common.{ℕ, zero, suc, ◌≡◌, ◌≢◌, ◌<◌, ◌≤◌, ◌+◌, inl, inr, length, get_or, set, List, [], ◌∷◌, refl, sym, ap, subst, ◌∙◌, Option, None, Some, arith, All, get_or-set_other}
 use Rattle.std.specs.List.{range_with_len}
 use Rattle.std.specs.FinMap as map
@@ -47,12 +47,12 @@ IsAway (HostFault k) f = f ≡ k → ⊥
 IsAway (HostWrite k off bytes) f = f ≡ k → ⊥
 IsAway _ f = Unit {0}
 
--- the slot is as it was, and each of its frames that is away from something
+-- the slot is as it was, and so is each of its frames that is away from something
 pub record IsLeft (Away : ℕ → Type 0) (old new : State) (v : ℕ) : Type 0 where
   pub slot : slot_at new v ≡ slot_at old v
   pub frames : (f : ℕ) → (frame_at old f).owner ≡ Vm v → Away f → frame_at new f ≡ frame_at old f
 
--- nothing of slots changes, and one frame that is not the VM's own
+-- no slot changes, and one frame does that is not the VM's
 one : {Away : ℕ → Type 0} (m new : State) (v : ℕ) → slot_at new v ≡ slot_at m v → ((f : ℕ) → (frame_at m f).owner ≡ Vm v → Away f → frame_at new f ≡ frame_at m f) → IsLeft Away m new v
 one m new v slot frames = record { slot = slot; frames = frames }
 
@@ -86,7 +86,7 @@ verifies m w None v is served differ ne =
     (λ f mine private. frames-trimmed m w (slot_at m w).images v f is seen.0 (each_last_page m w is seen.0 seen.1 seen.2) mine differ)
 verifies m w (Some i) v is served differ ne = one m _ v (slot-elsewhere m w _ v ne) (λ f mine private. refl)
 
--- frames at the guest frames of a range, of which none is this one
+-- the frames at the guest frames of a range, none of which is this frame
 each-kept : (change : Frame → Frame) (mapped : map.FinMap nat_cmp ℕ) (frames : List Frame) (g n f : ℕ) → ((h : ℕ) → g ≤ h → h < g + n → f ≡ backing (map.get mapped h) → ⊥)
     → get_or (changed_each change frames (frames_under mapped (range_with_len g n))) f (untouched Core) ≡ get_or frames f (untouched Core)
 each-kept change mapped frames g zero f away = refl

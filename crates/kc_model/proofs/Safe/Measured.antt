@@ -17,7 +17,7 @@ use Rattle.kc_model.specs.State.{State, Slot, slot_at, with_slot, empty_slot}
 use Rattle.kc_model.specs.Next.{next, unless_refused, state_after}
 use Rattle.kc_model.specs.Safety.{IsActive, Measures, Clears, NeverCleared, EachStep, IsMeasured}
 
--- what stands at a place after a write there, and at another
+-- the element at a place after a write there, and after one elsewhere
 pub set-here : {X : Type 0} (xs : List X) (i : ℕ) (x d : X) → (get_or (set xs i x) i d ≡ x) ⊎ (get_or (set xs i x) i d ≡ d)
 set-here [] i x d = inr refl
 set-here (y ∷ ys) zero x d = inl refl
@@ -60,7 +60,7 @@ pass_first : {X : Type 0} (p : X → Bool) (b : Bool) (xs : List X) → (first_f
 pass_first p true xs rest e = rest (pass_rest p xs (first_failing p xs) refl e)
 pass_first p false xs rest e = cc
 
--- where none fails, all pass
+-- if none fails, all pass
 all_pass : {X : Type 0} (p : X → Bool) (xs : List X) → first_failing p xs ≡ None → list_all p xs ≡ true
 all_pass p [] e = refl
 all_pass p (x ∷ xs) e = pass_first p (p x) xs (all_pass p xs) e

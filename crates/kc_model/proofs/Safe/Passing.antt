@@ -25,7 +25,7 @@ use Rattle.kc_model.proofs.Lawful.GuestCalls.{guest_frame-served, owner-mapped, 
 use Rattle.kc_model.proofs.Lawful.Clears.{after}
 use Rattle.kc_model.proofs.Safe.Safe.{every_step}
 
--- a frame that is written over: the written one passes on so, and every other stays
+-- a frame is written: it passes as it should, and every other frame stays
 one : (m : State) (k : ℕ) (frame : Frame) → k < length m.frames → Passes (frame_at m k) frame → (f : ℕ) → Passes (frame_at m f) (frame_at (with_frame m k frame) f)
 one m k frame lt way f = elim (cases_eq f k) [
   | inl same ↦ subst (λ x. Passes (frame_at m x) (frame_at (with_frame m k frame) x)) (sym same) (subst (λ (x : Frame). Passes (frame_at m k) x) (sym (changed-same m k frame lt)) way)

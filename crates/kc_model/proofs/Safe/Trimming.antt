@@ -1,4 +1,4 @@
--- Trimming leaves each image its bytes, and zeros after them.
+-- Trimming leaves each image its bytes, with zeros after them.
 use Rattle.std.proofs.Common.{ℕ, zero, suc, ◌≡◌, ◌<◌, ◌≤◌, ◌+◌, ◌-◌, ◌*◌, ◌%◌, ◌⊎◌, inl, inr, false, List, [], ◌∷◌, ◌++◌, length, take, replicate, get_or, refl, sym, ap, subst, ◌∙◌, arith, None, Some, All, append_assoc, append-nil, length-append}
 use Rattle.std.proofs.lemmas.Bool.{cases_eq}
 use Rattle.std.proofs.lemmas.Grind.{common_steps}
@@ -39,7 +39,7 @@ IsMapped m v image = (g : ℕ) → image.base ≤ g → g < image.base + pages_o
 some-same : (f k : ℕ) → Some f ≡ Some k → f ≡ k
 some-same f k e = cc
 
--- another guest frame than the trimmed one
+-- a guest frame other than the trimmed one
 elsewhere : (m : State) (v : ℕ) (x : Image) (g : ℕ) → IsLawful m → v < slot_count m.config → HasLastPage m v x → mapped_at m v g ≡ Some (backing (mapped_at m v g)) → (g ≡ last_gfn x → ⊥) → bytes_at (trimmed m v x) v g ≡ bytes_at m v g
 elsewhere m v x g is lt last mapped ne =
     let k = backing (mapped_at m v (last_gfn x)) in
@@ -53,7 +53,8 @@ elsewhere m v x g is lt last mapped ne =
 page-long : (m : State) (v g : ℕ) → IsLawful m → v < slot_count m.config → mapped_at m v g ≡ Some (backing (mapped_at m v g)) → length (bytes_at m v g) ≡ 4096
 page-long m v g is lt mapped = (is.each_frame (backing (mapped_at m v g)) (exists-mapped m v g (backing (mapped_at m v g)) is lt mapped)).page.whole
 
--- an image's pages, joined, where its own last page is trimmed: all but the last, and of the last what the image has there and zeros
+-- an image's pages, joined, if its own last page is trimmed: all but the last are as before, and the last has the
+-- image's bytes and then zeros
 record IsTrimmed (m : State) (v : ℕ) (x : Image) (k : ℕ) : Type 0 where
   front : List ℕ
   cut : List ℕ
@@ -100,7 +101,7 @@ cut-now m v x k t =
     ∙ take-append-add t.front (t.cut ++ replicate t.zeros 0) (length t.cut)
     ∙ ap (λ l. t.front ++ l) (take-append_seam t.cut (replicate t.zeros 0))
 
--- an image keeps its bytes where its own last page is trimmed
+-- an image keeps its bytes if its own last page is trimmed
 own : (m : State) (v : ℕ) (x : Image) (k : ℕ) → IsLawful m → v < slot_count m.config → 0 < x.len → IsMapped m v x → pages_of x.len ≡ suc k → image_bytes (trimmed m v x) v x ≡ image_bytes m v x
 own m v x k is lt some mapped n_is =
     let t = is_trimmed m v x k is lt some mapped n_is in
@@ -119,7 +120,7 @@ own-padded m v x k is lt some mapped n_is =
     ∙ ap (λ l. l ++ replicate t.zeros 0) (sym (cut-now m v x k t))
     ∙ ap (λ n. image_bytes (trimmed m v x) v x ++ replicate n 0) t.rest
 
--- an image has not the last page of this one
+-- an image does not have this one's last page
 abbrev IsAway : Image → Image → Type 0
 IsAway x y = y.base ≤ last_gfn x → last_gfn x < y.base + pages_of y.len → ⊥
 
@@ -129,7 +130,7 @@ unfolding IsMapped
 other m v x y is lt last mapped away = ap (take y.len) (pages-same (bytes_at (trimmed m v x) v) (bytes_at m v) y.base (pages_of y.len) (λ g low high.
     elsewhere m v x g is lt last (mapped g low high) (λ same. away (omega (arith, low, same)) (omega (arith, high, same)))))
 
--- an image is this one, or has not its last page
+-- an image is this one, or does not have its last page
 IsApart : Image → Image → Type 0
 IsApart x y = (x ≡ y) ⊎ IsAway x y
 
@@ -180,7 +181,7 @@ padded-rest m v (x ∷ xs) y is lt last away mapped padded =
     padded-rest (trimmed m v x) v xs y (lawful-trimmed m v x is lt here) lt (λ i d low. last (suc i) d (omega arith)) (λ i d low. away (suc i) d (omega arith)) mapped
     (padded-other m v x y is lt here mapped (away zero x (omega arith)) padded)
 
--- zeros follow each image of those that are trimmed, each of which is away from all others
+-- zeros follow each trimmed image if each image is away from all others
 padded-at : (m : State) (v : ℕ) (xs : List Image) (j : ℕ) (d : Image) → IsLawful m → v < slot_count m.config → All (HasLastPage m v) xs → j < length xs → 0 < (get_or xs j d).len → IsMapped m v (get_or xs j d)
     → ((i : ℕ) (e : Image) → i < length xs → (i ≡ j → ⊥) → IsAway (get_or xs i e) (get_or xs j d)) → IsPadded (all_trimmed m v xs) v (get_or xs j d)
 unfolding IsMapped
@@ -203,7 +204,7 @@ other-default (x ∷ xs) (suc i) d e low = other-default xs i d e (omega arith)
 same-place : (xs : List Image) (i j : ℕ) (d e : Image) → i < length xs → i ≡ j → get_or xs i d ≡ get_or xs j e
 same-place xs i j d e low same = other-default xs i d e low ∙ ap (λ n. get_or xs n e) same
 
--- of a slot that is measured, all pages of each image are mapped, and no image has the last page of another
+-- if a slot is measured, all pages of each image are mapped, and no image has the last page of another
 measured-mapped : (m : State) (v : ℕ) → IsLawful m → refusal m (Verify v) ≡ None → (j : ℕ) (d : Image) → j < length (slot_at m v).images → IsMapped m v (get_or (slot_at m v).images j d)
 unfolding IsMapped
 measured-mapped m v is served j d j_lt = λ g low high.

@@ -19,7 +19,7 @@ slot-here m v slot lt = get_or-set_same m.slots v slot empty_slot lt
 pub slot-elsewhere : (m : State) (v : ℕ) (slot : Slot) (w : ℕ) → (w ≡ v → ⊥) → slot_at (with_slot m v slot) w ≡ slot_at m w
 slot-elsewhere m v slot w ne = get_or-set_other m.slots v w slot empty_slot ne
 
--- owners apart
+-- owners that differ
 pub not_vm-of : (owner : Owner) (v : ℕ) → is_vm owner ≡ false → same_owner owner (Vm v) ≡ false
 not_vm-of Core v h = refl
 not_vm-of Host v h = refl
@@ -69,7 +69,7 @@ lawful-with_frame m f frame is lt owner gfn here sharing =
       ];
     }
 
--- a frame that neither was nor becomes a VM's
+-- a frame that neither was a VM's nor becomes a VM's
 pub lawful-moved : (m : State) (f : ℕ) (frame : Frame) (free : List ℕ) → IsLawful m → f < length m.frames → is_vm (frame_at m f).owner ≡ false → is_vm frame.owner ≡ false → IsLawfulFrame m.config f frame → ListsOnce (with_frame m f frame) Free free → IsLawful (record (with_frame m f frame) { free = free })
 lawful-moved m f frame free is lt before after here once = record {
   config = is.config;
@@ -116,7 +116,7 @@ lawful-with_slot m v slot is v_in frames mapped here active =
       ];
     }
 
--- a frame and a slot that change together: the frame is, or was, no other slot's
+-- a frame and a slot change together: the frame is not, and was not, another slot's
 pub lawful-handed : (m : State) (f : ℕ) (frame : Frame) (v : ℕ) (slot : Slot) (free : List ℕ) → IsLawful m → f < length m.frames → v < slot_count m.config
     → IsLawfulFrame m.config f frame → IsLawfulSlot m.config slot
     → ((w : ℕ) → (w ≡ v → ⊥) → (same_owner (frame_at m f).owner (Vm w) ≡ false) × (same_owner frame.owner (Vm w) ≡ false))

@@ -1,4 +1,4 @@
--- How many frames the owners have: as many as there are.
+-- The owners have together as many frames as there are.
 use Rattle.std.proofs.Common.{ℕ, zero, suc, ◌≡◌, ◌<◌, ◌≤◌, ◌+◌, ◌⊎◌, inl, inr, Bool, true, false, cond, nat_eq, List, [], ◌∷◌, length, get_or, refl, ap, ap₂, ◌∙◌, arith, eq-eqb}
 use Rattle.std.proofs.lemmas.Bool.{cases_Bool, cases_eq, cases_lt, ne_eqb}
 use Rattle.std.proofs.lemmas.List.{get_or_past}
@@ -37,7 +37,7 @@ none-listed (x ∷ xs) none =
     let some : one_if (nat_eq x x) ≡ 1 = ap one_if self in
     absurd (omega (arith, here, some))
 
--- a list that has each number of a range once that passes a test, and no other, is as long as they are many
+-- a list that has exactly the numbers of a range that pass a test, each once, is as long as these are many
 list-long : (a n : ℕ) (fs : List ℕ) (test : ℕ → Bool) → ((f : ℕ) → a ≤ f → f < a + n → times_in fs f ≡ one_if (test f)) → ((f : ℕ) → (f < a) ⊎ (a + n ≤ f) → times_in fs f ≡ 0)
     → length fs ≡ count_by test (range_with_len a n)
 list-long a zero fs test within past = none-listed fs (λ f. elim (cases_lt f a) [
@@ -59,7 +59,7 @@ list-long a (suc n) fs test within past =
     let first = counted test a (range_with_len (a + 1) n) in
     omega (arith, here, fewer, rest, first)
 
--- an owner's list is as long as its frames are many
+-- an owner's list has as many elements as the owner has frames
 pub listed-long : (m : State) (owner : Owner) (fs : List ℕ) → length m.frames ≡ m.config.frames → ListsOnce m owner fs → same_owner Core owner ≡ false → length fs ≡ frames_of owner m
 listed-long m owner fs sized listed other = list-long 0 m.config.frames fs (λ f. same_owner (frame_at m f).owner owner) (λ f low high. listed f) (λ f out. elim out [
   | inl low ↦ absurd (omega (arith, low))
@@ -83,7 +83,7 @@ total-none : (F : ℕ → ℕ) (a n : ℕ) → ((v : ℕ) → a ≤ v → v < a 
 total-none F a zero none = refl
 total-none F a (suc n) none = let here = none a (omega arith) (omega arith) in let rest = total-none F (a + 1) n (λ v low high. none v (omega (arith, low)) (omega (arith, high))) in omega (arith, here, rest)
 
--- of the numbers of a range one is this
+-- exactly one number of a range is this one
 total-one : (a n w : ℕ) → a ≤ w → w < a + n → total (λ v. one_if (nat_eq w v)) a n ≡ 1
 total-one a zero w low high = absurd (omega (arith, low, high))
 total-one a (suc n) w low high = elim (cases_eq w a) [
@@ -97,7 +97,7 @@ total-one a (suc n) w low high = elim (cases_eq w a) [
       omega (arith, miss, rest)
 ]
 
--- the lists of slots, one after another, are as long as a function of their numbers says
+-- the total length of the slots' lists is the sum of a function of the slots' numbers
 lists-total : (slots : List Slot) (a : ℕ) (F : ℕ → ℕ) → ((i : ℕ) → i < length slots → length (get_or slots i empty_slot).frames ≡ F (a + i)) → sum_by (λ (slot : Slot). length slot.frames) slots ≡ total F a (length slots)
 lists-total [] a F each = refl
 lists-total (slot ∷ slots) a F each =
@@ -105,19 +105,19 @@ lists-total (slot ∷ slots) a F each =
     let rest = lists-total slots (a + 1) F (λ i low. each (suc i) (omega (arith, low)) ∙ ap F (omega arith)) in
     sum_by-cons (λ (s : Slot). length s.frames) slot slots ∙ ap₂ (λ x y. x + y) here rest
 
--- each owner of these is KCore, the host, nobody, or a VM of this range
+-- each owner of these is the core, the host, nobody, or a VM of this range
 abbrev IsOwner : ℕ → Owner → Type 0
 IsOwner n (Vm v) = v < n
 IsOwner n _ = Unit {0}
 
--- counted once
+-- each owner is counted once
 owner-once : (n : ℕ) (owner : Owner) → IsOwner n owner → one_if (same_owner owner Core) + one_if (same_owner owner Host) + one_if (same_owner owner Free) + total (λ v. one_if (same_owner owner (Vm v))) 0 n ≡ 1
 owner-once n Core is = let none = total-none (λ v. 0) 0 n (λ v low high. refl) in omega (arith, none)
 owner-once n Host is = let none = total-none (λ v. 0) 0 n (λ v low high. refl) in omega (arith, none)
 owner-once n Free is = let none = total-none (λ v. 0) 0 n (λ v low high. refl) in omega (arith, none)
 owner-once n (Vm w) is = let one = total-one 0 n w (omega arith) (omega (arith, is)) in omega (arith, one)
 
--- how many of these frames an owner has
+-- the number of these frames that an owner has
 abbrev among : State → Owner → List ℕ → ℕ
 among m owner fs = count_by (λ f. same_owner (frame_at m f).owner owner) fs
 

@@ -1,4 +1,4 @@
--- Several frames that are changed in one way: those at the guest frames of a range.
+-- Several frames are changed in one way: those at the guest frames of a range.
 use Rattle.std.proofs.Common.{ℕ, zero, suc, ◌≡◌, ◌<◌, ◌≤◌, ◌+◌, inl, inr, Bool, false, List, [], ◌∷◌, length, get_or, set, refl, ap, ◌∙◌, arith, length-set}
 use Rattle.std.specs.List.{list_any, range_with_len}
 use Rattle.std.proofs.lemmas.Bool.{cases_eq, or_parts}

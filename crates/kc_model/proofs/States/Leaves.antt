@@ -9,12 +9,12 @@ use Rattle.kc_model.specs.Effects.{with_leaf}
 use Rattle.kc_model.specs.Lawful.{has_leaf, times_in}
 use Rattle.kc_model.proofs.States.Lists.{times_in-push}
 
--- a number that no test finds is not in the list
+-- a number that the test does not find is not in the list
 not-listed : (xs : List ℕ) (r : ℕ) → list_any (λ x. x == r) xs ≡ false → times_in xs r ≡ 0
 not-listed [] r none = refl
 not-listed (x ∷ xs) r none = let parts = or_parts (nat_eq x r) (list_any (λ y. y == r) xs) none in let rest = not-listed xs r parts.1 in rw (parts.0, rest) refl
 
--- what the leaves are after a guest frame got one
+-- the leaves after a guest frame got one
 pub record IsGrown (limit : ℕ) (leaves : List ℕ) (g : ℕ) (grown : List ℕ) : Type 0 where
   pub few : length grown ≤ limit
   pub once : (root : ℕ) → times_in grown root ≤ 1

@@ -11,7 +11,7 @@ pub times_in-push : (fs : List ℕ) (f k : ℕ) → times_in (fs ++ f ∷ []) k 
 times_in-push [] f k = omega arith
 times_in-push (x ∷ xs) f k = let rest = times_in-push xs f k in omega (arith, rest)
 
--- a frame after the change, where it exists
+-- a frame that exists, after the change
 pub changed-same : (m : State) (f : ℕ) (frame : Frame) → f < length m.frames → frame_at (with_frame m f frame) f ≡ frame
 changed-same m f frame lt = get_or-set_same m.frames f frame (untouched Core) lt
 

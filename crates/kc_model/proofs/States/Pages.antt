@@ -20,7 +20,7 @@ page-overwritten bytes off written is within = record {
       (All-drop (λ b. b < 256) (off + length written) bytes is.each_byte);
 }
 
--- bytes are what they are as bytes
+-- bytes stay the same as bytes
 pub as_bytes-same : (bytes : List ℕ) → ((k : ℕ) → get_or bytes k 0 < 256) → as_bytes bytes ≡ bytes
 as_bytes-same [] each = refl
 as_bytes-same (b ∷ bytes) each =
@@ -29,7 +29,7 @@ as_bytes-same (b ∷ bytes) each =
     let rest : as_bytes bytes ≡ bytes = as_bytes-same bytes (λ k. each (suc k)) in
     rw (here, rest) refl
 
--- a page with zero bytes from a place on
+-- a page whose bytes from a place on are set to zero
 pub page-trimmed : (bytes : List ℕ) (kept : ℕ) → IsPage bytes → kept ≤ 4096 → IsPage (take kept bytes ++ replicate (4096 - kept) 0)
 page-trimmed bytes kept is within = record {
   whole = let whole = is.whole in simp (length-append, length-take, length-replicate) (omega arith);

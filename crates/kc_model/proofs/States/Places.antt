@@ -1,11 +1,11 @@
--- The state before each call, its reply and the state at the end, beside the fold over the trace.
+-- The state before each call, its reply and the state at the end, as the fold over the trace gives them.
 use Rattle.std.proofs.Common.{ℕ, zero, suc, ◌≡◌, ◌≤◌, List, [], ◌∷◌, length, refl, ap, ◌∙◌, arith}
 use Rattle.kc_types.specs.declared.call.Call.{Call}
 use Rattle.kc_model.specs.State.{State}
 use Rattle.kc_model.specs.Next.{next, state_after}
 use Rattle.kc_model.specs.Footprints.{call_at, state_at}
 
--- a place of a trace is the place before it of the rest
+-- a place of a trace is one place earlier in the trace's rest
 pub state_at-rest : (m : State) (call : Call) (calls : List Call) (k : ℕ) → state_at m (call ∷ calls) (suc k) ≡ state_at (next m call).1 calls k
 state_at-rest m call calls zero = refl
 state_at-rest m call calls (suc k) = ap (λ s. (next s (call_at calls k)).1) (state_at-rest m call calls k)

@@ -1,4 +1,4 @@
--- No call changes the configuration, or how many frames and slots there are.
+-- No call changes the configuration or the number of frames and slots.
 use Rattle.std.proofs.Common.{ℕ, ◌≡◌, Option, Some, None, List, [], ◌∷◌, length, set, refl, ◌∙◌, length-set}
 use Rattle.std.specs.List.{range_with_len}
 use Rattle.kc_types.specs.declared.call.Call.{Call}

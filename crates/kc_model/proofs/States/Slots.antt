@@ -1,4 +1,4 @@
--- What a slot keeps by itself, change by change.
+-- What holds of a slot alone, change by change.
 use Rattle.std.proofs.Common.{ℕ, zero, suc, ◌≡◌, ◌<◌, ◌≤◌, ◌+◌, inl, inr, Bool, true, false, ◌&&◌, ◌||◌, nat_eq, nat_le, nat_lt, None, List, [], ◌∷◌, ◌++◌, length, get_or, set, replicate, refl, sym, ap, ◌∙◌, arith, length-set, length-append, get_or-set_same, get_or-set_other, All}
 use Rattle.std.proofs.lemmas.Bool.{cases_eq, cases_Bool, or_parts}
 use Rattle.std.proofs.lemmas.Grind.{common_steps}
@@ -16,7 +16,7 @@ use Rattle.kc_model.specs.State.{State, Slot, Vcpu, Image, absent_vcpu, no_vcpus
 use Rattle.kc_model.specs.Refusals.{pages_of, overlaps}
 use Rattle.kc_model.specs.Lawful.{IsLawfulSlot, IsLawfulVcpu, IsLawfulImage, Apart, holds}
 
--- one value
+-- a list of one value
 pub get_or-same : {X : Type 0} (n : ℕ) (x : X) (i : ℕ) → get_or (replicate n x) i x ≡ x
 get_or-same zero x i = refl
 get_or-same (suc n) x zero = refl
@@ -62,19 +62,19 @@ pub lawful-empty_slot : (config : Configuration) → IsLawfulSlot config empty_s
 unfolding fresh_slot
 lawful-empty_slot config = lawful-fresh config Empty (λ h. refl)
 
--- an empty slot that is registered
+-- an empty slot becomes registered
 pub lawful-registered : (config : Configuration) (slot : Slot) → IsLawfulSlot config slot → slot.phase ≡ Empty → IsLawfulSlot config (record slot { phase = Booting })
 unfolding fresh_slot
 lawful-registered config slot is empty = rw (is.empty empty) (lawful-fresh config Booting (λ h. cc))
 
--- what stands at each place after a write, with the value that stands where nothing does
+-- what holds of the written element and of the others holds at each place after the write
 pub each-place : {X : Type 0} (P : X → Type 0) (xs : List X) (i : ℕ) (x d : X) → i < length xs → ((k : ℕ) → P (get_or xs k d)) → P x → (k : ℕ) → P (get_or (set xs i x) k d)
 each-place P xs i x d lt all here k = elim (cases_eq k i) [
   | inl same ↦ rw (same, get_or-set_same xs i x d lt) here
   | inr other ↦ rw (get_or-set_other xs i k x d other) (all k)
 ]
 
--- a virtual processor that is written
+-- a virtual processor is written
 pub lawful-with_vcpu : (config : Configuration) (slot : Slot) (c : ℕ) (vcpu : Vcpu) → IsLawfulSlot config slot → (slot.phase ≡ Empty → ⊥) → c < 8 → IsLawfulVcpu slot.phase vcpu → IsLawfulSlot config (with_vcpu slot c vcpu)
 lawful-with_vcpu config slot c vcpu is used lt here = record {
   vcpus = length-set slot.vcpus c vcpu ∙ is.vcpus;
@@ -126,7 +126,7 @@ apart-push (image ∷ images) new apart none =
 holds-none : (g : ℕ) (image : Image) → image.pages ≡ 0 → holds g image ≡ false
 holds-none g image none = grind (arith, common_steps)
 
--- an image more, with no pages yet
+-- one more image, with no pages yet
 pub lawful-with_image : (config : Configuration) (slot : Slot) (image : Image) → IsLawfulSlot config slot → slot.phase ≡ Booting → length slot.images < 4 → IsLawfulImage image → image.pages ≡ 0 → list_any (overlaps image.base image.len) slot.images ≡ false → IsLawfulSlot config (record slot { images = slot.images ++ image ∷ [] })
 lawful-with_image config slot image is was few here none apart = record {
   vcpus = is.vcpus;
@@ -163,7 +163,7 @@ list_any-set_more p [] i x d more lt is = absurd (omega arith)
 list_any-set_more p (y ∷ ys) zero x d more lt is = ap (λ b. b || list_any p ys) is ∙ or-swap (p y) more (list_any p ys)
 list_any-set_more p (y ∷ ys) (suc i) x d more lt is = ap (λ b. p y || b) (list_any-set_more p ys i x d more (omega arith) is) ∙ sym (or_assoc (p y) (list_any p ys) more)
 
--- the same extent as before
+-- the extent stays the same
 pub apart-set : (images : List Image) (i : ℕ) (image d : Image) → i < length images → image.base ≡ (get_or images i d).base → image.len ≡ (get_or images i d).len → Apart images → Apart (set images i image)
 apart-set [] i image d lt base len apart = apart
 apart-set (first ∷ images) zero image d lt base len apart = (rw (base, len) apart.0, apart.1)
@@ -190,7 +190,7 @@ none-at p xs j d lt none = elim (cases_Bool (p (get_or xs j d))) [
   | inr fails ↦ fails
 ]
 
--- the next page of an image is held by no image
+-- no image holds the next page of an image
 pub next-held : (images : List Image) (i : ℕ) (d : Image) (g : ℕ) → Apart images → All IsLawfulImage images → i < length images → g ≡ (get_or images i d).base + (get_or images i d).pages → (get_or images i d).pages < pages_of (get_or images i d).len → list_any (holds g) images ≡ false
 next-held [] i d g apart all lt is short = refl
 next-held (image ∷ images) zero d g apart all lt is short =

@@ -21,7 +21,7 @@ same_key g = grind (arith, common_steps)
 other_key : (h g : ℕ) → (h ≡ g → ⊥) → eq_by_cmp nat_cmp h g ≡ false
 other_key h g ne = grind (arith, common_steps)
 
--- what the table has after a write, and after a removal
+-- what the table has after a write and after a removal
 pub got-here : (table : map.FinMap nat_cmp ℕ) (g f : ℕ) → map.get (map.insert table g f) g ≡ Some f
 got-here table g f = map.get-insert nat_cmp_total table g f g ∙ ap (λ b. cond b (Some f) (map.get table g)) (same_key g)
 
@@ -72,7 +72,7 @@ table-lost m f frame v g is v_in lt mapped gone h k = elim (cases_eq k f) [
   ])
 ]
 
--- how often a list without a frame has each frame
+-- how often a list has each frame after one was taken out
 pub times_in-without : (fs : List ℕ) (f k : ℕ) → times_in (without fs f) k ≡ cond (nat_eq k f) 0 (times_in fs k)
 times_in-without [] f k = sym (both-zero (nat_eq k f))
   where
@@ -90,7 +90,7 @@ times_in-without (x ∷ fs) f k = elim (cases_eq x f) [
   ])
 ]
 
--- a frame that the list loses
+-- the list loses a frame
 pub lists-without : (m : State) (f : ℕ) (frame : Frame) (owner : Owner) (fs : List ℕ) → f < length m.frames → ListsOnce m owner fs → same_owner frame.owner owner ≡ false → ListsOnce (with_frame m f frame) owner (without fs f)
 lists-without m f frame owner fs lt once after k = times_in-without fs f k ∙ elim (cases_eq k f) [
   | inl same ↦ let t = eq-eqb k f same in rw (t, same, changed-same m f frame lt, after) refl

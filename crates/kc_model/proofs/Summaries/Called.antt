@@ -31,7 +31,7 @@ use Rattle.kc_model.proofs.States.Counts.{one_if}
 use Rattle.kc_model.proofs.Summaries.Counts.{count, count-cons, count-append, count-map, count-none, count-filter}
 use Rattle.kc_model.proofs.Summaries.Owned.{has, all_frames, gained, lost, owned-balance, goes-one-way}
 
--- that a slot turned
+-- the event that a slot turned
 abbrev pub slot_event : ℕ → State → State → ℕ → Event
 slot_event n old new v = event.Change (change.Phase (phase_change n old new v))
 
@@ -59,7 +59,7 @@ events-parted n m call =
     ap (λ zs. access ++ zs) (map-append event.Change (map change.Frame (frame_changes_by n m new)) (map change.Phase (phase_changes_by n m new)) ∙ ap (λ zs. frames ++ zs) (map-thrice (phase_change n m new) (turned m new)))
     ∙ sym (append_assoc access frames (rear n m call))
 
--- what holds of every access and of every change of a frame holds of the first part
+-- what holds of every access and of every change of a frame holds of the events before those of slots
 owner-all : (P : Event → Type 0) (made : ℕ → Event) → ((w : ℕ) → P (made w)) → (owner : Owner) → All P (of_owner made owner)
 owner-all P made each (Vm w) = All-cons P (made w) [] (each w) (All-nil P)
 owner-all P made each _ = All-nil P
@@ -77,7 +77,7 @@ front-all P reads writes frames n m call =
     All-append P (access_by m call (next m call).0) (map event.Change (map change.Frame (frame_changes_by n m (next m call).1)))
     (access-all P reads writes m call (next m call).0) (frames-all P frames (frame_changes_by n m (next m call).1))
 
--- an event that counts for nothing
+-- an event that does not count for the VM
 pub record IsQuiet (v : ℕ) (told : Event) : Type 0 where
   pub gain : is_gain v told ≡ false
   pub loss : is_loss v told ≡ false
@@ -152,7 +152,7 @@ front-losses v n m call =
     let some = count-moved (is_loss v) n m new (λ f still. ap (λ b. has m v f && not b) (has-still m new v f still) ∙ and-not (has m v f)) in
     count-append (is_loss v) access (map event.Change (map change.Frame (frame_changes_by n m new))) ∙ omega (arith, none, some)
 
--- an event that is no gain brings no frame
+-- an event that is not a gain brings no frame
 gained-none : (v : ℕ) (told : Event) → is_gain v told ≡ false → frame_gained v told ≡ None
 gained-none v (event.Change (change.Frame told)) none = cond-false (is_gain v (event.Change (change.Frame told))) (Some told.frame) None none
 gained-none v (event.Change (change.Phase told)) none = refl
@@ -164,7 +164,7 @@ none-gained v [] none = refl
 none-gained v (x ∷ xs) none =
     ap₂ cons_option (gained-none v x (All-head (λ told. is_gain v told ≡ false) x xs none)) (none-gained v xs (All-tail (λ told. is_gain v told ≡ false) x xs none))
 
--- the frames that changes bring are those of them that are gained
+-- the frames that changes bring are those of their frames that are gained
 moved-gains : (v n : ℕ) (old new : State) (fs : List ℕ) (f : ℕ) → is_in (frames_gained v (map event.Change (map change.Frame (map (frame_change n old new) fs)))) f ≡ list_any (λ g. gained old new v g && nat_eq g f) fs
 moved-gains v n old new [] f = refl
 moved-gains v n old new (g ∷ gs) f = by_gain (gained old new v g) (moved-gains v n old new gs f)
@@ -197,7 +197,7 @@ front-gained v n m call =
     let none = none-gained v access (access-all (λ told. is_gain v told ≡ false) (λ w. refl) (λ w. refl) m call (next m call).0) in
     filter_map-append (frame_gained v) access frames ∙ ap (λ (first : List ℕ). first ++ frames_gained v frames) none
 
--- quiet events behind others bring none
+-- quiet events after others bring no frames
 gained-quiet : (v : ℕ) (xs ys : List Event) → All (λ told. is_gain v told ≡ false) ys → frames_gained v (xs ++ ys) ≡ frames_gained v xs
 gained-quiet v xs ys none = filter_map-append (frame_gained v) xs ys ∙ ap (λ (last : List ℕ). frames_gained v xs ++ last) (none-gained v ys none) ∙ append-nil (frames_gained v xs)
 
@@ -207,7 +207,7 @@ front-accesses test none n m call =
     let zero = count-none test frames (frames-all (λ told. test told ≡ false) none (frame_changes_by n m (next m call).1)) in
     count-append test (access_by m call (next m call).0) frames ∙ omega (arith, zero)
 
--- quiet events behind others
+-- quiet events after others
 count-quiet : (test : Event → Bool) (xs ys : List Event) → All (λ told. test told ≡ false) ys → count test (xs ++ ys) ≡ count test xs
 count-quiet test xs ys none = let zero = count-none test ys none in count-append test xs ys ∙ omega (arith, zero)
 

@@ -28,12 +28,12 @@ pub count-map : {X Y : Type 0} (p : Y → Bool) (make : X → Y) (xs : List X) �
 count-map p make [] = refl
 count-map p make (x ∷ xs) = count-cons p (make x) (map make xs) ∙ ap (λ n. one_if (p (make x)) + n) (count-map p make xs) ∙ sym (count-cons (λ y. p (make y)) x xs)
 
--- a test that passes nothing of the list
+-- a test that no element of the list passes
 pub count-none : {X : Type 0} (p : X → Bool) (xs : List X) → All (λ x. p x ≡ false) xs → count p xs ≡ 0
 count-none p [] none = refl
 count-none p (x ∷ xs) none = count-cons p x xs ∙ ap₂ (λ b n. one_if b + n) (All-head (λ x. p x ≡ false) x xs none) (count-none p xs (All-tail (λ x. p x ≡ false) x xs none))
 
--- of those that another test lets through, where it holds back none that pass
+-- a test after a filter that lets through every element that passes it
 pub count-filter : {X : Type 0} (p q : X → Bool) → ((x : X) → q x ≡ false → p x ≡ false) → (xs : List X) → count p (filter q xs) ≡ count p xs
 count-filter p q back [] = refl
 count-filter p q back (x ∷ xs) = by_test (q x) refl (count-filter p q back xs)
@@ -56,7 +56,7 @@ count-same p q [] same = refl
 count-same p q (x ∷ xs) same =
     count-cons p x xs ∙ ap₂ (λ b n. one_if b + n) (All-head (λ x. p x ≡ q x) x xs same) (count-same p q xs (All-tail (λ x. p x ≡ q x) x xs same)) ∙ sym (count-cons q x xs)
 
--- one number of a range is this one
+-- exactly one number of a range is this one
 count-one : (y low n : ℕ) → low ≤ y → y < low + n → count (nat_eq y) (range_with_len low n) ≡ 1
 count-one y low zero from below = absurd (omega (arith, from, below))
 count-one y low (suc n) from below =
@@ -106,7 +106,7 @@ different (x ∷ xs) n low = by_rest (is_in xs x) refl (different xs n (All-tail
         let both = count-balance (is_in (x ∷ xs)) (λ f. false) (nat_eq x) (is_in xs) (apart is) (range_with_len 0 n) in
         omega (arith, rest, one, none, both)
 
--- a sum over the places from i up to but without j
+-- a sum over the places from i up to but not including j
 abbrev pub sum_from : (ℕ → ℕ) → ℕ → ℕ → ℕ
 sum_from F i j = sum_by F (range_with_len i (j - i))
 

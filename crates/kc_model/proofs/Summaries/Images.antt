@@ -1,4 +1,4 @@
--- The images that a life tells are those of its slot as a call measured them, once at most.
+-- The images of a life are those of its slot as a call measured them, at most once.
 use Rattle.std.proofs.Common.{ℕ, zero, suc, ◌≡◌, ◌<◌, ◌+◌, ◌-◌, ◌⊎◌, inl, inr, true, false, List, [], ◌++◌, map, length, All, Some, None, refl, sym, ap, ap₂, subst, ◌∙◌, arith, append_assoc, append-nil}
 use Rattle.std.proofs.lemmas.Bool.{cases_Bool, cond-true}
 use Rattle.std.proofs.lemmas.List.Elements.{All-append}
@@ -27,13 +27,13 @@ module _ (m : State) (calls : List Call) (is : IsLawful m) (v : ℕ) (low : v < 
   abbrev AreImages : List Event → Type 0
   AreImages told = images_told v told ≡ measured_on m calls v (line_of_turn v Active told) ++ measured_on m calls v (line_of_turn v Dead told)
 
-  -- what the events of a life say from a place on of what is measured: once at most, while it boots
+  -- what the events of a life say, from a place on, of what is measured: at most once, while it boots
   pub record IsMeasuredOnce (k : ℕ) (told : List Event) : Type 0 where
     pub once : Once told
     pub images : AreImages told
     pub settled : (phase_at m calls v k ≡ Booting → ⊥) → (line_of_turn v Active told ≡ None) × (line_of_turn v Dead told ≡ None)
 
-  -- where no line tells of either phase, there are no images
+  -- if no line has either phase, there are no images
   unmeasured : (k : ℕ) (told : List Event) → line_of_turn v Active told ≡ None → line_of_turn v Dead told ≡ None → images_told v told ≡ [] → IsMeasuredOnce k told
   unmeasured k told active dead none = record {
     once = inl active;
@@ -41,7 +41,7 @@ module _ (m : State) (calls : List Call) (is : IsLawful m) (v : ℕ) (low : v < 
     settled = λ not_booting. (active, dead);
   }
 
-  -- what the events after some others say is what all of them do, where those tell nothing
+  -- all events say what the later ones say if the first ones say nothing
   passed : (i k : ℕ) (first rest : List Event) → line_of_turn v Active (first ++ rest) ≡ line_of_turn v Active rest → line_of_turn v Dead (first ++ rest) ≡ line_of_turn v Dead rest → images_told v (first ++ rest) ≡ images_told v rest
       → phase_at m calls v i ≡ phase_at m calls v k → IsMeasuredOnce i rest → IsMeasuredOnce k (first ++ rest)
   passed i k first rest active dead images same later = record {

@@ -1,4 +1,4 @@
--- Where a life ends among the events of a call, and which turns of its slot they tell.
+-- Where a life ends among the events of a call, and which turns of its slot they report.
 use Rattle.std.proofs.Common.{ℕ, ◌≡◌, ◌<◌, inl, inr, true, false, ◌&&◌, nat_eq, List, [], ◌∷◌, ◌++◌, map, All, Some, None, refl, sym, ap, ◌∙◌, arith}
 use Rattle.std.specs.List.{list_any}
 use Rattle.std.proofs.lemmas.Bool.{cases_eq, eq-eqb, ne_eqb, and_from, and_left, and_right, false_from_ne_true, cond-true, cond-false}
@@ -16,7 +16,7 @@ use Rattle.kc_model.proofs.Custody.Same.{same_phase-refl}
 use Rattle.kc_model.proofs.Custody.Told.{turned, among-range}
 use Rattle.kc_model.proofs.Summaries.Called.{slot_event, IsQuiet, slot-quiet}
 
--- phases are the same where the test says so
+-- phases are the same if the test says so
 pub phase-is : (p q : Phase) → same_phase p q ≡ true → p ≡ q
 phase-is Empty Empty e = refl
 phase-is Booting Booting e = refl
@@ -27,7 +27,7 @@ phase-is _ _ e = cc
 pub other-phase : (p q : Phase) → (p ≡ q → ⊥) → same_phase p q ≡ false
 other-phase p q differs = false_from_ne_true (same_phase p q) (λ same. differs (phase-is p q same))
 
--- an event that turns the slot to none of the phases that end a life's events
+-- an event that does not turn the slot to a phase that ends a life's events
 pub record IsInLife (v : ℕ) (told : Event) : Type 0 where
   pub unregistered : is_turn v Booting told ≡ false
   pub kept : is_turn v Empty told ≡ false
@@ -49,13 +49,13 @@ line-more v phase (event.Change (change.Frame told)) more other = refl
 line-more v phase (event.Read w) more other = refl
 line-more v phase (event.Write w) more other = refl
 
--- events that do not turn the slot to the phase tell no line of it
+-- events that do not turn the slot to the phase give no line of it
 pub line-through : (v : ℕ) (phase : Phase) (xs ys : List Event) → All (λ told. is_turn v phase told ≡ false) xs → line_of_turn v phase (xs ++ ys) ≡ line_of_turn v phase ys
 line-through v phase [] ys other = refl
 line-through v phase (x ∷ xs) ys other =
     line-more v phase x (xs ++ ys) (All-head (λ told. is_turn v phase told ≡ false) x xs other) ∙ line-through v phase xs ys (All-tail (λ told. is_turn v phase told ≡ false) x xs other)
 
--- an event that does not measure the slot tells none of its images
+-- an event that does not measure the slot gives none of its images
 images-more : (v : ℕ) (told : Event) (more : List Event) → is_measuring v told ≡ false → images_told v (told ∷ more) ≡ images_told v more
 images-more v (event.Change (change.Phase told)) more not = cond-false (is_measuring v (event.Change (change.Phase told))) told.images _ not
 images-more v (event.Change (change.Frame told)) more not = refl
@@ -122,7 +122,7 @@ line-here v n old new phase (w ∷ ws) ys any is = elim (cases_eq w v) [
       ∙ line-here v n old new phase ws ys (rw (ne_eqb w v other) at any) is
 ]
 
--- the images that are told of a slot that turned and is measured are those of before the call
+-- the images that are reported of a slot that turned and is measured are those from before the call
 pub images-here : (v n : ℕ) (old new : State) (phase : Phase) (vs : List ℕ) (ys : List Event) → list_any (λ w. nat_eq w v) vs ≡ true → ((told : Event) → is_turn v phase told ≡ true → is_measuring v told ≡ true) → (slot_at new v).phase ≡ phase
     → images_told v (map (slot_event n old new) vs ++ ys) ≡ images_for phase (measured_images old v)
 images-here v n old new phase [] ys any measures is = cc
@@ -143,7 +143,7 @@ pub record IsEnd (v n : ℕ) (told : List Event) : Type 0 where
   pub unturned : (phase : Phase) → (phase ≡ Empty → ⊥) → line_of_turn v phase told ≡ None
   pub unmeasured : images_told v told ≡ []
 
--- where a call empties the slot, its life ends among the call's events of slots
+-- if a call empties the slot, the slot's life ends among the call's events of slots
 pub life-ends : (v n : ℕ) (old new : State) (vs : List ℕ) (ys : List Event) → list_any (λ w. nat_eq w v) vs ≡ true → (slot_at new v).phase ≡ Empty → IsEnd v n (life_in v (map (slot_event n old new) vs ++ ys))
 life-ends v n old new [] ys any is = cc
 life-ends v n old new (w ∷ ws) ys any is =

@@ -1,4 +1,5 @@
--- The events of a life, from any of its states on: what they count, where it ends, and which turns of its slot they tell.
+-- The events of a life, from any of its states on: what they count, where it ends, and which turns of its slot they
+-- report.
 use Rattle.std.proofs.Common.{ℕ, zero, suc, ◌≡◌, ◌<◌, ◌≤◌, ◌+◌, ◌-◌, inl, inr, true, false, not, List, [], ◌++◌, map, length, All, Option, Some, None, refl, sym, ap, subst, ◌∙◌, arith, append_assoc, append-nil}
 use Rattle.std.specs.List.{range_with_len}
 use Rattle.std.proofs.lemmas.Bool.{cases_lt, cases_Bool, true≢false}
@@ -29,7 +30,7 @@ use Rattle.kc_model.proofs.Summaries.Stretches.{Tells, tells-none, tells-more, t
 pub differs-itself : (p : Phase) → same_phase p p ≡ false → ⊥
 differs-itself p not = let same = same_phase-refl p in true≢false (sym same ∙ not)
 
--- a slot that differs in phase has turned
+-- a slot whose phases differ has turned
 pub has-turned : (old new : State) (v : ℕ) → ((slot_at old v).phase ≡ (slot_at new v).phase → ⊥) → has_turned old new v ≡ true
 has-turned old new v differs = ap not (other-phase (slot_at old v).phase (slot_at new v).phase differs)
 
@@ -44,7 +45,7 @@ never-registered v m call is some turned booting = elim (turns v m call is) [
 ]
 
 module _ (m : State) (calls : List Call) where
-  -- the events of so many calls from a place on
+  -- the events of this many calls from a place on
   abbrev pub told : ℕ → ℕ → List Event
   told zero k = []
   told (suc d) k = events_by (first_line + k) (state_at m calls k) (call_at calls k) ++ told d (suc k)
@@ -53,7 +54,7 @@ module _ (m : State) (calls : List Call) (is : IsLawful m) (v : ℕ) (low : v < 
   abbrev Differs : Phase → ℕ → Type 0
   Differs phase k = phase_at m calls v k ≡ phase → ⊥
 
-  -- what the events of a life say from a place on, where it is cleared on this line
+  -- what the events of a life say from a place on, if it is cleared on this line
   pub record IsLife (k : ℕ) (told : List Event) (line : Option ℕ) : Type 0 where
     pub ended : line_of_turn v Empty told ≡ line
     pub tells : Tells m calls v k (last_place calls line) told
@@ -77,7 +78,7 @@ module _ (m : State) (calls : List Call) (is : IsLawful m) (v : ℕ) (low : v < 
         ],
       )
 
-  -- or it is so after the call at the place
+  -- or the slot is in the phase after the call at the place
   first-here : (phase : Phase) (k j : ℕ) → suc k ≤ j → Differs phase k → phase_at m calls v (suc k) ≡ phase → IsFirstIn m calls v phase k j (Some (first_line + k))
   first-here phase k j lt differs so =
       let here : suc k ≡ (first_line + k) - 1 = omega arith in (
@@ -186,7 +187,7 @@ module _ (m : State) (calls : List Call) (is : IsLawful m) (v : ℕ) (low : v < 
           ];
         })
 
-  -- so from each place on at which the slot is not empty: after this many calls the trace ends
+  -- so from each place on at which the slot is not empty, if the trace ends after this many calls
   pub life-from : (d k : ℕ) → k + d ≡ length calls → Differs Empty k → (line : Option ℕ) × IsLife k (life_in v (told m calls d k)) line
   life-from zero k whole some =
       let last : k ≡ length calls = omega (arith, whole) in (

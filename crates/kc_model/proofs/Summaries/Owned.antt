@@ -1,4 +1,5 @@
--- How many frames a slot has: its list is as long as the frames that it owns are many, and a call brings it frames or takes some from it, but not both.
+-- How many frames a slot has: its list is as long as the number of frames that it owns, and a call brings it frames or
+-- takes some from it, but not both.
 use Rattle.std.proofs.Common.{ℕ, ◌≡◌, ◌<◌, ◌+◌, ◌⊎◌, inl, inr, Bool, true, false, not, ◌&&◌, ◌||◌, List, length, Option, None, Some, refl, sym, ap, ◌∙◌, arith}
 use Rattle.std.specs.List.{range_with_len}
 use Rattle.std.proofs.lemmas.Bool.{cases_eq, eqb-true}
@@ -53,14 +54,14 @@ has-owner v (Vm w) is = ap Vm (eqb-true w v is)
 once : (m : State) (v : ℕ) → IsLawful m → v < slot_count m.config → (f : ℕ) → times_in (slot_at m v).frames f ≡ one_if (has m v f)
 once m v is low f = is.listed v low f ∙ ap one_if (owned-same v (frame_at m f).owner)
 
--- so it is as long as they are many
+-- so the list is as long as they are many
 pub owned-count : (m : State) (v : ℕ) → IsLawful m → v < slot_count m.config → length (slot_at m v).frames ≡ count (has m v) (all_frames m)
 owned-count m v is low =
     listed-long m (Vm v) (slot_at m v).frames is.frames (is.listed v low) refl
     ∙ sym (length-filter (λ f. same_owner (frame_at m f).owner (Vm v)) (all_frames m))
     ∙ count-same (λ f. same_owner (frame_at m f).owner (Vm v)) (has m v) (all_frames m) (λ i d lt. owned-same v (frame_at m _).owner)
 
--- the frames that a VM has in one state and not in the other
+-- the frames that a VM has in the second state and not in the first
 abbrev pub gained : State → State → ℕ → ℕ → Bool
 gained old new v f = not (has old v f) && has new v f
 
@@ -73,7 +74,7 @@ balanced true false = refl
 balanced false true = refl
 balanced false false = refl
 
--- what it has after a call, and what it has lost, is what it had and what it has gained
+-- what the VM has after a call, with what it lost, is what it had, with what it gained
 pub owned-balance : (m : State) (v : ℕ) (call : Call) → IsLawful m → v < slot_count m.config
     → length (slot_at m v).frames + count (gained m (next m call).1 v) (all_frames m) ≡ length (slot_at (next m call).1 v).frames + count (lost m (next m call).1 v) (all_frames m)
 owned-balance m v call is low =
@@ -102,7 +103,7 @@ listed-has m v is low f listed = by_owner (has m v f) (times_in-held (slot_at m 
     by_owner true some times = refl
     by_owner false some times = absurd (omega (arith, some, times))
 
--- no frame comes that the call's names do not bring
+-- only frames that the call's names bring come to the VM
 brings-none : (m : State) (v : ℕ) (call : Call) (new : State) → IsLawful m → IsLawful new → v < slot_count m.config → v < slot_count new.config → Grows m call new
     → ((f : ℕ) → gains m.config (listed_in m) call (Vm v) f ≡ false) → (f : ℕ) → has new v f ≡ true → has m v f ≡ true
 brings-none m v call new is law low low_new grows none f has =
@@ -130,7 +131,7 @@ one-way : (m : State) (v : ℕ) (call : Call) → IsLawful m → IsLawful (next 
 unfolding next
 one-way m v call is law low low_new grows = one-way-unless (refusal m call) m v call refl is law low low_new grows
 
--- what is only in the one is in the one and not in the other
+-- if the second implies the first, it never holds without it
 none-only : (a b : Bool) → (b ≡ true → a ≡ true) → (not a && b) ≡ false
 none-only true b both = refl
 none-only false true both = let h = both refl in cc

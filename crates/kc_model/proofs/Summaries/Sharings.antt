@@ -44,7 +44,7 @@ end-through f (x ∷ xs) ys none = All-head (EndsNone f) x xs none (xs ++ ys) �
 slots-end-none : (f n : ℕ) (old new : State) (vs : List ℕ) → All (EndsNone f) (map (slot_event n old new) vs)
 slots-end-none f n old new vs = All-map (EndsNone f) (slot_event n old new) vs (λ i d lt more. refl)
 
--- an event of a frame ends its sharing where it is not shared after the call
+-- an event of a frame ends its sharing if the frame is not shared after the call
 ends : State → ℕ → ℕ → Bool
 ends new f g = nat_eq g f && nat_eq (frame_at new g).share 0
 
@@ -58,7 +58,7 @@ frames-end f n old new (g ∷ gs) ys = by_end (ends new f g) (frames-end f n old
     by_end true rest = refl
     by_end false rest = rest
 
--- no event of frames above it does
+-- no event of frames above it ends its sharing
 above-end : (f n : ℕ) (old new : State) (p : ℕ → Bool) (low count : ℕ) (ys : List Event) → f < low → end_of_sharing f (frame_events n old new (filter p (range_with_len low count)) ++ ys) ≡ end_of_sharing f ys
 unfolding ends
 above-end f n old new p low count ys lt =
@@ -76,7 +76,7 @@ share-moved old new f shared = by_moved (has_moved old new f) refl
         let same = ap (λ custody. custody.share) (is-same old new f still) in
         sym (ne_eqb (frame_at new f).share 0 (λ none. omega (arith, shared, same, none)))
 
--- the events of a call end the sharing of a frame that was shared where it is not shared after it
+-- the events of a call end the sharing of a frame that was shared if it is not shared after the call
 call-ends : (f n : ℕ) (m : State) (call : Call) (more : List Event) → f < m.config.frames → 0 < (frame_at m f).share
     → end_of_sharing f ((front n m call ++ rear n m call) ++ more) ≡ cond (nat_eq (frame_at (next m call).1 f).share 0) (Some n) (end_of_sharing f more)
 unfolding ends
@@ -91,7 +91,7 @@ call-ends f n m call more low shared =
     ∙ frames-end f n m new (moved m new) (slots ++ more)
     ∙ ap₂ (λ b (later : Option ℕ). cond b (Some n) later) among (end-through f slots more (slots-end-none f n m new (turned m new)))
 
--- an event that is no turn of the slot goes on
+-- an event that is not a turn of the slot
 share-more : (v : ℕ) (told : Event) (more : List Event) → IsInLife v told → sharings v (told ∷ more) ≡ sharing_from v told more ++ sharings v more
 share-more v told more is = cond-false (is_turn v Booting told) [] _ is.unregistered ∙ cond-false (is_turn v Empty told) [] _ is.kept
 
@@ -111,7 +111,7 @@ share-through v (x ∷ xs) ys none =
     let first = All-head (BeginsNone v) x xs none in
     share-more v x (xs ++ ys) first.goes_on ∙ ap (λ (here : List Sharing). here ++ sharings v (xs ++ ys)) (first.none (xs ++ ys)) ∙ share-through v xs ys (All-tail (BeginsNone v) x xs none)
 
--- where the slot is emptied its sharings end
+-- if the slot is emptied its sharings end
 share-closed : (v n : ℕ) (old new : State) (vs : List ℕ) (more : List Event) → list_any (λ w. nat_eq w v) vs ≡ true → (slot_at new v).phase ≡ Empty → sharings v (map (slot_event n old new) vs ++ more) ≡ []
 share-closed v n old new [] more any empty = cc
 share-closed v n old new (w ∷ ws) more any empty =
@@ -142,7 +142,7 @@ starts-moved v old new f still = false_from_ne_true (starts v old new f) (λ is.
     let some = ltb-true 0 (frame_at new f).share both.1 in
     omega (arith, same, none, some))
 
--- the same, with what is told of its end later
+-- the same, with its end as later events report it
 abbrev starting : ℕ → State → List Event → ℕ → Sharing
 starting n new later f = started n new (end_of_sharing f later) f
 
@@ -171,11 +171,11 @@ frames-share v n old new later low (suc count) =
     by_moved false still false begins to rest = rest
 
 module _ (m : State) (calls : List Call) where
-  -- how many calls after a place the first of them is after which the frame is not shared, on the line of its call
+  -- the line of the first of `d` calls from a place on after which the frame is not shared, if there is one
   abbrev ended_in : ℕ → ℕ → ℕ → Option ℕ
   ended_in f k d = option_map (λ n. first_line + n) (find (λ k. nat_eq (grants_at m calls f (k + 1)) 0) (range_with_len k d))
 
-  -- what is told of the end of a sharing
+  -- what is reported of the end of a sharing
   ends-at : (f : ℕ) → f < m.config.frames → (d k : ℕ) → k + d ≡ length calls → 0 < grants_at m calls f k → end_of_sharing f (told m calls d k) ≡ ended_in f k d
   ends-at f low zero k whole shared = refl
   ends-at f low (suc d) k whole shared =
@@ -260,7 +260,7 @@ module _ (m : State) (calls : List Call) where
       ∙ call-begins v d k whole) is
 
 module _ (m : State) (calls : List Call) (is : IsLawful m) (v : ℕ) (low : v < slot_count m.config) where
-  -- the sharings of a life from a place on, as its events tell them
+  -- the sharings of a life from a place on, as its events give them
   abbrev pub AreShared : ℕ → List Event → Type 0
   AreShared k told = sharings v told ≡ begun_from m calls v k (last_place calls (line_of_turn v Empty (life_in v told)))
 

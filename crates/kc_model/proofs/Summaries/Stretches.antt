@@ -18,12 +18,12 @@ use Rattle.kc_model.proofs.Footprints.Reaches.{config-at}
 use Rattle.kc_model.specs.Resources.{is_in}
 use Rattle.std.proofs.lemmas.List.Sums.{length-filter}
 
--- the first element fails the test, and none of the others passes
+-- if the count is zero, the first element fails the test and so do the others
 first-of-none : (b : Bool) (n : ℕ) → one_if b + n ≡ 0 → (b ≡ false) × (n ≡ 0)
 first-of-none true n none = absurd (omega (arith, none))
 first-of-none false n none = (refl, omega (arith, none))
 
--- events that bring nothing raise the most by nothing, and lower it by what they take
+-- events that bring no frames leave the most as it is, lowered by what they take
 most-lost : (v : ℕ) (xs ys : List Event) → count (is_gain v) xs ≡ 0 → most_beyond v (xs ++ ys) ≡ most_beyond v ys - count (is_loss v) xs
 most-lost v [] ys none = omega arith
 most-lost v (x ∷ xs) ys none =
@@ -36,7 +36,7 @@ most-lost v (x ∷ xs) ys none =
     by_event false true other is rest = let all = count-cons (is_loss v) x xs ∙ ap (λ b. one_if b + count (is_loss v) xs) is in omega (arith, rest, all)
     by_event false false other is rest = let all = count-cons (is_loss v) x xs ∙ ap (λ b. one_if b + count (is_loss v) xs) is in omega (arith, rest, all)
 
--- events that take nothing raise it by what they bring
+-- events that take no frames raise the most by what they bring
 most-gained : (v : ℕ) (xs ys : List Event) → count (is_loss v) xs ≡ 0 → most_beyond v (xs ++ ys) ≡ most_beyond v ys + count (is_gain v) xs
 most-gained v [] ys none = omega arith
 most-gained v (x ∷ xs) ys none =
@@ -50,7 +50,7 @@ most-gained v (x ∷ xs) ys none =
     by_event false false is other rest = let all = count-cons (is_gain v) x xs ∙ ap (λ b. one_if b + count (is_gain v) xs) is in omega (arith, rest, all)
 
 module _ (m : State) (calls : List Call) (v : ℕ) where
-  -- the frames that the call at a place takes from the VM
+  -- the number of frames that the call at a place takes from the VM
   abbrev pub taken : ℕ → ℕ
   taken k = frames_that (λ f. owns_at m calls v f k && not (owns_at m calls v f (k + 1))) m
 
@@ -66,7 +66,7 @@ module _ (m : State) (calls : List Call) (v : ℕ) where
     pub gains : (f : ℕ) → f < m.config.frames → (is_in (frames_gained v told) f || owns_at m calls v f i) ≡ any_to (owns_at m calls v f) i j
     pub within : All (λ f. f < m.config.frames) (frames_gained v told)
 
-  -- whether a call does
+  -- whether a call passes the test
   abbrev does : (State → Call → Reply → Bool) → ℕ → ℕ
   does test k = one_if (test (state_at m calls k) (call_at calls k) (reply_at m calls k))
 
@@ -80,7 +80,7 @@ module _ (m : State) (calls : List Call) (v : ℕ) where
       ∙ ap (count (λ f. owns_at m calls v f k && not (owns_at m calls v f (k + 1)))) (same-frames k)
       ∙ length-filter (λ f. owns_at m calls v f k && not (owns_at m calls v f (k + 1))) (range_with_len 0 m.config.frames)
 
-  -- a frame that the VM comes to have, has then or gets later
+  -- a frame that the VM has at some time, has then or gets later
   had-or-gained : (had gets later : Bool) → (((not had && gets) || later) || had) ≡ (had || (later || gets))
   had-or-gained true gets true = refl
   had-or-gained true gets false = refl

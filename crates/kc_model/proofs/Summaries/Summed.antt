@@ -1,4 +1,4 @@
--- Each life that the events of a trace tell is what its states and replies say.
+-- Each life that the events of a trace give is what its states and replies say.
 use Rattle.std.proofs.Common.{ℕ, zero, suc, ◌≡◌, ◌<◌, ◌≤◌, ◌+◌, ◌-◌, inl, inr, ◌&&◌, ◌||◌, is_some, Bool, true, false, cond, List, [], ◌∷◌, ◌++◌, map, filter, length, get_or, All, Option, Some, None, refl, sym, ap, subst, ◌∙◌, arith, append_assoc}
 use Rattle.std.specs.List.{list_any, range_with_len}
 use Rattle.std.proofs.lemmas.Bool.{cond_both, cond-true, cond-false, cases_eq, false_from_ne_true, true≢false, and_parts, and_from}
@@ -189,7 +189,7 @@ module _ (m : State) (calls : List Call) (is : IsLawful m) where
 abbrev lines : List Event → List ℕ
 lines told = map (λ (life : Life). life.registered) (lives told)
 
--- a slot begins a life where it turned and is booting
+-- a slot begins a life if it turned and is booting
 abbrev boots : State → State → ℕ → Bool
 boots old new v = has_turned old new v && same_phase (slot_at new v).phase Booting
 
@@ -205,11 +205,11 @@ line-of-slot n old new v ws more = by_turn (has_turned old new v)
     by_turn true = by_phase (same_phase (slot_at new v).phase Booting) (life_of v n (map (slot_event n old new) ws ++ more)) (lives (map (slot_event n old new) ws ++ more))
     by_turn false = refl
 
--- the events of slots that turned, of a range
+-- the events of the slots of a range that turned
 abbrev of_range : ℕ → State → State → ℕ → ℕ → List Event
 of_range n old new low count = map (slot_event n old new) (filter (has_turned old new) (range_with_len low count))
 
--- of slots none of which begins a life
+-- slots none of which begins a life
 lines-none : (n : ℕ) (old new : State) (more : List Event) (low count : ℕ) → ((w : ℕ) → low ≤ w → boots old new w ≡ false) → lines (of_range n old new low count ++ more) ≡ lines more
 lines-none n old new more low zero none = refl
 lines-none n old new more low (suc count) none =
@@ -218,7 +218,7 @@ lines-none n old new more low (suc count) none =
     ∙ cond-false (boots old new low) (n ∷ lines (map (slot_event n old new) ws ++ more)) _ (none low (omega arith))
     ∙ lines-none n old new more (low + 1) count (λ w from. none w (omega (arith, from)))
 
--- of slots one of which does
+-- slots one of which begins a life
 lines-one : (n : ℕ) (old new : State) (more : List Event) (v low count : ℕ) → low ≤ v → v < low + count → boots old new v ≡ true → ((w : ℕ) → (w ≡ v → ⊥) → boots old new w ≡ false) → lines (of_range n old new low count ++ more) ≡ n ∷ lines more
 lines-one n old new more v low zero from below here others = absurd (omega (arith, from, below))
 lines-one n old new more v low (suc count) from below here others =

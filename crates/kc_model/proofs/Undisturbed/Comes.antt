@@ -1,4 +1,4 @@
--- A call by which something reaches the VM, beside one by which the same does.
+-- A call by which something reaches the VM, compared to another by which the same does.
 use Rattle.std.proofs.Common.{ℕ, ◌≡◌, ◌<◌, ◌⊎◌, ◌&&◌, inl, inr, Bool, true, false, cond, List, ◌∷◌, length, nat_eq, eq-eqb, refl, sym, ap, subst, ◌∙◌, arith, Option, None, Some, replicate}
 use Rattle.std.proofs.lemmas.Grind.{common_steps}
 use Rattle.std.proofs.lemmas.Bool.{cases_eq, ne_eqb, and_parts}
@@ -28,14 +28,14 @@ use Rattle.kc_model.proofs.Undisturbed.Refused as refused
 use Rattle.kc_model.proofs.Undisturbed.Own.{IsAlike, own-register, own-vcpu, own-boot, own-read, own-write, own-grant, own-revoke, own-grants, own-revokes, own-drop, own-clear, own-verify}
 use Rattle.kc_model.proofs.Undisturbed.Handed.{remap-same, map-same, host-same}
 
--- a call that may reach the VM as it stands
+-- a call that may reach the VM as it is
 abbrev pub IsOwn : Call → Type 0
 IsOwn (HostWrite f off bytes) = ⊥
 IsOwn (Remap w i f) = ⊥
 IsOwn (Map w c f) = ⊥
 IsOwn _ = Unit {0}
 
--- what the call is by which this reaches the VM
+-- the call by which this reaches the VM
 abbrev pub Comes : (ℕ → Bool) → ℕ → State → Call → Input → Type 0
 Comes s v m call (own_call c) = (watched_call s call ≡ c) × (slot_of call ≡ Some v) × IsOwn call
 Comes s v m call (image_page i bytes) = (f : ℕ) × (call ≡ Remap v i f) × (refusal m (Remap v i f) ≡ None) × (watched s (next_gfn m v i) (frame_at m f).bytes ≡ bytes)
@@ -116,7 +116,7 @@ comes s v m call i e =
 abbrev pub IsWhole : (ℕ → Bool) → ℕ → Call → Type 0
 IsWhole s v call = ((g : ℕ) → s g ≡ true) ⊎ (verifies v call ≡ false)
 
--- the call is refused for the same, and where it is not it does the same
+-- the call is refused for the same reason, or else does the same
 Own : (ℕ → Bool) → ℕ → State → State → Call → Type 0
 Own s v m n call = HasTheSame s v m n → IsWhole s v call → (refusal m call ≡ refusal n call) × (refusal m call ≡ None → refusal n call ≡ None → IsAlike s v call (effect m call) (effect n call))
 
@@ -170,12 +170,12 @@ own-next s v m n call m_is n_is same whole named is_own =
     let parts = own s v m n call m_is n_is named is_own same whole in
     subst (λ r. IsAlike s v call (unless_refused (refusal m call) m call) (unless_refused r n call)) parts.0 (own-case (refusal m call) s v m n call same refl (sym parts.0) parts.1)
 
--- the VM has the same after both, and is told the same by both
+-- the VM has the same after both, and is answered the same by both
 pub record IsTogether (s : ℕ → Bool) (v : ℕ) (i : Input) (a b : Outcome) : Type 0 where
   pub state : HasTheSame s v a.1 b.1
   pub told : (l k : List Reply) → l ≡ k → with_answer s (Some i) a.0 l ≡ with_answer s (Some i) b.0 k
 
--- a call that is not refused does its effect
+-- a call that is not refused has its effect
 does : (reason : Option Refusal) (m : State) (call : Call) → reason ≡ None → (unless_refused reason m call).1 ≡ (effect m call).1
 does None m call e = refl
 does (Some r) m call e = absurd cc
@@ -188,14 +188,14 @@ both-do : (s : ℕ → Bool) (v : ℕ) (m n : State) (call other : Call) → ref
 both-do s v m n call other served too same =
     subst (λ x. HasTheSame s v x (next n other).1) (sym (does-next m call served)) (subst (λ x. HasTheSame s v (effect m call).1 x) (sym (does-next n other too)) same)
 
--- what is alike goes on
+-- what is alike stays alike
 alike-then : (s : ℕ → Bool) (v : ℕ) (call : Call) (a b c : Outcome) → IsAlike s v call a b → IsAlike s v call b c → IsAlike s v call a c
 alike-then s v call a b c ab bc = record { state = same-then s v a.1 b.1 c.1 ab.state bc.state; answer = ab.answer ∙ bc.answer }
 
 alike-back : (s : ℕ → Bool) (v : ℕ) (call : Call) (a b : Outcome) → IsAlike s v call a b → IsAlike s v call b a
 alike-back s v call a b ab = record { state = same-back s v a.1 b.1 ab.state; answer = sym ab.answer }
 
--- other bytes are written where it is not watched
+-- other bytes are written to a guest frame that is not watched
 blind-write : (s : ℕ → Bool) (v : ℕ) (m : State) (call : Call) (c g off : ℕ) (first second : List ℕ) (at : Option ℕ) → s g ≡ false → HasFrames v m → v < length m.slots → mapped_at m v g ≡ at
     → IsAlike s v call (guest_written m v c g off first at) (guest_written m v c g off second at)
 blind-write s v m call c g off first second None unseen has lt e = record { state = same-self s v _; answer = refl }

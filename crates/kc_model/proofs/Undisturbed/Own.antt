@@ -28,12 +28,12 @@ use Rattle.kc_model.proofs.Blind.Blinds.{held, failing-same}
 use Rattle.std.proofs.lemmas.List.Folds.{list_any_at}
 use Rattle.kc_model.proofs.Undisturbed.Pages.{HasFrames, frames-with, changed-same, slots-same, under-none, under-page, page-by, page-bytes, page-other}
 
--- the VM has the same after both, and is answered the same where it doesn't read what is not watched
+-- the VM has the same after both, and is answered the same, except for reads of what is not watched
 pub record IsAlike (s : ℕ → Bool) (v : ℕ) (call : Call) (a b : Outcome) : Type 0 where
   pub state : HasTheSame s v a.1 b.1
   pub answer : watched_reply s call a.0 ≡ watched_reply s call b.0
 
--- a part of bytes that are the same where they are watched
+-- a part of bytes that are the same if they are watched
 watched-range : (b : Bool) (p q : List ℕ) (from to : ℕ) → cond b p [] ≡ cond b q [] → cond b (slice_range p from to) [] ≡ cond b (slice_range q from to) []
 watched-range true p q from to e = ap (λ bytes. slice_range bytes from to) e
 watched-range false p q from to e = refl

@@ -1,4 +1,4 @@
--- What two states have in common of a VM, when frames and slots change.
+-- What two states have in common for a VM when frames and slots change.
 use Rattle.std.proofs.Common.{ℕ, ◌≡◌, ◌<◌, inl, inr, Bool, true, false, cond, List, [], length, get_or, set, is_none, refl, sym, ap, subst, ◌∙◌, Option, None, Some, length-set, get_or-set_same, get_or-set_other}
 use Rattle.std.proofs.lemmas.Bool.{cases_eq}
 use Rattle.std.proofs.lemmas.Option.{same_Some}
@@ -33,7 +33,7 @@ page-other s frames f x g (Some k) other = ap (λ (y : Frame). Some (page_of s g
 pub page-here : (s : ℕ → Bool) (frames : List Frame) (f : ℕ) (x : Frame) (g : ℕ) (at : Option ℕ) → f < length frames → at ≡ Some f → page_under s (set frames f x) g at ≡ Some (page_of s g x)
 page-here s frames f x g at lt e = ap (page_under s (set frames f x) g) e ∙ ap (λ (y : Frame). Some (page_of s g y)) (get_or-set_same frames f x (untouched Core) lt)
 
--- the pages under frames that are the same to it
+-- the page under frames that are the same for it
 pub page-kept : (s : ℕ → Bool) (frames others : List Frame) (g : ℕ) (at : Option ℕ) → ((f : ℕ) → at ≡ Some f → page_of s g (get_or frames f (untouched Core)) ≡ page_of s g (get_or others f (untouched Core))) → page_under s frames g at ≡ page_under s others g at
 page-kept s frames others g None same = refl
 page-kept s frames others g (Some f) same = ap Some (same f refl)
@@ -51,7 +51,7 @@ under-page s frames others g None bt e some = absurd cc
 under-page s frames others g (Some f) None e some = absurd cc
 under-page s frames others g (Some f) (Some k) e some = same_Some _ _ e
 
--- pages with their bytes changed in one way
+-- pages whose bytes are changed in one way
 watched-by : (b : Bool) (p q : List ℕ) (change : List ℕ → List ℕ) → cond b p [] ≡ cond b q [] → cond b (change p) [] ≡ cond b (change q) []
 watched-by true p q change e = ap change e
 watched-by false p q change e = refl
@@ -84,7 +84,7 @@ changed-same s v m n g f k x y same here there at bt pages = record {
   ];
 }
 
--- a slot changes, but for its table, in both states
+-- a slot changes, except for its table, in both states
 slot-page : (s : ℕ → Bool) (v : ℕ) (m : State) (a : Slot) (g : ℕ) → v < length m.slots → a.mapped ≡ (slot_at m v).mapped → page_at s (with_slot m v a) v g ≡ page_at s m v g
 slot-page s v m a g lt e = ap (λ (x : Slot). page_under s m.frames g (map.get x.mapped g)) (slot-here m v a lt) ∙ ap (λ (t : map.FinMap nat_cmp ℕ). page_under s m.frames g (map.get t g)) e
 

@@ -1,4 +1,4 @@
--- A call that names the VM is refused for the same, where the VM has the same.
+-- A call that names the VM is refused for the same reason if the VM has the same.
 use Rattle.std.proofs.Common.{ℕ, ◌≡◌, ◌+◌, ◌||◌, Bool, true, false, not, List, [], ◌∷◌, length, is_none, nat_eq, nat_le, nat_lt, refl, ap, ◌∙◌, Option, None}
 use Rattle.std.specs.List.{list_any}
 use Rattle.kc_types.specs.Configuration.{slot_count}
@@ -17,7 +17,7 @@ first_then [] later = later
 first_then (first ∷ rest) later = or_else first (first_then rest later)
 
 module _ (s : ℕ → Bool) (v : ℕ) (m n : State) (same : HasTheSame s v m n) where
-  -- what depends on the limits, on the slot, and on a rest that is the same
+  -- a refusal that depends on the limits, on the slot, and on a rest that is the same
   by-slot : (F : ℕ → SlotOf (Unit {0}) → Option Refusal → Option Refusal) (a b : Option Refusal) → a ≡ b → F (slot_count m.config) (own_slot (slot_at m v)) a ≡ F (slot_count n.config) (own_slot (slot_at n v)) b
   by-slot F a b e = ap (λ x. F x (own_slot (slot_at m v)) a) same.slots ∙ ap (λ x. F (slot_count n.config) x a) same.slot ∙ ap (F (slot_count n.config) (own_slot (slot_at n v))) e
 

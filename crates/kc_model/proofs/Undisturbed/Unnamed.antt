@@ -1,4 +1,4 @@
--- A call by which nothing reaches a VM leaves it what it has.
+-- A call by which nothing reaches a VM leaves the VM what it has.
 use Rattle.std.proofs.Common.{ℕ, ◌≡◌, ◌≢◌, ◌<◌, ◌≤◌, ◌⊎◌, ◌&&◌, inl, inr, Bool, true, false, cond, List, [], length, eq-eqb, refl, sym, ap, subst, ◌∙◌, Option, None, Some}
 use Rattle.std.proofs.lemmas.Bool.{cases_eq, cases_lt}
 use Rattle.std.proofs.lemmas.List.{get_or_past}
@@ -35,7 +35,7 @@ in-range m v g f is e = elim (cases_lt v (slot_count m.config)) [
       absurd cc
 ]
 
--- the slot is as it was, and its pages
+-- the slot is as it was, and so are its pages
 pub kept : (s : ℕ → Bool) (v : ℕ) (m new : State) → IsLawful m → new.config ≡ m.config → slot_at new v ≡ slot_at m v
     → ((f g : ℕ) → (frame_at m f).owner ≡ Vm v → (frame_at m f).gfn ≡ Some g → page_of s g (frame_at new f) ≡ page_of s g (frame_at m f)) → HasTheSame s v m new
 kept s v m new is config slot pages = record {
@@ -47,7 +47,7 @@ kept s v m new is config slot pages = record {
       ∙ ap (λ (x : Slot). page_under s new.frames g (map.get x.mapped g)) (sym slot);
 }
 
--- the host's write to a frame of the VM, where nothing reaches it
+-- the host's write to a frame of the VM, if nothing reaches the VM by it
 own-true : (owner : Owner) (v : ℕ) → owner ≡ Vm v → same_owner owner (Vm v) ≡ true
 own-true owner v e = ap (λ (o : Owner). same_owner o (Vm v)) e ∙ eq-eqb v v refl
 

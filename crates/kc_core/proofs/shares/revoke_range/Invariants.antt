@@ -5,7 +5,7 @@ use Rattle.kc_parts.specs.States.{state_of, IsLinked}
 use Rattle.kc_core.specs.Applying.{KeepsPlaces}
 use Rattle.kc_core.proofs.shares.revoke_range.Given as goal
 
--- what is left to do leads where the whole does
+-- doing what is left leads to the same state as doing everything
 abbrev pub invariant-loop-at : goal.invariant-loop-at
 invariant-loop-at l = record {
   from : l.gfn ≤ l.at;

@@ -5,7 +5,7 @@ use Rattle.kc_vms.specs.Measure.{WasFed}
 use Rattle.kc_core.specs.Verifying.{bytes_under}
 use Rattle.kc_core.proofs.verify.digest_of.Given as goal
 
--- what was fed is the front of the pages so far
+-- what was fed are the bytes of the image in the pages so far
 abbrev pub invariant-loop-gfn : goal.invariant-loop-gfn
 invariant-loop-gfn l = record {
   from : l.image.base ≤ l.gfn;

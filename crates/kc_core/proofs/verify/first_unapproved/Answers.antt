@@ -11,7 +11,7 @@ use Rattle.kc_core.proofs.verify.first_unapproved.Goals.{After-is_approved}
 abbrev none : MeasuredImage
 none = record { base = 0; len = 0; digest = [] }
 
--- what the list is asked is what the configuration says
+-- looking up the list gives what the configuration says
 tested : (c : After-is_approved) → is_approved_digest c.args.config.now (get_or c.args.images.now c.loop-i.i none).digest ≡ c.is_approved.result
 tested c =
     let digest = (get_or c.args.images.now c.loop-i.i none).digest in

@@ -30,7 +30,7 @@ measured_images-images-requires-clause-slot c = here (goal.at.measured_images-im
 pub measured_images-images-requires-clause-here : goal.measured_images-images-requires-clause-here
 measured_images-images-requires-clause-here c = images (goal.at.measured_images-images-requires-clause-here c).Start
 
--- the answer is by the images that were measured
+-- the answer depends on the images that were measured
 first : (c : After-first_unapproved) → c.first_unapproved.result ≡ first_failing (is_approved (state_of c.args.config.now c.args.parts.now) c.args.vm) (slot_at (state_of c.args.config.now c.args.parts.now) c.args.vm).images
 first c =
     c.first_unapproved.ensures

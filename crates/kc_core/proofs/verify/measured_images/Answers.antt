@@ -21,14 +21,14 @@ none = record { base = 0; len = 0; pages = 0 }
 seen : (c : After-images-images) → (slot_at (state_of c.args.config.now c.args.parts.now) c.args.vm).images ≡ c.images-images.result.now
 seen c = images-seen _ c.args.parts.now _ _ _ c.requires.low c.slot-slot.ensures c.images-images.ensures.value
 
--- they are here, and so they are through the slot's table
+-- they are here, also when looked up through the slot's table
 here : (c : After-images-images) → All (IsImageHere c.args.parts.now (mapped_in (vm_at c.args.parts.now c.args.vm))) c.images-images.result.now
 here c = subst (λ images. All (IsImageHere c.args.parts.now (mapped_in (vm_at c.args.parts.now c.args.vm))) images) (seen c) c.requires.here
 
 through : (c : After-images-images) (table : Table) → table ≡ slot_table c.slot-slot.result.now → All (IsImageHere c.args.parts.now (finite.get table.mapped)) c.images-images.result.now
 through c table is = λ i image low. image-through c.args.parts.now c.args.vm c.slot-slot.result.now table _ c.slot-slot.ensures is (here c i image low)
 
--- one image more is measured
+-- one more image is measured
 more : (measure : Image → MeasuredImage) (images : List Image) (i : ℕ) (before after : List MeasuredImage) (one : MeasuredImage) → i < length images
     → before ≡ map measure (take i images) → after ≡ before ++ one ∷ [] → one ≡ measure (get_or images i none) → after ≡ map measure (take (i + 1) images)
 more measure images i before after one low so_far pushed is =

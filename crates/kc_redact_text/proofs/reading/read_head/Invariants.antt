@@ -2,7 +2,7 @@ use Rattle.std.proofs.Common.{◌≡◌, ◌≤◌, ◌-◌, false, take, length
 use Rattle.std.specs.Io.KnownBytes.{Consumes}
 use Rattle.kc_redact_text.proofs.reading.read_head.Given as goal
 
--- what was read stands at the front
+-- what was read is at the front
 abbrev pub invariant-loop-used : goal.invariant-loop-used
 invariant-loop-used g l = record {
   read : Consumes (g.T.Source.left l.fn.source) (g.T.Source.left l.source) (take l.used l.head);

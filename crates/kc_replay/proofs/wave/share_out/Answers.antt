@@ -14,7 +14,7 @@ use Rattle.kc_replay.proofs.Putting.{switched}
 use Rattle.kc_replay.proofs.Zips.{zip_length}
 use Rattle.kc_replay.proofs.wave.share_out.Goals as goal
 
--- what is known of the wave, of the one that is given
+-- what is known of the wave holds of the one that is given
 pub given-wave : (seen : Wave) (m : State) (given : WaveCalls) → seen ≡ wave_from m given → IsWave seen.start seen.calls seen.footprints seen.members → IsWave seen.start given.calls.now (footprint_of given.footprints.now) given.members.now
 given-wave seen m given is wave = subst (λ (x : Wave). IsWave seen.start x.calls x.footprints x.members) is wave
 

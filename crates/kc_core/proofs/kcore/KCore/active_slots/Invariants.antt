@@ -5,7 +5,7 @@ use Rattle.kc_model.specs.Refusals.{is_active}
 use Rattle.kc_model.specs.Lawful.{IsLawful}
 use Rattle.kc_core.proofs.kcore.KCore.active_slots.Given as goal
 
--- the slots so far are marked as they are, and no other
+-- the slots so far are marked if active, and the others are not marked
 abbrev pub invariant-slots : goal.invariant-slots
 invariant-slots l = record {
   so_far : (v : ℕ) → v < l.vm → slice_index_or l.marks v false ≡ is_active (slot_at l.self v).phase;

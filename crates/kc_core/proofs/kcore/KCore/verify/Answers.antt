@@ -12,7 +12,7 @@ use Rattle.kc_core.proofs.kcore.KCore.verify.Goals as goal
 pub verify-requires : goal.verify-requires
 verify-requires c = able c.self.inside.config c.self.inside.parts c.self.invariant (Verify c.args.vm)
 
--- an answer in both cases is one
+-- the answer in both cases
 answered : (P : Reply → Type 0) (result : Result Verified Refusal) → MatchResult result (λ verified. P verified.reply) (λ why. P (Refused why)) → (reply : Reply) × P reply
 answered P (Ok verified) is = (verified.reply, is)
 answered P (Err why) is = (Refused why, is)

@@ -12,11 +12,11 @@ use Rattle.kc_parts.proofs.parts.Parts.append_vm.Goals.{In-Some, After-set_list}
 at : (c : In-Some) → vm_at c.args.self.now c.args.vm ≡ Some c.in-Some.slot.now
 at c = sym (rw c.in-Some.is at c.try_slot.ensures)
 
--- the list and the frame behind it are the slot's
+-- the list and the frame after it are the slot's
 own : (c : In-Some) → (f : ℕ) → 0 < times_in (listed (links_of c.args.self.now) c.in-Some.slot.now.slot.frames ++ c.args.frame ∷ []) f → owner_at c.args.self.now f ≡ Vm c.args.vm
 own c = owned-appended (owner_at c.args.self.now) (Vm c.args.vm) (listed (links_of c.args.self.now) c.in-Some.slot.now.slot.frames) c.args.frame (slot-owned c.args.self.now c.args.vm c.in-Some.slot.now c.requires.lists (at c)) c.requires.mine
 
--- the slot has the list with the frame behind it
+-- the slot has the list with the frame after it
 longer : (c : After-set_list) → c.set_list.new.self ≡ with_vm c.append.new.store c.args.vm (with_ends c.in-Some.slot.now c.append.new.ends)
 longer c = ends-set c.args.self.now c.append.new.store c.set_list.new.self c.args.vm c.in-Some.slot.now c.append.new.ends c.append.ensures.rest.vms (at (goal.at.After-set_list c).In-Some) c.set_list.ensures
 

@@ -24,7 +24,7 @@ is_list c = (slot-ended c.args.self.now c.args.vm c.args.list c.requires.ends).1
 own : (c : Start) → (f : ℕ) → 0 < times_in (listed (links_of c.args.self.now) (slot c).slot.frames) f → owner_at c.args.self.now f ≡ Vm c.args.vm
 own c = slot-owned c.args.self.now c.args.vm (slot c) c.requires.lists (at c)
 
--- the slot has the list that is left
+-- the slot has the rest of the list
 left : (c : After-set_list) → c.set_list.new.self ≡ with_vm c.unlink.new.store c.args.vm (with_ends (slot (goal.at.After-set_list c).Start) c.unlink.new.ends)
 left c =
     let k = (goal.at.After-set_list c).Start in
