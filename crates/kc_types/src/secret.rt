@@ -8,7 +8,8 @@ use std::alloc::Global;
 use std::marker::Model;
 
 /// Bytes that must not be found in memory later, seen as a list. All their memory is zeroed before it is freed,
-/// whoever frees it, except by `let_go_long`. They never grow in place: more room is new memory, and the old memory is zeroed and freed.
+/// whoever frees it, except by `let_go_long`. They never grow in place: more room is new memory, and the old memory is
+/// zeroed and freed.
 #[derive(Debug)]
 pub struct SecretBytes {
     bytes: Vec<u8>,
