@@ -149,7 +149,7 @@ impl Vm {
         Ok(())
     }
 
-    /// `NoVm` if the slot is empty, `WrongPhase` if it is neither empty nor booting.
+    /// Checks that the slot is booting: `NoVm` if it is empty, `WrongPhase` if it is in another phase.
     fn expect_booting(&self) -> Result<(), Refusal>
         ensures { Answers result (first_of_these (no_vm_in self.now.slot ∷ not_booting_in self.now.slot ∷ [])) }
     {
