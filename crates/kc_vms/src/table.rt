@@ -20,7 +20,7 @@ pub enum MapFault {
 }
 
 /// A VM's table, from guest frames to frames, and the root slots that have leaves, in the order in which they took
-/// them. Once made it takes no more memory.
+/// them. Once made, it takes no more memory.
 #[derive(Drop)]
 pub struct Stage2 {
     levels: Levels,

@@ -18,7 +18,7 @@ use std::alloc::Global;
 use std::marker::Model;
 
 /// A VM slot: its phase, its 8 virtual processors, its boot images, the ends of the list of its frames, and its table.
-/// Once made it takes no more memory.
+/// Once made, it takes no more memory.
 #[derive(Drop)]
 pub struct Vm {
     phase: Phase,
