@@ -27,7 +27,7 @@ wrong_link Host prev next = is_some prev || is_some next
 wrong_link Free prev next = false
 wrong_link (Vm v) prev next = false
 
--- a VM's frame is not mapped where its record says, or another's frame has a guest frame
+-- a VM's frame is not mapped where its record says, or a frame that is not a VM's has a guest frame
 abbrev pub wrong_gfn : Bool → Owner → Option ℕ → Bool
 wrong_gfn mapped (Vm v) gfn = not (is_some gfn) || not mapped
 wrong_gfn mapped Core gfn = is_some gfn

@@ -42,8 +42,8 @@ fn lists(alloc: Global, dump: &Dump) -> Result<Vec<bool>, Memory>
     Ok(lists)
 }
 
-/// The findings of a dump: by kind, in the order of the kinds, and within a kind by slot, guest frame or frame, in
-/// ascending order. `Memory` if memory cannot be had.
+/// Audits a dump. The findings are by kind, in the order of the kinds, and within a kind by slot, guest frame or
+/// frame, ascending. `Memory` if memory cannot be had.
 pub fn audit(alloc: Global, dump: &Dump) -> Result<Vec<Finding>, Memory>
     // No clause can rule out that memory runs out: a test audits dumps.
     ensures found { IfOk result (λ found. AreFindings dump.now found.items) }

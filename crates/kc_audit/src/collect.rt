@@ -114,7 +114,7 @@ fn push_empty(found: &mut Vec<Finding>, slots: &[SlotDump]) -> Result<(), Memory
     Ok(())
 }
 
-/// The findings of a dump, from the verdicts on its frames and lists.
+/// Lists the findings of a dump, from the verdicts on its frames and lists.
 pub fn findings(
     alloc: Global,
     dump: &Dump,

@@ -33,7 +33,7 @@ fn count(lines: &[FrameLine], counts: &mut [u32])
     }
 }
 
-/// The number of frames that each list should hold.
+/// Counts the frames that each list should hold.
 pub fn counts(alloc: Global, dump: &Dump) -> Result<Vec<u32>, Memory>
     // No clause can rule out that memory runs out: a test audits dumps.
     ensures { IfOk result (λ counts. AreOwnerCounts dump.now.frames (length dump.now.frames) (slot_limit + 1) counts.items) }

@@ -14,7 +14,8 @@ pub enum Finding {
     Chain(VmId),
     /// A guest frame of a slot is mapped to a frame that is not the slot's, or that has another guest frame.
     Entry(VmId, Gfn),
-    /// A VM's frame is not mapped by its VM's table where the frame says, or another's frame has a guest frame.
+    /// A VM's frame is not mapped by its VM's table where the frame says, or a frame that is not a VM's has a guest
+    /// frame.
     Gfn(FrameNo),
     /// A frame that is not a VM's is shared.
     Share(FrameNo),

@@ -109,7 +109,7 @@ fn finding_line(finding: Finding) -> ArrayString<160>
     line
 }
 
-/// Each finding as a line.
+/// Writes each finding as a line.
 fn finding_lines(alloc: Global, found: &[Finding]) -> Result<Vec<u8>, Memory>
     ensures { IfOk result (λ text. text.items ≡ flat_map finding_line found.now) }
 {
@@ -120,7 +120,7 @@ fn finding_lines(alloc: Global, found: &[Finding]) -> Result<Vec<u8>, Memory>
     Ok(text)
 }
 
-/// Each finding as a line if all are wanted, otherwise no text.
+/// Writes each finding as a line if all are wanted, and nothing otherwise.
 fn all_text(alloc: Global, all: bool, found: &[Finding]) -> Result<Vec<u8>, Memory>
     ensures { IfOk result (λ text. text.items ≡ all_text all found.now) }
 {
@@ -131,8 +131,8 @@ fn all_text(alloc: Global, all: bool, found: &[Finding]) -> Result<Vec<u8>, Memo
     }
 }
 
-/// The output of an audit of a dump of `frames` frames: its report, as one line, and if `all` is set, before it each
-/// finding in order, as a compact JSON object on a line of its own. `Memory` if memory cannot be had.
+/// Writes the output of an audit of a dump of `frames` frames: its report, as one line, and if `all` is set, before it
+/// each finding in order, as a compact JSON object on a line of its own. `Memory` if memory cannot be had.
 pub fn written(
     alloc: Global,
     all: bool,

@@ -50,7 +50,8 @@ fn mark_slots(dump: &Dump, marks: &mut [bool])
     }
 }
 
-/// For each frame of a VM, whether its table maps it where its record says, in time linear in frames and entries.
+/// Marks, of the frames of VMs, those that the VM's table maps where their record says, in time linear in frames and
+/// entries.
 pub fn marks(alloc: Global, dump: &Dump) -> Result<Vec<bool>, Memory>
     // No clause can rule out that memory runs out: a test audits dumps.
     ensures { IfOk result (λ marks. AreMarks dump.now marks.items) }

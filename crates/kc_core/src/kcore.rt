@@ -197,7 +197,7 @@ impl KCore {
         Some(&page.bytes)
     }
 
-    /// The frames of an owner: free frames and a VM's in the order of their list, the core's and the host's in
+    /// Lists the frames of an owner: free frames and a VM's in the order of their list, the core's and the host's in
     /// ascending order. `Memory` if memory cannot be had.
     pub fn frames_of(&self, owner: Owner) -> Result<Vec<FrameNo>, Memory>
         // No clause can rule out that memory runs out: a test lists frames.
@@ -224,8 +224,8 @@ impl KCore {
         Some(*self.try_slot(vm)?.list())
     }
 
-    /// The mapped guest frames of a VM slot with their frames, by ascending guest frame; none if the slot does not
-    /// exist. `Memory` if memory cannot be had.
+    /// Lists the mapped guest frames of a VM slot with their frames, by ascending guest frame; none if the slot does
+    /// not exist. `Memory` if memory cannot be had.
     pub fn entries(&self, alloc: Global, vm: u32) -> Result<Vec<(Gfn, FrameNo)>, Memory>
         // No clause can rule out that memory runs out: a test lists entries.
         ensures { IfOk result (λ entries. entries.items ≡ finite.entries (slot_at self.now vm).mapped) }

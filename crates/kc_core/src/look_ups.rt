@@ -31,7 +31,7 @@ pub fn page_record(parts: &Parts, frame: FrameNo) -> PageRecord
     }
 }
 
-/// The frames of a list, in its order.
+/// Lists the frames of a list, in its order.
 fn listed(alloc: Global, parts: &Parts, ends: &Ends) -> Result<Vec<FrameNo>, Memory>
     // No clause can rule out that memory runs out, here and below: a test lists frames.
     ensures { IfOk result (λ frames. frames.items ≡ listed (links_of parts.now) ends.now) }
@@ -61,7 +61,7 @@ fn is_owned_by(parts: &Parts, config: &Config, frame: u32, owner: &Owner) -> boo
     owner_at(parts, config, frame) == *owner
 }
 
-/// The frames of an owner, in ascending order.
+/// Lists the frames of an owner, in ascending order.
 fn owned_by(
     alloc: Global,
     parts: &Parts,
@@ -79,7 +79,7 @@ fn owned_by(
     Ok(frames)
 }
 
-/// The frames of an owner: free frames and a VM's in the order of their list, others in ascending order.
+/// Lists the frames of an owner: free frames and a VM's in the order of their list, others in ascending order.
 pub fn frames_of(
     alloc: Global,
     parts: &Parts,
@@ -98,7 +98,7 @@ pub fn frames_of(
     }
 }
 
-/// The frames of a VM, in the order of its list.
+/// Lists the frames of a VM, in the order of its list.
 fn vm_frames(
     alloc: Global,
     parts: &Parts,

@@ -36,7 +36,7 @@ fn grantable_frame(
     Ok(found.frame)
 }
 
-/// The frame at a guest frame of which one of the host's grants may be taken back.
+/// The frame at a guest frame, if the host has a grant of it that may be taken back.
 fn shared_frame(
     parts: &Parts,
     config: &Config,
@@ -78,7 +78,7 @@ fn revoked(meta: PageRecord) -> PageRecord
     }
 }
 
-/// Takes one of the host's grants of a frame back.
+/// Takes back one grant of a frame from the host.
 pub fn revoke_frame(parts: &mut Parts, config: &Config, frame: FrameNo)
     requires here { IsSome (page_at parts.old frame) }
     requires linked { IsLinked config.now parts.old }
@@ -106,7 +106,7 @@ pub fn grant(
     Ok(Reply::Done)
 }
 
-/// Takes one of the host's grants of a guest frame back.
+/// Takes back one grant of a guest frame from the host.
 pub fn revoke(
     parts: &mut Parts,
     config: &Config,
@@ -210,7 +210,7 @@ fn expect_grantable(
     Ok(slot)
 }
 
-/// The slot, if one of the host's grants may be taken back of each of `count` guest frames from `gfn` on.
+/// The slot, if the host has a grant of each of `count` guest frames from `gfn` on that may be taken back.
 fn expect_shared(
     parts: &Parts,
     config: &Config,
@@ -250,7 +250,7 @@ pub fn grant_range(
     Ok(Reply::Done)
 }
 
-/// Takes back one of the host's grants of each of `count` guest frames from `gfn` on.
+/// Takes back from the host one grant of each of `count` guest frames from `gfn` on.
 pub fn revoke_range(
     parts: &mut Parts,
     config: &Config,

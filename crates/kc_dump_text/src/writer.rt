@@ -110,7 +110,7 @@ fn push_header(text: &mut Vec<u8>, version: Version) -> Result<(), Memory>
     Ok(())
 }
 
-/// The text of a dump, whose numbers are in range.
+/// Writes the text of a dump, whose numbers are in range.
 fn text_of(alloc: Global, dump: &Dump) -> Result<Vec<u8>, Memory>
     ensures text { IfOk result (λ text. text.items ≡ dump_text dump.now) }
     ensures kept { OnOk result (IsDump dump.now) }

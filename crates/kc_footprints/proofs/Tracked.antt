@@ -4,8 +4,8 @@ use Rattle.kc_types.specs.declared.resource.Resource.TheVariants.{Frame}
 use Rattle.kc_model.specs.Resources.{Resource}
 use Rattle.kc_footprints.specs.LastWaves.{Stamps, frame_wave, principal_wave, reach_wave}
 
--- names_frame k f: call k names the frame f;  names_principal k p: it names the principal p;
--- has k p r: before call k the resource r is the principal p, or a frame that it may have;  touches k r: call k touches the resource r
+-- names_frame k f: call k names the frame f; names_principal k p: it names the principal p; has k p r: before call k
+-- the resource r is the principal p, or a frame that it may have; touches k r: call k touches the resource r
 module _ (names_frame names_principal : ℕ → ℕ → Bool) (has : ℕ → ℕ → Resource → Bool) (touches : ℕ → Resource → Bool) where
   -- how the four are related
   pub record Shape : Type 0 where

@@ -17,7 +17,7 @@ pub(crate) enum Gain {
     FreeTakesReach,
 }
 
-/// What a call names: a frame and a slot that exist, and whether the free list.
+/// What a call names: a frame and a slot that exist, and whether it names the free list.
 #[derive(Clone, Copy)]
 pub(crate) struct Names {
     pub(crate) frame: Option<u32>,

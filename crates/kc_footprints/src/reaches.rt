@@ -71,7 +71,7 @@ impl Reaches {
         by_frame || by_slot || by_free
     }
 
-    /// What each principal may have.
+    /// Returns what each principal may have.
     pub(crate) fn into_sets(self) -> Vec<ReachSet>
         ensures { result.items ≡ self.sets }
     {

@@ -13,7 +13,7 @@ use crate::planner::walk_calls;
 use kc_types::{Call, Config, Memory};
 use std::alloc::Global;
 
-/// What each call names.
+/// Lists what each call names.
 fn names_of_all(alloc: Global, config: &Config, calls: &[Call]) -> Result<Vec<Names>, Memory>
     ensures { IfOk result (λ names. names.items ≡ map (names_of config.now) calls.now) }
 {
@@ -24,10 +24,10 @@ fn names_of_all(alloc: Global, config: &Config, calls: &[Call]) -> Result<Vec<Na
     Ok(names)
 }
 
-/// What these calls may touch, and their waves, which count from 1; `Memory` if memory cannot be had. Of the state
-/// from which they start only the owners are needed, as pairs of a principal and a frame that it owns: a slot is given
-/// by its number, and the free list by the number of slots. There are fewer than 2^32 calls, since a wave's number is
-/// a `u32`; a trace has at most 65,536.
+/// Finds what these calls may touch, and their waves, which count from 1; `Memory` if memory cannot be had. Of the
+/// state from which they start only the owners are needed, as pairs of a principal and a frame that it owns: a slot is
+/// given by its number, and the free list by the number of slots. There are fewer than 2^32 calls, since a wave's
+/// number is a `u32`; a trace has at most 65,536.
 pub fn footprints_from(
     alloc: Global,
     config: &Config,

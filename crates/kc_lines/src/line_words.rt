@@ -22,14 +22,14 @@ impl<'a> Model for LineWords<'a> {
 }
 
 impl<'a> LineWords<'a> {
-    /// All words of a line.
+    /// Takes all words of a line.
     pub fn new(line: &'a [u8]) -> LineWords<'a>
         ensures { result ≡ slice_split (λ b. b == 32) line.now }
     {
         LineWords { rest: Some(line) }
     }
 
-    /// The next word.
+    /// Takes the next word; `None` if there is none.
     pub fn next(&mut self) -> Option<&'a [u8]>
         ensures { MatchOption result ((self.old ≡ []) × (self.new ≡ [])) (λ word. self.old ≡ word.now ∷ self.new) }
     {

@@ -196,7 +196,7 @@ fn read_short_data(word: &[u8]) -> Option<Data>
     }
 }
 
-/// The 1 to 4,096 bytes that a word of lower case hexadecimal digits spells.
+/// Reads the 1 to 4,096 bytes that a word of lower case hexadecimal digits spells; `None` if it is not such a word.
 pub fn read_data(alloc: Global, word: &[u8]) -> Result<Option<Data>, AllocError>
     ensures { IfOk result (λ found. found ≡ data_of word.now) }
 {

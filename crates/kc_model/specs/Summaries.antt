@@ -1,4 +1,5 @@
--- Summaries: what the states of a trace and its replies say of each life of a VM. Place k of a trace is after its first k calls.
+-- Summaries: what the states of a trace and its replies say of each life of a VM. Place k of a trace is after its
+-- first k calls.
 use Rattle.std.specs.Prelude.{ℕ, ◌+◌, ◌-◌, ◌≡◌, ◌≢◌, ◌⊎◌, ◌≤◌, ◌<◌, Bool, false, not, ◌&&◌, ◌==◌, nat_lt, List, [], ◌++◌, length, map, filter, All, Option, Some, None, is_some}
 use Rattle.std.specs.List.{list_any, range_with_len, count_by, sum_by, flat_map, find}
 use Rattle.std.specs.Option.{option_map}

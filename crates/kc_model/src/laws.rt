@@ -74,9 +74,10 @@ pub fn promises()
 {}
 
 /// Some bytes decide nothing: those that virtual processors write, and those that the host writes to frames of active
-/// VMs or to frames that it never hands to a booting VM. Traces of which only such bytes differ, but not their number,
-/// have the same events, and so the same custody and lives, and the same replies except for the bytes that reads are
-/// answered. The states that they leave differ only in bytes of active VMs' frames and of such frames of the host's.
+/// VMs or to frames that it never hands to a booting VM. Traces that differ only in such bytes, and not in their
+/// number, have the same events, and so the same custody and lives, and the same replies except for the bytes that
+/// reads are answered. The states that they leave differ only in bytes of active VMs' frames and of such frames of the
+/// host's.
 pub fn redaction()
     ensures { (m : State) (calls : List Call) → IsLawful m → BytesDecideNothing m calls }
 {}

@@ -53,7 +53,7 @@ impl Blank {
         Blank { page }
     }
 
-    /// The blank as a page.
+    /// Returns the blank as a page.
     pub(crate) fn into_page(self) -> Page
         ensures { result ≡ blank_page }
     {

@@ -50,7 +50,7 @@ fn boot_next(config: &Config, frame: u32) -> Option<FrameNo>
     }
 }
 
-/// The page of a frame at boot.
+/// Makes the page of a frame at boot.
 fn boot_page(alloc: Global, config: &Config, frame: u32) -> Result<Page, Memory>
     requires { frame < config.now.frames }
     ensures { IfOk result (λ page. page ≡ boot_page config.now frame) }
@@ -67,7 +67,7 @@ fn boot_page(alloc: Global, config: &Config, frame: u32) -> Result<Page, Memory>
     Ok(Page { meta, bytes })
 }
 
-/// The pages of all frames at boot.
+/// Makes the pages of all frames at boot.
 pub fn boot_pages(alloc: Global, config: &Config) -> Result<Vec<Page>, Memory>
     ensures { IfOk result (λ pages. pages.items ≡ map (boot_page config.now) (range_with_len 0 config.now.frames)) }
 {
@@ -78,7 +78,7 @@ pub fn boot_pages(alloc: Global, config: &Config) -> Result<Vec<Page>, Memory>
     Ok(pages)
 }
 
-/// The numbers of all frames.
+/// Lists the numbers of all frames.
 pub fn all_numbers(alloc: Global, count: u32) -> Result<Vec<u32>, Memory>
     ensures { IfOk result (λ numbers. numbers.items ≡ range_with_len 0 count) }
 {
@@ -89,14 +89,14 @@ pub fn all_numbers(alloc: Global, count: u32) -> Result<Vec<u32>, Memory>
     Ok(numbers)
 }
 
-/// A list of this many filled places.
+/// Makes a list of this many filled places.
 pub fn all_filled(alloc: Global, count: u32) -> Result<Vec<bool>, Memory>
     ensures { IfOk result (λ filled. filled.items ≡ replicate count true) }
 {
     Ok(vec![in alloc; true; count as usize]?)
 }
 
-/// All slots, empty.
+/// Makes all slots, empty.
 pub fn boot_vms(alloc: Global, config: &Config) -> Result<Vec<Option<Vm>>, Memory>
     ensures { IfOk result (λ vms. vms.items ≡ replicate (slot_count config.now) (Some (empty_vm config.now.leaves))) }
 {

@@ -21,7 +21,7 @@ use std::alloc::Global;
 use std::marker::Model;
 use std::mem::{replace, swap};
 
-/// The numbers of this many frames, which are all here, and these slots in the places of their numbers.
+/// Makes places for this many frames, which are all here, and puts these slots in the places of their numbers.
 fn all_places(
     alloc: Global,
     frames: u32,

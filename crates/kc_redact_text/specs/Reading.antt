@@ -25,7 +25,8 @@ HasGoneOn core made before after left now =
 abbrev pub HasTaken : Option State → Option State → Redacting → Redacting → List ℕ → Type 0
 HasTaken core made before after piece = (left now : Option (List ℕ)) → Consumes left now piece → HasGoneOn core made before after left now
 
--- the text is a trace that begins with this header, and these are its calls, redacted as they were made on this core, if there is one
+-- the text is a trace that begins with this header, and these are its calls, redacted as they were made on this core,
+-- if there is one
 pub record IsHeadAndCalls (core : Option State) (text head : List ℕ) (kept : List Call) : Type 0 where
   pub calls : List Call
   pub read : IsTrace text calls

@@ -44,8 +44,8 @@ fn read_made<T: Source>(
     read
 }
 
-/// Reads to its end the text of what the calls begin with, and then a trace as its calls are made; returns the trace's
-/// header and its calls, redacted.
+/// Reads the text of the start to its end, and then a trace as its calls are made; returns the trace's header and its
+/// calls, redacted.
 fn read_both<C: Source, T: Source>(
     rt: &(impl Threads + Sync),
     alloc: Global,
@@ -65,10 +65,9 @@ fn read_both<C: Source, T: Source>(
     read_made(rt, alloc, core, trace)
 }
 
-/// Reads the text of what the calls begin with, and a trace, each to its end; makes the trace's calls on one thread as
-/// they are read; and writes the trace with zeros in place of the bytes that virtual processors write, and that the
-/// host writes to a frame of a VM that is active at that point: the same header and the same lines, each as long as it
-/// was.
+/// Reads the text of the start and a trace, each to its end; makes the trace's calls on one thread as they are read;
+/// and writes the trace with zeros in place of the bytes that virtual processors write, and that the host writes to a
+/// frame of a VM that is active at that point: the same header and the same lines, each as long as it was.
 ///
 /// Nothing is written before the whole trace has been read and answered. A source that fails, or that has more than
 /// 1,073,741,824 bytes, is `Read`, even if its bytes so far are refused already. Running out of memory is reported

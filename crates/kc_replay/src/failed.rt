@@ -15,7 +15,7 @@ pub(crate) struct Failed {
 }
 
 impl Failed {
-    /// `Memory`, and the parts of a core, which is wiped first, with several threads.
+    /// Fails with `Memory`, and leaves the parts of a core, which is wiped first, with several threads.
     pub(crate) fn for_memory<R: Threads + Sync>(rt: &R, core: KCore) -> Failed
         ensures fault { result.fault ≡ ReplayFault.Memory }
         ensures wiped { IsWiped core.config result.left }

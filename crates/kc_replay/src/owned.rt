@@ -19,7 +19,7 @@ fn principal_of(owner: Owner, slots: usize) -> Option<usize>
     }
 }
 
-/// The frames of the slots and of the free list, each with the number of its owner.
+/// Lists the frames of the slots and of the free list, each with the number of its owner.
 pub(crate) fn owned_frames(alloc: Global, core: &KCore) -> Result<Vec<(usize, u32)>, Memory>
     ensures owned { IfOk result (λ pairs. IsOwned core.now pairs.items) }
     ensures one { IfOk result (λ pairs. HasOneOwnerEach pairs.items) }

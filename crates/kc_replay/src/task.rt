@@ -14,7 +14,7 @@ pub(crate) struct Task {
 impl Task {
     ghost use Rattle.std.specs.Prelude.{◌≡◌};
 
-    /// The call's place in the trace, and the parts.
+    /// Takes the task apart into the call's place in the trace and the parts.
     pub(crate) fn into_parts(self) -> (usize, Parts)
         ensures number { result.0 ≡ self.number }
         ensures parts { result.1 ≡ self.parts }

@@ -17,7 +17,7 @@ pub enum Call {
     Give {
         frame: u32,
     },
-    /// The host gets a frame that it may reach mapped.
+    /// The host maps a frame that it may reach.
     HostFault {
         frame: u32,
     },

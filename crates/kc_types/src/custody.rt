@@ -1,4 +1,4 @@
-//! What an audit reports of frames and slots: how calls change them, and what follows from that.
+//! What an auditor sees of frames and slots: how calls change them, and what follows from that.
 ghost use Rattle.std.specs.Prelude.{◌≡◌, ◌≤◌, [], length, IfOk};
 ghost use Rattle.kc_types.specs.Limits.{image_limit};
 

@@ -2,8 +2,8 @@
 ghost use Rattle.std.specs.Prelude.{◌≡◌};
 ghost use Rattle.kc_types.specs.Refusals.{number_of, name_of};
 
-/// Why a call was refused. A refused call changes nothing. If several reasons apply, the one with the lowest number is
-/// answered.
+/// Why a call was refused. A refused call changes nothing. If several reasons apply, the reply is the one with the
+/// lowest number.
 #[derive(Clone, Copy, Debug, PartialEq, Eq)]
 pub enum Refusal {
     BadVm,

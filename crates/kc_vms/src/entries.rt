@@ -30,7 +30,7 @@ fn push_leaf(
     Ok(())
 }
 
-/// All entries, by ascending guest frame.
+/// Lists all entries, by ascending guest frame.
 pub fn entries_of(alloc: Global, levels: &Levels) -> Result<Vec<(Gfn, FrameNo)>, Memory>
     requires { IsLevels levels.now }
     // No clause can rule out that memory runs out: a test lists entries.

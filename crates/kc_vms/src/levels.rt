@@ -41,7 +41,7 @@ impl Levels {
         self.root[slot]
     }
 
-    /// The leaf of a root slot, which takes one if it has none.
+    /// Returns the leaf of a root slot, which takes one if it has none; `None` if no leaf is left.
     pub fn leaf_for(&mut self, slot: usize) -> Option<LeafNo>
         requires kept { IsLevels self.old }
         requires within { slot < leaf_entries }

@@ -20,7 +20,7 @@ pub enum MapFault {
 }
 
 /// A VM's table, from guest frames to frames, and the root slots that have leaves, in the order in which they took
-/// them. Once made it takes no more memory.
+/// them. Once made, it takes no more memory.
 #[derive(Drop)]
 pub struct Stage2 {
     levels: Levels,
@@ -121,8 +121,8 @@ impl Stage2 {
         self.levels.leaves.as_slice()
     }
 
-    /// All mapped guest frames with their frames, by ascending guest frame; `Memory` if memory cannot be had. Only the
-    /// leaves that are taken are read.
+    /// Lists all mapped guest frames with their frames, by ascending guest frame; `Memory` if memory cannot be had.
+    /// Only the leaves that are taken are read.
     pub fn entries(&self, alloc: Global) -> Result<Vec<(Gfn, FrameNo)>, Memory>
         // No clause can rule out that memory runs out: a test lists entries.
         ensures { IfOk result (λ entries. entries.items ≡ finite.entries self.now.mapped) }

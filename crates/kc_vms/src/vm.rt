@@ -18,7 +18,7 @@ use std::alloc::Global;
 use std::marker::Model;
 
 /// A VM slot: its phase, its 8 virtual processors, its boot images, the ends of the list of its frames, and its table.
-/// Once made it takes no more memory.
+/// Once made, it takes no more memory.
 #[derive(Drop)]
 pub struct Vm {
     phase: Phase,
@@ -149,7 +149,7 @@ impl Vm {
         Ok(())
     }
 
-    /// `NoVm` if the slot is empty, `WrongPhase` if it is neither empty nor booting.
+    /// Checks that the slot is booting: `NoVm` if it is empty, `WrongPhase` if it is in another phase.
     fn expect_booting(&self) -> Result<(), Refusal>
         ensures { Answers result (first_of_these (no_vm_in self.now.slot ∷ not_booting_in self.now.slot ∷ [])) }
     {

@@ -38,7 +38,7 @@ const ORDER: [usize; 16] = [0, 1, 2, 3, 4, 5, 6, 7, 10, 13, 8, 9, 11, 14, 12, 15
 const HISTORY: &str =
     "hfault 1\ndone\nhwrite 1 0 616263\ndone\nregvm 0\ndone\nregvcpu 0 0\ndone\nregvcpu 0 1\ndone\nsetboot 0 0 3\nimage 0\nremap 0 0 1\ndone\nverify 0\ndone\ngwrite 0 0 7 0 2a\nfault 7\ngwrite 0 1 8 0 2b\nfault 8\nmap 0 0 2\ndone\nmap 0 1 3\ndone\ngwrite 0 0 7 0 2a\ndone\ngwrite 0 1 8 0 2b\ndone\ngread 0 0 7 0 1\ndata 2a\ngread 0 1 8 0 1\ndata 2b\n";
 
-/// The programs of the actors.
+/// Makes the programs of the actors.
 fn programs(alloc: Global) -> Option<Vec<Program>> {
     let mut programs = Vec::new(alloc);
     for (actor, lines) in ACTORS {
@@ -84,7 +84,7 @@ fn push_reply_line(text: &mut Vec<u8>, reply: &Reply) -> Option<()> {
     Some(())
 }
 
-/// The calls of a history, each followed by its reply, as they are written.
+/// Writes the calls of a history, each followed by its reply.
 fn text_of(alloc: Global, history: &History) -> Option<Vec<u8>> {
     let mut text = Vec::new(alloc);
     for entry in history.volume().entries() {

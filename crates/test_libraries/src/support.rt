@@ -20,13 +20,13 @@ pub fn small_config(alloc: Global) -> Option<Config> {
     Config::try_new(8, 1, 4, 1, approved).ok()
 }
 
-/// The calls of a trace given without its header.
+/// Reads the calls of a trace given without its header.
 pub fn calls_of(alloc: Global, lines: &str) -> Option<Vec<Call>> {
     let trace = format!(in alloc; "kcore-trace 1\n{lines}").ok()?;
     read_trace(alloc, trace.as_bytes()).ok()
 }
 
-/// A small core after the calls of a trace given without its header.
+/// Makes a small core after the calls of a trace given without its header.
 pub fn after(alloc: Global, lines: &str) -> Option<KCore> {
     let mut core = KCore::boot(alloc, small_config(alloc)?).ok()?;
     let calls = calls_of(alloc, lines)?;

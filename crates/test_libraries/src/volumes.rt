@@ -82,7 +82,7 @@ fn make_and_turn<R: Wait>(
     Some(volumes)
 }
 
-/// The receipts of a volume, and the others, in order.
+/// Splits receipts into those of a volume and the others, in order.
 fn cut(alloc: Global, receipts: Vec<Receipt>, number: u64) -> Option<(Vec<Receipt>, Vec<Receipt>)> {
     let (mut row, mut others) = (Vec::new(alloc), Vec::new(alloc));
     for receipt in receipts {
@@ -127,7 +127,8 @@ fn are_settled(
     Some(same && host.is_empty() && guest.is_empty())
 }
 
-/// Whether two workers that replay the volumes in order get their replies, and the core that they leave.
+/// Replays the volumes in order with two workers; returns whether they get the volumes' replies, and the core that
+/// they leave.
 fn followed<R: Threads + Wait + Sync>(
     rt: &R,
     alloc: Global,
@@ -147,7 +148,7 @@ fn followed<R: Threads + Wait + Sync>(
     Some((same, replayer.finish().ok()?))
 }
 
-/// The dump of a core, as text.
+/// Writes the dump of a core as text.
 fn dump_of<R: Threads + Sync>(rt: &R, alloc: Global, core: &KCore) -> Option<Vec<u8>> {
     let dumped = dump(rt, alloc, core, Lanes::Four).ok()?;
     write_dump(alloc, &dumped).ok()

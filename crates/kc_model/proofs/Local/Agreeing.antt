@@ -1,4 +1,5 @@
--- What the law of one call says of parts: all that it does not need stays, and states that agree on what it needs agree afterwards.
+-- What the law of one call says about parts: everything that the call does not need stays, and states that agree on
+-- what it needs agree afterwards.
 use Rattle.std.proofs.Common.{ℕ, zero, suc, ◌≡◌, ◌≤◌, Bool, true, false, cond, List, [], ◌∷◌, length, get_or, refl, sym, ap, ◌∙◌, arith}
 use Rattle.kc_types.specs.declared.call.Call.{Call}
 use Rattle.kc_types.specs.declared.reply.Reply.{Reply}
