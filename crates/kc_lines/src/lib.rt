@@ -1,5 +1,9 @@
 //! What texts share: lines and words cut off, a number in its one spelling, bytes in lower case digits, and bytes
-//! appended where there is room.
+//! appended if there is room.
+//!
+//! - how lines and words are cut, and numbers read: `specs/Lines.antt`, `specs/Words.antt`, `src/reading.rt`,
+//!   `src/line_words.rt`
+//! - how they are written: `src/room.rt`
 #![tactic(auto)]
 
 mod line_words;
