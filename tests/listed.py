@@ -44,8 +44,7 @@ def check_crates(tree):
 
 
 def check_trusted(tree):
-    """Every crate with definitions is named by CONTRACTS, and every crate of the toolchain's by ASSURANCE, among what is
-    trusted."""
+    """CONTRACTS names every crate with definitions, and ASSURANCE every crate of the toolchain's, as trusted."""
     definitions = section(tree.text("docs/CONTRACTS.md"), "Whose definitions are trusted")
     defining = {crate for crate in tree.crates if tree.below(f"crates/{crate}/specs")}
     named = set(QUOTED.findall(definitions)) & set(tree.crates)

@@ -86,7 +86,7 @@ MISTAKES = (
     Mistake("tests", "tests/progress", "", "tests/awaited"),
     Mistake("tests", "crates/kc_waves/src/lib.rt", "//!", "//"),
     Mistake("lengths", "docs/MAP.md", "present", "present " * 400),
-    Mistake("lengths", "docs/CONTRACTS.md", "| `kc_page`, `scrub_each`", "| " + "pages " * 60 + "`kc_page`, `scrub_each`"),
+    Mistake("lengths", "docs/CONTRACTS.md", "| `kc_page`, `scrub_each`", f"| {'pages ' * 60}`kc_page`, `scrub_each`"),
     Mistake("functions", "docs/EMBED.md", "| `kcore_turn` |", "| `kcore_next` |"),
     Mistake("functions", "include/kcore.h", "uint32_t kcore_turn(", "uint32_t kcore_next("),
     Mistake("the first table", "README.md", "`refused not-present`", "`refused protected`"),
