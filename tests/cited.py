@@ -115,6 +115,7 @@ ELSEWHERE = re.compile(r"[/~]|(share|lib|libexec|out)/|https?:|(.*/)?(FILE|FOLDE
 PATH = re.compile(r"[\w.][\w./-]*\Z")
 IDENTIFIER = re.compile(r"\w*(?:[a-z]_[a-z]|[a-z][A-Z]|[A-Z]{2,}[a-z]|[A-Z][a-z])\w*\Z")
 HEAD = re.compile(r"^//!.*", re.M)
+HEADING = re.compile(r'`([\w./-]+\.md)`,(?: under)? "([^"]+)"')
 LINK = re.compile(r"\]\(([^)#:]+)\)")
 # Each crate has some of these, and many functions have files of these names.
 OF_MANY = {"src", "src/lib.rt", "specs", "proofs", "wrong-bodies", "must-fail", "Answers.antt", "Invariants.antt"}
@@ -190,5 +191,7 @@ def identifiers_of(paragraph):
             yield from (part for part in name.split("::") if IDENTIFIER.match(part))
 
 
-def cited_bodies(paragraph):
-    return [body.groups() for name in QUOTED.findall(paragraph) if (body := BODY.match(name))]
+def headings_in(tree, paragraph):
+    """The headings of documents that a paragraph names, and whether they have them."""
+    for document, name in HEADING.findall(paragraph):
+        yield name, tree.has(document) and re.search(rf"^#+ \[?{re.escape(name)}\]?$", tree.text(document), re.M)
