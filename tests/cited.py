@@ -114,9 +114,11 @@ ENDINGS = (".rt", ".antt", ".md", ".edits", ".c", ".h", ".svg", ".py", ".txt", "
 ELSEWHERE = re.compile(r"[/~]|(share|lib|libexec|out)/|https?:|(.*/)?(FILE|FOLDER|FUNCTION|LIST|NAME|PREFIX)\b")
 PATH = re.compile(r"[\w.][\w./-]*\Z")
 IDENTIFIER = re.compile(r"\w*(?:[a-z]_[a-z]|[a-z][A-Z]|[A-Z]{2,}[a-z]|[A-Z][a-z])\w*\Z")
+HEAD = re.compile(r"^//!.*", re.M)
+HEADING = re.compile(r'`([\w./-]+\.md)`,(?: under)? "([^"]+)"')
 LINK = re.compile(r"\]\(([^)#:]+)\)")
 # Each crate has some of these, and many functions have files of these names.
-OF_MANY = {"src", "specs", "proofs", "wrong-bodies", "must-fail", "Answers.antt", "Invariants.antt"}
+OF_MANY = {"src", "src/lib.rt", "specs", "proofs", "wrong-bodies", "must-fail", "Answers.antt", "Invariants.antt"}
 
 
 def is_path(name):
@@ -126,14 +128,16 @@ def is_path(name):
 
 class Paths:
     """Finds the files that a document cites. One that is not named from the top, nor from crates/, is in the folder of
-    a file that its paragraph named before, or in the crate that it did; or no other file has its name."""
+    a file that its paragraph named before, or in the crate that it did; or no other file has its name. The head of a
+    source begins in its crate."""
 
     def __init__(self, tree, document):
         self.tree, self.folder = tree, str(pathlib.PurePath(document).parent)
+        self.crate = document.split("/")[1] if document.startswith("crates/") else None
 
     def read(self, paragraph):
         """Each path that a paragraph cites, and whether there is one."""
-        beside, crate = [], None
+        beside, crate = [], self.crate
         for name in QUOTED.findall(paragraph) + LINK.findall(paragraph):
             if name in self.tree.crates:
                 crate = name
@@ -149,7 +153,7 @@ class Paths:
         return body and body[1] in self.tree.crates and not self.tree.has(f"crates/{name}")
 
     def found(self, name, beside, crate):
-        crates = [f"crates/{crate}", f"crates/{crate}/src", f"crates/{crate}/specs"] if crate else []
+        crates = [f"crates/{one}{part}" for one in (crate, self.crate) if one for part in ("", "/src", "/specs")]
         for folder in (".", "crates", self.folder, *beside, *crates):
             path = str(pathlib.PurePath(folder) / name)
             if self.tree.has(path):
@@ -172,11 +176,12 @@ def paragraphs_of(text):
 
 
 def words_of_code(tree):
-    """Every word of the code: sources, definitions, proofs and scripts, but for those that make mistakes."""
+    """Every word of the code: sources without their heads, definitions, proofs and scripts, but for those that make
+    mistakes."""
     folders = "crates", "tests", "bench", "bin", "fleet", "include", "completions", "stories"
     files = [file for folder in folders for file in tree.below(folder) if file != "tests/mistakes.py"]
-    files = [file for file in files if not file.endswith(".md")]
-    return set(tree.crates).union(*(words_of(tree.text(file)) for file in files))
+    texts = [HEAD.sub("", tree.text(file)) for file in files if not file.endswith(".md")]
+    return set(tree.crates).union(*map(words_of, texts))
 
 
 def identifiers_of(paragraph):
@@ -186,5 +191,7 @@ def identifiers_of(paragraph):
             yield from (part for part in name.split("::") if IDENTIFIER.match(part))
 
 
-def cited_bodies(paragraph):
-    return [body.groups() for name in QUOTED.findall(paragraph) if (body := BODY.match(name))]
+def headings_in(tree, paragraph):
+    """The headings of documents that a paragraph names, and whether they have them."""
+    for document, name in HEADING.findall(paragraph):
+        yield name, tree.has(document) and re.search(rf"^#+ \[?{re.escape(name)}\]?$", tree.text(document), re.M)

@@ -63,6 +63,18 @@ class Tree:
     def documents(self):
         return [file for file in self.ordered if file.endswith(".md")]
 
+    def heads(self):
+        """The sources that say at their head what is in their crate."""
+        files = [f"crates/{crate}/src/{name}.rt" for crate in self.crates for name in ("lib", "main")]
+        return [file for file in files if file in self.files]
+
+    def prose(self, file):
+        """A document; of a source its head, the lines that begin with //!, each where it is."""
+        text = self.text(file)
+        if file.endswith(".rt"):
+            text = "\n".join(line[4:] if line.startswith("//!") else "" for line in text.split("\n"))
+        return text
+
     @functools.cached_property
     def crates(self):
         """Each crate of crates.txt, with the crates of ours that it names."""

@@ -44,10 +44,12 @@ def check_crates(tree):
 
 
 def check_trusted(tree):
-    """ASSURANCE names every crate with definitions, and every crate of the toolchain's, among what is trusted."""
-    trusted = set(QUOTED.findall(section(tree.text("docs/ASSURANCE.md"), "What is trusted")))
+    """CONTRACTS names every crate with definitions, and ASSURANCE every crate of the toolchain's, as trusted."""
+    definitions = section(tree.text("docs/CONTRACTS.md"), "Whose definitions are trusted")
     defining = {crate for crate in tree.crates if tree.below(f"crates/{crate}/specs")}
-    yield "docs/ASSURANCE.md: whose definitions are trusted", differing(trusted & set(tree.crates), defining)
+    named = set(QUOTED.findall(definitions)) & set(tree.crates)
+    yield "docs/CONTRACTS.md: whose definitions are trusted", differing(named, defining)
+    trusted = set(QUOTED.findall(section(tree.text("docs/ASSURANCE.md"), "What is trusted")))
     foreign = foreign_of(tree, tree.crates)
     yield "docs/ASSURANCE.md: which crates of the toolchain are trusted", differing(trusted & foreign, foreign)
 

@@ -1,4 +1,7 @@
-//! The words after the program's name, and what they ask for.
+//! The command line, and what it asks for.
+//!
+//! - the program's command, as `clap` has it: `specs/Commands.antt`
+//! - which job a command line asks for, and which command lines are refused: `specs/Jobs.antt`, `src/job.rt`
 #![tactic(auto)]
 
 mod job;

@@ -1,5 +1,11 @@
-//! The engines that replay a trace, into replies, a dump or the text of a state, that tell its custody, and that make its
-//! calls live; and, beside them, what the program is asked, reads and writes.
+//! The engines that replay a trace, into replies, a dump or the text of a state, that write its custody, and that make
+//! its calls live. Re-exports `kc_texts` and `kc_args`.
+//!
+//! - a trace replayed as it is read: `src/replaying.rt`, `specs/Engine.antt`; what it begins in: `src/starting.rt`;
+//!   what is written of it, and how the state left is compared: `src/giving.rt`
+//! - how custody is written as changes, summary or picture: `specs/Custody.antt`, `src/custody.rt`, `src/account.rt`;
+//!   what is kept of the calls until then: `specs/Ledgers.antt`, `src/ledger.rt`
+//! - a live run: `specs/Live.antt`, `src/live.rt`; its history replayed: `src/history.rt`
 #![tactic(auto)]
 
 mod account;

@@ -1,6 +1,15 @@
-//! What happened to each frame and slot: every change of custody that a call makes, and each read and write of the host that
-//! it was served of a VM's frame; the lives of VMs, as these events tell them; and notes on calls, which are these events and
-//! what was refused and served.
+//! What happened to each frame and slot: every change of custody that a call makes, and each read and write of the host
+//! that a VM's frame served; the lives of VMs, by these events; and notes on calls, which are these events and what was
+//! refused and served.
+//!
+//! - which frames a call may move: `specs/Movable.antt`, `src/movable.rt`
+//! - marks before a call, changes after it: `specs/Marks.antt`, `src/telling.rt`; of a call that somebody else makes:
+//!   `src/watching.rt`
+//! - one VM's changes: `specs/Selected.antt`, `src/selected.rt`
+//! - calls made and noted: `src/noting.rt`; the frame that a call names: `src/naming.rt`; which notes are written:
+//!   `specs/Chosen.antt`, `src/chosen.rt`
+//! - how lives are counted, from the last event to the first: what the events after a point say of a slot, of a frame
+//!   and of all: `specs/Tally.antt`, `specs/Ends.antt`, `specs/Behind.antt`; the loop: `src/gathering.rt`
 #![tactic(auto)]
 
 mod behind;

@@ -1,4 +1,8 @@
 //! Dumps of the core: what a dump shows, and when it is sound.
+//!
+//! - what a dump shows: `specs/Dump.antt`; which numbers it holds: `specs/Ranges.antt`
+//! - when it is sound: `specs/Sound.antt`, `specs/Lists.antt`
+//! - how a core is dumped: `kc_state/specs/Dumping.antt`, `kc_state/src/dumping.rt`
 #![tactic(auto)]
 
 mod dumped;

@@ -1,6 +1,10 @@
-//! What is said beside a fault's line: why a line of a trace is no call, what a text looks like that is no trace, which key
-//! of a configuration is wrong, and how far a long read is. What is said is tested, and no clause speaks of it; what is
-//! read through its sources is what their own sources give.
+//! What is said after a fault's line: why a line of a trace is not a call, what a text looks like that is not a trace,
+//! which key of a configuration is wrong, and how far a long read is. What is said is tested, and no clause speaks of
+//! it; what is read through its sources is what their own sources give.
+//!
+//! - each call with the number of its words: `src/trace_line.rt`; the keys of a configuration: `src/config_key.rt`
+//! - who asks, and over which files: `kcore/src/explaining.rt`, `kcore/src/folder.rt`
+//! - how far a long read is: `src/progress.rt`, `src/shown.rt`
 #![tactic(auto)]
 
 mod config_key;

@@ -1,5 +1,9 @@
 //! What texts share: cutting off lines and words, numbers in their one spelling, bytes as lower case digits, and
 //! appending bytes without growing memory.
+//!
+//! - how lines and words are cut, and numbers read: `specs/Lines.antt`, `specs/Words.antt`, `src/reading.rt`,
+//!   `src/line_words.rt`
+//! - how they are written: `src/room.rt`
 #![tactic(auto)]
 
 mod line_words;

@@ -1,5 +1,14 @@
 //! The core under one lock with the history of its calls: books, seats, receipts, and whether receipts are a history's.
 //! The core run live: programs, a thread for each, and the history that they leave with its receipts.
+//!
+//! - what a book keeps, seats, settling: `specs/Book.antt`, `specs/Seat.antt`, `specs/Settling.antt`; a history:
+//!   `kc_model/specs/Histories.antt`
+//! - programs, and runs of them: `specs/Program.antt`, `specs/Plans.antt`, `specs/Threads.antt`, `specs/Stops.antt`,
+//!   `specs/Cuts.antt`
+//! - one step under the lock, with its receipt, and a volume that is handed out: `src/book.rt`, `src/seat.rt`; the lock
+//!   itself: `src/live_core.rt`; what is made before it: `src/ready.rt`
+//! - a thread for each program: `src/threads.rt`; a whole run: `src/run.rt`; a history replayed:
+//!   `kc_cli/src/history.rt`
 #![tactic(auto)]
 
 mod book;

@@ -1,4 +1,8 @@
 //! Pages of 4,096 bytes: their records and their bytes.
+//!
+//! - what a page's memory holds, and who zeroes it: `src/page.rt` has `scrub` and `zero_from`, and a page's `Drop`
+//!   zeroes it too. They are called in `kc_core/src/host.rt` (`give`), `kc_core/src/freeing.rt` and
+//!   `kc_core/src/verify.rt`, in `kc_parts/src/emptying.rt` (a cleared slot), and by `KCore::wipe`
 #![tactic(auto)]
 
 mod page;

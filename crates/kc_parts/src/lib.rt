@@ -1,4 +1,11 @@
 //! Parts of the core: frames, VM slots and the free list, as far as one holder has them.
+//!
+//! - how parts of a core are a state: `specs/Parts.antt`, `specs/States.antt`; those at boot: `src/boot.rt`
+//! - how parts are taken out and put back: `specs/Cuts.antt`, `src/parts.rt`
+//! - what is left in the place of a page that is taken out: `specs/Parts.antt`, `blank_page`; `src/blank.rt`
+//! - when parts are a state's, with its links and ends: `specs/Restricted.antt`
+//! - what calls look up by number: `src/look_ups.rt`
+//! - the lists, linked through the records: `src/lists.rt`; a slot that is emptied: `src/emptying.rt`
 #![tactic(auto)]
 
 mod blank;

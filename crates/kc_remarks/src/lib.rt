@@ -1,5 +1,8 @@
-//! What an auditor may want to see beside custody: each call that was refused or rejected, and each read and write of the host
-//! that a VM's frame served; never bytes.
+//! What an auditor may want to see beside custody: each call that was refused or rejected, and each read and write of
+//! the host that a VM's frame served; never bytes.
+//!
+//! - what is noted of a call beside its events: `specs/Remarks.antt`, `src/remark.rt`, `src/telling.rt`
+//! - how many calls are noted as refused: `specs/Denials.antt`, `src/laws.rt`
 #![tactic(auto)]
 
 pub mod laws;

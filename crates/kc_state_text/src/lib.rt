@@ -1,4 +1,8 @@
 //! States as text.
+//!
+//! - how a state is spelled: `specs/StateText.antt`; why a text is not a state: `specs/Refused.antt`
+//! - how a state's text is read: `src/reader.rt`, `src/front.rt`; how it is written a piece at a time: `src/pieces.rt`
+//! - that state texts are enough for volumes to be one run: `src/laws.rt`
 #![tactic(auto)]
 
 mod fault;

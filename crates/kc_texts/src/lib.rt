@@ -1,5 +1,12 @@
 //! What the engines read and write: sources and sinks, traces read from them and texts given to them a piece at a time,
-//! texts read whole, faults and the lines that tell them; and the engine that audits a dump.
+//! texts read whole, faults and the lines that report them; and the engine that audits a dump.
+//!
+//! - how an engine reads its texts, and what goes wrong there: `src/reading.rt`, `src/fault.rt`; a trace, as it comes:
+//!   `src/stream.rt`
+//! - how replies, traces and changes are written in pieces: `src/lines.rt`
+//! - what an engine's answer says of its sources and its sink: `specs/Outcomes.antt`; of what the texts say:
+//!   `specs/Reading.antt`, `specs/Audit.antt`, `kc_cli/specs/Engine.antt`, `kc_cli/specs/Live.antt`
+//! - the line and the exit status of each fault: `specs/Faults.antt`, `src/telling.rt`
 #![tactic(auto)]
 
 mod auditing;

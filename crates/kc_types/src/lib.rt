@@ -1,4 +1,11 @@
 //! What every layer uses: numbers with their range, calls, replies, refusals, the configuration, out of memory.
+//!
+//! - each limit, and what differs by version: `src/limits.rt`, `src/version.rt`; as definitions `specs/Limits.antt`,
+//!   `specs/Configuration.antt`
+//! - the calls, and whose each is: `src/call.rt`, `specs/Actors.antt`
+//! - what a change of custody holds: `src/custody.rt`
+//! - bytes that history and receipt share: `src/data.rt`; bytes that are zeroed before their memory is given back:
+//!   `src/secret.rt`
 #![tactic(auto)]
 
 mod call;

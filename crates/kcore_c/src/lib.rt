@@ -1,5 +1,13 @@
 //! The core for a program in C: a session behind a handle that C keeps. No proof covers C, so each function tests all
-//! that it needs but the pointers themselves; what C owes stands in `kcore.h`.
+//! that it needs but the pointers themselves; what C has to keep to is in `kcore.h`.
+//!
+//! - what each function of C says by its status: `specs/Status.antt`, this file over `src/session.rt` and
+//!   `src/look_ups.rt`; the numbers: `src/status.rt`, `include/kcore.h`
+//! - which numbers are which call and which reply, and what C is given of records and changes: `specs/Request.antt`,
+//!   `specs/Record.antt`, `src/request.rt`, `src/record.rt`
+//! - what C keeps of a session, and what its pointer owns: `src/handle.rt`, `src/handle/held.rt`, `specs/Handle.antt`
+//! - how a monitor has an MMU follow the records, and compares both: `examples/kvm/mmu.c`; who asks, and what comes
+//!   first: `examples/kvm/core.c`, `monitor.c`
 #![tactic(auto)]
 
 ghost use Rattle.std.specs.Prelude.{◌≡◌, ◌≢◌, ◌≤◌, Some, None, length, take, drop};

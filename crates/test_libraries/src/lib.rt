@@ -1,4 +1,8 @@
 //! Tests of what no file can show through the program: gates, threads, how faults are shown, and library calls.
+//!
+//! - replays by workers: `src/replays.rt`, `src/segments.rt`; live runs: `src/live.rt`, `src/live_texts.rt`,
+//!   `src/volumes.rt`
+//! - how each fault is shown: `src/telling.rt`
 #![tactic(auto)]
 
 #[cfg(test)]
