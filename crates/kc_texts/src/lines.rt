@@ -49,13 +49,6 @@ pub trait Line {
         requires { vec_len text.old + longest_call ≤ vec_capacity text.old }
         ensures line { text.new.items ≡ text.old.items ++ line self.now }
         ensures capacity { vec_capacity text.old ≤ vec_capacity text.new };
-
-    /// Ends it after its line was written out.
-    fn end(self)
-    where
-        Self: Sized + Drop,
-    {
-    }
 }
 
 impl Line for Reply {
@@ -63,12 +56,6 @@ impl Line for Reply {
 
     fn push(&self, text: &mut Vec<u8>) {
         push_reply(text, self);
-    }
-
-    fn end(self) {
-        if let Reply::Data(data) = self {
-            data.let_go_written();
-        }
     }
 }
 
@@ -125,7 +112,6 @@ pub fn give_lines<K: Sink, L: Line + Drop>(
             piece.clear();
         }
         line.push(&mut piece);
-        line.end();
     }
     write_whole(out, &piece)
 }

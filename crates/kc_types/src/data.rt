@@ -12,9 +12,6 @@ use std::sync::Arc;
 /// The most bytes that need no memory of their own.
 pub const SHORT_SIZE: usize = 20;
 
-/// The most bytes whose memory is zeroed although they were written out.
-const ZEROED_SIZE: usize = 1024;
-
 /// Bytes inside the value itself, or that it owns, or that several values share.
 #[derive(Debug, Drop)]
 enum Owned {
@@ -90,15 +87,6 @@ impl Data {
             Owned::Shared(bytes) => Owned::Shared(Arc::try_clone(bytes)?),
         };
         Ok(Data { bytes })
-    }
-
-    /// Frees bytes that were written out. The memory of more than 1,024 of them is not zeroed: that would make a replay of
-    /// whole pages read more than 3 percent slower.
-    pub fn let_go_written(self) {
-        let Data { bytes } = self;
-        if let Owned::Alone(bytes) = bytes {
-            bytes.let_go_long(ZEROED_SIZE);
-        }
     }
 
     /// Makes two equal values, which share the bytes if these have memory of their own. Hands the data back if the

@@ -8,8 +8,7 @@ use std::alloc::Global;
 use std::marker::Model;
 
 /// Bytes that must not be found in memory later, seen as a list. All their memory is zeroed before it is freed,
-/// whoever frees it, except by `let_go_long`. They never grow in place: more room is new memory, and the old memory is
-/// zeroed and freed.
+/// whoever frees it. They never grow in place: more room is new memory, and the old memory is zeroed and freed.
 #[derive(Debug)]
 pub struct SecretBytes {
     bytes: Vec<u8>,
@@ -91,14 +90,6 @@ impl SecretBytes {
         bytes.copy_from_slice(&self.bytes);
         bytes.resize(len, 0).unwrap();
         Ok(SecretBytes { bytes })
-    }
-
-    /// Frees the bytes. The memory of more than `most` of them is not zeroed.
-    pub(crate) fn let_go_long(self, most: usize) {
-        let SecretBytes { bytes } = self;
-        if bytes.len() <= most {
-            let _zeroed = SecretBytes { bytes };
-        }
     }
 
     /// Keeps the first `len` bytes, or all if there are fewer.
