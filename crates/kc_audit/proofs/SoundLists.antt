@@ -85,7 +85,7 @@ once-double (x ∷ xs) once =
     by_parts true b never q = absurd (never refl)
     by_parts false b never q = q
 
--- a root slot has a leaf if it is among those that have leaves
+-- a guest frame has a leaf exactly if its root slot is among those with leaves
 leaf-in : (leaves : List ℕ) (g : ℕ) → has_leaf leaves g ≡ is_in leaves (g / 512)
 leaf-in [] g = refl
 leaf-in (x ∷ xs) g = ap (λ b. nat_eq x (g / 512) || b) (leaf-in xs g)

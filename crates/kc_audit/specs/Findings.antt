@@ -89,7 +89,7 @@ abbrev pub all_rooted : List ℕ → List (ℕ × ℕ) → Bool
 all_rooted leaves [] = true
 all_rooted leaves (e ∷ es) = is_in leaves (e.0 / 512) && all_rooted leaves es
 
--- a root slot is there twice, there are too many, or the root slot of a mapped guest frame is not there
+-- a root slot is there twice, there are too many, or that of a mapped guest frame is missing
 abbrev pub wrong_leaves : ℕ → SlotDump → Bool
 wrong_leaves limit slot = nat_lt limit (length slot.leaves) || has_double slot.leaves || not (all_rooted slot.leaves slot.entries)
 

@@ -21,8 +21,8 @@ pub enum Finding {
     Share(FrameNo),
     /// The host reaches a frame that is neither its own nor shared.
     Present(FrameNo),
-    /// The root slots of a slot that have leaves: one is there twice, there are too many, or the root slot of a mapped
-    /// guest frame is not there.
+    /// A slot's root slots with leaves: one is there twice, there are too many, or that of a mapped guest frame is
+    /// missing.
     Leaves(VmId),
     /// A slot is empty, and its list, leaves or entries are not.
     Empty(VmId),

@@ -41,8 +41,8 @@ fn all_rooted(leaves: &[u32], entries: &[(Gfn, FrameNo)]) -> bool
     true
 }
 
-/// Whether a root slot is there twice, there are more than the limit, or the root slot of a mapped guest frame is not
-/// there. If there are not too many, looking each up takes a bounded time.
+/// Whether a root slot is there twice, there are more than the limit, or that of a mapped guest frame is missing. If
+/// there are not too many, looking each up takes a bounded time.
 pub fn wrong_leaves(limit: u32, slot: &SlotDump) -> bool
     ensures { result ≡ wrong_leaves limit slot.now }
 {

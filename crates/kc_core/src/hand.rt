@@ -17,7 +17,7 @@ use crate::naming::{expect_vcpu, named_vcpu};
 use kc_parts::Parts;
 use kc_types::{Config, FrameNo, Gfn, Owner, Refusal, Reply, VcpuId, VmId};
 
-/// Checks that a frame can be handed to a slot at a guest frame, and returns why not if it cannot.
+/// Checks that a frame can be handed to a slot at a guest frame, or returns why not.
 fn expect_room(
     parts: &Parts,
     config: &Config,

@@ -115,8 +115,8 @@ impl Footprints {
         self.calls[number]
     }
 
-    /// An upper bound of the number of parts that a call may touch: a frame that the call names, and that a slot or
-    /// the free list may have as well, counts twice. Takes the same time for any number of parts.
+    /// The most parts that a call may touch; a frame that it names, and that a slot or the free list may have too,
+    /// counts twice. Takes the same time for any number of parts.
     pub fn count_at_most(&self, number: usize) -> u32
         // No clause: it is used to decide if threads are worth starting, and any number would do.
         requires { number < length self.now.calls }

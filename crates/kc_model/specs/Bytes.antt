@@ -5,6 +5,6 @@ use Rattle.std.specs.Prelude.{ℕ, ◌%◌, List, map}
 abbrev pub as_byte : ℕ → ℕ
 as_byte n = n % 256
 
--- a list of bytes as bytes; the data of every call are bytes by their type, and so the same list
+-- a list as bytes; the data of every call are bytes by their type, and so stay the same
 abbrev pub as_bytes : List ℕ → List ℕ
 as_bytes numbers = map as_byte numbers

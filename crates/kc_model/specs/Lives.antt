@@ -45,12 +45,12 @@ images_told v [] = []
 images_told v (event.Change (change.Phase told) ∷ more) = if is_measuring v (event.Change (change.Phase told)) then told.images else images_told v more
 images_told v (_ ∷ more) = images_told v more
 
--- whether the VM owns a frame after the event that it did not own before
+-- whether the VM gains a frame by the event
 abbrev pub is_gain : ℕ → Event → Bool
 is_gain v (event.Change (change.Frame told)) = not (is_owned_by v told.before.owner) && is_owned_by v told.after.owner
 is_gain v _ = false
 
--- whether the VM owned a frame before the event that it does not own after it
+-- whether the VM loses a frame by the event
 abbrev pub is_loss : ℕ → Event → Bool
 is_loss v (event.Change (change.Frame told)) = is_owned_by v told.before.owner && not (is_owned_by v told.after.owner)
 is_loss v _ = false

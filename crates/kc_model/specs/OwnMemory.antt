@@ -17,8 +17,8 @@ abbrev pub page_after : ℕ → ℕ → Call → Reply → List ℕ → List ℕ
 page_after v g (GuestWrite w c h off written) reply.Done bytes = if (w == v) && (h == g) then overwritten bytes off written else bytes
 page_after v g _ _ bytes = bytes
 
--- through a stretch without a change of an active VM's frame that is not shared, each call leaves the page with its
--- bytes and the VM's own writes to its guest frame over them
+-- through a stretch without a change of an active VM's frame that is not shared, each call leaves the page's bytes
+-- with exactly the VM's own writes to its guest frame over them
 abbrev pub KeepsWritten : State → List Call → Type 0
 KeepsWritten m calls = (i j v g f : ℕ) → IsStretch calls i j → HasNoChange m calls i j f
     → (custody_at (state_at m calls i) f).owner ≡ Vm v → (custody_at (state_at m calls i) f).gfn ≡ Some g → (custody_at (state_at m calls i) f).share ≡ 0 → IsActive (state_at m calls i) v

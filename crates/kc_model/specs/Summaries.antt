@@ -50,7 +50,7 @@ abbrev pub reads_from : ℕ → State → Call → Reply → Bool
 reads_from v m (HostRead f off len) (reply.Data bytes) = is_owned_by v (frame_at m f).owner
 reads_from v m _ _ = false
 
--- the call is a write by the host that is served at a frame of the VM
+-- the call is a write by the host that is served there
 abbrev pub writes_to : ℕ → State → Call → Reply → Bool
 writes_to v m (HostWrite f off bytes) reply.Done = is_owned_by v (frame_at m f).owner
 writes_to v m _ _ = false

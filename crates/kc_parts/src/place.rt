@@ -2,8 +2,8 @@
 ghost use Rattle.std.specs.Prelude.{◌≡◌};
 ghost use Rattle.kc_parts.specs.Parts.{IsRising, place_of};
 
-/// The place of a number in an ascending list of numbers, or the length of the list if the number is not in it. If all
-/// numbers have places it is found at once.
+/// The place of a number in an ascending list, or the list's length if the number is not in it. If all numbers have
+/// places, it is found at once.
 pub(crate) fn place_of(numbers: &[u32], number: u32) -> usize
     requires { IsRising numbers.now }
     ensures { result ≡ place_of numbers.now number }
