@@ -62,7 +62,7 @@ MISTAKES = (
     Mistake("calls", "crates/kc_types/src/call.rt", "    Take,\n", "    Take,\n    Swap,\n"),
     Mistake("calls", "tests/calls.py", "grantr {v} {c} {g} {n}", "grantr {v} {c} {g}"),
     Mistake("calls", "tests/rules.py", "def revoker(", "def revoke_range("),
-    Mistake("calls", "docs/ADDING.md", "`kc_explain/src/trace_line.rt`", "`kc_explain`"),
+    Mistake("calls", "docs/ADDING.md", "`src/movable.rt`", "`src`"),
     Mistake("calls", "docs/RULES.md", "| `revoker v c g n` |", "| `revoker v c g` |"),
     Mistake("calls", "docs/TEXTS.md", "`grantr`, `revoker` | each", "`grantr` | each"),
     Mistake("refusals", "docs/RULES.md", "| 22 | `tables-full` |", "| 22 | `table-full` |"),
