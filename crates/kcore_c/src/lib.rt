@@ -8,6 +8,7 @@
 //! - what C keeps of a session, and what its pointer owns: `src/handle.rt`, `src/handle/held.rt`, `specs/Handle.antt`
 //! - how a monitor has an MMU follow the records, and compares both: `examples/kvm/mmu.c`; who asks, and what comes
 //!   first: `examples/kvm/core.c`, `monitor.c`
+//! - how Python calls the C library: `examples/python/kcore.py`
 #![tactic(auto)]
 
 ghost use Rattle.std.specs.Prelude.{◌≡◌, ◌≢◌, ◌≤◌, Some, None, length, take, drop};
