@@ -1,6 +1,7 @@
 pub mod Limits
 pub mod Bytes
 pub mod Actors
+pub mod Slots
 pub mod Refusals
 pub mod Configuration
 pub mod ConfigFaults
