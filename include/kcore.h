@@ -43,7 +43,15 @@ enum kcore_status {
     KCORE_NOT_YOURS = 14,      /* the call is another's than the one that asks */
     KCORE_NO_SUCH_FRAME = 15,  /* there is no such frame, or none there */
     KCORE_NO_SUCH_CHANGE = 16, /* the last call changed fewer frames */
-    KCORE_NO_SUCH_CALL = 17    /* no call has this number, or it has 1 to 4,096 bytes and the request has not */
+    KCORE_NO_SUCH_CALL = 17,   /* no call has this number, or it has 1 to 4,096 bytes and the request has not */
+    KCORE_TOO_LONG = 18,       /* the text has more than 1,073,741,824 bytes */
+    KCORE_NO_STATE_HEADER = 19, /* the text does not begin as that of a state */
+    KCORE_BAD_STATE_LINE = 20, /* no line of this number may stand there */
+    KCORE_MISSING_FRAME = 21,  /* in its dump the line of this frame is due, and is not there */
+    KCORE_BAD_SIZES = 22,      /* its numbers are of no configuration, or it has other slots or frames */
+    KCORE_BAD_DUMP = 23,       /* an audit of its dump finds something */
+    KCORE_BAD_SLOT = 24,       /* no core has this slot */
+    KCORE_BAD_FRAME = 25       /* no core has this frame: as where its digest is not that of its page */
 };
 
 /* Who owns a frame. */
@@ -126,6 +134,12 @@ size_t kcore_longest_line(void);
  * not, the session stays closed. */
 uint32_t kcore_boot(kcore *core, const uint8_t *config, size_t config_length);
 
+/* Opens a closed session, whose core is in the state that the bytes tell, and that was asked nothing yet: the text is what
+ * kcore_state or kcore_blank_state told, or `kcore replay --state` wrote. It is judged as by `kcore replay --from`, and the
+ * first fault is answered; then *place is the number of the line, frame or slot that is at fault, or 0, and the session
+ * stays closed. */
+uint32_t kcore_resume(kcore *core, const uint8_t *text, size_t text_length, uint32_t *place);
+
 /* Answers the call that a line is, given without its newline. The reply's line, with its newline, is the first *used
  * bytes of the buffer, which has room for kcore_longest_reply() bytes; the bytes after them stay. If it does not answer,
  * session and buffer stay as they are, and *used is 0; after KCORE_MEMORY the same line may be asked again. */
@@ -180,6 +194,21 @@ uint32_t kcore_redacted_line(kcore *core, size_t number, uint8_t *out, size_t ou
  * since it was last asked are hashed now, and a session that is not asked pays nothing. The bytes after the first *used stay;
  * if no digest is given, *used is 0. No memory is taken. */
 uint32_t kcore_digest(kcore *core, uint8_t *out, size_t out_length, size_t *used);
+
+/* Tells the text of the core's state, which is what `kcore replay --state` writes of the calls so far; and the same with
+ * zero pages in place of those of active VMs, as `--state --blank` writes it. Of F frames it has at most
+ * 8,600 F + 600,000 bytes; the buffer may be a file that is mapped. The bytes after the first *used stay; if no text is
+ * given, *used is 0. */
+uint32_t kcore_state(kcore *core, uint8_t *out, size_t out_length, size_t *used);
+uint32_t kcore_blank_state(kcore *core, uint8_t *out, size_t out_length, size_t *used);
+
+/* Tells the SHA-256 digest of the text that kcore_blank_state tells, 32 bytes: what sha256sum prints of it. The bytes after
+ * the first *used stay; if no digest is given, *used is 0. */
+uint32_t kcore_blank_digest(kcore *core, uint8_t *out, size_t out_length, size_t *used);
+
+/* Tells the dump of the core, as `kcore replay --dump` writes it: of F frames at most 320 F + 200,000 bytes. The bytes after
+ * the first *used stay; if no dump is given, *used is 0. */
+uint32_t kcore_dump(kcore *core, uint8_t *out, size_t out_length, size_t *used);
 
 /* Begins the next volume, with the core as it is: calls and lines from then on are of the next one, and those of the last
  * one are gone. After KCORE_MEMORY nothing has changed. */

@@ -6,6 +6,8 @@
 #include <stdio.h>
 #include <stdlib.h>
 #include <string.h>
+#include <sys/mman.h>
+#include <sys/stat.h>
 #include <time.h>
 #include <unistd.h>
 
@@ -22,16 +24,36 @@ static void expect(uint32_t status, const char *what) {
     exit(3);
 }
 
+/* The file of a volume: TRACE of the first, TRACE.N of volume N. */
+static void volume_path(const struct core *core, unsigned volume, const char *end, char path[PATH_MAX]) {
+    char number[16] = "";
+    if (volume > 1) snprintf(number, sizeof number, ".%u", volume);
+    if (snprintf(path, PATH_MAX, "%s%s%s", core->path, number, end) < PATH_MAX) return;
+    errno = ENAMETOOLONG;
+    fail("the trace");
+}
+
 static void open_volume(struct core *core) {
-    char path[PATH_MAX], number[16] = "";
-    if (++core->volume > 1) snprintf(number, sizeof number, ".%u", core->volume);
-    if (snprintf(path, sizeof path, "%s%s", core->path, number) >= PATH_MAX) {
-        errno = ENAMETOOLONG;
-        fail("the trace");
-    }
+    char path[PATH_MAX];
+    volume_path(core, ++core->volume, "", path);
     core->trace = open(path, O_WRONLY | O_CREAT | O_TRUNC | O_CLOEXEC, 0600);
     if (core->trace < 0) fail(path);
     core->written = 0;
+}
+
+/* Keeps the text of the state in which a volume begins. It is whole before it has its name. */
+static void keep_state(struct core *core, unsigned volume) {
+    size_t room = 8600 * (size_t)core->size.frames + 600000, used;
+    char path[PATH_MAX], part[PATH_MAX];
+    if (!core->keeps_states) return;
+    volume_path(core, volume, ".state", path);
+    volume_path(core, volume, ".part", part);
+    int file = open(part, O_RDWR | O_CREAT | O_TRUNC | O_CLOEXEC, 0600);
+    if (file < 0 || ftruncate(file, room)) fail(part);
+    uint8_t *text = mmap(NULL, room, PROT_READ | PROT_WRITE, MAP_SHARED, file, 0);
+    if (text == MAP_FAILED) fail(part);
+    expect((core->redacted ? kcore_blank_state : kcore_state)(&core->session, text, room, &used), "kcore_state");
+    if (munmap(text, room) || ftruncate(file, used) || close(file) || rename(part, path)) fail(path);
 }
 
 /* Each line is written at once, so that what is left of a monitor that is killed is a trace. */
@@ -50,8 +72,12 @@ static void write_trace(struct core *core) {
 static void next_volume(struct core *core) {
     if (close(core->trace)) fail("the trace");
     expect(kcore_turn(&core->session), "kcore_turn");
+    keep_state(core, core->volume + 1);
     open_volume(core);
+    write_trace(core);
 }
+
+static bool is_full(const struct core *core) { return core->most && core->written > core->most; }
 
 /* What follows a call that was answered, before anything that it changed is done. */
 static void answered(struct core *core, double begun) {
@@ -72,11 +98,31 @@ static char *read_whole(const char *path, size_t *length) {
     return text;
 }
 
-void core_open(struct core *core, const char *configuration) {
+/* Opens the session by the text of a state. */
+static void resume(struct core *core, const char *path) {
+    struct stat about;
+    uint32_t place = 0, status;
+    int file = open(path, O_RDONLY | O_CLOEXEC);
+    if (file < 0 || fstat(file, &about)) fail(path);
+    const uint8_t *text = about.st_size ? mmap(NULL, about.st_size, PROT_READ, MAP_PRIVATE, file, 0) : (uint8_t *)"";
+    if (text == MAP_FAILED) fail(path);
+    status = kcore_resume(&core->session, text, about.st_size, &place);
+    if (status) fprintf(stderr, "monitor: %s: refused at %u\n", path, (unsigned)place);
+    expect(status, path);
+    if (about.st_size) munmap((void *)text, about.st_size);
+    close(file);
+}
+
+static void boot(struct core *core, const char *path) {
     size_t length;
-    char *text = read_whole(configuration, &length);
-    expect(kcore_boot(&core->session, (const uint8_t *)text, length), configuration);
+    char *text = read_whole(path, &length);
+    expect(kcore_boot(&core->session, (const uint8_t *)text, length), path);
     free(text);
+}
+
+void core_open(struct core *core, const char *path, bool is_state) {
+    if (is_state) resume(core, path);
+    else boot(core, path);
     expect(kcore_sizes(&core->session, &core->size), "kcore_sizes");
     core->reply_room = kcore_longest_reply() + 1;
     core->line_room = kcore_longest_line();
@@ -89,12 +135,14 @@ void core_open(struct core *core, const char *configuration) {
 void core_trace(struct core *core, const char *trace, bool redacted) {
     core->path = trace;
     core->redacted = redacted;
+    keep_state(core, core->volume + 1);
     open_volume(core);
     write_trace(core);
 }
 
 void core_close(struct core *core) {
     if (close(core->trace)) fail("the trace");
+    keep_state(core, core->volume + 1);
     expect(kcore_end(&core->session), "kcore_end");
     free(core->reply);
     free(core->line);
@@ -106,6 +154,7 @@ const char *core_ask(struct core *core, const char *line, size_t length) {
     double begun = now();
     size_t used;
     uint32_t status;
+    if (is_full(core)) next_volume(core);
     while ((status = kcore_call_by(&core->session, KCORE_NONE, 0, bytes, length, core->reply, core->reply_room - 1,
                                    &used)) == KCORE_HISTORY_FULL)
         next_volume(core);
@@ -125,6 +174,7 @@ kcore_answer core_do(struct core *core, uint32_t vm, uint32_t vcpu, kcore_reques
     kcore_answer answer;
     size_t used;
     uint32_t status;
+    if (is_full(core)) next_volume(core);
     while ((status = kcore_do_by(&core->session, vm, vcpu, &request, bytes, page ? PAGE : 0, core->line,
                                  core->line_room, &used, &answer)) == KCORE_HISTORY_FULL)
         next_volume(core);

@@ -17,16 +17,17 @@
 #include <unistd.h>
 
 static const char usage[] =
-    "usage: monitor [--config PATH] [--trace PATH] [--redacted] [--record PATH] [--seconds N] [--attack] [--storm N] "
-    "[GUEST..]\n"
+    "usage: monitor [--config PATH] [--trace PATH] [--redacted] [--states] [--calls N] [--record PATH] [--seconds N] "
+    "[--attack] [--storm N] [GUEST..]\n"
+    "       monitor --resume PATH [--trace PATH] [--redacted] [--states]\n"
     "       GUEST: bare:PATH@GFN[*VCPUS], bios:PATH@GFN or multiboot:PATH@GFN,PATH@GFN\n";
 
 enum { NOBODY = 65534, LONGEST_MESSAGE = 16384 };
 
 struct options {
-    const char *configuration, *trace, *record;
-    bool is_redacted;
-    unsigned seconds;
+    const char *configuration, *resumed, *trace, *record;
+    bool is_redacted, keeps_states;
+    unsigned seconds, calls;
     struct plan plan;
     enum mode modes[GUESTS];
 };
@@ -85,17 +86,20 @@ static struct options read_options(char **words) {
     for (const char *word; (word = *words++);) {
         const char *next = *words;
         if (!strcmp(word, "--redacted")) options.is_redacted = true;
+        else if (!strcmp(word, "--states")) options.keeps_states = true;
         else if (!strcmp(word, "--attack")) options.plan.is_hostile = true;
         else if (*word != '-') read_guest(&options, word);
         else if (words++, !next) refuse(word);
         else if (!strcmp(word, "--config")) options.configuration = next;
+        else if (!strcmp(word, "--resume")) options.resumed = next;
         else if (!strcmp(word, "--trace")) options.trace = next;
+        else if (!strcmp(word, "--calls")) options.calls = number_of(next);
         else if (!strcmp(word, "--record")) options.record = next;
         else if (!strcmp(word, "--seconds")) options.seconds = number_of(next);
         else if (!strcmp(word, "--storm")) options.plan.storm = number_of(next);
         else refuse(word);
     }
-    if (options.plan.count) return options;
+    if (options.plan.count || options.resumed) return options;
     for (unsigned guest = 0; guest < sizeof usual / sizeof *usual; guest++)
         if (!access(usual[guest][0], R_OK)) read_guest(&options, usual[guest][1]);
     if (!options.plan.count) refuse("no guest is named, and out/ has none");
@@ -309,14 +313,31 @@ static void open_kvm(struct monitor *monitor) {
     monitor->run_size = size;
 }
 
+/* Takes up the core of a monitor that was killed, at the border of which it kept the state. The processors of its guests are
+ * gone with it, so that all of them are cleared: their frames are zeroed, and given back. */
+static int take_up(const struct options *options) {
+    struct core core = {.keeps_states = options->keeps_states};
+    unsigned cleared = 0;
+    core_open(&core, options->resumed, true);
+    core_trace(&core, options->trace, options->is_redacted);
+    for (uint32_t vm = 0; vm < core.size.slots; vm++)
+        cleared += core_do(&core, KCORE_NONE, 0, (kcore_request){KCORE_CLEAR, {vm}}, NULL).kind == KCORE_IS_DONE;
+    printf("monitor: resumed, %u guests cleared\n", cleared);
+    core_close(&core);
+    return 0;
+}
+
 int main(int count, char **words) {
     (void)count;
     struct options options = read_options(words + 1);
+    if (options.resumed) return take_up(&options);
     struct monitor monitor = {.lock = PTHREAD_MUTEX_INITIALIZER, .moved = PTHREAD_COND_INITIALIZER};
     memcpy(monitor.modes, options.modes, sizeof options.modes);
     setvbuf(stdout, NULL, _IOLBF, 0);
     if (prctl(PR_SET_DUMPABLE, 0, 0, 0, 0)) fail("prctl"); /* not even the same user looks into this process */
-    core_open(&monitor.core, options.configuration);
+    monitor.core.most = options.calls;
+    monitor.core.keeps_states = options.keeps_states;
+    core_open(&monitor.core, options.configuration, false);
     mmu_open(&monitor.mmu, monitor.core.size.frames);
     options.plan.frames = monitor.core.size.frames;
     options.plan.first = monitor.core.size.core;

@@ -29,13 +29,15 @@ struct core {
     int trace;
     unsigned volume;
     size_t written; /* lines of the volume that are in its file */
-    bool redacted;
+    size_t most;    /* calls of a volume, if not as many as it holds */
+    bool redacted, keeps_states;
     uint64_t calls;
     double asking; /* microseconds in the core, and in writing the trace */
 };
 
-void core_open(struct core *core, const char *configuration);
-/* Begins the trace, which each call is written to. */
+/* In the boot state of a configuration, or in the state that a text tells. */
+void core_open(struct core *core, const char *path, bool is_state);
+/* Begins the trace, which each call is written to, and keeps the states in which its volumes begin, if they are kept. */
 void core_trace(struct core *core, const char *trace, bool redacted);
 void core_close(struct core *core);
 

@@ -11,7 +11,7 @@ use Rattle.kc_model.specs.Ranged.{IsRanged}
 use Rattle.kc_trace.specs.Spelling.{line_of, lines_of, trace_header}
 use Rattle.kc_trace.specs.Trace.{AreCalls, IsTrace}
 use Rattle.kc_live.specs.declared.receipt.Entry.{Entry}
-use Rattle.kc_live.specs.Book.{Log, longer, reply_to, calls_of, entry}
+use Rattle.kc_live.specs.Book.{Log, calls_of}
 use Rattle.kc_redact.specs.Redacted.{redacted, redacted_line, IsRedaction}
 use Rattle.kc_redact.specs.Witness.{witnessed, HasSeen}
 use Rattle.sha2.specs.declared.Sha256.{Sha256}
@@ -89,12 +89,9 @@ all_seen_again hasher entries shown same seen =
     let few : length entries ≤ length shown = omega (arith, ap length same) in
     subst (λ (calls : List Call). HasSeen hasher calls) (sym (ap calls_of (take_all (length shown) entries few))) seen
 
--- a call more, which the witness has not seen
-pub longer_seen : (old new : Log) (call : Call) (seen : ℕ) (witness : Sha256) → new ≡ longer old call → IsRanged call → AllByRecursion IsRanged (calls_of old.entries) × (seen ≤ length old.entries) × HasSeen witness (calls_of (take seen old.entries))
-    → AllByRecursion IsRanged (calls_of new.entries) × (seen ≤ length new.entries) × HasSeen witness (calls_of (take seen new.entries))
-longer_seen old new call seen witness made ranged before =
-    let one = entry call (reply_to old call) in
-    let entries : new.entries ≡ old.entries ++ one ∷ [] = ap (λ (log : Log). log.entries) made in
-    let some = before.1 in
-    let long : length (old.entries ++ one ∷ []) ≡ length old.entries + 1 = length-append old.entries (one ∷ []) in
-    rw entries (with_one_more old.entries one before.0 ranged, omega (arith, some, long), rw (take-append-le seen old.entries (one ∷ []) some) before.2)
+-- an entry more, which the witness has not seen
+pub more_seen : (entries new : List Entry) (one : Entry) (seen : ℕ) (witness : Sha256) → new ≡ entries ++ one ∷ [] → IsRanged one.call → AllByRecursion IsRanged (calls_of entries) → seen ≤ length entries → HasSeen witness (calls_of (take seen entries)) → length entries < call_limit
+    → AllByRecursion IsRanged (calls_of new) × (seen ≤ length new) × HasSeen witness (calls_of (take seen new)) × (length new ≤ call_limit)
+more_seen entries new one seen witness made ranged all some noted few =
+    let long : length (entries ++ one ∷ []) ≡ length entries + 1 = length-append entries (one ∷ []) in
+    rw made (with_one_more entries one all ranged, omega (arith, some, long), rw (take-append-le seen entries (one ∷ []) some) noted, omega (arith, few, long))

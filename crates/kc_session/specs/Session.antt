@@ -7,12 +7,14 @@ use Rattle.kc_types.specs.declared.call.Call.{Call}
 use Rattle.kc_types.specs.declared.call.Actor.{Actor}
 use Rattle.kc_types.specs.declared.custody.FrameChange.{FrameChange}
 use Rattle.kc_types.specs.declared.version.Version.TheVariants.{Two}
+use Rattle.kc_model.specs.State.{State}
+use Rattle.kc_model.specs.Boot.{boot}
 use Rattle.kc_model.specs.Next.{next}
 use Rattle.kc_model.specs.Custody.{frame_changes_by, first_line}
 use Rattle.kc_trace.specs.Reading.{call_of}
 use Rattle.kc_trace.specs.ReplyText.{reply_line_of}
 use Rattle.kc_trace.specs.Spelling.{line_of, trace_header}
-use Rattle.kc_live.specs.Book.{Log, new_log, next_volume, longer, reply_to}
+use Rattle.kc_live.specs.Book.{Log, log, next_volume, longer, reply_to}
 use Rattle.kc_redact.specs.Redacted.{redacted_line}
 use Rattle.kc_session.specs.declared.session.AskFault.{AskFault}
 use Rattle.kc_session.specs.declared.session.Form.{Form}
@@ -24,8 +26,12 @@ pub record Kept : Type 0 where
   pub log : Log
   pub changes : List FrameChange
 
+-- a session whose core is in this state, and that was asked nothing yet
+abbrev pub begun : State → Kept
+begun m = record { log = log 0 [] m; changes = [] }
+
 abbrev pub new_session : Configuration → Kept
-new_session config = record { log = new_log config; changes = [] }
+new_session config = begun (boot config)
 
 -- the next volume; no call was made
 abbrev pub turned : Kept → Kept

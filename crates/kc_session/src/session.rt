@@ -1,26 +1,31 @@
 //! A core that is asked line by line.
 ghost use Rattle.std.specs.Prelude.{◌≡◌, ◌≤◌, ◌+◌, ◌++◌, List, true, false, length, vec_len, vec_capacity, slice_get, option_map, IfOk, IfErr, OnOk, OnErr};
 ghost use Rattle.std.specs.List.{concat};
-ghost use Rattle.kc_types.specs.Limits.{call_limit};
+ghost use Rattle.kc_types.specs.Limits.{byte_limit, call_limit};
+ghost use Rattle.kc_model.specs.Volumes.{IsCoreState};
 ghost use Rattle.kc_trace.specs.ReplyText.{longest_reply};
 ghost use Rattle.kc_trace.specs.Spelling.{longest_call};
 ghost use Rattle.kc_trace.specs.Trace.{IsTrace};
 ghost use Rattle.sha2.specs.Sha256.{sha256};
 ghost use Rattle.kc_types.specs.declared.call.Call.{Call};
 ghost use Rattle.kc_model.specs.Ranged.{IsRanged};
-ghost use Rattle.kc_live.specs.Book.{volume_in, calls_of, reply_to};
+ghost use Rattle.kc_live.specs.Book.{calls_of, reply_to};
 ghost use Rattle.kc_redact.specs.Redacted.{IsRedaction};
 ghost use Rattle.kc_redact.specs.Witness.{HasSeen};
-ghost use Rattle.kc_session.specs.Session.{new_session, turned, with_call, IsOf, IsAnothers, IsAnswer, IsUnmade, IsUnanswered, trace_lines, redacted_lines, lines_in, line_in};
+ghost use Rattle.kc_state_text.specs.Refused.{IsRefusedState};
+ghost use Rattle.kc_state_text.specs.StateText.{state_text};
+ghost use Rattle.kc_session.specs.Session.{new_session, begun, turned, with_call, IsOf, IsAnothers, IsAnswer, IsUnmade, IsUnanswered, trace_lines, redacted_lines, lines_in, line_in};
 
 use kc_core::KCore;
 use kc_custody::{note_marks, tell_marks};
-use kc_live::{Book, Entry, Ready, Volume};
+use kc_live::{Entry, Ready};
 use kc_redact::{Witness, push_redacted};
+use kc_state_text::{StateFault, read_state_alone};
 use kc_trace::{LONGEST_CALL, LONGEST_REPLY, call_of_line, push_call, push_header, push_reply};
 use kc_types::{Actor, CALL_LIMIT, Call, Config, FrameChange, Memory, Reply, Version, actor_of};
 use std::alloc::{AllocError, Global};
 use std::marker::Model;
+use std::mem;
 
 /// The line of a trace's first call, after its header.
 const FIRST_LINE: u32 = 2;
@@ -102,7 +107,10 @@ fn is_of(asker: Option<Actor>, call: &Call) -> bool
 #[derive(Drop)]
 pub struct Session {
     alloc: Global,
-    book: Book,
+    core: KCore,
+    /// The number of the volume, from 0.
+    volume: u64,
+    entries: Vec<Entry>,
     witness: Witness,
     /// How many calls of the volume the witness has seen.
     seen: usize,
@@ -116,9 +124,10 @@ impl Model for Session {
     ghost use Rattle.std.specs.FinMap as map;
     ghost use Rattle.std.specs.List.{AllByRecursion};
     ghost use Rattle.std.specs.Ordering.{nat_cmp};
+    ghost use Rattle.kc_types.specs.Limits.{call_limit};
     ghost use Rattle.kc_model.specs.Ranged.{IsRanged};
-    ghost use Rattle.std.specs.Prelude.{◌≤◌, length, take};
-    ghost use Rattle.kc_live.specs.Book.{calls_of};
+    ghost use Rattle.std.specs.Prelude.{◌≤◌, length, take, vec_capacity};
+    ghost use Rattle.kc_live.specs.Book.{calls_of, log};
     ghost use Rattle.kc_redact.specs.Witness.{HasSeen};
     ghost use Rattle.kc_session.specs.Session.{Kept};
 
@@ -126,27 +135,52 @@ impl Model for Session {
 
     ghost coded = { Prim.hlevel (codes, map.code {R = nat_cmp} coded_ℕ coded_ℕ) };
 
-    ghost view = { λ s. record { log = s.book; changes = s.changes.items } };
+    ghost view = { λ s. record { log = log s.volume s.entries.items s.core; changes = s.changes.items } };
 
-    ghost invariant = { λ s. AllByRecursion IsRanged (calls_of s.book.entries) × (s.seen ≤ length s.book.entries) × HasSeen s.witness (calls_of (take s.seen s.book.entries)) };
+    ghost invariant = { λ s. AllByRecursion IsRanged (calls_of s.entries.items) × (s.seen ≤ length s.entries.items) × HasSeen s.witness (calls_of (take s.seen s.entries.items))
+        × (length s.entries.items ≤ call_limit) × (call_limit ≤ vec_capacity s.entries) };
 }
 
 impl Session {
+    /// A core that was asked nothing yet.
+    fn of(alloc: Global, core: KCore) -> Result<Session, Memory>
+        ensures { IfOk result (λ session. session ≡ begun core) }
+    {
+        Ok(Session {
+            alloc,
+            core,
+            volume: 0,
+            entries: Vec::with_capacity(alloc, CALL_LIMIT)?,
+            witness: Witness::new(alloc)?,
+            seen: 0,
+            changes: Vec::new(alloc),
+            marks: Vec::new(alloc),
+        })
+    }
+
     /// The core in the boot state of its configuration, asked nothing yet; `Memory` where a growth was refused.
     pub fn new(alloc: Global, config: Config) -> Result<Session, Memory>
         // No clause can rule out that memory runs out: tests open sessions.
         ensures { IfOk result (λ session. session ≡ new_session config) }
     {
-        let book = Book::new(alloc, config)?;
-        let witness = Witness::new(alloc)?;
-        Ok(Session {
-            alloc,
-            book,
-            witness,
-            seen: 0,
-            changes: Vec::new(alloc),
-            marks: Vec::new(alloc),
-        })
+        Session::of(alloc, KCore::boot(alloc, config)?)
+    }
+
+    /// The core in the state that a text tells, of at most 1,073,741,824 bytes, asked nothing yet; else the text's first
+    /// fault. Memory is the only fault that says nothing of it.
+    pub fn resume(alloc: Global, text: &[u8]) -> Result<Session, StateFault>
+        requires { length text.now ≤ byte_limit }
+        // What is read is the state's one text.
+        ensures begun { IfOk result (λ session. session ≡ begun session.log.state) }
+        ensures state { IfOk result (λ session. text.now ≡ state_text session.log.state) }
+        ensures core { IfOk result (λ session. IsCoreState session.log.state) }
+        ensures refused { IfErr result (IsRefusedState text.now) }
+    {
+        let core = read_state_alone(alloc, text)?;
+        match Session::of(alloc, core) {
+            Ok(session) => Ok(session),
+            Err(_) => Err(StateFault::Memory),
+        }
     }
 
     /// Makes a call if it is the asker's, or anybody's if nobody is named: its reply. `NotYours` if it is another's,
@@ -163,16 +197,18 @@ impl Session {
         if !is_of(asker, &call) {
             return Err(AskFault::NotYours);
         }
-        let line = self.book.entries().len() as u32 + FIRST_LINE;
+        let number = self.entries.len() as u32;
         self.marks.clear();
-        note_marks(self.alloc, self.book.core(), &call, line, &mut self.marks)?;
+        note_marks(self.alloc, &self.core, &call, number + FIRST_LINE, &mut self.marks)?;
         self.changes.reserve(self.marks.len())?;
         let ready = Ready::new(self.alloc, call)?;
-        let Ok(receipt) = self.book.step(ready) else {
+        if self.entries.len() >= CALL_LIMIT {
             return Err(AskFault::HistoryFull);
-        };
+        }
+        let (entry, receipt) = ready.make(&mut self.core, self.volume, number);
+        self.entries.push_reserved(entry);
         self.changes.clear();
-        tell_marks(self.book.core(), &self.marks, &mut self.changes);
+        tell_marks(&self.core, &self.marks, &mut self.changes);
         Ok(receipt.reply)
     }
 
@@ -205,27 +241,28 @@ impl Session {
     pub fn left(&self) -> u32
         ensures { result + length self.now.log.entries ≡ call_limit }
     {
-        (CALL_LIMIT - self.book.entries().len()) as u32
+        (CALL_LIMIT - self.entries.len()) as u32
     }
 
     /// The core as the calls so far left it.
     pub fn core(&self) -> &KCore
         ensures { result.now ≡ self.now.log.state }
     {
-        self.book.core()
+        &self.core
     }
 
-    /// Hands out the volume, full or not, and begins the next one with the core as it is: the lines from then on are of the
-    /// next one. `Memory` where the room for its calls was refused.
-    pub fn turn(&mut self) -> Result<Volume, Memory>
-        ensures volume { IfOk result (λ volume. volume ≡ volume_in self.old.log) }
+    /// Hands out the calls of the volume with their replies, full or not, and begins the next one with the core as it is:
+    /// the lines from then on are of the next one. `Memory` where the room for its calls was refused.
+    pub fn turn(&mut self) -> Result<Vec<Entry>, Memory>
+        ensures entries { IfOk result (λ entries. entries.items ≡ self.old.log.entries) }
         ensures next { OnOk result (self.new ≡ turned self.old) }
         ensures err { OnErr result (self.new ≡ self.old) }
     {
         let room = Vec::with_capacity(self.alloc, CALL_LIMIT)?;
         self.witness.restart();
         self.seen = 0;
-        Ok(self.book.turn(room))
+        self.volume = self.volume.saturating_add(1);
+        Ok(mem::replace(&mut self.entries, room))
     }
 
     /// The SHA-256 digest of the volume's redacted trace so far: of its redacted lines, one after the other. The calls since
@@ -235,19 +272,19 @@ impl Session {
         ensures redaction { IsRedaction (concat (trace_lines self.old.log)) (concat (redacted_lines self.old.log)) (calls_of self.old.log.entries) }
         ensures same { self.new ≡ self.old }
     {
-        let entries = self.book.entries();
+        let entries = self.entries.as_slice();
         note_each(&mut self.witness, &entries[self.seen..]);
         self.seen = entries.len();
         self.witness.digest()
     }
 
     /// How many lines the volume's trace has: the header, and a line for each call that was answered. All of them, one
-    /// behind the other, are the trace of these calls.
+    /// after the other, are the trace of these calls.
     pub fn lines(&self) -> usize
         ensures count { result ≡ length (trace_lines self.now.log) }
         ensures trace { IsTrace (concat (trace_lines self.now.log)) (calls_of self.now.log.entries) }
     {
-        self.book.entries().len() + 1
+        self.entries.len() + 1
     }
 
     /// A line of that trace in a form, by its place from 0, with its newline. `None` where there are no more; `Memory` where a
@@ -261,7 +298,8 @@ impl Session {
             return Ok(Some(told));
         }
         let place = number - 1;
-        let Some(entry) = self.book.entries().get(place) else {
+        let entries = self.entries.as_slice();
+        let Some(entry) = entries.get(place) else {
             return Ok(None);
         };
         push_line(&mut told, form, &entry.call);

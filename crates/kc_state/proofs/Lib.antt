@@ -9,3 +9,4 @@ mod Shows
 mod Shown
 mod Assembled
 mod Refused
+pub mod InForm

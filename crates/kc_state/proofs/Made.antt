@@ -1,7 +1,7 @@
 -- The parts of a core's dump, one after another.
-use Rattle.std.proofs.Common.{ℕ, ◌≡◌, ◌<◌, ◌+◌, List, [], ◌∷◌, ◌++◌, length, map, get_or, refl, sym, ap, ◌∙◌, arith}
+use Rattle.std.proofs.Common.{ℕ, ◌≡◌, ◌<◌, ◌+◌, List, [], ◌∷◌, ◌++◌, length, map, take, get_or, refl, sym, ap, ◌∙◌, arith}
 use Rattle.std.specs.List.{range_with_len}
-use Rattle.std.proofs.lemmas.List.{ext_get_or, get_or-map, length-map}
+use Rattle.std.proofs.lemmas.List.{ext_get_or, get_or-map, length-map, map-append, take_more}
 use Rattle.std.proofs.lemmas.List.FromFn.{map-range_with_len_more, get_or-map-range_with_len, length-map-range_with_len}
 use Rattle.kc_types.specs.Configuration.{slot_count}
 use Rattle.kc_model.specs.State.{State, Frame, frame_at, slot_at, untouched, empty_slot}
@@ -45,3 +45,17 @@ line-made m f meta digest is same = λ i. record { owner = is.owner i; share = i
 
 pub digest-at : (m : State) (digests : List (List ℕ)) (f : ℕ) (d : List ℕ) → digests ≡ digests_of m → f < length m.frames → get_or digests f d ≡ sha256 (frame_at m f).bytes
 digest-at m digests f d is low = ap (λ ds. get_or ds f d) is ∙ get_or-map (λ (frame : Frame). sha256 frame.bytes) m.frames f (untouched Core) d low
+
+-- the digests of all frames, by their numbers
+pub digests-ranged : (m : State) (count : ℕ) → count ≡ length m.frames → map (λ f. sha256 (frame_at m f).bytes) (range_with_len 0 count) ≡ digests_of m
+digests-ranged m count all = ext_get_or [] _ _ (length-map-range_with_len (λ f. sha256 (frame_at m f).bytes) 0 count ∙ all ∙ sym (length-map m.frames (λ (frame : Frame). sha256 frame.bytes))) (λ i low.
+    let within : i < count = rw (length-map-range_with_len (λ f. sha256 (frame_at m f).bytes) 0 count) at low in
+    get_or-map-range_with_len (λ f. sha256 (frame_at m f).bytes) 0 count i i [] within (omega arith)
+    ∙ sym (get_or-map (λ (frame : Frame). sha256 frame.bytes) m.frames i (untouched Core) [] (rw (← all) within)))
+
+-- the digests of the first pages and of one more
+pub digest-more : (pages : List (List ℕ)) (n : ℕ) (page : List ℕ) (old new : List (List ℕ)) (x : List ℕ) → old ≡ map sha256 (take n pages) → new ≡ old ++ x ∷ [] → x ≡ sha256 page → n < length pages → page ≡ get_or pages n page
+    → new ≡ map sha256 (take (n + 1) pages)
+digest-more pages n page old new x so_far pushed made low is =
+    pushed ∙ ap (λ (l : List (List ℕ)). l ++ x ∷ []) so_far ∙ ap (λ (y : List ℕ). map sha256 (take n pages) ++ y ∷ []) (made ∙ ap sha256 is)
+    ∙ sym (ap (map sha256) (take_more pages n page low) ∙ map-append sha256 (take n pages) (get_or pages n page ∷ []))

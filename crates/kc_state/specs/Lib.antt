@@ -2,3 +2,4 @@ pub mod Dumping
 pub mod Told
 pub mod Unlawful
 pub mod Making
+pub mod Form

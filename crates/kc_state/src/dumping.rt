@@ -3,8 +3,11 @@ ghost use Rattle.std.specs.Prelude.{◌≡◌, ◌<◌, IfOk};
 ghost use Rattle.kc_types.specs.Configuration.{slot_count};
 ghost use Rattle.kc_model.specs.State.{slot_at};
 ghost use Rattle.kc_state.specs.Dumping.{digests_of, frame_lines, slot_dump, slot_dumps, dump_of};
+ghost use Rattle.kc_state.specs.Form.{in_form};
 ghost use Rattle.kc_dump.specs.Sound.{IsSound};
 
+use crate::digesting::frame_digests_alone;
+use crate::form::StateForm;
 use kc_core::KCore;
 use kc_digests::{Lanes, frame_digests};
 use kc_dump::{Dump, FrameLine, SlotDump};
@@ -12,12 +15,20 @@ use kc_types::Memory;
 use std::alloc::Global;
 use std::thread::Threads;
 
+/// The digests of a core's pages in a form.
+#[derive(Drop)]
+struct Digests {
+    form: StateForm,
+    each: Vec<[u8; 32]>,
+}
+
 /// The records of all frames with the digests of their pages.
-fn lines(alloc: Global, core: &KCore, digests: &[[u8; 32]]) -> Result<Vec<FrameLine>, Memory>
-    requires { digests.now ≡ digests_of core.now }
-    ensures { IfOk result (λ lines. lines.items ≡ frame_lines core.now core.now.config.frames) }
+fn lines(alloc: Global, core: &KCore, digests: &Digests) -> Result<Vec<FrameLine>, Memory>
+    requires { digests.now.each.items ≡ digests_of (in_form digests.now.form core.now) }
+    ensures { IfOk result (λ lines. lines.items ≡ frame_lines (in_form digests.now.form core.now) core.now.config.frames) }
 {
-    let mut lines = Vec::with_capacity(alloc, digests.len())?;
+    let each = digests.each.as_slice();
+    let mut lines = Vec::with_capacity(alloc, each.len())?;
     for number in 0..core.config().frames() {
         let meta = core.page_record(number).unwrap();
         lines.push(FrameLine {
@@ -27,7 +38,7 @@ fn lines(alloc: Global, core: &KCore, digests: &[[u8; 32]]) -> Result<Vec<FrameL
             present: meta.present,
             prev: meta.prev,
             next: meta.next,
-            digest: digests[number as usize],
+            digest: each[number as usize],
         })?;
     }
     Ok(lines)
@@ -56,6 +67,25 @@ fn slots(alloc: Global, core: &KCore) -> Result<Vec<SlotDump>, Memory>
     Ok(slots)
 }
 
+/// The dump of a core with these digests.
+fn dump_with(alloc: Global, core: &KCore, digests: &Digests) -> Result<Dump, Memory>
+    requires { digests.now.each.items ≡ digests_of (in_form digests.now.form core.now) }
+    ensures dump { IfOk result (λ dump. dump ≡ dump_of (in_form digests.now.form core.now)) }
+    ensures sound { IfOk result IsSound }
+{
+    let frames = lines(alloc, core, digests)?;
+    let slots = slots(alloc, core)?;
+    let config = core.config();
+    Ok(Dump::new(
+        config.version(),
+        config.core(),
+        config.leaves(),
+        core.free_ends(),
+        slots,
+        frames,
+    ))
+}
+
 /// A dump of a core, in time that grows with its frames, its mapped guest frames and its leaves. The pages are hashed
 /// by several threads, of so many at once. `Memory` where a growth was refused.
 pub fn dump(
@@ -68,16 +98,22 @@ pub fn dump(
     ensures dump { IfOk result (λ dump. dump ≡ dump_of core.now) }
     ensures sound { IfOk result IsSound }
 {
-    let digests = frame_digests(rt, alloc, core.pages(), lanes)?;
-    let frames = lines(alloc, core, digests.as_slice())?;
-    let slots = slots(alloc, core)?;
-    let config = core.config();
-    Ok(Dump::new(
-        config.version(),
-        config.core(),
-        config.leaves(),
-        core.free_ends(),
-        slots,
-        frames,
-    ))
+    let digests = Digests {
+        form: StateForm::Whole,
+        each: frame_digests(rt, alloc, core.pages(), lanes)?,
+    };
+    dump_with(alloc, core, &digests)
+}
+
+/// A dump of a core in a form, as `dump` makes it, by this thread alone, which hashes page by page.
+pub fn dump_alone(alloc: Global, core: &KCore, form: StateForm) -> Result<Dump, Memory>
+    // No clause can rule out that memory runs out: tests dump a core.
+    ensures dump { IfOk result (λ dump. dump ≡ dump_of (in_form form core.now)) }
+    ensures sound { IfOk result IsSound }
+{
+    let digests = Digests {
+        form,
+        each: frame_digests_alone(alloc, core, form)?,
+    };
+    dump_with(alloc, core, &digests)
 }

@@ -1,14 +1,18 @@
 //! Whether a lawful state is told so.
-ghost use Rattle.std.specs.Prelude.{OnOk, IfOk, IfErr, ◌≡◌};
+ghost use Rattle.std.specs.Prelude.{OnOk, IfOk, IfErr, ◌≡◌, ◌↔◌, [], length, map};
+ghost use Rattle.sha2.specs.Sha256.{sha256};
+ghost use Rattle.kc_dump.specs.Sound.{IsSound};
+ghost use Rattle.kc_audit.specs.Findings.{AreFindings};
 ghost use Rattle.kc_state.specs.Told.{config_of};
-ghost use Rattle.kc_state.specs.Unlawful.{IsSized, IsUnlawful};
+ghost use Rattle.kc_state.specs.Unlawful.{IsSized, IsUnlawful, AreSlotsTold};
 ghost use Rattle.kc_state.specs.Making.{IsJudged};
 
+use crate::digesting::bytes_digests_alone;
 use crate::frames::first_wrong_frame;
 use crate::slots::first_wrong_slot;
 use crate::told::Told;
 use crate::unlawful::Unlawful;
-use kc_audit::audit_parallel;
+use kc_audit::{Finding, audit, audit_parallel};
 use kc_digests::{Lanes, bytes_digests};
 use kc_types::Config;
 use std::alloc::Global;
@@ -41,6 +45,40 @@ pub(crate) fn sized(told: &Told) -> Result<Config, Unlawful>
     }
 }
 
+/// The first reason for which no lawful state is told so, by what an audit of the dump finds and by the slots.
+fn judge_found(told: &Told, found: &[Finding]) -> Result<(), Unlawful>
+    requires sized { IsSized told.now }
+    requires found { AreFindings told.now.dump found.now }
+    requires sound { (found.now ≡ []) ↔ IsSound told.now.dump }
+    ensures sound { OnOk result (IsSound told.now.dump) }
+    ensures slots { OnOk result (AreSlotsTold told.now (length told.now.dump.slots)) }
+    ensures unlawful { IfErr result (IsUnlawful told.now) }
+{
+    if let Some(first) = found.first() {
+        return Err(Unlawful::Found(*first));
+    }
+    match first_wrong_slot(&told.dump, told.slots.as_slice()) {
+        Some(vm) => Err(Unlawful::Slot(vm)),
+        None => Ok(()),
+    }
+}
+
+/// The first frame for which no lawful state is told so, by the digests of all pages; dump and slots are in order.
+fn judge_frames(told: &Told, digests: &[[u8; 32]]) -> Result<(), Unlawful>
+    requires sized { IsSized told.now }
+    requires sound { IsSound told.now.dump }
+    requires slots { AreSlotsTold told.now (length told.now.dump.slots) }
+    requires digests { digests.now ≡ map sha256 told.now.rest.pages }
+    ensures judged { OnOk result (IsJudged told.now) }
+    ensures unlawful { IfErr result (IsUnlawful told.now) }
+{
+    let _in_range = told.dump.slots();
+    match first_wrong_frame(&told.dump, told.pages.as_slice(), digests) {
+        Some(frame) => Err(Unlawful::Frame(frame)),
+        None => Ok(()),
+    }
+}
+
 /// The first reason for which no lawful state is told so. The pages are hashed, and the frames audited, by several
 /// threads.
 pub(crate) fn judge(
@@ -56,17 +94,25 @@ pub(crate) fn judge(
     let Ok(found) = audit_parallel(rt, alloc, &told.dump) else {
         return Err(Unlawful::Memory);
     };
-    if let Some(first) = found.first() {
-        return Err(Unlawful::Found(*first));
-    }
-    if let Some(vm) = first_wrong_slot(&told.dump, told.slots.as_slice()) {
-        return Err(Unlawful::Slot(vm));
-    }
+    judge_found(told, found.as_slice())?;
     let Ok(digests) = bytes_digests(rt, alloc, told.pages.as_slice(), lanes) else {
         return Err(Unlawful::Memory);
     };
-    match first_wrong_frame(&told.dump, told.pages.as_slice(), digests.as_slice()) {
-        Some(frame) => Err(Unlawful::Frame(frame)),
-        None => Ok(()),
-    }
+    judge_frames(told, digests.as_slice())
+}
+
+/// What `judge` answers, by this thread alone.
+pub(crate) fn judge_alone(alloc: Global, told: &Told) -> Result<(), Unlawful>
+    requires { IsSized told.now }
+    ensures judged { OnOk result (IsJudged told.now) }
+    ensures unlawful { IfErr result (IsUnlawful told.now) }
+{
+    let Ok(found) = audit(alloc, &told.dump) else {
+        return Err(Unlawful::Memory);
+    };
+    judge_found(told, found.as_slice())?;
+    let Ok(digests) = bytes_digests_alone(alloc, told.pages.as_slice()) else {
+        return Err(Unlawful::Memory);
+    };
+    judge_frames(told, digests.as_slice())
 }

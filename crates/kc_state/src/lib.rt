@@ -7,7 +7,9 @@
 //!   `src/frames.rt`
 #![tactic(auto)]
 
+mod digesting;
 mod dumping;
+mod form;
 mod frames;
 mod judging;
 pub mod laws;
@@ -16,7 +18,8 @@ mod slots;
 mod told;
 mod unlawful;
 
-pub use dumping::dump;
-pub use making::core_of;
+pub use dumping::{dump, dump_alone};
+pub use form::{StateForm, bytes_in};
+pub use making::{core_alone, core_of};
 pub use told::{SlotRest, Told};
 pub use unlawful::Unlawful;

@@ -10,7 +10,7 @@ ghost use Rattle.kc_state.specs.Told.{config_of, told_of};
 ghost use Rattle.kc_state.specs.Unlawful.{IsSized, IsUnlawful, AreSlotsOf, page_of};
 ghost use Rattle.kc_state.specs.Making.{IsJudged, IsVmTold, AreVmsTold, page_told};
 
-use crate::judging::{judge, sized};
+use crate::judging::{judge, judge_alone, sized};
 use crate::told::{SlotRest, Told};
 use crate::unlawful::Unlawful;
 use arrayvec::ArrayVec;
@@ -102,6 +102,20 @@ fn make_core(alloc: Global, config: Config, told: Told) -> Result<KCore, Memory>
     Ok(KCore::from_parts(alloc, config, parts))
 }
 
+/// The core of what was judged, or `Memory`, which says nothing of it.
+fn made(alloc: Global, config: Config, told: Told) -> Result<KCore, Unlawful>
+    requires config { config ≡ config_of told }
+    requires sized { IsSized told }
+    requires judged { IsJudged told }
+    ensures told { IfOk result (λ core. told_of core ≡ told) }
+    ensures unlawful { IfErr result (IsUnlawful told) }
+{
+    match make_core(alloc, config, told) {
+        Ok(core) => Ok(core),
+        Err(_) => Err(Unlawful::Memory),
+    }
+}
+
 /// The core of which this is told, exactly; else the first reason for which there is none. The dump is audited, and the
 /// pages are hashed, by several threads, of so many pages at once.
 pub fn core_of(
@@ -120,8 +134,20 @@ pub fn core_of(
     if let Err(why) = judge(rt, alloc, &told, lanes) {
         return Err(why);
     }
-    match make_core(alloc, config, told) {
-        Ok(core) => Ok(core),
-        Err(_) => Err(Unlawful::Memory),
+    made(alloc, config, told)
+}
+
+/// What `core_of` answers, by this thread alone, which hashes page by page.
+pub fn core_alone(alloc: Global, told: Told) -> Result<KCore, Unlawful>
+    ensures told { IfOk result (λ core. told_of core ≡ told) }
+    ensures unlawful { IfErr result (IsUnlawful told) }
+{
+    let config = match sized(&told) {
+        Ok(config) => config,
+        Err(why) => return Err(why),
+    };
+    if let Err(why) = judge_alone(alloc, &told) {
+        return Err(why);
     }
+    made(alloc, config, told)
 }

@@ -1,12 +1,20 @@
 -- What was given of a state's text and what is still to come are the whole of it.
-use Rattle.std.proofs.Common.{ℕ, ◌≡◌, ◌<◌, ◌≤◌, ◌+◌, Bor, Option, Some, IfSome, List, [], ◌++◌, length, map, refl, sym, ap, ◌∙◌, append_assoc}
+use Rattle.std.proofs.Common.{ℕ, ◌≡◌, ◌<◌, ◌≤◌, ◌+◌, List, [], ◌++◌, length, map, refl, sym, ap, ◌∙◌, append_assoc}
 use Rattle.std.specs.List.{flat_map}
 use Rattle.std.specs.Prelude.{◌↔◌}
 use Rattle.std.proofs.lemmas.List.{drop_more, drop_all, length-map, append_cancel_left}
 use Rattle.std.proofs.Math.ListN.{get_or-map}
 use Rattle.kc_types.specs.declared.owner.Owner.TheVariants.{Core}
 use Rattle.kc_model.specs.State.{State, Frame, frame_at, untouched, zero_page}
-use Rattle.kc_state_text.specs.StateText.{page_line}
+use Rattle.kc_model.specs.Blanking.{blank_frame}
+use Rattle.kc_dump_text.specs.DumpText.{dump_text}
+use Rattle.kc_state.specs.Dumping.{dump_of}
+use Rattle.kc_state.specs.Told.{slot_rest}
+use Rattle.kc_state.specs.Form.{in_form}
+use Rattle.kc_state.specs.declared.form.StateForm.{StateForm}
+use Rattle.kc_state.specs.declared.form.StateForm.TheVariants.{Whole, Blank}
+use Rattle.kc_state_text.proofs.Appended.{whole-text}
+use Rattle.kc_state_text.specs.StateText.{state_header, sizes_line, approved_line, slot_line, page_line, front_begin, state_text}
 use Rattle.kc_state_text.specs.Pieces.{Pieces, page_lines, to_come}
 
 abbrev bytes_of : Frame → List ℕ
@@ -24,20 +32,30 @@ pub pages_done : (m : State) (n : ℕ) → length m.frames ≤ n → page_lines 
 pages_done m n past = ap (flat_map page_line) (drop_all n (map bytes_of m.frames) (rw (length-map m.frames bytes_of) past))
 
 -- one page more was given
-pub page_given : (m : State) (old new : Pieces) (start before after : List ℕ) → old.page < length m.frames → old.front ≡ [] → new.front ≡ [] → new.page ≡ old.page + 1 → new.dump ≡ old.dump
-    → before ++ to_come m old ≡ start → after ≡ before ++ page_line (frame_at m old.page).bytes → after ++ to_come m new ≡ start
-page_given m old new start before after low front front' page dump given pushed =
-    let line = page_line (frame_at m old.page).bytes in
-    let rest = page_lines m (old.page + 1) ++ old.dump in
-    let come : to_come m old ≡ line ++ rest = rw front (ap (λ (lines : List ℕ). lines ++ old.dump) (page_first m old.page low) ∙ append_assoc line (page_lines m (old.page + 1)) old.dump) in
-    let left : to_come m new ≡ rest = rw (front', page, dump) refl in
+pub page_given : (m : State) (old new : Pieces) (start before after : List ℕ) → old.page < length (in_form old.form m).frames → new.form ≡ old.form → old.front ≡ [] → new.front ≡ [] → new.page ≡ old.page + 1 → new.dump ≡ old.dump
+    → before ++ to_come m old ≡ start → after ≡ before ++ page_line (frame_at (in_form old.form m) old.page).bytes → after ++ to_come m new ≡ start
+page_given m old new start before after low form front front' page dump given pushed =
+    let n = in_form old.form m in
+    let line = page_line (frame_at n old.page).bytes in
+    let rest = page_lines n (old.page + 1) ++ old.dump in
+    let come : to_come m old ≡ line ++ rest = rw front (ap (λ (lines : List ℕ). lines ++ old.dump) (page_first n old.page low) ∙ append_assoc line (page_lines n (old.page + 1)) old.dump) in
+    let left : to_come m new ≡ rest = rw (front', form, page, dump) refl in
     rw (left, pushed) (append_assoc before line rest ∙ ap (λ (l : List ℕ). before ++ l) (sym come) ∙ given)
-
--- what was given of a page
-pub bytes_there : (m : State) (f : ℕ) (there : Option (Bor (List ℕ))) (bytes : Bor (List ℕ)) → IfSome there (λ b. b.now ≡ (frame_at m f).bytes) → there ≡ Some bytes → bytes.now ≡ (frame_at m f).bytes
-bytes_there m f there bytes is some = rw some at is
 
 -- a text of which a piece is taken away is what is still to come just where it was so before
 pub rest_after : (rest more piece left next : List ℕ) (Same : Type 0) → rest ≡ piece ++ more → piece ++ next ≡ left → (rest ≡ left) ↔ Same → (more ≡ next) ↔ Same
 rest_after rest more piece left next Same cut given is =
     (λ e. is.0 (cut ∙ ap (λ (l : List ℕ). piece ++ l) e ∙ given), λ same. append_cancel_left piece more next (sym cut ∙ is.1 same ∙ sym given))
+
+-- the lines before those of the pages are the same in each form
+front_in : (form : StateForm) (m : State) → front_begin m ≡ front_begin (in_form form m)
+front_in Whole m = refl
+front_in Blank m =
+    let long : length (map bytes_of m.frames) ≡ length (map bytes_of (map (blank_frame m) m.frames)) =
+    length-map m.frames bytes_of ∙ sym (length-map m.frames (blank_frame m)) ∙ sym (length-map (map (blank_frame m) m.frames) bytes_of) in
+    ap (λ (n : ℕ). state_header ++ (sizes_line (record { slots = length (map slot_rest m.slots); frames = n; host = m.config.host; approved = length m.config.approved })
+        ++ (flat_map approved_line m.config.approved ++ flat_map slot_line (map slot_rest m.slots)))) long
+
+-- the lines before those of the pages, the pages from the first on, and the dump are the whole text
+pub whole_in : (form : StateForm) (m : State) → front_begin m ++ (page_lines (in_form form m) 0 ++ dump_text (dump_of (in_form form m))) ≡ state_text (in_form form m)
+whole_in form m = ap (λ (l : List ℕ). l ++ (page_lines (in_form form m) 0 ++ dump_text (dump_of (in_form form m)))) (front_in form m) ∙ whole-text (in_form form m)

@@ -2,10 +2,13 @@
 use Rattle.std.specs.Prelude.{ℕ, List, ◌++◌, drop, map}
 use Rattle.std.specs.List.{flat_map}
 use Rattle.kc_model.specs.State.{State, Frame}
+use Rattle.kc_state.specs.declared.form.StateForm.{StateForm}
+use Rattle.kc_state.specs.Form.{in_form}
 use Rattle.kc_state_text.specs.StateText.{page_line}
 
--- what was not given yet: of the lines before those of the pages, from which page on, and of the dump
+-- the form of a text, and what was not given yet: of the lines before those of the pages, from which page on, and of the dump
 pub record Pieces : Type 0 where
+  pub form : StateForm
   pub front : List ℕ
   pub page : ℕ
   pub dump : List ℕ
@@ -14,9 +17,9 @@ pub record Pieces : Type 0 where
 abbrev pub page_lines : State → ℕ → List ℕ
 page_lines m page = flat_map page_line (drop page (map (λ (frame : Frame). frame.bytes) m.frames))
 
--- the text that is still to come
+-- the text of a state that is still to come
 abbrev pub to_come : State → Pieces → List ℕ
-to_come m pieces = pieces.front ++ (page_lines m pieces.page ++ pieces.dump)
+to_come m pieces = pieces.front ++ (page_lines (in_form pieces.form m) pieces.page ++ pieces.dump)
 
 -- the bytes of the longest line of a page, with its newline
 abbrev pub longest_page_line : ℕ

@@ -1,14 +1,18 @@
 //! A state's text, a piece at a time, so that it never lies in memory as a whole.
 ghost use Rattle.std.specs.Prelude.{ℕ, List, MatchOption, ◌≡◌, ◌<◌, ◌≤◌, ◌+◌, ◌++◌, ◌↔◌, [], length, vec_len, vec_capacity, IsTrue, IfOk};
+ghost use Rattle.kc_state.specs.Dumping.{dump_of};
+ghost use Rattle.kc_state.specs.Form.{in_form};
 ghost use Rattle.kc_state_text.specs.StateText.{state_text};
 ghost use Rattle.kc_state_text.specs.Pieces.{longest_page_line, to_come};
 
 use crate::writing::{LONGEST_PAGE_LINE, push_page, write_front};
 use kc_core::KCore;
 use kc_digests::Lanes;
+use kc_dump::Dump;
 use kc_dump_text::write_dump;
 use kc_lines::push_bytes;
-use kc_state::dump;
+use kc_page::PageBytes;
+use kc_state::{StateForm, bytes_in, dump, dump_alone};
 use kc_types::{Memory, SecretBytes};
 use std::alloc::Global;
 use std::marker::Model;
@@ -67,9 +71,12 @@ impl Left {
     }
 }
 
-/// The text of a core's state, of which some was given already.
+/// The text of a core's state in a form, of which some was given already.
 #[derive(Drop)]
 pub struct StatePieces {
+    form: StateForm,
+    /// A page of zero bytes.
+    zero: PageBytes,
     front: Left,
     /// The next page.
     page: u32,
@@ -81,10 +88,36 @@ impl Model for StatePieces {
 
     ghost Value = { Pieces };
 
-    ghost view = { λ p. record { front = p.front; page = p.page; dump = p.dump } };
+    ghost use Rattle.std.specs.Prelude.{◌≡◌};
+    ghost use Rattle.kc_model.specs.State.{zero_page};
+
+    ghost view = { λ p. record { form = p.form; front = p.front; page = p.page; dump = p.dump } };
+
+    ghost invariant = { λ p. p.zero ≡ zero_page };
 }
 
 impl StatePieces {
+    /// The whole text of a core with this dump, of which nothing was given.
+    fn begun(
+        alloc: Global,
+        core: &KCore,
+        form: StateForm,
+        dump: &Dump,
+    ) -> Result<StatePieces, Memory>
+        requires { dump.now ≡ dump_of (in_form form core.now) }
+        ensures { IfOk result (λ pieces. to_come core.now pieces ≡ state_text (in_form form core.now)) }
+    {
+        let front = write_front(alloc, core)?;
+        let dump = write_dump(alloc, dump)?;
+        Ok(StatePieces {
+            form,
+            zero: PageBytes::zeroed(alloc)?,
+            front: Left::all(front),
+            page: 0,
+            dump: Left::all(dump),
+        })
+    }
+
     /// The whole text, of which nothing was given. All memory that it takes is taken here: `Memory` where a growth was
     /// refused. The pages are hashed by several threads, of so many at once.
     pub fn new(
@@ -95,14 +128,23 @@ impl StatePieces {
     ) -> Result<StatePieces, Memory>
         ensures { IfOk result (λ pieces. to_come core.now pieces ≡ state_text core.now) }
     {
-        let front = write_front(alloc, core)?;
         let dumped = dump(rt, alloc, core, lanes)?;
-        let dump = write_dump(alloc, &dumped)?;
-        Ok(StatePieces {
-            front: Left::all(front),
-            page: 0,
-            dump: Left::all(dump),
-        })
+        StatePieces::begun(alloc, core, StateForm::Whole, &dumped)
+    }
+
+    /// The whole text in a form, as `new` makes it, by this thread alone.
+    pub fn alone(alloc: Global, core: &KCore, form: StateForm) -> Result<StatePieces, Memory>
+        ensures { IfOk result (λ pieces. to_come core.now pieces ≡ state_text (in_form form core.now)) }
+    {
+        let dumped = dump_alone(alloc, core, form)?;
+        StatePieces::begun(alloc, core, form, &dumped)
+    }
+
+    /// At least as many bytes as are still to come.
+    pub(crate) fn most(&self, core: &KCore) -> usize {
+        let pages = LONGEST_PAGE_LINE.saturating_mul(core.config().frames() as usize);
+        let ends = self.front.rest().len().saturating_add(self.dump.rest().len());
+        pages.saturating_add(ends)
     }
 
     /// Appends the lines of the next pages, one at least, as many as there is room for.
@@ -116,7 +158,7 @@ impl StatePieces {
     {
         let count = core.config().frames();
         'pages: loop {
-            push_page(piece, core.bytes(self.page).unwrap());
+            push_page(piece, bytes_in(core, self.form, self.page, &self.zero));
             self.page += 1;
             if self.page == count || piece.capacity() - piece.len() < LONGEST_PAGE_LINE {
                 return;

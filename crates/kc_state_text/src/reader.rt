@@ -13,7 +13,7 @@ use kc_core::KCore;
 use kc_digests::Lanes;
 use kc_dump::Dump;
 use kc_dump_text::{DumpFault, read_dump};
-use kc_state::{Told, Unlawful, core_of};
+use kc_state::{Told, Unlawful, core_alone, core_of};
 use std::alloc::Global;
 use std::thread::Threads;
 
@@ -96,6 +96,23 @@ pub fn read_state(
 {
     let told = read_told(alloc, text)?;
     match core_of(rt, alloc, told, lanes) {
+        Ok(core) => {
+            let _config = core.config();
+            Ok(core)
+        }
+        Err(why) => Err(unlawful_fault(why)),
+    }
+}
+
+/// What `read_state` answers, by this thread alone, which hashes page by page.
+pub fn read_state_alone(alloc: Global, text: &[u8]) -> Result<KCore, StateFault>
+    requires { length text.now ≤ byte_limit }
+    ensures state { IfOk result (λ core. text.now ≡ state_text core) }
+    ensures core { IfOk result IsCoreState }
+    ensures refused { IfErr result (IsRefusedState text.now) }
+{
+    let told = read_told(alloc, text)?;
+    match core_alone(alloc, told) {
         Ok(core) => {
             let _config = core.config();
             Ok(core)

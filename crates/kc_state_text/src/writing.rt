@@ -87,7 +87,7 @@ fn push_images(text: &mut Vec<u8>, images: &[Image]) -> Result<(), Memory>
     Ok(())
 }
 
-fn push_short(text: &mut Vec<u8>, bytes: &[u8]) -> Result<(), Memory>
+pub fn push_short(text: &mut Vec<u8>, bytes: &[u8]) -> Result<(), Memory>
     ensures { OnOk result (text.new.items ≡ text.old.items ++ bytes.now) }
 {
     text.reserve(bytes.len())?;

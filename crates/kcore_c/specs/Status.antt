@@ -2,16 +2,26 @@
 use Rattle.std.specs.Prelude.{◌≡◌, ◌≤◌, ◌<◌, ◌+◌, ℕ, List, Option, Some, None, Ok, IsSome, length, map, take, drop, slice_get, option_map}
 use Rattle.std.specs.List.{concat}
 use Rattle.kc_types.specs.Configuration.{Configuration, slot_count}
-use Rattle.kc_types.specs.Limits.{call_limit, page_size}
+use Rattle.kc_types.specs.Limits.{byte_limit, call_limit, page_size}
 use Rattle.kc_types.specs.declared.call.Actor.{Actor}
 use Rattle.kc_types.specs.declared.config.ConfigFault.TheVariants as numbers
 use Rattle.kc_model.specs.State.{mapped_at}
 use Rattle.kc_model.specs.Custody.{custody_at}
+use Rattle.kc_model.specs.Volumes.{IsCoreState}
+use Rattle.kc_state.specs.Dumping.{dump_of}
+use Rattle.kc_state.specs.Form.{in_form}
+use Rattle.kc_state.specs.declared.form.StateForm.{StateForm}
+use Rattle.kc_state.specs.declared.form.StateForm.TheVariants.{Blank}
+use Rattle.kc_state_text.specs.Refused.{IsRefusedState}
+use Rattle.kc_state_text.specs.StateText.{state_text}
+use Rattle.kc_state_text.specs.declared.fault.StateFault.{StateFault}
+use Rattle.kc_state_text.specs.declared.fault.StateFault.TheVariants as states
+use Rattle.kc_dump_text.specs.DumpText.{dump_text}
 use Rattle.kc_trace.specs.ConfigText.{config_in, ConfigFails}
 use Rattle.kc_trace.specs.ReplyText.{longest_reply}
 use Rattle.kc_trace.specs.declared.config_text.ConfigTextFault.TheVariants as texts
 use Rattle.sha2.specs.Sha256.{sha256}
-use Rattle.kc_session.specs.Session.{Kept, new_session, turned, IsAnswer, IsUnanswered, lines_in, redacted_lines}
+use Rattle.kc_session.specs.Session.{Kept, new_session, begun, turned, IsAnswer, IsUnanswered, lines_in, redacted_lines}
 use Rattle.kc_session.specs.declared.session.Form.{Form}
 use Rattle.kc_session.specs.declared.session.AskFault.TheVariants as asks
 use Rattle.kcore_c.specs.Record.{record_of, change_of, IsNextOf, HasNoneOf}
@@ -22,7 +32,7 @@ use Rattle.kcore_c.specs.declared.record.Record.{Record}
 use Rattle.kcore_c.specs.declared.record.Change.{Change}
 use Rattle.kcore_c.specs.declared.record.Sizes.{Sizes}
 use Rattle.kcore_c.specs.declared.status.Status.{Status}
-use Rattle.kcore_c.specs.declared.status.Status.TheVariants.{Done, Closed, AlreadyOpen, Memory, NoRoom, NoSuchLine, NoSuchFrame, NoSuchChange, NoSuchCall, Ask, Config}
+use Rattle.kcore_c.specs.declared.status.Status.TheVariants.{Done, Closed, AlreadyOpen, Memory, NoRoom, NoSuchLine, NoSuchFrame, NoSuchChange, NoSuchCall, Ask, Config, TooLong, State}
 
 -- the numbers that C has for them
 abbrev pub code_of : Status → ℕ
@@ -46,6 +56,15 @@ code_of (Config (texts.Config numbers.CoreHost)) = 11
 code_of (Config (texts.Config numbers.Leaves)) = 12
 code_of (Config (texts.Config numbers.TooManyDigests)) = 13
 code_of (Config texts.Memory) = 3
+code_of TooLong = 18
+code_of (State states.NoHeader) = 19
+code_of (State (states.BadLine n)) = 20
+code_of (State (states.Missing f)) = 21
+code_of (State states.Sizes) = 22
+code_of (State (states.Found finding)) = 23
+code_of (State (states.Slot v)) = 24
+code_of (State (states.Frame f)) = 25
+code_of (State states.Memory) = 3
 
 -- the number is that of a status which says so
 abbrev pub IsCode : (Status → Type 0) → ℕ → Type 0
@@ -61,6 +80,51 @@ BootSays old new text Done = (old ≡ None) × IsBooted new text
 BootSays old new text AlreadyOpen = IsSome old × (new ≡ old)
 BootSays old new text (Config fault) = (old ≡ None) × (new ≡ None) × ConfigFails fault (config_in text)
 BootSays old new text _ = ⊥
+
+-- the number of the line, frame or slot that is at fault, or 0
+abbrev pub place_of : StateFault → ℕ
+place_of (states.BadLine n) = n
+place_of (states.Missing f) = f
+place_of (states.Slot v) = v
+place_of (states.Frame f) = f
+place_of _ = 0
+
+-- the session is that of a core in the state that the text tells, asked nothing yet
+abbrev pub IsResumed : Option Kept → List ℕ → Type 0
+IsResumed None text = ⊥
+IsResumed (Some kept) text = (kept ≡ begun kept.log.state) × (text ≡ state_text kept.log.state) × IsCoreState kept.log.state
+
+-- opening a session by the text of a state; a place is reported if the text is refused
+abbrev pub ResumeSays : Option Kept → Option Kept → List ℕ → ℕ → ℕ → Status → Type 0
+ResumeSays old new text before after Done = (old ≡ None) × IsResumed new text × (after ≡ before)
+ResumeSays old new text before after AlreadyOpen = IsSome old × (new ≡ old) × (after ≡ before)
+ResumeSays old new text before after TooLong = (old ≡ None) × (new ≡ None) × (byte_limit < length text) × (after ≡ before)
+ResumeSays old new text before after (State fault) = (old ≡ None) × (new ≡ None) × (length text ≤ byte_limit) × IsRefusedState text fault × (after ≡ place_of fault)
+ResumeSays old new text before after _ = ⊥
+
+-- telling the text of a session's state in a form, with room for so many bytes
+abbrev pub StateSays : StateForm → Option Kept → ℕ → List ℕ → Status → Type 0
+StateSays form (Some kept) room bytes Done = bytes ≡ state_text (in_form form kept.log.state)
+StateSays form (Some kept) room bytes NoRoom = room < length (state_text (in_form form kept.log.state))
+StateSays form (Some kept) room bytes Memory = Unit {0}
+StateSays form None room bytes Closed = Unit {0}
+StateSays form _ room bytes _ = ⊥
+
+-- telling the dump of a session's core, with room for so many bytes
+abbrev pub DumpSays : Option Kept → ℕ → List ℕ → Status → Type 0
+DumpSays (Some kept) room bytes Done = bytes ≡ dump_text (dump_of kept.log.state)
+DumpSays (Some kept) room bytes NoRoom = room < length (dump_text (dump_of kept.log.state))
+DumpSays (Some kept) room bytes Memory = Unit {0}
+DumpSays None room bytes Closed = Unit {0}
+DumpSays _ room bytes _ = ⊥
+
+-- telling the digest of the text of a session's blank state, with room for so many bytes
+abbrev pub BlankDigestSays : Option Kept → ℕ → List ℕ → Status → Type 0
+BlankDigestSays (Some kept) room bytes Done = bytes ≡ sha256 (state_text (in_form Blank kept.log.state))
+BlankDigestSays (Some kept) room bytes NoRoom = room < 32
+BlankDigestSays (Some kept) room bytes Memory = Unit {0}
+BlankDigestSays None room bytes Closed = Unit {0}
+BlankDigestSays _ room bytes _ = ⊥
 
 -- asking a session by a line, as an actor or as nobody, for a reply into a buffer of this many bytes
 abbrev pub CallSays : Option Actor → Option Kept → Option Kept → List ℕ → ℕ → List ℕ → Status → Type 0

@@ -15,8 +15,9 @@ ghost use Rattle.std.specs.Prelude.{◌≡◌, ◌≢◌, ◌≤◌, Some, None,
 ghost use Rattle.kc_trace.specs.ReplyText.{longest_reply};
 ghost use Rattle.kc_trace.specs.Spelling.{longest_call};
 ghost use Rattle.kc_session.specs.declared.session.Form.TheVariants.{Whole, Redacted};
+ghost use Rattle.kc_state.specs.declared.form.StateForm as forms;
 ghost use Rattle.kcore_c.specs.Record.{asking};
-ghost use Rattle.kcore_c.specs.Status.{IsCode, BootSays, CallSays, DoSays, ChangeSays, ChangesSays, RecordSays, FrameSays, NextSays, SizesSays, LineSays, DigestSays, TurnSays, EndSays};
+ghost use Rattle.kcore_c.specs.Status.{IsCode, BootSays, ResumeSays, StateSays, DumpSays, BlankDigestSays, CallSays, DoSays, ChangeSays, ChangesSays, RecordSays, FrameSays, NextSays, SizesSays, LineSays, DigestSays, TurnSays, EndSays};
 
 mod handle;
 mod look_ups;
@@ -27,6 +28,7 @@ mod status;
 
 pub use handle::Handle;
 use kc_session::Form;
+use kc_state::StateForm;
 use kc_trace::{LONGEST_CALL, LONGEST_REPLY};
 use record::asking;
 pub use record::{Change, Record, Sizes};
@@ -57,6 +59,20 @@ pub extern "C" fn kcore_boot(alloc: Global, core: &mut Handle, config: &[u8]) ->
     ensures { IsCode (BootSays core.old.held.session core.new.held.session config.now) result }
 {
     session::boot(alloc, core, config).code()
+}
+
+/// Opens a session whose core is in the state that a text tells, and that was asked nothing yet. If the text is refused,
+/// `place` is the number of the line, frame or slot that is at fault, or 0, and the handle stays as it is.
+#[unsafe(no_mangle)]
+pub extern "C" fn kcore_resume(
+    alloc: Global,
+    core: &mut Handle,
+    text: &[u8],
+    place: &mut u32,
+) -> u32
+    ensures { IsCode (ResumeSays core.old.held.session core.new.held.session text.now place.old place.new) result }
+{
+    session::resume(alloc, core, text, place).code()
 }
 
 /// Answers the call that a line is, given without its newline: the first `used` bytes of the buffer are the reply's
@@ -289,6 +305,77 @@ pub extern "C" fn kcore_digest(
     ensures same { core.new.held.session ≡ core.old.held.session }
 {
     session::digest(alloc, core, out, used).code()
+}
+
+/// Tells the text of the core's state: what `kcore_resume` opens again, and what `kcore replay --state` writes. The bytes
+/// after the first `used` stay; if no text is given, `used` is 0.
+#[unsafe(no_mangle)]
+pub extern "C" fn kcore_state(
+    alloc: Global,
+    core: &mut Handle,
+    out: &mut [u8],
+    used: &mut usize,
+) -> u32
+    ensures says { IsCode (StateSays forms.TheVariants.Whole core.old.held.session (length out.old) (take used.new out.new)) result }
+    ensures within { used.new ≤ length out.new }
+    ensures rest { drop used.new out.new ≡ drop used.new out.old }
+    ensures nothing { result ≢ 0 → used.new ≡ 0 }
+    ensures same { core.new.held.session ≡ core.old.held.session }
+{
+    session::state(alloc, core, StateForm::Whole, out, used).code()
+}
+
+/// Does what `kcore_state` does, with zero pages in place of those of active VMs.
+#[unsafe(no_mangle)]
+pub extern "C" fn kcore_blank_state(
+    alloc: Global,
+    core: &mut Handle,
+    out: &mut [u8],
+    used: &mut usize,
+) -> u32
+    ensures says { IsCode (StateSays forms.TheVariants.Blank core.old.held.session (length out.old) (take used.new out.new)) result }
+    ensures within { used.new ≤ length out.new }
+    ensures rest { drop used.new out.new ≡ drop used.new out.old }
+    ensures nothing { result ≢ 0 → used.new ≡ 0 }
+    ensures same { core.new.held.session ≡ core.old.held.session }
+{
+    session::state(alloc, core, StateForm::Blank, out, used).code()
+}
+
+/// Tells the SHA-256 digest of the text that `kcore_blank_state` tells, which has 32 bytes. The bytes after the first `used`
+/// stay; if no digest is given, `used` is 0.
+#[unsafe(no_mangle)]
+pub extern "C" fn kcore_blank_digest(
+    alloc: Global,
+    core: &mut Handle,
+    out: &mut [u8],
+    used: &mut usize,
+) -> u32
+    ensures says { IsCode (BlankDigestSays core.old.held.session (length out.old) (take used.new out.new)) result }
+    ensures within { used.new ≤ length out.new }
+    ensures rest { drop used.new out.new ≡ drop used.new out.old }
+    ensures nothing { result ≢ 0 → used.new ≡ 0 }
+    ensures same { core.new.held.session ≡ core.old.held.session }
+{
+    session::blank_digest(alloc, core, out, used).code()
+}
+
+/// Tells the dump of the core, as `kcore replay --dump` writes it. The bytes after the first `used` stay; if no dump is
+/// given, `used` is 0.
+#[unsafe(no_mangle)]
+pub extern "C" fn kcore_dump(
+    alloc: Global,
+    core: &mut Handle,
+    out: &mut [u8],
+    used: &mut usize,
+) -> u32
+    ensures says { IsCode (DumpSays core.old.held.session (length out.old) (take used.new out.new)) result }
+    ensures within { used.new ≤ length out.new }
+    ensures rest { drop used.new out.new ≡ drop used.new out.old }
+    ensures nothing { result ≢ 0 → used.new ≡ 0 }
+    ensures same { core.new.held.session ≡ core.old.held.session }
+{
+    session::dump(alloc, core, out, used).code()
 }
 
 /// Begins the session's next volume, with the core as it is: the lines from then on are of the next one.

@@ -1,14 +1,22 @@
 //! What is done with the session behind a handle.
 ghost use Rattle.std.specs.Prelude.{◌≡◌, ◌≢◌, ◌≤◌, Some, None, length, take, drop, IfOk, IfErr};
 ghost use Rattle.kc_trace.specs.ConfigText.{config_in, ConfigFails};
-ghost use Rattle.kcore_c.specs.Status.{BootSays, CallSays, DoSays, LineSays, DigestSays, TurnSays, EndSays, IsBooted};
+ghost use Rattle.kcore_c.specs.Status.{BootSays, CallSays, DoSays, LineSays, DigestSays, ResumeSays, StateSays, DumpSays, BlankDigestSays, IsResumed, TurnSays, EndSays, IsBooted, place_of};
+ghost use Rattle.kc_types.specs.Limits.{byte_limit};
+ghost use Rattle.kc_state.specs.Dumping.{dump_of};
+ghost use Rattle.kc_state_text.specs.Refused.{IsRefusedState};
+ghost use Rattle.kc_dump_text.specs.DumpText.{dump_text};
 
 use crate::handle::Handle;
 use crate::request::{Answer, Request, answer_of, bytes_of, requested};
 use crate::status::Status;
+use kc_core::KCore;
+use kc_dump_text::write_dump;
 use kc_session::{Form, Session};
+use kc_state::{StateForm, dump_alone};
+use kc_state_text::{StateFault, state_digest, whole_text};
 use kc_trace::{ConfigTextFault, LONGEST_REPLY, read_config};
-use kc_types::{Actor, PAGE_SIZE};
+use kc_types::{Actor, BYTE_LIMIT, Memory, PAGE_SIZE};
 use std::alloc::Global;
 
 /// How many bytes a digest has.
@@ -51,6 +59,53 @@ pub fn boot(alloc: Global, core: &mut Handle, text: &[u8]) -> Status
             Status::Done
         }
         Err(fault) => Status::Config(fault),
+    }
+}
+
+/// The number of the line, frame or slot that is at fault, or 0.
+fn place_of(fault: &StateFault) -> u32
+    ensures { result ≡ place_of fault.now }
+{
+    match fault {
+        StateFault::BadLine(number)
+        | StateFault::Missing(number)
+        | StateFault::Slot(number)
+        | StateFault::Frame(number) => *number,
+        StateFault::NoHeader | StateFault::Sizes | StateFault::Found(_) | StateFault::Memory => 0,
+    }
+}
+
+fn resumed(alloc: Global, text: &[u8]) -> Result<Box<Session>, StateFault>
+    requires { length text.now ≤ byte_limit }
+    ensures session { IfOk result (λ session. IsResumed (Some session.value) text.now) }
+    ensures fault { IfErr result (IsRefusedState text.now) }
+{
+    let session = Session::resume(alloc, text)?;
+    match Box::new(alloc, session) {
+        Ok(session) => Ok(session),
+        Err(_) => Err(StateFault::Memory),
+    }
+}
+
+/// Opens a session by the text of a state.
+pub fn resume(alloc: Global, core: &mut Handle, text: &[u8], place: &mut u32) -> Status
+    ensures { ResumeSays core.old.held.session core.new.held.session text.now place.old place.new result }
+{
+    if core.is_open() {
+        return Status::AlreadyOpen;
+    }
+    if text.len() > BYTE_LIMIT {
+        return Status::TooLong;
+    }
+    match resumed(alloc, text) {
+        Ok(session) => {
+            core.put(session);
+            Status::Done
+        }
+        Err(fault) => {
+            *place = place_of(&fault);
+            Status::State(fault)
+        }
     }
 }
 
@@ -195,6 +250,103 @@ pub fn digest(alloc: Global, core: &mut Handle, out: &mut [u8], used: &mut usize
     put_digest(out, &told);
     *used = DIGEST;
     Status::Done
+}
+
+/// Tells the text of the session's state in a form into `out`.
+pub fn state(
+    alloc: Global,
+    core: &mut Handle,
+    form: StateForm,
+    out: &mut [u8],
+    used: &mut usize,
+) -> Status
+    ensures says { StateSays form core.old.held.session (length out.old) (take used.new out.new) result }
+    ensures within { used.new ≤ length out.new }
+    ensures rest { drop used.new out.new ≡ drop used.new out.old }
+    ensures nothing { result ≢ Status.Done → used.new ≡ 0 }
+    ensures same { core.new.held.session ≡ core.old.held.session }
+{
+    *used = 0;
+    let Some(session) = core.take(alloc) else {
+        return Status::Closed;
+    };
+    let told = whole_text(alloc, session.core(), form);
+    core.put(session);
+    match told {
+        Ok(text) => {
+            let told = text.as_slice();
+            if out.len() < told.len() {
+                return Status::NoRoom;
+            }
+            out[..told.len()].copy_from_slice(told);
+            *used = told.len();
+            Status::Done
+        }
+        Err(_) => Status::Memory,
+    }
+}
+
+/// The text of a core's dump.
+fn dumped(alloc: Global, core: &KCore) -> Result<Vec<u8>, Memory>
+    ensures { IfOk result (λ text. text.items ≡ dump_text (dump_of core.now)) }
+{
+    let dump = dump_alone(alloc, core, StateForm::Whole)?;
+    write_dump(alloc, &dump)
+}
+
+/// Tells the dump of the session's core into `out`.
+pub fn dump(alloc: Global, core: &mut Handle, out: &mut [u8], used: &mut usize) -> Status
+    ensures says { DumpSays core.old.held.session (length out.old) (take used.new out.new) result }
+    ensures within { used.new ≤ length out.new }
+    ensures rest { drop used.new out.new ≡ drop used.new out.old }
+    ensures nothing { result ≢ Status.Done → used.new ≡ 0 }
+    ensures same { core.new.held.session ≡ core.old.held.session }
+{
+    *used = 0;
+    let Some(session) = core.take(alloc) else {
+        return Status::Closed;
+    };
+    let told = dumped(alloc, session.core());
+    core.put(session);
+    match told {
+        Ok(told) => {
+            if out.len() < told.len() {
+                return Status::NoRoom;
+            }
+            out[..told.len()].copy_from_slice(&told);
+            *used = told.len();
+            Status::Done
+        }
+        Err(_) => Status::Memory,
+    }
+}
+
+/// Tells the digest of the text of the session's blank state into `out`.
+pub fn blank_digest(alloc: Global, core: &mut Handle, out: &mut [u8], used: &mut usize) -> Status
+    ensures says { BlankDigestSays core.old.held.session (length out.old) (take used.new out.new) result }
+    ensures within { used.new ≤ length out.new }
+    ensures rest { drop used.new out.new ≡ drop used.new out.old }
+    ensures nothing { result ≢ Status.Done → used.new ≡ 0 }
+    ensures same { core.new.held.session ≡ core.old.held.session }
+{
+    *used = 0;
+    let Some(session) = core.take(alloc) else {
+        return Status::Closed;
+    };
+    if out.len() < DIGEST {
+        core.put(session);
+        return Status::NoRoom;
+    }
+    let told = state_digest(alloc, session.core(), StateForm::Blank);
+    core.put(session);
+    match told {
+        Ok(told) => {
+            put_digest(out, &told);
+            *used = DIGEST;
+            Status::Done
+        }
+        Err(_) => Status::Memory,
+    }
 }
 
 /// Begins the session's next volume.

@@ -3,6 +3,7 @@ ghost use Rattle.std.specs.Prelude.{◌≡◌};
 ghost use Rattle.kcore_c.specs.Status.{code_of};
 
 use kc_session::AskFault;
+use kc_state_text::StateFault;
 use kc_trace::ConfigTextFault;
 use kc_types::ConfigFault;
 
@@ -31,6 +32,10 @@ pub enum Status {
     Ask(AskFault),
     /// The text is no configuration.
     Config(ConfigTextFault),
+    /// The text has more than 1,073,741,824 bytes.
+    TooLong,
+    /// The text is no lawful state's.
+    State(StateFault),
 }
 
 impl Status {
@@ -59,6 +64,15 @@ impl Status {
             Status::Config(ConfigTextFault::Config(ConfigFault::Leaves)) => 12,
             Status::Config(ConfigTextFault::Config(ConfigFault::TooManyDigests)) => 13,
             Status::Config(ConfigTextFault::Memory) => 3,
+            Status::TooLong => 18,
+            Status::State(StateFault::NoHeader) => 19,
+            Status::State(StateFault::BadLine(_)) => 20,
+            Status::State(StateFault::Missing(_)) => 21,
+            Status::State(StateFault::Sizes) => 22,
+            Status::State(StateFault::Found(_)) => 23,
+            Status::State(StateFault::Slot(_)) => 24,
+            Status::State(StateFault::Frame(_)) => 25,
+            Status::State(StateFault::Memory) => 3,
         }
     }
 }

@@ -1,9 +1,9 @@
-use Rattle.std.proofs.Common.{rules, ◌≡◌}
-use Rattle.kc_live.specs.Book.{longer}
-use Rattle.kc_session.proofs.Traced.{longer_seen}
+use Rattle.kc_session.proofs.Traced.{more_seen}
 use Rattle.kc_session.proofs.session.Session.make.Goals as goal
 
 pub invariant_of-self-2 : goal.invariant_of-self-2
 invariant_of-self-2 c =
-    let made : c.step.new.self ≡ longer c.self.inside.book c.args.call = search rules in
-    longer_seen c.self.inside.book c.step.new.self c.args.call c.self.inside.seen c.self.inside.witness made c.requires c.self.invariant
+    let before = c.self.invariant in
+    let ranged = rw (c.make-entry.ensures.entry, c.in_ok-ready.ensures) c.requires in
+    let seen = more_seen c.self.inside.entries.items c.push_reserved.new.self.items c.make-entry.result.0 c.self.inside.seen c.self.inside.witness c.push_reserved.ensures.items ranged before.0 before.1 before.2 (omega (arith)) in
+    (seen.0, seen.1, seen.2, seen.3, rw c.push_reserved.ensures.capacity before.4)

@@ -1,25 +1,30 @@
 use Rattle.std.proofs.Common.{◌<◌, ◌∙◌, ◌++◌, length, ap, refl, arith, rules}
+use Rattle.kc_state.specs.Form.{in_form}
+use Rattle.kc_state.proofs.InForm.{long_in}
 use Rattle.kc_state_text.specs.Pieces.{to_come}
-use Rattle.kc_state_text.proofs.ToCome.{page_given, bytes_there}
+use Rattle.kc_state_text.proofs.ToCome.{page_given}
 use Rattle.kc_state_text.proofs.pieces.StatePieces.give_pages.Goals as goal
 
 pub pages-preserved : goal.pages-preserved
 pages-preserved c =
     let m = c.args.core.now in
-    let bytes = bytes_there m _ _ c.unwrap.result c.bytes.ensures.value c.unwrap.ensures in
-    let low : c.pages.self-inside.page < length m.frames = omega (arith, c.config.ensures.lawful.frames, c.pages.invariant.page) in
+    let form = c.pages.self-inside.form in
+    let here = long_in form m in
+    let low : c.pages.self-inside.page < length (in_form form m).frames = omega (arith, here, c.config.ensures.lawful.frames, c.pages.invariant.page) in
     record {
-      given = page_given m _ _ _ _ _ low c.pages.invariant.front c.pages.invariant.front refl refl c.pages.invariant.given (rw bytes at c.push_page.ensures.items);
+      given = page_given m _ _ _ _ _ low refl c.pages.invariant.front c.pages.invariant.front refl refl c.pages.invariant.given (rw c.bytes_in.ensures at c.push_page.ensures.items);
       room = search rules;
       capacity = search rules;
       front = c.pages.invariant.front;
+      zero = c.pages.invariant.zero;
       page = search rules;
     }
 
 pub returns-then-self-count-clause-given : goal.returns-then-self-count-clause-given
 returns-then-self-count-clause-given c =
     let m = c.args.core.now in
-    let bytes = bytes_there m _ _ c.unwrap.result c.bytes.ensures.value c.unwrap.ensures in
-    let low : c.pages.self-inside.page < length m.frames = omega (arith, c.config.ensures.lawful.frames, c.pages.invariant.page) in
-    page_given m _ _ _ _ _ low c.pages.invariant.front c.pages.invariant.front refl refl c.pages.invariant.given (rw bytes at c.push_page.ensures.items)
+    let form = c.pages.self-inside.form in
+    let here = long_in form m in
+    let low : c.pages.self-inside.page < length (in_form form m).frames = omega (arith, here, c.config.ensures.lawful.frames, c.pages.invariant.page) in
+    page_given m _ _ _ _ _ low refl c.pages.invariant.front c.pages.invariant.front refl refl c.pages.invariant.given (rw c.bytes_in.ensures at c.push_page.ensures.items)
     ∙ ap (λ pieces. c.args.piece.now.items ++ to_come m pieces) c.self.view_is

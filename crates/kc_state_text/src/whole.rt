@@ -1,0 +1,65 @@
+//! The whole text of a core's state, made by the thread that asks.
+ghost use Rattle.std.specs.Prelude.{◌≡◌, ◌≤◌, ◌++◌, vec_capacity, IfOk, OnOk};
+ghost use Rattle.sha2.specs.Sha256.{sha256};
+ghost use Rattle.kc_state.specs.Form.{in_form};
+ghost use Rattle.kc_state_text.specs.StateText.{state_text};
+ghost use Rattle.kc_state_text.specs.Pieces.{longest_page_line, to_come};
+
+use crate::pieces::StatePieces;
+use crate::writing::push_short;
+use kc_core::KCore;
+use kc_state::StateForm;
+use kc_types::{Memory, SecretBytes};
+use sha2::{Digest, Sha256};
+use std::alloc::Global;
+
+/// How much of a text is appended at once, in bytes.
+const PIECE: usize = 65_536;
+
+/// Appends all that is to come.
+fn push_pieces(
+    text: &mut Vec<u8>,
+    core: &KCore,
+    pieces: StatePieces,
+    piece: &mut Vec<u8>,
+) -> Result<(), Memory>
+    requires { longest_page_line ≤ vec_capacity piece.old }
+    ensures { OnOk result (text.new.items ≡ text.old.items ++ to_come core.now pieces) }
+{
+    let mut pieces = pieces;
+    'pieces: loop {
+        pieces.fill(core, piece);
+        if piece.is_empty() {
+            return Ok(());
+        }
+        push_short(text, piece.as_slice())?;
+    }
+}
+
+/// The text of a core's state in a form, for which memory is taken once. `Memory` where a growth was refused. What held
+/// pieces of it is wiped, and so is the text when it is dropped.
+pub fn whole_text(alloc: Global, core: &KCore, form: StateForm) -> Result<SecretBytes, Memory>
+    // No clause can rule out that memory runs out: tests ask for states.
+    ensures { IfOk result (λ text. text ≡ state_text (in_form form core.now)) }
+{
+    let pieces = StatePieces::alone(alloc, core, form)?;
+    let mut piece = Vec::with_capacity(alloc, PIECE)?;
+    let mut text = Vec::with_capacity(alloc, pieces.most(core))?;
+    let pushed = push_pieces(&mut text, core, pieces, &mut piece);
+    let _zeroed = SecretBytes::new(piece);
+    let text = SecretBytes::new(text);
+    match pushed {
+        Ok(()) => Ok(text),
+        Err(_) => Err(Memory),
+    }
+}
+
+/// The SHA-256 digest of the text of a core's state in a form: what `sha256sum` prints of it. `Memory` where a growth was
+/// refused.
+pub fn state_digest(alloc: Global, core: &KCore, form: StateForm) -> Result<[u8; 32], Memory>
+    // No clause can rule out that memory runs out: tests ask for digests.
+    ensures { IfOk result (λ digest. digest ≡ sha256 (state_text (in_form form core.now))) }
+{
+    let text = whole_text(alloc, core, form)?;
+    Ok(Sha256::digest(text.as_slice()))
+}
