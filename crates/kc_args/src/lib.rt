@@ -1,4 +1,4 @@
-//! The words after the program's name, and what they ask for.
+//! The command line, and what it asks for.
 #![tactic(auto)]
 
 mod job;

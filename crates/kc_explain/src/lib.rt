@@ -1,9 +1,11 @@
-//! What is said beside a fault's line: why a line of a trace is no call, what a text looks like that is no trace, which key
-//! of a configuration is wrong, and how far a long read is. What is said is tested, and no clause speaks of it; what is
-//! read through its sources is what their own sources give.
+//! What is said beside a fault's line: why a line of a trace is not a call, or a line of a dump or a state's text none of it,
+//! what a text looks like that is not a trace, which key of a configuration is wrong, and how far a long read is. What is said
+//! is tested, and no clause speaks of it; what is read through its sources is what their own sources give.
 #![tactic(auto)]
 
 mod config_key;
+mod dump_line;
+mod finder;
 mod look;
 mod masked;
 mod noted;
@@ -12,7 +14,9 @@ mod shown;
 mod trace_line;
 
 pub use config_key::explain_config;
-pub use look::{Kind, Look, look_of};
+pub use dump_line::fault_of_text_line;
+pub use finder::LineFinder;
+pub use look::{Header, Look, look_of};
 pub use masked::{Masked, Shortened};
 pub use noted::Noted;
 pub use progress::Progress;
