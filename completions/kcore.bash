@@ -24,5 +24,13 @@ _kcore() {
         help) [ "$COMP_CWORD" -gt 2 ] || words='replay live custody audit redact help' ;;
     esac
     mapfile -t COMPREPLY < <(compgen -W "$words" -- "$word")
+    # The trace or dump that a command reads.
+    case $command in
+        replay | live | custody | audit | redact)
+            [ "${word:0:1}" = - ] && return
+            [ "$word" ] && COMPREPLY=()
+            mapfile -t -O ${#COMPREPLY[@]} COMPREPLY < <(compgen -f -- "$word")
+            compopt -o filenames 2> /dev/null ;;
+    esac
 }
 complete -F _kcore kcore

@@ -12,6 +12,7 @@ complete -c kcore -n __fish_use_subcommand -s V -l version -d 'Print the version
 complete -c kcore -n "__fish_seen_subcommand_from help; and not __fish_seen_subcommand_from $commands[1..5]" \
     -a "$commands"
 
+complete -c kcore -n '__fish_seen_subcommand_from replay live custody audit redact' -F
 complete -c kcore -n 'not __fish_seen_subcommand_from help' -s h -l help -d 'Print help'
 complete -c kcore -n '__fish_seen_subcommand_from replay live custody redact' -l config -rF -d 'The machine, as JSON'
 complete -c kcore -n '__fish_seen_subcommand_from replay custody redact' -l from -rF -d 'Begin in this state'

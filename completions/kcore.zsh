@@ -16,6 +16,7 @@ _kcore() {
     local all='--all[write each finding]'
     local host='--host[blank also what the host writes to active VMs]'
     local explain='--explain[say more of a fault]'
+    local file='1::file:_files'
     local -a help=('(-h --help)'{-h,--help}'[print help]')
     local -a version=('(-V --version)'{-V,--version}'[print the version]')
     local -a commands=(
@@ -35,11 +36,11 @@ _kcore() {
         *) return ;;
     esac
     case $words[1] in
-        replay) _arguments $config $from $to $workers $dump $state_text $blank $explain $help ;;
-        live) _arguments $config $workers $explain $help ;;
-        custody) _arguments $config $from $vm $summary $svg $refused $accesses $explain $help ;;
-        audit) _arguments $all $explain $help ;;
-        redact) _arguments $config $from $host $explain $help ;;
+        replay) _arguments $config $from $to $workers $dump $state_text $blank $explain $help $file ;;
+        live) _arguments $config $workers $explain $help $file ;;
+        custody) _arguments $config $from $vm $summary $svg $refused $accesses $explain $help $file ;;
+        audit) _arguments $all $explain $help $file ;;
+        redact) _arguments $config $from $host $explain $help $file ;;
         help) (( CURRENT > 2 )) || _describe -t commands command commands ;;
     esac
 }

@@ -278,7 +278,8 @@ def check_completions(tree, known, commands, top):
 
 def check_options(tree, program):
     known = {command: set(OPTION.findall(help_of(program, command))) for command in COMMANDS}
-    top = help_of(program)
+    # (the options of its examples are those of commands)
+    top = help_of(program).partition("Examples:")[0]
     commands = re.findall(r"^  ([a-z]+) ", top.partition("Commands:")[2].partition("Options:")[0], re.M)
     yield "docs: the commands of the program", differing(COMMANDS, set(commands) - {"help"})
     yield from check_page(tree, known, commands, set(OPTION.findall(top)).union(*known.values()))

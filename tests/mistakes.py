@@ -29,7 +29,7 @@ MISTAKES = (
     Mistake("commands", "docs/OPERATE.md", '    {"findings":0,', '    {"findings":2,'),
     Mistake("commands", "docs/AUDIT.md", "    3 0 1 7 0\n", ""),
     Mistake("commands", "docs/kcore.1", "data aa\n", "data aa\ndone\n"),
-    Mistake("commands", "docs/kcore.1", "state2 < trace2", "state1 < trace2"),
+    Mistake("commands", "docs/kcore.1", "state2 trace2", "state1 trace2"),
     Mistake("contracts", "crates/kc_core/src/dispatch.rt", "ensures reply {", "ensures answered {"),
     Mistake("contracts", "crates/kc_cli/src/custody.rt", "ensures texts {", "ensures faults {"),
     Mistake("contracts", "crates/kc_links/src/list.rt", "fn splice", "fn join"),

@@ -26,7 +26,7 @@ class Step:
 
     def lacks(self):
         """The program of the command that is not here."""
-        tools = [tool for tool in ("jq", "parallel", "cc") if re.search(rf"(^|\| ?){tool} ", self.command)]
+        tools = [tool for tool in ("jq", "parallel", "cc", "ssh-keygen") if re.search(rf"(^|\| ?){tool} ", self.command)]
         return next((tool for tool in tools if not shutil.which(tool)), None)
 
 

@@ -16,7 +16,7 @@ use Rattle.clap.proofs.WalkLemmas.{byte_read}
 use Rattle.clap.proofs.OnLiterals.{clap_on_literals}
 use Rattle.kc_args.specs.declared.job.Job.{Job}
 use Rattle.kc_args.specs.declared.job.ArgFault.{ArgFault}
-use Rattle.kc_args.specs.declared.job.ArgFault.TheVariants.{Memory, Words}
+use Rattle.kc_args.specs.declared.job.ArgFault.TheVariants.{Memory, Message}
 use Rattle.kc_args.specs.Commands.{kcore}
 use Rattle.kc_args.specs.Jobs.{Asks, IsJobIn, HasStatus, IsRefusal}
 
@@ -36,8 +36,8 @@ asked_in : (entered : Entered) (name : Text) (rows : List Row) (job : Job) → S
 asked_in None name rows job n e h = absurd cc
 asked_in (Some found) name rows job n e h = let same : found.1 ≡ rows = cc in let named : found.0 ≡ name = cc in rw (same, named) h
 
-pub asked_within : (words : List Text) (entered : Entered) (name : Text) (rows : List Row) (job : Job) → entered ≡ subcommand_of kcore words → Some name ≡ option_map (λ p. p.0) entered → Some rows ≡ option_map (λ p. p.1) entered → IsJobIn name rows job → Asks (subcommand_of kcore words) job
-asked_within words entered name rows job is n e h = rw is at (asked_in entered name rows job n e h)
+pub asked_within : (arguments : List Text) (entered : Entered) (name : Text) (rows : List Row) (job : Job) → entered ≡ subcommand_of kcore arguments → Some name ≡ option_map (λ p. p.0) entered → Some rows ≡ option_map (λ p. p.1) entered → IsJobIn name rows job → Asks (subcommand_of kcore arguments) job
+asked_within arguments entered name rows job is n e h = rw is at (asked_in entered name rows job n e h)
 
 named_in : {Z : Type 0} (found : Option (Box SubCommand Z)) → option_map (λ b. (out-SubCommand (box_value b)).name.now) found ≡ option_map (λ p. p.0) (subcommand_rows found)
 named_in None = refl
@@ -47,10 +47,10 @@ named_in (Some b) = refl
 pub named : (m : ArgMatches) → subcommand_name_of m ≡ option_map (λ p. p.0) (subcommand_rows_of m)
 named m = named_in (out-ArgMatches m).subcommand
 
-pub refused_for : (words : List Text) (app : App) (kind : ErrorKind) (fault : ArgFault) → app ≡ kcore → (kind ≡ OutOfMemory) ⊎ IsAmong kind (fault_of app words) → HasStatus kind fault → IsRefusal words fault
-refused_for words app kind Memory same among h = tt
-refused_for words app kind (Words text status) same (inl none) h = absurd (h.0 none)
-refused_for words app kind (Words text status) same (inr among) h = (kind, rw same at among, h.1)
+pub refused_for : (arguments : List Text) (app : App) (kind : ErrorKind) (fault : ArgFault) → app ≡ kcore → (kind ≡ OutOfMemory) ⊎ IsAmong kind (fault_of app arguments) → HasStatus kind fault → IsRefusal arguments fault
+refused_for arguments app kind Memory same among h = tt
+refused_for arguments app kind (Message text status) same (inl none) h = absurd (h.0 none)
+refused_for arguments app kind (Message text status) same (inr among) h = (kind, rw same at among, h.1)
 
 -- what is read of an option, as a byte, is what its text says
 pub number_read : {E : Type 0} (f : ℕ → ℕ) (G : Text → Result ℕ E → Type 0) (said : Option Text) (read : Option ℕ) → ((text : Text) (r : Result ℕ E) → G text r → ParsesUnsigned 8 10 text r)
@@ -60,5 +60,5 @@ number_read {E} f G None read gives none value = rw (none refl) refl
 number_read {E} f G (Some text) (Some n) gives none value = ap f (byte_read {E = E} text (Ok n) (gives text (Ok n) (value text refl)))
 number_read {E} f G (Some text) None gives none value = let read = value text refl in ap f (byte_read {E = E} text (Err read.0) (gives text (Err read.0) read.1))
 
-pub nothing_refused : (words : List Text) (app : App) → app ≡ kcore → fault_of app words ≡ [] → fault_of kcore words ≡ []
-nothing_refused words app same none = rw same at none
+pub nothing_refused : (arguments : List Text) (app : App) → app ≡ kcore → fault_of app arguments ≡ [] → fault_of kcore arguments ≡ []
+nothing_refused arguments app same none = rw same at none

@@ -57,20 +57,24 @@ host_rule = record (new_rule (codes "host")) { long = Some (codes "host"); actio
 abbrev pub explain_rule : Rule
 explain_rule = record (new_rule (codes "explain")) { long = Some (codes "explain"); action = Some SetTrue }
 
+-- the file that a subcommand reads in place of standard input: an argument without a name
+abbrev pub file_rule : Rule
+file_rule = record (new_rule (codes "file")) { value_names = 1 }
+
 abbrev pub replay : App
-replay = with_rule (with_rule (with_rule (with_rule (with_rule (with_rule (with_rule (with_rule (new_app (codes "replay")) config_rule) from_rule) to_rule) workers_rule) dump_rule) state_rule) blank_rule) explain_rule
+replay = with_rule (with_rule (with_rule (with_rule (with_rule (with_rule (with_rule (with_rule (with_rule (new_app (codes "replay")) config_rule) from_rule) to_rule) workers_rule) dump_rule) state_rule) blank_rule) explain_rule) file_rule
 
 abbrev pub live : App
-live = with_rule (with_rule (with_rule (new_app (codes "live")) config_rule) workers_rule) explain_rule
+live = with_rule (with_rule (with_rule (with_rule (new_app (codes "live")) config_rule) workers_rule) explain_rule) file_rule
 
 abbrev pub custody : App
-custody = with_rule (with_rule (with_rule (with_rule (with_rule (with_rule (with_rule (with_rule (new_app (codes "custody")) config_rule) from_rule) vm_rule) summary_rule) svg_rule) refused_rule) accesses_rule) explain_rule
+custody = with_rule (with_rule (with_rule (with_rule (with_rule (with_rule (with_rule (with_rule (with_rule (new_app (codes "custody")) config_rule) from_rule) vm_rule) summary_rule) svg_rule) refused_rule) accesses_rule) explain_rule) file_rule
 
 abbrev pub audit : App
-audit = with_rule (with_rule (new_app (codes "audit")) all_rule) explain_rule
+audit = with_rule (with_rule (with_rule (new_app (codes "audit")) all_rule) explain_rule) file_rule
 
 abbrev pub redact : App
-redact = with_rule (with_rule (with_rule (with_rule (new_app (codes "redact")) config_rule) from_rule) host_rule) explain_rule
+redact = with_rule (with_rule (with_rule (with_rule (with_rule (new_app (codes "redact")) config_rule) from_rule) host_rule) explain_rule) file_rule
 
 -- the command with `replay` alone
 abbrev pub base : App

@@ -1,5 +1,5 @@
--- What words ask for, and which are refused.
-use Rattle.std.specs.Prelude.{◌≡◌, ◌≢◌, ◌↔◌, ◌&&◌, false, IsTrue, ℕ, nat_le, List, [], codes, Option, Some, None, option_map, if◌then◌else◌}
+-- What a command line asks for, and which one is refused.
+use Rattle.std.specs.Prelude.{◌≡◌, ◌≢◌, ◌⊎◌, ◌↔◌, ◌&&◌, false, IsTrue, ℕ, nat_le, List, [], codes, Option, Some, None, option_map, if◌then◌else◌}
 use Rattle.std.specs.Option.{option_map_or}
 use Rattle.std.specs.Borrow.{Bor}
 use Rattle.clap.specs.Words.{Text, Row, first_of, one_of, subcommand_of, fault_of, IsAmong}
@@ -10,26 +10,26 @@ use Rattle.kc_types.specs.Limits.{worker_limit}
 use Rattle.kc_args.specs.declared.job.Job.{Job}
 use Rattle.kc_args.specs.declared.job.Job.TheVariants.{Replay, Live, Custody, Audit, Redact}
 use Rattle.kc_args.specs.declared.job.ArgFault.{ArgFault}
-use Rattle.kc_args.specs.declared.job.ArgFault.TheVariants.{Memory, Words}
+use Rattle.kc_args.specs.declared.job.ArgFault.TheVariants.{Memory, Message}
 use Rattle.kc_args.specs.Commands.{kcore}
 
 -- 1 to 64: the command's rules let no other number of workers through
 abbrev pub in_range : ℕ → ℕ
 in_range n = if nat_le 1 n && nat_le n worker_limit then n else 1
 
--- the number of workers that the words say; 1 where they say none
+-- the number of workers that is named; 1 if none is
 abbrev pub workers_in : List Row → ℕ
 workers_in rows = option_map_or (λ text. in_range (byte_or_zero text)) (one_of (codes "workers") rows) 1
 
--- the number behind `--vm`
+-- the number after `--vm`
 abbrev pub slot_in : List Row → ℕ
 slot_in rows = option_map_or byte_or_zero (one_of (codes "vm") rows) 0
 
--- the slot that the words name, where they name one
+-- the slot that is named, if one is
 abbrev pub vm_in : List Row → Option ℕ
 vm_in rows = option_map (λ text. slot_in rows) (first_of (codes "vm") rows)
 
--- the path behind this option is that of the rows
+-- the path after this option is that of the rows
 abbrev pub HasPath : Text → List Row → Option (Bor Text) → Type 0
 HasPath option rows path = option_map (λ s. s.now) path ≡ first_of option rows
 
@@ -37,36 +37,41 @@ HasPath option rows path = option_map (λ s. s.now) path ≡ first_of option row
 abbrev pub HasOptions : List Row → Option (Bor Text) → ℕ → Type 0
 HasOptions rows config workers = HasPath (codes "config") rows config × (workers ≡ workers_in rows)
 
--- the flag stands among the words
+-- the flag is given
 abbrev pub IsSet : Text → List Row → Type 0
 IsSet flag rows = first_of flag rows ≡ Some (codes "true")
 
+-- the file that is read; `-`, and no file, is standard input
+abbrev pub HasInput : List Row → Option (Bor Text) → Type 0
+HasInput rows None = (first_of (codes "file") rows ≡ None) ⊎ (first_of (codes "file") rows ≡ Some (codes "-"))
+HasInput rows (Some name) = (first_of (codes "file") rows ≡ Some name.now) × (name.now ≢ codes "-")
+
 -- what the subcommand of this name asks for, by the rows of its options: there are `replay`, `live`, `custody`, `audit` and `redact` alone
 abbrev pub IsJobIn : Text → List Row → Job → Type 0
-IsJobIn name rows (Replay config from to workers dump state blank explain) = (name ≢ codes "live") × (name ≢ codes "custody") × (name ≢ codes "audit") × (name ≢ codes "redact") × HasOptions rows config workers × HasPath (codes "from") rows from × HasPath (codes "to") rows to
+IsJobIn name rows (Replay input config from to workers dump state blank explain) = (name ≢ codes "live") × (name ≢ codes "custody") × (name ≢ codes "audit") × (name ≢ codes "redact") × HasInput rows input × HasOptions rows config workers × HasPath (codes "from") rows from × HasPath (codes "to") rows to
     × (IsTrue dump ↔ IsSet (codes "dump") rows) × (IsTrue state ↔ IsSet (codes "state") rows) × (IsTrue blank ↔ IsSet (codes "blank") rows) × (IsTrue explain ↔ IsSet (codes "explain") rows)
-IsJobIn name rows (Live config workers explain) = (name ≡ codes "live") × HasOptions rows config workers × (IsTrue explain ↔ IsSet (codes "explain") rows)
-IsJobIn name rows (Custody config from vm summary svg refused accesses explain) = (name ≡ codes "custody") × HasPath (codes "config") rows config × HasPath (codes "from") rows from × (vm ≡ vm_in rows)
+IsJobIn name rows (Live input config workers explain) = (name ≡ codes "live") × HasInput rows input × HasOptions rows config workers × (IsTrue explain ↔ IsSet (codes "explain") rows)
+IsJobIn name rows (Custody input config from vm summary svg refused accesses explain) = (name ≡ codes "custody") × HasInput rows input × HasPath (codes "config") rows config × HasPath (codes "from") rows from × (vm ≡ vm_in rows)
     × (IsTrue summary ↔ IsSet (codes "summary") rows) × (IsTrue svg ↔ IsSet (codes "svg") rows) × (IsTrue refused ↔ IsSet (codes "refused") rows) × (IsTrue accesses ↔ IsSet (codes "accesses") rows)
     × (IsTrue explain ↔ IsSet (codes "explain") rows)
-IsJobIn name rows (Audit all explain) = (name ≡ codes "audit") × (IsTrue all ↔ IsSet (codes "all") rows) × (IsTrue explain ↔ IsSet (codes "explain") rows)
-IsJobIn name rows (Redact config from host explain) = (name ≡ codes "redact") × HasPath (codes "config") rows config × HasPath (codes "from") rows from × (IsTrue host ↔ IsSet (codes "host") rows) × (IsTrue explain ↔ IsSet (codes "explain") rows)
+IsJobIn name rows (Audit input all explain) = (name ≡ codes "audit") × HasInput rows input × (IsTrue all ↔ IsSet (codes "all") rows) × (IsTrue explain ↔ IsSet (codes "explain") rows)
+IsJobIn name rows (Redact input config from host explain) = (name ≡ codes "redact") × HasInput rows input × HasPath (codes "config") rows config × HasPath (codes "from") rows from × (IsTrue host ↔ IsSet (codes "host") rows) × (IsTrue explain ↔ IsSet (codes "explain") rows)
 
--- the same where there may be no subcommand: then it is as if `replay` stood there alone
+-- the same if there may be no subcommand: then it is as if `replay` were given alone
 abbrev pub Asks : Option (Text × List Row) → Job → Type 0
-Asks None (Replay config from to workers dump state blank explain) = HasOptions [] config workers × HasPath (codes "from") [] from × HasPath (codes "to") [] to × (dump ≡ false) × (state ≡ false) × (blank ≡ false) × (explain ≡ false)
-Asks None (Live config workers explain) = ⊥
-Asks None (Custody config from vm summary svg refused accesses explain) = ⊥
-Asks None (Audit all explain) = ⊥
-Asks None (Redact config from host explain) = ⊥
+Asks None (Replay input config from to workers dump state blank explain) = (input ≡ None) × HasOptions [] config workers × HasPath (codes "from") [] from × HasPath (codes "to") [] to × (dump ≡ false) × (state ≡ false) × (blank ≡ false) × (explain ≡ false)
+Asks None (Live input config workers explain) = ⊥
+Asks None (Custody input config from vm summary svg refused accesses explain) = ⊥
+Asks None (Audit input all explain) = ⊥
+Asks None (Redact input config from host explain) = ⊥
 Asks (Some found) job = IsJobIn found.0 found.1 job
 
--- clap's rules find no fault in the words, and the job is what they hold for the program's command
-pub record IsJob (words : List Text) (job : Job) : Type 0 where
-  pub faultless : fault_of kcore words ≡ []
-  pub asked : Asks (subcommand_of kcore words) job
+-- clap's rules find no fault in the arguments, and the job is what they hold for the program's command
+pub record IsJob (arguments : List Text) (job : Job) : Type 0 where
+  pub faultless : fault_of kcore arguments ≡ []
+  pub asked : Asks (subcommand_of kcore arguments) job
 
--- 0 where the text was asked for, 2 for wrong words
+-- 0 if the text was asked for, 2 for a wrong command line
 abbrev pub exit_status : ErrorKind → ℕ
 exit_status DisplayHelp = 0
 exit_status DisplayVersion = 0
@@ -74,9 +79,9 @@ exit_status _ = 2
 
 abbrev pub HasStatus : ErrorKind → ArgFault → Type 0
 HasStatus kind Memory = Unit {0}
-HasStatus kind (Words text status) = (kind ≢ OutOfMemory) × (status ≡ exit_status kind)
+HasStatus kind (Message text status) = (kind ≢ OutOfMemory) × (status ≡ exit_status kind)
 
--- words are refused for a fault that clap's rules find in them, with its status
+-- a command line is refused for a fault that clap's rules find in it, with its status
 abbrev pub IsRefusal : List Text → ArgFault → Type 0
-IsRefusal words Memory = Unit {0}
-IsRefusal words (Words text status) = (kind : ErrorKind) × IsAmong kind (fault_of kcore words) × (status ≡ exit_status kind)
+IsRefusal arguments Memory = Unit {0}
+IsRefusal arguments (Message text status) = (kind : ErrorKind) × IsAmong kind (fault_of kcore arguments) × (status ≡ exit_status kind)

@@ -3,8 +3,8 @@ ghost use Rattle.std.specs.Prelude.{◌≡◌, ◌↔◌, IfOk, IfErr, IsTrue, m
 ghost use Rattle.clap.specs.declared.builder.command.Command.TheViews.{out-Command as fields_of};
 ghost use Rattle.clap.specs.Words.{app_of, rule_of, found_of, rows_of, first_of};
 ghost use Rattle.clap.specs.Values.{kind_of};
-ghost use Rattle.kc_args.specs.Commands.{kcore, replay, live, custody, audit, redact, config_rule, from_rule, to_rule, workers_rule, dump_rule, state_rule, blank_rule, vm_rule, summary_rule, svg_rule, refused_rule, accesses_rule, all_rule, host_rule, explain_rule};
-ghost use Rattle.kc_args.specs.Jobs.{in_range, workers_in, slot_in, vm_in, IsSet, IsJob, IsJobIn, IsRefusal, HasStatus};
+ghost use Rattle.kc_args.specs.Commands.{kcore, replay, live, custody, audit, redact, config_rule, from_rule, to_rule, workers_rule, dump_rule, state_rule, blank_rule, vm_rule, summary_rule, svg_rule, refused_rule, accesses_rule, all_rule, host_rule, explain_rule, file_rule};
+ghost use Rattle.kc_args.specs.Jobs.{in_range, workers_in, slot_in, vm_in, IsSet, HasInput, IsJob, IsJobIn, IsRefusal, HasStatus};
 
 use clap::error::ErrorKind;
 use clap::{Arg, ArgAction, ArgMatches, Command, Error};
@@ -14,12 +14,14 @@ use std::alloc::{AllocError, Global};
 /// What the program is asked to do.
 #[derive(Clone, Copy, Debug, PartialEq, Eq)]
 pub enum Job<'a> {
-    /// Replay the trace on standard input, with the configuration in a file where a path is given, or from the state whose
-    /// text is in the file `from`, by 1 to 64 workers, and write the replies, or with `dump` the dump of the core that it
-    /// leaves, or with `state` the text of its state; and compare that text with the file `to` where a path is given; all
-    /// this with `blank` of the core with the pages of active VMs zeroed. `config` and `from` exclude each other, and `dump`
-    /// and `state`, and `blank` needs one of `dump`, `state` and `to`. `explain`, here and below: say more of a fault.
+    /// Replay the trace, with the configuration in a file if a path is given, or from the state whose text is in the file
+    /// `from`, by 1 to 64 workers, and write the replies, or with `dump` the dump of the core that it leaves, or with `state`
+    /// the text of its state; and compare that text with the file `to` if a path is given; all this with `blank` of the core
+    /// with the pages of active VMs zeroed. `config` and `from` exclude each other, and `dump` and `state`, and `blank` needs
+    /// one of `dump`, `state` and `to`. Here and below: the trace, or the dump, is in the file `input`, or on standard input
+    /// if no path is given; `explain`: say more of a fault.
     Replay {
+        input: Option<&'a str>,
         config: Option<&'a str>,
         from: Option<&'a str>,
         to: Option<&'a str>,
@@ -29,20 +31,20 @@ pub enum Job<'a> {
         blank: bool,
         explain: bool,
     },
-    /// Run the trace on standard input live, with the configuration in a file where a path is given, and replay the
-    /// history by 1 to 64 workers.
+    /// Run the trace live, with the configuration in a file if a path is given, and replay the history by 1 to 64 workers.
     Live {
+        input: Option<&'a str>,
         config: Option<&'a str>,
         workers: u32,
         explain: bool,
     },
-    /// Make the calls of the trace on standard input, with the configuration in a file where a path is given, or from the state
-    /// whose text is in the file `from`, and write what happened to each frame and slot, of one slot's VM alone where a slot is
-    /// given: every change, with `refused` also each call that was refused or rejected, and with `accesses` each read and
+    /// Make the calls of the trace, with the configuration in a file if a path is given, or from the state whose text is in
+    /// the file `from`, and write what happened to each frame and slot, of one slot's VM alone if a slot is given: every change, with `refused` also each call that was refused or rejected, and with `accesses` each read and
     /// write of the host that a VM's frame served; or with `summary` an object for each life of a VM, or with `svg` a picture.
     /// `config` and `from` exclude each other; so do `summary`, `svg` and `from`; and `summary` and `svg` exclude `refused` and
     /// `accesses`.
     Custody {
+        input: Option<&'a str>,
         config: Option<&'a str>,
         from: Option<&'a str>,
         vm: Option<u32>,
@@ -52,15 +54,17 @@ pub enum Job<'a> {
         accesses: bool,
         explain: bool,
     },
-    /// Audit the dump on standard input, and write each finding, or the report alone.
+    /// Audit the dump, and write each finding, or the report alone.
     Audit {
+        input: Option<&'a str>,
         all: bool,
         explain: bool,
     },
-    /// Write the trace on standard input, with zeros in place of the bytes that VMs write, and with `host` also of those that
-    /// the host writes to a frame of a VM that is active then, if the calls begin with the configuration in a file where a path
-    /// is given, or in the state whose text is in the file `from`. `config` and `from` exclude each other, and both need `host`.
+    /// Write the trace with zeros in place of the bytes that VMs write, and with `host` also of those that the host writes to
+    /// a frame of a VM that is active then, if the calls begin with the configuration in a file, the default one if no path is
+    /// given, or in the state whose text is in the file `from`. `config` and `from` exclude each other, and both need `host`.
     Redact {
+        input: Option<&'a str>,
         config: Option<&'a str>,
         from: Option<&'a str>,
         host: bool,
@@ -68,16 +72,24 @@ pub enum Job<'a> {
     },
 }
 
-/// What `--version` prints behind the program's name: the version, and on a second line the toolchain that proves it.
+/// What `--version` prints after the program's name: the version, and on a second line the toolchain that proves it.
 const VERSION: &str = "2.0.0\nrattle-kit-13f";
+
+const TRACE_HELP: &str = "The trace; standard input if this is - or not given";
+
+const DUMP_HELP: &str = "The dump; standard input if this is - or not given";
+
+const EXAMPLES: &str =
+    "Examples:\n  kcore replay run.trace\n  kcore replay --dump run.trace | kcore audit\n  kcore custody --summary --config machine.json run.trace";
 
 /// Why there is no job.
 #[derive(Debug, Drop)]
 pub enum ArgFault {
     /// A growth of memory was refused.
     Memory,
-    /// What is to be printed, and the exit status: 0 for help or the version, which was asked for, and 2 for wrong words.
-    Words(String, u8),
+    /// What is to be printed, and the exit status: 0 for help or the version, which was asked for, and 2 for a wrong command
+    /// line.
+    Message(String, u8),
 }
 
 impl From<AllocError> for ArgFault {
@@ -114,7 +126,7 @@ fn to_arg<'a>(alloc: Global) -> Arg<'a>
     ensures local { result.global ≡ false }
 {
     Arg::new(alloc, "to").long("to").value_name("PATH").help(
-        "Compare the state that the trace leaves with this text; the status is 1 where it is another",
+        "Compare the state that the trace leaves with this text; the status is 1 if it is another",
     )
 }
 
@@ -127,7 +139,7 @@ fn workers_arg<'a>(alloc: Global) -> Arg<'a>
         .value_name("N")
         .value_parser(clap::value_parser!(u8).range(1..=WORKER_LIMIT as i64))
         .help(
-            "At most so many threads, 1 to 64, make the calls of a replay, started where that pays; 1 where this is not given",
+            "Up to N threads, 1 to 64, make the calls of a replay, started if that pays; 1 if not given",
         )
 }
 
@@ -171,7 +183,7 @@ fn vm_arg<'a>(alloc: Global) -> Arg<'a>
         .long("vm")
         .value_name("V")
         .value_parser(clap::value_parser!(u8).range(0..=i64::from(SLOT_LIMIT) - 1))
-        .help("Tell of the VM in this slot alone, 0 to 63")
+        .help("Report the VM in this slot alone, 0 to 63")
 }
 
 fn summary_arg<'a>(alloc: Global) -> Arg<'a>
@@ -244,15 +256,22 @@ fn explain_arg<'a>(alloc: Global) -> Arg<'a>
         .help("Say more of a fault, in further lines")
 }
 
+/// The file to be read, an argument without a name.
+fn file_arg<'a>(alloc: Global, help: &'a str) -> Arg<'a>
+    ensures rule { rule_of result ≡ file_rule }
+    ensures local { result.global ≡ false }
+{
+    Arg::new(alloc, "file").value_name("FILE").help(help)
+}
+
 fn replay_command<'a>(alloc: Global) -> Result<Command<'a>, AllocError>
     ensures app { IfOk result (λ c. app_of c ≡ replay) }
     ensures local { IfOk result (λ c. (fields_of c).has_globals ≡ false) }
 {
     Command::new(alloc, "replay")
-        .about(
-            "Replay the trace on standard input and write the replies (what no words at all ask for)",
-        )
-        .override_usage("kcore replay [OPTIONS]")
+        .about("Replay a trace and write the replies; with no command, standard input is replayed")
+        .override_usage("kcore replay [OPTIONS] [FILE]")
+        .after_help("Example: kcore replay --config machine.json run.trace > replies")
         .arg(config_arg(alloc))?
         .arg(from_arg(alloc))?
         .arg(to_arg(alloc))?
@@ -260,7 +279,8 @@ fn replay_command<'a>(alloc: Global) -> Result<Command<'a>, AllocError>
         .arg(dump_arg(alloc))?
         .arg(state_arg(alloc))?
         .arg(blank_arg(alloc))?
-        .arg(explain_arg(alloc))
+        .arg(explain_arg(alloc))?
+        .arg(file_arg(alloc, TRACE_HELP))
 }
 
 fn live_command<'a>(alloc: Global) -> Result<Command<'a>, AllocError>
@@ -268,13 +288,13 @@ fn live_command<'a>(alloc: Global) -> Result<Command<'a>, AllocError>
     ensures local { IfOk result (λ c. (fields_of c).has_globals ≡ false) }
 {
     Command::new(alloc, "live")
-        .about(
-            "Run the trace's actors in a thread each, and write their calls as they were answered",
-        )
-        .override_usage("kcore live [OPTIONS]")
+        .about("Run a trace's actors in a thread each, and write their calls as they were answered")
+        .override_usage("kcore live [OPTIONS] [FILE]")
+        .after_help("Example: kcore live --config machine.json run.trace > history.trace")
         .arg(config_arg(alloc))?
         .arg(workers_arg(alloc))?
-        .arg(explain_arg(alloc))
+        .arg(explain_arg(alloc))?
+        .arg(file_arg(alloc, TRACE_HELP))
 }
 
 fn custody_command<'a>(alloc: Global) -> Result<Command<'a>, AllocError>
@@ -283,7 +303,8 @@ fn custody_command<'a>(alloc: Global) -> Result<Command<'a>, AllocError>
 {
     Command::new(alloc, "custody")
         .about("Write what happened to each frame and VM: every change, with the line of its call")
-        .override_usage("kcore custody [OPTIONS]")
+        .override_usage("kcore custody [OPTIONS] [FILE]")
+        .after_help("Example: kcore custody --vm 3 --summary --config machine.json run.trace")
         .arg(config_arg(alloc))?
         .arg(from_arg(alloc))?
         .arg(vm_arg(alloc))?
@@ -291,7 +312,8 @@ fn custody_command<'a>(alloc: Global) -> Result<Command<'a>, AllocError>
         .arg(svg_arg(alloc))?
         .arg(refused_arg(alloc))?
         .arg(accesses_arg(alloc))?
-        .arg(explain_arg(alloc))
+        .arg(explain_arg(alloc))?
+        .arg(file_arg(alloc, TRACE_HELP))
 }
 
 fn audit_command<'a>(alloc: Global) -> Result<Command<'a>, AllocError>
@@ -299,12 +321,12 @@ fn audit_command<'a>(alloc: Global) -> Result<Command<'a>, AllocError>
     ensures local { IfOk result (λ c. (fields_of c).has_globals ≡ false) }
 {
     Command::new(alloc, "audit")
-        .about(
-            "Say what is wrong with the dump on standard input; the status is 1 where something is",
-        )
-        .override_usage("kcore audit [OPTIONS]")
+        .about("Say what is wrong with a dump; the status is 1 if something is")
+        .override_usage("kcore audit [OPTIONS] [FILE]")
+        .after_help("Example: kcore audit --all run.dump")
         .arg(all_arg(alloc))?
-        .arg(explain_arg(alloc))
+        .arg(explain_arg(alloc))?
+        .arg(file_arg(alloc, DUMP_HELP))
 }
 
 fn redact_command<'a>(alloc: Global) -> Result<Command<'a>, AllocError>
@@ -312,12 +334,14 @@ fn redact_command<'a>(alloc: Global) -> Result<Command<'a>, AllocError>
     ensures local { IfOk result (λ c. (fields_of c).has_globals ≡ false) }
 {
     Command::new(alloc, "redact")
-        .about("Write the trace on standard input with zeros in place of the bytes that VMs write")
-        .override_usage("kcore redact [OPTIONS]")
+        .about("Write a trace with zeros in place of the bytes that VMs write")
+        .override_usage("kcore redact [OPTIONS] [FILE]")
+        .after_help("Example: kcore redact run.trace > redacted.trace")
         .arg(config_arg(alloc))?
         .arg(from_arg(alloc))?
         .arg(host_arg(alloc))?
-        .arg(explain_arg(alloc))
+        .arg(explain_arg(alloc))?
+        .arg(file_arg(alloc, TRACE_HELP))
 }
 
 /// The whole command.
@@ -333,6 +357,7 @@ fn command<'a>(alloc: Global) -> Result<Command<'a>, AllocError>
         .no_binary_name(true)
         .version(VERSION)
         .about("Replay calls on the trusted core of a hypervisor")
+        .after_help(EXAMPLES)
         .subcommand(replay)?;
     base.subcommand(live)?
         .subcommand(custody)?
@@ -349,7 +374,7 @@ fn refused(alloc: Global, error: &Error) -> ArgFault
     }
     let status = if error.use_stderr() { 2 } else { 0 };
     match error.to_string(alloc) {
-        Ok(text) => ArgFault::Words(text, status),
+        Ok(text) => ArgFault::Message(text, status),
         Err(_) => ArgFault::Memory,
     }
 }
@@ -361,7 +386,7 @@ fn text_in<'a>(matches: &ArgMatches<'a>, option: &str) -> Option<&'a str>
     matches.get_str(option)
 }
 
-/// Whether the flag stands among the words: `clap` gives it the text `true` then, and else `false`.
+/// Whether the flag is given: `clap` gives it the text `true` then, and else `false`.
 fn is_set(matches: &ArgMatches<'_>, flag: &str) -> bool
     ensures { IsTrue result ↔ IsSet flag.now (rows_of (found_of matches.now)) }
 {
@@ -371,7 +396,7 @@ fn is_set(matches: &ArgMatches<'_>, flag: &str) -> bool
     }
 }
 
-/// The number, or 1 where the command's rules do not let it through.
+/// The number, or 1 if the command's rules do not let it through.
 fn in_range(workers: u8) -> u32
     ensures { result ≡ in_range workers }
 {
@@ -382,7 +407,7 @@ fn in_range(workers: u8) -> u32
     }
 }
 
-/// The number of workers; 1 where the words have none.
+/// The number of workers; 1 if none is given.
 fn workers_in(matches: &ArgMatches<'_>) -> u32
     ensures { result ≡ workers_in (rows_of (found_of matches.now)) }
 {
@@ -392,7 +417,7 @@ fn workers_in(matches: &ArgMatches<'_>) -> u32
     }
 }
 
-/// The number behind `--vm`; 0 where the command's rules do not let it through.
+/// The number after `--vm`; 0 if the command's rules do not let it through.
 fn slot_in(matches: &ArgMatches<'_>) -> u32
     ensures { result ≡ slot_in (rows_of (found_of matches.now)) }
 {
@@ -402,7 +427,7 @@ fn slot_in(matches: &ArgMatches<'_>) -> u32
     }
 }
 
-/// The slot that the words name, if they name one.
+/// The slot that is named, if one is.
 fn vm_in(matches: &ArgMatches<'_>) -> Option<u32>
     ensures { result ≡ vm_in (rows_of (found_of matches.now)) }
 {
@@ -418,18 +443,36 @@ fn is_named(name: &str, command: &str) -> bool
     name == command
 }
 
+/// The file to be read; none for `-`, which is standard input.
+fn input_in<'a>(matches: &ArgMatches<'a>) -> Option<&'a str>
+    ensures { HasInput (rows_of (found_of matches.now)) result }
+{
+    let file = text_in(matches, "file")?;
+    if is_named(file, "-") {
+        None
+    } else {
+        Some(file)
+    }
+}
+
 /// What the subcommand of this name asks for.
 fn job_in<'a>(name: &str, found: &ArgMatches<'a>) -> Job<'a>
     ensures { IsJobIn name.now (rows_of (found_of found.now)) result }
 {
+    let input = input_in(found);
     let explain = is_set(found, "explain");
     if is_named(name, "audit") {
         let all = is_set(found, "all");
-        return Job::Audit { all, explain };
+        return Job::Audit {
+            input,
+            all,
+            explain,
+        };
     }
     let config = text_in(found, "config");
     if is_named(name, "redact") {
         return Job::Redact {
+            input,
             config,
             from: text_in(found, "from"),
             host: is_set(found, "host"),
@@ -438,6 +481,7 @@ fn job_in<'a>(name: &str, found: &ArgMatches<'a>) -> Job<'a>
     }
     if is_named(name, "custody") {
         return Job::Custody {
+            input,
             config,
             from: text_in(found, "from"),
             vm: vm_in(found),
@@ -451,12 +495,14 @@ fn job_in<'a>(name: &str, found: &ArgMatches<'a>) -> Job<'a>
     let workers = workers_in(found);
     if is_named(name, "live") {
         return Job::Live {
+            input,
             config,
             workers,
             explain,
         };
     }
     Job::Replay {
+        input,
         config,
         from: text_in(found, "from"),
         to: text_in(found, "to"),
@@ -468,23 +514,24 @@ fn job_in<'a>(name: &str, found: &ArgMatches<'a>) -> Job<'a>
     }
 }
 
-/// What the words, without the program's name, ask for: `replay` or `live`, with or without `--config PATH` and
+/// What the arguments, without the program's name, ask for: `replay` or `live`, with or without `--config PATH` and
 /// `--workers N` with a number from 1 to 64, `replay` also with `--from PATH`, `--to PATH`, `--dump`, `--state` and
 /// `--blank`; `custody`, with or without `--config PATH` and `--vm V` with a number from 0 to 63, `--summary`, `--svg`,
 /// `--refused` and `--accesses`; `audit`, also with `--all`; `redact`, also with `--config PATH`, `--from PATH` and
-/// `--host`; each also with `--explain`; and `replay` for no words at all.
-pub fn job_of<'a>(alloc: Global, words: &'a [&'a str]) -> Result<Job<'a>, ArgFault>
-    // The job is what the words say by the command's rules, and only words that break them are refused.
-    ensures job { IfOk result (IsJob (map (λ w. w.now) words.entry.now)) }
-    ensures refused { IfErr result (IsRefusal (map (λ w. w.now) words.entry.now)) }
+/// `--host`; each also with `--explain` and the file to be read; and `replay` if there are none.
+pub fn job_of<'a>(alloc: Global, arguments: &'a [&'a str]) -> Result<Job<'a>, ArgFault>
+    // The job is what the arguments say by the command's rules, and only a command line that breaks them is refused.
+    ensures job { IfOk result (IsJob (map (λ w. w.now) arguments.entry.now)) }
+    ensures refused { IfErr result (IsRefusal (map (λ w. w.now) arguments.entry.now)) }
 {
-    let matches = match command(alloc)?.try_get_matches_from(words) {
+    let matches = match command(alloc)?.try_get_matches_from(arguments) {
         Ok(matches) => matches,
         Err(error) => return Err(refused(alloc, &error)),
     };
     match matches.subcommand() {
         Some((name, found)) => Ok(job_in(name, found)),
         None => Ok(Job::Replay {
+            input: None,
             config: None,
             from: None,
             to: None,

@@ -2,13 +2,14 @@
 use kc_lines::{read_number, split_line, split_word};
 use std::fmt;
 
-/// A kind of text that begins with a header of its own, which names its version.
+/// The first line of a text, which names its version.
 #[derive(Clone, Copy, Debug, PartialEq, Eq)]
-pub enum Kind {
+pub enum Header {
     Trace,
     Dump,
-    /// None: a configuration has no header.
-    Config,
+    State,
+    /// A configuration has none.
+    None,
 }
 
 /// What a text looks like that is not of the kind that was wanted.
@@ -25,8 +26,8 @@ pub enum Look {
     Unended,
     /// The header of a version that this program does not read.
     Newer(u32),
-    /// The name of the header that is wanted, and something else than a version after it.
-    NoVersion,
+    /// The name of the header that is wanted, whose newest version is this, and something else than a version after it.
+    NoVersion(u32),
     Trace,
     Dump,
     State,
@@ -51,7 +52,8 @@ impl fmt::Display for Look {
             Look::Newer(version) => {
                 return write!(f, "version {version}: a newer kcore reads it");
             },
-            Look::NoVersion => "its first line does not end with a version, 1 or 2",
+            Look::NoVersion(1) => "its first line does not end with a version, which is 1",
+            Look::NoVersion(_) => "its first line does not end with a version, 1 or 2",
             Look::Trace => "it looks like a trace",
             Look::Dump => "it looks like a dump",
             Look::State => "it looks like a state's text",
@@ -113,36 +115,39 @@ fn foreign(text: &[u8]) -> Option<Look> {
     }
 }
 
-/// What is wrong with a header that has the name that is wanted, by what follows the name.
-fn header(version: &[u8]) -> Look {
+/// What is wrong with a header that has the name that is wanted, by what follows the name; its newest version is this.
+fn header(version: &[u8], newest: u32) -> Look {
     match read_number(first_line(version)) {
-        Some(1) | Some(2) => Look::Unended,
-        Some(number) if number > 2 => Look::Newer(number),
-        _ => Look::NoVersion,
+        Some(number) if number > newest => Look::Newer(number),
+        Some(number) if number > 0 => Look::Unended,
+        _ => Look::NoVersion(newest),
     }
 }
 
 /// What a text of ours looks like by the name that it begins with, if it is one.
-fn ours(text: &[u8], wanted: Kind) -> Option<Look> {
+fn ours(text: &[u8], wanted: Header) -> Option<Look> {
     if let Some(version) = text.strip_prefix(b"kcore-trace ") {
         Some(match wanted {
-            Kind::Trace => header(version),
+            Header::Trace => header(version, 2),
             _ => Look::Trace,
         })
     } else if let Some(version) = text.strip_prefix(b"kcore-dump ") {
         Some(match wanted {
-            Kind::Dump => header(version),
+            Header::Dump => header(version, 2),
             _ => Look::Dump,
         })
-    } else if text.starts_with(b"kcore-state ") {
-        Some(Look::State)
+    } else if let Some(version) = text.strip_prefix(b"kcore-state ") {
+        Some(match wanted {
+            Header::State => header(version, 1),
+            _ => Look::State,
+        })
     } else {
         None
     }
 }
 
 /// What a text looks like that is not of the kind that is wanted, by its first 64 bytes or more.
-pub fn look_of(text: &[u8], wanted: Kind) -> Look {
+pub fn look_of(text: &[u8], wanted: Header) -> Look {
     if text.is_empty() {
         return Look::Empty;
     }

@@ -1,18 +1,14 @@
 //! A source that keeps what explains a fault of its text.
 ghost use Rattle.std.specs.Prelude.{◌≡◌};
 
+use crate::finder::{MOST_OF_LINE, keep};
 use kc_texts::{Failed, Source};
 use kc_trace::{TraceFault, TraceReader};
+use kc_types::{Actor, Call, actor_of};
 use std::alloc::Global;
 
-/// The most bytes that are kept of a line.
-const MOST_OF_LINE: usize = 16_384;
-
-/// Appends a beginning of some bytes, so that no more than so many are kept. Where memory is refused nothing is.
-fn keep(text: &mut Vec<u8>, bytes: &[u8], most: usize) {
-    let count = most.saturating_sub(text.len()).min(bytes.len());
-    let _ = text.extend_from_slice(&bytes[..count]);
-}
+/// How many actors are kept: more than a core has.
+const MOST_ACTORS: usize = 514;
 
 /// The line of a trace that is being read, or the bad one.
 #[derive(Drop)]
@@ -22,6 +18,10 @@ struct Lines {
     /// How many lines ended before it.
     ended: u64,
     line: Vec<u8>,
+    /// How many calls came.
+    calls: u64,
+    /// The first actors, and the line of the first call of each.
+    actors: Vec<(Actor, u64)>,
 }
 
 impl Lines {
@@ -30,13 +30,31 @@ impl Lines {
             return;
         }
         match self.reader.feed(alloc, piece) {
-            Ok(_) => self.pass(piece),
+            Ok(calls) => {
+                self.note_actors(calls.as_slice());
+                self.pass(piece);
+            },
             Err(TraceFault::BadLine(number)) => {
                 self.is_bad = true;
                 self.find(piece, u64::from(number));
             },
             Err(_) => self.is_bad = true,
         }
+    }
+
+    /// Notes who makes these calls. Nothing is kept if memory is refused.
+    fn note_actors(&mut self, calls: &[Call]) {
+        for call in calls {
+            self.calls = self.calls.saturating_add(1);
+            let actor = actor_of(call);
+            if self.actors.len() < MOST_ACTORS && !self.has(actor) {
+                let _ = self.actors.push((actor, self.calls.saturating_add(1)));
+            }
+        }
+    }
+
+    fn has(&self, actor: Actor) -> bool {
+        self.actors.iter().any(|(known, _)| *known == actor)
     }
 
     /// Notes a piece without a bad line.
@@ -68,8 +86,8 @@ impl Lines {
     }
 }
 
-/// A source, and of what it gave the first bytes and, where it is a trace, the line begun or the bad one. Memory is bounded,
-/// and nothing is kept where nothing is to be explained.
+/// A source, and of what it gave the first bytes and, if it is a trace, the line begun or the bad one, and its actors. Memory is
+/// bounded, and nothing is kept if nothing is to be explained.
 #[derive(Drop)]
 pub struct Noted<S: Source + Drop> {
     pub inner: S,
@@ -110,6 +128,8 @@ impl<S: Source + Drop> Noted<S> {
                 is_bad: false,
                 ended: 0,
                 line: Vec::new(alloc),
+                calls: 0,
+                actors: Vec::new(alloc),
             }),
             total: 0,
         }
@@ -126,6 +146,13 @@ impl<S: Source + Drop> Noted<S> {
             Some(lines) => lines.line.as_slice(),
             None => &[],
         }
+    }
+
+    /// The actor of this number, from 0 in the order in which they appear, and the line of its first call.
+    pub fn actor(&self, number: usize) -> Option<(Actor, u64)> {
+        let lines = self.lines.as_ref()?;
+        let (actor, line) = lines.actors.get(number)?;
+        Some((*actor, *line))
     }
 
     /// How many bytes came.

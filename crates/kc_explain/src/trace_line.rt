@@ -1,8 +1,8 @@
-//! Why a line of a trace is no call.
+//! Why a line of a trace is not a call.
 use kc_lines::{read_number, split_word};
 use std::fmt;
 
-/// Why a line is no call. A place is that of a word behind the name, from 1.
+/// Why a line is not a call, or not a line of another text. A place is that of a word after the name, from 1.
 #[derive(Clone, Copy, Debug, PartialEq, Eq)]
 pub enum LineFault {
     Empty,
@@ -10,7 +10,8 @@ pub enum LineFault {
     /// Two spaces, or one at an end.
     Spaces,
     NoSuchCall,
-    /// So many words behind the name, where so many are wanted.
+    NoSuchLine,
+    /// How many words come after the name, and how many are wanted.
     Words(usize, usize),
     NotDecimal(usize),
     LeadingZero(usize),
@@ -18,7 +19,14 @@ pub enum LineFault {
     NotHexadecimal,
     OddDigits,
     TooManyBytes,
-    /// Nothing of these: `grantr` or `revoker` behind `kcore-trace 1`, or a line that is longer than any call.
+    NotPhase(usize),
+    NotOwner(usize),
+    NotBit(usize),
+    NotDigest(usize),
+    NotPage,
+    /// Nothing of these, of a line of a dump or a state's text: it may not come here, or a number is out of range.
+    NotDue,
+    /// Nothing of these, of a call: `grantr` or `revoker` after `kcore-trace 1`, or a line that is longer than any call.
     Other,
 }
 
@@ -29,18 +37,43 @@ impl fmt::Display for LineFault {
             LineFault::CarriageReturn => f.write_str("it ends with a CR"),
             LineFault::Spaces => f.write_str("two spaces, or a space at an end"),
             LineFault::NoSuchCall => f.write_str("no call has this name"),
+            LineFault::NoSuchLine => f.write_str("no line has this name"),
             LineFault::Words(given, wanted) => {
-                write!(
-                    f,
-                    "words behind the name: {given}, where {wanted} are wanted"
-                )
+                write!(f, "words after the name: {given}, and {wanted} are wanted")
             },
-            LineFault::NotDecimal(place) => write!(f, "word {place} behind the name is no number"),
+            LineFault::NotDecimal(place) => {
+                write!(f, "word {place} after the name is not a number")
+            },
             LineFault::LeadingZero(place) => {
-                write!(f, "word {place} behind the name has a leading zero")
+                write!(f, "word {place} after the name has a leading zero")
             },
             LineFault::OutOfRange(place) => {
-                write!(f, "word {place} behind the name is above 4294967295")
+                write!(f, "word {place} after the name is above 4294967295")
+            },
+            LineFault::NotPhase(place) => {
+                write!(
+                    f,
+                    "word {place} after the name is not empty, booting, active or dead"
+                )
+            },
+            LineFault::NotOwner(place) => {
+                write!(
+                    f,
+                    "word {place} after the name is not core, host, free or a slot"
+                )
+            },
+            LineFault::NotBit(place) => write!(f, "word {place} after the name is not 0 or 1"),
+            LineFault::NotDigest(place) => {
+                write!(
+                    f,
+                    "word {place} after the name is not of 64 digits, 0 to 9 and a to f"
+                )
+            },
+            LineFault::NotPage => {
+                f.write_str("the page is not a dash or 8192 digits, 0 to 9 and a to f")
+            },
+            LineFault::NotDue => {
+                f.write_str("the line may not come here, or a number is out of range")
             },
             LineFault::NotHexadecimal => {
                 f.write_str("the last word is not of hexadecimal digits, 0 to 9 and a to f")
@@ -52,7 +85,7 @@ impl fmt::Display for LineFault {
     }
 }
 
-fn is_among(name: &[u8], names: &[&str]) -> bool {
+pub(crate) fn is_among(name: &[u8], names: &[&str]) -> bool {
     for one in names {
         if one.as_bytes() == name {
             return true;
@@ -61,7 +94,7 @@ fn is_among(name: &[u8], names: &[&str]) -> bool {
     false
 }
 
-/// How many words a call has behind its name, and whether the last of them is bytes.
+/// How many words a call has after its name, and whether the last of them is bytes.
 fn words_of(name: &[u8]) -> Option<(usize, bool)> {
     if is_among(name, &["take"]) {
         Some((0, false))
@@ -89,7 +122,7 @@ fn words_of(name: &[u8]) -> Option<(usize, bool)> {
     }
 }
 
-fn fault_of_number(word: &[u8], place: usize) -> Option<LineFault> {
+pub(crate) fn fault_of_number(word: &[u8], place: usize) -> Option<LineFault> {
     if read_number(word).is_some() {
         None
     } else if !word.iter().all(|byte| byte.is_ascii_digit()) {
@@ -101,7 +134,7 @@ fn fault_of_number(word: &[u8], place: usize) -> Option<LineFault> {
     }
 }
 
-fn is_digit(byte: u8) -> bool {
+pub(crate) fn is_digit(byte: u8) -> bool {
     byte.is_ascii_digit() || (b'a'..=b'f').contains(&byte)
 }
 
@@ -125,7 +158,7 @@ fn fault_of_word(word: &[u8], place: usize, is_bytes: bool) -> Option<LineFault>
     }
 }
 
-fn has_empty_word(line: &[u8]) -> bool {
+pub(crate) fn has_empty_word(line: &[u8]) -> bool {
     for word in line.split(|byte| *byte == b' ') {
         if word.is_empty() {
             return true;
@@ -134,7 +167,7 @@ fn has_empty_word(line: &[u8]) -> bool {
     false
 }
 
-/// Why a line, without its newline, is no call, where that is so.
+/// Why a line, without its newline, is not a call, if it is none.
 pub fn fault_of_line(line: &[u8]) -> LineFault {
     if line.is_empty() {
         return LineFault::Empty;

@@ -53,4 +53,4 @@ command_of clash = codes "custody"
 -- in the form in which a wrong command line is reported
 abbrev pub clash_text : Clash → List ℕ
 clash_text clash = codes "error: the argument '" ++ first_option clash ++ link_of clash ++ other_option clash
-    ++ codes "'\n\nUsage: kcore " ++ command_of clash ++ codes " [OPTIONS]\n\nFor more information, try '--help'.\n"
+    ++ codes "'\n\nUsage: kcore " ++ command_of clash ++ codes " [OPTIONS] [FILE]\n\nFor more information, try '--help'.\n"

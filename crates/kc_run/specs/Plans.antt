@@ -89,13 +89,21 @@ abbrev pub redact_from_plan : Bool → Option Start → Result Plan Clash
 redact_from_plan host None = Err clashes.RedactConfigFrom
 redact_from_plan host (Some start) = redact_plan host start
 
+-- the file that a job reads in place of standard input, if one is named
+abbrev pub input_of : Job → Option Path
+input_of (jobs.Replay input config from to workers dump state blank explain) = input
+input_of (jobs.Live input config workers explain) = input
+input_of (jobs.Custody input config from vm summary svg refused accesses explain) = input
+input_of (jobs.Audit input all explain) = input
+input_of (jobs.Redact input config from host explain) = input
+
 -- the plan of a job, or what contradicts itself in it first
 abbrev pub plan_of : Job → Result Plan Clash
-plan_of (jobs.Replay config from to workers dump state blank explain) = replay_plan (replay_form dump state) (start_of config from) to blank workers
-plan_of (jobs.Live config workers explain) = Ok (plans.Live config workers)
-plan_of (jobs.Custody config from vm summary svg refused accesses explain) = custody_plan summary svg (record { refused = refused; accesses = accesses }) (start_of config from) vm
-plan_of (jobs.Audit all explain) = Ok (plans.Audit all)
-plan_of (jobs.Redact config from host explain) = redact_from_plan host (start_of config from)
+plan_of (jobs.Replay input config from to workers dump state blank explain) = replay_plan (replay_form dump state) (start_of config from) to blank workers
+plan_of (jobs.Live input config workers explain) = Ok (plans.Live config workers)
+plan_of (jobs.Custody input config from vm summary svg refused accesses explain) = custody_plan summary svg (record { refused = refused; accesses = accesses }) (start_of config from) vm
+plan_of (jobs.Audit input all explain) = Ok (plans.Audit all)
+plan_of (jobs.Redact input config from host explain) = redact_from_plan host (start_of config from)
 
 -- the file that holds what calls begin with, if one is named
 abbrev pub path_of : Start → Option Path

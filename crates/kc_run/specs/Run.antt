@@ -12,7 +12,7 @@ use Rattle.kc_texts.specs.declared.origin.Origin.TheVariants as origins
 use Rattle.kc_texts.specs.declared.fault.TextFault.{TextFault}
 use Rattle.kc_texts.specs.declared.fault.TextFault.TheVariants as texts
 use Rattle.kc_texts.specs.Audit.{Audits, BeginsAudit, IsDumpFault}
-use Rattle.kc_texts.specs.Outcomes.{Seen, TellsSources, TellsTexts, TellsReplay, TellsSink}
+use Rattle.kc_texts.specs.Outcomes.{Seen, seen, TellsSources, TellsTexts, TellsReplay, TellsSink}
 use Rattle.kc_texts.specs.Reading.{Writes, Begins}
 use Rattle.kc_redact_text.specs.Redacts.{Redacts, BeginsRedaction, IsRedactFault, IsHostRedacted, IsHostRedactFault}
 use Rattle.kc_cli.specs.declared.order.ReplayForm.{ReplayForm}
@@ -28,7 +28,7 @@ use Rattle.kc_run.specs.declared.clash.Clash.{Clash}
 use Rattle.kc_run.specs.declared.ending.Ending.{Ending}
 use Rattle.kc_run.specs.declared.ending.Ending.TheVariants as endings
 use Rattle.kc_run.specs.Clashes.{clash_text}
-use Rattle.kc_run.specs.Plans.{Path, plan_of, path_of, origin_at, form_of, start_in}
+use Rattle.kc_run.specs.Plans.{Path, plan_of, path_of, origin_at, form_of, start_in, input_of}
 use Rattle.kc_run.specs.Opening.{Held, text_at, IsOpenFault}
 use Rattle.kc_run.specs.Endings.{Ended, Took, Takes, status_after, fault_in, IsReported}
 
@@ -151,10 +151,23 @@ IsEnding (plans.Audit all) ends ended = AuditsDump all ends ended
 IsEnding plans.Redact ends ended = RedactsTrace ends ended
 IsEnding (plans.RedactHost start) ends ended = BeginsAt start (RedactsHost (origin_at start)) ends ended
 
+-- how what is planned ended over the file that is named, by all the bytes that it held; `left` and `failed` say of a file what is left of it, and whether a read of it failed. Nothing was read of standard input
+pub record ReadsFile {S : Type 0} (left : S → Option (List ℕ)) (failed : S → Bool) (path : Path) (plan : Plan) (ends : Ends) (ended : Ended) : Type 0 where
+  pub old : S
+  pub new : S
+  pub bytes : left old ≡ ends.held path.now
+  pub unread : ends.unread
+  pub ending : IsEnding plan (ends_of ends.held ends.refused (seen (failed new) (left old) (left new)) (new ≡ old) ends.out ends.untouched) ended
+
+-- how it ended over the file that is named, or over standard input if none is
+abbrev pub IsEndingOf : {S : Type 0} → (S → Option (List ℕ)) → (S → Bool) → Option Path → Plan → Ends → Ended → Type 0
+IsEndingOf left failed None plan ends ended = IsEnding plan ends ended
+IsEndingOf left failed (Some path) plan ends ended = IsUnopened (Some path) ends ended ⊎ ReadsFile left failed path plan ends ended
+
 -- a plan was run; the exit status and the error sink say how that ended
-pub record IsPlanRun (plan : Plan) (ends : Ends) (err : Took) (silent : Type 0) (status : ℕ) (fault : Option TextFault) : Type 0 where
+pub record IsPlanRun {S : Type 0} (left : S → Option (List ℕ)) (failed : S → Bool) (path : Option Path) (plan : Plan) (ends : Ends) (err : Took) (silent : Type 0) (status : ℕ) (fault : Option TextFault) : Type 0 where
   pub ended : Ended
-  pub ending : IsEnding plan ends ended
+  pub ending : IsEndingOf left failed path plan ends ended
   pub status_is : status ≡ status_after ended
   pub fault_is : fault ≡ fault_in ended
   pub reported : IsReported ended err silent
@@ -168,10 +181,10 @@ pub record IsRefusedRun (clash : Clash) (ends : Ends) (err : Took) (status : ℕ
   pub fault_is : fault ≡ None
   pub reported : Takes err (clash_text clash)
 
-abbrev pub IsRunOf : Result Plan Clash → Ends → Took → Type 0 → ℕ → Option TextFault → Type 0
-IsRunOf (Ok plan) ends err silent status fault = IsPlanRun plan ends err silent status fault
-IsRunOf (Err clash) ends err silent status fault = IsRefusedRun clash ends err status fault
+abbrev pub IsRunOf : {S : Type 0} → (S → Option (List ℕ)) → (S → Bool) → Option Path → Result Plan Clash → Ends → Took → Type 0 → ℕ → Option TextFault → Type 0
+IsRunOf left failed path (Ok plan) ends err silent status fault = IsPlanRun left failed path plan ends err silent status fault
+IsRunOf left failed path (Err clash) ends err silent status fault = IsRefusedRun clash ends err status fault
 
 -- what a run of a job leaves, and the exit status and the fault that it answers
-abbrev pub IsRun : Job → Ends → Took → Type 0 → ℕ → Option TextFault → Type 0
-IsRun job ends err silent status fault = IsRunOf (plan_of job) ends err silent status fault
+abbrev pub IsRun : {S : Type 0} → (S → Option (List ℕ)) → (S → Bool) → Job → Ends → Took → Type 0 → ℕ → Option TextFault → Type 0
+IsRun left failed job ends err silent status fault = IsRunOf left failed (input_of job) (plan_of job) ends err silent status fault

@@ -102,7 +102,7 @@ impl Clash {
         text.push_str(self.other());
         text.push_str("'\n\nUsage: kcore ");
         text.push_str(self.command());
-        text.push_str(" [OPTIONS]\n\nFor more information, try '--help'.\n");
+        text.push_str(" [OPTIONS] [FILE]\n\nFor more information, try '--help'.\n");
         text
     }
 }

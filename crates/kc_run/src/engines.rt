@@ -1,4 +1,4 @@
-//! The engines, over the files that a job names, standard input and a sink.
+//! The engines, over the files that a job names, an input and a sink.
 ghost use Rattle.std.specs.Prelude.{◌≡◌, false, None};
 ghost use Rattle.kc_texts.specs.Outcomes.{seen};
 ghost use Rattle.kc_run.specs.Plans.{origin_at, form_of, start_in};
@@ -19,6 +19,15 @@ use kc_replay::OpenGate;
 use std::alloc::Global;
 use std::sync::Wait;
 use std::thread::Threads;
+
+/// What an engine needs of the system that it runs on.
+#[derive(Drop)]
+pub struct System<'a, R: Threads + Wait + Sync> {
+    pub threads: &'a R,
+    pub alloc: Global,
+    /// How many pages are hashed at once.
+    pub lanes: Lanes,
+}
 
 /// The ending of an engine that has no answer.
 fn done(answer: Result<(), TextFault>) -> Result<Ending, TextFault>
@@ -49,8 +58,7 @@ fn judged(answer: Result<bool, TextFault>, other: Ending) -> Result<Ending, Text
 
 /// Replays the trace from an open start, and compares the state that it leaves with what the file `to` holds, if it is named.
 fn replay_to<F: Files, C: Source, T: Source, K: Sink, R: Threads + Wait + Sync>(
-    rt: &R,
-    alloc: Global,
+    system: &System<'_, R>,
     files: &mut F,
     start: &mut C,
     input: &mut T,
@@ -65,10 +73,18 @@ fn replay_to<F: Files, C: Source, T: Source, K: Sink, R: Threads + Wait + Sync>(
     ensures { ReplaysTo order.origin order.form order.is_blank order.workers to.entry (seen (C.failed start.new) (C.left start.old) (C.left start.new)) (ends_of (F.held files.old) (F.refused files.new) (seen (T.failed input.new) (T.left input.old) (T.left input.new)) (input.new ≡ input.old) (took (K.failed out.new) (K.taken out.old) (K.taken out.new)) (out.new ≡ out.old)) result }
 {
     let Some(path) = to else {
-        return done(replay_text(rt, alloc, start, input, out, order));
+        return done(replay_text(system.threads, system.alloc, start, input, out, order));
     };
     let mut file = open(files, path)?;
-    let answer = replay_to_text(rt, alloc, start, input, &mut file, out, order);
+    let answer = replay_to_text(
+        system.threads,
+        system.alloc,
+        start,
+        input,
+        &mut file,
+        out,
+        order,
+    );
     files.close(file);
     judged(answer, Ending::Another)
 }
@@ -77,8 +93,7 @@ fn replay_to<F: Files, C: Source, T: Source, K: Sink, R: Threads + Wait + Sync>(
 // (Here and below: not inlined, or the buffers of all engines would be in one frame.)
 #[inline(never)]
 pub(crate) fn replay<F: Files, T: Source, K: Sink, R: Threads + Wait + Sync>(
-    rt: &R,
-    alloc: Global,
+    system: &System<'_, R>,
     files: &mut F,
     start: Start<'_>,
     to: Option<&str>,
@@ -91,8 +106,8 @@ pub(crate) fn replay<F: Files, T: Source, K: Sink, R: Threads + Wait + Sync>(
     requires out { K.failed out.old ≡ false }
     ensures { BeginsAt start.entry (ReplaysTo order.origin order.form order.is_blank order.workers to.entry) (ends_of (F.held files.old) (F.refused files.new) (seen (T.failed input.new) (T.left input.old) (T.left input.new)) (input.new ≡ input.old) (took (K.failed out.new) (K.taken out.old) (K.taken out.new)) (out.new ≡ out.old)) result }
 {
-    let mut beginning = begin(alloc, files, start)?;
-    let ended = replay_to(rt, alloc, files, &mut beginning, input, to, out, order);
+    let mut beginning = begin(system.alloc, files, start)?;
+    let ended = replay_to(system, files, &mut beginning, input, to, out, order);
     close(files, beginning);
     ended
 }
@@ -100,14 +115,12 @@ pub(crate) fn replay<F: Files, T: Source, K: Sink, R: Threads + Wait + Sync>(
 /// Reports the trace's custody.
 #[inline(never)]
 pub(crate) fn custody<F: Files, T: Source, K: Sink, R: Threads + Wait + Sync>(
-    rt: &R,
-    alloc: Global,
+    system: &System<'_, R>,
     files: &mut F,
     account: Account<'_>,
     vm: Option<u32>,
     input: &mut T,
     out: &mut K,
-    lanes: Lanes,
 ) -> Result<Ending, TextFault>
     requires files { F.refused files.old ≡ None }
     requires input { T.failed input.old ≡ false }
@@ -115,9 +128,20 @@ pub(crate) fn custody<F: Files, T: Source, K: Sink, R: Threads + Wait + Sync>(
     ensures { BeginsAt (start_in account.entry) (ReportsCustody (form_of account.entry) vm) (ends_of (F.held files.old) (F.refused files.new) (seen (T.failed input.new) (T.left input.old) (T.left input.new)) (input.new ≡ input.old) (took (K.failed out.new) (K.taken out.old) (K.taken out.new)) (out.new ≡ out.old)) result }
 {
     let form = account.form();
-    let mut beginning = begin(alloc, files, account.start())?;
-    let order = CustodyOrder { form, lanes, vm };
-    let answer = custody_text(rt, alloc, &mut beginning, input, out, order);
+    let mut beginning = begin(system.alloc, files, account.start())?;
+    let order = CustodyOrder {
+        form,
+        lanes: system.lanes,
+        vm,
+    };
+    let answer = custody_text(
+        system.threads,
+        system.alloc,
+        &mut beginning,
+        input,
+        out,
+        order,
+    );
     close(files, beginning);
     done(answer)
 }
@@ -125,8 +149,7 @@ pub(crate) fn custody<F: Files, T: Source, K: Sink, R: Threads + Wait + Sync>(
 /// Runs the trace live.
 #[inline(never)]
 pub(crate) fn live<F: Files, T: Source, K: Sink, R: Threads + Wait + Sync>(
-    rt: &R,
-    alloc: Global,
+    system: &System<'_, R>,
     files: &mut F,
     config: Option<&str>,
     workers: u32,
@@ -138,17 +161,24 @@ pub(crate) fn live<F: Files, T: Source, K: Sink, R: Threads + Wait + Sync>(
     requires out { K.failed out.old ≡ false }
     ensures { BeginsAt (Start.Boot config.entry) (RunsLive workers) (ends_of (F.held files.old) (F.refused files.new) (seen (T.failed input.new) (T.left input.old) (T.left input.new)) (input.new ≡ input.old) (took (K.failed out.new) (K.taken out.old) (K.taken out.new)) (out.new ≡ out.old)) result }
 {
-    let mut beginning = begin(alloc, files, Start::Boot(config))?;
-    let answer = live_text(rt, alloc, &mut beginning, input, out, workers, &OpenGate);
+    let mut beginning = begin(system.alloc, files, Start::Boot(config))?;
+    let answer = live_text(
+        system.threads,
+        system.alloc,
+        &mut beginning,
+        input,
+        out,
+        workers,
+        &OpenGate,
+    );
     close(files, beginning);
     done(answer)
 }
 
 /// Audits the dump.
 #[inline(never)]
-pub(crate) fn audit<T: Source, K: Sink>(
-    rt: &(impl Threads + Sync),
-    alloc: Global,
+pub(crate) fn audit<T: Source, K: Sink, R: Threads + Wait + Sync>(
+    system: &System<'_, R>,
     all: bool,
     input: &mut T,
     out: &mut K,
@@ -157,7 +187,10 @@ pub(crate) fn audit<T: Source, K: Sink>(
     requires out { K.failed out.old ≡ false }
     ensures { (held : Held) → AuditsDump all (ends_of held None (seen (T.failed input.new) (T.left input.old) (T.left input.new)) (input.new ≡ input.old) (took (K.failed out.new) (K.taken out.old) (K.taken out.new)) (out.new ≡ out.old)) result }
 {
-    judged(audit_text(rt, alloc, input, all, out), Ending::Unsound)
+    judged(
+        audit_text(system.threads, system.alloc, input, all, out),
+        Ending::Unsound,
+    )
 }
 
 /// Redacts the trace.
@@ -177,13 +210,11 @@ pub(crate) fn redact<T: Source, K: Sink>(
 /// Redacts the trace from where calls begin, also of what the host writes to frames of active VMs.
 #[inline(never)]
 pub(crate) fn redact_host<F: Files, T: Source, K: Sink, R: Threads + Wait + Sync>(
-    rt: &R,
-    alloc: Global,
+    system: &System<'_, R>,
     files: &mut F,
     start: Start<'_>,
     input: &mut T,
     out: &mut K,
-    lanes: Lanes,
 ) -> Result<Ending, TextFault>
     requires files { F.refused files.old ≡ None }
     requires input { T.failed input.old ≡ false }
@@ -191,8 +222,16 @@ pub(crate) fn redact_host<F: Files, T: Source, K: Sink, R: Threads + Wait + Sync
     ensures { BeginsAt start.entry (RedactsHost (origin_at start.entry)) (ends_of (F.held files.old) (F.refused files.new) (seen (T.failed input.new) (T.left input.old) (T.left input.new)) (input.new ≡ input.old) (took (K.failed out.new) (K.taken out.old) (K.taken out.new)) (out.new ≡ out.old)) result }
 {
     let origin = start.origin();
-    let mut beginning = begin(alloc, files, start)?;
-    let answer = redact_host_text(rt, alloc, &mut beginning, input, out, origin, lanes);
+    let mut beginning = begin(system.alloc, files, start)?;
+    let answer = redact_host_text(
+        system.threads,
+        system.alloc,
+        &mut beginning,
+        input,
+        out,
+        origin,
+        system.lanes,
+    );
     close(files, beginning);
     done(answer)
 }

@@ -2,26 +2,24 @@
 ghost use Rattle.std.specs.Prelude.{◌≡◌, false, None};
 ghost use Rattle.kc_texts.specs.Outcomes.{seen};
 ghost use Rattle.kc_run.specs.Endings.{took};
-ghost use Rattle.kc_run.specs.Run.{ends_of, IsEnding, IsRun};
+ghost use Rattle.kc_run.specs.Run.{ends_of, IsEnding, IsEndingOf, IsRun};
 
+use crate::beginning::open;
 use crate::ending::{Ending, Exit, end, refuse};
-use crate::engines::{audit, custody, live, redact, redact_host, replay};
+use crate::engines::{System, audit, custody, live, redact, redact_host, replay};
 use crate::files::Files;
-use crate::plan::{Plan, plan_of};
-use kc_cli::{Job, Lanes, ReplayOrder, Sink, Source, TextFault};
-use std::alloc::Global;
+use crate::plan::{Plan, input_of, plan_of};
+use kc_cli::{Job, ReplayOrder, Sink, Source, TextFault};
 use std::sync::Wait;
 use std::thread::Threads;
 
 /// Runs the engine of a plan.
 fn run_plan<F: Files, T: Source, K: Sink, R: Threads + Wait + Sync>(
-    rt: &R,
-    alloc: Global,
+    system: &System<'_, R>,
     files: &mut F,
     plan: Plan<'_>,
     input: &mut T,
     out: &mut K,
-    lanes: Lanes,
 ) -> Result<Ending, TextFault>
     requires files { F.refused files.old ≡ None }
     requires input { T.failed input.old ≡ false }
@@ -41,42 +39,61 @@ fn run_plan<F: Files, T: Source, K: Sink, R: Threads + Wait + Sync>(
                 form,
                 is_blank,
                 workers,
-                lanes,
+                lanes: system.lanes,
             };
-            replay(rt, alloc, files, start, to, input, out, order)
+            replay(system, files, start, to, input, out, order)
         },
-        Plan::Live { config, workers } => live(rt, alloc, files, config, workers, input, out),
-        Plan::Custody { account, vm } => {
-            custody(rt, alloc, files, account, vm, input, out, lanes)
-        },
-        Plan::Audit { all } => audit(rt, alloc, all, input, out),
-        Plan::Redact => redact(alloc, input, out),
-        Plan::RedactHost { start } => redact_host(rt, alloc, files, start, input, out, lanes),
+        Plan::Live { config, workers } => live(system, files, config, workers, input, out),
+        Plan::Custody { account, vm } => custody(system, files, account, vm, input, out),
+        Plan::Audit { all } => audit(system, all, input, out),
+        Plan::Redact => redact(system.alloc, input, out),
+        Plan::RedactHost { start } => redact_host(system, files, start, input, out),
     }
 }
 
-/// Does what a job asks for: opens the files that it names, reads standard input, writes onto the sink what is asked for, and
-/// onto the error sink the line of a fault, of another state, or of options that contradict each other. Each file that was opened
-/// is given back.
+/// Runs the engine of a plan over the file that is named, or over standard input if none is.
+fn run_over<F: Files, T: Source, K: Sink, R: Threads + Wait + Sync>(
+    system: &System<'_, R>,
+    files: &mut F,
+    path: Option<&str>,
+    plan: Plan<'_>,
+    input: &mut T,
+    out: &mut K,
+) -> Result<Ending, TextFault>
+    requires files { F.refused files.old ≡ None }
+    requires input { T.failed input.old ≡ false }
+    requires out { K.failed out.old ≡ false }
+    ensures { IsEndingOf F.File.left F.File.failed path.entry plan.entry (ends_of (F.held files.old) (F.refused files.new) (seen (T.failed input.new) (T.left input.old) (T.left input.new)) (input.new ≡ input.old) (took (K.failed out.new) (K.taken out.old) (K.taken out.new)) (out.new ≡ out.old)) result }
+{
+    let Some(path) = path else {
+        return run_plan(system, files, plan, input, out);
+    };
+    let mut file = open(files, path)?;
+    let ended = run_plan(system, files, plan, &mut file, out);
+    files.close(file);
+    ended
+}
+
+/// Does what a job asks for: opens the files that it names, reads its input, which is one of these or standard input, writes onto
+/// the sink what is asked for, and onto the error sink the line of a fault, of another state, or of options that contradict each
+/// other. Each file that was opened is given back.
 pub fn run_job<F: Files, T: Source, K: Sink, L: Sink, R: Threads + Wait + Sync>(
-    rt: &R,
-    alloc: Global,
+    system: &System<'_, R>,
     files: &mut F,
     job: Job<'_>,
     input: &mut T,
     out: &mut K,
     err: &mut L,
-    lanes: Lanes,
 ) -> Exit
     requires files { F.refused files.old ≡ None }
     requires input { T.failed input.old ≡ false }
     requires out { K.failed out.old ≡ false }
     requires err { L.failed err.old ≡ false }
-    ensures { IsRun job.entry (ends_of (F.held files.old) (F.refused files.new) (seen (T.failed input.new) (T.left input.old) (T.left input.new)) (input.new ≡ input.old) (took (K.failed out.new) (K.taken out.old) (K.taken out.new)) (out.new ≡ out.old)) (took (L.failed err.new) (L.taken err.old) (L.taken err.new)) (err.new ≡ err.old) result.status result.fault }
+    ensures { IsRun F.File.left F.File.failed job.entry (ends_of (F.held files.old) (F.refused files.new) (seen (T.failed input.new) (T.left input.old) (T.left input.new)) (input.new ≡ input.old) (took (K.failed out.new) (K.taken out.old) (K.taken out.new)) (out.new ≡ out.old)) (took (L.failed err.new) (L.taken err.old) (L.taken err.new)) (err.new ≡ err.old) result.status result.fault }
 {
     match plan_of(job) {
         Ok(plan) => {
-            let ended = run_plan(rt, alloc, files, plan, input, out, lanes);
+            let ended = run_over(system, files, input_of(job), plan, input, out);
             end(ended, err)
         },
         Err(clash) => refuse(clash, err),

@@ -16,6 +16,7 @@ mod plan;
 
 pub use clash::Clash;
 pub use ending::{Ending, Exit};
+pub use engines::System;
 pub use files::{Files, Unopened};
 pub use job::run_job;
 pub use plan::{Account, Plan, Start, plan_of};

@@ -1,6 +1,6 @@
 //! What a job asks for, once its options do not contradict each other.
 ghost use Rattle.std.specs.Prelude.{◌≡◌};
-ghost use Rattle.kc_run.specs.Plans.{start_of, replay_form, is_alone, summary_of, picture_of, account_of, redact_plan, plan_of, path_of, origin_at, form_of, start_in};
+ghost use Rattle.kc_run.specs.Plans.{start_of, replay_form, is_alone, summary_of, picture_of, account_of, redact_plan, plan_of, path_of, origin_at, form_of, start_in, input_of};
 
 use crate::clash::Clash;
 use kc_cli::{CustodyForm, Job, Origin, Remarks, ReplayForm};
@@ -26,7 +26,7 @@ pub enum Account<'a> {
     Picture(Option<&'a str>),
 }
 
-/// What is to be done with standard input.
+/// What is to be done with the trace or dump.
 #[derive(Clone, Copy, Debug, PartialEq, Eq)]
 pub enum Plan<'a> {
     /// Replay the trace, and compare the state that it leaves with the text in the file `to`, if that is named. Blank: with
@@ -146,12 +146,26 @@ fn redact_plan<'a>(host: bool, start: Start<'a>) -> Result<Plan<'a>, Clash>
     }
 }
 
+/// The file that a job reads in place of standard input, if one is named.
+pub(crate) fn input_of<'a>(job: Job<'a>) -> Option<&'a str>
+    ensures { result ≡ input_of job.entry }
+{
+    match job {
+        Job::Replay { input, .. } => input,
+        Job::Live { input, .. } => input,
+        Job::Custody { input, .. } => input,
+        Job::Audit { input, .. } => input,
+        Job::Redact { input, .. } => input,
+    }
+}
+
 /// What a job asks for, or what contradicts itself in it first.
 pub fn plan_of<'a>(job: Job<'a>) -> Result<Plan<'a>, Clash>
     ensures { result ≡ plan_of job.entry }
 {
     match job {
         Job::Replay {
+            input: _,
             config,
             from,
             to,
@@ -179,11 +193,13 @@ pub fn plan_of<'a>(job: Job<'a>) -> Result<Plan<'a>, Clash>
             })
         },
         Job::Live {
+            input: _,
             config,
             workers,
             explain: _,
         } => Ok(Plan::Live { config, workers }),
         Job::Custody {
+            input: _,
             config,
             from,
             vm,
@@ -200,8 +216,13 @@ pub fn plan_of<'a>(job: Job<'a>) -> Result<Plan<'a>, Clash>
             let account = account_of(summary, svg, remarks, start)?;
             Ok(Plan::Custody { account, vm })
         },
-        Job::Audit { all, explain: _ } => Ok(Plan::Audit { all }),
+        Job::Audit {
+            input: _,
+            all,
+            explain: _,
+        } => Ok(Plan::Audit { all }),
         Job::Redact {
+            input: _,
             config,
             from,
             host,

@@ -1,24 +1,27 @@
-//! What `--explain` says behind a fault's line.
-use crate::Input;
-use crate::folder::{Folder, Named};
-use kc_cli::{Std, TextFault};
+//! What is said of a fault after its line.
+use crate::asked::Kind;
+use crate::folder::{Folder, Named, Opened};
+use kc_cli::{Source, Std, TextFault};
 use kc_dump_text::DumpFault;
-use kc_explain::{Kind, Masked, Noted, Shortened, explain_config, fault_of_line, look_of};
+use kc_explain::{
+    Header, LineFault, LineFinder, Masked, Noted, Shortened, explain_config, fault_of_line,
+    fault_of_text_line, look_of,
+};
+use kc_state_text::StateFault;
 use kc_trace::{ConfigTextFault, TraceFault};
-use kc_types::{BYTE_LIMIT, ConfigFault};
-use std::fs::{File, metadata};
+use kc_types::{Actor, BYTE_LIMIT, ConfigFault};
+use std::fs::{File, OpenFile, metadata};
 use std::io::{ErrorKind, Read};
 
 const TOO_LONG: &str = "it has more than 1073741824 bytes";
 
-/// What was read before a fault came: the files, of which that which calls begin with was given back last, and standard
-/// input.
+/// What was read before a fault came.
 #[derive(Drop)]
 pub struct Reading<'a> {
-    files: &'a [Named],
-    head: &'a [u8],
-    line: &'a [u8],
-    total: u64,
+    /// The files that were given back.
+    files: &'a [Named<'a>],
+    /// The trace or dump.
+    input: &'a Named<'a>,
 }
 
 /// Why something can't be read.
@@ -37,15 +40,18 @@ pub fn explain_open(rt: &HostRuntime, path: &str, kind: ErrorKind) {
     let _ = eprintln!(rt; "  {path}: {why}");
 }
 
-/// Why a file could not be read, where that is so. A read that failed fails once more.
-fn unread_file(source: &Noted<Std<File>>) -> Option<&'static str> {
-    if source.total() > BYTE_LIMIT as u64 {
+/// Why a file could not be read, if that is so. A read that failed fails once more.
+fn unread_file(file: &Named<'_>) -> Option<&'static str> {
+    if file.source.total() > BYTE_LIMIT as u64 {
         return Some(TOO_LONG);
     }
-    if !source.inner.failed {
+    let Opened::File(file) = file.opened() else {
+        return None;
+    };
+    if !file.failed {
         return None;
     }
-    let mut file = &source.inner.inner;
+    let mut file = &file.inner;
     let mut byte = [0u8; 1];
     match Read::read(&mut file, &mut byte) {
         Ok(_) => Some("reading it failed"),
@@ -53,7 +59,7 @@ fn unread_file(source: &Noted<Std<File>>) -> Option<&'static str> {
     }
 }
 
-/// The same of standard input, after so many bytes. Where it is closed, the folder that stands in for it is read.
+/// The same of standard input, after so many bytes. If it is closed, the folder that stands in for it is read.
 fn unread_input(rt: &HostRuntime, total: u64) -> &'static str {
     if total > BYTE_LIMIT as u64 {
         return TOO_LONG;
@@ -69,38 +75,125 @@ fn unread_input(rt: &HostRuntime, total: u64) -> &'static str {
 }
 
 /// Says which key is wrong, or where the text is no JSON, of a configuration that is kept whole.
-fn explain_keys(rt: &HostRuntime, config: &Noted<Std<File>>) {
-    let text = config.head();
-    if config.total() == text.len() as u64 {
+fn explain_keys(rt: &HostRuntime, config: &Named<'_>) {
+    let text = config.source.head();
+    if config.source.total() == text.len() as u64 {
         explain_config(rt.alloc(), rt, text);
     }
 }
 
-/// Says that traces come by standard input, where `--explain` is among wrong words and one of them names a file in reach.
-pub fn explain_words(rt: &HostRuntime, words: &[&str]) {
-    if !words.iter().any(|word| *word == "--explain") {
+/// Says what may have been meant, if an argument that is no command is a file or an option.
+pub fn explain_arguments(rt: &HostRuntime, arguments: &[&str]) {
+    let Some(first) = arguments.first() else {
         return;
+    };
+    let shown = Masked(first);
+    if first.starts_with("--") {
+        let _ = eprintln!(rt; "  an option comes after a command: kcore replay {shown}");
+    } else if metadata(rt, *first).is_ok() {
+        let _ = eprintln!(rt; "  {shown} is a file: kcore replay {shown} replays a trace");
     }
-    for word in words {
-        if !word.starts_with("-") && metadata(rt, *word).is_ok() {
-            let word = Masked(word);
-            let _ = eprintln!(rt;
-                "  {word} is a file: traces and dumps come by standard input, as in kcore < {word}"
-            );
-            return;
+}
+
+/// The file at a path, read again to its end for its bad line and its actors.
+fn noted_again(rt: &HostRuntime, path: &str) -> Option<Noted<Std<File>>> {
+    let file = File::open(rt, path).ok()?;
+    let mut noted = Noted::with_lines(rt.alloc(), Std::new(file), 0);
+    let mut buffer = [0u8; 4096];
+    for _ in 0..u64::MAX {
+        if noted.inner.failed {
+            break;
         }
+        match noted.read(&mut buffer) {
+            Ok(0) | Err(_) => break,
+            Ok(_) => {},
+        }
+    }
+    Some(noted)
+}
+
+/// The line of this number in the file at a path, and the line before it.
+fn line_again(rt: &HostRuntime, path: &str, number: u32) -> Option<LineFinder> {
+    let mut file = Std::new(File::open(rt, path).ok()?);
+    let mut finder = LineFinder::new(rt.alloc(), u64::from(number));
+    let mut buffer = [0u8; 4096];
+    for _ in 0..u64::MAX {
+        if file.failed {
+            break;
+        }
+        match file.read(&mut buffer) {
+            Ok(0) | Err(_) => break,
+            Ok(count) => {
+                if !finder.feed(&buffer[..count]) {
+                    break;
+                }
+            },
+        }
+    }
+    Some(finder)
+}
+
+/// A line as it is shown: of a page, whose bytes are a guest's, the name alone.
+fn shown(line: &[u8]) -> Shortened<'_> {
+    if line.starts_with(b"page ") {
+        Shortened(b"page ...")
+    } else {
+        Shortened(line)
+    }
+}
+
+/// Says why a line of a dump or a state's text is none.
+fn explain_text_line(rt: &HostRuntime, file: &Named<'_>, number: u32) {
+    let finder = match &file.path {
+        Some(path) if file.is_regular => line_again(rt, path.as_str(), number),
+        _ => {
+            let mut finder = LineFinder::new(rt.alloc(), u64::from(number));
+            let _ = finder.feed(file.source.head());
+            Some(finder)
+        },
+    };
+    let Some(finder) = finder else { return };
+    let (line, before) = (shown(finder.line()), shown(finder.before()));
+    let why = fault_of_text_line(finder.line());
+    let _ = eprintln!(rt; "  {line}\n  {why}");
+    if why == LineFault::NotDue || why == LineFault::Empty {
+        let _ = eprintln!(rt; "  the line before it: {before}");
+    }
+}
+
+/// Says which actor of a trace, in the order in which they appear, is none of a core's, and on which line it comes first.
+fn explain_actor<S: Source + Drop>(rt: &HostRuntime, noted: &Noted<S>, program: usize) {
+    if let Some((Actor::Vcpu(vm, vcpu), line)) = noted.actor(program) {
+        let _ = eprintln!(rt;
+            "  line {line} is of virtual processor {vcpu} in slot {vm}: there are slots 0 to 15, with version 2 to 63, and in each virtual processors 0 to 7"
+        );
+    }
+}
+
+/// Says which line of a trace is bad, and why.
+fn explain_trace_line<S: Source + Drop>(rt: &HostRuntime, noted: &Noted<S>, fault: &TraceFault) {
+    let line = Shortened(noted.line());
+    let _ = eprintln!(rt; "  {line}");
+    if let TraceFault::BadLine(_) = fault {
+        let why = fault_of_line(noted.line());
+        let _ = eprintln!(rt; "  {why}");
     }
 }
 
 impl<'a> Reading<'a> {
     /// The files that were given back, and standard input.
-    pub fn of(files: &'a Folder<'_>, input: &'a Input<'_>) -> Reading<'a> {
-        Reading {
-            files: &files.read,
-            head: input.head(),
-            line: input.line(),
-            total: input.total(),
-        }
+    pub fn of(files: &'a Folder<'a>, standard: &'a Named<'a>) -> Reading<'a> {
+        let files = files.read.as_slice();
+        let input = match files.iter().find(|file| file.kind.is_input()) {
+            Some(file) => file,
+            None => standard,
+        };
+        Reading { files, input }
+    }
+
+    /// The file of this kind, if one was read.
+    fn file(&self, kind: Kind) -> Option<&'a Named<'a>> {
+        self.files.iter().find(|file| file.kind == kind)
     }
 
     /// Says more of a fault, after its line.
@@ -108,10 +201,18 @@ impl<'a> Reading<'a> {
         match fault {
             TextFault::Trace(fault) => self.explain_trace(rt, fault),
             TextFault::Dump(DumpFault::NoHeader) => {
-                let look = look_of(self.head, Kind::Dump);
-                let _ = eprintln!(rt; "  standard input is no dump: {look}");
+                let look = look_of(self.input.source.head(), Header::Dump);
+                let _ = eprintln!(rt; "  {} is not a dump: {look}", self.input);
             },
+            TextFault::Dump(DumpFault::BadLine(number)) => {
+                explain_text_line(rt, self.input, *number);
+            },
+            TextFault::State(fault) => self.explain_state(rt, fault),
             TextFault::Config(fault) => self.explain_config(rt, fault),
+            TextFault::BadActor(program) => match self.again(rt) {
+                Some(noted) => explain_actor(rt, &noted, *program),
+                None => explain_actor(rt, &self.input.source, *program),
+            },
             TextFault::NoSlot(_) => {
                 let _ = eprintln!(rt;
                     "  slots are numbered from 0: version 1 has 16, version 2 has 64"
@@ -122,50 +223,82 @@ impl<'a> Reading<'a> {
         }
     }
 
+    /// The trace, read again if it is an ordinary file that was named.
+    fn again(&self, rt: &HostRuntime) -> Option<Noted<Std<File>>> {
+        match &self.input.path {
+            Some(path) if self.input.is_regular => noted_again(rt, path.as_str()),
+            _ => None,
+        }
+    }
+
     fn explain_trace(&self, rt: &HostRuntime, fault: &TraceFault) {
-        let line = Shortened(self.line);
         match fault {
             TraceFault::NoHeader => {
-                let look = look_of(self.head, Kind::Trace);
-                let _ = eprintln!(rt; "  standard input is no trace: {look}");
+                let look = look_of(self.input.source.head(), Header::Trace);
+                let _ = eprintln!(rt; "  {} is not a trace: {look}", self.input);
             },
-            TraceFault::BadLine(_) => {
-                let why = fault_of_line(self.line);
-                let _ = eprintln!(rt; "  {line}\n  {why}");
+            TraceFault::BadLine(_) | TraceFault::NoNewline => match self.again(rt) {
+                Some(noted) => explain_trace_line(rt, &noted, fault),
+                None => explain_trace_line(rt, &self.input.source, fault),
             },
-            TraceFault::NoNewline => {
-                let _ = eprintln!(rt; "  {line}");
+            TraceFault::TooManyCalls => {
+                let _ = eprintln!(rt;
+                    "  a trace has up to 65536 calls: a longer life is replayed in volumes, each --from the --state that the one before it left"
+                );
+            },
+            TraceFault::Memory => {},
+        }
+    }
+
+    fn explain_state(&self, rt: &HostRuntime, fault: &StateFault) {
+        let Some(state) = self.file(Kind::State) else {
+            return;
+        };
+        match fault {
+            StateFault::NoHeader => {
+                let look = look_of(state.source.head(), Header::State);
+                let _ = eprintln!(rt; "  {state} is not a state's text: {look}");
+            },
+            StateFault::BadLine(number) => explain_text_line(rt, state, *number),
+            StateFault::Sizes => {
+                let _ = eprintln!(rt;
+                    "  {state}: the slots and frames of line 2 are not those of the dump, or the host and the core have more than all frames"
+                );
+            },
+            StateFault::Found(_) => {
+                let _ = eprintln!(rt;
+                    "  {state}: sed -n '/^kcore-dump /,$p' | kcore audit --all lists all that is found in its dump"
+                );
             },
             _ => {},
         }
     }
 
     fn explain_config(&self, rt: &HostRuntime, fault: &ConfigTextFault) {
-        let Some(start) = self.files.last() else {
+        let Some(config) = self.file(Kind::Config) else {
             return;
         };
-        let path = Masked(start.path.as_str());
         match fault {
             ConfigTextFault::Config(ConfigFault::Frames) => {
                 let _ = eprintln!(rt;
-                    "  {path}: frames is from 1 to 8192, with version 2 to 65536"
+                    "  {config}: frames is from 1 to 8192, with version 2 to 65536"
                 );
             },
             ConfigTextFault::Config(ConfigFault::CoreHost) => {
-                let _ = eprintln!(rt; "  {path}: core and host together are at most frames");
+                let _ = eprintln!(rt; "  {config}: core and host together are at most frames");
             },
             ConfigTextFault::Config(ConfigFault::Leaves) => {
-                let _ = eprintln!(rt; "  {path}: leaves is from 1 to 64");
+                let _ = eprintln!(rt; "  {config}: leaves is from 1 to 64");
             },
             ConfigTextFault::Config(ConfigFault::TooManyDigests) => {
-                let _ = eprintln!(rt; "  {path}: approved has at most 64 entries");
+                let _ = eprintln!(rt; "  {config}: approved has at most 64 entries");
             },
             ConfigTextFault::NotJson => {
-                let look = look_of(start.source.head(), Kind::Config);
-                let _ = eprintln!(rt; "  {path}: {look}");
-                explain_keys(rt, &start.source);
+                let look = look_of(config.source.head(), Header::None);
+                let _ = eprintln!(rt; "  {config}: {look}");
+                explain_keys(rt, config);
             },
-            ConfigTextFault::BadShape => explain_keys(rt, &start.source),
+            ConfigTextFault::BadShape => explain_keys(rt, config),
             ConfigTextFault::Memory => {},
         }
     }
@@ -173,13 +306,12 @@ impl<'a> Reading<'a> {
     /// Of the file whose reading failed, else of standard input.
     fn explain_read(&self, rt: &HostRuntime) {
         for file in self.files.iter().rev() {
-            if let Some(why) = unread_file(&file.source) {
-                let path = Masked(file.path.as_str());
-                let _ = eprintln!(rt; "  {path}: {why}");
+            if let Some(why) = unread_file(file) {
+                let _ = eprintln!(rt; "  {file}: {why}");
                 return;
             }
         }
-        let why = unread_input(rt, self.total);
-        let _ = eprintln!(rt; "  standard input: {why}");
+        let why = unread_input(rt, self.input.source.total());
+        let _ = eprintln!(rt; "  {}: {why}", self.input);
     }
 }

@@ -1,27 +1,75 @@
-//! The files of the system, as a job opens them.
-ghost use Rattle.std.specs.Prelude.{◌≡◌, None, option_map, string_bytes};
+//! Standard input and the files of the system, as a job opens them.
+ghost use Rattle.std.specs.Prelude.{◌≡◌, false, None, option_map, string_bytes};
+ghost use Rattle.kcore.specs.Opened.{has_failed};
 
+use crate::asked::{Asked, Kind};
 use kc_cli::{Failed, Source, Std};
-use kc_explain::Noted;
+use kc_explain::{Awaited, Masked, Noted, Progress, Shown};
 use kc_run::{Files, Unopened};
+use std::fmt;
 use std::fs::{File, OpenFile};
-use std::io::ErrorKind;
+use std::io::{ErrorKind, IsTerminal, Stdin};
 
-/// So many of the first bytes of a configuration are kept.
-const KEPT: usize = 65_536;
-
-/// A file that a job names, as the engines read it.
+/// What was opened to be read.
 #[derive(Drop)]
-pub struct Named {
-    pub path: String,
-    pub source: Noted<Std<File>>,
+pub enum Opened {
+    /// Standard input.
+    Standard(Std<Stdin>),
+    /// A file of the system.
+    File(Std<File>),
 }
 
-impl Source for Named {
-    // What a file of the system holds is known to no clause.
+impl Source for Opened {
+    // What the system gives is known to no clause.
     ghost left = { λ _. None };
 
-    ghost failed = { λ named. named.source.inner.failed };
+    ghost failed = { λ opened. has_failed opened };
+
+    fn read(&mut self, buffer: &mut [u8]) -> Result<usize, Failed> {
+        match self {
+            Opened::Standard(input) => input.read(buffer),
+            Opened::File(file) => file.read(buffer),
+        }
+    }
+
+    fn size_hint(&self) -> usize {
+        match self {
+            Opened::Standard(input) => input.size_hint(),
+            Opened::File(file) => file.size_hint(),
+        }
+    }
+}
+
+/// What the engines read, with what explains a fault of it.
+#[derive(Drop)]
+pub struct Named<'a> {
+    /// The path; none is standard input's.
+    pub path: Option<String>,
+    pub kind: Kind,
+    /// Whether it is an ordinary file, which can be read again.
+    pub is_regular: bool,
+    pub source: Noted<Shown<'a, Awaited<'a, Opened, HostRuntime>, HostRuntime>>,
+}
+
+impl<'a> Named<'a> {
+    pub fn opened(&self) -> &Opened {
+        &self.source.inner.inner.inner
+    }
+}
+
+impl fmt::Display for Named<'_> {
+    fn fmt<W: fmt::Write>(&self, f: &mut fmt::Formatter<W>) -> fmt::Result {
+        match &self.path {
+            Some(path) => write!(f, "{}", Masked(path.as_str())),
+            None => f.write_str("standard input"),
+        }
+    }
+}
+
+impl<'a> Source for Named<'a> {
+    ghost left = { λ _. None };
+
+    ghost failed = { λ named. has_failed named.source.inner.inner.inner };
 
     fn read(&mut self, buffer: &mut [u8]) -> Result<usize, Failed> {
         self.source.read(buffer)
@@ -32,50 +80,94 @@ impl Source for Named {
     }
 }
 
-/// The files of the system. Those that were read are kept for what `--explain` says of them.
+/// The files of the system. Those that were read are kept for what explains a fault.
 #[derive(Drop)]
 pub struct Folder<'a> {
     rt: &'a HostRuntime,
-    /// The path of the configuration, if its first bytes are kept. Nothing is kept of a state's text, which is a secret.
-    config: Option<&'a str>,
+    asked: Asked<'a>,
+    progress: &'a Progress<'a, HostRuntime>,
     /// The path of the file that could not be opened, if there is one, and why.
     pub refused: Option<String>,
     pub why: ErrorKind,
     /// The files that were given back.
-    pub read: Vec<Named>,
+    pub read: Vec<Named<'a>>,
 }
 
 impl<'a> Folder<'a> {
     /// No file is open yet.
-    pub fn new(rt: &'a HostRuntime, config: Option<&'a str>) -> Folder<'a>
+    pub fn new(
+        rt: &'a HostRuntime,
+        asked: Asked<'a>,
+        progress: &'a Progress<'a, HostRuntime>,
+    ) -> Folder<'a>
         ensures { result.refused ≡ None }
     {
         Folder {
             rt,
-            config,
+            asked,
+            progress,
             refused: None,
             why: ErrorKind::NotFound,
             read: Vec::new(rt.alloc()),
         }
     }
 
-    /// How many of the first bytes of the file at a path are kept.
-    fn kept(&self, path: &str) -> usize {
-        match self.config {
-            Some(config) if config == path => KEPT,
-            _ => 0,
+    /// Standard input. At a terminal that it awaits it says so.
+    pub fn standard_input(&self) -> Named<'a>
+        ensures { has_failed result.source.inner.inner.inner ≡ false }
+    {
+        let awaited = if self.rt.stderr().is_terminal() && self.rt.stdin().is_terminal() {
+            Some(self.asked.kind.word())
+        } else {
+            None
+        };
+        let opened = Opened::Standard(Std::new(self.rt.stdin()));
+        self.named(None, self.asked.kind, false, opened, awaited)
+    }
+
+    /// What was opened, with what is kept of it to explain a fault, and shown, if it is the trace or dump and standard error is
+    /// a terminal and standard output is not, how much of it was read.
+    fn named(
+        &self,
+        path: Option<String>,
+        kind: Kind,
+        is_regular: bool,
+        opened: Opened,
+        awaited: Option<&'static str>,
+    ) -> Named<'a>
+        ensures { result.source.inner.inner.inner ≡ opened }
+    {
+        let is_shown = kind == self.asked.kind
+            && self.rt.stderr().is_terminal()
+            && !self.rt.stdout().is_terminal();
+        let progress = if is_shown { Some(self.progress) } else { None };
+        let source = Awaited::new(opened, self.rt, awaited);
+        let shown = Shown::new(source, progress);
+        let alloc = self.rt.alloc();
+        let source = if !self.asked.explain {
+            Noted::with_head(alloc, shown, 0)
+        } else if kind == Kind::Trace && !is_regular {
+            Noted::with_lines(alloc, shown, kind.kept())
+        } else {
+            Noted::with_head(alloc, shown, kind.kept())
+        };
+        Named {
+            path,
+            kind,
+            is_regular,
+            source,
         }
     }
 }
 
 impl<'a> Files for Folder<'a> {
-    type File = Named;
+    type File = Named<'a>;
 
     ghost held = { λ _ _. None };
 
     ghost refused = { λ folder. option_map string_bytes folder.refused };
 
-    fn open(&mut self, path: &str) -> Result<Named, Unopened> {
+    fn open(&mut self, path: &str) -> Result<Named<'a>, Unopened> {
         let alloc = self.rt.alloc();
         let Ok(name) = String::from_str(alloc, path) else {
             return Err(Unopened::Memory);
@@ -88,15 +180,16 @@ impl<'a> Files for Folder<'a> {
                 return Err(Unopened::Refused);
             },
         };
-        let size = match file.metadata() {
-            Ok(metadata) => metadata.len() as usize,
-            Err(_) => 0,
+        let (size, is_regular) = match file.metadata() {
+            Ok(metadata) => (metadata.len() as usize, metadata.is_file()),
+            Err(_) => (0, false),
         };
-        let source = Noted::with_head(alloc, Std::with_size(file, size), self.kept(path));
-        Ok(Named { path: name, source })
+        let opened = Opened::File(Std::with_size(file, size));
+        let kind = self.asked.kind_of(path);
+        Ok(self.named(Some(name), kind, is_regular, opened, None))
     }
 
-    fn close(&mut self, file: Named) {
+    fn close(&mut self, file: Named<'a>) {
         // Without memory nothing is kept to be explained.
         let _ = self.read.push(file);
     }

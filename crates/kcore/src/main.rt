@@ -1,107 +1,38 @@
-//! The program: words, files and standard streams around the text engines.
+//! The program: the command line, files and standard streams around the text engines.
 #![tactic(auto)]
 
 ghost use Rattle.std.specs.Prelude.{◌≡◌, false};
 
+mod asked;
 mod explaining;
 mod folder;
 
-use crate::explaining::{Reading, explain_open, explain_words};
-use crate::folder::Folder;
+use crate::asked::Asked;
+use crate::explaining::{Reading, explain_arguments, explain_open};
+use crate::folder::{Folder, Named};
 use kc_cli::{ArgFault, Job, Lanes, Std, TextFault, job_of, tell};
-use kc_explain::{Awaited, Erasing, Noted, Progress, Shown};
-use kc_run::{Exit, run_job};
+use kc_explain::{Erasing, Progress};
+use kc_run::{Exit, System, run_job};
 use std::env;
 use std::fs::{File, OpenFile};
-use std::io::{Error, ErrorKind, IsTerminal, Stdin};
+use std::io::{Error, ErrorKind, IsTerminal};
 use std::process::ExitCode;
 use std::sync::Wait;
 use std::thread::Threads;
-
-/// Standard input, as the engines read it.
-type Input<'a> = Noted<Shown<'a, Awaited<'a, Std<Stdin>, HostRuntime>, HostRuntime>>;
-
-/// What standard input holds.
-#[derive(Clone, Copy, PartialEq, Eq)]
-enum Kind {
-    Trace,
-    Dump,
-}
 
 /// Writes the fault's line on standard error, and answers the exit status.
 fn fail(rt: &HostRuntime, fault: TextFault) -> u8 {
     tell(&fault, &mut Std::new(rt.stderr()))
 }
 
-/// The root folder, opened: where standard input or output is closed it takes the number, which the configuration's file
-/// would have otherwise. Nothing can be read of it, and nothing written. Where it can't be opened, the program does without.
+/// The root folder, opened: if standard input or output is closed it takes the number, which the configuration's file
+/// would have otherwise. Nothing can be read of it, and nothing written. If it can't be opened, the program does without.
 fn stand_in(rt: &HostRuntime) -> Option<File> {
     File::open(rt, "/").ok()
 }
 
-/// Standard input. At a terminal that it awaits it says so, and where standard error is one and standard output is none it is
-/// shown how much was read. Of what `--explain` needs the beginning is kept, and of a trace the bad line.
-fn input<'a>(
-    rt: &'a HostRuntime,
-    progress: &'a Progress<'a, HostRuntime>,
-    kind: Kind,
-    explain: bool,
-) -> Input<'a>
-    ensures { result.inner.inner.inner.failed ≡ false }
-{
-    let is_seen = rt.stderr().is_terminal();
-    let awaited = if is_seen && rt.stdin().is_terminal() {
-        Some(match kind {
-            Kind::Trace => "trace",
-            Kind::Dump => "dump",
-        })
-    } else {
-        None
-    };
-    let progress = if is_seen && !rt.stdout().is_terminal() {
-        Some(progress)
-    } else {
-        None
-    };
-    let source = Awaited::new(Std::new(rt.stdin()), rt, awaited);
-    let shown = Shown::new(source, progress);
-    let alloc = rt.alloc();
-    match kind {
-        _ if !explain => Noted::with_head(alloc, shown, 0),
-        Kind::Trace => Noted::with_lines(alloc, shown, 64),
-        Kind::Dump => Noted::with_head(alloc, shown, 64),
-    }
-}
-
-/// What standard input holds for a job, whether a fault is to be explained, and the file of its configuration.
-fn asked_of<'a>(job: &Job<'a>) -> (Kind, bool, Option<&'a str>) {
-    match *job {
-        Job::Replay {
-            config,
-            explain,
-            ..
-        } => (Kind::Trace, explain, config),
-        Job::Live {
-            config,
-            explain,
-            ..
-        } => (Kind::Trace, explain, config),
-        Job::Custody {
-            config,
-            explain,
-            ..
-        } => (Kind::Trace, explain, config),
-        Job::Audit { explain, .. } => (Kind::Dump, explain, None),
-        Job::Redact {
-            config,
-            explain,
-            ..
-        } => (Kind::Trace, explain, config),
-    }
-}
-
 /// Says more of the fault that a job ended with, if it did.
-fn explain_exit(rt: &HostRuntime, files: &Folder<'_>, input: &Input<'_>, exit: Exit) {
+fn explain_exit(rt: &HostRuntime, files: &Folder<'_>, input: &Named<'_>, exit: Exit) {
     let Some(fault) = exit.fault else { return };
     match &files.refused {
         Some(path) => explain_open(rt, path.as_str(), files.why),
@@ -109,64 +40,59 @@ fn explain_exit(rt: &HostRuntime, files: &Folder<'_>, input: &Input<'_>, exit: E
     }
 }
 
-/// Opens standard input and the other streams, has the job run, and answers the exit status.
+/// Opens standard input and the other streams, has the job run, and answers the exit status. A fault is explained if that is
+/// asked for, and at a terminal.
 fn run_with<R: Threads + Wait + Sync>(
     rt: &HostRuntime,
     threads: &R,
     job: Job<'_>,
     lanes: Lanes,
 ) -> u8 {
-    let (kind, explain, config) = asked_of(&job);
-    let _standing_in = match kind {
-        Kind::Trace => stand_in(rt),
-        Kind::Dump => None,
-    };
-    let mut files = Folder::new(rt, if explain { config } else { None });
+    let mut asked = Asked::of(&job);
+    asked.explain = asked.explain || rt.stderr().is_terminal();
+    let _standing_in = stand_in(rt);
     let progress = Progress::new(rt);
-    let mut input = input(rt, &progress, kind, explain);
+    let mut files = Folder::new(rt, asked, &progress);
+    let mut input = files.standard_input();
     let mut out = Std::new(rt.stdout());
     let mut err = Erasing::new(Std::new(rt.stderr()), &progress);
-    let exit = run_job(
+    let system = System {
         threads,
-        rt.alloc(),
-        &mut files,
-        job,
-        &mut input,
-        &mut out,
-        &mut err,
+        alloc: rt.alloc(),
         lanes,
-    );
+    };
+    let exit = run_job(&system, &mut files, job, &mut input, &mut out, &mut err);
     progress.erase();
-    if explain {
+    if asked.explain {
         explain_exit(rt, &files, &input, exit);
     }
     exit.status
 }
 
-/// Prints what stands in place of a job, and answers the exit status.
-fn refuse(rt: &HostRuntime, words: &[&str], fault: ArgFault) -> u8 {
+/// Prints what comes in place of a job, and answers the exit status.
+fn refuse(rt: &HostRuntime, arguments: &[&str], fault: ArgFault) -> u8 {
     match fault {
         ArgFault::Memory => fail(rt, TextFault::Memory),
-        ArgFault::Words(text, 0) => {
+        ArgFault::Message(text, 0) => {
             if rt.print(text).is_err() {
                 return fail(rt, TextFault::Write);
             }
             0
         },
-        ArgFault::Words(text, status) => {
+        ArgFault::Message(text, status) => {
             let _ = rt.eprint(text);
-            explain_words(rt, words);
+            explain_arguments(rt, arguments);
             status
         },
     }
 }
 
-/// Says why the words can't be read, and answers the exit status.
-fn refuse_words(rt: &HostRuntime, error: &Error) -> u8 {
+/// Says why the command line can't be read, and answers the exit status.
+fn refuse_arguments(rt: &HostRuntime, error: &Error) -> u8 {
     if error.kind() == ErrorKind::OutOfMemory {
         return fail(rt, TextFault::Memory);
     }
-    let _ = rt.eprint("error: a word is not UTF-8\n");
+    let _ = rt.eprint("error: an argument is not UTF-8\n");
     2
 }
 
@@ -183,25 +109,25 @@ fn lanes_of(name: &str) -> Lanes {
 fn run<R: Threads + Wait + Sync>(rt: &HostRuntime, threads: &R) -> u8 {
     let mut arguments = match env::args(rt) {
         Ok(arguments) => arguments,
-        Err(error) => return refuse_words(rt, &error),
+        Err(error) => return refuse_arguments(rt, &error),
     };
     let lanes = match arguments.next() {
         Some(name) => lanes_of(name.as_str()),
         None => Lanes::Four,
     };
-    let Ok(words) = arguments.collect::<Vec<String>>(rt.alloc()) else {
+    let Ok(texts) = arguments.collect::<Vec<String>>(rt.alloc()) else {
         return fail(rt, TextFault::Memory);
     };
-    let Ok(words) = words
+    let Ok(texts) = texts
         .iter()
         .map(String::as_str)
         .collect::<Vec<&str>>(rt.alloc())
     else {
         return fail(rt, TextFault::Memory);
     };
-    match job_of(rt.alloc(), words.as_slice()) {
+    match job_of(rt.alloc(), texts.as_slice()) {
         Ok(job) => run_with(rt, threads, job, lanes),
-        Err(fault) => refuse(rt, words.as_slice(), fault),
+        Err(fault) => refuse(rt, texts.as_slice(), fault),
     }
 }
 

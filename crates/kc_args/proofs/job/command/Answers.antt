@@ -7,8 +7,8 @@ use Rattle.kc_args.proofs.job.command.Goals as goal
 
 pub returns : goal.returns
 returns c =
-    let top_is : app_of c.about.result ≡ on_top (λ s. record s { no_binary_name = true; has_version = true }) (new_app (codes "kcore")) =
-    ap app_of_fields c.about.ensures ∙ ap app_of_fields c.version.ensures
+    let top_is : app_of c.after_help.result ≡ on_top (λ s. record s { no_binary_name = true; has_version = true }) (new_app (codes "kcore")) =
+    ap app_of_fields c.after_help.ensures ∙ ap app_of_fields c.about.ensures ∙ ap app_of_fields c.version.ensures
     ∙ ap (on_top (λ s. record s { has_version = true })) (ap app_of_fields c.no_binary_name.ensures ∙ ap (on_top (λ s. record s { no_binary_name = true })) c.new.ensures.app)
     in
     let base_is : app_of c.in_ok-base.base ≡ base = c.in_ok-base.ensures.shape c.in_ok-replay.ensures.local ∙ ap₂ with_subcommand top_is (ap (λ (a : App). a.top) c.in_ok-replay.ensures.app) in

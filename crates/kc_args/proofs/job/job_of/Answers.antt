@@ -7,18 +7,18 @@ use Rattle.kc_args.proofs.job.job_of.Goals as goal
 pub returns-in-Some-clause-job : goal.returns-in-Some-clause-job
 returns-in-Some-clause-job c =
     let app_is = c.in_ok-command.ensures.app in
-    let words = map (λ w. w.now) c.args.words.now in
-    let met = (c.in-Ok.ensures.matches (ap is_simple app_is ∙ kcore_is_simple)).1 ∙ ap (λ (a : App). subcommand_of a words) app_is in
+    let arguments = map (λ w. w.now) c.args.arguments.now in
+    let met = (c.in-Ok.ensures.matches (ap is_simple app_is ∙ kcore_is_simple)).1 ∙ ap (λ (a : App). subcommand_of a arguments) app_is in
     record {
-      faultless = nothing_refused words _ app_is (c.in-Ok.ensures.kinds (ap is_simple_and_free app_is ∙ kcore_is_free));
-      asked = asked_within words (subcommand_rows_of c.in-Ok.matches) c.in-Some.name.now (rows_of (found_of c.in-Some.found.now)) _ met (c.in-Some.ensures.name ∙ named c.in-Ok.matches) c.in-Some.ensures.rows c.job_in.ensures;
+      faultless = nothing_refused arguments _ app_is (c.in-Ok.ensures.kinds (ap is_simple_and_free app_is ∙ kcore_is_free));
+      asked = asked_within arguments (subcommand_rows_of c.in-Ok.matches) c.in-Some.name.now (rows_of (found_of c.in-Some.found.now)) _ met (c.in-Some.ensures.name ∙ named c.in-Ok.matches) c.in-Some.ensures.rows c.job_in.ensures;
     }
 
 pub returns-in-Err-clause-refused : goal.returns-in-Err-clause-refused
 returns-in-Err-clause-refused c =
     let app_is = c.in_ok-command.ensures.app in
-    let words = map (λ w. w.now) c.args.words.now in
-    refused_for words (app_of c.in_ok-command.field-0) (kind_of c.in-Err.error) c.refused.result app_is (c.in-Err.ensures.kinds (ap is_simple_and_free app_is ∙ kcore_is_free)) c.refused.ensures
+    let arguments = map (λ w. w.now) c.args.arguments.now in
+    refused_for arguments (app_of c.in_ok-command.field-0) (kind_of c.in-Err.error) c.refused.result app_is (c.in-Err.ensures.kinds (ap is_simple_and_free app_is ∙ kcore_is_free)) c.refused.ensures
 
 pub returns-clause-job : goal.returns-clause-job
 returns-clause-job c = search rules

@@ -7,18 +7,19 @@ use Rattle.kc_args.proofs.job.replay_command.Goals as goal
 
 pub returns-clause-app : goal.returns-clause-app
 returns-clause-app c =
-    let with_config = c.in_ok-arg.ensures.shape c.config_arg.ensures.local ∙ ap₂ with_rule (ap app_of_fields c.override_usage.ensures ∙ ap app_of_fields c.about.ensures ∙ c.new.ensures.app) c.config_arg.ensures.rule in
+    let with_config = c.in_ok-arg.ensures.shape c.config_arg.ensures.local ∙ ap₂ with_rule (ap app_of_fields c.after_help.ensures ∙ ap app_of_fields c.override_usage.ensures ∙ ap app_of_fields c.about.ensures ∙ c.new.ensures.app) c.config_arg.ensures.rule in
     let with_from = c.in_ok-arg-2.ensures.shape c.from_arg.ensures.local ∙ ap₂ with_rule with_config c.from_arg.ensures.rule in
     let with_to = c.in_ok-arg-3.ensures.shape c.to_arg.ensures.local ∙ ap₂ with_rule with_from c.to_arg.ensures.rule in
     let with_workers = c.in_ok-arg-4.ensures.shape c.workers_arg.ensures.local ∙ ap₂ with_rule with_to c.workers_arg.ensures.rule in
     let with_dump = c.in_ok-arg-5.ensures.shape c.dump_arg.ensures.local ∙ ap₂ with_rule with_workers c.dump_arg.ensures.rule in
     let with_state = c.in_ok-arg-6.ensures.shape c.state_arg.ensures.local ∙ ap₂ with_rule with_dump c.state_arg.ensures.rule in
     let with_blank = c.in_ok-arg-7.ensures.shape c.blank_arg.ensures.local ∙ ap₂ with_rule with_state c.blank_arg.ensures.rule in
-    IfOk-weaker c.arg-8.result _ _ (λ r h. h.shape c.explain_arg.ensures.local ∙ ap₂ with_rule with_blank c.explain_arg.ensures.rule) c.arg-8.ensures
+    let with_explain = c.in_ok-arg-8.ensures.shape c.explain_arg.ensures.local ∙ ap₂ with_rule with_blank c.explain_arg.ensures.rule in
+    IfOk-weaker c.arg-9.result _ _ (λ r h. h.shape c.file_arg.ensures.local ∙ ap₂ with_rule with_explain c.file_arg.ensures.rule) c.arg-9.ensures
 
 pub returns-clause-local : goal.returns-clause-local
 returns-clause-local c =
-    let start = ap (λ f. f.has_globals) c.override_usage.ensures ∙ ap (λ f. f.has_globals) c.about.ensures ∙ c.new.ensures.local in
+    let start = ap (λ f. f.has_globals) c.after_help.ensures ∙ ap (λ f. f.has_globals) c.override_usage.ensures ∙ ap (λ f. f.has_globals) c.about.ensures ∙ c.new.ensures.local in
     let one = stays_local _ _ _ c.in_ok-arg.ensures start c.config_arg.ensures.local in
     let two = stays_local _ _ _ c.in_ok-arg-2.ensures one c.from_arg.ensures.local in
     let three = stays_local _ _ _ c.in_ok-arg-3.ensures two c.to_arg.ensures.local in
@@ -26,4 +27,5 @@ returns-clause-local c =
     let five = stays_local _ _ _ c.in_ok-arg-5.ensures four c.dump_arg.ensures.local in
     let six = stays_local _ _ _ c.in_ok-arg-6.ensures five c.state_arg.ensures.local in
     let seven = stays_local _ _ _ c.in_ok-arg-7.ensures six c.blank_arg.ensures.local in
-    IfOk-weaker c.arg-8.result _ _ (λ r h. stays_local _ _ _ h seven c.explain_arg.ensures.local) c.arg-8.ensures
+    let eight = stays_local _ _ _ c.in_ok-arg-8.ensures seven c.explain_arg.ensures.local in
+    IfOk-weaker c.arg-9.result _ _ (λ r h. stays_local _ _ _ h eight c.file_arg.ensures.local) c.arg-9.ensures

@@ -1,0 +1,112 @@
+//! What a job asks for, as far as its files and their faults are concerned.
+use kc_cli::Job;
+
+/// What a text is to the job.
+#[derive(Clone, Copy, Debug, PartialEq, Eq)]
+pub enum Kind {
+    Trace,
+    Dump,
+    Config,
+    /// A state in which calls begin.
+    State,
+    /// A state that is compared with the one that they leave.
+    Compared,
+}
+
+impl Kind {
+    /// The kind's name.
+    pub fn word(self) -> &'static str {
+        match self {
+            Kind::Trace => "trace",
+            Kind::Dump => "dump",
+            Kind::Config => "configuration",
+            Kind::State | Kind::Compared => "state",
+        }
+    }
+
+    /// Whether it is a text of which a job reads one, on standard input or in a file.
+    pub fn is_input(self) -> bool {
+        match self {
+            Kind::Trace | Kind::Dump => true,
+            Kind::Config | Kind::State | Kind::Compared => false,
+        }
+    }
+
+    /// How many of the first bytes are kept to explain a fault: of a state, which is a secret, the header. A dump of 65,536
+    /// frames has some 8 MB.
+    pub fn kept(self) -> usize {
+        match self {
+            Kind::Trace | Kind::State => 64,
+            Kind::Dump => 16_777_216,
+            Kind::Config => 65_536,
+            Kind::Compared => 0,
+        }
+    }
+}
+
+/// What a job asks for of its input and its configuration, and whether a fault is to be explained.
+#[derive(Clone, Copy, Debug)]
+pub struct Asked<'a> {
+    /// What the input is.
+    pub kind: Kind,
+    input: Option<&'a str>,
+    config: Option<&'a str>,
+    from: Option<&'a str>,
+    pub explain: bool,
+}
+
+impl<'a> Asked<'a> {
+    /// What this job asks for.
+    pub fn of(job: &Job<'a>) -> Asked<'a> {
+        let (kind, input, config, from, explain) = match *job {
+            Job::Replay {
+                input,
+                config,
+                from,
+                explain,
+                ..
+            } => (Kind::Trace, input, config, from, explain),
+            Job::Live {
+                input,
+                config,
+                explain,
+                ..
+            } => (Kind::Trace, input, config, None, explain),
+            Job::Custody {
+                input,
+                config,
+                from,
+                explain,
+                ..
+            } => (Kind::Trace, input, config, from, explain),
+            Job::Audit { input, explain, .. } => (Kind::Dump, input, None, None, explain),
+            Job::Redact {
+                input,
+                config,
+                from,
+                explain,
+                ..
+            } => (Kind::Trace, input, config, from, explain),
+        };
+        Asked {
+            kind,
+            input,
+            config,
+            from,
+            explain,
+        }
+    }
+
+    /// What the file at a path is to the job.
+    pub fn kind_of(&self, path: &str) -> Kind {
+        if self.config == Some(path) {
+            Kind::Config
+        } else if self.input == Some(path) {
+            self.kind
+        } else if self.from == Some(path) {
+            Kind::State
+        } else {
+            Kind::Compared
+        }
+    }
+}
