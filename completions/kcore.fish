@@ -24,6 +24,7 @@ complete -c kcore -n '__fish_seen_subcommand_from replay' -l blank -d 'Zero the 
 complete -c kcore -n '__fish_seen_subcommand_from custody' -l vm -xa '(seq 0 63)' -d 'The VM in this slot alone'
 complete -c kcore -n '__fish_seen_subcommand_from custody' -l summary -d 'Write the life of each VM'
 complete -c kcore -n '__fish_seen_subcommand_from custody' -l svg -d 'Write a picture'
+complete -c kcore -n '__fish_seen_subcommand_from custody' -l html -d 'Write a page for a browser'
 complete -c kcore -n '__fish_seen_subcommand_from custody' -l refused -d 'Also write what was refused'
 complete -c kcore -n '__fish_seen_subcommand_from custody' -l accesses -d 'Also write what frames of VMs served'
 complete -c kcore -n '__fish_seen_subcommand_from audit' -l all -d 'Write each finding'

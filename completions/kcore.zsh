@@ -11,6 +11,7 @@ _kcore() {
     local vm='--vm=[the VM in this slot alone]:slot:({0..63})'
     local summary='--summary[write the life of each VM]'
     local svg='--svg[write a picture]'
+    local html='--html[write a page for a browser]'
     local refused='--refused[also write what was refused]'
     local accesses='--accesses[also write what frames of VMs served]'
     local all='--all[write each finding]'
@@ -38,7 +39,7 @@ _kcore() {
     case $words[1] in
         replay) _arguments $config $from $to $workers $dump $state_text $blank $explain $help $file ;;
         live) _arguments $config $workers $explain $help $file ;;
-        custody) _arguments $config $from $vm $summary $svg $refused $accesses $explain $help $file ;;
+        custody) _arguments $config $from $vm $summary $svg $html $refused $accesses $explain $help $file ;;
         audit) _arguments $all $explain $help $file ;;
         redact) _arguments $config $from $host $explain $help $file ;;
         help) (( CURRENT > 2 )) || _describe -t commands command commands ;;

@@ -41,6 +41,9 @@ summary_rule = record (new_rule (codes "summary")) { long = Some (codes "summary
 abbrev pub svg_rule : Rule
 svg_rule = record (new_rule (codes "svg")) { long = Some (codes "svg"); action = Some SetTrue }
 
+abbrev pub html_rule : Rule
+html_rule = record (new_rule (codes "html")) { long = Some (codes "html"); action = Some SetTrue }
+
 abbrev pub refused_rule : Rule
 refused_rule = record (new_rule (codes "refused")) { long = Some (codes "refused"); action = Some SetTrue }
 
@@ -68,7 +71,7 @@ abbrev pub live : App
 live = with_rule (with_rule (with_rule (with_rule (new_app (codes "live")) config_rule) workers_rule) explain_rule) file_rule
 
 abbrev pub custody : App
-custody = with_rule (with_rule (with_rule (with_rule (with_rule (with_rule (with_rule (with_rule (with_rule (new_app (codes "custody")) config_rule) from_rule) vm_rule) summary_rule) svg_rule) refused_rule) accesses_rule) explain_rule) file_rule
+custody = with_rule (with_rule (with_rule (with_rule (with_rule (with_rule (with_rule (with_rule (with_rule (with_rule (new_app (codes "custody")) config_rule) from_rule) vm_rule) summary_rule) svg_rule) html_rule) refused_rule) accesses_rule) explain_rule) file_rule
 
 abbrev pub audit : App
 audit = with_rule (with_rule (with_rule (new_app (codes "audit")) all_rule) explain_rule) file_rule

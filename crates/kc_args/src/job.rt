@@ -3,7 +3,7 @@ ghost use Rattle.std.specs.Prelude.{◌≡◌, ◌↔◌, IfOk, IfErr, IsTrue, m
 ghost use Rattle.clap.specs.declared.builder.command.Command.TheViews.{out-Command as fields_of};
 ghost use Rattle.clap.specs.Words.{app_of, rule_of, found_of, rows_of, first_of};
 ghost use Rattle.clap.specs.Values.{kind_of};
-ghost use Rattle.kc_args.specs.Commands.{kcore, replay, live, custody, audit, redact, config_rule, from_rule, to_rule, workers_rule, dump_rule, state_rule, blank_rule, vm_rule, summary_rule, svg_rule, refused_rule, accesses_rule, all_rule, host_rule, explain_rule, file_rule};
+ghost use Rattle.kc_args.specs.Commands.{kcore, replay, live, custody, audit, redact, config_rule, from_rule, to_rule, workers_rule, dump_rule, state_rule, blank_rule, vm_rule, summary_rule, svg_rule, html_rule, refused_rule, accesses_rule, all_rule, host_rule, explain_rule, file_rule};
 ghost use Rattle.kc_args.specs.Jobs.{in_range, workers_in, slot_in, vm_in, IsSet, HasInput, IsJob, IsJobIn, IsRefusal, HasStatus};
 
 use clap::error::ErrorKind;
@@ -39,10 +39,11 @@ pub enum Job<'a> {
         explain: bool,
     },
     /// Make the calls of the trace, with the configuration in a file if a path is given, or from the state whose text is in
-    /// the file `from`, and write what happened to each frame and slot, of one slot's VM alone if a slot is given: every change, with `refused` also each call that was refused or rejected, and with `accesses` each read and
-    /// write of the host that a VM's frame served; or with `summary` an object for each life of a VM, or with `svg` a picture.
-    /// `config` and `from` exclude each other; so do `summary`, `svg` and `from`; and `summary` and `svg` exclude `refused` and
-    /// `accesses`.
+    /// the file `from`, and write what happened to each frame and slot, of one slot's VM alone if a slot is given: every
+    /// change, with `refused` also each call that was refused or rejected, and with `accesses` each read and write of the
+    /// host that a VM's frame served; or with `summary` an object for each life of a VM, or with `svg` a picture, or with
+    /// `html` all of these lines in a page for a browser. `config` and `from` exclude each other; so do `summary`, `svg` and
+    /// `from`; `summary`, `svg` and `html`; and `summary` and `svg` exclude `refused` and `accesses`.
     Custody {
         input: Option<&'a str>,
         config: Option<&'a str>,
@@ -50,6 +51,7 @@ pub enum Job<'a> {
         vm: Option<u32>,
         summary: bool,
         svg: bool,
+        html: bool,
         refused: bool,
         accesses: bool,
         explain: bool,
@@ -206,6 +208,16 @@ fn svg_arg<'a>(alloc: Global) -> Arg<'a>
         .help("Write a picture (SVG 1.1), in place of the changes")
 }
 
+fn html_arg<'a>(alloc: Global) -> Arg<'a>
+    ensures rule { rule_of result ≡ html_rule }
+    ensures local { result.global ≡ false }
+{
+    Arg::new(alloc, "html")
+        .long("html")
+        .action(ArgAction::SetTrue)
+        .help("Write a page for a browser, with the lines of --refused and --accesses in it")
+}
+
 fn refused_arg<'a>(alloc: Global) -> Arg<'a>
     ensures rule { rule_of result ≡ refused_rule }
     ensures local { result.global ≡ false }
@@ -310,6 +322,7 @@ fn custody_command<'a>(alloc: Global) -> Result<Command<'a>, AllocError>
         .arg(vm_arg(alloc))?
         .arg(summary_arg(alloc))?
         .arg(svg_arg(alloc))?
+        .arg(html_arg(alloc))?
         .arg(refused_arg(alloc))?
         .arg(accesses_arg(alloc))?
         .arg(explain_arg(alloc))?
@@ -487,6 +500,7 @@ fn job_in<'a>(name: &str, found: &ArgMatches<'a>) -> Job<'a>
             vm: vm_in(found),
             summary: is_set(found, "summary"),
             svg: is_set(found, "svg"),
+            html: is_set(found, "html"),
             refused: is_set(found, "refused"),
             accesses: is_set(found, "accesses"),
             explain,
@@ -517,7 +531,7 @@ fn job_in<'a>(name: &str, found: &ArgMatches<'a>) -> Job<'a>
 /// What the arguments, without the program's name, ask for: `replay` or `live`, with or without `--config PATH` and
 /// `--workers N` with a number from 1 to 64, `replay` also with `--from PATH`, `--to PATH`, `--dump`, `--state` and
 /// `--blank`; `custody`, with or without `--config PATH` and `--vm V` with a number from 0 to 63, `--summary`, `--svg`,
-/// `--refused` and `--accesses`; `audit`, also with `--all`; `redact`, also with `--config PATH`, `--from PATH` and
+/// `--html`, `--refused` and `--accesses`; `audit`, also with `--all`; `redact`, also with `--config PATH`, `--from PATH` and
 /// `--host`; each also with `--explain` and the file to be read; and `replay` if there are none.
 pub fn job_of<'a>(alloc: Global, arguments: &'a [&'a str]) -> Result<Job<'a>, ArgFault>
     // The job is what the arguments say by the command's rules, and only a command line that breaks them is refused.

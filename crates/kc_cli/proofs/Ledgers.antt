@@ -19,10 +19,11 @@ use Rattle.kc_remarks.specs.declared.remark.Remarks.{Remarks}
 use Rattle.kc_remarks.specs.Remarks.{notes_from, event_in, events_in}
 use Rattle.kc_remarks.proofs.Events.{events-of-notes_from}
 use Rattle.kc_cli.specs.declared.account.CustodyForm.{CustodyForm}
-use Rattle.kc_cli.specs.declared.account.CustodyForm.TheVariants.{Changes, Summary, Picture}
+use Rattle.kc_cli.specs.declared.account.CustodyForm.TheVariants.{Changes, Summary, Picture, Html}
 use Rattle.kc_cli.specs.declared.ledger.Ledger.TheVariants as kept
 use Rattle.kc_cli.specs.declared.ledger.Ledger.{Ledger}
-use Rattle.kc_cli.specs.Custody.{IsAccount}
+use Rattle.kc_html.specs.Html.{html_text_of}
+use Rattle.kc_cli.specs.Custody.{IsAccount, all_remarks}
 use Rattle.kc_cli.specs.Ledgers.{Keeps, events_kept, IsGiven}
 
 -- the events of notes that more are added to
@@ -37,24 +38,35 @@ pub notes_grow : (n : ℕ) (m : State) (calls : List Call) (wanted : Remarks) (o
 notes_grow n m calls wanted old new grown (Changes origin remarks) told h = (h.0, grown ∙ ap (λ (xs : List Note). xs ++ notes_from n m calls) h.1)
 notes_grow n m calls wanted old new grown Summary told h = h
 notes_grow n m calls wanted old new grown Picture told h = h
+notes_grow n m calls wanted old new grown (Html origin) told h = h
 
 pub changes_grow : (n : ℕ) (m : State) (calls : List Call) (old new : Vec Event) → new.items ≡ old.items ++ events_from n m calls
     → (form : CustodyForm) (told : List Note) → Keeps form told (kept.Changes old) → Keeps form (told ++ notes_from n m calls) (kept.Changes new)
 changes_grow n m calls old new grown (Changes origin remarks) told h = (h.0, events_more n m calls told old.items new.items grown h.1)
 changes_grow n m calls old new grown Summary told h = h
 changes_grow n m calls old new grown Picture told h = h
+changes_grow n m calls old new grown (Html origin) told h = h
 
 pub summary_grows : (n : ℕ) (m : State) (calls : List Call) (old new : Vec Event) → new.items ≡ old.items ++ events_from n m calls
     → (form : CustodyForm) (told : List Note) → Keeps form told (kept.Summary old) → Keeps form (told ++ notes_from n m calls) (kept.Summary new)
 summary_grows n m calls old new grown (Changes origin remarks) told h = h
 summary_grows n m calls old new grown Summary told h = events_more n m calls told old.items new.items grown h
 summary_grows n m calls old new grown Picture told h = h
+summary_grows n m calls old new grown (Html origin) told h = h
 
 pub picture_grows : (n : ℕ) (m : State) (calls : List Call) (old new : Vec Event) → new.items ≡ old.items ++ events_from n m calls
     → (form : CustodyForm) (told : List Note) → Keeps form told (kept.Picture old) → Keeps form (told ++ notes_from n m calls) (kept.Picture new)
 picture_grows n m calls old new grown (Changes origin remarks) told h = h
 picture_grows n m calls old new grown Summary told h = h
 picture_grows n m calls old new grown Picture told h = events_more n m calls told old.items new.items grown h
+picture_grows n m calls old new grown (Html origin) told h = h
+
+pub html_grows : (n : ℕ) (m : State) (calls : List Call) (old new : Vec Note) → new.items ≡ old.items ++ notes_from n m calls
+    → (form : CustodyForm) (told : List Note) → Keeps form told (kept.Html old) → Keeps form (told ++ notes_from n m calls) (kept.Html new)
+html_grows n m calls old new grown (Changes origin remarks) told h = h
+html_grows n m calls old new grown Summary told h = h
+html_grows n m calls old new grown Picture told h = h
+html_grows n m calls old new grown (Html origin) told h = grown ∙ ap (λ (xs : List Note). xs ++ notes_from n m calls) h
 
 -- the events that are kept are those of the notes
 pub kept_events : (form : CustodyForm) (told : List Note) (ledger : Ledger) → Keeps form told ledger → events_kept ledger ≡ events_in told
@@ -62,14 +74,22 @@ kept_events (Changes origin remarks) told (kept.Changes events) h = h.1
 kept_events (Changes origin remarks) told (kept.Notes wanted notes) h = ap events_in h.1
 kept_events (Changes origin remarks) told (kept.Summary events) h = absurd h
 kept_events (Changes origin remarks) told (kept.Picture events) h = absurd h
+kept_events (Changes origin remarks) told (kept.Html notes) h = absurd h
 kept_events Summary told (kept.Changes events) h = absurd h
 kept_events Summary told (kept.Notes wanted notes) h = absurd h
 kept_events Summary told (kept.Summary events) h = h
 kept_events Summary told (kept.Picture events) h = absurd h
+kept_events Summary told (kept.Html notes) h = absurd h
 kept_events Picture told (kept.Changes events) h = absurd h
 kept_events Picture told (kept.Notes wanted notes) h = absurd h
 kept_events Picture told (kept.Summary events) h = absurd h
 kept_events Picture told (kept.Picture events) h = h
+kept_events Picture told (kept.Html notes) h = absurd h
+kept_events (Html origin) told (kept.Changes events) h = absurd h
+kept_events (Html origin) told (kept.Notes wanted notes) h = absurd h
+kept_events (Html origin) told (kept.Summary events) h = absurd h
+kept_events (Html origin) told (kept.Picture events) h = absurd h
+kept_events (Html origin) told (kept.Html notes) h = ap events_in h
 
 -- what is given of what is kept is the account of the notes
 pub account_given : (form : CustodyForm) (vm : Option ℕ) (config : Configuration) (count : ℕ) (told : List Note) (ledger : Ledger) (text : List ℕ) → Keeps form told ledger → IsGiven vm config count ledger text → IsAccount form vm config count told text
@@ -81,11 +101,19 @@ account_given (Changes origin remarks) vm config count told (kept.Changes events
 account_given (Changes origin remarks) vm config count told (kept.Notes wanted notes) text h given = given ∙ ap₂ (λ (r : Remarks) (xs : List Note). notes_text_of config count (chosen vm r xs)) h.0 h.1
 account_given (Changes origin remarks) vm config count told (kept.Summary events) text h given = absurd h
 account_given (Changes origin remarks) vm config count told (kept.Picture events) text h given = absurd h
+account_given (Changes origin remarks) vm config count told (kept.Html notes) text h given = absurd h
 account_given Summary vm config count told (kept.Changes events) text h given = absurd h
 account_given Summary vm config count told (kept.Notes wanted notes) text h given = absurd h
 account_given Summary vm config count told (kept.Summary events) text h given = given ∙ ap (λ (xs : List Event). summary_text_of config count (selected_lives vm (lives xs))) h
 account_given Summary vm config count told (kept.Picture events) text h given = absurd h
+account_given Summary vm config count told (kept.Html notes) text h given = absurd h
 account_given Picture vm config count told (kept.Changes events) text h given = absurd h
 account_given Picture vm config count told (kept.Notes wanted notes) text h given = absurd h
 account_given Picture vm config count told (kept.Summary events) text h given = absurd h
 account_given Picture vm config count told (kept.Picture events) text h given = tt
+account_given Picture vm config count told (kept.Html notes) text h given = absurd h
+account_given (Html origin) vm config count told (kept.Changes events) text h given = absurd h
+account_given (Html origin) vm config count told (kept.Notes wanted notes) text h given = absurd h
+account_given (Html origin) vm config count told (kept.Summary events) text h given = absurd h
+account_given (Html origin) vm config count told (kept.Picture events) text h given = absurd h
+account_given (Html origin) vm config count told (kept.Html notes) text h given = given ∙ ap (λ (xs : List Note). html_text_of (notes_text_of config count (chosen vm all_remarks xs))) h

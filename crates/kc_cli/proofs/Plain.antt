@@ -11,6 +11,7 @@ use Rattle.kc_custody.specs.Selected.{is_for, selected}
 use Rattle.kc_model.proofs.Custody.Events.{flat-changes}
 use Rattle.kc_trace.specs.CustodyText.{change_line, event_line, header_line, end_line, custody_text_of}
 use Rattle.kc_trace.specs.RemarkText.{note_line, notes_text_of}
+use Rattle.kc_html.specs.Html.{html_text_of}
 use Rattle.kc_remarks.specs.declared.remark.Note.{Note}
 use Rattle.kc_remarks.specs.declared.remark.Note.TheVariants as note
 use Rattle.kc_remarks.specs.Remarks.{events_in}
@@ -61,3 +62,6 @@ changes_text config calls changes told are =
 
 pub notes_text : (config : Configuration) (calls : ℕ) (told wanted : List Note) → told ≡ wanted → header_line config ++ (flat_map note_line told ++ end_line calls (length told)) ≡ notes_text_of config calls wanted
 notes_text config calls told wanted are = ap (notes_text_of config calls) are
+
+pub page_text : (config : Configuration) (calls : ℕ) (told wanted : List Note) → told ≡ wanted → html_text_of (header_line config ++ (flat_map note_line told ++ end_line calls (length told))) ≡ html_text_of (notes_text_of config calls wanted)
+page_text config calls told wanted are = ap (λ (xs : List Note). html_text_of (notes_text_of config calls xs)) are

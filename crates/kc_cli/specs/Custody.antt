@@ -1,5 +1,5 @@
 -- What the engine of custody writes of what its sources held.
-use Rattle.std.specs.Prelude.{◌≡◌, ◌≢◌, ◌<◌, ◌≤◌, ℕ, List, length, Option, Some, Result, Err, IfSome, OnOk}
+use Rattle.std.specs.Prelude.{◌≡◌, ◌≢◌, ◌<◌, ◌≤◌, true, ℕ, List, length, Option, Some, Result, Err, IfSome, OnOk}
 use Rattle.kc_types.specs.Limits.{call_limit}
 use Rattle.kc_types.specs.Configuration.{Configuration, slot_count}
 use Rattle.kc_types.specs.declared.call.Call.{Call}
@@ -14,6 +14,8 @@ use Rattle.kc_model.specs.Summaries.{AreSummaries}
 use Rattle.kc_model.specs.Bars.{AreBars}
 use Rattle.kc_remarks.specs.declared.remark.Note.{Note}
 use Rattle.kc_remarks.specs.Remarks.{notes, events_in}
+use Rattle.kc_remarks.specs.declared.remark.Remarks.{Remarks}
+use Rattle.kc_html.specs.Html.{html_text_of}
 use Rattle.kc_custody.specs.Chosen.{chosen}
 use Rattle.kc_trace.specs.Trace.{IsTrace}
 use Rattle.kc_trace.specs.RemarkText.{notes_text_of}
@@ -24,7 +26,7 @@ use Rattle.kc_texts.specs.declared.origin.Origin.{Origin}
 use Rattle.kc_texts.specs.declared.origin.Origin.TheVariants as origins
 use Rattle.kc_texts.specs.Reading.{BeginsIn}
 use Rattle.kc_cli.specs.declared.account.CustodyForm.{CustodyForm}
-use Rattle.kc_cli.specs.declared.account.CustodyForm.TheVariants.{Changes, Summary, Picture}
+use Rattle.kc_cli.specs.declared.account.CustodyForm.TheVariants.{Changes, Summary, Picture, Html}
 
 -- the notes are those on the calls that the source's text holds, where it tells the text
 pub record AreNotesOf (m : State) (source : Option (List ℕ)) (count : ℕ) (told : List Note) : Type 0 where
@@ -49,17 +51,23 @@ pub record IsCustodyTold (m : State) (source : Option (List ℕ)) (count : ℕ) 
   pub summaries : AreSummaries m calls
   pub bars : AreBars m calls
 
--- the text is that of the changes of all frames and slots, or of one slot's VM, and of what else is asked for; that of the lives of all VMs, or of one slot's; or a picture, of whose bytes nothing is said
+-- all that may be asked for of calls beside their changes
+abbrev pub all_remarks : Remarks
+all_remarks = record { refused = true; accesses = true }
+
+-- the text is that of the changes of all frames and slots, or of one slot's VM, and of what else is asked for; that of the lives of all VMs, or of one slot's; a picture, of whose bytes nothing is said; or a page for a browser, with the first of these texts in it, and all that may be asked for
 abbrev pub IsAccount : CustodyForm → Option ℕ → Configuration → ℕ → List Note → List ℕ → Type 0
 IsAccount (Changes origin remarks) vm config count told text = text ≡ notes_text_of config count (chosen vm remarks told)
 IsAccount Summary vm config count told text = text ≡ summary_text_of config count (selected_lives vm (lives (events_in told)))
 IsAccount Picture vm config count told text = Unit {0}
+IsAccount (Html origin) vm config count told text = text ≡ html_text_of (notes_text_of config count (chosen vm all_remarks told))
 
 -- what the calls begin with: lives and pictures begin at boot
 abbrev pub origin_of : CustodyForm → Origin
 origin_of (Changes origin remarks) = origin
 origin_of Summary = origins.Boot
 origin_of Picture = origins.Boot
+origin_of (Html origin) = origin
 
 -- the text is made of the notes on the trace from the state on that the first text tells
 abbrev pub IsCustodyText : CustodyForm → Option ℕ → List ℕ → List ℕ → List ℕ → Type 0

@@ -12,7 +12,9 @@ use Rattle.kc_trace.specs.CustodyText.{custody_text_of}
 use Rattle.kc_trace.specs.SummaryText.{summary_text_of}
 use Rattle.kc_trace.specs.RemarkText.{notes_text_of}
 use Rattle.kc_cli.specs.declared.account.CustodyForm.{CustodyForm}
-use Rattle.kc_cli.specs.declared.account.CustodyForm.TheVariants.{Changes, Summary, Picture}
+use Rattle.kc_cli.specs.declared.account.CustodyForm.TheVariants.{Changes, Summary, Picture, Html}
+use Rattle.kc_html.specs.Html.{html_text_of}
+use Rattle.kc_cli.specs.Custody.{all_remarks}
 use Rattle.kc_cli.specs.declared.ledger.Ledger.{Ledger}
 use Rattle.kc_cli.specs.declared.ledger.Ledger.TheVariants as kept
 
@@ -22,6 +24,7 @@ Keeps (Changes origin remarks) told (kept.Changes events) = (remarks ≡ no_rema
 Keeps (Changes origin remarks) told (kept.Notes wanted notes) = (wanted ≡ remarks) × (notes.items ≡ told)
 Keeps Summary told (kept.Summary events) = events.items ≡ events_in told
 Keeps Picture told (kept.Picture events) = events.items ≡ events_in told
+Keeps (Html origin) told (kept.Html notes) = notes.items ≡ told
 Keeps form told ledger = ⊥
 
 -- the events among what it keeps
@@ -30,6 +33,7 @@ events_kept (kept.Changes events) = events.items
 events_kept (kept.Notes wanted notes) = events_in notes.items
 events_kept (kept.Summary events) = events.items
 events_kept (kept.Picture events) = events.items
+events_kept (kept.Html notes) = events_in notes.items
 
 -- the text that is given of what it keeps, of so many calls; of a picture's bytes nothing is said
 abbrev pub IsGiven : Option ℕ → Configuration → ℕ → Ledger → List ℕ → Type 0
@@ -37,3 +41,4 @@ IsGiven vm config count (kept.Changes events) text = text ≡ custody_text_of co
 IsGiven vm config count (kept.Notes wanted notes) text = text ≡ notes_text_of config count (chosen vm wanted notes.items)
 IsGiven vm config count (kept.Summary events) text = text ≡ summary_text_of config count (selected_lives vm (lives events.items))
 IsGiven vm config count (kept.Picture events) text = Unit {0}
+IsGiven vm config count (kept.Html notes) text = text ≡ html_text_of (notes_text_of config count (chosen vm all_remarks notes.items))

@@ -1,4 +1,4 @@
-//! What is written of what was kept of a trace: every change, an object for each life of a VM, or a picture.
+//! What is written of what was kept of a trace: every change, an object for each life of a VM, a picture, or a page for a browser.
 ghost use Rattle.std.specs.Prelude.{◌≡◌, ◌<◌, ◌≤◌, ◌+◌, ◌^◌, ◌++◌, ◌⊎◌, ℕ, List, All, map, length, take, false, is_err, vec_capacity, IfOk, IfErr, OnOk, OnErr};
 ghost use Rattle.std.specs.List.{flat_map};
 ghost use Rattle.std.specs.Io.KnownBytes.{Appends};
@@ -7,6 +7,7 @@ ghost use Rattle.kc_model.specs.Events.{changes_in};
 ghost use Rattle.kc_model.specs.Lives.{lives, selected_lives};
 ghost use Rattle.kc_custody.specs.Within.{IsWithin};
 ghost use Rattle.kc_picture.specs.Frames.{IsIn};
+ghost use Rattle.kc_html.specs.Html.{html_head, html_tail, html_text_of};
 ghost use Rattle.kc_trace.specs.CustodyText.{header_line, end_line};
 ghost use Rattle.kc_trace.specs.SummaryText.{summary_text_of};
 ghost use Rattle.kc_trace.specs.Spelling.{longest_call};
@@ -16,6 +17,7 @@ ghost use Rattle.kc_cli.specs.Ledgers.{events_kept, IsGiven};
 
 use crate::ledger::Ledger;
 use kc_custody::{choose, lives, select, select_lives};
+use kc_html::{HEAD, TAIL};
 use kc_picture::{bars, picture};
 use kc_remarks::Remarks;
 use kc_texts::{Failed, Line, Origin, Sink, TextFault, empty_piece, give_lines, write_whole};
@@ -25,6 +27,12 @@ use std::alloc::Global;
 
 /// The line of a trace's first call: its header is line 1.
 pub(crate) const FIRST_LINE: u32 = 2;
+
+/// All that may be asked for of calls.
+const ALL_REMARKS: Remarks = Remarks {
+    refused: true,
+    accesses: true,
+};
 
 /// What is written of what happened.
 #[derive(Clone, Copy, Debug, PartialEq, Eq)]
@@ -36,6 +44,8 @@ pub enum CustodyForm {
     Summary,
     /// A picture, SVG 1.1. Calls begin in a configuration's boot state, since frames are drawn from their owners there on.
     Picture,
+    /// A page for a browser, with all that may be asked for of the calls in it, as `Changes` has it.
+    Html(Origin),
 }
 
 impl CustodyForm {
@@ -44,7 +54,7 @@ impl CustodyForm {
         ensures { result ≡ origin_of self }
     {
         match self {
-            CustodyForm::Changes(origin, _) => origin,
+            CustodyForm::Changes(origin, _) | CustodyForm::Html(origin) => origin,
             CustodyForm::Summary | CustodyForm::Picture => Origin::Boot,
         }
     }
@@ -99,6 +109,48 @@ fn give_changes<K: Sink, L: Line + Drop>(
     push_custody_header(&mut piece, config);
     push_custody_end(&mut end, calls, lines.len());
     match give_text(out, piece, lines, &end) {
+        Ok(()) => Ok(()),
+        Err(_) => Err(TextFault::Write),
+    }
+}
+
+/// Gives a sink the text that `give_text` gives, in a page for a browser. After an `Err` the sink has taken a beginning of it.
+fn give_page<K: Sink, L: Line + Drop>(
+    out: &mut K,
+    piece: Vec<u8>,
+    lines: Vec<L>,
+    end: &[u8],
+) -> Result<(), Failed>
+    requires out { K.failed out.old ≡ false }
+    requires room { longest_call ≤ vec_capacity piece }
+    ensures ok { OnOk result (Appends (K.taken out.old) (K.taken out.new) (html_text_of (piece.items ++ (flat_map L.line lines.items ++ end.now)))) }
+    ensures begun { OnErr result ((n : ℕ) × Appends (K.taken out.old) (K.taken out.new) (take n (html_text_of (piece.items ++ (flat_map L.line lines.items ++ end.now))))) }
+    ensures mark { K.failed out.new ≡ is_err result }
+{
+    write_whole(out, HEAD.as_bytes())?;
+    give_text(out, piece, lines, end)?;
+    write_whole(out, TAIL.as_bytes())
+}
+
+/// Gives what `give_changes` gives, in a page for a browser.
+fn give_html<K: Sink, L: Line + Drop>(
+    alloc: Global,
+    config: &Config,
+    calls: usize,
+    lines: Vec<L>,
+    out: &mut K,
+) -> Result<(), TextFault>
+    requires { K.failed out.old ≡ false }
+    ensures ok { OnOk result (Appends (K.taken out.old) (K.taken out.new) (html_text_of (header_line config.now ++ (flat_map L.line lines.items ++ end_line calls (length lines.items))))) }
+    ensures sink { TellsSink (K.failed out.new) ((n : ℕ) × Appends (K.taken out.old) (K.taken out.new) (take n (html_text_of (header_line config.now ++ (flat_map L.line lines.items ++ end_line calls (length lines.items)))))) (out.new ≡ out.old) result }
+    ensures fault { IfErr result (λ fault. (fault ≡ TextFault.Memory) ⊎ (fault ≡ TextFault.Write)) }
+{
+    let (Ok(mut piece), Ok(mut end)) = (empty_piece(alloc), empty_piece(alloc)) else {
+        return Err(TextFault::Memory);
+    };
+    push_custody_header(&mut piece, config);
+    push_custody_end(&mut end, calls, lines.len());
+    match give_page(out, piece, lines, &end) {
         Ok(()) => Ok(()),
         Err(_) => Err(TextFault::Write),
     }
@@ -188,6 +240,10 @@ pub(crate) fn give_told<K: Sink>(
                 return Err(TextFault::Memory);
             };
             give_whole(&text, out)
+        },
+        Ledger::Html(mut notes) => {
+            choose(&mut notes, vm, ALL_REMARKS);
+            give_html(alloc, &config, calls, notes, out)
         },
     }
 }

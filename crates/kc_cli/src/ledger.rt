@@ -20,6 +20,7 @@ pub(crate) enum Ledger {
     Notes(Remarks, Vec<Note>),
     Summary(Vec<Event>),
     Picture(Vec<Event>),
+    Html(Vec<Note>),
 }
 
 impl Ledger {
@@ -38,6 +39,7 @@ impl Ledger {
             CustodyForm::Changes(_, remarks) => Ledger::Notes(remarks, Vec::new(alloc)),
             CustodyForm::Summary => Ledger::Summary(Vec::new(alloc)),
             CustodyForm::Picture => Ledger::Picture(Vec::new(alloc)),
+            CustodyForm::Html(_) => Ledger::Html(Vec::new(alloc)),
         }
     }
 
@@ -59,6 +61,7 @@ impl Ledger {
             Ledger::Notes(_, notes) => note_calls(alloc, core, calls, first, notes),
             Ledger::Summary(events) => tell_calls(alloc, core, calls, first, events),
             Ledger::Picture(events) => tell_calls(alloc, core, calls, first, events),
+            Ledger::Html(notes) => note_calls(alloc, core, calls, first, notes),
         }
     }
 }

@@ -3,7 +3,7 @@
 //!
 //! - a trace replayed as it is read: `src/replaying.rt`, `specs/Engine.antt`; what it begins in: `src/starting.rt`;
 //!   what is written of it, and how the state left is compared: `src/giving.rt`
-//! - how custody is written as changes, summary or picture: `specs/Custody.antt`, `src/custody.rt`, `src/account.rt`;
+//! - how custody is written as changes, summary, picture or page: `specs/Custody.antt`, `src/custody.rt`, `src/account.rt`;
 //!   what is kept of the calls until then: `specs/Ledgers.antt`, `src/ledger.rt`
 //! - a live run: `specs/Live.antt`, `src/live.rt`; its history replayed: `src/history.rt`
 #![tactic(auto)]

@@ -49,12 +49,15 @@ picture_of false true start = Err clashes.SvgAccesses
 picture_of false false (starts.Boot config) = Ok (accounts.Picture config)
 picture_of false false (starts.State path) = Err clashes.FromSvg
 
--- what is written of custody, by `--summary` and `--svg`, which exclude each other, and what else is asked for
-abbrev pub account_of : Bool → Bool → Remarks → Start → Result Account Clash
-account_of false false remarks start = Ok (accounts.Changes start remarks)
-account_of true true remarks start = Err clashes.SummarySvg
-account_of true false remarks start = summary_of remarks.refused remarks.accesses start
-account_of false true remarks start = picture_of remarks.refused remarks.accesses start
+-- what is written of custody, by `--summary`, `--svg` and `--html`, which exclude each other, and what else is asked for, which `--html` implies
+abbrev pub account_of : Bool → Bool → Bool → Remarks → Start → Result Account Clash
+account_of false false false remarks start = Ok (accounts.Changes start remarks)
+account_of false false true remarks start = Ok (accounts.Html start)
+account_of true true html remarks start = Err clashes.SummarySvg
+account_of true false true remarks start = Err clashes.SummaryHtml
+account_of true false false remarks start = summary_of remarks.refused remarks.accesses start
+account_of false true true remarks start = Err clashes.SvgHtml
+account_of false true false remarks start = picture_of remarks.refused remarks.accesses start
 
 -- nothing that is asked for has a core's pages in it, which `--blank` zeroes
 abbrev pub is_alone : Bool → ReplayForm → Option Path → Bool
@@ -74,9 +77,9 @@ abbrev pub account_plan : Result Account Clash → Option ℕ → Result Plan Cl
 account_plan (Err clash) vm = Err clash
 account_plan (Ok account) vm = Ok (plans.Custody account vm)
 
-abbrev pub custody_plan : Bool → Bool → Remarks → Option Start → Option ℕ → Result Plan Clash
-custody_plan summary svg remarks None vm = Err clashes.CustodyConfigFrom
-custody_plan summary svg remarks (Some start) vm = account_plan (account_of summary svg remarks start) vm
+abbrev pub custody_plan : Bool → Bool → Bool → Remarks → Option Start → Option ℕ → Result Plan Clash
+custody_plan summary svg html remarks None vm = Err clashes.CustodyConfigFrom
+custody_plan summary svg html remarks (Some start) vm = account_plan (account_of summary svg html remarks start) vm
 
 -- a start is named only if also the host's writes are blanked, by which the trace is replayed
 abbrev pub redact_plan : Bool → Start → Result Plan Clash
@@ -101,7 +104,7 @@ input_of (jobs.Redact input config from host explain) = input
 abbrev pub plan_of : Job → Result Plan Clash
 plan_of (jobs.Replay input config from to workers dump state blank explain) = replay_plan (replay_form dump state) (start_of config from) to blank workers
 plan_of (jobs.Live input config workers explain) = Ok (plans.Live config workers)
-plan_of (jobs.Custody input config from vm summary svg refused accesses explain) = custody_plan summary svg (record { refused = refused; accesses = accesses }) (start_of config from) vm
+plan_of (jobs.Custody input config from vm summary svg html refused accesses explain) = custody_plan summary svg html (record { refused = refused; accesses = accesses }) (start_of config from) vm
 plan_of (jobs.Audit input all explain) = Ok (plans.Audit all)
 plan_of (jobs.Redact input config from host explain) = redact_from_plan host (start_of config from)
 
@@ -119,8 +122,10 @@ abbrev pub form_of : Account → CustodyForm
 form_of (accounts.Changes start remarks) = forms.Changes (origin_at start) remarks
 form_of (accounts.Summary config) = forms.Summary
 form_of (accounts.Picture config) = forms.Picture
+form_of (accounts.Html start) = forms.Html (origin_at start)
 
 abbrev pub start_in : Account → Start
 start_in (accounts.Changes start remarks) = start
 start_in (accounts.Summary config) = starts.Boot config
 start_in (accounts.Picture config) = starts.Boot config
+start_in (accounts.Html start) = start

@@ -36,6 +36,10 @@ pub enum Clash {
     SvgRefused,
     /// `custody --svg --accesses`
     SvgAccesses,
+    /// `custody --summary --html`
+    SummaryHtml,
+    /// `custody --svg --html`
+    SvgHtml,
 }
 
 impl Clash {
@@ -49,9 +53,12 @@ impl Clash {
             | Clash::CustodyConfigFrom
             | Clash::RedactConfigFrom
             | Clash::ConfigAlone => "--config",
-            Clash::SummarySvg | Clash::SummaryRefused | Clash::SummaryAccesses => "--summary",
+            Clash::SummarySvg
+            | Clash::SummaryRefused
+            | Clash::SummaryAccesses
+            | Clash::SummaryHtml => "--summary",
             Clash::FromSummary | Clash::FromSvg | Clash::FromAlone => "--from",
-            Clash::SvgRefused | Clash::SvgAccesses => "--svg",
+            Clash::SvgRefused | Clash::SvgAccesses | Clash::SvgHtml => "--svg",
         }
     }
 
@@ -78,6 +85,7 @@ impl Clash {
             Clash::ConfigAlone | Clash::FromAlone => "--host",
             Clash::SummaryRefused | Clash::SvgRefused => "--refused",
             Clash::SummaryAccesses | Clash::SvgAccesses => "--accesses",
+            Clash::SummaryHtml | Clash::SvgHtml => "--html",
         }
     }
 

@@ -24,6 +24,8 @@ pub enum Account<'a> {
     Summary(Option<&'a str>),
     /// A picture.
     Picture(Option<&'a str>),
+    /// A page for a browser.
+    Html(Start<'a>),
 }
 
 /// What is to be done with the trace or dump.
@@ -117,20 +119,25 @@ fn picture_of<'a>(remarks: Remarks, start: Start<'a>) -> Result<Account<'a>, Cla
     }
 }
 
-/// What is written of custody, by `--summary`, `--svg`, and by `--refused` and `--accesses`.
+/// What is written of custody, by `--summary`, `--svg` and `--html`, and by `--refused` and `--accesses`, both of which
+/// `--html` implies.
 fn account_of<'a>(
     summary: bool,
     svg: bool,
+    html: bool,
     remarks: Remarks,
     start: Start<'a>,
 ) -> Result<Account<'a>, Clash>
-    ensures { result ≡ account_of summary svg remarks start.entry }
+    ensures { result ≡ account_of summary svg html remarks start.entry }
 {
-    match (summary, svg) {
-        (false, false) => Ok(Account::Changes(start, remarks)),
-        (true, true) => Err(Clash::SummarySvg),
-        (true, false) => summary_of(remarks, start),
-        (false, true) => picture_of(remarks, start),
+    match (summary, svg, html) {
+        (false, false, false) => Ok(Account::Changes(start, remarks)),
+        (false, false, true) => Ok(Account::Html(start)),
+        (true, true, _) => Err(Clash::SummarySvg),
+        (true, false, true) => Err(Clash::SummaryHtml),
+        (true, false, false) => summary_of(remarks, start),
+        (false, true, true) => Err(Clash::SvgHtml),
+        (false, true, false) => picture_of(remarks, start),
     }
 }
 
@@ -205,6 +212,7 @@ pub fn plan_of<'a>(job: Job<'a>) -> Result<Plan<'a>, Clash>
             vm,
             summary,
             svg,
+            html,
             refused,
             accesses,
             explain: _,
@@ -213,7 +221,7 @@ pub fn plan_of<'a>(job: Job<'a>) -> Result<Plan<'a>, Clash>
                 return Err(Clash::CustodyConfigFrom);
             };
             let remarks = Remarks { refused, accesses };
-            let account = account_of(summary, svg, remarks, start)?;
+            let account = account_of(summary, svg, html, remarks, start)?;
             Ok(Plan::Custody { account, vm })
         },
         Job::Audit {
@@ -266,6 +274,7 @@ impl<'a> Account<'a> {
             Account::Changes(start, remarks) => CustodyForm::Changes(start.origin(), remarks),
             Account::Summary(_) => CustodyForm::Summary,
             Account::Picture(_) => CustodyForm::Picture,
+            Account::Html(start) => CustodyForm::Html(start.origin()),
         }
     }
 
@@ -273,7 +282,7 @@ impl<'a> Account<'a> {
         ensures { result ≡ start_in self.entry }
     {
         match self {
-            Account::Changes(start, _) => start,
+            Account::Changes(start, _) | Account::Html(start) => start,
             Account::Summary(config) => Start::Boot(config),
             Account::Picture(config) => Start::Boot(config),
         }

@@ -12,10 +12,11 @@ returns-clause-app c =
     let with_vm = c.in_ok-arg-3.ensures.shape c.vm_arg.ensures.local ∙ ap₂ with_rule with_from c.vm_arg.ensures.rule in
     let with_summary = c.in_ok-arg-4.ensures.shape c.summary_arg.ensures.local ∙ ap₂ with_rule with_vm c.summary_arg.ensures.rule in
     let with_svg = c.in_ok-arg-5.ensures.shape c.svg_arg.ensures.local ∙ ap₂ with_rule with_summary c.svg_arg.ensures.rule in
-    let with_refused = c.in_ok-arg-6.ensures.shape c.refused_arg.ensures.local ∙ ap₂ with_rule with_svg c.refused_arg.ensures.rule in
-    let with_accesses = c.in_ok-arg-7.ensures.shape c.accesses_arg.ensures.local ∙ ap₂ with_rule with_refused c.accesses_arg.ensures.rule in
-    let with_explain = c.in_ok-arg-8.ensures.shape c.explain_arg.ensures.local ∙ ap₂ with_rule with_accesses c.explain_arg.ensures.rule in
-    IfOk-weaker c.arg-9.result _ _ (λ r h. h.shape c.file_arg.ensures.local ∙ ap₂ with_rule with_explain c.file_arg.ensures.rule) c.arg-9.ensures
+    let with_html = c.in_ok-arg-6.ensures.shape c.html_arg.ensures.local ∙ ap₂ with_rule with_svg c.html_arg.ensures.rule in
+    let with_refused = c.in_ok-arg-7.ensures.shape c.refused_arg.ensures.local ∙ ap₂ with_rule with_html c.refused_arg.ensures.rule in
+    let with_accesses = c.in_ok-arg-8.ensures.shape c.accesses_arg.ensures.local ∙ ap₂ with_rule with_refused c.accesses_arg.ensures.rule in
+    let with_explain = c.in_ok-arg-9.ensures.shape c.explain_arg.ensures.local ∙ ap₂ with_rule with_accesses c.explain_arg.ensures.rule in
+    IfOk-weaker c.arg-10.result _ _ (λ r h. h.shape c.file_arg.ensures.local ∙ ap₂ with_rule with_explain c.file_arg.ensures.rule) c.arg-10.ensures
 
 pub returns-clause-local : goal.returns-clause-local
 returns-clause-local c =
@@ -25,7 +26,8 @@ returns-clause-local c =
     let three = stays_local _ _ _ c.in_ok-arg-3.ensures two c.vm_arg.ensures.local in
     let four = stays_local _ _ _ c.in_ok-arg-4.ensures three c.summary_arg.ensures.local in
     let five = stays_local _ _ _ c.in_ok-arg-5.ensures four c.svg_arg.ensures.local in
-    let six = stays_local _ _ _ c.in_ok-arg-6.ensures five c.refused_arg.ensures.local in
-    let seven = stays_local _ _ _ c.in_ok-arg-7.ensures six c.accesses_arg.ensures.local in
-    let eight = stays_local _ _ _ c.in_ok-arg-8.ensures seven c.explain_arg.ensures.local in
-    IfOk-weaker c.arg-9.result _ _ (λ r h. stays_local _ _ _ h eight c.file_arg.ensures.local) c.arg-9.ensures
+    let six = stays_local _ _ _ c.in_ok-arg-6.ensures five c.html_arg.ensures.local in
+    let seven = stays_local _ _ _ c.in_ok-arg-7.ensures six c.refused_arg.ensures.local in
+    let eight = stays_local _ _ _ c.in_ok-arg-8.ensures seven c.accesses_arg.ensures.local in
+    let nine = stays_local _ _ _ c.in_ok-arg-9.ensures eight c.explain_arg.ensures.local in
+    IfOk-weaker c.arg-10.result _ _ (λ r h. stays_local _ _ _ h nine c.file_arg.ensures.local) c.arg-10.ensures

@@ -1,6 +1,6 @@
 use Rattle.std.proofs.lemmas.Result.{on_ok_weaker}
 use Rattle.kc_texts.proofs.Told.{sink_more}
-use Rattle.kc_cli.proofs.Plain.{changes_text, notes_text}
+use Rattle.kc_cli.proofs.Plain.{changes_text, notes_text, page_text}
 use Rattle.kc_cli.proofs.account.give_told.Goals as goal
 
 pub returns-in-Changes-clause-ok : goal.returns-in-Changes-clause-ok
@@ -22,3 +22,13 @@ pub returns-in-Notes-clause-sink : goal.returns-in-Notes-clause-sink
 returns-in-Notes-clause-sink g c =
     let text = notes_text c.args.told.config c.args.told.calls c.choose.new.notes.items _ c.choose.ensures in
     rw c.in-Notes.is (sink_more _ _ _ _ _ (λ begun. (_, begun.0, text, begun.1)) c.give_changes-in-Notes.ensures.sink)
+
+pub returns-clause-ok : goal.returns-clause-ok
+returns-clause-ok g c =
+    let text = page_text c.args.told.config c.args.told.calls c.choose-in-Html.new.notes.items _ c.choose-in-Html.ensures in
+    rw c.in-Html.is (on_ok_weaker c.give_html.result (λ given. (_, text, given)) c.give_html.ensures.ok)
+
+pub returns-clause-sink : goal.returns-clause-sink
+returns-clause-sink g c =
+    let text = page_text c.args.told.config c.args.told.calls c.choose-in-Html.new.notes.items _ c.choose-in-Html.ensures in
+    rw c.in-Html.is (sink_more _ _ _ _ _ (λ begun. (_, begun.0, text, begun.1)) c.give_html.ensures.sink)

@@ -1,0 +1,41 @@
+use Rattle.std.proofs.Common.{[], ◌++◌, Result, Ok, Err}
+use Rattle.std.proofs.KnownBytes.{Appends-trans}
+use Rattle.std.specs.Prelude.{OnErr}
+use Rattle.std.specs.List.{flat_map}
+use Rattle.std.proofs.lemmas.Result.{on_ok_weaker, on_err_weaker}
+use Rattle.kc_html.specs.Html.{html_head, html_tail}
+use Rattle.kc_cli.proofs.Told.{both_given, first_cut, second_cut}
+use Rattle.kc_cli.proofs.account.give_page.Goals as goal
+
+on_err : {T E P : Type 0} (r : Result T E) → P → OnErr r P
+on_err (Ok x) h = tt
+on_err (Err e) h = h
+
+pub returns-in_err-write_whole-clause-begun : goal.returns-in_err-write_whole-clause-begun
+returns-in_err-write_whole-clause-begun g c =
+    let lines = c.args.piece.items ++ (flat_map g.L.Line.line c.args.lines.items ++ c.args.end.now) in
+    let cut = rw c.as_bytes.ensures.value at c.in_err-write_whole.ensures.begun in
+    on_err c.from_residual.result (first_cut _ _ [] html_head (lines ++ html_tail) cut)
+
+pub returns-in_err-give_text-clause-begun : goal.returns-in_err-give_text-clause-begun
+returns-in_err-give_text-clause-begun g c =
+    let lines = c.args.piece.items ++ (flat_map g.L.Line.line c.args.lines.items ++ c.args.end.now) in
+    let head = rw c.as_bytes.ensures.value at c.in_ok-write_whole.ensures.ok in
+    let cut = second_cut _ _ _ [] html_head lines head c.in_err-give_text.ensures.begun in
+    on_err c.from_residual-in_err-give_text.result (first_cut _ _ html_head lines html_tail cut)
+
+pub returns-clause-ok : goal.returns-clause-ok
+returns-clause-ok g c =
+    let lines = c.args.piece.items ++ (flat_map g.L.Line.line c.args.lines.items ++ c.args.end.now) in
+    let head = rw c.as_bytes.ensures.value at c.in_ok-write_whole.ensures.ok in
+    let both = Appends-trans _ _ _ html_head lines head c.in_ok-give_text.ensures.ok in
+    let tail = rw c.as_bytes-2.ensures.value at c.write_whole-2.ensures.ok in
+    on_ok_weaker c.write_whole-2.result (λ more. both_given _ _ _ html_head lines html_tail both more) tail
+
+pub returns-clause-begun : goal.returns-clause-begun
+returns-clause-begun g c =
+    let lines = c.args.piece.items ++ (flat_map g.L.Line.line c.args.lines.items ++ c.args.end.now) in
+    let head = rw c.as_bytes.ensures.value at c.in_ok-write_whole.ensures.ok in
+    let both = Appends-trans _ _ _ html_head lines head c.in_ok-give_text.ensures.ok in
+    let tail = rw c.as_bytes-2.ensures.value at c.write_whole-2.ensures.begun in
+    on_err_weaker c.write_whole-2.result (λ cut. second_cut _ _ _ html_head lines html_tail both cut) tail

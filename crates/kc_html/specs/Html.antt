@@ -1,0 +1,14 @@
+-- The text of a page for a browser, of these lines.
+use Rattle.std.specs.Prelude.{ℕ, List, ◌++◌}
+use Rattle.kc_html.specs.declared.TheConstants.{HEAD, TAIL}
+
+-- what is before the lines
+abbrev pub html_head : List ℕ
+html_head = HEAD.now
+
+-- what is after them
+abbrev pub html_tail : List ℕ
+html_tail = TAIL.now
+
+abbrev pub html_text_of : List ℕ → List ℕ
+html_text_of lines = html_head ++ (lines ++ html_tail)
