@@ -2,9 +2,11 @@
 //! that a VM's frame served; never bytes.
 #![tactic(auto)]
 
+mod denials;
 pub mod laws;
 mod remark;
 mod telling;
 
+pub use denials::Denials;
 pub use remark::{Access, CallKind, Denial, Denied, NamedFrame, Note, Remarks};
 pub use telling::{note_events, remark_told};

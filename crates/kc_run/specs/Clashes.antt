@@ -18,6 +18,7 @@ first_option clashes.SummaryRefused = codes "--summary"
 first_option clashes.SummaryAccesses = codes "--summary"
 first_option clashes.SvgRefused = codes "--svg"
 first_option clashes.SvgAccesses = codes "--svg"
+first_option clashes.UnseenAccesses = codes "--unseen"
 
 abbrev pub link_of : Clash → List ℕ
 link_of clashes.BlankAlone = codes "' needs one of '"
@@ -40,6 +41,7 @@ other_option clashes.SummaryRefused = codes "--refused"
 other_option clashes.SummaryAccesses = codes "--accesses"
 other_option clashes.SvgRefused = codes "--refused"
 other_option clashes.SvgAccesses = codes "--accesses"
+other_option clashes.UnseenAccesses = codes "--accesses"
 
 abbrev pub command_of : Clash → List ℕ
 command_of clashes.DumpState = codes "replay"

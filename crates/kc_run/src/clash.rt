@@ -36,6 +36,8 @@ pub enum Clash {
     SvgRefused,
     /// `custody --svg --accesses`
     SvgAccesses,
+    /// `custody --unseen --accesses`
+    UnseenAccesses,
 }
 
 impl Clash {
@@ -52,6 +54,7 @@ impl Clash {
             Clash::SummarySvg | Clash::SummaryRefused | Clash::SummaryAccesses => "--summary",
             Clash::FromSummary | Clash::FromSvg | Clash::FromAlone => "--from",
             Clash::SvgRefused | Clash::SvgAccesses => "--svg",
+            Clash::UnseenAccesses => "--unseen",
         }
     }
 
@@ -77,7 +80,7 @@ impl Clash {
             Clash::FromSummary => "--summary",
             Clash::ConfigAlone | Clash::FromAlone => "--host",
             Clash::SummaryRefused | Clash::SvgRefused => "--refused",
-            Clash::SummaryAccesses | Clash::SvgAccesses => "--accesses",
+            Clash::SummaryAccesses | Clash::SvgAccesses | Clash::UnseenAccesses => "--accesses",
         }
     }
 

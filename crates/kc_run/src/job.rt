@@ -46,8 +46,8 @@ fn run_plan<F: Files, T: Source, K: Sink, R: Threads + Wait + Sync>(
             replay(rt, alloc, files, start, to, input, out, order)
         },
         Plan::Live { config, workers } => live(rt, alloc, files, config, workers, input, out),
-        Plan::Custody { account, vm } => {
-            custody(rt, alloc, files, account, vm, input, out, lanes)
+        Plan::Custody { account, scope } => {
+            custody(rt, alloc, files, account, scope, input, out, lanes)
         },
         Plan::Audit { all } => audit(rt, alloc, all, input, out),
         Plan::Redact => redact(alloc, input, out),

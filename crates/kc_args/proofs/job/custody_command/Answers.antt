@@ -14,7 +14,9 @@ returns-clause-app c =
     let with_svg = c.in_ok-arg-5.ensures.shape c.svg_arg.ensures.local ∙ ap₂ with_rule with_summary c.svg_arg.ensures.rule in
     let with_refused = c.in_ok-arg-6.ensures.shape c.refused_arg.ensures.local ∙ ap₂ with_rule with_svg c.refused_arg.ensures.rule in
     let with_accesses = c.in_ok-arg-7.ensures.shape c.accesses_arg.ensures.local ∙ ap₂ with_rule with_refused c.accesses_arg.ensures.rule in
-    IfOk-weaker c.arg-8.result _ _ (λ r h. h.shape c.explain_arg.ensures.local ∙ ap₂ with_rule with_accesses c.explain_arg.ensures.rule) c.arg-8.ensures
+    let with_unseen = c.in_ok-arg-8.ensures.shape c.unseen_arg.ensures.local ∙ ap₂ with_rule with_accesses c.unseen_arg.ensures.rule in
+    let with_digests = c.in_ok-arg-9.ensures.shape c.digests_arg.ensures.local ∙ ap₂ with_rule with_unseen c.digests_arg.ensures.rule in
+    IfOk-weaker c.arg-10.result _ _ (λ r h. h.shape c.explain_arg.ensures.local ∙ ap₂ with_rule with_digests c.explain_arg.ensures.rule) c.arg-10.ensures
 
 pub returns-clause-local : goal.returns-clause-local
 returns-clause-local c =
@@ -26,4 +28,6 @@ returns-clause-local c =
     let five = stays_local _ _ _ c.in_ok-arg-5.ensures four c.svg_arg.ensures.local in
     let six = stays_local _ _ _ c.in_ok-arg-6.ensures five c.refused_arg.ensures.local in
     let seven = stays_local _ _ _ c.in_ok-arg-7.ensures six c.accesses_arg.ensures.local in
-    IfOk-weaker c.arg-8.result _ _ (λ r h. stays_local _ _ _ h seven c.explain_arg.ensures.local) c.arg-8.ensures
+    let eight = stays_local _ _ _ c.in_ok-arg-8.ensures seven c.unseen_arg.ensures.local in
+    let nine = stays_local _ _ _ c.in_ok-arg-9.ensures eight c.digests_arg.ensures.local in
+    IfOk-weaker c.arg-10.result _ _ (λ r h. stays_local _ _ _ h nine c.explain_arg.ensures.local) c.arg-10.ensures
