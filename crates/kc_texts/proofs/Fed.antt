@@ -203,12 +203,13 @@ few_bytes stream bytes calls (Some text) now h end few =
     let same : text ≡ bytes = all_read (Some text) now bytes h.consumed end in
     rw same (omega (arith, h.many, few))
 
--- the digest of all that was read
-digest_of_all : (hasher : Option Sha256) (digest : Option (List ℕ)) (bytes : List ℕ) (first : Option (List ℕ)) → ((h : Sha256) → hasher ≡ Some h → IfSome digest (λ d. (message : List ℕ) → Holds256 h message → d ≡ sha256 message)) → (hasher ≡ None → digest ≡ None) → AreHashed hasher bytes → IfSome first (λ text. text ≡ bytes) → IfSome digest (λ d. IfSome first (λ text. d ≡ sha256 text))
-digest_of_all hasher None bytes first made none held same = tt
-digest_of_all None (Some d) bytes first made none held same = absurd (let never : Some d ≡ None = none refl in cc)
-digest_of_all (Some h) (Some d) bytes None made none held same = tt
-digest_of_all (Some h) (Some d) bytes (Some text) made none held same = rw same (made h refl bytes held)
+of_all : (first : Option (List ℕ)) (digest bytes : List ℕ) → IfSome first (λ text. text ≡ bytes) → digest ≡ sha256 bytes → IfSome first (λ text. digest ≡ sha256 text)
+of_all None digest bytes same is = tt
+of_all (Some text) digest bytes same is = rw same is
 
-pub whole_digest : (stream : Streamed) (digest : Option (List ℕ)) (bytes : List ℕ) (calls : List Call) (first now : Option (List ℕ)) → ((h : Sha256) → stream.hasher ≡ Some h → IfSome digest (λ d. (message : List ℕ) → Holds256 h message → d ≡ sha256 message)) → (stream.hasher ≡ None → digest ≡ None) → HasRead stream bytes calls first now → IsAtEnd now → IfSome digest (λ d. IfSome first (λ text. d ≡ sha256 text))
-whole_digest stream digest bytes calls first now made none h end = digest_of_all stream.hasher digest bytes first made none h.hashed (all_read first now bytes h.consumed end)
+-- the digest of all that was read
+pub digest_ends : (stream : Streamed) (h : Sha256) (digest : List ℕ) → stream.hasher ≡ Some h → ((message : List ℕ) → Holds256 h message → digest ≡ sha256 message)
+    → (bytes : List ℕ) (calls : List Call) (first now : Option (List ℕ)) → HasRead stream bytes calls first now → IsAtEnd now → IfSome first (λ text. digest ≡ sha256 text)
+digest_ends stream h digest is made bytes calls first now read end =
+    let held : Holds256 h bytes = rw is at read.hashed in
+    of_all first digest bytes (all_read first now bytes read.consumed end) (made bytes held)
