@@ -18,7 +18,7 @@ _kcore() {
         '') words='replay live custody audit redact help --help --version' ;;
         replay) words='--config --from --to --workers --dump --state --blank --explain --help' ;;
         live) words='--config --workers --explain --help' ;;
-        custody) words='--config --from --vm --summary --svg --html --refused --accesses --explain --help' ;;
+        custody) words='--config --from --vm --summary --svg --html --refused --accesses --unseen --digests --explain --help' ;;
         audit) words='--all --explain --help' ;;
         redact) words='--config --from --host --explain --help' ;;
         help) [ "$COMP_CWORD" -gt 2 ] || words='replay live custody audit redact help' ;;

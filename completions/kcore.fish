@@ -27,6 +27,8 @@ complete -c kcore -n '__fish_seen_subcommand_from custody' -l svg -d 'Write a pi
 complete -c kcore -n '__fish_seen_subcommand_from custody' -l html -d 'Write a page for a browser'
 complete -c kcore -n '__fish_seen_subcommand_from custody' -l refused -d 'Also write what was refused'
 complete -c kcore -n '__fish_seen_subcommand_from custody' -l accesses -d 'Also write what frames of VMs served'
+complete -c kcore -n '__fish_seen_subcommand_from custody' -l unseen -d 'The trace lacks the reads and writes of the machine'
+complete -c kcore -n '__fish_seen_subcommand_from custody' -l digests -d 'Name what was read by SHA-256'
 complete -c kcore -n '__fish_seen_subcommand_from audit' -l all -d 'Write each finding'
 complete -c kcore -n '__fish_seen_subcommand_from redact' -l host -d 'Blank also what the host writes to active VMs'
 complete -c kcore -n '__fish_seen_subcommand_from replay live custody audit redact' -l explain -d 'Say more of a fault'

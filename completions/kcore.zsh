@@ -14,6 +14,8 @@ _kcore() {
     local html='--html[write a page for a browser]'
     local refused='--refused[also write what was refused]'
     local accesses='--accesses[also write what frames of VMs served]'
+    local unseen='--unseen[the trace lacks the reads and writes of the machine]'
+    local digests='--digests[name what was read by SHA-256]'
     local all='--all[write each finding]'
     local host='--host[blank also what the host writes to active VMs]'
     local explain='--explain[say more of a fault]'
@@ -39,7 +41,7 @@ _kcore() {
     case $words[1] in
         replay) _arguments $config $from $to $workers $dump $state_text $blank $explain $help $file ;;
         live) _arguments $config $workers $explain $help $file ;;
-        custody) _arguments $config $from $vm $summary $svg $html $refused $accesses $explain $help $file ;;
+        custody) _arguments $config $from $vm $summary $svg $html $refused $accesses $unseen $digests $explain $help $file ;;
         audit) _arguments $all $explain $help $file ;;
         redact) _arguments $config $from $host $explain $help $file ;;
         help) (( CURRENT > 2 )) || _describe -t commands command commands ;;

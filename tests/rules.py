@@ -11,12 +11,19 @@ PAGE, GUEST_FRAMES, IMAGE_BYTES, LEAF, SHARES, RANGE = 4096, 262144, 1048576, 51
 SLOTS, FRAMES = {1: 16, 2: 64}, {1: 8192, 2: 65536}
 # The options that ask for more than custody.
 REMARKS = "--refused", "--accesses"
+# What the first line of custody names.
+VERSION = "2.0.0"
 # What is said of a frame, in the order in which it is told.
 CUSTODY = [operator.attrgetter(name) for name in ("owner", "gfn", "share", "present")]
 # The configuration that the program has where none is named.
 DEFAULT = {
     "version": 1, "frames": 8, "core": 1, "host": 4, "leaves": 1, "approved": [hashlib.sha256(b"abc").hexdigest()],
 }
+
+
+def denied_in(remarks):
+    """How many calls were refused or rejected."""
+    return sum(option == REMARKS[0] for option, *_ in remarks)
 
 
 def noted(told, remarks, options):
@@ -385,20 +392,26 @@ class Core:
                 current[at].told["cleared"] = number
         return [life.told for life in lives]
 
-    def text(self, kind, calls, counted, lines):
-        """The text of what is told of so many calls, its first line and its last with it."""
-        header = {kind: 1, "frames": len(self.frames), "core": self.config["core"], "host": self.config["host"]}
-        header["slots"] = len(self.slots)
-        lines = [header, *lines, {"calls": calls, counted: len(lines)}]
+    def text(self, kind, calls, counted, lines, named=None, is_unseen=False):
+        """The text of what is reported of calls, of which the number is given and how many were denied, its first line
+        and its last with it. Perhaps the texts that were read are named, or the machine's accesses are not in the
+        trace."""
+        header = {kind: 2, "kcore": VERSION} | (named or {})
+        header |= {"frames": len(self.frames), "core": self.config["core"], "host": self.config["host"]}
+        header |= {"slots": len(self.slots)} | ({"accesses": "unseen"} if is_unseen else {})
+        lines = [header, *lines, {"calls": calls[0], counted: len(lines), "refused": calls[1]}]
         return "".join(json.dumps(line, separators=(",", ":")) + "\n" for line in lines)
 
-    def custody_text(self, calls, told, vm=None):
+    def custody_text(self, calls, told, vm=None, **said):
         """The text of custody, perhaps of one slot's VM alone."""
-        return self.text("custody", calls, "lines", [line for vms, line in told if vm is None or vm in vms])
+        return self.text("custody", calls, "lines", [line for vms, line in told if vm is None or vm in vms], **said)
 
-    def summary_text(self, calls, lives, vm=None):
+    def summary_text(self, calls, lives, vm=None, **said):
         """The text of the summary, perhaps of one slot's VM alone."""
-        return self.text("summary", calls, "lives", [life for life in lives if vm is None or life["vm"] == vm])
+        lives = [life for life in lives if vm is None or life["vm"] == vm]
+        if said.get("is_unseen"):
+            lives = [life | {"reads": None, "writes": None} for life in lives]
+        return self.text("summary", calls, "lives", lives, **said)
 
     def dump(self):
         """The text of a dump."""

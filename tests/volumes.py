@@ -7,7 +7,7 @@ import re
 
 import calls
 from common import run
-from rules import PAGE, REMARKS, Core, noted
+from rules import PAGE, REMARKS, Core, denied_in, noted
 from states import blanked, fault_of, state_text
 
 WORKERS = (1, 2, 64)
@@ -29,8 +29,9 @@ class Volume:
         # Each without the bytes of guests and the host's in active VMs' frames, as they are when it is made.
         made = [(core.redacted(line), core.answer(line)) for line in lines]
         self.hidden, self.replies = [line for line, _ in made], "".join(f"{reply}\n" for _, reply in made)
-        self.custody = [([], core.custody_text(len(lines), told))]
-        self.custody.append((list(REMARKS), core.custody_text(len(lines), noted(told, remarks, REMARKS))))
+        calls = len(lines), denied_in(remarks)
+        self.custody = [([], core.custody_text(calls, told))]
+        self.custody.append((list(REMARKS), core.custody_text(calls, noted(told, remarks, REMARKS))))
         self.behind = state_text(core)
         self.dump = self.behind[self.behind.index("kcore-dump "):]
 

@@ -50,6 +50,12 @@ refused_rule = record (new_rule (codes "refused")) { long = Some (codes "refused
 abbrev pub accesses_rule : Rule
 accesses_rule = record (new_rule (codes "accesses")) { long = Some (codes "accesses"); action = Some SetTrue }
 
+abbrev pub unseen_rule : Rule
+unseen_rule = record (new_rule (codes "unseen")) { long = Some (codes "unseen"); action = Some SetTrue }
+
+abbrev pub digests_rule : Rule
+digests_rule = record (new_rule (codes "digests")) { long = Some (codes "digests"); action = Some SetTrue }
+
 abbrev pub all_rule : Rule
 all_rule = record (new_rule (codes "all")) { long = Some (codes "all"); action = Some SetTrue }
 
@@ -71,7 +77,7 @@ abbrev pub live : App
 live = with_rule (with_rule (with_rule (with_rule (new_app (codes "live")) config_rule) workers_rule) explain_rule) file_rule
 
 abbrev pub custody : App
-custody = with_rule (with_rule (with_rule (with_rule (with_rule (with_rule (with_rule (with_rule (with_rule (with_rule (new_app (codes "custody")) config_rule) from_rule) vm_rule) summary_rule) svg_rule) html_rule) refused_rule) accesses_rule) explain_rule) file_rule
+custody = with_rule (with_rule (with_rule (with_rule (with_rule (with_rule (with_rule (with_rule (with_rule (with_rule (with_rule (with_rule (new_app (codes "custody")) config_rule) from_rule) vm_rule) summary_rule) svg_rule) html_rule) refused_rule) accesses_rule) unseen_rule) digests_rule) explain_rule) file_rule
 
 abbrev pub audit : App
 audit = with_rule (with_rule (with_rule (new_app (codes "audit")) all_rule) explain_rule) file_rule

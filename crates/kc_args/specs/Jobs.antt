@@ -51,8 +51,9 @@ abbrev pub IsJobIn : Text → List Row → Job → Type 0
 IsJobIn name rows (Replay input config from to workers dump state blank explain) = (name ≢ codes "live") × (name ≢ codes "custody") × (name ≢ codes "audit") × (name ≢ codes "redact") × HasInput rows input × HasOptions rows config workers × HasPath (codes "from") rows from × HasPath (codes "to") rows to
     × (IsTrue dump ↔ IsSet (codes "dump") rows) × (IsTrue state ↔ IsSet (codes "state") rows) × (IsTrue blank ↔ IsSet (codes "blank") rows) × (IsTrue explain ↔ IsSet (codes "explain") rows)
 IsJobIn name rows (Live input config workers explain) = (name ≡ codes "live") × HasInput rows input × HasOptions rows config workers × (IsTrue explain ↔ IsSet (codes "explain") rows)
-IsJobIn name rows (Custody input config from vm summary svg html refused accesses explain) = (name ≡ codes "custody") × HasInput rows input × HasPath (codes "config") rows config × HasPath (codes "from") rows from × (vm ≡ vm_in rows)
+IsJobIn name rows (Custody input config from vm summary svg html refused accesses unseen digests explain) = (name ≡ codes "custody") × HasInput rows input × HasPath (codes "config") rows config × HasPath (codes "from") rows from × (vm ≡ vm_in rows)
     × (IsTrue summary ↔ IsSet (codes "summary") rows) × (IsTrue svg ↔ IsSet (codes "svg") rows) × (IsTrue html ↔ IsSet (codes "html") rows) × (IsTrue refused ↔ IsSet (codes "refused") rows) × (IsTrue accesses ↔ IsSet (codes "accesses") rows)
+    × (IsTrue unseen ↔ IsSet (codes "unseen") rows) × (IsTrue digests ↔ IsSet (codes "digests") rows)
     × (IsTrue explain ↔ IsSet (codes "explain") rows)
 IsJobIn name rows (Audit input all explain) = (name ≡ codes "audit") × HasInput rows input × (IsTrue all ↔ IsSet (codes "all") rows) × (IsTrue explain ↔ IsSet (codes "explain") rows)
 IsJobIn name rows (Redact input config from host explain) = (name ≡ codes "redact") × HasInput rows input × HasPath (codes "config") rows config × HasPath (codes "from") rows from × (IsTrue host ↔ IsSet (codes "host") rows) × (IsTrue explain ↔ IsSet (codes "explain") rows)
@@ -61,7 +62,7 @@ IsJobIn name rows (Redact input config from host explain) = (name ≡ codes "red
 abbrev pub Asks : Option (Text × List Row) → Job → Type 0
 Asks None (Replay input config from to workers dump state blank explain) = (input ≡ None) × HasOptions [] config workers × HasPath (codes "from") [] from × HasPath (codes "to") [] to × (dump ≡ false) × (state ≡ false) × (blank ≡ false) × (explain ≡ false)
 Asks None (Live input config workers explain) = ⊥
-Asks None (Custody input config from vm summary svg html refused accesses explain) = ⊥
+Asks None (Custody input config from vm summary svg html refused accesses unseen digests explain) = ⊥
 Asks None (Audit input all explain) = ⊥
 Asks None (Redact input config from host explain) = ⊥
 Asks (Some found) job = IsJobIn found.0 found.1 job

@@ -3,7 +3,7 @@ ghost use Rattle.std.specs.Prelude.{◌≡◌, ◌↔◌, IfOk, IfErr, IsTrue, m
 ghost use Rattle.clap.specs.declared.builder.command.Command.TheViews.{out-Command as fields_of};
 ghost use Rattle.clap.specs.Words.{app_of, rule_of, found_of, rows_of, first_of};
 ghost use Rattle.clap.specs.Values.{kind_of};
-ghost use Rattle.kc_args.specs.Commands.{kcore, replay, live, custody, audit, redact, config_rule, from_rule, to_rule, workers_rule, dump_rule, state_rule, blank_rule, vm_rule, summary_rule, svg_rule, html_rule, refused_rule, accesses_rule, all_rule, host_rule, explain_rule, file_rule};
+ghost use Rattle.kc_args.specs.Commands.{kcore, replay, live, custody, audit, redact, config_rule, from_rule, to_rule, workers_rule, dump_rule, state_rule, blank_rule, vm_rule, summary_rule, svg_rule, html_rule, refused_rule, accesses_rule, unseen_rule, digests_rule, all_rule, host_rule, explain_rule, file_rule};
 ghost use Rattle.kc_args.specs.Jobs.{in_range, workers_in, slot_in, vm_in, IsSet, HasInput, IsJob, IsJobIn, IsRefusal, HasStatus};
 
 use clap::error::ErrorKind;
@@ -42,8 +42,10 @@ pub enum Job<'a> {
     /// the file `from`, and write what happened to each frame and slot, of one slot's VM alone if a slot is given: every
     /// change, with `refused` also each call that was refused or rejected, and with `accesses` each read and write of the
     /// host that a VM's frame served; or with `summary` an object for each life of a VM, or with `svg` a picture, or with
-    /// `html` all of these lines in a page for a browser. `config` and `from` exclude each other; so do `summary`, `svg` and
-    /// `from`; `summary`, `svg` and `html`; and `summary` and `svg` exclude `refused` and `accesses`.
+    /// `html` all of these lines in a page for a browser. `unseen`: the machine's own reads and writes are not in the trace,
+    /// and none is reported; `digests`: the texts that were read are named by their digests. `config` and `from` exclude each
+    /// other; so do `summary`, `svg` and `from`; `summary`, `svg` and `html`; `summary` and `svg` exclude `refused` and
+    /// `accesses`; and `unseen` excludes `accesses`.
     Custody {
         input: Option<&'a str>,
         config: Option<&'a str>,
@@ -54,6 +56,8 @@ pub enum Job<'a> {
         html: bool,
         refused: bool,
         accesses: bool,
+        unseen: bool,
+        digests: bool,
         explain: bool,
     },
     /// Audit the dump, and write each finding, or the report alone.
@@ -74,7 +78,8 @@ pub enum Job<'a> {
     },
 }
 
-/// What `--version` prints after the program's name: the version, and on a second line the toolchain that proves it.
+/// What `--version` prints after the program's name: the version, which the first line of custody names too, and on a second
+/// line the toolchain that proves it.
 const VERSION: &str = "2.0.0\nrattle-kit-13f";
 
 const TRACE_HELP: &str = "The trace; standard input if this is - or not given";
@@ -238,6 +243,26 @@ fn accesses_arg<'a>(alloc: Global) -> Arg<'a>
         .help("Also write each read and write of the host that a VM's frame served")
 }
 
+fn unseen_arg<'a>(alloc: Global) -> Arg<'a>
+    ensures rule { rule_of result ≡ unseen_rule }
+    ensures local { result.global ≡ false }
+{
+    Arg::new(alloc, "unseen")
+        .long("unseen")
+        .action(ArgAction::SetTrue)
+        .help("The trace lacks the machine's own reads and writes: report none")
+}
+
+fn digests_arg<'a>(alloc: Global) -> Arg<'a>
+    ensures rule { rule_of result ≡ digests_rule }
+    ensures local { result.global ≡ false }
+{
+    Arg::new(alloc, "digests")
+        .long("digests")
+        .action(ArgAction::SetTrue)
+        .help("Name the trace, and the configuration or the state, by SHA-256 in the first line")
+}
+
 fn all_arg<'a>(alloc: Global) -> Arg<'a>
     ensures rule { rule_of result ≡ all_rule }
     ensures local { result.global ≡ false }
@@ -325,6 +350,8 @@ fn custody_command<'a>(alloc: Global) -> Result<Command<'a>, AllocError>
         .arg(html_arg(alloc))?
         .arg(refused_arg(alloc))?
         .arg(accesses_arg(alloc))?
+        .arg(unseen_arg(alloc))?
+        .arg(digests_arg(alloc))?
         .arg(explain_arg(alloc))?
         .arg(file_arg(alloc, TRACE_HELP))
 }
@@ -503,6 +530,8 @@ fn job_in<'a>(name: &str, found: &ArgMatches<'a>) -> Job<'a>
             html: is_set(found, "html"),
             refused: is_set(found, "refused"),
             accesses: is_set(found, "accesses"),
+            unseen: is_set(found, "unseen"),
+            digests: is_set(found, "digests"),
             explain,
         };
     }
@@ -531,8 +560,8 @@ fn job_in<'a>(name: &str, found: &ArgMatches<'a>) -> Job<'a>
 /// What the arguments, without the program's name, ask for: `replay` or `live`, with or without `--config PATH` and
 /// `--workers N` with a number from 1 to 64, `replay` also with `--from PATH`, `--to PATH`, `--dump`, `--state` and
 /// `--blank`; `custody`, with or without `--config PATH` and `--vm V` with a number from 0 to 63, `--summary`, `--svg`,
-/// `--html`, `--refused` and `--accesses`; `audit`, also with `--all`; `redact`, also with `--config PATH`, `--from PATH` and
-/// `--host`; each also with `--explain` and the file to be read; and `replay` if there are none.
+/// `--html`, `--refused`, `--accesses`, `--unseen` and `--digests`; `audit`, also with `--all`; `redact`, also with
+/// `--config PATH`, `--from PATH` and `--host`; each also with `--explain` and the file to be read; and `replay` if there are none.
 pub fn job_of<'a>(alloc: Global, arguments: &'a [&'a str]) -> Result<Job<'a>, ArgFault>
     // The job is what the arguments say by the command's rules, and only a command line that breaks them is refused.
     ensures job { IfOk result (IsJob (map (λ w. w.now) arguments.entry.now)) }

@@ -1,10 +1,14 @@
 -- What is kept of calls that come after others.
-use Rattle.std.proofs.Common.{ℕ, ◌≡◌, ◌++◌, List, Option, ap, ap₂, sym, ◌∙◌}
+use Rattle.std.proofs.Common.{ℕ, ◌≡◌, ◌++◌, Bool, true, false, List, [], ◌∷◌, All, map, Option, refl, ap, ap₂, sym, ◌∙◌}
 use Rattle.std.specs.Global.{Vec}
 use Rattle.std.proofs.lemmas.List.Elements.{filter_map-append}
 use Rattle.kc_types.specs.Configuration.{Configuration}
 use Rattle.kc_types.specs.declared.call.Call.{Call}
 use Rattle.kc_types.specs.declared.custody.Event.{Event}
+use Rattle.kc_types.specs.declared.custody.Event.TheVariants as event
+use Rattle.kc_model.proofs.Custody.Events.{changes-of-changes}
+use Rattle.kc_custody.specs.Within.{IsWithin}
+use Rattle.kc_trace.specs.declared.custody_writer.Heading.{Heading}
 use Rattle.kc_model.specs.State.{State}
 use Rattle.kc_model.specs.Lives.{lives, selected_lives}
 use Rattle.kc_custody.specs.Chosen.{chosen}
@@ -23,7 +27,7 @@ use Rattle.kc_cli.specs.declared.account.CustodyForm.TheVariants.{Changes, Summa
 use Rattle.kc_cli.specs.declared.ledger.Ledger.TheVariants as kept
 use Rattle.kc_cli.specs.declared.ledger.Ledger.{Ledger}
 use Rattle.kc_html.specs.Html.{html_text_of}
-use Rattle.kc_cli.specs.Custody.{IsAccount, all_remarks}
+use Rattle.kc_cli.specs.Custody.{IsAccount, page_remarks, reported}
 use Rattle.kc_cli.specs.Ledgers.{Keeps, events_kept, IsGiven}
 
 -- the events of notes that more are added to
@@ -92,28 +96,44 @@ kept_events (Html origin) told (kept.Picture events) h = absurd h
 kept_events (Html origin) told (kept.Html notes) h = ap events_in h
 
 -- what is given of what is kept is the account of the notes
-pub account_given : (form : CustodyForm) (vm : Option ℕ) (config : Configuration) (count : ℕ) (told : List Note) (ledger : Ledger) (text : List ℕ) → Keeps form told ledger → IsGiven vm config count ledger text → IsAccount form vm config count told text
-account_given (Changes origin remarks) vm config count told (kept.Changes events) text h given =
+pub account_given : (form : CustodyForm) (vm : Option ℕ) (heading : Heading) (config : Configuration) (count refused : ℕ) (told : List Note) (ledger : Ledger) (text : List ℕ) → Keeps form told ledger → IsGiven vm heading config count refused ledger text → IsAccount form vm heading config count refused told text
+account_given (Changes origin remarks) vm heading config count refused told (kept.Changes events) text h given =
     given
-    ∙ ap (λ (xs : List Event). custody_text_of config count (selected vm (changes_in xs))) h.1
-    ∙ sym (plain config count vm told)
-    ∙ ap (λ (r : Remarks). notes_text_of config count (chosen vm r told)) (sym h.0)
-account_given (Changes origin remarks) vm config count told (kept.Notes wanted notes) text h given = given ∙ ap₂ (λ (r : Remarks) (xs : List Note). notes_text_of config count (chosen vm r xs)) h.0 h.1
-account_given (Changes origin remarks) vm config count told (kept.Summary events) text h given = absurd h
-account_given (Changes origin remarks) vm config count told (kept.Picture events) text h given = absurd h
-account_given (Changes origin remarks) vm config count told (kept.Html notes) text h given = absurd h
-account_given Summary vm config count told (kept.Changes events) text h given = absurd h
-account_given Summary vm config count told (kept.Notes wanted notes) text h given = absurd h
-account_given Summary vm config count told (kept.Summary events) text h given = given ∙ ap (λ (xs : List Event). summary_text_of config count (selected_lives vm (lives xs))) h
-account_given Summary vm config count told (kept.Picture events) text h given = absurd h
-account_given Summary vm config count told (kept.Html notes) text h given = absurd h
-account_given Picture vm config count told (kept.Changes events) text h given = absurd h
-account_given Picture vm config count told (kept.Notes wanted notes) text h given = absurd h
-account_given Picture vm config count told (kept.Summary events) text h given = absurd h
-account_given Picture vm config count told (kept.Picture events) text h given = tt
-account_given Picture vm config count told (kept.Html notes) text h given = absurd h
-account_given (Html origin) vm config count told (kept.Changes events) text h given = absurd h
-account_given (Html origin) vm config count told (kept.Notes wanted notes) text h given = absurd h
-account_given (Html origin) vm config count told (kept.Summary events) text h given = absurd h
-account_given (Html origin) vm config count told (kept.Picture events) text h given = absurd h
-account_given (Html origin) vm config count told (kept.Html notes) text h given = given ∙ ap (λ (xs : List Note). html_text_of (notes_text_of config count (chosen vm all_remarks xs))) h
+    ∙ ap (λ (xs : List Event). custody_text_of heading config count refused (selected vm (changes_in xs))) h.1
+    ∙ sym (plain heading config count refused vm told)
+    ∙ ap (λ (r : Remarks). notes_text_of heading config count refused (chosen vm r told)) (sym h.0)
+account_given (Changes origin remarks) vm heading config count refused told (kept.Notes wanted notes) text h given = given ∙ ap₂ (λ (r : Remarks) (xs : List Note). notes_text_of heading config count refused (chosen vm r xs)) h.0 h.1
+account_given (Changes origin remarks) vm heading config count refused told (kept.Summary events) text h given = absurd h
+account_given (Changes origin remarks) vm heading config count refused told (kept.Picture events) text h given = absurd h
+account_given (Changes origin remarks) vm heading config count refused told (kept.Html notes) text h given = absurd h
+account_given Summary vm heading config count refused told (kept.Changes events) text h given = absurd h
+account_given Summary vm heading config count refused told (kept.Notes wanted notes) text h given = absurd h
+account_given Summary vm heading config count refused told (kept.Summary events) text h given = given ∙ ap (λ (xs : List Event). summary_text_of heading config count refused (selected_lives vm (lives (reported heading.is_unseen xs)))) h
+account_given Summary vm heading config count refused told (kept.Picture events) text h given = absurd h
+account_given Summary vm heading config count refused told (kept.Html notes) text h given = absurd h
+account_given Picture vm heading config count refused told (kept.Changes events) text h given = absurd h
+account_given Picture vm heading config count refused told (kept.Notes wanted notes) text h given = absurd h
+account_given Picture vm heading config count refused told (kept.Summary events) text h given = absurd h
+account_given Picture vm heading config count refused told (kept.Picture events) text h given = tt
+account_given Picture vm heading config count refused told (kept.Html notes) text h given = absurd h
+account_given (Html origin) vm heading config count refused told (kept.Changes events) text h given = absurd h
+account_given (Html origin) vm heading config count refused told (kept.Notes wanted notes) text h given = absurd h
+account_given (Html origin) vm heading config count refused told (kept.Summary events) text h given = absurd h
+account_given (Html origin) vm heading config count refused told (kept.Picture events) text h given = absurd h
+account_given (Html origin) vm heading config count refused told (kept.Html notes) text h given = given ∙ ap (λ (xs : List Note). html_text_of (notes_text_of heading config count refused (chosen vm (page_remarks heading.is_unseen) xs))) h
+
+within_change : (frames : ℕ) (told : List Event) → All (IsWithin frames) told → All (IsWithin frames) (map event.Change (changes_in told))
+within_change frames [] h = tt
+within_change frames (event.Change change ∷ more) h = (h.0, within_change frames more h.1)
+within_change frames (event.Read v ∷ more) h = within_change frames more h.1
+within_change frames (event.Write v ∷ more) h = within_change frames more h.1
+
+-- what is reported of events within a machine is within it
+pub reported_within : (unseen : Bool) (frames : ℕ) (told : List Event) → All (IsWithin frames) told → All (IsWithin frames) (reported unseen told)
+reported_within false frames told h = h
+reported_within true frames told h = within_change frames told h
+
+-- the changes among them are the same
+pub changes_reported : (unseen : Bool) (told : List Event) → changes_in (reported unseen told) ≡ changes_in told
+changes_reported false told = refl
+changes_reported true told = changes-of-changes (changes_in told)

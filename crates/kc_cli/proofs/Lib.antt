@@ -3,5 +3,6 @@ pub mod Replayed
 pub mod Fed
 mod Plain
 mod Ledgers
+mod Headings
 mod Told
 pub mod Sources

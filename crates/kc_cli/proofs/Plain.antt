@@ -9,6 +9,7 @@ use Rattle.kc_types.specs.declared.custody.Event.TheVariants as event
 use Rattle.kc_model.specs.Events.{changes_in}
 use Rattle.kc_custody.specs.Selected.{is_for, selected}
 use Rattle.kc_model.proofs.Custody.Events.{flat-changes}
+use Rattle.kc_trace.specs.declared.custody_writer.Heading.{Heading}
 use Rattle.kc_trace.specs.CustodyText.{change_line, event_line, header_line, end_line, custody_text_of}
 use Rattle.kc_trace.specs.RemarkText.{note_line, notes_text_of}
 use Rattle.kc_html.specs.Html.{html_text_of}
@@ -48,20 +49,20 @@ lines : (changes : List Change) → flat_map note_line (map noted changes) ≡ f
 lines [] = refl
 lines (change ∷ more) = ap (λ (rest : List ℕ). change_line change ++ rest) (lines more)
 
-pub plain : (config : Configuration) (calls : ℕ) (vm : Option ℕ) (told : List Note) → notes_text_of config calls (chosen vm no_remarks told) ≡ custody_text_of config calls (selected vm (changes_in (events_in told)))
-plain config calls vm told =
+pub plain : (heading : Heading) (config : Configuration) (calls refused : ℕ) (vm : Option ℕ) (told : List Note) → notes_text_of heading config calls refused (chosen vm no_remarks told) ≡ custody_text_of heading config calls refused (selected vm (changes_in (events_in told)))
+plain heading config calls refused vm told =
     let changes = selected vm (changes_in (events_in told)) in
-    ap (notes_text_of config calls) (picked vm told)
-    ∙ ap₂ (λ (body : List ℕ) (n : ℕ). header_line config ++ (body ++ end_line calls n)) (lines changes) (length-map changes noted)
+    ap (notes_text_of heading config calls refused) (picked vm told)
+    ∙ ap₂ (λ (body : List ℕ) (n : ℕ). header_line heading config ++ (body ++ end_line calls n refused)) (lines changes) (length-map changes noted)
 
 -- the text of the changes among events, and that of notes
-pub changes_text : (config : Configuration) (calls : ℕ) (changes : List Change) (told : List Event) → told ≡ map event.Change changes → header_line config ++ (flat_map event_line told ++ end_line calls (length told)) ≡ custody_text_of config calls changes
-changes_text config calls changes told are =
-    ap₂ (λ (body : List ℕ) (n : ℕ). header_line config ++ (body ++ end_line calls n))
+pub changes_text : (heading : Heading) (config : Configuration) (calls refused : ℕ) (changes : List Change) (told : List Event) → told ≡ map event.Change changes → header_line heading config ++ (flat_map event_line told ++ end_line calls (length told) refused) ≡ custody_text_of heading config calls refused changes
+changes_text heading config calls refused changes told are =
+    ap₂ (λ (body : List ℕ) (n : ℕ). header_line heading config ++ (body ++ end_line calls n refused))
     (ap (flat_map event_line) are ∙ flat-changes event_line change_line (λ c. refl) changes) (ap length are ∙ length-map changes event.Change)
 
-pub notes_text : (config : Configuration) (calls : ℕ) (told wanted : List Note) → told ≡ wanted → header_line config ++ (flat_map note_line told ++ end_line calls (length told)) ≡ notes_text_of config calls wanted
-notes_text config calls told wanted are = ap (notes_text_of config calls) are
+pub notes_text : (heading : Heading) (config : Configuration) (calls refused : ℕ) (told wanted : List Note) → told ≡ wanted → header_line heading config ++ (flat_map note_line told ++ end_line calls (length told) refused) ≡ notes_text_of heading config calls refused wanted
+notes_text heading config calls refused told wanted are = ap (notes_text_of heading config calls refused) are
 
-pub page_text : (config : Configuration) (calls : ℕ) (told wanted : List Note) → told ≡ wanted → html_text_of (header_line config ++ (flat_map note_line told ++ end_line calls (length told))) ≡ html_text_of (notes_text_of config calls wanted)
-page_text config calls told wanted are = ap (λ (xs : List Note). html_text_of (notes_text_of config calls xs)) are
+pub page_text : (heading : Heading) (config : Configuration) (calls refused : ℕ) (told wanted : List Note) → told ≡ wanted → html_text_of (header_line heading config ++ (flat_map note_line told ++ end_line calls (length told) refused)) ≡ html_text_of (notes_text_of heading config calls refused wanted)
+page_text heading config calls refused told wanted are = ap (λ (xs : List Note). html_text_of (notes_text_of heading config calls refused xs)) are

@@ -1,5 +1,5 @@
 -- What is told of calls that come after others, and what the sink takes of it.
-use Rattle.std.proofs.Common.{ℕ, ◌≡◌, ◌+◌, ◌++◌, List, [], length, take, refl, ap, sym, ◌∙◌, Option, Some, None, Err, subst, arith, inl, inr, append_assoc}
+use Rattle.std.proofs.Common.{ℕ, ◌≡◌, ◌+◌, ◌++◌, List, [], length, filter, take, refl, ap, sym, ◌∙◌, Option, Some, None, Err, subst, arith, inl, inr, append_assoc}
 use Rattle.std.proofs.lemmas.Bool.{cases_lt}
 use Rattle.std.proofs.lemmas.List.{take_all, append-nil}
 use Rattle.std.proofs.Math.Seq.{take-append-add, take-append-le}
@@ -10,6 +10,8 @@ use Rattle.kc_types.specs.Configuration.{Configuration}
 use Rattle.kc_types.specs.declared.call.Call.{Call}
 use Rattle.kc_remarks.specs.declared.remark.Note.{Note}
 use Rattle.kc_remarks.specs.Remarks.{notes, notes_from, events_in}
+use Rattle.kc_remarks.specs.Denials.{is_denied}
+use Rattle.kc_remarks.proofs.Counted.{denied, both}
 use Rattle.kc_remarks.proofs.Runs.{notes-append}
 use Rattle.kc_remarks.proofs.Events.{events-of-notes, changes-of-notes}
 use Rattle.kc_model.specs.State.{State}
@@ -19,6 +21,7 @@ use Rattle.kc_model.specs.Custody.{first_line}
 use Rattle.kc_model.specs.Events.{changes_in}
 use Rattle.kc_model.proofs.Promises.{promises_kept}
 use Rattle.kc_model.proofs.Blind.Told.{custody_is_blind}
+use Rattle.kc_model.proofs.Redaction.Lacking.{accesses_change_nothing}
 use Rattle.kc_model.proofs.Custody.Bars.{bars_are}
 use Rattle.kc_model.proofs.Custody.Laws.{custody_is}
 use Rattle.kc_model.proofs.Summaries.Summed.{summaries_are}
@@ -29,7 +32,10 @@ use Rattle.kc_texts.specs.declared.origin.Origin.{Origin}
 use Rattle.kc_texts.specs.Reading.{BeginsIn, Writes, Begins}
 use Rattle.kc_cli.specs.declared.account.CustodyForm.{CustodyForm}
 use Rattle.kc_cli.specs.declared.ledger.Ledger.{Ledger}
-use Rattle.kc_cli.specs.Custody.{AreNotesOf, IsCustodyTold, IsAccount, IsCustodyText, TellsCustody, origin_of}
+use Rattle.kc_trace.specs.declared.custody_writer.Heading.{Heading}
+use Rattle.kc_cli.specs.declared.account.Scope.{Scope}
+use Rattle.kc_cli.specs.Custody.{AreNotesOf, IsCustodyTold, IsCustodyOfAll, IsAccount, IsCustodyText, TellsCustody, origin_of}
+use Rattle.kc_cli.specs.Headings.{IsHeaded}
 use Rattle.kc_cli.specs.Ledgers.{Keeps, IsGiven}
 use Rattle.kc_cli.proofs.Ledgers.{account_given}
 
@@ -43,40 +49,63 @@ told_more m old xs ys line from at =
 pub left_more : (m old new : State) (xs ys : List Call) → old ≡ state_after m xs → new ≡ state_after old ys → new ≡ state_after m (xs ++ ys)
 left_more m old new xs ys from to = to ∙ ap (λ (s : State). state_after s ys) from ∙ sym (state_after-append m xs ys)
 
-pub is_told : (source : Option (List ℕ)) (m : State) (told : List Note) (count : ℕ) → IsLawful m → AreNotesOf m source count told → IsCustodyTold m source count told
-is_told source m told count is h = record {
+-- how many calls are denied, after those so far
+pub denied_more : (m old : State) (xs ys : List Call) (line counted now : ℕ) → old ≡ state_after m xs → line ≡ first_line + length xs → counted ≡ length (filter is_denied (notes m xs)) → now ≡ counted + length (filter is_denied (notes_from line old ys)) → now ≡ length (filter is_denied (notes m (xs ++ ys)))
+denied_more m old xs ys line counted now from at so_far added =
+    let split = both (notes m xs) (notes_from line old ys) in
+    let whole = ap (λ (told : List Note). length (filter is_denied told)) (told_more m old xs ys line from at) in
+    omega (arith, split, whole, so_far, added)
+
+-- what happened beside the calls changes nothing of what is reported
+is_of_all : (m : State) (calls : List Call) → IsLawful m → IsCustodyOfAll m calls
+is_of_all m calls is = (
+  (accesses_change_nothing m calls is).0,
+  λ kept n marks happened other_is differ may keeps same lines long. rw same at (((accesses_change_nothing n happened other_is).1 kept m marks is differ may keeps).custody lines long),
+)
+
+pub is_told : (source : Option (List ℕ)) (m : State) (told : List Note) (count refused : ℕ) → IsLawful m → AreNotesOf m source count refused told → IsCustodyTold m source count refused told
+is_told source m told count refused is h = record {
   calls = h.calls;
   traced = h.traced;
   counted = h.counted;
   few = h.few;
   exact = h.exact;
+  refused_is = h.denied ∙ ap (λ (all : List Note). length (filter is_denied all)) h.exact ∙ denied first_line m h.calls;
   events = ap events_in h.exact ∙ events-of-notes m h.calls;
   changes = ap (λ (all : List Note). changes_in (events_in all)) h.exact ∙ changes-of-notes m h.calls;
   promises = promises_kept m h.calls is;
   laws = custody_is m h.calls is;
   blind = custody_is_blind m h.calls is;
+  all = is_of_all m h.calls is;
   summaries = summaries_are m h.calls is;
   bars = bars_are m h.calls is;
 }
 
 -- what was kept of a start and a trace
-abbrev pub WasTold : CustodyForm → Option (List ℕ) → Option (List ℕ) → Configuration → ℕ → Ledger → Type 0
-WasTold form start trace config count ledger = (m : State) × IfSome start (λ text. BeginsIn (origin_of form) text m) × (config ≡ m.config) × (told : List Note) × IsCustodyTold m trace count told × Keeps form told ledger
+abbrev pub WasTold : CustodyForm → Option (List ℕ) → Option (List ℕ) → Configuration → ℕ → ℕ → Ledger → Type 0
+WasTold form start trace config count refused ledger = (m : State) × IfSome start (λ text. BeginsIn (origin_of form) text m) × (config ≡ m.config) × (told : List Note) × IsCustodyTold m trace count refused told × Keeps form told ledger
+
+-- the account of both texts
+account_of_both : (form : CustodyForm) (scope : Scope) (start trace : List ℕ) (config : Configuration) (heading : Heading) (count refused : ℕ) (ledger : Ledger) (text : List ℕ) → WasTold form (Some start) (Some trace) config count refused ledger → IsHeaded scope (origin_of form) (Some start) (Some trace) heading
+    → IsGiven scope.vm heading config count refused ledger text → IsCustodyText form scope start trace text
+account_of_both form scope start trace config heading count refused ledger text h headed given =
+    let account : IsAccount form scope.vm heading h.0.config count refused h.3 text = subst (λ c. IsAccount form scope.vm heading c count refused h.3 text) h.2 (account_given form scope.vm heading config count refused h.3 ledger text h.5 given) in
+    (h.0, count, refused, h.3, h.1, h.4, subst (λ (said : Heading). IsAccount form scope.vm said h.0.config count refused h.3 text) headed account)
 
 -- what was written is made of what was kept of both texts
-pub gives_custody : (form : CustodyForm) (vm : Option ℕ) (start trace old new : Option (List ℕ)) (config : Configuration) (count : ℕ) (ledger : Ledger) → WasTold form start trace config count ledger
-    → ((text : List ℕ) × IsGiven vm config count ledger text × Appends old new text) → Writes (IsCustodyText form vm) start trace old new
-gives_custody form vm None trace old new config count ledger h given = tt
-gives_custody form vm (Some start) None old new config count ledger h given = tt
-gives_custody form vm (Some start) (Some trace) old new config count ledger h given =
-    (given.0, (h.0, count, h.3, h.1, h.4, subst (λ c. IsAccount form vm c count h.3 given.0) h.2 (account_given form vm config count h.3 ledger given.0 h.5 given.1)), given.2)
+pub gives_custody : (form : CustodyForm) (scope : Scope) (start trace old new : Option (List ℕ)) (config : Configuration) (heading : Heading) (count refused : ℕ) (ledger : Ledger) → WasTold form start trace config count refused ledger → IsHeaded scope (origin_of form) start trace heading
+    → ((text : List ℕ) × IsGiven scope.vm heading config count refused ledger text × Appends old new text) → Writes (IsCustodyText form scope) start trace old new
+gives_custody form scope None trace old new config heading count refused ledger h headed given = tt
+gives_custody form scope (Some start) None old new config heading count refused ledger h headed given = tt
+gives_custody form scope (Some start) (Some trace) old new config heading count refused ledger h headed given =
+    (given.0, account_of_both form scope start trace config heading count refused ledger given.0 h headed given.1, given.2)
 
-pub begins_custody : (form : CustodyForm) (vm : Option ℕ) (start trace old new : Option (List ℕ)) (config : Configuration) (count : ℕ) (ledger : Ledger) → WasTold form start trace config count ledger
-    → ((text : List ℕ) × (n : ℕ) × IsGiven vm config count ledger text × Appends old new (take n text)) → Begins (IsCustodyText form vm) start trace old new
-begins_custody form vm None trace old new config count ledger h given = tt
-begins_custody form vm (Some start) None old new config count ledger h given = tt
-begins_custody form vm (Some start) (Some trace) old new config count ledger h given =
-    (given.0, given.1, (h.0, count, h.3, h.1, h.4, subst (λ c. IsAccount form vm c count h.3 given.0) h.2 (account_given form vm config count h.3 ledger given.0 h.5 given.2)), given.3)
+pub begins_custody : (form : CustodyForm) (scope : Scope) (start trace old new : Option (List ℕ)) (config : Configuration) (heading : Heading) (count refused : ℕ) (ledger : Ledger) → WasTold form start trace config count refused ledger → IsHeaded scope (origin_of form) start trace heading
+    → ((text : List ℕ) × (n : ℕ) × IsGiven scope.vm heading config count refused ledger text × Appends old new (take n text)) → Begins (IsCustodyText form scope) start trace old new
+begins_custody form scope None trace old new config heading count refused ledger h headed given = tt
+begins_custody form scope (Some start) None old new config heading count refused ledger h headed given = tt
+begins_custody form scope (Some start) (Some trace) old new config heading count refused ledger h headed given =
+    (given.0, given.1, account_of_both form scope start trace config heading count refused ledger given.0 h headed given.2, given.3)
 
 -- a fault from which nothing was written
 pub custody_err : {A B : Type 0} (slot : Option ℕ) (origin : Origin) (start : Option (List ℕ)) (unread : Type 0) (f : TextFault) → TellsCustody {A = A} slot origin start unread (Err f) → TellsCustody {A = B} slot origin start unread (Err f)

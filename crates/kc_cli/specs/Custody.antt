@@ -1,11 +1,19 @@
 -- What the engine of custody writes of what its sources held.
-use Rattle.std.specs.Prelude.{◌≡◌, ◌≢◌, ◌<◌, ◌≤◌, true, ℕ, List, length, Option, Some, Result, Err, IfSome, OnOk}
+use Rattle.std.specs.Prelude.{◌≡◌, ◌≢◌, ◌<◌, ◌≤◌, ℕ, Bool, not, true, false, List, length, map, filter, Option, Some, None, Result, Err, IfSome, OnOk, is_some}
+use Rattle.std.specs.List.{range_with_len}
+use Rattle.sha2.specs.Sha256.{sha256}
 use Rattle.kc_types.specs.Limits.{call_limit}
 use Rattle.kc_types.specs.Configuration.{Configuration, slot_count}
 use Rattle.kc_types.specs.declared.call.Call.{Call}
 use Rattle.kc_model.specs.State.{State}
+use Rattle.kc_types.specs.declared.custody.Event.{Event}
+use Rattle.kc_types.specs.declared.custody.Event.TheVariants as event
+use Rattle.kc_model.specs.Lawful.{IsLawful}
+use Rattle.kc_model.specs.Next.{replies_from}
 use Rattle.kc_model.specs.Promises.{KeepsPromises}
-use Rattle.kc_model.specs.Custody.{custody}
+use Rattle.kc_model.specs.Redaction.{DifferInBytes, KeepsImages}
+use Rattle.kc_model.specs.LeavingOut.{marked, MayLackOthers, custody_on}
+use Rattle.kc_model.specs.Custody.{custody, first_line}
 use Rattle.kc_model.specs.CustodyLaws.{IsCustody}
 use Rattle.kc_model.specs.CustodyBlind.{CustodyIsBlind}
 use Rattle.kc_model.specs.Events.{events, changes_in}
@@ -15,9 +23,13 @@ use Rattle.kc_model.specs.Bars.{AreBars}
 use Rattle.kc_remarks.specs.declared.remark.Note.{Note}
 use Rattle.kc_remarks.specs.Remarks.{notes, events_in}
 use Rattle.kc_remarks.specs.declared.remark.Remarks.{Remarks}
+use Rattle.kc_remarks.specs.Denials.{is_denied, is_denial}
 use Rattle.kc_html.specs.Html.{html_text_of}
 use Rattle.kc_custody.specs.Chosen.{chosen}
 use Rattle.kc_trace.specs.Trace.{IsTrace}
+use Rattle.kc_trace.specs.declared.custody_writer.StartDigest.TheVariants as starts
+use Rattle.kc_trace.specs.declared.custody_writer.Digests.{Digests}
+use Rattle.kc_trace.specs.declared.custody_writer.Heading.{Heading}
 use Rattle.kc_trace.specs.RemarkText.{notes_text_of}
 use Rattle.kc_trace.specs.SummaryText.{summary_text_of}
 use Rattle.kc_texts.specs.declared.fault.TextFault.{TextFault}
@@ -27,40 +39,58 @@ use Rattle.kc_texts.specs.declared.origin.Origin.TheVariants as origins
 use Rattle.kc_texts.specs.Reading.{BeginsIn}
 use Rattle.kc_cli.specs.declared.account.CustodyForm.{CustodyForm}
 use Rattle.kc_cli.specs.declared.account.CustodyForm.TheVariants.{Changes, Summary, Picture, Html}
+use Rattle.kc_cli.specs.declared.account.Named.{Named}
+use Rattle.kc_cli.specs.declared.account.Named.TheVariants as names
+use Rattle.kc_cli.specs.declared.account.Scope.{Scope}
 
--- the notes are those on the calls that the source's text holds, where it tells the text
-pub record AreNotesOf (m : State) (source : Option (List ℕ)) (count : ℕ) (told : List Note) : Type 0 where
+-- what the machine did unseen between these calls changes nothing of what is reported: whatever reads and writes the trace lacks that it may lack, the changes by its calls are those of all that happened, each on the line that its call has there
+abbrev pub IsCustodyOfAll : State → List Call → Type 0
+IsCustodyOfAll m calls =
+    (custody_on (range_with_len first_line (length calls)) m calls ≡ custody m calls)
+    × ((kept : ℕ → Bool) (n : State) (marks : List Bool) (happened : List Call) → IsLawful n → DifferInBytes kept n m → MayLackOthers kept n marks happened → KeepsImages kept happened → marked marks happened ≡ calls
+    → (lines : List ℕ) → length lines ≡ length happened → custody_on (marked marks lines) m calls ≡ custody_on lines n happened)
+
+-- the notes are those on the calls that the source's text holds, if it is known, and this many calls were refused or rejected
+pub record AreNotesOf (m : State) (source : Option (List ℕ)) (count refused : ℕ) (told : List Note) : Type 0 where
   pub calls : List Call
   pub traced : IfSome source (λ text. IsTrace text calls)
   pub counted : count ≡ length calls
   pub few : length calls ≤ call_limit
   pub exact : told ≡ notes m calls
+  pub denied : refused ≡ length (filter is_denied told)
 
--- the same of a lawful state: the events among them are those of the calls, and the changes among these their custody; the calls keep the promises, and what their custody, its lives and its bars say holds
-pub record IsCustodyTold (m : State) (source : Option (List ℕ)) (count : ℕ) (told : List Note) : Type 0 where
+-- the same of a lawful state: the events among them are those of the calls, and the changes among these their custody; the calls keep the promises, and what their custody, its lives and its bars say holds, also of what the machine did unseen
+pub record IsCustodyTold (m : State) (source : Option (List ℕ)) (count refused : ℕ) (told : List Note) : Type 0 where
   pub calls : List Call
   pub traced : IfSome source (λ text. IsTrace text calls)
   pub counted : count ≡ length calls
   pub few : length calls ≤ call_limit
   pub exact : told ≡ notes m calls
+  pub refused_is : refused ≡ length (filter is_denial (replies_from m calls))
   pub events : events_in told ≡ events m calls
   pub changes : changes_in (events_in told) ≡ custody m calls
   pub promises : KeepsPromises m calls
   pub laws : IsCustody m calls
   pub blind : CustodyIsBlind m calls
+  pub all : IsCustodyOfAll m calls
   pub summaries : AreSummaries m calls
   pub bars : AreBars m calls
 
--- all that may be asked for of calls beside their changes
-abbrev pub all_remarks : Remarks
-all_remarks = record { refused = true; accesses = true }
+-- the events that are reported: the changes alone, if the machine's own accesses are not in the trace
+abbrev pub reported : Bool → List Event → List Event
+reported false told = told
+reported true told = map event.Change (changes_in told)
 
--- the text is that of the changes of all frames and slots, or of one slot's VM, and of what else is asked for; that of the lives of all VMs, or of one slot's; a picture, of whose bytes nothing is said; or a page for a browser, with the first of these texts in it, and all that may be asked for
-abbrev pub IsAccount : CustodyForm → Option ℕ → Configuration → ℕ → List Note → List ℕ → Type 0
-IsAccount (Changes origin remarks) vm config count told text = text ≡ notes_text_of config count (chosen vm remarks told)
-IsAccount Summary vm config count told text = text ≡ summary_text_of config count (selected_lives vm (lives (events_in told)))
-IsAccount Picture vm config count told text = Unit {0}
-IsAccount (Html origin) vm config count told text = text ≡ html_text_of (notes_text_of config count (chosen vm all_remarks told))
+-- what a page has of calls beside their changes: what was refused, and what was served if the machine's own accesses are in the trace
+abbrev pub page_remarks : Bool → Remarks
+page_remarks unseen = record { refused = true; accesses = not unseen }
+
+-- the text is that of the changes of all frames and slots, or of one slot's VM, and of what else is asked for; that of the lives of all VMs, or of one slot's; a picture, of whose bytes nothing is said; or a page for a browser, with the first of these texts in it, and what was refused and served
+abbrev pub IsAccount : CustodyForm → Option ℕ → Heading → Configuration → ℕ → ℕ → List Note → List ℕ → Type 0
+IsAccount (Changes origin remarks) vm heading config count refused told text = text ≡ notes_text_of heading config count refused (chosen vm remarks told)
+IsAccount Summary vm heading config count refused told text = text ≡ summary_text_of heading config count refused (selected_lives vm (lives (reported heading.is_unseen (events_in told))))
+IsAccount Picture vm heading config count refused told text = Unit {0}
+IsAccount (Html origin) vm heading config count refused told text = text ≡ html_text_of (notes_text_of heading config count refused (chosen vm (page_remarks heading.is_unseen) told))
 
 -- what the calls begin with: lives and pictures begin at boot
 abbrev pub origin_of : CustodyForm → Origin
@@ -69,10 +99,31 @@ origin_of Summary = origins.Boot
 origin_of Picture = origins.Boot
 origin_of (Html origin) = origin
 
--- the text is made of the notes on the trace from the state on that the first text tells
-abbrev pub IsCustodyText : CustodyForm → Option ℕ → List ℕ → List ℕ → List ℕ → Type 0
-IsCustodyText form vm start_text trace_text text =
-    (m : State) × (count : ℕ) × (told : List Note) × BeginsIn (origin_of form) start_text m × IsCustodyTold m (Some trace_text) count told × IsAccount form vm m.config count told text
+-- whether the trace is named by its digest, and what the calls begin with by its own
+abbrev pub names_trace : Named → Bool
+names_trace names.Nothing = false
+names_trace _ = true
+
+abbrev pub names_start : Named → Bool
+names_start names.Both = true
+names_start _ = false
+
+-- the digests of the texts that are named
+abbrev pub digests_of : Named → Origin → List ℕ → List ℕ → Option Digests
+digests_of names.Nothing origin start trace = None
+digests_of names.Trace origin start trace = Some (record { trace = sha256 trace; start = starts.Default })
+digests_of names.Both origins.Boot start trace = Some (record { trace = sha256 trace; start = starts.Config (sha256 start) })
+digests_of names.Both origins.State start trace = Some (record { trace = sha256 trace; start = starts.State (sha256 start) })
+
+-- what the first line says beside the sizes of the core
+abbrev pub heading_of : Scope → Origin → List ℕ → List ℕ → Heading
+heading_of scope origin start trace = record { digests = digests_of scope.named origin start trace; is_unseen = scope.is_unseen }
+
+-- the text is made of the notes on the trace from the state on that the first text is of
+abbrev pub IsCustodyText : CustodyForm → Scope → List ℕ → List ℕ → List ℕ → Type 0
+IsCustodyText form scope start_text trace_text text =
+    (m : State) × (count : ℕ) × (refused : ℕ) × (told : List Note) × BeginsIn (origin_of form) start_text m × IsCustodyTold m (Some trace_text) count refused told
+    × IsAccount form scope.vm (heading_of scope (origin_of form) start_text trace_text) m.config count refused told text
 
 -- the machine that calls begin on has the slot of this number, or has not
 abbrev pub HasSlot : Origin → List ℕ → ℕ → Type 0
@@ -81,7 +132,7 @@ HasSlot origin text number = (m : State) × BeginsIn origin text m × (number < 
 abbrev pub LacksSlot : Origin → List ℕ → ℕ → Type 0
 LacksSlot origin text number = (m : State) × BeginsIn origin text m × (slot_count m.config ≤ number)
 
--- what an account of custody, of one slot where it is named, may be refused for after this start
+-- what an account of custody, of one slot if it is named, may be refused for after this start
 pub record TellsCustody {A : Type 0} (slot : Option ℕ) (origin : Origin) (start : Option (List ℕ)) (unread : Type 0) (result : Result A TextFault) : Type 0 where
   -- a slot that the machine lacks is refused before the trace is read, and no other slot is
   pub named : OnOk result (IfSome slot (λ number. IfSome start (λ text. HasSlot origin text number)))

@@ -12,27 +12,21 @@ ghost use Rattle.kc_trace.specs.CustodyText.{header_line, end_line};
 ghost use Rattle.kc_trace.specs.SummaryText.{summary_text_of};
 ghost use Rattle.kc_trace.specs.Spelling.{longest_call};
 ghost use Rattle.kc_texts.specs.Outcomes.{TellsSink};
-ghost use Rattle.kc_cli.specs.Custody.{origin_of};
+ghost use Rattle.kc_cli.specs.Custody.{origin_of, names_trace, names_start, reported};
 ghost use Rattle.kc_cli.specs.Ledgers.{events_kept, IsGiven};
 
 use crate::ledger::Ledger;
 use kc_custody::{choose, lives, select, select_lives};
 use kc_html::{HEAD, TAIL};
 use kc_picture::{bars, picture};
-use kc_remarks::Remarks;
+use kc_remarks::{Denials, Remarks};
 use kc_texts::{Failed, Line, Origin, Sink, TextFault, empty_piece, give_lines, write_whole};
-use kc_trace::{push_custody_end, push_custody_header, summary_text};
+use kc_trace::{Heading, push_custody_end, push_custody_header, summary_text};
 use kc_types::{Config, Event, Memory};
 use std::alloc::Global;
 
 /// The line of a trace's first call: its header is line 1.
 pub(crate) const FIRST_LINE: u32 = 2;
-
-/// All that may be asked for of calls.
-const ALL_REMARKS: Remarks = Remarks {
-    refused: true,
-    accesses: true,
-};
 
 /// What is written of what happened.
 #[derive(Clone, Copy, Debug, PartialEq, Eq)]
@@ -44,7 +38,7 @@ pub enum CustodyForm {
     Summary,
     /// A picture, SVG 1.1. Calls begin in a configuration's boot state, since frames are drawn from their owners there on.
     Picture,
-    /// A page for a browser, with all that may be asked for of the calls in it, as `Changes` has it.
+    /// A page for a browser, which has in it what `Changes` gives, with what was refused and served.
     Html(Origin),
 }
 
@@ -60,18 +54,66 @@ impl CustodyForm {
     }
 }
 
-/// What was told of a trace.
+/// Which texts the first line names by their SHA-256 digests.
+#[derive(Clone, Copy, Debug, PartialEq, Eq)]
+pub enum Named {
+    /// None.
+    Nothing,
+    /// The trace; calls begin with the default configuration, which is named as that.
+    Trace,
+    /// The trace, and the configuration or the state that calls begin with.
+    Both,
+}
+
+impl Named {
+    /// Whether the trace is named by its digest.
+    pub(crate) fn names_trace(self) -> bool
+        ensures { result ≡ names_trace self }
+    {
+        match self {
+            Named::Nothing => false,
+            Named::Trace | Named::Both => true,
+        }
+    }
+
+    /// Whether what calls begin with is named by its digest.
+    pub(crate) fn names_start(self) -> bool
+        ensures { result ≡ names_start self }
+    {
+        match self {
+            Named::Nothing | Named::Trace => false,
+            Named::Both => true,
+        }
+    }
+}
+
+/// What is reported, in any form.
+#[derive(Clone, Copy, Debug, PartialEq, Eq)]
+pub struct Scope {
+    /// The slot whose VM alone is reported, if one is named.
+    pub vm: Option<u32>,
+    /// Whether the machine's own reads and writes are not in the trace, so that none is reported.
+    pub is_unseen: bool,
+    /// Which texts are named.
+    pub named: Named,
+}
+
+/// What was kept of a trace.
 #[derive(Drop)]
 pub(crate) struct Told {
     /// What the core was started with.
     pub config: Config,
     /// How many calls the trace has.
     pub calls: usize,
-    /// What was kept of them.
+    /// How many of them were refused or rejected.
+    pub denials: Denials,
+    /// What the first line says beside the sizes of the core.
+    pub heading: Heading,
+    /// What was kept of the calls.
     pub ledger: Ledger,
 }
 
-/// Gives a sink what stands in the piece, then some lines, and then an end: memory does not grow. After an `Err` the sink has
+/// Gives a sink what the piece holds, then some lines, and then an end: memory does not grow. After an `Err` the sink has
 /// taken a beginning of it.
 fn give_text<K: Sink, L: Line + Drop>(
     out: &mut K,
@@ -92,22 +134,24 @@ fn give_text<K: Sink, L: Line + Drop>(
 /// Gives these lines between the first and the last of custody.
 fn give_changes<K: Sink, L: Line + Drop>(
     alloc: Global,
+    heading: &Heading,
     config: &Config,
     calls: usize,
+    refused: usize,
     lines: Vec<L>,
     out: &mut K,
 ) -> Result<(), TextFault>
     requires { K.failed out.old ≡ false }
-    ensures ok { OnOk result (Appends (K.taken out.old) (K.taken out.new) (header_line config.now ++ (flat_map L.line lines.items ++ end_line calls (length lines.items)))) }
-    ensures sink { TellsSink (K.failed out.new) ((n : ℕ) × Appends (K.taken out.old) (K.taken out.new) (take n (header_line config.now ++ (flat_map L.line lines.items ++ end_line calls (length lines.items))))) (out.new ≡ out.old) result }
+    ensures ok { OnOk result (Appends (K.taken out.old) (K.taken out.new) (header_line heading.now config.now ++ (flat_map L.line lines.items ++ end_line calls (length lines.items) refused))) }
+    ensures sink { TellsSink (K.failed out.new) ((n : ℕ) × Appends (K.taken out.old) (K.taken out.new) (take n (header_line heading.now config.now ++ (flat_map L.line lines.items ++ end_line calls (length lines.items) refused)))) (out.new ≡ out.old) result }
     ensures fault { IfErr result (λ fault. (fault ≡ TextFault.Memory) ⊎ (fault ≡ TextFault.Write)) }
 {
     // All memory that writing takes is there before the first byte is written.
     let (Ok(mut piece), Ok(mut end)) = (empty_piece(alloc), empty_piece(alloc)) else {
         return Err(TextFault::Memory);
     };
-    push_custody_header(&mut piece, config);
-    push_custody_end(&mut end, calls, lines.len());
+    push_custody_header(&mut piece, heading, config);
+    push_custody_end(&mut end, calls, lines.len(), refused);
     match give_text(out, piece, lines, &end) {
         Ok(()) => Ok(()),
         Err(_) => Err(TextFault::Write),
@@ -135,21 +179,23 @@ fn give_page<K: Sink, L: Line + Drop>(
 /// Gives what `give_changes` gives, in a page for a browser.
 fn give_html<K: Sink, L: Line + Drop>(
     alloc: Global,
+    heading: &Heading,
     config: &Config,
     calls: usize,
+    refused: usize,
     lines: Vec<L>,
     out: &mut K,
 ) -> Result<(), TextFault>
     requires { K.failed out.old ≡ false }
-    ensures ok { OnOk result (Appends (K.taken out.old) (K.taken out.new) (html_text_of (header_line config.now ++ (flat_map L.line lines.items ++ end_line calls (length lines.items))))) }
-    ensures sink { TellsSink (K.failed out.new) ((n : ℕ) × Appends (K.taken out.old) (K.taken out.new) (take n (html_text_of (header_line config.now ++ (flat_map L.line lines.items ++ end_line calls (length lines.items)))))) (out.new ≡ out.old) result }
+    ensures ok { OnOk result (Appends (K.taken out.old) (K.taken out.new) (html_text_of (header_line heading.now config.now ++ (flat_map L.line lines.items ++ end_line calls (length lines.items) refused)))) }
+    ensures sink { TellsSink (K.failed out.new) ((n : ℕ) × Appends (K.taken out.old) (K.taken out.new) (take n (html_text_of (header_line heading.now config.now ++ (flat_map L.line lines.items ++ end_line calls (length lines.items) refused))))) (out.new ≡ out.old) result }
     ensures fault { IfErr result (λ fault. (fault ≡ TextFault.Memory) ⊎ (fault ≡ TextFault.Write)) }
 {
     let (Ok(mut piece), Ok(mut end)) = (empty_piece(alloc), empty_piece(alloc)) else {
         return Err(TextFault::Memory);
     };
-    push_custody_header(&mut piece, config);
-    push_custody_end(&mut end, calls, lines.len());
+    push_custody_header(&mut piece, heading, config);
+    push_custody_end(&mut end, calls, lines.len(), refused);
     match give_page(out, piece, lines, &end) {
         Ok(()) => Ok(()),
         Err(_) => Err(TextFault::Write),
@@ -169,20 +215,34 @@ fn give_whole<K: Sink>(text: &[u8], out: &mut K) -> Result<(), TextFault>
     }
 }
 
+/// The events that are reported: the changes alone, if the machine's own accesses are not in the trace.
+fn reported(events: Vec<Event>, is_unseen: bool) -> Vec<Event>
+    ensures { result.items ≡ reported is_unseen events.items }
+{
+    let mut events = events;
+    if is_unseen {
+        select(&mut events, None);
+    }
+    events
+}
+
 /// The summary of some events.
 fn summary_of(
     alloc: Global,
+    heading: &Heading,
     config: &Config,
     calls: usize,
+    refused: usize,
     events: Vec<Event>,
     vm: Option<u32>,
 ) -> Result<Vec<u8>, Memory>
     requires { All (IsWithin config.now.frames) events.items }
-    ensures { IfOk result (λ text. text.items ≡ summary_text_of config.now calls (selected_lives vm (lives events.items))) }
+    ensures { IfOk result (λ text. text.items ≡ summary_text_of heading.now config.now calls refused (selected_lives vm (lives (reported heading.now.is_unseen events.items)))) }
 {
+    let events = reported(events, heading.is_unseen);
     let mut lives = lives(alloc, config.frames(), events)?;
     select_lives(&mut lives, vm);
-    summary_text(alloc, config, calls, &lives)
+    summary_text(alloc, heading, config, calls, refused, &lives)
 }
 
 /// The picture of some events.
@@ -200,7 +260,7 @@ fn picture_of(
     picture(alloc, config, calls, events, &bars, vm)
 }
 
-/// Gives what was kept in its form, of one slot's VM alone where one is named.
+/// Gives what was kept in its form, of one slot's VM alone if one is named.
 pub(crate) fn give_told<K: Sink>(
     alloc: Global,
     told: Told,
@@ -211,39 +271,47 @@ pub(crate) fn give_told<K: Sink>(
     requires few { told.calls ≤ call_limit }
     requires within { All (IsWithin told.config.frames) (events_kept told.ledger) }
     requires changes { All (IsIn told.config.frames) (changes_in (events_kept told.ledger)) }
-    ensures ok { OnOk result ((text : List ℕ) × IsGiven vm told.config told.calls told.ledger text × Appends (K.taken out.old) (K.taken out.new) text) }
-    ensures sink { TellsSink (K.failed out.new) ((text : List ℕ) × (n : ℕ) × IsGiven vm told.config told.calls told.ledger text × Appends (K.taken out.old) (K.taken out.new) (take n text)) (out.new ≡ out.old) result }
+    ensures ok { OnOk result ((text : List ℕ) × IsGiven vm told.heading told.config told.calls told.denials.total told.ledger text × Appends (K.taken out.old) (K.taken out.new) text) }
+    ensures sink { TellsSink (K.failed out.new) ((text : List ℕ) × (n : ℕ) × IsGiven vm told.heading told.config told.calls told.denials.total told.ledger text × Appends (K.taken out.old) (K.taken out.new) (take n text)) (out.new ≡ out.old) result }
     ensures fault { IfErr result (λ fault. (fault ≡ TextFault.Memory) ⊎ (fault ≡ TextFault.Write)) }
 {
     let Told {
         config,
         calls,
+        denials,
+        heading,
         ledger,
     } = told;
+    let refused = denials.total as usize;
     match ledger {
         Ledger::Changes(mut events) => {
             select(&mut events, vm);
-            give_changes(alloc, &config, calls, events, out)
+            give_changes(alloc, &heading, &config, calls, refused, events, out)
         },
         Ledger::Notes(remarks, mut notes) => {
             choose(&mut notes, vm, remarks);
-            give_changes(alloc, &config, calls, notes, out)
+            give_changes(alloc, &heading, &config, calls, refused, notes, out)
         },
         Ledger::Summary(events) => {
-            let Ok(text) = summary_of(alloc, &config, calls, events, vm) else {
+            let Ok(text) = summary_of(alloc, &heading, &config, calls, refused, events, vm) else {
                 return Err(TextFault::Memory);
             };
             give_whole(&text, out)
         },
         Ledger::Picture(events) => {
+            let events = reported(events, heading.is_unseen);
             let Ok(text) = picture_of(alloc, &config, calls, &events, vm) else {
                 return Err(TextFault::Memory);
             };
             give_whole(&text, out)
         },
         Ledger::Html(mut notes) => {
-            choose(&mut notes, vm, ALL_REMARKS);
-            give_html(alloc, &config, calls, notes, out)
+            let remarks = Remarks {
+                refused: true,
+                accesses: !heading.is_unseen,
+            };
+            choose(&mut notes, vm, remarks);
+            give_html(alloc, &heading, &config, calls, refused, notes, out)
         },
     }
 }

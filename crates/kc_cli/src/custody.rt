@@ -1,39 +1,71 @@
-//! The engine that tells what happened to each frame and slot, over any sources and any sink.
-ghost use Rattle.std.specs.Prelude.{◌≡◌, ◌≢◌, ◌<◌, ◌≤◌, ◌+◌, ◌^◌, ◌∷◌, [], ℕ, List, All, length, take, false, true, Some, None, IfOk, IfErr, IfSome, OnOk, Err};
+//! The engine that reports what happened to each frame and slot, over any sources and any sink.
+ghost use Rattle.std.specs.Prelude.{◌≡◌, ◌≢◌, ◌<◌, ◌≤◌, ◌+◌, ◌^◌, ◌∷◌, [], ℕ, List, All, length, take, false, true, Option, Some, None, is_some, IfOk, IfErr, IfSome, OnOk, Err};
 ghost use Rattle.std.specs.Io.KnownBytes.{Appends, IsAtEnd};
 ghost use Rattle.kc_types.specs.Limits.{call_limit};
+ghost use Rattle.kc_types.specs.declared.call.Call.{Call};
 ghost use Rattle.kc_types.specs.Configuration.{slot_count};
 ghost use Rattle.kc_trace.specs.declared.fault.TraceFault.{TraceFault};
 ghost use Rattle.kc_trace.specs.Trace.{IsRefused};
 ghost use Rattle.kc_texts.specs.Ends.{ReadFailed};
+ghost use Rattle.kc_texts.specs.Streamed.{HasRead};
 ghost use Rattle.kc_model.specs.Lawful.{IsLawful};
 ghost use Rattle.kc_model.specs.State.{State};
 ghost use Rattle.kc_texts.specs.Reading.{BeginsIn, Writes, Begins};
 ghost use Rattle.kc_texts.specs.Outcomes.{seen, TellsSources, TellsTexts, TellsSink};
 ghost use Rattle.kc_cli.specs.Engine.{IsReplayFault};
 ghost use Rattle.kc_remarks.specs.declared.remark.Note.{Note};
-ghost use Rattle.kc_cli.specs.Custody.{AreNotesOf, IsCustodyTold, IsCustodyText, TellsCustody, origin_of};
+ghost use Rattle.kc_cli.specs.Custody.{AreNotesOf, IsCustodyTold, IsCustodyText, TellsCustody, origin_of, names_trace};
+ghost use Rattle.kc_cli.specs.Headings.{HasDigest, heading_by, IsHeaded};
 ghost use Rattle.kc_cli.specs.Ledgers.{Keeps};
 
-use crate::account::{CustodyForm, FIRST_LINE, Told, give_told};
+use crate::account::{CustodyForm, FIRST_LINE, Scope, Told, give_told};
 use crate::ledger::Ledger;
-use crate::starting::read_start;
+use crate::starting::{Begun, begin};
 use kc_core::KCore;
 use kc_digests::Lanes;
+use kc_remarks::Denials;
 use kc_texts::{CallStream, Origin, PIECE, Sink, Source, TextFault};
+use kc_trace::{Digests, Heading, StartDigest};
 use std::alloc::Global;
 use std::thread::Threads;
 
-/// Makes the calls of the trace that a source has left, as it is read: what is kept of them for this form, and how many they
-/// are.
+/// What came of a trace that was read to its end.
+#[derive(Drop)]
+struct Traced {
+    ledger: Ledger,
+    calls: usize,
+    denials: Denials,
+    /// The digest of the trace, if it is named.
+    digest: Option<[u8; 32]>,
+}
+
+/// A stream of calls, whose bytes are hashed if that is asked for.
+fn stream_of(is_hashed: bool) -> CallStream
+    ensures none { (first : Option (List ℕ)) → HasRead result [] [] first first }
+    ensures hashed { is_hashed ≡ true → is_some result.hasher ≡ true }
+{
+    if is_hashed { CallStream::hashing() } else { CallStream::new() }
+}
+
+/// The digest of a stream that was read to its end, if it is asked for.
+fn digest_of(stream: &CallStream, is_hashed: bool) -> Option<[u8; 32]>
+    requires { is_hashed ≡ true → is_some stream.now.hasher ≡ true }
+    ensures { (bytes : List ℕ) (calls : List Call) (first now : Option (List ℕ)) → HasRead stream.now bytes calls first now → IsAtEnd now → HasDigest is_hashed first result }
+{
+    if is_hashed { stream.digest() } else { None }
+}
+
+/// Makes the calls of the trace that a source has left, as it is read, and keeps of them what this form is written of.
 fn tell_source<T: Source>(
     alloc: Global,
     core: &mut KCore,
     trace: &mut T,
     form: CustodyForm,
-) -> Result<(Ledger, usize), TextFault>
+    is_hashed: bool,
+) -> Result<Traced, TextFault>
     requires { T.failed trace.old ≡ false }
-    ensures ok { IfOk result (λ kept. (told : List Note) × AreNotesOf core.old (T.left trace.old) kept.1 told × Keeps form told kept.0) }
+    ensures ok { IfOk result (λ kept. (told : List Note) × AreNotesOf core.old (T.left trace.old) kept.calls kept.denials.total told × Keeps form told kept.ledger) }
+    ensures digest { IfOk result (λ kept. HasDigest is_hashed (T.left trace.old) kept.digest) }
     ensures config { OnOk result (core.new.config ≡ core.old.config) }
     ensures ended { OnOk result (IsAtEnd (T.left trace.new)) }
     ensures trace { (fault : TraceFault) → result ≡ Err (TextFault.Trace fault) → IfSome (T.left trace.old) (λ text. IsRefused text fault) × IsAtEnd (T.left trace.new) }
@@ -43,12 +75,13 @@ fn tell_source<T: Source>(
     ensures fault { IfErr result IsReplayFault }
 {
     let mut buffer = [0u8; PIECE];
-    let mut stream = CallStream::new();
+    let mut stream = stream_of(is_hashed);
     let mut ledger = Ledger::new(alloc, form);
+    let mut denials = Denials::none();
     let mut line = FIRST_LINE;
     loop {
         let part = stream.next(alloc, trace, &mut buffer)?;
-        let Ok(()) = ledger.note(alloc, core, &part.calls, line) else {
+        let Ok(()) = ledger.note(alloc, core, &part.calls, line, &mut denials) else {
             return Err(TextFault::Memory);
         };
         line += part.calls.len() as u32;
@@ -56,25 +89,58 @@ fn tell_source<T: Source>(
             break;
         }
     }
+    let digest = digest_of(&stream, is_hashed);
     match stream.finish() {
-        Ok(()) => Ok((ledger, (line - FIRST_LINE) as usize)),
+        Ok(()) => Ok(Traced {
+            ledger,
+            calls: (line - FIRST_LINE) as usize,
+            denials,
+            digest,
+        }),
         Err(fault) => Err(TextFault::Trace(fault)),
     }
 }
 
-/// Makes the calls of the trace that a source has left, as it is read, on a core: what is kept of them for this form. The
+/// What the first line says beside the sizes of the core.
+fn heading_by(
+    scope: Scope,
+    origin: Origin,
+    start: Option<[u8; 32]>,
+    trace: Option<[u8; 32]>,
+) -> Heading
+    ensures { result ≡ heading_by scope origin start trace }
+{
+    let digests = match trace {
+        Some(trace) => Some(Digests {
+            trace,
+            start: match (start, origin) {
+                (None, _) => StartDigest::Default,
+                (Some(digest), Origin::Boot) => StartDigest::Config(digest),
+                (Some(digest), Origin::State) => StartDigest::State(digest),
+            },
+        }),
+        None => None,
+    };
+    Heading {
+        digests,
+        is_unseen: scope.is_unseen,
+    }
+}
+
+/// Makes the calls of the trace that a source has left, as it is read, on a core: what is kept of them for the form. The
 /// core is wiped before it goes, whatever the outcome.
 fn told_source<T: Source>(
     rt: &(impl Threads + Sync),
     alloc: Global,
-    core: KCore,
+    begun: Begun,
     trace: &mut T,
-    form: CustodyForm,
+    order: CustodyOrder,
 ) -> Result<Told, TextFault>
-    requires lawful { IsLawful core }
+    requires lawful { IsLawful begun.core }
     requires trace { T.failed trace.old ≡ false }
-    ensures config { IfOk result (λ told. told.config ≡ core.config) }
-    ensures ok { IfOk result (λ kept. (told : List Note) × IsCustodyTold core (T.left trace.old) kept.calls told × Keeps form told kept.ledger) }
+    ensures config { IfOk result (λ told. told.config ≡ begun.core.config) }
+    ensures ok { IfOk result (λ kept. (told : List Note) × IsCustodyTold begun.core (T.left trace.old) kept.calls kept.denials.total told × Keeps order.form told kept.ledger) }
+    ensures heading { IfOk result (λ kept. (digest : Option (List ℕ)) × HasDigest (names_trace order.scope.named) (T.left trace.old) digest × (kept.heading ≡ heading_by order.scope (origin_of order.form) begun.digest digest)) }
     ensures ended { OnOk result (IsAtEnd (T.left trace.new)) }
     ensures trace { (fault : TraceFault) → result ≡ Err (TextFault.Trace fault) → IfSome (T.left trace.old) (λ text. IsRefused text fault) × IsAtEnd (T.left trace.new) }
     ensures read { result ≡ Err TextFault.Read → ReadFailed (T.failed trace.new) (T.left trace.old) (T.left trace.new) }
@@ -82,15 +148,18 @@ fn told_source<T: Source>(
     ensures started { result ≢ Err TextFault.Start }
     ensures fault { IfErr result IsReplayFault }
 {
+    let Begun { core, digest } = begun;
     let mut core = core;
-    let outcome = tell_source(alloc, &mut core, trace, form);
+    let outcome = tell_source(alloc, &mut core, trace, order.form, order.scope.named.names_trace());
     core.wipe(rt);
     let (config, _parts) = core.into_parts();
     match outcome {
-        Ok((ledger, calls)) => Ok(Told {
+        Ok(traced) => Ok(Told {
             config,
-            calls,
-            ledger,
+            calls: traced.calls,
+            denials: traced.denials,
+            heading: heading_by(order.scope, order.form.origin(), digest, traced.digest),
+            ledger: traced.ledger,
         }),
         Err(fault) => Err(fault),
     }
@@ -119,37 +188,39 @@ fn told_texts<C: Source, T: Source>(
 ) -> Result<Told, TextFault>
     requires start { C.failed start.old ≡ false }
     requires trace { T.failed trace.old ≡ false }
-    ensures ok { IfOk result (λ kept. (m : State) × IfSome (C.left start.old) (λ text. BeginsIn (origin_of order.form) text m) × (kept.config ≡ m.config) × (told : List Note) × IsCustodyTold m (T.left trace.old) kept.calls told × Keeps order.form told kept.ledger) }
+    ensures ok { IfOk result (λ kept. (m : State) × IfSome (C.left start.old) (λ text. BeginsIn (origin_of order.form) text m) × (kept.config ≡ m.config) × (told : List Note) × IsCustodyTold m (T.left trace.old) kept.calls kept.denials.total told × Keeps order.form told kept.ledger) }
+    ensures heading { IfOk result (λ kept. IsHeaded order.scope (origin_of order.form) (C.left start.old) (T.left trace.old) kept.heading) }
     ensures sources { TellsSources (seen (C.failed start.new) (C.left start.old) (C.left start.new) ∷ seen (T.failed trace.new) (T.left trace.old) (T.left trace.new) ∷ []) result }
     ensures texts { TellsTexts (origin_of order.form) (seen (C.failed start.new) (C.left start.old) (C.left start.new)) (seen (T.failed trace.new) (T.left trace.old) (T.left trace.new)) (trace.new ≡ trace.old) result }
-    ensures custody { TellsCustody order.vm (origin_of order.form) (C.left start.old) (trace.new ≡ trace.old) result }
+    ensures custody { TellsCustody order.scope.vm (origin_of order.form) (C.left start.old) (trace.new ≡ trace.old) result }
     ensures write { result ≢ Err TextFault.Write }
 {
-    let mut core = read_start(rt, alloc, start, order.form.origin(), order.lanes)?;
-    if let Some(slot) = missing(&core, order.vm) {
-        core.wipe(rt);
+    let is_hashed = order.scope.named.names_start();
+    let mut begun = begin(rt, alloc, start, order.form.origin(), order.lanes, is_hashed)?;
+    if let Some(slot) = missing(&begun.core, order.scope.vm) {
+        begun.core.wipe(rt);
         return Err(TextFault::NoSlot(slot));
     }
-    told_source(rt, alloc, core, trace, order.form)
+    told_source(rt, alloc, begun, trace, order)
 }
 
-/// How what happened is told.
+/// How what happened is reported.
 #[derive(Clone, Copy)]
 pub struct CustodyOrder {
     /// What is written, and what the calls begin with.
     pub form: CustodyForm,
     /// How many pages are hashed at once.
     pub lanes: Lanes,
-    /// The slot whose VM alone is reported, if one is named.
-    pub vm: Option<u32>,
+    /// What is reported.
+    pub scope: Scope,
 }
 
 /// Reads what the calls begin with and a trace, each to its end, makes the trace's calls on one thread as they are read, and
 /// writes what happened to each frame and slot. A slot that the machine lacks is `NoSlot`, before the trace is read.
 ///
 /// Nothing is written but after the whole trace was read and answered. A source that fails, or that has more than
-/// 1,073,741,824 bytes, is `Read`, also where its bytes so far are refused already. Out of memory comes before a fault of
-/// the trace that stands further on.
+/// 1,073,741,824 bytes, is `Read`, also if its bytes so far are refused already. Out of memory comes before a fault of
+/// the trace that is further on.
 pub fn custody_text<C: Source, T: Source, K: Sink>(
     rt: &(impl Threads + Sync),
     alloc: Global,
@@ -163,12 +234,12 @@ pub fn custody_text<C: Source, T: Source, K: Sink>(
     requires out { K.failed out.old ≡ false }
 
     // What is written is made of the notes on the trace.
-    ensures ok { OnOk result (Writes (IsCustodyText order.form order.vm) (C.left start.old) (T.left trace.old) (K.taken out.old) (K.taken out.new)) }
+    ensures ok { OnOk result (Writes (IsCustodyText order.form order.scope) (C.left start.old) (T.left trace.old) (K.taken out.old) (K.taken out.new)) }
     ensures sources { TellsSources (seen (C.failed start.new) (C.left start.old) (C.left start.new) ∷ seen (T.failed trace.new) (T.left trace.old) (T.left trace.new) ∷ []) result }
     ensures texts { TellsTexts (origin_of order.form) (seen (C.failed start.new) (C.left start.old) (C.left start.new)) (seen (T.failed trace.new) (T.left trace.old) (T.left trace.new)) (trace.new ≡ trace.old) result }
-    ensures custody { TellsCustody order.vm (origin_of order.form) (C.left start.old) (trace.new ≡ trace.old) result }
-    ensures sink { TellsSink (K.failed out.new) (Begins (IsCustodyText order.form order.vm) (C.left start.old) (T.left trace.old) (K.taken out.old) (K.taken out.new)) (out.new ≡ out.old) result }
+    ensures custody { TellsCustody order.scope.vm (origin_of order.form) (C.left start.old) (trace.new ≡ trace.old) result }
+    ensures sink { TellsSink (K.failed out.new) (Begins (IsCustodyText order.form order.scope) (C.left start.old) (T.left trace.old) (K.taken out.old) (K.taken out.new)) (out.new ≡ out.old) result }
 {
     let told = told_texts(rt, alloc, start, trace, order)?;
-    give_told(alloc, told, order.vm, out)
+    give_told(alloc, told, order.scope.vm, out)
 }

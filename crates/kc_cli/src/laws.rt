@@ -6,10 +6,11 @@ ghost use Rattle.kc_remarks.specs.declared.remark.Note.{Note};
 ghost use Rattle.kc_remarks.specs.Remarks.{events_in};
 ghost use Rattle.kc_custody.specs.Selected.{selected};
 ghost use Rattle.kc_custody.specs.Chosen.{no_remarks, chosen};
+ghost use Rattle.kc_trace.specs.declared.custody_writer.Heading.{Heading};
 ghost use Rattle.kc_trace.specs.CustodyText.{custody_text_of};
 ghost use Rattle.kc_trace.specs.RemarkText.{notes_text_of};
 
 /// If neither denied calls nor accesses are asked for, the text is that of the changes alone.
 pub fn plain()
-    ensures { (config : Configuration) (calls : ℕ) (vm : Option ℕ) (told : List Note) → notes_text_of config calls (chosen vm no_remarks told) ≡ custody_text_of config calls (selected vm (changes_in (events_in told))) }
+    ensures { (heading : Heading) (config : Configuration) (calls refused : ℕ) (vm : Option ℕ) (told : List Note) → notes_text_of heading config calls refused (chosen vm no_remarks told) ≡ custody_text_of heading config calls refused (selected vm (changes_in (events_in told))) }
 {}

@@ -1,14 +1,15 @@
 //! What is kept of the calls of a trace until it has ended.
-ghost use Rattle.std.specs.Prelude.{◌≡◌, ◌<◌, ◌+◌, ◌^◌, ◌++◌, [], List, length, OnOk};
+ghost use Rattle.std.specs.Prelude.{◌≡◌, ◌<◌, ◌≤◌, ◌+◌, ◌^◌, ◌++◌, [], List, length, filter, OnOk};
 ghost use Rattle.kc_model.specs.Next.{state_after};
 ghost use Rattle.kc_remarks.specs.declared.remark.Note.{Note};
 ghost use Rattle.kc_remarks.specs.Remarks.{notes_from};
+ghost use Rattle.kc_remarks.specs.Denials.{is_denied};
 ghost use Rattle.kc_cli.specs.Ledgers.{Keeps};
 
 use crate::account::CustodyForm;
 use kc_core::KCore;
 use kc_custody::{note_calls, tell_calls};
-use kc_remarks::{Note, Remarks};
+use kc_remarks::{Denials, Note, Remarks};
 use kc_types::{Call, Event, Memory};
 use std::alloc::Global;
 
@@ -43,25 +44,29 @@ impl Ledger {
         }
     }
 
-    /// Makes some calls in order, of which the first has this line in the trace, and keeps what its form is written of. After
-    /// `Memory`, where a growth was refused, some calls are done.
+    /// Makes some calls in order, of which the first has this line in the trace, keeps what its form is written of, and counts
+    /// those that are refused or rejected. After `Memory`, where a growth was refused, some calls are done.
     pub(crate) fn note(
         &mut self,
         alloc: Global,
         core: &mut KCore,
         calls: &[Call],
         first: u32,
+        denials: &mut Denials,
     ) -> Result<(), Memory>
-        requires { first + length calls.now < 2 ^ 32 }
+        requires lines { first + length calls.now < 2 ^ 32 }
+        requires counts { denials.old.total + length calls.now < 2 ^ 32 }
         ensures kept { OnOk result ((form : CustodyForm) (told : List Note) → Keeps form told self.old → Keeps form (told ++ notes_from first core.old calls.now) self.new) }
         ensures state { OnOk result (core.new ≡ state_after core.old calls.now) }
+        ensures denied { OnOk result (denials.new.total ≡ denials.old.total + length (filter is_denied (notes_from first core.old calls.now))) }
+        ensures few { OnOk result (denials.new.total ≤ denials.old.total + length calls.now) }
     {
         match self {
-            Ledger::Changes(events) => tell_calls(alloc, core, calls, first, events),
-            Ledger::Notes(_, notes) => note_calls(alloc, core, calls, first, notes),
-            Ledger::Summary(events) => tell_calls(alloc, core, calls, first, events),
-            Ledger::Picture(events) => tell_calls(alloc, core, calls, first, events),
-            Ledger::Html(notes) => note_calls(alloc, core, calls, first, notes),
+            Ledger::Changes(events) => tell_calls(alloc, core, calls, first, events, denials),
+            Ledger::Notes(_, notes) => note_calls(alloc, core, calls, first, notes, denials),
+            Ledger::Summary(events) => tell_calls(alloc, core, calls, first, events, denials),
+            Ledger::Picture(events) => tell_calls(alloc, core, calls, first, events, denials),
+            Ledger::Html(notes) => note_calls(alloc, core, calls, first, notes, denials),
         }
     }
 }

@@ -19,7 +19,7 @@ mod order;
 mod replaying;
 mod starting;
 
-pub use account::CustodyForm;
+pub use account::{CustodyForm, Named, Scope};
 pub use custody::{CustodyOrder, custody_text};
 pub use history::replay_history;
 pub use kc_args::{ArgFault, Job, job_of};

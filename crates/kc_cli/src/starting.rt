@@ -1,5 +1,5 @@
 //! The core that the calls of a trace begin with.
-ghost use Rattle.std.specs.Prelude.{◌≡◌, ◌≤◌, false, true, length, IfOk, IfErr, IfSome, OnOk, Ok, Err};
+ghost use Rattle.std.specs.Prelude.{◌≡◌, ◌≤◌, false, true, length, IfOk, IfErr, IfSome, OnOk, Ok, Err, Some};
 ghost use Rattle.std.specs.Io.KnownBytes.{IsAtEnd};
 ghost use Rattle.kc_types.specs.Limits.{byte_limit};
 ghost use Rattle.kc_model.specs.Lawful.{IsLawful};
@@ -10,19 +10,56 @@ ghost use Rattle.kc_state_text.specs.declared.fault.StateFault.{StateFault};
 ghost use Rattle.kc_texts.specs.Ends.{ReadFailed};
 ghost use Rattle.kc_texts.specs.Reading.{BeginsIn, IsConfigFault, IsStartFault};
 ghost use Rattle.kc_cli.specs.Engine.{IsStateFault};
+ghost use Rattle.kc_cli.specs.Headings.{HasDigest};
 
 use kc_core::KCore;
 use kc_digests::Lanes;
 use kc_state_text::read_state;
-use kc_texts::{Origin, Source, TextFault, read_configuration, read_secret};
+use kc_texts::{Origin, Source, TextFault, read_secret, read_whole};
+use kc_trace::read_config;
+use sha2::{Digest, Sha256};
 use std::alloc::Global;
 use std::thread::Threads;
 
-/// Reads a configuration to its end: the core in its boot state.
-fn boot_core<C: Source>(alloc: Global, start: &mut C) -> Result<KCore, TextFault>
-    requires { C.failed start.old ≡ false }
-    ensures ok { IfOk result (λ core. IfSome (C.left start.old) (λ text. BeginsIn Origin.Boot text core)) }
+/// A core, and the SHA-256 digest of the text that it was made of, if that was asked for.
+#[derive(Drop)]
+pub(crate) struct Begun {
+    pub core: KCore,
+    pub digest: Option<[u8; 32]>,
+}
+
+/// The digest of a text, if it is asked for.
+fn digest_of(text: &[u8], is_hashed: bool) -> Option<[u8; 32]>
+    ensures { HasDigest is_hashed (Some text.now) result }
+{
+    if !is_hashed {
+        return None;
+    }
+    let mut hasher = Sha256::new();
+    hasher.update(text);
+    Some(hasher.finalize())
+}
+
+/// The core in the boot state of a configuration.
+fn boot_of(alloc: Global, text: &[u8]) -> Result<KCore, TextFault>
+    ensures ok { IfOk result (λ core. BeginsIn Origin.Boot text.now core) }
     ensures lawful { IfOk result IsLawful }
+    ensures config { (fault : ConfigTextFault) → result ≡ Err (TextFault.Config fault) → config_in text.now ≡ Err fault }
+    ensures fault { IfErr result IsConfigFault }
+{
+    let config = read_config(alloc, text)?;
+    match KCore::boot(alloc, config) {
+        Ok(core) => Ok(core),
+        Err(_) => Err(TextFault::Memory),
+    }
+}
+
+/// Reads a configuration to its end: the core in its boot state.
+fn boot_core<C: Source>(alloc: Global, start: &mut C, is_hashed: bool) -> Result<Begun, TextFault>
+    requires { C.failed start.old ≡ false }
+    ensures ok { IfOk result (λ begun. IfSome (C.left start.old) (λ text. BeginsIn Origin.Boot text begun.core)) }
+    ensures digest { IfOk result (λ begun. HasDigest is_hashed (C.left start.old) begun.digest) }
+    ensures lawful { IfOk result (λ begun. IsLawful begun.core) }
     ensures ended { OnOk result (IsAtEnd (C.left start.new)) }
     ensures mark { OnOk result (C.failed start.new ≡ false) }
     ensures config { (fault : ConfigTextFault) → result ≡ Err (TextFault.Config fault) → IfSome (C.left start.old) (λ text. config_in text ≡ Err fault) × IsAtEnd (C.left start.new) }
@@ -30,14 +67,10 @@ fn boot_core<C: Source>(alloc: Global, start: &mut C) -> Result<KCore, TextFault
     ensures source { C.failed start.new ≡ true → result ≡ Err TextFault.Read }
     ensures fault { IfErr result IsConfigFault }
 {
-    let config = match read_configuration(alloc, start) {
-        Ok(config) => config,
-        Err(fault) => return Err(fault),
-    };
-    match KCore::boot(alloc, config) {
-        Ok(core) => Ok(core),
-        Err(_) => Err(TextFault::Memory),
-    }
+    let text = read_whole(alloc, start)?;
+    let core = boot_of(alloc, &text)?;
+    let digest = digest_of(&text, is_hashed);
+    Ok(Begun { core, digest })
 }
 
 /// The core in the state of a text.
@@ -63,10 +96,12 @@ fn read_core<C: Source>(
     alloc: Global,
     start: &mut C,
     lanes: Lanes,
-) -> Result<KCore, TextFault>
+    is_hashed: bool,
+) -> Result<Begun, TextFault>
     requires { C.failed start.old ≡ false }
-    ensures ok { IfOk result (λ core. IfSome (C.left start.old) (λ text. BeginsIn Origin.State text core)) }
-    ensures lawful { IfOk result IsLawful }
+    ensures ok { IfOk result (λ begun. IfSome (C.left start.old) (λ text. BeginsIn Origin.State text begun.core)) }
+    ensures digest { IfOk result (λ begun. HasDigest is_hashed (C.left start.old) begun.digest) }
+    ensures lawful { IfOk result (λ begun. IsLawful begun.core) }
     ensures ended { OnOk result (IsAtEnd (C.left start.new)) }
     ensures mark { OnOk result (C.failed start.new ≡ false) }
     ensures state { (fault : StateFault) → result ≡ Err (TextFault.State fault) → IfSome (C.left start.old) (λ text. IsRefusedState text fault) × IsAtEnd (C.left start.new) }
@@ -76,11 +111,41 @@ fn read_core<C: Source>(
     ensures config { (fault : ConfigTextFault) → result ≡ Err (TextFault.Config fault) → ⊥ }
 {
     let text = read_secret(alloc, start)?;
-    core_in(rt, alloc, text.as_slice(), lanes)
+    let core = core_in(rt, alloc, text.as_slice(), lanes)?;
+    let digest = digest_of(text.as_slice(), is_hashed);
+    Ok(Begun { core, digest })
 }
 
-/// Reads what the calls begin with to its end: the core in the boot state of a configuration, or in the state that a text
-/// tells. A source that fails, or that has more than 1,073,741,824 bytes, is `Read`.
+/// Reads what the calls begin with to its end: the core in the boot state of a configuration, or in the state of a text, and
+/// the digest of what was read, if that is asked for. A source that fails, or that has more than 1,073,741,824 bytes, is `Read`.
+pub(crate) fn begin<C: Source>(
+    rt: &(impl Threads + Sync),
+    alloc: Global,
+    start: &mut C,
+    origin: Origin,
+    lanes: Lanes,
+    is_hashed: bool,
+) -> Result<Begun, TextFault>
+    requires { C.failed start.old ≡ false }
+    ensures ok { IfOk result (λ begun. IfSome (C.left start.old) (λ text. BeginsIn origin text begun.core)) }
+    ensures digest { IfOk result (λ begun. HasDigest is_hashed (C.left start.old) begun.digest) }
+    ensures lawful { IfOk result (λ begun. IsLawful begun.core) }
+    ensures ended { OnOk result (IsAtEnd (C.left start.new)) }
+    ensures mark { OnOk result (C.failed start.new ≡ false) }
+    // The fault is of what the bytes are read as.
+    ensures config { (fault : ConfigTextFault) → result ≡ Err (TextFault.Config fault) → (origin ≡ Origin.Boot) × IfSome (C.left start.old) (λ text. config_in text ≡ Err fault) × IsAtEnd (C.left start.new) }
+    ensures state { (fault : StateFault) → result ≡ Err (TextFault.State fault) → (origin ≡ Origin.State) × IfSome (C.left start.old) (λ text. IsRefusedState text fault) × IsAtEnd (C.left start.new) }
+    ensures read { result ≡ Err TextFault.Read → ReadFailed (C.failed start.new) (C.left start.old) (C.left start.new) }
+    ensures source { C.failed start.new ≡ true → result ≡ Err TextFault.Read }
+    ensures fault { IfErr result IsStartFault }
+{
+    match origin {
+        Origin::Boot => boot_core(alloc, start, is_hashed),
+        Origin::State => read_core(rt, alloc, start, lanes, is_hashed),
+    }
+}
+
+/// What `begin` reads, without the digest.
 pub fn read_start<C: Source>(
     rt: &(impl Threads + Sync),
     alloc: Global,
@@ -100,8 +165,8 @@ pub fn read_start<C: Source>(
     ensures source { C.failed start.new ≡ true → result ≡ Err TextFault.Read }
     ensures fault { IfErr result IsStartFault }
 {
-    match origin {
-        Origin::Boot => boot_core(alloc, start),
-        Origin::State => read_core(rt, alloc, start, lanes),
+    match begin(rt, alloc, start, origin, lanes, false) {
+        Ok(begun) => Ok(begun.core),
+        Err(fault) => Err(fault),
     }
 }

@@ -12,3 +12,4 @@ pub mod Tallied
 pub mod Distinct
 pub mod Taken
 pub mod Traced
+mod Denied

@@ -7,7 +7,7 @@ use Rattle.kc_model.specs.Next.{next, state_after}
 use Rattle.kc_types.specs.declared.custody.Event.{Event}
 use Rattle.kc_model.specs.Events.{events_by, events_from}
 
--- calls behind others
+-- calls after others
 pub events-append : (n : ℕ) (m : State) (xs ys : List Call) → events_from n m (xs ++ ys) ≡ events_from n m xs ++ events_from (n + length xs) (state_after m xs) ys
 events-append n m [] ys = let e : n ≡ n + 0 = omega arith in ap (λ k. events_from k m ys) e
 events-append n m (x ∷ xs) ys =
@@ -33,7 +33,7 @@ events-more n m calls i call lt is =
     ∙ ap (λ k. events_from n m front ++ events_from (n + k) old (call ∷ [])) (length-front i calls lt)
     ∙ ap (λ (xs : List Event). events_from n m front ++ xs) (append-nil (events_by (n + i) old call))
 
--- the same behind what was told before
+-- the same after what came before
 pub calls-told : (n : ℕ) (m old : State) (calls : List Call) (i : ℕ) (call : Call) (before told now : List Event) → i < length calls → call ≡ get_or calls i call
     → told ≡ before ++ events_from n m (take i calls) → old ≡ state_after m (take i calls) → now ≡ told ++ events_by (n + i) old call → now ≡ before ++ events_from n m (take (i + 1) calls)
 calls-told n m old calls i call before told now lt is so_far from added =

@@ -1,12 +1,13 @@
 //! The notes on a call, and on calls in order.
-ghost use Rattle.std.specs.Prelude.{◌≡◌, ◌+◌, ◌^◌, ◌++◌, ◌<◌, length, IfOk, OnOk};
+ghost use Rattle.std.specs.Prelude.{◌≡◌, ◌≤◌, ◌+◌, ◌^◌, ◌++◌, ◌<◌, length, filter, IfOk, OnOk};
 ghost use Rattle.kc_model.specs.Next.{next, state_after};
 ghost use Rattle.kc_remarks.specs.Remarks.{notes_by, notes_from};
+ghost use Rattle.kc_remarks.specs.Denials.{is_denied};
 
 use crate::naming::named_by;
 use crate::telling::tell_call;
 use kc_core::KCore;
-use kc_remarks::{Note, note_events, remark_told};
+use kc_remarks::{Denials, Note, note_events, remark_told};
 use kc_types::{Call, Memory, Reply};
 use std::alloc::Global;
 
@@ -33,21 +34,26 @@ pub fn note_call(
     Ok(reply)
 }
 
-/// Makes some calls in order, of which the first has this line in the trace, and adds their notes. After `Memory`, where a
-/// growth was refused, some calls are done.
+/// Makes some calls in order, of which the first has this line in the trace, adds their notes, and counts those that are
+/// refused or rejected. After `Memory`, where a growth was refused, some calls are done.
 pub fn note_calls(
     alloc: Global,
     core: &mut KCore,
     calls: &[Call],
     first: u32,
     notes: &mut Vec<Note>,
+    denials: &mut Denials,
 ) -> Result<(), Memory>
-    requires { first + length calls.now < 2 ^ 32 }
+    requires lines { first + length calls.now < 2 ^ 32 }
+    requires counts { denials.old.total + length calls.now < 2 ^ 32 }
     ensures notes { OnOk result (notes.new.items ≡ notes.old.items ++ notes_from first core.old calls.now) }
     ensures state { OnOk result (core.new ≡ state_after core.old calls.now) }
+    ensures denied { OnOk result (denials.new.total ≡ denials.old.total + length (filter is_denied (notes_from first core.old calls.now))) }
+    ensures few { OnOk result (denials.new.total ≤ denials.old.total + length calls.now) }
 {
     for (i, call) in calls.iter().enumerate() {
-        note_call(alloc, core, call, first + i as u32, notes)?;
+        let reply = note_call(alloc, core, call, first + i as u32, notes)?;
+        denials.note(&reply);
     }
     Ok(())
 }

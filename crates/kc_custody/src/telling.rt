@@ -4,6 +4,8 @@ ghost use Rattle.kc_types.specs.declared.call.Call.TheVariants.{Verify};
 ghost use Rattle.kc_model.specs.Next.{next, state_after};
 ghost use Rattle.kc_model.specs.Custody.{images_by};
 ghost use Rattle.kc_model.specs.Events.{events_by, events_from};
+ghost use Rattle.kc_remarks.specs.Remarks.{notes_from};
+ghost use Rattle.kc_remarks.specs.Denials.{is_denied};
 ghost use Rattle.kc_custody.specs.Marks.{mark_of, settled, differs, frame_event, turning, phase_mark, phase_told, accessed, access_told};
 
 use crate::look_ups::{custody_at, phase_at, same_custody, same_phase};
@@ -11,6 +13,7 @@ use crate::movable::movable;
 use arrayvec::ArrayVec;
 use kc_core::KCore;
 use kc_parts::sort_once;
+use kc_remarks::Denials;
 use kc_types::{
     Call, Change, Event, FrameChange, IMAGE_LIMIT, MeasuredImage, MeasuredImages, Memory,
     PhaseChange, Reply, vm_of,
@@ -184,21 +187,26 @@ pub fn tell_call(
     Ok(reply)
 }
 
-/// Makes some calls in order, of which the first has this line in the trace, and adds their events. After `Memory`, where
-/// a growth was refused, some calls are done.
+/// Makes some calls in order, of which the first has this line in the trace, adds their events, and counts those that are
+/// refused or rejected. After `Memory`, where a growth was refused, some calls are done.
 pub fn tell_calls(
     alloc: Global,
     core: &mut KCore,
     calls: &[Call],
     first: u32,
     told: &mut Vec<Event>,
+    denials: &mut Denials,
 ) -> Result<(), Memory>
-    requires { first + length calls.now < 2 ^ 32 }
+    requires lines { first + length calls.now < 2 ^ 32 }
+    requires counts { denials.old.total + length calls.now < 2 ^ 32 }
     ensures told { OnOk result (told.new.items ≡ told.old.items ++ events_from first core.old calls.now) }
     ensures state { OnOk result (core.new ≡ state_after core.old calls.now) }
+    ensures denied { OnOk result (denials.new.total ≡ denials.old.total + length (filter is_denied (notes_from first core.old calls.now))) }
+    ensures few { OnOk result (denials.new.total ≤ denials.old.total + length calls.now) }
 {
     for (i, call) in calls.iter().enumerate() {
-        tell_call(alloc, core, call, first + i as u32, told)?;
+        let reply = tell_call(alloc, core, call, first + i as u32, told)?;
+        denials.note(&reply);
     }
     Ok(())
 }

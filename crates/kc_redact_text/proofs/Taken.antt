@@ -33,7 +33,7 @@ use Rattle.kc_redact_text.specs.declared.reading.Redacting.{Redacting}
 pub taken_ok : (core made : Option State) (before after : Redacting) (piece : List ℕ) (more : List Call) → fed before.reader piece ≡ Ok (after.reader.progress, more) → after.reader.fault ≡ None
     → after.total ≡ before.total + length piece → after.calls.items ≡ before.calls.items ++ redacted_by core more → made ≡ core_after core more → HasTaken core made before after piece
 taken_ok core made before after piece more told none total grown done left now consumed =
-    (more, grown, goes_on_ok (stream_of before) (stream_of before) (stream_of after) piece [] more more (length piece) left left now (stays (stream_of before) left) consumed told none refl total refl, done)
+    (more, grown, goes_on_ok (stream_of before) (stream_of before) (stream_of after) piece [] more more (length piece) left left now (stays (stream_of before) left) consumed told none refl total refl (λ bytes held. tt), done)
 
 -- no more calls are kept
 none-kept : (core : Option State) (before after : Redacting) → after.calls ≡ before.calls → after.calls.items ≡ before.calls.items ++ redacted_by core []
@@ -42,7 +42,7 @@ none-kept core before after same = rw (same, by-none core) (sym (append-nil befo
 pub taken_err : (core made : Option State) (before after : Redacting) (piece : List ℕ) (fault : TraceFault) → Fails fault (fed before.reader piece) → (fault ≡ Memory → ⊥) → after.reader.fault ≡ Some fault
     → after.total ≡ before.total + length piece → after.calls ≡ before.calls → made ≡ core → HasTaken core made before after piece
 taken_err core made before after piece fault told other some total same idle left now consumed =
-    ([], none-kept core before after same, goes_on_err (stream_of before) (stream_of before) (stream_of after) piece [] fault (length piece) left left now (stays (stream_of before) left) consumed told other some refl total, idle ∙ sym (after-none core))
+    ([], none-kept core before after same, goes_on_err (stream_of before) (stream_of before) (stream_of after) piece [] fault (length piece) left left now (stays (stream_of before) left) consumed told other some refl total (λ bytes held. tt), idle ∙ sym (after-none core))
 
 -- ---- going on
 

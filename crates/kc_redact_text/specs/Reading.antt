@@ -1,5 +1,5 @@
 -- How far a trace that is redacted has been read.
-use Rattle.std.specs.Prelude.{◌≡◌, ◌≢◌, ℕ, List, ◌++◌, take, Option}
+use Rattle.std.specs.Prelude.{◌≡◌, ◌≢◌, ℕ, List, ◌++◌, take, Option, None}
 use Rattle.std.specs.Io.KnownBytes.{Consumes}
 use Rattle.kc_types.specs.declared.call.Call.{Call}
 use Rattle.kc_model.specs.State.{State}
@@ -11,9 +11,9 @@ use Rattle.kc_texts.specs.declared.fault.TextFault.TheVariants as texts
 use Rattle.kc_redact_text.specs.Made.{redacted_by, core_after}
 use Rattle.kc_redact_text.specs.declared.reading.Redacting.{Redacting}
 
--- the reader of the trace, and the number of bytes that it was fed
+-- the reader of the trace, and the number of bytes that it was fed, of which none are hashed
 abbrev pub stream_of : Redacting → Streamed
-stream_of r = record { reader = r.reader; total = r.total }
+stream_of r = record { reader = r.reader; total = r.total; hasher = None }
 
 -- whatever was read before, some calls came after it, and are kept redacted; they were made on the core, if there is
 -- one

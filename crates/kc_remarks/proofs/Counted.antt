@@ -46,10 +46,10 @@ of-remark line named call (reply.Data bytes) = of-read line named call
 of-remark line named call reply.Done = of-write line named call
 of-remark line named call _ = refl
 
-both : (xs ys : List Note) → length (filter is_denied (xs ++ ys)) ≡ length (filter is_denied xs) + length (filter is_denied ys)
+pub both : (xs ys : List Note) → length (filter is_denied (xs ++ ys)) ≡ length (filter is_denied xs) + length (filter is_denied ys)
 both xs ys = ap length (filter-append is_denied xs ys) ∙ length-append (filter is_denied xs) (filter is_denied ys)
 
-of-call : (n : ℕ) (m : State) (call : Call) → length (filter is_denied (notes_by n m call)) ≡ cond (is_denial (next m call).0) 1 0
+pub of-call : (n : ℕ) (m : State) (call : Call) → length (filter is_denied (notes_by n m call)) ≡ cond (is_denial (next m call).0) 1 0
 of-call n m call =
     let split = both (option_to_list (remark_by n m call)) (map note.Event (events_by n m call)) in
     let remark = of-remark n (named_by m call) call (next m call).0 in

@@ -38,7 +38,7 @@ of-write : (line : ℕ) (named : Option NamedFrame) (call : Call) → events_in 
 of-write line named (HostWrite f off bytes) = of-access line _ off _ named
 of-write line named _ = refl
 
--- a remark is no event
+-- a remark is not an event
 of-remark : (line : ℕ) (named : Option NamedFrame) (call : Call) (answer : Reply) → events_in (option_to_list (remark_told line named call answer)) ≡ []
 of-remark line named call (reply.Refused reason) = refl
 of-remark line named call (reply.Rejected image) = refl

@@ -1,3 +1,3 @@
 pub mod Runs
 pub mod Events
-mod Counted
+pub mod Counted

@@ -7,7 +7,7 @@ use Rattle.kc_model.specs.Next.{next, state_after}
 use Rattle.kc_remarks.specs.declared.remark.Note.{Note}
 use Rattle.kc_remarks.specs.Remarks.{notes_by, notes_from}
 
--- calls behind others
+-- calls after others
 pub notes-append : (n : ℕ) (m : State) (xs ys : List Call) → notes_from n m (xs ++ ys) ≡ notes_from n m xs ++ notes_from (n + length xs) (state_after m xs) ys
 notes-append n m [] ys = let e : n ≡ n + 0 = omega arith in ap (λ k. notes_from k m ys) e
 notes-append n m (x ∷ xs) ys =
@@ -33,7 +33,7 @@ notes-more n m calls i call lt is =
     ∙ ap (λ k. notes_from n m front ++ notes_from (n + k) old (call ∷ [])) (length-front i calls lt)
     ∙ ap (λ (xs : List Note). notes_from n m front ++ xs) (append-nil (notes_by (n + i) old call))
 
--- the same behind what was noted before
+-- the same after what was noted before
 pub calls-noted : (n : ℕ) (m old : State) (calls : List Call) (i : ℕ) (call : Call) (before told now : List Note) → i < length calls → call ≡ get_or calls i call
     → told ≡ before ++ notes_from n m (take i calls) → old ≡ state_after m (take i calls) → now ≡ told ++ notes_by (n + i) old call → now ≡ before ++ notes_from n m (take (i + 1) calls)
 calls-noted n m old calls i call before told now lt is so_far from added =

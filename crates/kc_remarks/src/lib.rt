@@ -5,9 +5,11 @@
 //! - how many calls are noted as refused: `specs/Denials.antt`, `src/laws.rt`
 #![tactic(auto)]
 
+mod denials;
 pub mod laws;
 mod remark;
 mod telling;
 
+pub use denials::Denials;
 pub use remark::{Access, CallKind, Denial, Denied, NamedFrame, Note, Remarks};
 pub use telling::{note_events, remark_told};

@@ -18,6 +18,7 @@ use Rattle.kc_texts.proofs.Told.{sources_after, texts_after, replay_after, sourc
 use Rattle.kc_redact_text.specs.Redacts.{Redacts, BeginsRedaction, IsRedactFault, IsHostRedacted, IsHostRedactFault}
 use Rattle.kc_cli.specs.declared.order.ReplayForm.{ReplayForm}
 use Rattle.kc_cli.specs.declared.account.CustodyForm.{CustodyForm}
+use Rattle.kc_cli.specs.declared.account.Scope.{Scope}
 use Rattle.kc_cli.specs.Engine.{IsReplayText, IsLeftText}
 use Rattle.kc_cli.specs.Custody.{IsCustodyText, TellsCustody, origin_of}
 use Rattle.kc_cli.specs.Live.{IsLiveText, CouldRun, HasBadActor}
@@ -106,10 +107,10 @@ compares origin form blank workers start to ends (Err f) opened written same sou
   sink = sink_err _ _ _ f sink;
 }
 
-pub reports : {A : Type 0} (form : CustodyForm) (vm : Option ℕ) (start : Seen) (ends : Ends) (r : Result A TextFault) → ends.refused ≡ None
-    → OnOk r (Writes (IsCustodyText form vm) start.had ends.input.had ends.out.had ends.out.has) → TellsSources (start ∷ ends.input ∷ []) r → TellsTexts (origin_of form) start ends.input ends.unread r → TellsCustody vm (origin_of form) start.had ends.unread r
-    → TellsSink ends.out.failed (Begins (IsCustodyText form vm) start.had ends.input.had ends.out.had ends.out.has) ends.untouched r → ReportsCustody form vm start ends (done_as r)
-reports form vm start ends (Ok x) opened written sources told custody sink = record {
+pub reports : {A : Type 0} (form : CustodyForm) (scope : Scope) (start : Seen) (ends : Ends) (r : Result A TextFault) → ends.refused ≡ None
+    → OnOk r (Writes (IsCustodyText form scope) start.had ends.input.had ends.out.had ends.out.has) → TellsSources (start ∷ ends.input ∷ []) r → TellsTexts (origin_of form) start ends.input ends.unread r → TellsCustody scope.vm (origin_of form) start.had ends.unread r
+    → TellsSink ends.out.failed (Begins (IsCustodyText form scope) start.had ends.input.had ends.out.had ends.out.has) ends.untouched r → ReportsCustody form scope start ends (done_as r)
+reports form scope start ends (Ok x) opened written sources told custody sink = record {
   opened = opened;
   written = written;
   done = refl;
@@ -118,7 +119,7 @@ reports form vm start ends (Ok x) opened written sources told custody sink = rec
   custody = custody_ok _ _ _ _ x endings.Done custody;
   sink = sink_ok _ _ _ x endings.Done sink;
 }
-reports form vm start ends (Err f) opened written sources told custody sink = record {
+reports form scope start ends (Err f) opened written sources told custody sink = record {
   opened = opened;
   written = tt;
   done = tt;

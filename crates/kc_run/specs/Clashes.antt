@@ -20,6 +20,7 @@ first_option clashes.SvgRefused = codes "--svg"
 first_option clashes.SvgAccesses = codes "--svg"
 first_option clashes.SummaryHtml = codes "--summary"
 first_option clashes.SvgHtml = codes "--svg"
+first_option clashes.UnseenAccesses = codes "--unseen"
 
 abbrev pub link_of : Clash → List ℕ
 link_of clashes.BlankAlone = codes "' needs one of '"
@@ -44,6 +45,7 @@ other_option clashes.SvgRefused = codes "--refused"
 other_option clashes.SvgAccesses = codes "--accesses"
 other_option clashes.SummaryHtml = codes "--html"
 other_option clashes.SvgHtml = codes "--html"
+other_option clashes.UnseenAccesses = codes "--accesses"
 
 abbrev pub command_of : Clash → List ℕ
 command_of clashes.DumpState = codes "replay"

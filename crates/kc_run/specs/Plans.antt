@@ -1,5 +1,5 @@
 -- What a job asks for, once its options do not contradict each other.
-use Rattle.std.specs.Prelude.{ℕ, Bool, true, false, List, Option, Some, None, Result, Ok, Err}
+use Rattle.std.specs.Prelude.{ℕ, Bool, true, false, ◌&&◌, List, Option, Some, None, Result, Ok, Err}
 use Rattle.std.specs.Borrow.{Bor}
 use Rattle.kc_args.specs.declared.job.Job.{Job}
 use Rattle.kc_args.specs.declared.job.Job.TheVariants as jobs
@@ -10,6 +10,9 @@ use Rattle.kc_cli.specs.declared.order.ReplayForm.{ReplayForm}
 use Rattle.kc_cli.specs.declared.order.ReplayForm.TheVariants as replies
 use Rattle.kc_cli.specs.declared.account.CustodyForm.{CustodyForm}
 use Rattle.kc_cli.specs.declared.account.CustodyForm.TheVariants as forms
+use Rattle.kc_cli.specs.declared.account.Named.{Named}
+use Rattle.kc_cli.specs.declared.account.Named.TheVariants as names
+use Rattle.kc_cli.specs.declared.account.Scope.{Scope}
 use Rattle.kc_run.specs.declared.plan.Start.{Start}
 use Rattle.kc_run.specs.declared.plan.Start.TheVariants as starts
 use Rattle.kc_run.specs.declared.plan.Account.{Account}
@@ -73,13 +76,25 @@ replay_plan None start to blank workers = Err clashes.DumpState
 replay_plan (Some form) None to blank workers = Err clashes.ReplayConfigFrom
 replay_plan (Some form) (Some start) to blank workers = blank_plan (is_alone blank form to) (plans.Replay start to form blank workers)
 
-abbrev pub account_plan : Result Account Clash → Option ℕ → Result Plan Clash
-account_plan (Err clash) vm = Err clash
-account_plan (Ok account) vm = Ok (plans.Custody account vm)
+-- which texts are named by their digests, by `--digests`: of the default configuration there is no text to be named
+abbrev pub named_by : Bool → Start → Named
+named_by false start = names.Nothing
+named_by true (starts.Boot None) = names.Trace
+named_by true start = names.Both
 
-abbrev pub custody_plan : Bool → Bool → Bool → Remarks → Option Start → Option ℕ → Result Plan Clash
-custody_plan summary svg html remarks None vm = Err clashes.CustodyConfigFrom
-custody_plan summary svg html remarks (Some start) vm = account_plan (account_of summary svg html remarks start) vm
+-- without the machine's accesses there are none to be reported
+abbrev pub scope_plan : Bool → Account → Scope → Result Plan Clash
+scope_plan true account scope = Err clashes.UnseenAccesses
+scope_plan false account scope = Ok (plans.Custody account scope)
+
+abbrev pub account_plan : Result Account Clash → Bool → Scope → Result Plan Clash
+account_plan (Err clash) accesses scope = Err clash
+account_plan (Ok account) accesses scope = scope_plan (scope.is_unseen && accesses) account scope
+
+abbrev pub custody_plan : Bool → Bool → Bool → Remarks → Bool → Bool → Option Start → Option ℕ → Result Plan Clash
+custody_plan summary svg html remarks unseen digests None vm = Err clashes.CustodyConfigFrom
+custody_plan summary svg html remarks unseen digests (Some start) vm =
+    account_plan (account_of summary svg html remarks start) remarks.accesses (record { vm = vm; is_unseen = unseen; named = named_by digests start })
 
 -- a start is named only if also the host's writes are blanked, by which the trace is replayed
 abbrev pub redact_plan : Bool → Start → Result Plan Clash
@@ -104,7 +119,7 @@ input_of (jobs.Redact input config from host explain) = input
 abbrev pub plan_of : Job → Result Plan Clash
 plan_of (jobs.Replay input config from to workers dump state blank explain) = replay_plan (replay_form dump state) (start_of config from) to blank workers
 plan_of (jobs.Live input config workers explain) = Ok (plans.Live config workers)
-plan_of (jobs.Custody input config from vm summary svg html refused accesses explain) = custody_plan summary svg html (record { refused = refused; accesses = accesses }) (start_of config from) vm
+plan_of (jobs.Custody input config from vm summary svg html refused accesses unseen digests explain) = custody_plan summary svg html (record { refused = refused; accesses = accesses }) unseen digests (start_of config from) vm
 plan_of (jobs.Audit input all explain) = Ok (plans.Audit all)
 plan_of (jobs.Redact input config from host explain) = redact_from_plan host (start_of config from)
 

@@ -17,6 +17,7 @@ use Rattle.kc_texts.specs.Reading.{Writes, Begins}
 use Rattle.kc_redact_text.specs.Redacts.{Redacts, BeginsRedaction, IsRedactFault, IsHostRedacted, IsHostRedactFault}
 use Rattle.kc_cli.specs.declared.order.ReplayForm.{ReplayForm}
 use Rattle.kc_cli.specs.declared.account.CustodyForm.{CustodyForm}
+use Rattle.kc_cli.specs.declared.account.Scope.{Scope}
 use Rattle.kc_cli.specs.Engine.{IsReplayText, IsLeftText}
 use Rattle.kc_cli.specs.Custody.{IsCustodyText, TellsCustody, origin_of}
 use Rattle.kc_cli.specs.Live.{IsLiveText, CouldRun, HasBadActor}
@@ -80,14 +81,14 @@ ReplaysTo origin form blank workers (Some path) start ends ended =
     IsUnopened (Some path) ends ended ⊎ ((to : Seen) × (to.had ≡ ends.held path.now) × Replays origin form blank workers start (Some to) ends ended)
 
 -- a report of custody over open sources ended so
-pub record ReportsCustody (form : CustodyForm) (vm : Option ℕ) (start : Seen) (ends : Ends) (ended : Ended) : Type 0 where
+pub record ReportsCustody (form : CustodyForm) (scope : Scope) (start : Seen) (ends : Ends) (ended : Ended) : Type 0 where
   pub opened : ends.refused ≡ None
-  pub written : OnOk ended (Writes (IsCustodyText form vm) start.had ends.input.had ends.out.had ends.out.has)
+  pub written : OnOk ended (Writes (IsCustodyText form scope) start.had ends.input.had ends.out.had ends.out.has)
   pub done : IfOk ended (λ ending. ending ≡ endings.Done)
   pub sources : TellsSources (start ∷ ends.input ∷ []) ended
   pub told : TellsTexts (origin_of form) start ends.input ends.unread ended
-  pub custody : TellsCustody vm (origin_of form) start.had ends.unread ended
-  pub sink : TellsSink ends.out.failed (Begins (IsCustodyText form vm) start.had ends.input.had ends.out.had ends.out.has) ends.untouched ended
+  pub custody : TellsCustody scope.vm (origin_of form) start.had ends.unread ended
+  pub sink : TellsSink ends.out.failed (Begins (IsCustodyText form scope) start.had ends.input.had ends.out.had ends.out.has) ends.untouched ended
 
 -- a live run over open sources ended so
 pub record RunsLive (workers : ℕ) (config : Seen) (ends : Ends) (ended : Ended) : Type 0 where
@@ -146,7 +147,7 @@ BeginsAt start Runs ends ended = IsUnopened (path_of start) ends ended ⊎ ((sou
 abbrev pub IsEnding : Plan → Ends → Ended → Type 0
 IsEnding (plans.Replay start to form blank workers) ends ended = BeginsAt start (ReplaysTo (origin_at start) form blank workers to) ends ended
 IsEnding (plans.Live config workers) ends ended = BeginsAt (starts.Boot config) (RunsLive workers) ends ended
-IsEnding (plans.Custody account vm) ends ended = BeginsAt (start_in account) (ReportsCustody (form_of account) vm) ends ended
+IsEnding (plans.Custody account scope) ends ended = BeginsAt (start_in account) (ReportsCustody (form_of account) scope) ends ended
 IsEnding (plans.Audit all) ends ended = AuditsDump all ends ended
 IsEnding plans.Redact ends ended = RedactsTrace ends ended
 IsEnding (plans.RedactHost start) ends ended = BeginsAt start (RedactsHost (origin_at start)) ends ended

@@ -40,6 +40,8 @@ pub enum Clash {
     SummaryHtml,
     /// `custody --svg --html`
     SvgHtml,
+    /// `custody --unseen --accesses`
+    UnseenAccesses,
 }
 
 impl Clash {
@@ -59,6 +61,7 @@ impl Clash {
             | Clash::SummaryHtml => "--summary",
             Clash::FromSummary | Clash::FromSvg | Clash::FromAlone => "--from",
             Clash::SvgRefused | Clash::SvgAccesses | Clash::SvgHtml => "--svg",
+            Clash::UnseenAccesses => "--unseen",
         }
     }
 
@@ -84,7 +87,7 @@ impl Clash {
             Clash::FromSummary => "--summary",
             Clash::ConfigAlone | Clash::FromAlone => "--host",
             Clash::SummaryRefused | Clash::SvgRefused => "--refused",
-            Clash::SummaryAccesses | Clash::SvgAccesses => "--accesses",
+            Clash::SummaryAccesses | Clash::SvgAccesses | Clash::UnseenAccesses => "--accesses",
             Clash::SummaryHtml | Clash::SvgHtml => "--html",
         }
     }

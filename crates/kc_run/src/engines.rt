@@ -11,7 +11,7 @@ use crate::ending::Ending;
 use crate::files::Files;
 use crate::plan::{Account, Start};
 use kc_cli::{
-    CustodyOrder, Lanes, ReplayOrder, Sink, Source, TextFault, audit_text, custody_text, live_text,
+    CustodyOrder, Lanes, ReplayOrder, Scope, Sink, Source, TextFault, audit_text, custody_text, live_text,
     replay_text, replay_to_text,
 };
 use kc_redact_text::{redact_host_text, redact_text};
@@ -118,21 +118,21 @@ pub(crate) fn custody<F: Files, T: Source, K: Sink, R: Threads + Wait + Sync>(
     system: &System<'_, R>,
     files: &mut F,
     account: Account<'_>,
-    vm: Option<u32>,
+    scope: Scope,
     input: &mut T,
     out: &mut K,
 ) -> Result<Ending, TextFault>
     requires files { F.refused files.old ≡ None }
     requires input { T.failed input.old ≡ false }
     requires out { K.failed out.old ≡ false }
-    ensures { BeginsAt (start_in account.entry) (ReportsCustody (form_of account.entry) vm) (ends_of (F.held files.old) (F.refused files.new) (seen (T.failed input.new) (T.left input.old) (T.left input.new)) (input.new ≡ input.old) (took (K.failed out.new) (K.taken out.old) (K.taken out.new)) (out.new ≡ out.old)) result }
+    ensures { BeginsAt (start_in account.entry) (ReportsCustody (form_of account.entry) scope) (ends_of (F.held files.old) (F.refused files.new) (seen (T.failed input.new) (T.left input.old) (T.left input.new)) (input.new ≡ input.old) (took (K.failed out.new) (K.taken out.old) (K.taken out.new)) (out.new ≡ out.old)) result }
 {
     let form = account.form();
     let mut beginning = begin(system.alloc, files, account.start())?;
     let order = CustodyOrder {
         form,
         lanes: system.lanes,
-        vm,
+        scope,
     };
     let answer = custody_text(
         system.threads,

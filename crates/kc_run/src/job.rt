@@ -44,7 +44,7 @@ fn run_plan<F: Files, T: Source, K: Sink, R: Threads + Wait + Sync>(
             replay(system, files, start, to, input, out, order)
         },
         Plan::Live { config, workers } => live(system, files, config, workers, input, out),
-        Plan::Custody { account, vm } => custody(system, files, account, vm, input, out),
+        Plan::Custody { account, scope } => custody(system, files, account, scope, input, out),
         Plan::Audit { all } => audit(system, all, input, out),
         Plan::Redact => redact(system.alloc, input, out),
         Plan::RedactHost { start } => redact_host(system, files, start, input, out),

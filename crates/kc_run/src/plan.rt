@@ -1,9 +1,9 @@
 //! What a job asks for, once its options do not contradict each other.
 ghost use Rattle.std.specs.Prelude.{◌≡◌};
-ghost use Rattle.kc_run.specs.Plans.{start_of, replay_form, is_alone, summary_of, picture_of, account_of, redact_plan, plan_of, path_of, origin_at, form_of, start_in, input_of};
+ghost use Rattle.kc_run.specs.Plans.{start_of, replay_form, is_alone, summary_of, picture_of, account_of, named_by, redact_plan, plan_of, path_of, origin_at, form_of, start_in, input_of};
 
 use crate::clash::Clash;
-use kc_cli::{CustodyForm, Job, Origin, Remarks, ReplayForm};
+use kc_cli::{CustodyForm, Job, Named, Origin, Remarks, ReplayForm, Scope};
 
 /// Where calls begin.
 #[derive(Clone, Copy, Debug, PartialEq, Eq)]
@@ -45,10 +45,10 @@ pub enum Plan<'a> {
         config: Option<&'a str>,
         workers: u32,
     },
-    /// Report the trace's custody, of one slot's VM alone if a slot is named.
+    /// Report the trace's custody.
     Custody {
         account: Account<'a>,
-        vm: Option<u32>,
+        scope: Scope,
     },
     /// Audit the dump.
     Audit {
@@ -141,6 +141,17 @@ fn account_of<'a>(
     }
 }
 
+/// Which texts are named by their digests, by `--digests`: of the default configuration there is no text to be named.
+fn named_by(digests: bool, start: Start<'_>) -> Named
+    ensures { result ≡ named_by digests start.entry }
+{
+    match (digests, start) {
+        (false, _) => Named::Nothing,
+        (true, Start::Boot(None)) => Named::Trace,
+        (true, _) => Named::Both,
+    }
+}
+
 /// Whose writes are blanked, by `--host`: without it no start may be named.
 fn redact_plan<'a>(host: bool, start: Start<'a>) -> Result<Plan<'a>, Clash>
     ensures { result ≡ redact_plan host start.entry }
@@ -215,6 +226,8 @@ pub fn plan_of<'a>(job: Job<'a>) -> Result<Plan<'a>, Clash>
             html,
             refused,
             accesses,
+            unseen,
+            digests,
             explain: _,
         } => {
             let Some(start) = start_of(config, from) else {
@@ -222,7 +235,15 @@ pub fn plan_of<'a>(job: Job<'a>) -> Result<Plan<'a>, Clash>
             };
             let remarks = Remarks { refused, accesses };
             let account = account_of(summary, svg, html, remarks, start)?;
-            Ok(Plan::Custody { account, vm })
+            if unseen && accesses {
+                return Err(Clash::UnseenAccesses);
+            }
+            let scope = Scope {
+                vm,
+                is_unseen: unseen,
+                named: named_by(digests, start),
+            };
+            Ok(Plan::Custody { account, scope })
         },
         Job::Audit {
             input: _,

@@ -16,6 +16,10 @@ use Rattle.kc_types.specs.declared.custody.Change.{Change}
 use Rattle.kc_types.specs.declared.custody.Change.TheVariants as change
 use Rattle.kc_types.specs.declared.custody.Event.{Event}
 use Rattle.kc_types.specs.declared.custody.Event.TheVariants as event
+use Rattle.kc_trace.specs.declared.custody_writer.StartDigest.{StartDigest}
+use Rattle.kc_trace.specs.declared.custody_writer.StartDigest.TheVariants as start
+use Rattle.kc_trace.specs.declared.custody_writer.Digests.{Digests}
+use Rattle.kc_trace.specs.declared.custody_writer.Heading.{Heading}
 
 abbrev pub owner_text : Owner → List ℕ
 owner_text Core = codes "\"core\""
@@ -78,18 +82,49 @@ abbrev pub event_line : Event → List ℕ
 event_line (event.Change told) = change_line told
 event_line _ = []
 
--- the first line: the sizes of the core
-abbrev pub header_line : Configuration → List ℕ
-header_line config = member (codes "{\"custody\":1,\"frames\":") config.frames ++ (member (codes ",\"core\":") config.core
-    ++ (member (codes ",\"host\":") config.host ++ (member (codes ",\"slots\":") (slot_count config) ++ (codes "}" ++ 10 ∷ []))))
+-- the version of kcore, which `kcore --version` prints too
+abbrev pub version_text : List ℕ
+version_text = codes "2.0.0"
 
--- the last line: how many calls the trace has, and how many lines of changes the text
-abbrev pub end_line : ℕ → ℕ → List ℕ
-end_line calls lines = member (codes "{\"calls\":") calls ++ (member (codes ",\"lines\":") lines ++ (codes "}" ++ 10 ∷ []))
+-- a digest in quotation marks
+abbrev pub digest_text : List ℕ → List ℕ
+digest_text digest = codes "\"" ++ (encode_lower digest ++ codes "\"")
 
--- the text of the changes that a trace of so many calls makes
-abbrev pub custody_text_of : Configuration → ℕ → List Change → List ℕ
-custody_text_of config calls changes = header_line config ++ (flat_map change_line changes ++ end_line calls (length changes))
+-- the configuration, by its digest if it is not the default one, or the state
+abbrev pub start_text : StartDigest → List ℕ
+start_text start.Default = codes ",\"config\":\"default\",\"state\":null"
+start_text (start.Config digest) = codes ",\"config\":" ++ (digest_text digest ++ codes ",\"state\":null")
+start_text (start.State digest) = codes ",\"config\":null,\"state\":" ++ digest_text digest
+
+-- what was read, if that is named
+abbrev pub digests_text : Option Digests → List ℕ
+digests_text None = []
+digests_text (Some digests) = codes ",\"trace\":" ++ (digest_text digests.trace ++ start_text digests.start)
+
+abbrev pub accesses_text : Bool → List ℕ
+accesses_text false = []
+accesses_text true = codes ",\"accesses\":\"unseen\""
+
+-- the version of the text and of kcore
+abbrev pub versions_text : List ℕ
+versions_text = codes "2,\"kcore\":\"" ++ (version_text ++ codes "\"")
+
+-- what the first line says: the versions, what was read, the sizes of the core, and whether the machine's accesses are in the trace
+abbrev pub heading_text : Heading → Configuration → List ℕ
+heading_text heading config = versions_text ++ (digests_text heading.digests ++ (member (codes ",\"frames\":") config.frames ++ (member (codes ",\"core\":") config.core
+    ++ (member (codes ",\"host\":") config.host ++ (member (codes ",\"slots\":") (slot_count config) ++ (accesses_text heading.is_unseen ++ (codes "}" ++ 10 ∷ [])))))))
+
+-- the first line
+abbrev pub header_line : Heading → Configuration → List ℕ
+header_line heading config = codes "{\"custody\":" ++ heading_text heading config
+
+-- the last line: how many calls the trace has, how many lines are between the first and this one, and how many calls were refused or rejected
+abbrev pub end_line : ℕ → ℕ → ℕ → List ℕ
+end_line calls lines refused = member (codes "{\"calls\":") calls ++ (member (codes ",\"lines\":") lines ++ (member (codes ",\"refused\":") refused ++ (codes "}" ++ 10 ∷ [])))
+
+-- the text of the changes that a trace makes, by the numbers of its calls and of those that were refused or rejected
+abbrev pub custody_text_of : Heading → Configuration → ℕ → ℕ → List Change → List ℕ
+custody_text_of heading config calls refused changes = header_line heading config ++ (flat_map change_line changes ++ end_line calls (length changes) refused)
 
 -- no longer text is made of a custody, an image, four images, and a change
 abbrev pub longest_custody : ℕ
@@ -103,3 +138,13 @@ longest_images = 550
 
 abbrev pub longest_change : ℕ
 longest_change = 768
+
+-- nor of a digest in quotation marks, of what calls begin with, and of all that was read
+abbrev pub longest_digest : ℕ
+longest_digest = 66
+
+abbrev pub longest_start : ℕ
+longest_start = 110
+
+abbrev pub longest_digests : ℕ
+longest_digests = 190

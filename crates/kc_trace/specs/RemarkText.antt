@@ -1,4 +1,4 @@
--- How notes are spelled: an object of JSON (RFC 8259) a line. No bytes of a page stand in one.
+-- How notes are spelled: an object of JSON (RFC 8259) a line. None has bytes of a page.
 use Rattle.std.specs.Prelude.{ℕ, List, [], ◌∷◌, ◌++◌, codes, length, Option, Some, None}
 use Rattle.std.specs.List.{flat_map}
 use Rattle.kc_types.specs.Configuration.{Configuration}
@@ -12,6 +12,7 @@ use Rattle.kc_remarks.specs.declared.remark.Denied.{Denied}
 use Rattle.kc_remarks.specs.declared.remark.Access.{Access}
 use Rattle.kc_remarks.specs.declared.remark.Note.{Note}
 use Rattle.kc_remarks.specs.declared.remark.Note.TheVariants as note
+use Rattle.kc_trace.specs.declared.custody_writer.Heading.{Heading}
 use Rattle.kc_trace.specs.CustodyText.{owner_text, number_text, member, event_line, header_line, end_line}
 
 -- the name of a call, as in traces
@@ -66,9 +67,9 @@ note_line (note.Denied told) = denied_line told
 note_line (note.Access told) = access_line told
 note_line (note.Event told) = event_line told
 
--- the text of these notes on a trace of so many calls
-abbrev pub notes_text_of : Configuration → ℕ → List Note → List ℕ
-notes_text_of config calls told = header_line config ++ (flat_map note_line told ++ end_line calls (length told))
+-- the text of these notes on a trace, by the numbers of its calls and of those that were refused or rejected
+abbrev pub notes_text_of : Heading → Configuration → ℕ → ℕ → List Note → List ℕ
+notes_text_of heading config calls refused told = header_line heading config ++ (flat_map note_line told ++ end_line calls (length told) refused)
 
 -- no longer text is made of a beginning, a reason, a slot, a frame
 abbrev pub longest_head : ℕ

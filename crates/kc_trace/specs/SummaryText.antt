@@ -1,10 +1,11 @@
 -- How lives of VMs are spelled: an object of JSON (RFC 8259) a line.
-use Rattle.std.specs.Prelude.{ℕ, List, [], ◌∷◌, ◌++◌, codes, length}
+use Rattle.std.specs.Prelude.{ℕ, Bool, true, false, List, [], ◌∷◌, ◌++◌, codes, length}
 use Rattle.std.specs.List.{flat_map}
-use Rattle.kc_types.specs.Configuration.{Configuration, slot_count}
+use Rattle.kc_types.specs.Configuration.{Configuration}
 use Rattle.kc_types.specs.declared.custody.Sharing.{Sharing}
 use Rattle.kc_types.specs.declared.custody.Life.{Life}
-use Rattle.kc_trace.specs.CustodyText.{member, number_text, images_text}
+use Rattle.kc_trace.specs.declared.custody_writer.Heading.{Heading}
+use Rattle.kc_trace.specs.CustodyText.{member, number_text, images_text, heading_text}
 
 -- its slot, and the lines of its turns
 abbrev pub turns_text : Life → List ℕ
@@ -14,9 +15,14 @@ turns_text life = member (codes "{\"vm\":") life.vm ++ (member (codes ",\"regist
 abbrev pub life_images_text : Life → List ℕ
 life_images_text life = codes ",\"images\":[" ++ (images_text life.images ++ codes "]")
 
-abbrev pub counts_text : Life → List ℕ
-counts_text life = member (codes ",\"frames\":") life.frames ++ (member (codes ",\"most\":") life.most ++ (member (codes ",\"left\":") life.left
-    ++ (member (codes ",\"returned\":") life.returned ++ (member (codes ",\"reads\":") life.reads ++ member (codes ",\"writes\":") life.writes))))
+-- how many reads and writes of the host were served, unless the machine's accesses are not in the trace
+abbrev pub accesses_counted : Bool → Life → List ℕ
+accesses_counted false life = member (codes ",\"reads\":") life.reads ++ member (codes ",\"writes\":") life.writes
+accesses_counted true life = codes ",\"reads\":null,\"writes\":null"
+
+abbrev pub counts_text : Bool → Life → List ℕ
+counts_text unseen life = member (codes ",\"frames\":") life.frames ++ (member (codes ",\"most\":") life.most ++ (member (codes ",\"left\":") life.left
+    ++ (member (codes ",\"returned\":") life.returned ++ accesses_counted unseen life)))
 
 abbrev pub sharing_text : Sharing → List ℕ
 sharing_text sharing = member (codes "{\"frame\":") sharing.frame ++ (codes ",\"gfn\":" ++ (number_text sharing.gfn ++ (member (codes ",\"from\":") sharing.from
@@ -35,18 +41,17 @@ abbrev pub shared_text : Life → List ℕ
 shared_text life = codes ",\"shared\":[" ++ (sharings_text life.shared ++ (codes "]}" ++ 10 ∷ []))
 
 -- the line of a life, with its newline
-abbrev pub life_line : Life → List ℕ
-life_line life = turns_text life ++ (life_images_text life ++ (counts_text life ++ shared_text life))
+abbrev pub life_line : Bool → Life → List ℕ
+life_line unseen life = turns_text life ++ (life_images_text life ++ (counts_text unseen life ++ shared_text life))
 
--- the first line: the sizes of the core
-abbrev pub summary_header : Configuration → List ℕ
-summary_header config = member (codes "{\"summary\":1,\"frames\":") config.frames ++ (member (codes ",\"core\":") config.core
-    ++ (member (codes ",\"host\":") config.host ++ (member (codes ",\"slots\":") (slot_count config) ++ (codes "}" ++ 10 ∷ []))))
+-- the first line
+abbrev pub summary_header : Heading → Configuration → List ℕ
+summary_header heading config = codes "{\"summary\":" ++ heading_text heading config
 
--- the last line: how many calls the trace has, and how many lives the text
-abbrev pub summary_end : ℕ → ℕ → List ℕ
-summary_end calls lives = member (codes "{\"calls\":") calls ++ (member (codes ",\"lives\":") lives ++ (codes "}" ++ 10 ∷ []))
+-- the last line: how many calls the trace has, how many lives the text, and how many calls were refused or rejected
+abbrev pub summary_end : ℕ → ℕ → ℕ → List ℕ
+summary_end calls lives refused = member (codes "{\"calls\":") calls ++ (member (codes ",\"lives\":") lives ++ (member (codes ",\"refused\":") refused ++ (codes "}" ++ 10 ∷ [])))
 
--- the text of the lives that a trace of so many calls tells
-abbrev pub summary_text_of : Configuration → ℕ → List Life → List ℕ
-summary_text_of config calls lives = summary_header config ++ (flat_map life_line lives ++ summary_end calls (length lives))
+-- the text of the lives in a trace, by the numbers of its calls and of those that were refused or rejected
+abbrev pub summary_text_of : Heading → Configuration → ℕ → ℕ → List Life → List ℕ
+summary_text_of heading config calls refused lives = summary_header heading config ++ (flat_map (life_line heading.is_unseen) lives ++ summary_end calls (length lives) refused)

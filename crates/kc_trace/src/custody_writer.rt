@@ -4,7 +4,7 @@ ghost use Rattle.std.specs.List.{flat_map};
 ghost use Rattle.std.specs.Fmt.{decimal};
 ghost use Rattle.kc_types.specs.Limits.{image_limit};
 ghost use Rattle.kc_types.specs.Configuration.{slot_count};
-ghost use Rattle.kc_trace.specs.CustodyText.{owner_text, number_text, flag_text, phase_text, custody_text, frame_line, image_text, more_image_text, images_text, phase_line, change_line, header_line, end_line, longest_custody, longest_image, longest_images, longest_change};
+ghost use Rattle.kc_trace.specs.CustodyText.{owner_text, number_text, flag_text, phase_text, custody_text, frame_line, image_text, more_image_text, images_text, phase_line, change_line, version_text, digest_text, start_text, digests_text, accesses_text, versions_text, heading_text, header_line, end_line, longest_custody, longest_image, longest_images, longest_change, longest_digest, longest_start, longest_digests};
 
 use itoa::Buffer;
 use kc_lines::{push_bytes, push_digits};
@@ -14,6 +14,36 @@ use kc_types::{
 
 /// More bytes than the longest line of a change, of the beginning or of the end has, with its newline.
 pub const LONGEST_CHANGE: usize = 768;
+
+/// The version of kcore, which `kcore --version` prints too.
+pub const VERSION: &str = "2.0.0";
+
+/// What calls begin with, by the SHA-256 digest (FIPS 180-4) of its text.
+#[derive(Clone, Copy, Debug, PartialEq, Eq)]
+pub enum StartDigest {
+    /// The default configuration.
+    Default,
+    /// The configuration with this digest.
+    Config([u8; 32]),
+    /// The state with this digest.
+    State([u8; 32]),
+}
+
+/// The texts that were read, by their SHA-256 digests.
+#[derive(Clone, Copy, Debug, PartialEq, Eq)]
+pub struct Digests {
+    pub trace: [u8; 32],
+    pub start: StartDigest,
+}
+
+/// What the first line of custody and of a summary says beside the sizes of the core.
+#[derive(Clone, Copy, Debug, PartialEq, Eq)]
+pub struct Heading {
+    /// The texts that were read, if they are named.
+    pub digests: Option<Digests>,
+    /// Whether the machine's own reads and writes are not in the trace.
+    pub is_unseen: bool,
+}
 
 /// Appends some bytes and a number.
 pub(crate) fn push_member(text: &mut Vec<u8>, key: &[u8], number: usize)
@@ -199,30 +229,112 @@ pub fn push_change(text: &mut Vec<u8>, change: &Change)
     }
 }
 
-/// Appends the first line, with its newline: the sizes of the core, as the boot state follows from them.
-pub fn push_custody_header(text: &mut Vec<u8>, config: &Config)
-    requires { vec_len text.old + longest_change ≤ vec_capacity text.old }
-    ensures line { text.new.items ≡ text.old.items ++ header_line config.now }
+/// Appends a digest, as text.
+fn push_digest(text: &mut Vec<u8>, digest: &[u8; 32])
+    requires { vec_len text.old + longest_digest ≤ vec_capacity text.old }
+    ensures items { text.new.items ≡ text.old.items ++ digest_text digest.now }
+    ensures len { vec_len text.new ≤ vec_len text.old + longest_digest }
     ensures capacity { vec_capacity text.old ≤ vec_capacity text.new }
 {
-    push_member(
-        text,
-        b"{\"custody\":1,\"frames\":",
-        config.frames() as usize,
-    );
+    push_bytes(text, b"\"");
+    push_digits(text, digest);
+    push_bytes(text, b"\"");
+}
+
+/// Appends what calls begin with.
+fn push_start(text: &mut Vec<u8>, start: &StartDigest)
+    requires { vec_len text.old + longest_start ≤ vec_capacity text.old }
+    ensures items { text.new.items ≡ text.old.items ++ start_text start.now }
+    ensures len { vec_len text.new ≤ vec_len text.old + longest_start }
+    ensures capacity { vec_capacity text.old ≤ vec_capacity text.new }
+{
+    match start {
+        StartDigest::Default => push_bytes(text, b",\"config\":\"default\",\"state\":null"),
+        StartDigest::Config(digest) => {
+            push_bytes(text, b",\"config\":");
+            push_digest(text, digest);
+            push_bytes(text, b",\"state\":null");
+        },
+        StartDigest::State(digest) => {
+            push_bytes(text, b",\"config\":null,\"state\":");
+            push_digest(text, digest);
+        },
+    }
+}
+
+/// Appends what was read, if that is named.
+fn push_digests(text: &mut Vec<u8>, digests: &Option<Digests>)
+    requires { vec_len text.old + longest_digests ≤ vec_capacity text.old }
+    ensures items { text.new.items ≡ text.old.items ++ digests_text digests.now }
+    ensures len { vec_len text.new ≤ vec_len text.old + longest_digests }
+    ensures capacity { vec_capacity text.old ≤ vec_capacity text.new }
+{
+    if let Some(digests) = digests {
+        push_bytes(text, b",\"trace\":");
+        push_digest(text, &digests.trace);
+        push_start(text, &digests.start);
+    }
+}
+
+/// Appends the version of the text and of kcore.
+fn push_versions(text: &mut Vec<u8>)
+    requires { vec_len text.old + 20 ≤ vec_capacity text.old }
+    ensures items { text.new.items ≡ text.old.items ++ versions_text }
+    ensures len { vec_len text.new ≤ vec_len text.old + 20 }
+    ensures capacity { vec_capacity text.old ≤ vec_capacity text.new }
+{
+    push_bytes(text, b"2,\"kcore\":\"");
+    push_bytes(text, VERSION.as_bytes());
+    push_bytes(text, b"\"");
+}
+
+fn push_accesses(text: &mut Vec<u8>, is_unseen: bool)
+    requires { vec_len text.old + 20 ≤ vec_capacity text.old }
+    ensures items { text.new.items ≡ text.old.items ++ accesses_text is_unseen }
+    ensures len { vec_len text.new ≤ vec_len text.old + 20 }
+    ensures capacity { vec_capacity text.old ≤ vec_capacity text.new }
+{
+    if is_unseen {
+        push_bytes(text, b",\"accesses\":\"unseen\"");
+    }
+}
+
+/// Appends what the first line of custody and of a summary says, with its newline: the versions, what was read, the sizes of
+/// the core, as the boot state follows from them, and whether the machine's accesses are in the trace.
+pub(crate) fn push_heading(text: &mut Vec<u8>, heading: &Heading, config: &Config)
+    requires { vec_len text.old + 512 ≤ vec_capacity text.old }
+    ensures line { text.new.items ≡ text.old.items ++ heading_text heading.now config.now }
+    ensures capacity { vec_capacity text.old ≤ vec_capacity text.new }
+{
+    push_versions(text);
+    push_digests(text, &heading.digests);
+    push_member(text, b",\"frames\":", config.frames() as usize);
     push_member(text, b",\"core\":", config.core() as usize);
     push_member(text, b",\"host\":", config.host() as usize);
     push_member(text, b",\"slots\":", config.slots() as usize);
+    push_accesses(text, heading.is_unseen);
     push_bytes(text, b"}\n");
 }
 
-/// Appends the last line, with its newline: how many calls the trace has, and how many lines of changes the text.
-pub fn push_custody_end(text: &mut Vec<u8>, calls: usize, lines: usize)
+/// Appends the first line, with its newline.
+pub fn push_custody_header(text: &mut Vec<u8>, heading: &Heading, config: &Config)
     requires { vec_len text.old + longest_change ≤ vec_capacity text.old }
-    ensures line { text.new.items ≡ text.old.items ++ end_line calls lines }
+    ensures line { text.new.items ≡ text.old.items ++ header_line heading.now config.now }
+    ensures capacity { vec_capacity text.old ≤ vec_capacity text.new }
+{
+    push_bytes(text, b"{\"custody\":");
+    push_heading(text, heading, config);
+}
+
+/// Appends the last line, with its newline: how many calls the trace has, how many lines come between the first and this
+/// one, and how many calls were refused or rejected.
+pub fn push_custody_end(text: &mut Vec<u8>, calls: usize, lines: usize, refused: usize)
+    requires { vec_len text.old + longest_change ≤ vec_capacity text.old }
+    ensures line { text.new.items ≡ text.old.items ++ end_line calls lines refused }
     ensures capacity { vec_capacity text.old ≤ vec_capacity text.new }
 {
     push_member(text, b"{\"calls\":", calls);
     push_member(text, b",\"lines\":", lines);
+    push_member(text, b",\"refused\":", refused);
     push_bytes(text, b"}\n");
 }

@@ -23,7 +23,10 @@ mod summary_writer;
 mod writer;
 
 pub use config_text::{ConfigTextFault, read_config};
-pub use custody_writer::{LONGEST_CHANGE, push_change, push_custody_end, push_custody_header};
+pub use custody_writer::{
+    Digests, Heading, LONGEST_CHANGE, StartDigest, VERSION, push_change, push_custody_end,
+    push_custody_header,
+};
 pub use fault::TraceFault;
 pub use line::call_of_line;
 pub use reader::{TraceReader, read_trace};

@@ -1,9 +1,11 @@
 //! Lives of VMs, as JSON Lines (RFC 8259): an object a line.
-ghost use Rattle.std.specs.Prelude.{◌≡◌, ◌≤◌, ◌++◌, length, IfOk, OnOk};
+ghost use Rattle.std.specs.Prelude.{◌≡◌, ◌≤◌, ◌+◌, ◌++◌, length, vec_len, vec_capacity, IfOk, OnOk};
 ghost use Rattle.std.specs.List.{flat_map};
-ghost use Rattle.kc_trace.specs.SummaryText.{turns_text, life_images_text, counts_text, sharing_text, more_sharing_text, sharings_text, shared_text, life_line, summary_header, summary_end, summary_text_of};
+ghost use Rattle.kc_trace.specs.SummaryText.{turns_text, life_images_text, accesses_counted, counts_text, sharing_text, more_sharing_text, sharings_text, shared_text, life_line, summary_header, summary_end, summary_text_of};
 
-use crate::custody_writer::{push_gfn, push_images, push_member, push_number};
+use crate::custody_writer::{
+    Heading, push_gfn, push_heading, push_images, push_member, push_number,
+};
 use kc_lines::push_bytes;
 use kc_types::{Config, Life, Memory, Sharing};
 use std::alloc::Global;
@@ -38,17 +40,29 @@ fn push_life_images(text: &mut Vec<u8>, life: &Life) -> Result<(), Memory>
     Ok(())
 }
 
+/// Appends how many reads and writes of the host were served, or `null` if the machine's accesses are not in the trace.
+fn push_accesses(text: &mut Vec<u8>, is_unseen: bool, life: &Life)
+    requires { vec_len text.old + 60 ≤ vec_capacity text.old }
+    ensures { text.new.items ≡ text.old.items ++ accesses_counted is_unseen life.now }
+{
+    if is_unseen {
+        push_bytes(text, b",\"reads\":null,\"writes\":null");
+        return;
+    }
+    push_member(text, b",\"reads\":", life.reads);
+    push_member(text, b",\"writes\":", life.writes);
+}
+
 /// Appends the counts of a life.
-fn push_counts(text: &mut Vec<u8>, life: &Life) -> Result<(), Memory>
-    ensures { OnOk result (text.new.items ≡ text.old.items ++ counts_text life.now) }
+fn push_counts(text: &mut Vec<u8>, is_unseen: bool, life: &Life) -> Result<(), Memory>
+    ensures { OnOk result (text.new.items ≡ text.old.items ++ counts_text is_unseen life.now) }
 {
     text.reserve(LONGEST_PART)?;
     push_member(text, b",\"frames\":", life.frames);
     push_member(text, b",\"most\":", life.most);
     push_member(text, b",\"left\":", life.left);
     push_member(text, b",\"returned\":", life.returned);
-    push_member(text, b",\"reads\":", life.reads);
-    push_member(text, b",\"writes\":", life.writes);
+    push_accesses(text, is_unseen, life);
     Ok(())
 }
 
@@ -103,65 +117,66 @@ fn push_shared(text: &mut Vec<u8>, life: &Life) -> Result<(), Memory>
 }
 
 /// Appends the line of a life, with its newline.
-fn push_life(text: &mut Vec<u8>, life: &Life) -> Result<(), Memory>
-    ensures { OnOk result (text.new.items ≡ text.old.items ++ life_line life.now) }
+fn push_life(text: &mut Vec<u8>, is_unseen: bool, life: &Life) -> Result<(), Memory>
+    ensures { OnOk result (text.new.items ≡ text.old.items ++ life_line is_unseen life.now) }
 {
     push_turns(text, life)?;
     push_life_images(text, life)?;
-    push_counts(text, life)?;
+    push_counts(text, is_unseen, life)?;
     push_shared(text, life)
 }
 
 /// Appends the lines of some lives.
-fn push_lives(text: &mut Vec<u8>, lives: &[Life]) -> Result<(), Memory>
-    ensures { OnOk result (text.new.items ≡ text.old.items ++ flat_map life_line lives.now) }
+fn push_lives(text: &mut Vec<u8>, is_unseen: bool, lives: &[Life]) -> Result<(), Memory>
+    ensures { OnOk result (text.new.items ≡ text.old.items ++ flat_map (life_line is_unseen) lives.now) }
 {
     for life in lives {
-        push_life(text, life)?;
+        push_life(text, is_unseen, life)?;
     }
     Ok(())
 }
 
-/// Appends the first line: the sizes of the core.
-fn push_summary_header(text: &mut Vec<u8>, config: &Config) -> Result<(), Memory>
-    ensures { OnOk result (text.new.items ≡ text.old.items ++ summary_header config.now) }
+/// Appends the first line.
+fn push_summary_header(text: &mut Vec<u8>, heading: &Heading, config: &Config) -> Result<(), Memory>
+    ensures { OnOk result (text.new.items ≡ text.old.items ++ summary_header heading.now config.now) }
 {
     text.reserve(LONGEST_PART)?;
-    push_member(
-        text,
-        b"{\"summary\":1,\"frames\":",
-        config.frames() as usize,
-    );
-    push_member(text, b",\"core\":", config.core() as usize);
-    push_member(text, b",\"host\":", config.host() as usize);
-    push_member(text, b",\"slots\":", config.slots() as usize);
-    push_bytes(text, b"}\n");
+    push_bytes(text, b"{\"summary\":");
+    push_heading(text, heading, config);
     Ok(())
 }
 
-/// Appends the last line: how many calls the trace has, and how many lives the text.
-fn push_summary_end(text: &mut Vec<u8>, calls: usize, lives: usize) -> Result<(), Memory>
-    ensures { OnOk result (text.new.items ≡ text.old.items ++ summary_end calls lives) }
+/// Appends the last line: how many calls the trace has, how many lives the text, and how many calls were refused or rejected.
+fn push_summary_end(
+    text: &mut Vec<u8>,
+    calls: usize,
+    lives: usize,
+    refused: usize,
+) -> Result<(), Memory>
+    ensures { OnOk result (text.new.items ≡ text.old.items ++ summary_end calls lives refused) }
 {
     text.reserve(LONGEST_PART)?;
     push_member(text, b"{\"calls\":", calls);
     push_member(text, b",\"lives\":", lives);
+    push_member(text, b",\"refused\":", refused);
     push_bytes(text, b"}\n");
     Ok(())
 }
 
-/// The text of the lives that a trace of so many calls tells.
+/// The text of the lives in a trace, by the numbers of its calls and of those that were refused or rejected.
 pub fn summary_text(
     alloc: Global,
+    heading: &Heading,
     config: &Config,
     calls: usize,
+    refused: usize,
     lives: &[Life],
 ) -> Result<Vec<u8>, Memory>
-    ensures { IfOk result (λ text. text.items ≡ summary_text_of config.now calls lives.now) }
+    ensures { IfOk result (λ text. text.items ≡ summary_text_of heading.now config.now calls refused lives.now) }
 {
     let mut text = Vec::new(alloc);
-    push_summary_header(&mut text, config)?;
-    push_lives(&mut text, lives)?;
-    push_summary_end(&mut text, calls, lives.len())?;
+    push_summary_header(&mut text, heading, config)?;
+    push_lives(&mut text, heading.is_unseen, lives)?;
+    push_summary_end(&mut text, calls, lives.len(), refused)?;
     Ok(text)
 }

@@ -15,8 +15,10 @@ returns-clause-app c =
     let with_html = c.in_ok-arg-6.ensures.shape c.html_arg.ensures.local ∙ ap₂ with_rule with_svg c.html_arg.ensures.rule in
     let with_refused = c.in_ok-arg-7.ensures.shape c.refused_arg.ensures.local ∙ ap₂ with_rule with_html c.refused_arg.ensures.rule in
     let with_accesses = c.in_ok-arg-8.ensures.shape c.accesses_arg.ensures.local ∙ ap₂ with_rule with_refused c.accesses_arg.ensures.rule in
-    let with_explain = c.in_ok-arg-9.ensures.shape c.explain_arg.ensures.local ∙ ap₂ with_rule with_accesses c.explain_arg.ensures.rule in
-    IfOk-weaker c.arg-10.result _ _ (λ r h. h.shape c.file_arg.ensures.local ∙ ap₂ with_rule with_explain c.file_arg.ensures.rule) c.arg-10.ensures
+    let with_unseen = c.in_ok-arg-9.ensures.shape c.unseen_arg.ensures.local ∙ ap₂ with_rule with_accesses c.unseen_arg.ensures.rule in
+    let with_digests = c.in_ok-arg-10.ensures.shape c.digests_arg.ensures.local ∙ ap₂ with_rule with_unseen c.digests_arg.ensures.rule in
+    let with_explain = c.in_ok-arg-11.ensures.shape c.explain_arg.ensures.local ∙ ap₂ with_rule with_digests c.explain_arg.ensures.rule in
+    IfOk-weaker c.arg-12.result _ _ (λ r h. h.shape c.file_arg.ensures.local ∙ ap₂ with_rule with_explain c.file_arg.ensures.rule) c.arg-12.ensures
 
 pub returns-clause-local : goal.returns-clause-local
 returns-clause-local c =
@@ -29,5 +31,7 @@ returns-clause-local c =
     let six = stays_local _ _ _ c.in_ok-arg-6.ensures five c.html_arg.ensures.local in
     let seven = stays_local _ _ _ c.in_ok-arg-7.ensures six c.refused_arg.ensures.local in
     let eight = stays_local _ _ _ c.in_ok-arg-8.ensures seven c.accesses_arg.ensures.local in
-    let nine = stays_local _ _ _ c.in_ok-arg-9.ensures eight c.explain_arg.ensures.local in
-    IfOk-weaker c.arg-10.result _ _ (λ r h. stays_local _ _ _ h nine c.file_arg.ensures.local) c.arg-10.ensures
+    let nine = stays_local _ _ _ c.in_ok-arg-9.ensures eight c.unseen_arg.ensures.local in
+    let ten = stays_local _ _ _ c.in_ok-arg-10.ensures nine c.digests_arg.ensures.local in
+    let eleven = stays_local _ _ _ c.in_ok-arg-11.ensures ten c.explain_arg.ensures.local in
+    IfOk-weaker c.arg-12.result _ _ (λ r h. stays_local _ _ _ h eleven c.file_arg.ensures.local) c.arg-12.ensures

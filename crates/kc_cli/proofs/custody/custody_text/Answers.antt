@@ -15,10 +15,10 @@ returns-in_err-told-clause-texts g c =
     rw (made.1, made.2) (texts_err _ _ _ _ c.in_err-told.field-0.0 c.in_err-told.ensures.texts)
 
 pub returns-clause-ok : goal.returns-clause-ok
-returns-clause-ok g c = on_ok_weaker c.give_told.result (λ given. gives_custody _ _ _ _ _ _ _ _ _ c.in_ok-told.ensures.ok given) c.give_told.ensures.ok
+returns-clause-ok g c = on_ok_weaker c.give_told.result (λ given. gives_custody _ _ _ _ _ _ _ _ _ _ _ c.in_ok-told.ensures.ok c.in_ok-told.ensures.heading given) c.give_told.ensures.ok
 
 pub returns-clause-sink : goal.returns-clause-sink
-returns-clause-sink g c = sink_more _ _ _ _ _ (λ begun. begins_custody _ _ _ _ _ _ _ _ _ c.in_ok-told.ensures.ok begun) c.give_told.ensures.sink
+returns-clause-sink g c = sink_more _ _ _ _ _ (λ begun. begins_custody _ _ _ _ _ _ _ _ _ _ _ c.in_ok-told.ensures.ok c.in_ok-told.ensures.heading begun) c.give_told.ensures.sink
 
 pub returns-in_err-told-clause-sources : goal.returns-in_err-told-clause-sources
 returns-in_err-told-clause-sources g c =

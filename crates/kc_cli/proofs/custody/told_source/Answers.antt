@@ -18,4 +18,4 @@ returns-in-Ok-clause-config g c =
 pub returns-in-Ok-clause-ok : goal.returns-in-Ok-clause-ok
 returns-in-Ok-clause-ok g c =
     let kept = c.in-Ok.ensures.ok in
-    (kept.0, is_told (g.T.Source.left c.args.trace.now) c.args.core kept.0 _ c.requires.lawful kept.1, kept.2)
+    (kept.0, is_told (g.T.Source.left c.args.trace.now) c.args.begun.core kept.0 _ _ c.requires.lawful kept.1, kept.2)

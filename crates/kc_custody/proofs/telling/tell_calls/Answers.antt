@@ -1,5 +1,7 @@
 use Rattle.kc_model.proofs.States.Runs.{state_after-more}
 use Rattle.kc_custody.proofs.Runs.{calls-told}
+use Rattle.kc_remarks.specs.Denials.{is_denial}
+use Rattle.kc_custody.proofs.Denied.{denied-more, denied-few}
 use Rattle.kc_custody.proofs.telling.tell_calls.Goals as goal
 
 pub loop-i-preserved : goal.loop-i-preserved
@@ -8,5 +10,8 @@ loop-i-preserved c =
     record {
       told = calls-told c.args.first c.args.core.now c.loop-i.core c.args.calls.now c.loop-i.i c.index-calls-i.result c.args.told.now.items c.loop-i.told.items _ c.loop-i-test.true c.index-calls-i.is
           c.loop-i.invariant.told c.loop-i.invariant.state c.in_ok-tell_call.ensures.told;
+      denied = denied-more c.args.first c.args.core.now c.loop-i.core c.args.calls.now c.loop-i.i c.index-calls-i.result c.in_ok-tell_call.reply c.args.denials.now.total c.loop-i.denials.total c.note.new.self.total c.loop-i-test.true c.index-calls-i.is
+          c.loop-i.invariant.state c.in_ok-tell_call.ensures.reply c.loop-i.invariant.denied c.note.ensures;
+      few = denied-few (is_denial c.in_ok-tell_call.reply) c.args.denials.now.total c.loop-i.denials.total c.note.new.self.total c.loop-i.i c.loop-i.invariant.few c.note.ensures;
       state = rw (step, ← c.loop-i.invariant.state) c.in_ok-tell_call.ensures.state;
     }

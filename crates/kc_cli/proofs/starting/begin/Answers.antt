@@ -1,4 +1,4 @@
-use Rattle.kc_cli.proofs.starting.read_start.Goals as goal
+use Rattle.kc_cli.proofs.starting.begin.Goals as goal
 
 pub returns-in-Boot-clause-config : goal.returns-in-Boot-clause-config
 returns-in-Boot-clause-config g c = λ fault e. let is = c.boot_core.ensures.config fault e in (c.in-Boot.is, is.0, is.1)
