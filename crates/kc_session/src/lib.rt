@@ -1,8 +1,6 @@
-//! A core that is asked line by line, and the trace that this leaves; and the digest of a live core's trace.
+//! A core that is asked line by line, the trace of what it was asked, and the digest of that trace without secrets.
 #![tactic(auto)]
 
-mod live;
 mod session;
 
-pub use live::{LiveDigest, live_digest};
 pub use session::{AskFault, Form, Session};
