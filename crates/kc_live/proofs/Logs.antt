@@ -1,6 +1,6 @@
 -- A history with one call more, and the volume behind it.
-use Rattle.std.proofs.Common.{◌≡◌, ℕ, ◌≤◌, ◌<◌, ◌+◌, List, [], ◌∷◌, ◌++◌, length, take, get_or, refl, ap, sym, subst, ◌∙◌, arith, length-append}
-use Rattle.std.proofs.lemmas.List.{map-append, take_more}
+use Rattle.std.proofs.Common.{◌≡◌, ℕ, ◌≤◌, ◌<◌, List, [], ◌∷◌, ◌++◌, length, refl, ap, sym, subst, ◌∙◌, arith, length-append}
+use Rattle.std.proofs.lemmas.List.{map-append}
 use Rattle.kc_types.specs.Configuration.{Configuration}
 use Rattle.kc_types.specs.declared.call.Call.{Call}
 use Rattle.kc_types.specs.declared.reply.Reply.{Reply}
@@ -76,9 +76,3 @@ whole_from l config kept none same =
       made = subst (λ m. IsMadeFrom m (volume_in l)) start kept.legal.made;
       ends = kept.ends ∙ ap (λ m. state_after m (calls_of l.entries)) start;
     }
-
--- the calls of one entry more
-pub copied_more : (entries : List Entry) (n : ℕ) (one : Entry) (old new : List Call) (call : Call) → old ≡ calls_of (take n entries) → new ≡ old ++ call ∷ [] → call ≡ one.call → n < length entries → one ≡ get_or entries n one → new ≡ calls_of (take (n + 1) entries)
-copied_more entries n one old new call so_far pushed made low is =
-    pushed ∙ ap (λ (l : List Call). l ++ call ∷ []) so_far ∙ ap (λ (c : Call). calls_of (take n entries) ++ c ∷ []) (made ∙ ap (λ (e : Entry). e.call) is)
-    ∙ sym (ap calls_of (take_more entries n one low) ∙ map-append (λ (e : Entry). e.call) (take n entries) (get_or entries n one ∷ []))

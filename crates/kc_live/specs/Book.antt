@@ -61,13 +61,6 @@ pub record IsKept (l : Log) : Type 0 where
   pub ends : l.state ≡ state_after legal.start (calls_of l.entries)
   pub short : length l.entries ≤ call_limit
 
--- these are the calls of a legal volume of this number
-pub record AreMade (number : ℕ) (calls : List Call) : Type 0 where
-  pub entries : List Entry
-  pub legal : IsLegal (record { number = number; entries = entries })
-  pub same : calls ≡ calls_of entries
-  pub short : length entries ≤ call_limit
-
 -- all calls were made in the first volume, from the boot state of the configuration on
 pub record IsWholeFrom (config : Configuration) (l : Log) : Type 0 where
   pub made : IsMadeFrom (boot config) (volume_in l)

@@ -6,7 +6,7 @@ use crate::fault::LiveFault;
 use crate::ready::Ready;
 use crate::receipt::{Entry, Receipt};
 use kc_core::KCore;
-use kc_types::{CALL_LIMIT, Call, Config, Memory};
+use kc_types::{CALL_LIMIT, Config, Memory};
 use std::alloc::Global;
 use std::marker::Model;
 use std::mem;
@@ -39,7 +39,7 @@ impl Model for Book {
 }
 
 impl Book {
-    ghost use Rattle.kc_live.specs.Book.{IsLegal, IsKept, AreMade, calls_of, longer, next_volume, receipt_of, new_log, volume_in};
+    ghost use Rattle.kc_live.specs.Book.{IsLegal, IsKept, longer, next_volume, receipt_of, new_log, volume_in};
 
     /// The core in the boot state of its configuration, no calls, and room for as many as there can be; `Memory`
     /// where a growth was refused.
@@ -110,23 +110,6 @@ impl Book {
         ensures short { length self.now.entries ≤ call_limit }
     {
         self.entries.as_slice()
-    }
-
-    /// The number of the volume, and copies of its calls so far, in order, in a vector that has room for them. `Memory` where
-    /// a growth was refused.
-    pub fn copy_calls(&self, room: Vec<Call>) -> Result<(u64, Vec<Call>), Memory>
-        requires empty { room.items ≡ [] }
-        requires room { call_limit ≤ vec_capacity room }
-        // No clause can rule out that memory runs out: tests ask for digests.
-        ensures number { IfOk result (λ copied. copied.0 ≡ self.now.volume) }
-        ensures calls { IfOk result (λ copied. copied.1.items ≡ calls_of self.now.entries) }
-        ensures made { IfOk result (λ copied. AreMade copied.0 copied.1.items) }
-    {
-        let mut calls = room;
-        for entry in self.entries.as_slice() {
-            calls.push_reserved(entry.call.copy()?);
-        }
-        Ok((self.volume, calls))
     }
 
     /// The core as the calls so far left it.

@@ -1,7 +1,7 @@
 //! The core under its one lock.
 ghost use Rattle.std.specs.Prelude.{◌≡◌, ◌≢◌, ◌↔◌, Err, IfOk, OnOk, OnErr};
 ghost use Rattle.kc_types.specs.Actors.{actor as actor_made};
-ghost use Rattle.kc_live.specs.Book.{IsLegal, IsKept, AreMade};
+ghost use Rattle.kc_live.specs.Book.{IsLegal, IsKept};
 ghost use Rattle.kc_live.specs.Seat.{GainsReceipt};
 
 use crate::book::{Book, History, Volume};
@@ -48,16 +48,6 @@ impl LiveCore {
     {
         let room = Vec::with_capacity(self.alloc, CALL_LIMIT)?;
         Ok(self.book.lock(rt).turn(room))
-    }
-
-    /// The number of the volume that is being filled, and copies of its calls so far, in order; it may wait for the lock, before
-    /// which the room for them is made. Copies share what bytes they can. `Memory` where a growth was refused.
-    // A volume that has only just begun is legal too: tests ask for digests.
-    pub fn copy_calls<R: Wait>(&self, rt: &R) -> Result<(u64, Vec<Call>), Memory>
-        ensures { IfOk result (λ copied. AreMade copied.0 copied.1.items) }
-    {
-        let room = Vec::with_capacity(self.alloc, CALL_LIMIT)?;
-        self.book.lock(rt).copy_calls(room)
     }
 
     /// Ends the history and hands out its last volume and the core. It waits for nobody.

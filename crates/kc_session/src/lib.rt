@@ -4,11 +4,8 @@
 //!   and the trace that it gives, whole and redacted: `specs/Session.antt`, `src/session.rt`
 //! - what a call changes, noted before it and compared after it: `kc_custody/src/watching.rt`; the digest:
 //!   `kc_redact/src/witness.rt`
-//! - the digest of a live core's trace: `src/live.rt`
 #![tactic(auto)]
 
-mod live;
 mod session;
 
-pub use live::{LiveDigest, live_digest};
 pub use session::{AskFault, Form, Session};

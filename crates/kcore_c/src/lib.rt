@@ -15,7 +15,7 @@ ghost use Rattle.std.specs.Prelude.{◌≡◌, ◌≢◌, ◌≤◌, Some, None,
 ghost use Rattle.kc_trace.specs.ReplyText.{longest_reply};
 ghost use Rattle.kc_trace.specs.Spelling.{longest_call};
 ghost use Rattle.kc_session.specs.declared.session.Form.TheVariants.{Whole, Redacted};
-ghost use Rattle.kc_state.specs.declared.form.StateForm as forms;
+ghost use Rattle.kc_state.specs.declared.form.StateForm.TheVariants as forms;
 ghost use Rattle.kcore_c.specs.Record.{asking};
 ghost use Rattle.kcore_c.specs.Status.{IsCode, BootSays, ResumeSays, StateSays, DumpSays, BlankDigestSays, CallSays, DoSays, ChangeSays, ChangesSays, RecordSays, FrameSays, NextSays, SizesSays, LineSays, DigestSays, TurnSays, EndSays};
 
@@ -316,7 +316,7 @@ pub extern "C" fn kcore_state(
     out: &mut [u8],
     used: &mut usize,
 ) -> u32
-    ensures says { IsCode (StateSays forms.TheVariants.Whole core.old.held.session (length out.old) (take used.new out.new)) result }
+    ensures says { IsCode (StateSays forms.Whole core.old.held.session (length out.old) (take used.new out.new)) result }
     ensures within { used.new ≤ length out.new }
     ensures rest { drop used.new out.new ≡ drop used.new out.old }
     ensures nothing { result ≢ 0 → used.new ≡ 0 }
@@ -333,7 +333,7 @@ pub extern "C" fn kcore_blank_state(
     out: &mut [u8],
     used: &mut usize,
 ) -> u32
-    ensures says { IsCode (StateSays forms.TheVariants.Blank core.old.held.session (length out.old) (take used.new out.new)) result }
+    ensures says { IsCode (StateSays forms.Blank core.old.held.session (length out.old) (take used.new out.new)) result }
     ensures within { used.new ≤ length out.new }
     ensures rest { drop used.new out.new ≡ drop used.new out.old }
     ensures nothing { result ≢ 0 → used.new ≡ 0 }

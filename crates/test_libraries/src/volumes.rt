@@ -5,7 +5,6 @@ use kc_digests::Lanes;
 use kc_dump_text::write_dump;
 use kc_live::{Entry, LiveCore, LiveFault, Receipt, Seat, Volume, settle};
 use kc_replay::{OpenGate, Replayer};
-use kc_session::{LiveDigest, live_digest};
 use kc_state::dump;
 use kc_types::{Actor, CALL_LIMIT, Call, Reply};
 use std::alloc::Global;
@@ -250,35 +249,5 @@ fn a_volume_has_no_more_than_65_536_calls(rt: HostRuntime) -> Result<(), Fail> {
     assert_eq!(rt; core.turn(&rt)?.entries().len(), CALL_LIMIT);
     assert!(rt; call_often(&rt, &core, &mut seat, 1));
     assert_eq!(rt; core.close().volume().number(), 1u64);
-    Ok(())
-}
-
-/// What `sha256sum` prints of the lines of `BOOTS` and `gwrite 0 0 0 1 0000`, under the header `kcore-trace 2`.
-const REDACTED: [u8; 32] = [
-    0x9a, 0x69, 0x4a, 0xe1, 0x79, 0x83, 0x37, 0x6c, 0xf4, 0xc8, 0xce, 0x7d, 0x42, 0x91, 0x46, 0x4a,
-    0xb1, 0x1e, 0xbf, 0x0f, 0x68, 0x0c, 0x0d, 0xae, 0x72, 0x41, 0xad, 0x4e, 0x84, 0xc0, 0xd8, 0x97,
-];
-
-#[test]
-fn a_live_core_has_the_digest_of_its_redacted_trace(rt: HostRuntime) -> Result<(), Fail> {
-    let alloc = rt.alloc();
-    let core = LiveCore::new(alloc, small_config(alloc).ok_or("no configuration")?)?;
-    let mut host = Seat::new(alloc, Actor::Host);
-    let mut guest = Seat::new(alloc, Actor::Vcpu(0, 0));
-    for call in calls_of(alloc, BOOTS).ok_or("no calls")? {
-        core.call(&rt, &mut host, call)?;
-    }
-    for call in calls_of(alloc, "gwrite 0 0 0 1 0203\n").ok_or("no calls")? {
-        core.call(&rt, &mut guest, call)?;
-    }
-    let said = LiveDigest {
-        volume: 0,
-        calls: 8,
-        sha256: REDACTED,
-    };
-    assert_eq!(rt; live_digest(&rt, alloc, &core)?, said);
-    let _volume = core.turn(&rt)?;
-    let next = live_digest(&rt, alloc, &core)?;
-    assert_eq!(rt; (next.volume, next.calls), (1u64, 0usize));
     Ok(())
 }
