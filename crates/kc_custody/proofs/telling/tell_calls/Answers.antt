@@ -9,9 +9,9 @@ loop-i-preserved c =
     let step = state_after-more c.args.core.now c.args.calls.now c.loop-i.i c.index-calls-i.result c.loop-i-test.true c.index-calls-i.is in
     record {
       told = calls-told c.args.first c.args.core.now c.loop-i.core c.args.calls.now c.loop-i.i c.index-calls-i.result c.args.told.now.items c.loop-i.told.items _ c.loop-i-test.true c.index-calls-i.is
-          c.loop-i.invariant.told c.loop-i.invariant.state c.in_ok-tell_call.ensures.told;
-      denied = denied-more c.args.first c.args.core.now c.loop-i.core c.args.calls.now c.loop-i.i c.index-calls-i.result c.in_ok-tell_call.reply c.args.denials.now.total c.loop-i.denials.total c.note.new.self.total c.loop-i-test.true c.index-calls-i.is
-          c.loop-i.invariant.state c.in_ok-tell_call.ensures.reply c.loop-i.invariant.denied c.note.ensures;
-      few = denied-few (is_denial c.in_ok-tell_call.reply) c.args.denials.now.total c.loop-i.denials.total c.note.new.self.total c.loop-i.i c.loop-i.invariant.few c.note.ensures;
-      state = rw (step, ← c.loop-i.invariant.state) c.in_ok-tell_call.ensures.state;
+          c.loop-i.invariant.told c.loop-i.invariant.state c.in_ok-reply.ensures.told;
+      denied = denied-more c.args.first c.args.core.now c.loop-i.core c.args.calls.now c.loop-i.i c.index-calls-i.result c.in_ok-reply.reply c.args.denials.now.total c.loop-i.denials.total c.note.new.self.total c.loop-i-test.true c.index-calls-i.is
+          c.loop-i.invariant.state c.in_ok-reply.ensures.reply c.loop-i.invariant.denied c.note.ensures;
+      few = denied-few (is_denial c.in_ok-reply.reply) c.args.denials.now.total c.loop-i.denials.total c.note.new.self.total c.loop-i.i c.loop-i.invariant.few c.note.ensures;
+      state = rw (step, ← c.loop-i.invariant.state) c.in_ok-reply.ensures.state;
     }
