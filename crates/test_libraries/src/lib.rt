@@ -1,4 +1,4 @@
-//! Tests of what no file can show through the program: gates, threads, how faults are shown, and library calls.
+//! Tests of what no file can show through the program: gates, threads, how faults are shown, and volumes.
 //!
 //! - replays by workers: `src/replays.rt`, `src/segments.rt`; live runs: `src/live.rt`, `src/live_texts.rt`,
 //!   `src/volumes.rt`
@@ -6,17 +6,11 @@
 #![tactic(auto)]
 
 #[cfg(test)]
-mod copies;
-#[cfg(test)]
-mod dumps;
-#[cfg(test)]
 mod gates;
 #[cfg(test)]
 mod live;
 #[cfg(test)]
 mod live_texts;
-#[cfg(test)]
-mod look_ups;
 #[cfg(test)]
 mod replays;
 #[cfg(test)]
@@ -26,8 +20,4 @@ mod support;
 #[cfg(test)]
 mod telling;
 #[cfg(test)]
-mod traces;
-#[cfg(test)]
 mod volumes;
-#[cfg(test)]
-mod workers;

@@ -1,5 +1,4 @@
 //! What the tests share.
-use kc_core::KCore;
 use kc_trace::read_trace;
 use kc_types::{Call, Config};
 use std::alloc::Global;
@@ -22,14 +21,7 @@ pub fn small_config(alloc: Global) -> Option<Config> {
 
 /// Reads the calls of a trace given without its header.
 pub fn calls_of(alloc: Global, lines: &str) -> Option<Vec<Call>> {
-    let trace = format!(in alloc; "kcore-trace 1\n{lines}").ok()?;
-    read_trace(alloc, trace.as_bytes()).ok()
-}
-
-/// Makes a small core after the calls of a trace given without its header.
-pub fn after(alloc: Global, lines: &str) -> Option<KCore> {
-    let mut core = KCore::boot(alloc, small_config(alloc)?).ok()?;
-    let calls = calls_of(alloc, lines)?;
-    core.run(alloc, calls.as_slice()).ok()?;
-    Some(core)
+    let mut trace = Vec::from_slice(alloc, b"kcore-trace 1\n").ok()?;
+    trace.extend_from_slice(lines.as_bytes()).ok()?;
+    read_trace(alloc, trace.as_slice()).ok()
 }
