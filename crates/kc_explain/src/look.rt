@@ -116,7 +116,7 @@ fn foreign(text: &[u8]) -> Option<Look> {
 }
 
 /// What is wrong with a header that has the name that is wanted, by what follows the name; its newest version is this.
-fn header(version: &[u8], newest: u32) -> Look {
+fn look_of_header(version: &[u8], newest: u32) -> Look {
     match read_number(first_line(version)) {
         Some(number) if number > newest => Look::Newer(number),
         Some(number) if number > 0 => Look::Unended,
@@ -128,17 +128,17 @@ fn header(version: &[u8], newest: u32) -> Look {
 fn ours(text: &[u8], wanted: Header) -> Option<Look> {
     if let Some(version) = text.strip_prefix(b"kcore-trace ") {
         Some(match wanted {
-            Header::Trace => header(version, 2),
+            Header::Trace => look_of_header(version, 2),
             _ => Look::Trace,
         })
     } else if let Some(version) = text.strip_prefix(b"kcore-dump ") {
         Some(match wanted {
-            Header::Dump => header(version, 2),
+            Header::Dump => look_of_header(version, 2),
             _ => Look::Dump,
         })
     } else if let Some(version) = text.strip_prefix(b"kcore-state ") {
         Some(match wanted {
-            Header::State => header(version, 1),
+            Header::State => look_of_header(version, 1),
             _ => Look::State,
         })
     } else {
