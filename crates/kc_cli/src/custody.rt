@@ -44,7 +44,11 @@ fn stream_of(is_hashed: bool) -> CallStream
     ensures none { (first : Option (List ℕ)) → HasRead result [] [] first first }
     ensures hashed { is_hashed ≡ true → is_some result.hasher ≡ true }
 {
-    if is_hashed { CallStream::hashing() } else { CallStream::new() }
+    if is_hashed {
+        CallStream::hashing()
+    } else {
+        CallStream::new()
+    }
 }
 
 /// The digest of a stream that was read to its end, if it is asked for.
@@ -150,7 +154,13 @@ fn told_source<T: Source>(
 {
     let Begun { core, digest } = begun;
     let mut core = core;
-    let outcome = tell_source(alloc, &mut core, trace, order.form, order.scope.named.names_trace());
+    let outcome = tell_source(
+        alloc,
+        &mut core,
+        trace,
+        order.form,
+        order.scope.named.names_trace(),
+    );
     core.wipe(rt);
     let (config, _parts) = core.into_parts();
     match outcome {
@@ -196,7 +206,14 @@ fn told_texts<C: Source, T: Source>(
     ensures write { result ≢ Err TextFault.Write }
 {
     let is_hashed = order.scope.named.names_start();
-    let mut begun = begin(rt, alloc, start, order.form.origin(), order.lanes, is_hashed)?;
+    let mut begun = begin(
+        rt,
+        alloc,
+        start,
+        order.form.origin(),
+        order.lanes,
+        is_hashed,
+    )?;
     if let Some(slot) = missing(&begun.core, order.scope.vm) {
         begun.core.wipe(rt);
         return Err(TextFault::NoSlot(slot));

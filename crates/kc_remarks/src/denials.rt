@@ -58,7 +58,8 @@ impl Denials {
 
     /// How many calls were refused since they name a frame or a slot that the machine does not have.
     pub fn outside(&self) -> u32 {
-        self.refused(Refusal::BadFrame).saturating_add(self.refused(Refusal::BadVm))
+        self.refused(Refusal::BadFrame)
+            .saturating_add(self.refused(Refusal::BadVm))
     }
 
     /// How many calls were rejected.

@@ -11,8 +11,8 @@ use crate::ending::Ending;
 use crate::files::Files;
 use crate::plan::{Account, Start};
 use kc_cli::{
-    CustodyOrder, Lanes, ReplayOrder, Scope, Sink, Source, TextFault, audit_text, custody_text, live_text,
-    replay_text, replay_to_text,
+    CustodyOrder, Lanes, ReplayOrder, Scope, Sink, Source, TextFault, audit_text, custody_text,
+    live_text, replay_text, replay_to_text,
 };
 use kc_redact_text::{redact_host_text, redact_text};
 use kc_replay::OpenGate;

@@ -199,7 +199,13 @@ impl Session {
         }
         let number = self.entries.len() as u32;
         self.marks.clear();
-        note_marks(self.alloc, &self.core, &call, number + FIRST_LINE, &mut self.marks)?;
+        note_marks(
+            self.alloc,
+            &self.core,
+            &call,
+            number + FIRST_LINE,
+            &mut self.marks,
+        )?;
         self.changes.reserve(self.marks.len())?;
         let ready = Ready::new(self.alloc, call)?;
         if self.entries.len() >= CALL_LIMIT {

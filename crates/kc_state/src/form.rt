@@ -65,12 +65,6 @@ pub fn bytes_in<'a>(
     let owner = owner_of(core, frame);
     match form {
         StateForm::Whole => bytes,
-        StateForm::Blank => {
-            if is_guests(core, owner) {
-                zero
-            } else {
-                bytes
-            }
-        }
+        StateForm::Blank => { if is_guests(core, owner) { zero } else { bytes } }
     }
 }

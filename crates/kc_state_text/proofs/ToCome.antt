@@ -54,7 +54,7 @@ front_in Blank m =
     let long : length (map bytes_of m.frames) ≡ length (map bytes_of (map (blank_frame m) m.frames)) =
     length-map m.frames bytes_of ∙ sym (length-map m.frames (blank_frame m)) ∙ sym (length-map (map (blank_frame m) m.frames) bytes_of) in
     ap (λ (n : ℕ). state_header ++ (sizes_line (record { slots = length (map slot_rest m.slots); frames = n; host = m.config.host; approved = length m.config.approved })
-        ++ (flat_map approved_line m.config.approved ++ flat_map slot_line (map slot_rest m.slots)))) long
+    ++ (flat_map approved_line m.config.approved ++ flat_map slot_line (map slot_rest m.slots)))) long
 
 -- the lines before those of the pages, the pages from the first on, and the dump are the whole text
 pub whole_in : (form : StateForm) (m : State) → front_begin m ++ (page_lines (in_form form m) 0 ++ dump_text (dump_of (in_form form m))) ≡ state_text (in_form form m)

@@ -143,7 +143,11 @@ impl StatePieces {
     /// At least as many bytes as are still to come.
     pub(crate) fn most(&self, core: &KCore) -> usize {
         let pages = LONGEST_PAGE_LINE.saturating_mul(core.config().frames() as usize);
-        let ends = self.front.rest().len().saturating_add(self.dump.rest().len());
+        let ends = self
+            .front
+            .rest()
+            .len()
+            .saturating_add(self.dump.rest().len());
         pages.saturating_add(ends)
     }
 
