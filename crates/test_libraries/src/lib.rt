@@ -1,18 +1,12 @@
-//! Tests of what no file can tell through the program: gates, threads, how faults are shown, and calls of libraries.
+//! Tests of what no file can tell through the program: gates, threads, how faults are shown, and volumes.
 #![tactic(auto)]
 
-#[cfg(test)]
-mod copies;
-#[cfg(test)]
-mod dumps;
 #[cfg(test)]
 mod gates;
 #[cfg(test)]
 mod live;
 #[cfg(test)]
 mod live_texts;
-#[cfg(test)]
-mod look_ups;
 #[cfg(test)]
 mod replays;
 #[cfg(test)]
@@ -22,8 +16,4 @@ mod support;
 #[cfg(test)]
 mod telling;
 #[cfg(test)]
-mod traces;
-#[cfg(test)]
 mod volumes;
-#[cfg(test)]
-mod workers;

@@ -1,13 +1,9 @@
 //! Live runs through a gate, which holds their calls and counts them.
-ghost use Rattle.std.specs.Prelude.{IfSome};
-ghost use Rattle.kc_live.specs.Book.{IsWholeFrom};
-
 use crate::gates::Watch;
 use crate::support::{calls_of, small_config};
-use kc_cli::replay_history;
 use kc_live::{History, Program, Receipt, run_live, settle};
 use kc_trace::{LONGEST_CALL, LONGEST_REPLY, push_call, push_reply};
-use kc_types::{Actor, Call, Config, Reply};
+use kc_types::{Actor, Call, Reply};
 use std::alloc::Global;
 use std::rt::Clock;
 use std::sync::Wait;
@@ -52,14 +48,11 @@ fn programs(alloc: Global) -> Option<Vec<Program>> {
 fn run<R: Threads + Wait + Clock + Sync>(
     rt: &R,
     alloc: Global,
-    config: Config,
     order: &[usize],
-) -> Option<(History, Vec<Vec<Receipt>>)>
-    ensures { IfSome result (λ r. IsWholeFrom config r.0) }
-{
+) -> Option<(History, Vec<Vec<Receipt>>)> {
     let gate = Watch::new(rt, alloc, 16, order)?;
     let programs = programs(alloc)?;
-    let Ok(ran) = run_live(rt, alloc, config, programs, &gate) else {
+    let Ok(ran) = run_live(rt, alloc, small_config(alloc)?, programs, &gate) else {
         return None;
     };
     if gate.has_told_each_once() {
@@ -113,30 +106,11 @@ fn is_run<R: Threads + Wait + Clock + Sync>(
     order: &[usize],
     lines: &str,
 ) -> Option<bool> {
-    let (history, rows) = run(rt, alloc, small_config(alloc)?, order)?;
+    let (history, rows) = run(rt, alloc, order)?;
     Some(is_history(alloc, &history, lines) && is_settled(alloc, &history, &rows))
 }
 
 #[test]
 fn threads_follow_a_script(rt: HostRuntime) {
     assert_eq!(rt; is_run(&rt, rt.alloc(), &ORDER, HISTORY), Some(true));
-}
-
-/// Whether two workers make the calls of a run's history once more, and tell each once, by its place there.
-fn is_made_again<R: Threads + Wait + Clock + Sync>(rt: &R, alloc: Global) -> Option<bool> {
-    let config = small_config(alloc)?;
-    let Ok(kept) = config.copy() else {
-        return None;
-    };
-    let (history, _rows) = run(rt, alloc, config, &[])?;
-    let (volume, _core) = history.into_parts();
-    let gate = Watch::new(rt, alloc, volume.entries().len(), &[])?;
-    replay_history(rt, alloc, kept, &volume, 2, &gate).ok()?;
-    Some(gate.has_told_each_once())
-}
-
-/// The calls are made once more, and their replies not taken from the history.
-#[test]
-fn the_calls_of_a_history_are_made_again(rt: HostRuntime) {
-    assert_eq!(rt; is_made_again(&rt, rt.alloc()), Some(true));
 }

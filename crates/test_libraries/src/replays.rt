@@ -57,23 +57,3 @@ fn each_call_is_told_once(rt: HostRuntime) {
         assert_eq!(rt; are_made_by(&rt, rt.alloc(), workers, &[]), Some(true));
     }
 }
-
-/// Whether three workers give the replies to three calls of one wave, which end in this order.
-fn may_end_in<R: Threads + Wait + Clock + Sync>(
-    rt: &R,
-    alloc: Global,
-    order: &[usize],
-) -> Option<bool> {
-    let gate = Watch::new(rt, alloc, 3, order)?;
-    let made = replies(rt, alloc, "hread 1 0 1\nhfault 2\nhfault 0\n", 3, &gate)?;
-    let text = "refused not-present\ndone\nrefused protected\n";
-    Some(gate.has_told_each_once() && are_replies(alloc, &made, text))
-}
-
-/// The replies stand in the order of the trace, whichever call ended first.
-#[test]
-fn replies_stand_in_their_places(rt: HostRuntime) {
-    for order in [[2, 1, 0], [0, 1, 2], [1, 2, 0]] {
-        assert_eq!(rt; may_end_in(&rt, rt.alloc(), &order), Some(true));
-    }
-}

@@ -1,5 +1,4 @@
 //! What the tests share.
-use kc_core::KCore;
 use kc_trace::read_trace;
 use kc_types::{Call, Config};
 use std::alloc::Global;
@@ -23,12 +22,4 @@ pub fn small_config(alloc: Global) -> Option<Config> {
 pub fn calls_of(alloc: Global, lines: &str) -> Option<Vec<Call>> {
     let trace = format!(in alloc; "kcore-trace 1\n{lines}").ok()?;
     read_trace(alloc, trace.as_bytes()).ok()
-}
-
-/// A small core after the calls of a trace, whose header is left out.
-pub fn after(alloc: Global, lines: &str) -> Option<KCore> {
-    let mut core = KCore::boot(alloc, small_config(alloc)?).ok()?;
-    let calls = calls_of(alloc, lines)?;
-    core.run(alloc, calls.as_slice()).ok()?;
-    Some(core)
 }
