@@ -20,6 +20,7 @@ pub fn small_config(alloc: Global) -> Option<Config> {
 
 /// The calls of a trace, whose header is left out.
 pub fn calls_of(alloc: Global, lines: &str) -> Option<Vec<Call>> {
-    let trace = format!(in alloc; "kcore-trace 1\n{lines}").ok()?;
-    read_trace(alloc, trace.as_bytes()).ok()
+    let mut trace = Vec::from_slice(alloc, b"kcore-trace 1\n").ok()?;
+    trace.extend_from_slice(lines.as_bytes()).ok()?;
+    read_trace(alloc, trace.as_slice()).ok()
 }
