@@ -164,10 +164,11 @@ struct Turned {
 
 /// Boots a VM from a seat.
 fn boot<R: Wait>(rt: &R, alloc: Global, core: &LiveCore, host: &mut Seat) -> Option<()> {
+    let mut all_made = true;
     for call in calls_of(alloc, BOOTS)? {
-        core.call(rt, host, call).ok()?;
+        all_made = all_made && core.call(rt, host, call).is_ok();
     }
-    Some(())
+    if all_made { Some(()) } else { None }
 }
 
 /// Host and guest call from a thread each, and the host turns the core over as it goes: the volumes, the last one too.
