@@ -49,7 +49,8 @@ class Body:
     lines: tuple
     where: tuple
     is_right: bool = False
-    has_answers: bool = True
+    # The goals that are tried without their answers; all if it is None.
+    without: tuple | None = ()
 
     def __str__(self):
         kind, name = ("right", "::".join(self.where)) if self.is_right else ("wrong", self.edit)
@@ -58,7 +59,7 @@ class Body:
     def as_right(self):
         """Returns the right body of the same function."""
         lines = self.function.lines_of((self.crate / self.path).read_text())
-        return dataclasses.replace(self, lines=tuple(lines), is_right=True, has_answers=True)
+        return dataclasses.replace(self, lines=tuple(lines), is_right=True, without=())
 
     def is_of_trait(self):
         return " for " in self.function.owner or "trait " in self.function.owner
@@ -143,10 +144,10 @@ def edits_of(crate):
 
 
 def applied(edit):
-    """Returns the text that an edit makes of its file, and whether answers are tried with it."""
+    """Returns the text that an edit makes of its file, and the goals that are tried without their answers."""
     if not re.fullmatch(r"\w+", edit.name):
         raise BadEdit("it does not begin with a name")
-    old, text, has_answers = None, edit.path.read_text(), True
+    old, text, without = None, edit.path.read_text(), ()
     for line in edit.lines:
         word, _, rest = line.partition(": ")
         if word == "old":
@@ -158,16 +159,18 @@ def applied(edit):
                 raise BadEdit(f"an old text is in {edit.path.name} {text.count(old)} times, and not once")
             text, old = text.replace(old, rest), None
         elif line == "answers: none":
-            has_answers = False
+            without = None
+        elif line.startswith("answers: not "):
+            without = tuple(line.split(" ")[2:])
         else:
-            raise BadEdit("it has a line that begins with none of 'old: ', 'new: ' and 'answers: none'")
-    return text, has_answers
+            raise BadEdit("it has a line that begins with none of 'old: ', 'new: ', 'answers: none' and 'answers: not '")
+    return text, without
 
 
 def wrong_body(edit):
     """Returns the wrong body that an edit makes of the one function whose body it turns."""
     crate, was = edit.crate, edit.path.read_text()
-    now, has_answers = applied(edit)
+    now, without = applied(edit)
     old, new = functions(was), functions(now)
     if outside(was, old) != outside(now, new):
         raise BadEdit("it turns what is outside of functions: such stand in must-fail/")
@@ -180,10 +183,27 @@ def wrong_body(edit):
         raise BadEdit("it turns a signature or a clause")
     path = str(edit.path.relative_to(crate))
     where = place(crate, path, function)
-    body = Body(crate, edit.name, path, function, tuple(wrong), where, has_answers=has_answers)
-    if not has_answers and all(it.name != "Answers.antt" for it in body.proof_files()):
+    body = Body(crate, edit.name, path, function, tuple(wrong), where, without=without)
+    answers = [it.read_text() for it in body.proof_files() if it.name == "Answers.antt"]
+    if without is None and not answers:
         raise BadEdit("its function has no answers to leave out")
+    for goal in without or ():
+        if all(without_answers(text, [goal]) == text for text in answers):
+            raise BadEdit(f"its function has no answer to {goal}")
     return body
+
+
+def without_answers(text, goals):
+    """Returns the text of an Answers.antt without the answers to some goals: the lines that begin with the goal's name, and
+    what goes on below them."""
+    kept, gone = [], False
+    for line in text.split("\n"):
+        head = re.match(r"(?:pub )?([^\s})\]]\S*)", line)
+        if head:
+            gone = head[1] in goals
+        if not gone:
+            kept.append(line)
+    return "\n".join(kept)
 
 
 def place(crate, path, function):
