@@ -7,6 +7,7 @@
 #![tactic(auto)]
 
 use anyhow::{Result, bail};
+use itoa::{Buffer, Integer};
 use kc_core::KCore;
 use kc_digests::Lanes;
 use kc_dump_text::write_dump;
@@ -26,24 +27,40 @@ use std::{env, fs};
 /// The most calls that are planned.
 const MOST_CALLS: usize = 65_536;
 
+/// Appends a text and a number.
+fn push_number<I: Integer>(line: &mut String, before: &str, number: I) -> Result<()> {
+    line.push_str(before)?;
+    line.push_str(Buffer::new().format(number))?;
+    Ok(())
+}
+
 /// A line with a call's wave and what it may touch: frames, a slot, the free list.
 fn print_call(rt: &HostRuntime, wave: u32, footprint: &[Resource]) -> Result<()> {
-    let alloc = rt.alloc();
-    let mut line = format!(in alloc; "{wave}:")?;
+    let mut line = String::new(rt.alloc());
+    push_number(&mut line, "", wave)?;
+    line.push_str(":")?;
     for resource in footprint {
         match resource {
-            Resource::Frame(frame) => {
-                let frame = frame.number();
-                line.push_str(format!(in alloc; " f{frame}")?.as_str())?;
-            },
-            Resource::Vm(vm) => {
-                let vm = vm.index();
-                line.push_str(format!(in alloc; " v{vm}")?.as_str())?;
-            },
+            Resource::Frame(frame) => push_number(&mut line, " f", frame.number())?,
+            Resource::Vm(vm) => push_number(&mut line, " v", vm.index())?,
             Resource::Free => line.push_str(" free")?,
         }
     }
-    println!(rt; "{line}")?;
+    line.push_str("\n")?;
+    rt.stdout().write_all(line.as_bytes())?;
+    Ok(())
+}
+
+/// A line with the numbers of a wave's calls.
+fn print_wave(rt: &HostRuntime, calls: &[usize]) -> Result<()> {
+    let mut line = String::new(rt.alloc());
+    let mut before = "[";
+    for call in calls {
+        push_number(&mut line, before, *call)?;
+        before = ", ";
+    }
+    line.push_str("]\n")?;
+    rt.stdout().write_all(line.as_bytes())?;
     Ok(())
 }
 
@@ -60,8 +77,7 @@ fn print_plan(rt: &HostRuntime, core: &KCore, calls: &[Call]) -> Result<()> {
         print_call(rt, plan.wave_of(number), footprint.as_slice())?;
     }
     for wave in 0..plan.waves() {
-        let calls = plan.calls_in(wave + 1);
-        println!(rt; "{calls:?}")?;
+        print_wave(rt, plan.calls_in(wave + 1))?;
     }
     Ok(())
 }
@@ -229,8 +245,12 @@ fn print_turn<R: Threads + Wait + Sync>(
         || make_and_turn(threads, &core, &mut host, calls, &is_over),
         || read_until(threads, &core, &mut guest, &is_over),
     );
-    let is_made = volume.is_some();
-    println!(rt; "made and turned over: {is_made}")?;
+    let said: &str = if volume.is_some() {
+        "made and turned over: true\n"
+    } else {
+        "made and turned over: false\n"
+    };
+    rt.stdout().write_all(said.as_bytes())?;
     Ok(())
 }
 
