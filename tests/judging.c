@@ -1,5 +1,5 @@
-/* Opens a session by the text of a state, which a word names: tells the state on standard output, or says as the program does
- * why the text is refused, of what an audit finds without its words; the status is 2 then. */
+/* Opens a session by the text of a state, which a word names. Tells the state on standard output, or prints as the program
+ * does why the text is refused, of what an audit finds without its words; then the status is 2. */
 #include <kcore.h>
 #include <stdio.h>
 #include <stdlib.h>
@@ -22,7 +22,8 @@ int main(int count, char **paths) {
         return fwrite(out, 1, used, stdout) == used && kcore_end(&core) == KCORE_DONE ? 0 : 6;
     }
     if (status < KCORE_NO_STATE_HEADER || status > KCORE_BAD_FRAME || kcore_end(&core) != KCORE_CLOSED) return 7;
-    if ((status < KCORE_BAD_STATE_LINE || status == KCORE_BAD_SIZES || status == KCORE_BAD_DUMP) && place != 0) return 8;
+    int has_place = status == KCORE_BAD_STATE_LINE || status == KCORE_MISSING_FRAME || status >= KCORE_BAD_SLOT;
+    if (!has_place && place != 0) return 8;
     fprintf(stderr, "kcore: ");
     fprintf(stderr, words[status - KCORE_NO_STATE_HEADER], (unsigned)place);
     fprintf(stderr, "\n");

@@ -313,8 +313,8 @@ static void open_kvm(struct monitor *monitor) {
     monitor->run_size = size;
 }
 
-/* Takes up the core of a monitor that was killed, at the border of which it kept the state. The processors of its guests are
- * gone with it, so that all of them are cleared: their frames are zeroed, and given back. */
+/* Takes up the core of a monitor that was killed, in a state that this one kept. The processors of its guests are gone
+ * with it, so all guests are cleared: their frames are zeroed and given back. */
 static int take_up(const struct options *options) {
     struct core core = {.keeps_states = options->keeps_states};
     unsigned cleared = 0;

@@ -24,11 +24,14 @@ digests_are names.Both origin start trace None (Some d) s t = absurd (let never 
 digests_are names.Both origins.Boot start trace (Some e) (Some d) s t = rw (t.1, s.1) refl
 digests_are names.Both origins.State start trace (Some e) (Some d) s t = rw (t.1, s.1) refl
 
+abbrev with_digests : Scope → Option Digests → Heading
+with_digests scope digests = record { digests = digests; is_unseen = scope.is_unseen }
+
 pub is_headed : (scope : Scope) (origin : Origin) (start trace of_start of_trace : Option (List ℕ)) (heading : Heading) → HasDigest (names_start scope.named) start of_start → HasDigest (names_trace scope.named) trace of_trace → heading ≡ heading_by scope origin of_start of_trace → IsHeaded scope origin start trace heading
 is_headed scope origin None trace of_start of_trace heading s t is = tt
 is_headed scope origin (Some start) None of_start of_trace heading s t is = tt
 is_headed scope origin (Some start) (Some trace) of_start of_trace heading s t is =
-    is ∙ ap (λ (d : Option Digests). (record { digests = d; is_unseen = scope.is_unseen } : Heading)) (digests_are scope.named origin start trace of_start of_trace s t)
+    is ∙ ap (with_digests scope) (digests_are scope.named origin start trace of_start of_trace s t)
 
 pub headed : {E : Type 0} (scope : Scope) (origin : Origin) (start trace of_start : Option (List ℕ)) (kept : Result Told E) → HasDigest (names_start scope.named) start of_start
     → IfOk kept (λ told. (digest : Option (List ℕ)) × HasDigest (names_trace scope.named) trace digest × (told.heading ≡ heading_by scope origin of_start digest)) → IfOk kept (λ told. IsHeaded scope origin start trace told.heading)

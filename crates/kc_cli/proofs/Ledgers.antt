@@ -1,11 +1,10 @@
 -- What is kept of calls that come after others.
-use Rattle.std.proofs.Common.{ℕ, ◌≡◌, ◌++◌, Bool, true, false, List, [], ◌∷◌, All, map, Option, refl, ap, ap₂, sym, ◌∙◌}
+use Rattle.std.proofs.Common.{ℕ, ◌≡◌, ◌++◌, Bool, true, false, List, All, Option, None, subst, refl, ap, ap₂, sym, ◌∙◌}
 use Rattle.std.specs.Global.{Vec}
-use Rattle.std.proofs.lemmas.List.Elements.{filter_map-append}
+use Rattle.std.proofs.lemmas.List.Elements.{filter_map-append, All-filter}
 use Rattle.kc_types.specs.Configuration.{Configuration}
 use Rattle.kc_types.specs.declared.call.Call.{Call}
 use Rattle.kc_types.specs.declared.custody.Event.{Event}
-use Rattle.kc_types.specs.declared.custody.Event.TheVariants as event
 use Rattle.kc_model.proofs.Custody.Events.{changes-of-changes}
 use Rattle.kc_custody.specs.Within.{IsWithin}
 use Rattle.kc_trace.specs.declared.custody_writer.Heading.{Heading}
@@ -14,7 +13,8 @@ use Rattle.kc_model.specs.Lives.{lives, selected_lives}
 use Rattle.kc_custody.specs.Chosen.{chosen}
 use Rattle.kc_cli.proofs.Plain.{plain}
 use Rattle.kc_model.specs.Events.{events_from, changes_in}
-use Rattle.kc_custody.specs.Selected.{selected}
+use Rattle.kc_custody.specs.Selected.{is_selected, selected}
+use Rattle.kc_custody.proofs.Picked.{picked}
 use Rattle.kc_trace.specs.CustodyText.{custody_text_of}
 use Rattle.kc_trace.specs.SummaryText.{summary_text_of}
 use Rattle.kc_trace.specs.RemarkText.{notes_text_of}
@@ -122,16 +122,10 @@ account_given (Html origin) vm heading config count refused told (kept.Summary e
 account_given (Html origin) vm heading config count refused told (kept.Picture events) text h given = absurd h
 account_given (Html origin) vm heading config count refused told (kept.Html notes) text h given = given ∙ ap (λ (xs : List Note). html_text_of (notes_text_of heading config count refused (chosen vm (page_remarks heading.is_unseen) xs))) h
 
-within_change : (frames : ℕ) (told : List Event) → All (IsWithin frames) told → All (IsWithin frames) (map event.Change (changes_in told))
-within_change frames [] h = tt
-within_change frames (event.Change change ∷ more) h = (h.0, within_change frames more h.1)
-within_change frames (event.Read v ∷ more) h = within_change frames more h.1
-within_change frames (event.Write v ∷ more) h = within_change frames more h.1
-
 -- what is reported of events within a machine is within it
 pub reported_within : (unseen : Bool) (frames : ℕ) (told : List Event) → All (IsWithin frames) told → All (IsWithin frames) (reported unseen told)
 reported_within false frames told h = h
-reported_within true frames told h = within_change frames told h
+reported_within true frames told h = subst (λ (kept : List Event). All (IsWithin frames) kept) (picked None told) (All-filter (is_selected None) (IsWithin frames) told h)
 
 -- the changes among them are the same
 pub changes_reported : (unseen : Bool) (told : List Event) → changes_in (reported unseen told) ≡ changes_in told

@@ -1,5 +1,5 @@
 //! The core that the calls of a trace begin with.
-ghost use Rattle.std.specs.Prelude.{◌≡◌, ◌≤◌, false, true, length, IfOk, IfErr, IfSome, OnOk, Ok, Err, Some};
+ghost use Rattle.std.specs.Prelude.{◌≡◌, ◌≢◌, ◌≤◌, false, true, length, IfOk, IfErr, IfSome, OnOk, Ok, Err, Some};
 ghost use Rattle.std.specs.Io.KnownBytes.{IsAtEnd};
 ghost use Rattle.kc_types.specs.Limits.{byte_limit};
 ghost use Rattle.kc_model.specs.Lawful.{IsLawful};
@@ -45,6 +45,7 @@ fn boot_of(alloc: Global, text: &[u8]) -> Result<KCore, TextFault>
     ensures ok { IfOk result (λ core. BeginsIn Origin.Boot text.now core) }
     ensures lawful { IfOk result IsLawful }
     ensures config { (fault : ConfigTextFault) → result ≡ Err (TextFault.Config fault) → config_in text.now ≡ Err fault }
+    ensures read { result ≢ Err TextFault.Read }
     ensures fault { IfErr result IsConfigFault }
 {
     let config = read_config(alloc, text)?;

@@ -1,6 +1,7 @@
 use Rattle.std.proofs.lemmas.Result.{on_ok_weaker}
 use Rattle.kc_texts.proofs.Told.{sink_more}
 use Rattle.kc_cli.proofs.Plain.{changes_text, notes_text, page_text}
+use Rattle.kc_cli.proofs.Ledgers.{changes_reported}
 use Rattle.kc_cli.proofs.account.give_told.Goals as goal
 
 pub returns-in-Changes-clause-ok : goal.returns-in-Changes-clause-ok
@@ -22,6 +23,10 @@ pub returns-in-Notes-clause-sink : goal.returns-in-Notes-clause-sink
 returns-in-Notes-clause-sink g c =
     let text = notes_text c.args.told.heading c.args.told.config c.args.told.calls c.args.told.denials.total c.choose.new.notes.items _ c.choose.ensures in
     rw c.in-Notes.is (sink_more _ _ _ _ _ (λ begun. (_, begun.0, text, begun.1)) c.give_changes-in-Notes.ensures.sink)
+
+pub picture_of-requires-clause-within : goal.picture_of-requires-clause-within
+picture_of-requires-clause-within g c =
+    rw (c.deref-in-Picture.ensures.value, c.reported-events.ensures, changes_reported c.args.told.heading.is_unseen c.in-Picture.events.items) (rw c.in-Picture.is at c.requires.changes)
 
 pub returns-clause-ok : goal.returns-clause-ok
 returns-clause-ok g c =

@@ -9,8 +9,8 @@ use Rattle.kc_cli.proofs.custody.tell_source.Goals as goal
 
 pub loop-ledger-init : goal.loop-ledger-init
 loop-ledger-init g c = record {
-  read = ([], [], c.stream_of.ensures.none (g.T.Source.left c.args.trace.now), c.new-ledger.ensures, refl, refl, c.none-denials.ensures, omega (arith, c.none-denials.ensures));
-  hashed = c.stream_of.ensures.hashed;
+  read = ([], [], c.stream_of-stream.ensures.none (g.T.Source.left c.args.trace.now), c.new-ledger.ensures, refl, refl, c.none-denials.ensures, omega (arith, c.none-denials.ensures));
+  hashed = c.stream_of-stream.ensures.hashed;
   few = search rules;
   mark = c.requires;
 }
@@ -76,14 +76,14 @@ returns-in-Ok-finish-clause-ok g c =
       told,
     )
 
-pub digest_of-requires : goal.digest_of-requires
-digest_of-requires g c = λ asked. c.in_ok-part.ensures.hashed ∙ c.loop-ledger.invariant.hashed asked
+pub digest_of-digest-requires : goal.digest_of-digest-requires
+digest_of-digest-requires g c = λ asked. c.in_ok-part.ensures.hashed ∙ c.loop-ledger.invariant.hashed asked
 
 pub returns-in-Ok-finish-clause-digest : goal.returns-in-Ok-finish-clause-digest
 returns-in-Ok-finish-clause-digest g c =
     let before = c.loop-ledger.invariant.read in
     let more = c.in_ok-part.ensures.calls before.0 before.1 (g.T.Source.left c.args.trace.now) before.2 in
-    c.digest_of.ensures _ _ _ _ more.1 (c.in_ok-part.ensures.last c.if-part.true)
+    c.digest_of-digest.ensures _ _ _ _ more.1 (c.in_ok-part.ensures.last c.if-part.true)
 
 pub returns-in-Ok-finish-clause-config : goal.returns-in-Ok-finish-clause-config
 returns-in-Ok-finish-clause-config g c =

@@ -1,6 +1,7 @@
 use Rattle.std.proofs.Common.{Err, ap, refl, sym}
 use Rattle.std.proofs.lemmas.Result.{err_from_is_err_and}
 use Rattle.kc_texts.proofs.Told.{texts_start}
+use Rattle.kc_cli.proofs.Headings.{headed}
 use Rattle.kc_cli.proofs.custody.told_texts.Goals as goal
 
 pub returns-in_err-begun-clause-texts : goal.returns-in_err-begun-clause-texts
