@@ -1,6 +1,7 @@
 use Rattle.std.proofs.Common.{Err, ap, refl, sym}
 use Rattle.std.proofs.lemmas.Result.{err_from_is_err_and}
 use Rattle.kc_texts.proofs.Told.{texts_start}
+use Rattle.kc_cli.specs.Custody.{origin_of}
 use Rattle.kc_cli.proofs.Headings.{headed}
 use Rattle.kc_cli.proofs.custody.told_texts.Goals as goal
 
@@ -10,4 +11,6 @@ returns-in_err-begun-clause-texts g c =
     rw (made.1, made.2, sym c.origin.ensures) (texts_start _ _ _ _ c.in_err-begun.field-0.0 (λ said same. c.in_err-begun.ensures.config said (ap Err same)) (λ said same. c.in_err-begun.ensures.state said (ap Err same)) c.in_err-begun.ensures.fault refl)
 
 pub returns-clause-heading : goal.returns-clause-heading
-returns-clause-heading g c = headed _ _ _ _ _ _ c.in_ok-begun.ensures.digest c.told_source.ensures.heading
+returns-clause-heading g c =
+    headed c.args.order.scope (origin_of c.args.order.form) (g.C.Source.left c.args.start.now) (g.T.Source.left c.args.trace.now) c.in_ok-begun.begun.digest c.told_source.result
+    (rw c.names_start-is_hashed.ensures at c.in_ok-begun.ensures.digest) c.told_source.ensures.heading
