@@ -306,11 +306,11 @@ pub(crate) fn give_told<K: Sink>(
             give_whole(&text, out)
         },
         Ledger::Html(mut notes) => {
-            let remarks = Remarks {
+            let shown = Remarks {
                 refused: true,
                 accesses: !heading.is_unseen,
             };
-            choose(&mut notes, vm, remarks);
+            choose(&mut notes, vm, shown);
             give_html(alloc, &heading, &config, calls, refused, notes, out)
         },
     }
