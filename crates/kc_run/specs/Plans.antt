@@ -111,7 +111,7 @@ redact_from_plan host (Some start) = redact_plan host start
 abbrev pub input_of : Job → Option Path
 input_of (jobs.Replay input config from to workers dump state blank explain) = input
 input_of (jobs.Live input config workers explain) = input
-input_of (jobs.Custody input config from vm summary svg refused accesses explain) = input
+input_of (jobs.Custody input config from vm summary svg html refused accesses unseen digests explain) = input
 input_of (jobs.Audit input all explain) = input
 input_of (jobs.Redact input config from host explain) = input
 
