@@ -184,10 +184,10 @@ impl<'a> Reading<'a> {
     /// The files that were given back, and standard input.
     pub fn of(files: &'a Folder<'a>, standard: &'a Named<'a>) -> Reading<'a> {
         let files = files.read.as_slice();
-        let input = match files.iter().find(|file| file.kind.is_input()) {
-            Some(file) => file,
-            None => standard,
-        };
+        let input = files
+            .iter()
+            .find(|file| file.kind.is_input())
+            .unwrap_or(standard);
         Reading { files, input }
     }
 

@@ -42,10 +42,10 @@ fn explain_exit(rt: &HostRuntime, files: &Folder<'_>, input: &Named<'_>, exit: E
 
 /// Opens standard input and the other streams, has the job run, and answers the exit status. A fault is explained if that is
 /// asked for, and at a terminal.
-fn run_with<R: Threads + Wait + Sync>(
-    rt: &HostRuntime,
-    threads: &R,
-    job: Job<'_>,
+fn run_with<'a, R: Threads + Wait + Sync>(
+    rt: &'a HostRuntime,
+    threads: &'a R,
+    job: Job<'a>,
     lanes: Lanes,
 ) -> u8 {
     let mut asked = Asked::of(&job);
