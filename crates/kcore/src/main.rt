@@ -32,11 +32,11 @@ fn stand_in(rt: &HostRuntime) -> Option<File> {
 }
 
 /// Says more of the fault that a job ended with, if it did.
-fn explain_exit(rt: &HostRuntime, files: &Folder<'_>, input: &Named<'_>, exit: Exit) {
-    let Some(fault) = exit.fault else { return };
+fn explain_exit(rt: &HostRuntime, files: &Folder<'_>, input: &Named<'_>, exit: &Exit) {
+    let Some(fault) = &exit.fault else { return };
     match &files.refused {
         Some(path) => explain_open(rt, path.as_str(), files.why),
-        None => Reading::of(files, input).explain(rt, &fault),
+        None => Reading::of(files, input).explain(rt, fault),
     }
 }
 
@@ -64,7 +64,7 @@ fn run_with<'a, R: Threads + Wait + Sync>(
     let exit = run_job(&system, &mut files, job, &mut input, &mut out, &mut err);
     progress.erase();
     if asked.explain {
-        explain_exit(rt, &files, &input, exit);
+        explain_exit(rt, &files, &input, &exit);
     }
     exit.status
 }
