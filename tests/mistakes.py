@@ -48,7 +48,7 @@ MISTAKES = (
     Mistake("names", "crates/kc_parts/src/lib.rt", "`specs/Cuts.antt`", "`specs/Cutting.antt`"),
     Mistake("names", "crates/kc_core/src/lib.rt", "`IsLocalityOfParts`", "`IsLocalityOfPlaces`"),
     Mistake("names", "docs/WITNESS.md", "## What is seen", "## What is detected"),
-    Mistake("scripts", "bin/library", "", "bin/libraries"),
+    Mistake("scripts", "fleet/witness", "", "fleet/witnesses"),
     Mistake("scripts", "docs/FLEET.md", "fleet/audit --by parallel", "fleet/audit --using parallel"),
     Mistake("crates", "crates.txt", "kc_picture: kc_types", "kc_picture: kc_lines"),
     Mistake("crates", "docs/MAP.md", "| `kc_state_text` |", "| `kc_states_text` |"),
