@@ -6,3 +6,4 @@ mod Ledgers
 mod Headings
 mod Told
 pub mod Sources
+pub mod Answered

@@ -40,3 +40,7 @@ sink_err failed begun more untouched f step h = record {
     | inr e ↦ inr (let same : f ≡ texts.Write = cc in cc)
   ];
 }
+
+-- an answer, of an engine that answers more
+pub sink_ok : {A B : Type 0} (failed : Bool) (begun untouched : Type 0) (x : A) (y : B) → TellsSink failed begun untouched (Ok x) → TellsSink failed begun untouched (Ok y)
+sink_ok failed begun untouched x y h = record { write = λ e. absurd cc; failed_is = λ bad. let e = h.failed_is bad in absurd cc; kept = tt }

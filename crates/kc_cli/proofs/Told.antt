@@ -8,15 +8,17 @@ use Rattle.std.specs.Prelude.{IfSome}
 use Rattle.std.specs.Io.KnownBytes.{Appends}
 use Rattle.kc_types.specs.Configuration.{Configuration}
 use Rattle.kc_types.specs.declared.call.Call.{Call}
+use Rattle.kc_types.specs.declared.reply.Reply.{Reply}
 use Rattle.kc_remarks.specs.declared.remark.Note.{Note}
 use Rattle.kc_remarks.specs.Remarks.{notes, notes_from, events_in}
-use Rattle.kc_remarks.specs.Denials.{is_denied}
+use Rattle.kc_remarks.specs.declared.denials.Denials.{Denials}
+use Rattle.kc_remarks.specs.Denials.{is_denied, Counts}
 use Rattle.kc_remarks.proofs.Counted.{denied, both}
 use Rattle.kc_remarks.proofs.Runs.{notes-append}
 use Rattle.kc_remarks.proofs.Events.{events-of-notes, changes-of-notes}
 use Rattle.kc_model.specs.State.{State}
 use Rattle.kc_model.specs.Lawful.{IsLawful}
-use Rattle.kc_model.specs.Next.{state_after}
+use Rattle.kc_model.specs.Next.{replies_from, state_after}
 use Rattle.kc_model.specs.Custody.{first_line}
 use Rattle.kc_model.specs.Events.{changes_in}
 use Rattle.kc_model.proofs.Promises.{promises_kept}
@@ -25,7 +27,7 @@ use Rattle.kc_model.proofs.Redaction.Lacking.{accesses_change_nothing}
 use Rattle.kc_model.proofs.Custody.Bars.{bars_are}
 use Rattle.kc_model.proofs.Custody.Laws.{custody_is}
 use Rattle.kc_model.proofs.Summaries.Summed.{summaries_are}
-use Rattle.kc_model.proofs.States.Runs.{state_after-append}
+use Rattle.kc_model.proofs.States.Runs.{state_after-append, replies_from-append}
 use Rattle.kc_texts.specs.declared.fault.TextFault.{TextFault}
 use Rattle.kc_texts.specs.declared.fault.TextFault.TheVariants as texts
 use Rattle.kc_texts.specs.declared.origin.Origin.{Origin}
@@ -55,6 +57,11 @@ denied_more m old xs ys line counted now from at so_far added =
     let split = both (notes m xs) (notes_from line old ys) in
     let whole = ap (λ (told : List Note). length (filter is_denied told)) (told_more m old xs ys line from at) in
     omega (arith, split, whole, so_far, added)
+
+-- and for what, by the replies
+pub counted_more : (m old : State) (xs ys : List Call) (counted now : Denials) → old ≡ state_after m xs → Counts (replies_from m xs) counted → ((replies : List Reply) → Counts replies counted → Counts (replies ++ replies_from old ys) now) → Counts (replies_from m (xs ++ ys)) now
+counted_more m old xs ys counted now from so_far added =
+    subst (λ (replies : List Reply). Counts replies now) (ap (λ (s : State). replies_from m xs ++ replies_from s ys) from ∙ sym (replies_from-append m xs ys)) (added (replies_from m xs) so_far)
 
 -- what happened beside the calls changes nothing of what is reported
 is_of_all : (m : State) (calls : List Call) → IsLawful m → IsCustodyOfAll m calls

@@ -19,7 +19,7 @@ use crate::ledger::Ledger;
 use kc_custody::{choose, lives, select, select_lives};
 use kc_html::{HEAD, TAIL};
 use kc_picture::{bars, picture};
-use kc_remarks::{Denials, Remarks};
+use kc_remarks::{Answered, Remarks};
 use kc_texts::{Failed, Line, Origin, Sink, TextFault, empty_piece, give_lines, write_whole};
 use kc_trace::{Heading, push_custody_end, push_custody_header, summary_text};
 use kc_types::{Config, Event, Memory};
@@ -103,10 +103,8 @@ pub struct Scope {
 pub(crate) struct Told {
     /// What the core was started with.
     pub config: Config,
-    /// How many calls the trace has.
-    pub calls: usize,
-    /// How many of them were refused or rejected.
-    pub denials: Denials,
+    /// How many calls the trace has, and how many of them were refused or rejected.
+    pub answered: Answered,
     /// What the first line says beside the sizes of the core.
     pub heading: Heading,
     /// What was kept of the calls.
@@ -268,21 +266,21 @@ pub(crate) fn give_told<K: Sink>(
     out: &mut K,
 ) -> Result<(), TextFault>
     requires out { K.failed out.old ≡ false }
-    requires few { told.calls ≤ call_limit }
+    requires few { told.answered.calls ≤ call_limit }
     requires within { All (IsWithin told.config.frames) (events_kept told.ledger) }
     requires changes { All (IsIn told.config.frames) (changes_in (events_kept told.ledger)) }
-    ensures ok { OnOk result ((text : List ℕ) × IsGiven vm told.heading told.config told.calls told.denials.total told.ledger text × Appends (K.taken out.old) (K.taken out.new) text) }
-    ensures sink { TellsSink (K.failed out.new) ((text : List ℕ) × (n : ℕ) × IsGiven vm told.heading told.config told.calls told.denials.total told.ledger text × Appends (K.taken out.old) (K.taken out.new) (take n text)) (out.new ≡ out.old) result }
+    ensures ok { OnOk result ((text : List ℕ) × IsGiven vm told.heading told.config told.answered.calls told.answered.denials.total told.ledger text × Appends (K.taken out.old) (K.taken out.new) text) }
+    ensures sink { TellsSink (K.failed out.new) ((text : List ℕ) × (n : ℕ) × IsGiven vm told.heading told.config told.answered.calls told.answered.denials.total told.ledger text × Appends (K.taken out.old) (K.taken out.new) (take n text)) (out.new ≡ out.old) result }
     ensures fault { IfErr result (λ fault. (fault ≡ TextFault.Memory) ⊎ (fault ≡ TextFault.Write)) }
 {
     let Told {
         config,
-        calls,
-        denials,
+        answered,
         heading,
         ledger,
     } = told;
-    let refused = denials.total as usize;
+    let calls = answered.calls;
+    let refused = answered.denials.total as usize;
     match ledger {
         Ledger::Changes(mut events) => {
             select(&mut events, vm);

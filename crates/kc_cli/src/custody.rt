@@ -1,5 +1,5 @@
 //! The engine that reports what happened to each frame and slot, over any sources and any sink.
-ghost use Rattle.std.specs.Prelude.{◌≡◌, ◌≢◌, ◌<◌, ◌≤◌, ◌+◌, ◌^◌, ◌∷◌, [], ℕ, List, All, length, take, false, true, Option, Some, None, is_some, IfOk, IfErr, IfSome, OnOk, Err};
+ghost use Rattle.std.specs.Prelude.{◌≡◌, ◌≢◌, ◌<◌, ◌≤◌, ◌+◌, ◌^◌, ◌∷◌, ◌⊎◌, [], ℕ, List, All, length, take, false, true, Option, Some, None, is_some, IfOk, IfErr, IfSome, OnOk, Err};
 ghost use Rattle.std.specs.Io.KnownBytes.{Appends, IsAtEnd};
 ghost use Rattle.kc_types.specs.Limits.{call_limit};
 ghost use Rattle.kc_types.specs.declared.call.Call.{Call};
@@ -8,22 +8,26 @@ ghost use Rattle.kc_trace.specs.declared.fault.TraceFault.{TraceFault};
 ghost use Rattle.kc_trace.specs.Trace.{IsRefused};
 ghost use Rattle.kc_texts.specs.Ends.{ReadFailed};
 ghost use Rattle.kc_texts.specs.Streamed.{HasRead};
+ghost use Rattle.kc_model.specs.Events.{changes_in};
 ghost use Rattle.kc_model.specs.Lawful.{IsLawful};
 ghost use Rattle.kc_model.specs.State.{State};
 ghost use Rattle.kc_texts.specs.Reading.{BeginsIn, Writes, Begins};
 ghost use Rattle.kc_texts.specs.Outcomes.{seen, TellsSources, TellsTexts, TellsSink};
 ghost use Rattle.kc_cli.specs.Engine.{IsReplayFault};
+ghost use Rattle.kc_custody.specs.Within.{IsWithin};
+ghost use Rattle.kc_picture.specs.Frames.{IsIn};
 ghost use Rattle.kc_remarks.specs.declared.remark.Note.{Note};
 ghost use Rattle.kc_cli.specs.Custody.{AreNotesOf, IsCustodyTold, IsCustodyText, TellsCustody, origin_of, names_trace};
+ghost use Rattle.kc_cli.specs.Answers.{AreAnsweredFrom, AreAnswered};
 ghost use Rattle.kc_cli.specs.Headings.{HasDigest, heading_by, IsHeaded};
-ghost use Rattle.kc_cli.specs.Ledgers.{Keeps};
+ghost use Rattle.kc_cli.specs.Ledgers.{Keeps, events_kept, IsGiven};
 
 use crate::account::{CustodyForm, FIRST_LINE, Scope, Told, give_told};
 use crate::ledger::Ledger;
 use crate::starting::{Begun, begin};
 use kc_core::KCore;
 use kc_digests::Lanes;
-use kc_remarks::Denials;
+use kc_remarks::{Answered, Denials};
 use kc_texts::{CallStream, Origin, PIECE, Sink, Source, TextFault};
 use kc_trace::{Digests, Heading, StartDigest};
 use std::alloc::Global;
@@ -33,8 +37,7 @@ use std::thread::Threads;
 #[derive(Drop)]
 struct Traced {
     ledger: Ledger,
-    calls: usize,
-    denials: Denials,
+    answered: Answered,
     /// The digest of the trace, if it is named.
     digest: Option<[u8; 32]>,
 }
@@ -68,7 +71,8 @@ fn tell_source<T: Source>(
     is_hashed: bool,
 ) -> Result<Traced, TextFault>
     requires { T.failed trace.old ≡ false }
-    ensures ok { IfOk result (λ kept. (told : List Note) × AreNotesOf core.old (T.left trace.old) kept.calls kept.denials.total told × Keeps form told kept.ledger) }
+    ensures ok { IfOk result (λ kept. (told : List Note) × AreNotesOf core.old (T.left trace.old) kept.answered.calls kept.answered.denials.total told × Keeps form told kept.ledger) }
+    ensures answered { IfOk result (λ kept. IfSome (T.left trace.old) (λ text. AreAnsweredFrom core.old text kept.answered)) }
     ensures digest { IfOk result (λ kept. HasDigest is_hashed (T.left trace.old) kept.digest) }
     ensures config { OnOk result (core.new.config ≡ core.old.config) }
     ensures ended { OnOk result (IsAtEnd (T.left trace.new)) }
@@ -97,8 +101,10 @@ fn tell_source<T: Source>(
     match stream.finish() {
         Ok(()) => Ok(Traced {
             ledger,
-            calls: (line - FIRST_LINE) as usize,
-            denials,
+            answered: Answered {
+                calls: (line - FIRST_LINE) as usize,
+                denials,
+            },
             digest,
         }),
         Err(fault) => Err(TextFault::Trace(fault)),
@@ -143,7 +149,8 @@ fn told_source<T: Source>(
     requires lawful { IsLawful begun.core }
     requires trace { T.failed trace.old ≡ false }
     ensures config { IfOk result (λ told. told.config ≡ begun.core.config) }
-    ensures ok { IfOk result (λ kept. (told : List Note) × IsCustodyTold begun.core (T.left trace.old) kept.calls kept.denials.total told × Keeps order.form told kept.ledger) }
+    ensures ok { IfOk result (λ kept. (told : List Note) × IsCustodyTold begun.core (T.left trace.old) kept.answered.calls kept.answered.denials.total told × Keeps order.form told kept.ledger) }
+    ensures answered { IfOk result (λ kept. IfSome (T.left trace.old) (λ text. AreAnsweredFrom begun.core text kept.answered)) }
     ensures heading { IfOk result (λ kept. (digest : Option (List ℕ)) × HasDigest (names_trace order.scope.named) (T.left trace.old) digest × (kept.heading ≡ heading_by order.scope (origin_of order.form) begun.digest digest)) }
     ensures ended { OnOk result (IsAtEnd (T.left trace.new)) }
     ensures trace { (fault : TraceFault) → result ≡ Err (TextFault.Trace fault) → IfSome (T.left trace.old) (λ text. IsRefused text fault) × IsAtEnd (T.left trace.new) }
@@ -166,8 +173,7 @@ fn told_source<T: Source>(
     match outcome {
         Ok(traced) => Ok(Told {
             config,
-            calls: traced.calls,
-            denials: traced.denials,
+            answered: traced.answered,
             heading: heading_by(order.scope, order.form.origin(), digest, traced.digest),
             ledger: traced.ledger,
         }),
@@ -198,7 +204,8 @@ fn told_texts<C: Source, T: Source>(
 ) -> Result<Told, TextFault>
     requires start { C.failed start.old ≡ false }
     requires trace { T.failed trace.old ≡ false }
-    ensures ok { IfOk result (λ kept. (m : State) × IfSome (C.left start.old) (λ text. BeginsIn (origin_of order.form) text m) × (kept.config ≡ m.config) × (told : List Note) × IsCustodyTold m (T.left trace.old) kept.calls kept.denials.total told × Keeps order.form told kept.ledger) }
+    ensures ok { IfOk result (λ kept. (m : State) × IfSome (C.left start.old) (λ text. BeginsIn (origin_of order.form) text m) × (kept.config ≡ m.config) × (told : List Note) × IsCustodyTold m (T.left trace.old) kept.answered.calls kept.answered.denials.total told × Keeps order.form told kept.ledger) }
+    ensures answered { IfOk result (λ kept. AreAnswered (origin_of order.form) (C.left start.old) (T.left trace.old) kept.answered) }
     ensures heading { IfOk result (λ kept. IsHeaded order.scope (origin_of order.form) (C.left start.old) (T.left trace.old) kept.heading) }
     ensures sources { TellsSources (seen (C.failed start.new) (C.left start.old) (C.left start.new) ∷ seen (T.failed trace.new) (T.left trace.old) (T.left trace.new) ∷ []) result }
     ensures texts { TellsTexts (origin_of order.form) (seen (C.failed start.new) (C.left start.old) (C.left start.new)) (seen (T.failed trace.new) (T.left trace.old) (T.left trace.new)) (trace.new ≡ trace.old) result }
@@ -221,6 +228,31 @@ fn told_texts<C: Source, T: Source>(
     told_source(rt, alloc, begun, trace, order)
 }
 
+/// Gives what was kept in its form, of one slot's VM alone if one is named; the result says how the calls were answered.
+fn give_answered<K: Sink>(
+    alloc: Global,
+    told: Told,
+    vm: Option<u32>,
+    out: &mut K,
+) -> Result<Answered, TextFault>
+    requires out { K.failed out.old ≡ false }
+    requires few { told.answered.calls ≤ call_limit }
+    requires within { All (IsWithin told.config.frames) (events_kept told.ledger) }
+    requires changes { All (IsIn told.config.frames) (changes_in (events_kept told.ledger)) }
+    ensures answered { IfOk result (λ answered. answered ≡ told.answered) }
+    ensures ok { OnOk result ((text : List ℕ) × IsGiven vm told.heading told.config told.answered.calls told.answered.denials.total told.ledger text
+        × Appends (K.taken out.old) (K.taken out.new) text) }
+    ensures sink { TellsSink (K.failed out.new) ((text : List ℕ) × (n : ℕ) × IsGiven vm told.heading told.config told.answered.calls told.answered.denials.total told.ledger text
+        × Appends (K.taken out.old) (K.taken out.new) (take n text)) (out.new ≡ out.old) result }
+    ensures fault { IfErr result (λ fault. (fault ≡ TextFault.Memory) ⊎ (fault ≡ TextFault.Write)) }
+{
+    let answered = told.answered;
+    match give_told(alloc, told, vm, out) {
+        Ok(()) => Ok(answered),
+        Err(fault) => Err(fault),
+    }
+}
+
 /// How what happened is reported.
 #[derive(Clone, Copy)]
 pub struct CustodyOrder {
@@ -233,7 +265,8 @@ pub struct CustodyOrder {
 }
 
 /// Reads what the calls begin with and a trace, each to its end, makes the trace's calls on one thread as they are read, and
-/// writes what happened to each frame and slot. A slot that the machine lacks is `NoSlot`, before the trace is read.
+/// writes what happened to each frame and slot; the result counts the calls, and those that were refused or rejected. A slot
+/// that the machine lacks is `NoSlot`, before the trace is read.
 ///
 /// Nothing is written but after the whole trace was read and answered. A source that fails, or that has more than
 /// 1,073,741,824 bytes, is `Read`, also if its bytes so far are refused already. Out of memory comes before a fault of
@@ -245,12 +278,13 @@ pub fn custody_text<C: Source, T: Source, K: Sink>(
     trace: &mut T,
     out: &mut K,
     order: CustodyOrder,
-) -> Result<(), TextFault>
+) -> Result<Answered, TextFault>
     requires start { C.failed start.old ≡ false }
     requires trace { T.failed trace.old ≡ false }
     requires out { K.failed out.old ≡ false }
 
-    // What is written is made of the notes on the trace.
+    // What is written is made of the notes on the trace, and the result is counted of its replies.
+    ensures answered { IfOk result (λ answered. AreAnswered (origin_of order.form) (C.left start.old) (T.left trace.old) answered) }
     ensures ok { OnOk result (Writes (IsCustodyText order.form order.scope) (C.left start.old) (T.left trace.old) (K.taken out.old) (K.taken out.new)) }
     ensures sources { TellsSources (seen (C.failed start.new) (C.left start.old) (C.left start.new) ∷ seen (T.failed trace.new) (T.left trace.old) (T.left trace.new) ∷ []) result }
     ensures texts { TellsTexts (origin_of order.form) (seen (C.failed start.new) (C.left start.old) (C.left start.new)) (seen (T.failed trace.new) (T.left trace.old) (T.left trace.new)) (trace.new ≡ trace.old) result }
@@ -258,5 +292,5 @@ pub fn custody_text<C: Source, T: Source, K: Sink>(
     ensures sink { TellsSink (K.failed out.new) (Begins (IsCustodyText order.form order.scope) (C.left start.old) (T.left trace.old) (K.taken out.old) (K.taken out.new)) (out.new ≡ out.old) result }
 {
     let told = told_texts(rt, alloc, start, trace, order)?;
-    give_told(alloc, told, order.scope.vm, out)
+    give_answered(alloc, told, order.scope.vm, out)
 }

@@ -1,9 +1,10 @@
 //! What is kept of the calls of a trace until it has ended.
 ghost use Rattle.std.specs.Prelude.{◌≡◌, ◌<◌, ◌≤◌, ◌+◌, ◌^◌, ◌++◌, [], List, length, filter, OnOk};
-ghost use Rattle.kc_model.specs.Next.{state_after};
+ghost use Rattle.kc_types.specs.declared.reply.Reply.{Reply};
+ghost use Rattle.kc_model.specs.Next.{replies_from, state_after};
 ghost use Rattle.kc_remarks.specs.declared.remark.Note.{Note};
 ghost use Rattle.kc_remarks.specs.Remarks.{notes_from};
-ghost use Rattle.kc_remarks.specs.Denials.{is_denied};
+ghost use Rattle.kc_remarks.specs.Denials.{is_denied, Counts};
 ghost use Rattle.kc_cli.specs.Ledgers.{Keeps};
 
 use crate::account::CustodyForm;
@@ -60,6 +61,7 @@ impl Ledger {
         ensures state { OnOk result (core.new ≡ state_after core.old calls.now) }
         ensures denied { OnOk result (denials.new.total ≡ denials.old.total + length (filter is_denied (notes_from first core.old calls.now))) }
         ensures few { OnOk result (denials.new.total ≤ denials.old.total + length calls.now) }
+        ensures counted { OnOk result ((replies : List Reply) → Counts replies denials.old → Counts (replies ++ replies_from core.old calls.now) denials.new) }
     {
         match self {
             Ledger::Changes(events) => tell_calls(alloc, core, calls, first, events, denials),

@@ -4,7 +4,7 @@
 //! - a trace replayed as it is read: `src/replaying.rt`, `specs/Engine.antt`; what it begins in: `src/starting.rt`;
 //!   what is written of it, and how the state left is compared: `src/giving.rt`
 //! - how custody is written as changes, summary, picture or page: `specs/Custody.antt`, `src/custody.rt`, `src/account.rt`;
-//!   what is kept of the calls until then: `specs/Ledgers.antt`, `src/ledger.rt`
+//!   what is kept of the calls until then: `specs/Ledgers.antt`, `src/ledger.rt`; how many were refused: `specs/Answers.antt`
 //! - a live run: `specs/Live.antt`, `src/live.rt`; its history replayed: `src/history.rt`
 #![tactic(auto)]
 
@@ -24,7 +24,7 @@ pub use custody::{CustodyOrder, custody_text};
 pub use history::replay_history;
 pub use kc_args::{ArgFault, Job, job_of};
 pub use kc_digests::Lanes;
-pub use kc_remarks::Remarks;
+pub use kc_remarks::{Answered, Denials, REFUSALS, Remarks};
 pub use kc_texts::{
     DEFAULT_CONFIG, Failed, Mem, Origin, ReadFault, Sink, Source, Std, TextFault, audit_text,
     read_whole, tell, write_whole,

@@ -1,12 +1,14 @@
--- How many calls are denied, if one more is made.
-use Rattle.std.proofs.Common.{ℕ, ◌≡◌, ◌<◌, ◌≤◌, ◌+◌, Bool, true, false, cond, List, length, filter, take, get_or, ap, ◌∙◌, arith}
+-- How many calls are denied, and for what, if one more is made.
+use Rattle.std.proofs.Common.{ℕ, ◌≡◌, ◌<◌, ◌≤◌, ◌+◌, Bool, true, false, cond, List, [], ◌∷◌, ◌++◌, length, filter, take, get_or, sym, ap, ◌∙◌, arith, append_assoc, subst}
 use Rattle.kc_types.specs.declared.call.Call.{Call}
 use Rattle.kc_types.specs.declared.reply.Reply.{Reply}
 use Rattle.kc_model.specs.State.{State}
-use Rattle.kc_model.specs.Next.{next, state_after}
+use Rattle.kc_model.specs.Next.{next, replies_from, state_after}
+use Rattle.kc_model.proofs.States.Runs.{replies_from-more}
+use Rattle.kc_remarks.specs.declared.denials.Denials.{Denials}
 use Rattle.kc_remarks.specs.declared.remark.Note.{Note}
 use Rattle.kc_remarks.specs.Remarks.{notes_by, notes_from}
-use Rattle.kc_remarks.specs.Denials.{is_denied, is_denial}
+use Rattle.kc_remarks.specs.Denials.{is_denied, is_denial, Counts}
 use Rattle.kc_remarks.proofs.Runs.{notes-more}
 use Rattle.kc_remarks.proofs.Counted.{both, of-call}
 
@@ -24,3 +26,16 @@ denied-more n m old calls i call reply before counted now lt is from answered so
 pub denied-few : (denied : Bool) (before counted now i : ℕ) → counted ≤ before + i → now ≡ counted + cond denied 1 0 → now ≤ before + (i + 1)
 denied-few true before counted now i few added = omega (arith, few, added)
 denied-few false before counted now i few added = omega (arith, few, added)
+
+-- the counts go on by that call's reply
+pub counted-more : (m old : State) (calls : List Call) (i : ℕ) (call : Call) (reply : Reply) (before counted now : Denials) → i < length calls → call ≡ get_or calls i call → old ≡ state_after m (take i calls) → reply ≡ (next old call).0
+    → ((replies : List Reply) → Counts replies before → Counts (replies ++ replies_from m (take i calls)) counted) → ((replies : List Reply) → Counts replies counted → Counts (replies ++ reply ∷ []) now)
+    → (replies : List Reply) → Counts replies before → Counts (replies ++ replies_from m (take (i + 1) calls)) now
+counted-more m old calls i call reply before counted now lt is from answered so_far added replies h =
+    let front = replies_from m (take i calls) in
+    let last : reply ≡ (next (state_after m (take i calls)) call).0 = answered ∙ ap (λ (s : State). (next s call).0) from in
+    let grown : (replies ++ front) ++ reply ∷ [] ≡ replies ++ replies_from m (take (i + 1) calls) =
+    append_assoc replies front (reply ∷ [])
+    ∙ ap (λ r. replies ++ (front ++ r ∷ [])) last
+    ∙ ap (λ (rs : List Reply). replies ++ rs) (sym (replies_from-more m calls i call lt is)) in
+    subst (λ (rs : List Reply). Counts rs now) grown (added (replies ++ front) (so_far replies h))

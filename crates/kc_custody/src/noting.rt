@@ -1,8 +1,9 @@
 //! The notes on a call, and on calls in order.
-ghost use Rattle.std.specs.Prelude.{◌≡◌, ◌≤◌, ◌+◌, ◌^◌, ◌++◌, ◌<◌, length, filter, IfOk, OnOk};
-ghost use Rattle.kc_model.specs.Next.{next, state_after};
+ghost use Rattle.std.specs.Prelude.{◌≡◌, ◌≤◌, ◌+◌, ◌^◌, ◌++◌, ◌<◌, List, length, filter, IfOk, OnOk};
+ghost use Rattle.kc_types.specs.declared.reply.Reply.{Reply};
+ghost use Rattle.kc_model.specs.Next.{next, replies_from, state_after};
 ghost use Rattle.kc_remarks.specs.Remarks.{notes_by, notes_from};
-ghost use Rattle.kc_remarks.specs.Denials.{is_denied};
+ghost use Rattle.kc_remarks.specs.Denials.{is_denied, Counts};
 
 use crate::naming::named_by;
 use crate::telling::tell_call;
@@ -50,6 +51,7 @@ pub fn note_calls(
     ensures state { OnOk result (core.new ≡ state_after core.old calls.now) }
     ensures denied { OnOk result (denials.new.total ≡ denials.old.total + length (filter is_denied (notes_from first core.old calls.now))) }
     ensures few { OnOk result (denials.new.total ≤ denials.old.total + length calls.now) }
+    ensures counted { OnOk result ((replies : List Reply) → Counts replies denials.old → Counts (replies ++ replies_from core.old calls.now) denials.new) }
 {
     for (i, call) in calls.iter().enumerate() {
         let reply = note_call(alloc, core, call, first + i as u32, notes)?;

@@ -1,11 +1,12 @@
 //! The events of a call, and of calls in order.
-ghost use Rattle.std.specs.Prelude.{◌≡◌, ◌≤◌, ◌+◌, ◌^◌, ◌++◌, ◌<◌, length, map, filter, vec_len, vec_capacity, IfOk, IfSome, OnOk, OnErr, None, option_map};
+ghost use Rattle.std.specs.Prelude.{◌≡◌, ◌≤◌, ◌+◌, ◌^◌, ◌++◌, ◌<◌, List, length, map, filter, vec_len, vec_capacity, IfOk, IfSome, OnOk, OnErr, None, option_map};
 ghost use Rattle.kc_types.specs.declared.call.Call.TheVariants.{Verify};
-ghost use Rattle.kc_model.specs.Next.{next, state_after};
+ghost use Rattle.kc_types.specs.declared.reply.Reply.{Reply};
+ghost use Rattle.kc_model.specs.Next.{next, replies_from, state_after};
 ghost use Rattle.kc_model.specs.Custody.{images_by};
 ghost use Rattle.kc_model.specs.Events.{events_by, events_from};
 ghost use Rattle.kc_remarks.specs.Remarks.{notes_from};
-ghost use Rattle.kc_remarks.specs.Denials.{is_denied};
+ghost use Rattle.kc_remarks.specs.Denials.{is_denied, Counts};
 ghost use Rattle.kc_custody.specs.Marks.{mark_of, settled, differs, frame_event, turning, phase_mark, phase_told, accessed, access_told};
 
 use crate::look_ups::{custody_at, phase_at, same_custody, same_phase};
@@ -203,6 +204,7 @@ pub fn tell_calls(
     ensures state { OnOk result (core.new ≡ state_after core.old calls.now) }
     ensures denied { OnOk result (denials.new.total ≡ denials.old.total + length (filter is_denied (notes_from first core.old calls.now))) }
     ensures few { OnOk result (denials.new.total ≤ denials.old.total + length calls.now) }
+    ensures counted { OnOk result ((replies : List Reply) → Counts replies denials.old → Counts (replies ++ replies_from core.old calls.now) denials.new) }
 {
     for (i, call) in calls.iter().enumerate() {
         let reply = tell_call(alloc, core, call, first + i as u32, told)?;

@@ -1,3 +1,4 @@
 pub mod Runs
 pub mod Events
 pub mod Counted
+pub mod Counts

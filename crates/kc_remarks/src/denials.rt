@@ -1,11 +1,43 @@
 //! How many calls were refused or rejected, and for what.
-ghost use Rattle.std.specs.Prelude.{◌≡◌, ◌<◌, ◌+◌, ◌^◌, cond};
-ghost use Rattle.kc_remarks.specs.Denials.{is_denial};
+ghost use Rattle.std.specs.Prelude.{◌≡◌, ◌<◌, ◌+◌, ◌^◌, ◌++◌, ◌∷◌, [], List, cond, filter, length, slice_index_or, slice_set};
+ghost use Rattle.kc_types.specs.Refusals.{number_of};
+ghost use Rattle.kc_types.specs.declared.reply.Reply.{Reply};
+ghost use Rattle.kc_remarks.specs.Denials.{is_denial, denies_for, is_outside, count_for, outside_in, Counts, is_mostly_outside};
 
 use kc_types::{Refusal, Reply};
 
 /// The numbers of refusals, 1 to 26, and 0 for calls that were rejected.
 const REASONS: usize = 27;
+
+/// All reasons for refusals, in the order of their numbers.
+pub const REFUSALS: [Refusal; 26] = [
+    Refusal::BadVm,
+    Refusal::BadVcpu,
+    Refusal::BadFrame,
+    Refusal::BadGfn,
+    Refusal::BadRange,
+    Refusal::SlotUsed,
+    Refusal::NoVm,
+    Refusal::WrongPhase,
+    Refusal::VcpuUsed,
+    Refusal::NoVcpu,
+    Refusal::ImagesFull,
+    Refusal::Overlap,
+    Refusal::NoImage,
+    Refusal::ImageFull,
+    Refusal::ImageShort,
+    Refusal::NoFault,
+    Refusal::Mapped,
+    Refusal::NotMapped,
+    Refusal::NotHost,
+    Refusal::Protected,
+    Refusal::NotPresent,
+    Refusal::TablesFull,
+    Refusal::ShareFull,
+    Refusal::NotShared,
+    Refusal::Shared,
+    Refusal::NoFree,
+];
 
 /// How many calls were refused or rejected, and for what.
 #[derive(Clone, Copy, Debug, PartialEq, Eq)]
@@ -18,7 +50,8 @@ pub struct Denials {
 
 impl Denials {
     pub fn none() -> Denials
-        ensures { result.total ≡ 0 }
+        ensures total { result.total ≡ 0 }
+        ensures counted { Counts [] result }
     {
         Denials {
             total: 0,
@@ -27,19 +60,20 @@ impl Denials {
     }
 
     fn count(&mut self, reason: usize)
-        requires { self.old.total + 1 < 2 ^ 32 }
-        ensures { self.new.total ≡ self.old.total + 1 }
+        requires total { self.old.total + 1 < 2 ^ 32 }
+        requires reason { reason < length self.old.reasons }
+        ensures total { self.new.total ≡ self.old.total + 1 }
+        ensures reasons { count_for reason self.old + 1 < 2 ^ 32 → self.new.reasons ≡ slice_set self.old.reasons reason (count_for reason self.old + 1) }
     {
         self.total += 1;
-        if let Some(count) = self.reasons.get_mut(reason) {
-            *count = count.saturating_add(1);
-        }
+        self.reasons[reason] = self.reasons[reason].saturating_add(1);
     }
 
     /// Counts the reply to a call, if it denies it.
     pub fn note(&mut self, reply: &Reply)
         requires { self.old.total + 1 < 2 ^ 32 }
-        ensures { self.new.total ≡ self.old.total + cond (is_denial reply.now) 1 0 }
+        ensures total { self.new.total ≡ self.old.total + cond (is_denial reply.now) 1 0 }
+        ensures counted { (replies : List Reply) → Counts replies self.old → Counts (replies ++ reply.now ∷ []) self.new }
     {
         match reply {
             Reply::Refused(refusal) => self.count(usize::from(refusal.number())),
@@ -48,23 +82,55 @@ impl Denials {
         }
     }
 
-    /// How many calls were refused for a reason.
-    pub fn refused(&self, refusal: Refusal) -> u32 {
-        match self.reasons.get(usize::from(refusal.number())) {
+    /// How many calls were denied for the reason of this number.
+    fn count_for(&self, reason: usize) -> u32
+        ensures { result ≡ count_for reason self.now }
+    {
+        match self.reasons.get(reason) {
             Some(count) => *count,
             None => 0,
         }
     }
 
-    /// How many calls were refused since they name a frame or a slot that the machine does not have.
-    pub fn outside(&self) -> u32 {
-        self.refused(Refusal::BadFrame)
-            .saturating_add(self.refused(Refusal::BadVm))
+    /// How many calls were refused for a reason.
+    pub fn refused(&self, refusal: Refusal) -> u32
+        ensures count { result ≡ count_for (number_of refusal) self.now }
+        ensures replies { (replies : List Reply) → Counts replies self.now → result ≡ length (filter (denies_for (number_of refusal)) replies) }
+    {
+        self.count_for(usize::from(refusal.number()))
     }
 
     /// How many calls were rejected.
-    pub fn rejected(&self) -> u32 {
-        let [rejected, ..] = self.reasons;
-        rejected
+    pub fn rejected(&self) -> u32
+        ensures count { result ≡ count_for 0 self.now }
+        ensures replies { (replies : List Reply) → Counts replies self.now → result ≡ length (filter (denies_for 0) replies) }
+    {
+        self.count_for(0)
+    }
+
+    /// How many calls were refused since they name a frame or a slot that the machine does not have.
+    pub fn outside(&self) -> usize
+        ensures count { result ≡ outside_in self.now }
+        ensures replies { (replies : List Reply) → Counts replies self.now → result ≡ length (filter is_outside replies) }
+    {
+        self.refused(Refusal::BadFrame) as usize + self.refused(Refusal::BadVm) as usize
+    }
+}
+
+/// How the calls of a trace were answered.
+#[derive(Clone, Copy, Debug, PartialEq, Eq)]
+pub struct Answered {
+    /// How many calls there are.
+    pub calls: usize,
+    /// How many of them were refused or rejected, and for what.
+    pub denials: Denials,
+}
+
+impl Answered {
+    /// Whether more than half of the calls name a frame or a slot that the machine does not have.
+    pub fn is_mostly_outside(&self) -> bool
+        ensures { result ≡ is_mostly_outside self.now }
+    {
+        2 * self.denials.outside() > self.calls
     }
 }

@@ -2,7 +2,7 @@
 //! the host that a VM's frame served; never bytes.
 //!
 //! - what is noted of a call beside its events: `specs/Remarks.antt`, `src/remark.rt`, `src/telling.rt`
-//! - how many calls are noted as refused: `specs/Denials.antt`, `src/laws.rt`
+//! - how many calls are refused, and for what: `specs/Denials.antt`, `src/denials.rt`; how many are noted so: `src/laws.rt`
 #![tactic(auto)]
 
 mod denials;
@@ -10,6 +10,6 @@ pub mod laws;
 mod remark;
 mod telling;
 
-pub use denials::Denials;
+pub use denials::{Answered, Denials, REFUSALS};
 pub use remark::{Access, CallKind, Denial, Denied, NamedFrame, Note, Remarks};
 pub use telling::{note_events, remark_told};

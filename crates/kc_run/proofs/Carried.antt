@@ -5,6 +5,7 @@ use Rattle.std.specs.Io.KnownBytes.{IsAtEnd}
 use Rattle.kc_types.specs.Limits.{worker_limit}
 use Rattle.kc_trace.specs.declared.fault.TraceFault.{TraceFault}
 use Rattle.kc_trace.specs.Trace.{IsRefused}
+use Rattle.kc_remarks.specs.declared.denials.Answered.{Answered}
 use Rattle.kc_dump_text.specs.declared.fault.DumpFault.{DumpFault}
 use Rattle.kc_dump_text.specs.Refused.{IsRefusedDump}
 use Rattle.kc_texts.specs.declared.origin.Origin.{Origin}
@@ -15,19 +16,18 @@ use Rattle.kc_texts.specs.Audit.{Audits, BeginsAudit, IsDumpFault}
 use Rattle.kc_texts.specs.Outcomes.{Seen, TellsSources, TellsTexts, TellsReplay, TellsSink}
 use Rattle.kc_texts.specs.Reading.{Writes, Begins}
 use Rattle.kc_texts.proofs.Told.{sources_after, texts_after, replay_after, sources_err, texts_err, replay_err}
+use Rattle.kc_cli.proofs.Sources.{sink_ok}
 use Rattle.kc_redact_text.specs.Redacts.{Redacts, BeginsRedaction, IsRedactFault, IsHostRedacted, IsHostRedactFault}
 use Rattle.kc_cli.specs.declared.order.ReplayForm.{ReplayForm}
 use Rattle.kc_cli.specs.declared.account.CustodyForm.{CustodyForm}
 use Rattle.kc_cli.specs.declared.account.Scope.{Scope}
 use Rattle.kc_cli.specs.Engine.{IsReplayText, IsLeftText}
 use Rattle.kc_cli.specs.Custody.{IsCustodyText, TellsCustody, origin_of}
+use Rattle.kc_cli.specs.Answers.{AreAnswered}
 use Rattle.kc_cli.specs.Live.{IsLiveText, CouldRun, HasBadActor}
 use Rattle.kc_run.specs.declared.ending.Ending.TheVariants as endings
-use Rattle.kc_run.specs.Endings.{done_as, judged_as}
+use Rattle.kc_run.specs.Endings.{done_as, answered_as, judged_as}
 use Rattle.kc_run.specs.Run.{Ends, Replays, ReportsCustody, RunsLive, AuditsDump, RedactsTrace, RedactsHost}
-
-sink_ok : {A B : Type 0} (failed : Bool) (begun untouched : Type 0) (x : A) (y : B) → TellsSink failed begun untouched (Ok x) → TellsSink failed begun untouched (Ok y)
-sink_ok failed begun untouched x y h = record { write = λ e. absurd cc; failed_is = λ bad. let e = h.failed_is bad in absurd cc; kept = tt }
 
 sink_err : {A B : Type 0} (failed : Bool) (begun untouched : Type 0) (f : TextFault) → TellsSink {A = A} failed begun untouched (Err f) → TellsSink {A = B} failed begun untouched (Err f)
 sink_err {A} {B} failed begun untouched f h = record {
@@ -107,22 +107,23 @@ compares origin form blank workers start to ends (Err f) opened written same sou
   sink = sink_err _ _ _ f sink;
 }
 
-pub reports : {A : Type 0} (form : CustodyForm) (scope : Scope) (start : Seen) (ends : Ends) (r : Result A TextFault) → ends.refused ≡ None
+pub reports : (form : CustodyForm) (scope : Scope) (start : Seen) (ends : Ends) (r : Result Answered TextFault) → ends.refused ≡ None
+    → IfOk r (AreAnswered (origin_of form) start.had ends.input.had)
     → OnOk r (Writes (IsCustodyText form scope) start.had ends.input.had ends.out.had ends.out.has) → TellsSources (start ∷ ends.input ∷ []) r → TellsTexts (origin_of form) start ends.input ends.unread r → TellsCustody scope.vm (origin_of form) start.had ends.unread r
-    → TellsSink ends.out.failed (Begins (IsCustodyText form scope) start.had ends.input.had ends.out.had ends.out.has) ends.untouched r → ReportsCustody form scope start ends (done_as r)
-reports form scope start ends (Ok x) opened written sources told custody sink = record {
+    → TellsSink ends.out.failed (Begins (IsCustodyText form scope) start.had ends.input.had ends.out.had ends.out.has) ends.untouched r → ReportsCustody form scope start ends (answered_as r)
+reports form scope start ends (Ok x) opened answered written sources told custody sink = record {
   opened = opened;
   written = written;
-  done = refl;
-  sources = sources_after _ x (Ok endings.Done) sources tt;
-  told = texts_after _ _ _ _ x (Ok endings.Done) told tt;
-  custody = custody_ok _ _ _ _ x endings.Done custody;
-  sink = sink_ok _ _ _ x endings.Done sink;
+  answered = answered;
+  sources = sources_after _ x (Ok (endings.Answered x)) sources tt;
+  told = texts_after _ _ _ _ x (Ok (endings.Answered x)) told tt;
+  custody = custody_ok _ _ _ _ x (endings.Answered x) custody;
+  sink = sink_ok _ _ _ x (endings.Answered x) sink;
 }
-reports form scope start ends (Err f) opened written sources told custody sink = record {
+reports form scope start ends (Err f) opened answered written sources told custody sink = record {
   opened = opened;
   written = tt;
-  done = tt;
+  answered = tt;
   sources = sources_err _ f sources;
   told = texts_err _ _ _ _ f told;
   custody = custody_err _ _ _ _ f custody;

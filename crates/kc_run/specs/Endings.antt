@@ -1,6 +1,8 @@
 -- How the program ends: its exit status, and what it reports on the error sink.
 use Rattle.std.specs.Prelude.{◌≡◌, ℕ, Bool, true, false, List, codes, take, Option, Some, None, Result, Ok, Err}
 use Rattle.std.specs.Io.KnownBytes.{Appends}
+use Rattle.kc_remarks.specs.declared.denials.Answered.{Answered}
+use Rattle.kc_remarks.specs.Denials.{is_mostly_outside}
 use Rattle.kc_texts.specs.declared.fault.TextFault.{TextFault}
 use Rattle.kc_texts.specs.Faults.{status_of, fault_line}
 use Rattle.kc_run.specs.declared.ending.Ending.{Ending}
@@ -23,9 +25,15 @@ abbrev pub judged_as : Result Bool TextFault → Ending → Ended
 judged_as (Ok so) other = Ok (ending_of so other)
 judged_as (Err fault) other = Err fault
 
+-- that of an engine that counts how calls were answered
+abbrev pub answered_as : Result Answered TextFault → Ended
+answered_as (Ok answered) = Ok (endings.Answered answered)
+answered_as (Err fault) = Err fault
+
 -- 0 where all is as it was asked, 1 where the state is another one or something is found in the dump, else that of the fault
 abbrev pub status_after : Ended → ℕ
 status_after (Ok endings.Done) = 0
+status_after (Ok (endings.Answered answered)) = 0
 status_after (Ok endings.Another) = 1
 status_after (Ok endings.Unsound) = 1
 status_after (Err fault) = status_of fault
@@ -33,6 +41,11 @@ status_after (Err fault) = status_of fault
 abbrev pub fault_in : Ended → Option TextFault
 fault_in (Ok ending) = None
 fault_in (Err fault) = Some fault
+
+-- how the calls were answered, if the engine counts that
+abbrev pub answered_in : Ended → Option Answered
+answered_in (Ok (endings.Answered answered)) = Some answered
+answered_in _ = None
 
 -- a sink as a run found and left it: whether a write to it failed, and the bytes that it had taken before and has now, where it tells them
 pub record Took : Type 0 where
@@ -48,9 +61,19 @@ pub record Takes (sink : Took) (text : List ℕ) : Type 0 where
   pub whole : sink.failed ≡ false → Appends sink.had sink.has text
   pub begun : sink.failed ≡ true → (n : ℕ) × Appends sink.had sink.has (take n text)
 
--- the error sink takes the line of a fault or of another state, and nothing else
+-- what is reported if more than half of the calls name a frame or a slot that the machine does not have
+abbrev pub outside_line : List ℕ
+outside_line = codes "kcore: warning: more than half of the calls name frames or slots that the machine does not have\n"
+
+-- the error sink takes that line if they do, and nothing otherwise
+abbrev pub IsWarned : Bool → Took → Type 0 → Type 0
+IsWarned true err untouched = Takes err outside_line
+IsWarned false err untouched = untouched
+
+-- the error sink takes the line of a fault, of another state or of this warning, and nothing else
 abbrev pub IsReported : Ended → Took → Type 0 → Type 0
 IsReported (Ok endings.Done) err untouched = untouched
+IsReported (Ok (endings.Answered answered)) err untouched = IsWarned (is_mostly_outside answered) err untouched
 IsReported (Ok endings.Another) err untouched = Takes err (codes "kcore: another state\n")
 IsReported (Ok endings.Unsound) err untouched = untouched
 IsReported (Err fault) err untouched = Takes err (fault_line fault)

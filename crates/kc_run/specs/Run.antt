@@ -3,6 +3,7 @@ use Rattle.std.specs.Prelude.{◌≡◌, ◌≢◌, ◌⊎◌, ◌<◌, ◌↔�
 use Rattle.std.specs.Io.KnownBytes.{IsAtEnd}
 use Rattle.kc_types.specs.Limits.{worker_limit}
 use Rattle.kc_args.specs.declared.job.Job.{Job}
+use Rattle.kc_remarks.specs.declared.denials.Answered.{Answered}
 use Rattle.kc_dump_text.specs.declared.fault.DumpFault.{DumpFault}
 use Rattle.kc_dump_text.specs.Refused.{IsRefusedDump}
 use Rattle.kc_trace.specs.declared.fault.TraceFault.{TraceFault}
@@ -20,6 +21,7 @@ use Rattle.kc_cli.specs.declared.account.CustodyForm.{CustodyForm}
 use Rattle.kc_cli.specs.declared.account.Scope.{Scope}
 use Rattle.kc_cli.specs.Engine.{IsReplayText, IsLeftText}
 use Rattle.kc_cli.specs.Custody.{IsCustodyText, TellsCustody, origin_of}
+use Rattle.kc_cli.specs.Answers.{AreAnswered}
 use Rattle.kc_cli.specs.Live.{IsLiveText, CouldRun, HasBadActor}
 use Rattle.kc_run.specs.declared.plan.Start.{Start}
 use Rattle.kc_run.specs.declared.plan.Start.TheVariants as starts
@@ -31,7 +33,7 @@ use Rattle.kc_run.specs.declared.ending.Ending.TheVariants as endings
 use Rattle.kc_run.specs.Clashes.{clash_text}
 use Rattle.kc_run.specs.Plans.{Path, plan_of, path_of, origin_at, form_of, start_in, input_of}
 use Rattle.kc_run.specs.Opening.{Held, text_at, IsOpenFault}
-use Rattle.kc_run.specs.Endings.{Ended, Took, Takes, status_after, fault_in, IsReported}
+use Rattle.kc_run.specs.Endings.{Ended, Took, Takes, status_after, fault_in, answered_in, IsReported}
 
 -- what a run finds and leaves: what the files hold, the path that could not be opened, if one could not; standard input, and that nothing was read of it; the sink, and that it is as it was
 pub record Ends : Type 1 where
@@ -58,7 +60,7 @@ abbrev pub IsCompared : Origin → Bool → Option (List ℕ) → Option (List �
 IsCompared origin blank start trace None ending = ending ≡ endings.Done
 IsCompared origin blank start trace (Some to) endings.Done = IsLeftText origin blank start trace to.had true
 IsCompared origin blank start trace (Some to) endings.Another = IsLeftText origin blank start trace to.had false
-IsCompared origin blank start trace (Some to) endings.Unsound = ⊥
+IsCompared origin blank start trace (Some to) ending = ⊥
 
 abbrev pub those_of : Option Seen → List Seen
 those_of None = []
@@ -80,11 +82,16 @@ ReplaysTo origin form blank workers None start ends ended = Replays origin form 
 ReplaysTo origin form blank workers (Some path) start ends ended =
     IsUnopened (Some path) ends ended ⊎ ((to : Seen) × (to.had ≡ ends.held path.now) × Replays origin form blank workers start (Some to) ends ended)
 
+-- the ending counts the trace's calls, and those that were refused or rejected
+abbrev pub IsAnswered : Origin → Option (List ℕ) → Option (List ℕ) → Ending → Type 0
+IsAnswered origin start trace (endings.Answered answered) = AreAnswered origin start trace answered
+IsAnswered origin start trace ending = ⊥
+
 -- a report of custody over open sources ended so
 pub record ReportsCustody (form : CustodyForm) (scope : Scope) (start : Seen) (ends : Ends) (ended : Ended) : Type 0 where
   pub opened : ends.refused ≡ None
   pub written : OnOk ended (Writes (IsCustodyText form scope) start.had ends.input.had ends.out.had ends.out.has)
-  pub done : IfOk ended (λ ending. ending ≡ endings.Done)
+  pub answered : IfOk ended (IsAnswered (origin_of form) start.had ends.input.had)
   pub sources : TellsSources (start ∷ ends.input ∷ []) ended
   pub told : TellsTexts (origin_of form) start ends.input ends.unread ended
   pub custody : TellsCustody scope.vm (origin_of form) start.had ends.unread ended
@@ -107,8 +114,8 @@ pub record RunsLive (workers : ℕ) (config : Seen) (ends : Ends) (ended : Ended
 -- whether the dump is sound
 abbrev pub IsAudited : Bool → Ends → Ending → Type 0
 IsAudited all ends endings.Done = Audits all ends.input.had true ends.out.had ends.out.has
-IsAudited all ends endings.Another = ⊥
 IsAudited all ends endings.Unsound = Audits all ends.input.had false ends.out.had ends.out.has
+IsAudited all ends ending = ⊥
 
 -- an audit ended so
 pub record AuditsDump (all : Bool) (ends : Ends) (ended : Ended) : Type 0 where
@@ -166,26 +173,28 @@ IsEndingOf left failed None plan ends ended = IsEnding plan ends ended
 IsEndingOf left failed (Some path) plan ends ended = IsUnopened (Some path) ends ended ⊎ ReadsFile left failed path plan ends ended
 
 -- a plan was run; the exit status and the error sink say how that ended
-pub record IsPlanRun {S : Type 0} (left : S → Option (List ℕ)) (failed : S → Bool) (path : Option Path) (plan : Plan) (ends : Ends) (err : Took) (silent : Type 0) (status : ℕ) (fault : Option TextFault) : Type 0 where
+pub record IsPlanRun {S : Type 0} (left : S → Option (List ℕ)) (failed : S → Bool) (path : Option Path) (plan : Plan) (ends : Ends) (err : Took) (silent : Type 0) (status : ℕ) (fault : Option TextFault) (answered : Option Answered) : Type 0 where
   pub ended : Ended
   pub ending : IsEndingOf left failed path plan ends ended
   pub status_is : status ≡ status_after ended
   pub fault_is : fault ≡ fault_in ended
+  pub answered_is : answered ≡ answered_in ended
   pub reported : IsReported ended err silent
 
 -- options that contradict each other are refused before anything is opened, read or written
-pub record IsRefusedRun (clash : Clash) (ends : Ends) (err : Took) (status : ℕ) (fault : Option TextFault) : Type 0 where
+pub record IsRefusedRun (clash : Clash) (ends : Ends) (err : Took) (status : ℕ) (fault : Option TextFault) (answered : Option Answered) : Type 0 where
   pub opened : ends.refused ≡ None
   pub unread : ends.unread
   pub untouched : ends.untouched
   pub status_is : status ≡ 2
   pub fault_is : fault ≡ None
+  pub answered_is : answered ≡ None
   pub reported : Takes err (clash_text clash)
 
-abbrev pub IsRunOf : {S : Type 0} → (S → Option (List ℕ)) → (S → Bool) → Option Path → Result Plan Clash → Ends → Took → Type 0 → ℕ → Option TextFault → Type 0
-IsRunOf left failed path (Ok plan) ends err silent status fault = IsPlanRun left failed path plan ends err silent status fault
-IsRunOf left failed path (Err clash) ends err silent status fault = IsRefusedRun clash ends err status fault
+abbrev pub IsRunOf : {S : Type 0} → (S → Option (List ℕ)) → (S → Bool) → Option Path → Result Plan Clash → Ends → Took → Type 0 → ℕ → Option TextFault → Option Answered → Type 0
+IsRunOf left failed path (Ok plan) ends err silent status fault answered = IsPlanRun left failed path plan ends err silent status fault answered
+IsRunOf left failed path (Err clash) ends err silent status fault answered = IsRefusedRun clash ends err status fault answered
 
--- what a run of a job leaves, and the exit status and the fault that it answers
-abbrev pub IsRun : {S : Type 0} → (S → Option (List ℕ)) → (S → Bool) → Job → Ends → Took → Type 0 → ℕ → Option TextFault → Type 0
-IsRun left failed job ends err silent status fault = IsRunOf left failed (input_of job) (plan_of job) ends err silent status fault
+-- what a run of a job leaves, and the exit status, the fault and the counts that it answers
+abbrev pub IsRun : {S : Type 0} → (S → Option (List ℕ)) → (S → Bool) → Job → Ends → Took → Type 0 → ℕ → Option TextFault → Option Answered → Type 0
+IsRun left failed job ends err silent status fault answered = IsRunOf left failed (input_of job) (plan_of job) ends err silent status fault answered

@@ -1,17 +1,23 @@
 //! How the program ends: its exit status, and what it reports on the error sink.
 ghost use Rattle.std.specs.Prelude.{◌≡◌, ℕ, take, false, true, None};
 ghost use Rattle.std.specs.Io.KnownBytes.{Appends};
+ghost use Rattle.kc_remarks.specs.Denials.{is_mostly_outside};
 ghost use Rattle.kc_run.specs.Clashes.{clash_text};
-ghost use Rattle.kc_run.specs.Endings.{Takes, took, status_after, fault_in, IsReported};
+ghost use Rattle.kc_run.specs.Endings.{Takes, took, status_after, fault_in, answered_in, IsWarned, IsReported};
 
 use crate::clash::Clash;
-use kc_cli::{Sink, TextFault, tell, write_whole};
+use kc_cli::{Answered, Sink, TextFault, tell, write_whole};
+
+const OUTSIDE: &str =
+    "kcore: warning: more than half of the calls name frames or slots that the machine does not have\n";
 
 /// How a job ends that meets no fault.
 #[derive(Clone, Copy, Debug, PartialEq, Eq)]
 pub enum Ending {
     /// What was asked for is written.
     Done,
+    /// The same, and this is how the trace's calls were answered.
+    Answered(Answered),
     /// The same, and the state that the trace leaves is not the one that it was compared with.
     Another,
     /// The same, and something is found in the dump.
@@ -25,6 +31,8 @@ pub struct Exit {
     pub status: u8,
     /// The fault whose line was written, if there is one.
     pub fault: Option<TextFault>,
+    /// How the trace's calls were answered, if that was counted.
+    pub answered: Option<Answered>,
 }
 
 impl Exit {
@@ -32,10 +40,12 @@ impl Exit {
     fn with_status(status: u8) -> Exit
         ensures status { result.status ≡ status }
         ensures fault { result.fault ≡ None }
+        ensures answered { result.answered ≡ None }
     {
         Exit {
             status,
             fault: None,
+            answered: None,
         }
     }
 }
@@ -49,15 +59,34 @@ fn say<L: Sink>(text: &str, err: &mut L)
     let _ = write_whole(err, text.as_bytes());
 }
 
+/// Warns of a trace that may be of another machine.
+fn warn<L: Sink>(answered: &Answered, err: &mut L)
+    requires { L.failed err.old ≡ false }
+    ensures { IsWarned (is_mostly_outside answered.now) (took (L.failed err.new) (L.taken err.old) (L.taken err.new)) (err.new ≡ err.old) }
+{
+    if answered.is_mostly_outside() {
+        say(OUTSIDE, err);
+    }
+}
+
 /// Reports how a job ended.
 pub(crate) fn end<L: Sink>(ended: Result<Ending, TextFault>, err: &mut L) -> Exit
     requires { L.failed err.old ≡ false }
     ensures status { result.status ≡ status_after ended }
     ensures fault { result.fault ≡ fault_in ended }
+    ensures answered { result.answered ≡ answered_in ended }
     ensures reported { IsReported ended (took (L.failed err.new) (L.taken err.old) (L.taken err.new)) (err.new ≡ err.old) }
 {
     match ended {
         Ok(Ending::Done) => Exit::with_status(0),
+        Ok(Ending::Answered(answered)) => {
+            warn(&answered, err);
+            Exit {
+                status: 0,
+                fault: None,
+                answered: Some(answered),
+            }
+        },
         Ok(Ending::Another) => {
             say("kcore: another state\n", err);
             Exit::with_status(1)
@@ -68,6 +97,7 @@ pub(crate) fn end<L: Sink>(ended: Result<Ending, TextFault>, err: &mut L) -> Exi
             Exit {
                 status,
                 fault: Some(fault),
+                answered: None,
             }
         },
     }
@@ -78,6 +108,7 @@ pub(crate) fn refuse<L: Sink>(clash: Clash, err: &mut L) -> Exit
     requires { L.failed err.old ≡ false }
     ensures status { result.status ≡ 2 }
     ensures fault { result.fault ≡ None }
+    ensures answered { result.answered ≡ None }
     ensures reported { Takes (took (L.failed err.new) (L.taken err.old) (L.taken err.new)) (clash_text clash) }
 {
     say(clash.text().as_str(), err);

@@ -3,7 +3,7 @@ ghost use Rattle.std.specs.Prelude.{◌≡◌, false, None};
 ghost use Rattle.kc_texts.specs.Outcomes.{seen};
 ghost use Rattle.kc_run.specs.Plans.{origin_at, form_of, start_in};
 ghost use Rattle.kc_run.specs.Opening.{Held};
-ghost use Rattle.kc_run.specs.Endings.{took, done_as, ending_of, judged_as};
+ghost use Rattle.kc_run.specs.Endings.{took, done_as, answered_as, ending_of, judged_as};
 ghost use Rattle.kc_run.specs.Run.{ends_of, BeginsAt, ReplaysTo, ReportsCustody, RunsLive, AuditsDump, RedactsTrace, RedactsHost};
 
 use crate::beginning::{begin, close, open};
@@ -11,8 +11,8 @@ use crate::ending::Ending;
 use crate::files::Files;
 use crate::plan::{Account, Start};
 use kc_cli::{
-    CustodyOrder, Lanes, ReplayOrder, Scope, Sink, Source, TextFault, audit_text, custody_text,
-    live_text, replay_text, replay_to_text,
+    Answered, CustodyOrder, Lanes, ReplayOrder, Scope, Sink, Source, TextFault, audit_text,
+    custody_text, live_text, replay_text, replay_to_text,
 };
 use kc_redact_text::{redact_host_text, redact_text};
 use kc_replay::OpenGate;
@@ -35,6 +35,16 @@ fn done(answer: Result<(), TextFault>) -> Result<Ending, TextFault>
 {
     match answer {
         Ok(()) => Ok(Ending::Done),
+        Err(fault) => Err(fault),
+    }
+}
+
+/// The ending of an engine that counts how calls were answered.
+fn counted(answer: Result<Answered, TextFault>) -> Result<Ending, TextFault>
+    ensures { result ≡ answered_as answer }
+{
+    match answer {
+        Ok(answered) => Ok(Ending::Answered(answered)),
         Err(fault) => Err(fault),
     }
 }
@@ -143,7 +153,7 @@ pub(crate) fn custody<F: Files, T: Source, K: Sink, R: Threads + Wait + Sync>(
         order,
     );
     close(files, beginning);
-    done(answer)
+    counted(answer)
 }
 
 /// Runs the trace live.

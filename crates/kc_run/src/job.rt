@@ -75,8 +75,8 @@ fn run_over<F: Files, T: Source, K: Sink, R: Threads + Wait + Sync>(
 }
 
 /// Does what a job asks for: opens the files that it names, reads its input, which is one of these or standard input, writes onto
-/// the sink what is asked for, and onto the error sink the line of a fault, of another state, or of options that contradict each
-/// other. Each file that was opened is given back.
+/// the sink what is asked for, and onto the error sink the line of a fault, of another state, of a trace that may be of another
+/// machine, or of options that contradict each other. Each file that was opened is given back.
 pub fn run_job<F: Files, T: Source, K: Sink, L: Sink, R: Threads + Wait + Sync>(
     system: &System<'_, R>,
     files: &mut F,
@@ -89,7 +89,7 @@ pub fn run_job<F: Files, T: Source, K: Sink, L: Sink, R: Threads + Wait + Sync>(
     requires input { T.failed input.old ≡ false }
     requires out { K.failed out.old ≡ false }
     requires err { L.failed err.old ≡ false }
-    ensures { IsRun F.File.left F.File.failed job.entry (ends_of (F.held files.old) (F.refused files.new) (seen (T.failed input.new) (T.left input.old) (T.left input.new)) (input.new ≡ input.old) (took (K.failed out.new) (K.taken out.old) (K.taken out.new)) (out.new ≡ out.old)) (took (L.failed err.new) (L.taken err.old) (L.taken err.new)) (err.new ≡ err.old) result.status result.fault }
+    ensures { IsRun F.File.left F.File.failed job.entry (ends_of (F.held files.old) (F.refused files.new) (seen (T.failed input.new) (T.left input.old) (T.left input.new)) (input.new ≡ input.old) (took (K.failed out.new) (K.taken out.old) (K.taken out.new)) (out.new ≡ out.old)) (took (L.failed err.new) (L.taken err.old) (L.taken err.new)) (err.new ≡ err.old) result.status result.fault result.answered }
 {
     match plan_of(job) {
         Ok(plan) => {

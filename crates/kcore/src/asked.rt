@@ -97,6 +97,11 @@ impl<'a> Asked<'a> {
         }
     }
 
+    /// Whether calls begin in the boot state of the default configuration.
+    pub fn is_default(&self) -> bool {
+        self.config.is_none() && self.from.is_none()
+    }
+
     /// What the file at a path is to the job.
     pub fn kind_of(&self, path: &str) -> Kind {
         if self.config == Some(path) {

@@ -4,13 +4,15 @@
 ghost use Rattle.std.specs.Prelude.{◌≡◌, false};
 
 mod asked;
+mod denials;
 mod explaining;
 mod folder;
 
 use crate::asked::Asked;
+use crate::denials::{explain_default, explain_denials};
 use crate::explaining::{Reading, explain_arguments, explain_open};
 use crate::folder::{Folder, Named};
-use kc_cli::{ArgFault, Job, Lanes, Std, TextFault, job_of, tell};
+use kc_cli::{Answered, ArgFault, Job, Lanes, Std, TextFault, job_of, tell};
 use kc_explain::{Erasing, Progress};
 use kc_run::{Exit, System, run_job};
 use std::env;
@@ -40,8 +42,16 @@ fn explain_exit(rt: &HostRuntime, files: &Folder<'_>, input: &Named<'_>, exit: &
     }
 }
 
+/// Says more of how the calls were answered.
+fn explain_answered(rt: &HostRuntime, asked: &Asked<'_>, answered: &Answered) {
+    explain_denials(rt, answered);
+    if asked.is_default() {
+        explain_default(rt);
+    }
+}
+
 /// Opens standard input and the other streams, has the job run, and answers the exit status. A fault is explained if that is
-/// asked for, and at a terminal.
+/// asked for, and at a terminal; and how the calls were answered, if that is asked for, and at a terminal after a warning.
 fn run_with<'a, R: Threads + Wait + Sync>(
     rt: &'a HostRuntime,
     threads: &'a R,
@@ -49,6 +59,7 @@ fn run_with<'a, R: Threads + Wait + Sync>(
     lanes: Lanes,
 ) -> u8 {
     let mut asked = Asked::of(&job);
+    let is_told = asked.explain;
     asked.explain = asked.explain || rt.stderr().is_terminal();
     let _standing_in = stand_in(rt);
     let progress = Progress::new(rt);
@@ -65,6 +76,11 @@ fn run_with<'a, R: Threads + Wait + Sync>(
     progress.erase();
     if asked.explain {
         explain_exit(rt, &files, &input, &exit);
+    }
+    if let Some(answered) = &exit.answered
+        && (is_told || (asked.explain && answered.is_mostly_outside()))
+    {
+        explain_answered(rt, &asked, answered);
     }
     exit.status
 }

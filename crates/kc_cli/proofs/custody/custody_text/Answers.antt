@@ -1,5 +1,5 @@
 use Rattle.std.proofs.Common.{All, List, sym, subst, ◌∙◌}
-use Rattle.std.proofs.lemmas.Result.{err_from_is_err_and, on_ok_weaker}
+use Rattle.std.proofs.lemmas.Result.{err_from_is_err_and, on_ok_weaker, IfOk-weaker}
 use Rattle.kc_model.specs.Custody.{first_line}
 use Rattle.kc_custody.specs.Within.{IsWithin}
 use Rattle.kc_custody.proofs.Traced.{events-within}
@@ -15,10 +15,10 @@ returns-in_err-told-clause-texts g c =
     rw (made.1, made.2) (texts_err _ _ _ _ c.in_err-told.field-0.0 c.in_err-told.ensures.texts)
 
 pub returns-clause-ok : goal.returns-clause-ok
-returns-clause-ok g c = on_ok_weaker c.give_told.result (λ given. gives_custody _ _ _ _ _ _ _ _ _ _ _ c.in_ok-told.ensures.ok c.in_ok-told.ensures.heading given) c.give_told.ensures.ok
+returns-clause-ok g c = on_ok_weaker c.give_answered.result (λ given. gives_custody _ _ _ _ _ _ _ _ _ _ _ c.in_ok-told.ensures.ok c.in_ok-told.ensures.heading given) c.give_answered.ensures.ok
 
 pub returns-clause-sink : goal.returns-clause-sink
-returns-clause-sink g c = sink_more _ _ _ _ _ (λ begun. begins_custody _ _ _ _ _ _ _ _ _ _ _ c.in_ok-told.ensures.ok c.in_ok-told.ensures.heading begun) c.give_told.ensures.sink
+returns-clause-sink g c = sink_more _ _ _ _ _ (λ begun. begins_custody _ _ _ _ _ _ _ _ _ _ _ c.in_ok-told.ensures.ok c.in_ok-told.ensures.heading begun) c.give_answered.ensures.sink
 
 pub returns-in_err-told-clause-sources : goal.returns-in_err-told-clause-sources
 returns-in_err-told-clause-sources g c =
@@ -30,8 +30,11 @@ returns-in_err-told-clause-custody g c =
     let made = err_from_is_err_and c.from_residual.result c.from_residual.ensures.1 in
     rw (made.1, made.2) (custody_err _ _ _ _ c.in_err-told.field-0.0 c.in_err-told.ensures.custody)
 
-pub give_told-requires-clause-within : goal.give_told-requires-clause-within
-give_told-requires-clause-within g c =
+pub give_answered-requires-clause-within : goal.give_answered-requires-clause-within
+give_answered-requires-clause-within g c =
     let h = c.in_ok-told.ensures.ok in
     let same = kept_events _ h.3 _ h.5 ∙ h.4.events in
     rw h.2 (subst (λ (events : List Event). All (IsWithin h.0.config.frames) events) (sym same) (events-within first_line h.0 h.4.calls))
+
+pub returns-clause-answered : goal.returns-clause-answered
+returns-clause-answered g c = IfOk-weaker c.give_answered.result _ _ (λ answered same. rw same c.in_ok-told.ensures.answered) c.give_answered.ensures.answered

@@ -4,12 +4,13 @@ use Rattle.kc_model.proofs.States.Sizes.{config-after}
 use Rattle.kc_remarks.specs.declared.remark.Note.{Note}
 use Rattle.kc_remarks.specs.Remarks.{notes}
 use Rattle.kc_cli.specs.Ledgers.{Keeps}
-use Rattle.kc_cli.proofs.Told.{told_more, left_more, denied_more}
+use Rattle.kc_cli.proofs.Told.{told_more, left_more, denied_more, counted_more}
+use Rattle.kc_cli.proofs.Answered.{answered_from}
 use Rattle.kc_cli.proofs.custody.tell_source.Goals as goal
 
 pub loop-ledger-init : goal.loop-ledger-init
 loop-ledger-init g c = record {
-  read = ([], [], c.stream_of-stream.ensures.none (g.T.Source.left c.args.trace.now), c.new-ledger.ensures, refl, refl, c.none-denials.ensures, omega (arith, c.none-denials.ensures));
+  read = ([], [], c.stream_of-stream.ensures.none (g.T.Source.left c.args.trace.now), c.new-ledger.ensures, refl, refl, c.none-denials.ensures.total, omega (arith, c.none-denials.ensures.total), c.none-denials.ensures.counted);
   hashed = c.stream_of-stream.ensures.hashed;
   few = search rules;
   mark = c.requires;
@@ -47,9 +48,10 @@ loop-ledger-preserved g c =
     let left = left_more c.args.core.now c.loop-ledger.core c.note.new.core before.1 calls before.4 (rw c.deref.ensures.value at c.in-Ok.ensures.state) in
     let counts = denied_more c.args.core.now c.loop-ledger.core before.1 calls c.loop-ledger.line c.loop-ledger.denials.total c.note.new.denials.total before.4 before.5 before.6 (rw c.deref.ensures.value at c.in-Ok.ensures.denied) in
     let same = ap length c.deref.ensures.value in
+    let counted = counted_more c.args.core.now c.loop-ledger.core before.1 calls c.loop-ledger.denials c.note.new.denials before.4 before.8 (rw c.deref.ensures.value at c.in-Ok.ensures.counted) in
     let few : c.note.new.denials.total ≤ length (before.1 ++ calls) = omega (arith, long, before.7, same, c.in-Ok.ensures.few) in
     record {
-      read = (before.0 ++ more.0, before.1 ++ calls, more.1, told, left, omega (arith, long, at), counts, few);
+      read = (before.0 ++ more.0, before.1 ++ calls, more.1, told, left, omega (arith, long, at), counts, few, counted);
       hashed = λ asked. c.in_ok-part.ensures.hashed ∙ c.loop-ledger.invariant.hashed asked;
       few = c.in_ok-part.ensures.few;
       mark = c.in_ok-part.ensures.mark;
@@ -91,3 +93,13 @@ returns-in-Ok-finish-clause-config g c =
     let calls = c.in_ok-part.part.calls.items in
     ap (λ (m : State). m.config) (left_more c.args.core.now c.loop-ledger.core c.note.new.core before.1 calls before.4 (rw c.deref.ensures.value at c.in-Ok.ensures.state))
     ∙ config-after c.args.core.now (before.1 ++ calls)
+
+pub returns-in-Ok-finish-clause-answered : goal.returns-in-Ok-finish-clause-answered
+returns-in-Ok-finish-clause-answered g c =
+    let before = c.loop-ledger.invariant.read in
+    let more = c.in_ok-part.ensures.calls before.0 before.1 (g.T.Source.left c.args.trace.now) before.2 in
+    let calls = c.in_ok-part.part.calls.items in
+    let long = length-append before.1 calls in
+    let at = before.5 in
+    let counted = counted_more c.args.core.now c.loop-ledger.core before.1 calls c.loop-ledger.denials c.note.new.denials before.4 before.8 (rw c.deref.ensures.value at c.in-Ok.ensures.counted) in
+    answered_from (g.T.Source.left c.args.trace.now) c.args.core.now (before.1 ++ calls) _ (c.in-Ok-finish.ensures.ok _ _ _ _ more.1 (c.in_ok-part.ensures.last c.if-part.true)) (omega (arith, long, at)) counted

@@ -1,8 +1,9 @@
 use Rattle.std.proofs.Common.{Err, ap, refl, sym}
-use Rattle.std.proofs.lemmas.Result.{err_from_is_err_and}
+use Rattle.std.proofs.lemmas.Result.{err_from_is_err_and, IfOk-weaker}
 use Rattle.kc_texts.proofs.Told.{texts_start}
 use Rattle.kc_cli.specs.Custody.{origin_of}
 use Rattle.kc_cli.proofs.Headings.{headed}
+use Rattle.kc_cli.proofs.Answered.{are_answered}
 use Rattle.kc_cli.proofs.custody.told_texts.Goals as goal
 
 pub returns-in_err-begun-clause-texts : goal.returns-in_err-begun-clause-texts
@@ -14,3 +15,9 @@ pub returns-clause-heading : goal.returns-clause-heading
 returns-clause-heading g c =
     headed c.args.order.scope (origin_of c.args.order.form) (g.C.Source.left c.args.start.now) (g.T.Source.left c.args.trace.now) c.in_ok-begun.begun.digest c.told_source.result
     (rw c.names_start-is_hashed.ensures at c.in_ok-begun.ensures.digest) c.told_source.ensures.heading
+
+pub returns-clause-answered : goal.returns-clause-answered
+returns-clause-answered g c =
+    IfOk-weaker c.told_source.result _ _
+    (λ told answered. are_answered _ (g.C.Source.left c.args.start.now) (g.T.Source.left c.args.trace.now) c.in_ok-begun.begun.core told.answered (rw c.origin.ensures at c.in_ok-begun.ensures.ok) answered)
+    c.told_source.ensures.answered

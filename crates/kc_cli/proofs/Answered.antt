@@ -1,0 +1,35 @@
+-- How calls were answered, once their trace has ended.
+use Rattle.std.proofs.Common.{◌≡◌, ℕ, suc, List, [], ◌∷◌, length, Option, Some, None, refl, ap, sym, ◌∙◌}
+use Rattle.std.specs.Prelude.{IfSome}
+use Rattle.kc_types.specs.declared.call.Call.{Call}
+use Rattle.kc_model.specs.State.{State}
+use Rattle.kc_model.specs.Next.{next, replies_from}
+use Rattle.kc_remarks.specs.declared.denials.Answered.{Answered}
+use Rattle.kc_remarks.specs.Denials.{Counts, IsAnsweredBy}
+use Rattle.kc_remarks.proofs.Counts.{outside_is}
+use Rattle.kc_trace.specs.Trace.{IsTrace}
+use Rattle.kc_texts.specs.declared.origin.Origin.{Origin}
+use Rattle.kc_texts.specs.Reading.{BeginsIn}
+use Rattle.kc_cli.specs.Answers.{AreAnsweredFrom, AreAnswered}
+
+one_each : (m : State) (calls : List Call) → length (replies_from m calls) ≡ length calls
+one_each m [] = refl
+one_each m (call ∷ calls) = ap suc (one_each (next m call).1 calls)
+
+answered_by : (m : State) (calls : List Call) (answered : Answered) → answered.calls ≡ length calls → Counts (replies_from m calls) answered.denials → IsAnsweredBy (replies_from m calls) answered
+answered_by m calls answered count denials = record {
+  calls = count ∙ sym (one_each m calls);
+  denials = denials;
+  outside = outside_is (replies_from m calls) answered.denials denials;
+}
+
+-- they are those of the source's trace
+pub answered_from : (source : Option (List ℕ)) (m : State) (calls : List Call) (answered : Answered) → IfSome source (λ text. IsTrace text calls) → answered.calls ≡ length calls → Counts (replies_from m calls) answered.denials → IfSome source (λ text. AreAnsweredFrom m text answered)
+answered_from None m calls answered traced count denials = tt
+answered_from (Some text) m calls answered traced count denials = (calls, traced, answered_by m calls answered count denials)
+
+-- and they begin in the state that the other tells
+pub are_answered : (origin : Origin) (start trace : Option (List ℕ)) (m : State) (answered : Answered) → IfSome start (λ text. BeginsIn origin text m) → IfSome trace (λ text. AreAnsweredFrom m text answered) → AreAnswered origin start trace answered
+are_answered origin None trace m answered s t = tt
+are_answered origin (Some start) None m answered s t = tt
+are_answered origin (Some start) (Some trace) m answered s t = (m, s, t)

@@ -1,0 +1,20 @@
+-- How the calls of a trace were answered: how many there are, and how many were refused or rejected, and for what.
+use Rattle.std.specs.Prelude.{ℕ, List, Option, Some, None}
+use Rattle.kc_types.specs.declared.call.Call.{Call}
+use Rattle.kc_model.specs.State.{State}
+use Rattle.kc_model.specs.Next.{replies_from}
+use Rattle.kc_remarks.specs.declared.denials.Answered.{Answered}
+use Rattle.kc_remarks.specs.Denials.{IsAnsweredBy}
+use Rattle.kc_trace.specs.Trace.{IsTrace}
+use Rattle.kc_texts.specs.declared.origin.Origin.{Origin}
+use Rattle.kc_texts.specs.Reading.{BeginsIn}
+
+-- the counts are of the trace's calls, made in order from this state on
+abbrev pub AreAnsweredFrom : State → List ℕ → Answered → Type 0
+AreAnsweredFrom m trace_text answered = (calls : List Call) × IsTrace trace_text calls × IsAnsweredBy (replies_from m calls) answered
+
+-- the same from the state that the first text is of, if both texts are known
+abbrev pub AreAnswered : Origin → Option (List ℕ) → Option (List ℕ) → Answered → Type 0
+AreAnswered origin None trace answered = Unit {0}
+AreAnswered origin (Some start) None answered = Unit {0}
+AreAnswered origin (Some start_text) (Some trace_text) answered = (m : State) × BeginsIn origin start_text m × AreAnsweredFrom m trace_text answered

@@ -1,0 +1,117 @@
+-- What is counted of replies, after one more.
+use Rattle.std.proofs.Common.{ℕ, suc, ◌≡◌, ◌≤◌, ◌<◌, ◌+◌, Bool, true, false, cond, List, [], ◌∷◌, ◌++◌, filter, length, get_or, refl, sym, ap, ◌∙◌, arith, inl, inr}
+use Rattle.std.specs.Prelude.{◌==◌, ◌^◌, slice_set}
+use Rattle.std.proofs.lemmas.Bool.{cases_eq, eq-eqb, ne_eqb}
+use Rattle.std.proofs.lemmas.Grind.{get_or-set_at}
+use Rattle.std.proofs.lemmas.List.{length-append, get_or-set_other}
+use Rattle.std.proofs.lemmas.List.Elements.{filter-append}
+use Rattle.kc_types.specs.Refusals.{number_of}
+use Rattle.kc_types.specs.declared.refusal.Refusal.{Refusal}
+use Rattle.kc_types.specs.declared.refusal.Refusal.TheVariants.{BadVm, BadFrame}
+use Rattle.kc_types.specs.declared.reply.Reply.{Reply}
+use Rattle.kc_types.specs.declared.reply.Reply.TheVariants as reply
+use Rattle.kc_remarks.specs.declared.denials.Denials.{Denials}
+use Rattle.kc_remarks.specs.Denials.{is_denial, denies_for, is_outside, count_for, outside_in, Counts}
+
+-- the first of some elements passes a test, or does not
+pub first : {X : Type 0} (p : X → Bool) (x : X) (more : List X) → length (filter p (x ∷ more)) ≡ cond (p x) 1 0 + length (filter p more)
+first {X} p x more = by_test (p x) (filter p more)
+  where
+    by_test : (b : Bool) (rest : List X) → length (cond b (x ∷ rest) rest) ≡ cond b 1 0 + length rest
+    by_test true rest = let e : suc (length rest) ≡ 1 + length rest = omega arith in e
+    by_test false rest = let e : length rest ≡ 0 + length rest = omega arith in e
+
+-- the last of some does
+pub last : {X : Type 0} (p : X → Bool) (xs : List X) (x : X) → length (filter p (xs ++ x ∷ [])) ≡ length (filter p xs) + cond (p x) 1 0
+last p xs x =
+    let split = ap length (filter-append p xs (x ∷ [])) ∙ length-append (filter p xs) (filter p (x ∷ [])) in
+    let end = first p x [] in
+    let none : length (filter p []) ≡ 0 = refl in
+    omega (arith, split, end, none)
+
+one_at_most : (b : Bool) → cond b 1 0 ≤ 1
+one_at_most true = omega arith
+one_at_most false = omega arith
+
+is_among : (reason : ℕ) (answer : Reply) → cond (denies_for reason answer) 1 0 ≤ cond (is_denial answer) 1 0
+is_among reason (reply.Refused refusal) = one_at_most (number_of refusal == reason)
+is_among reason (reply.Rejected image) = one_at_most (0 == reason)
+is_among reason _ = omega arith
+
+-- those that are denied for one reason are among all that are denied
+are_among : (reason : ℕ) (replies : List Reply) → length (filter (denies_for reason) replies) ≤ length (filter is_denial replies)
+are_among reason [] = omega arith
+are_among reason (answer ∷ more) =
+    let rest = are_among reason more in
+    let here = first (denies_for reason) answer more in
+    let all = first is_denial answer more in
+    let one = is_among reason answer in
+    omega (arith, rest, here, all, one)
+
+-- after a reply that denies no call
+pub after_other : (replies : List Reply) (answer : Reply) (denials : Denials) → is_denial answer ≡ false → Counts replies denials → Counts (replies ++ answer ∷ []) denials
+after_other replies answer denials other h =
+    let no : cond (is_denial answer) 1 0 ≡ 0 = ap (λ (b : Bool). cond b 1 0) other in
+    record {
+      total = let all = last is_denial replies answer in omega (arith, no, all, h.total);
+      each = λ reason. let all = last (denies_for reason) replies answer in let one = is_among reason answer in let before = h.each reason in omega (arith, no, all, one, before);
+    }
+
+count_after : (replies : List Reply) (answer : Reply) (reason k : ℕ) (old new : Denials) → ((i : ℕ) → denies_for i answer ≡ (reason == i)) → reason < length old.reasons → new.reasons ≡ slice_set old.reasons reason (count_for reason old + 1) → Counts replies old
+    → count_for k new ≡ length (filter (denies_for k) (replies ++ answer ∷ []))
+count_after replies answer reason k old new denies inside is h =
+    let grown = last (denies_for k) replies answer in
+    let read : count_for k new ≡ get_or (slice_set old.reasons reason (count_for reason old + 1)) k 0 = ap (λ (xs : List ℕ). get_or xs k 0) is in
+    let before = h.each k in
+    elim (cases_eq k reason) [
+      | inl same ↦
+          let wrote = get_or-set_at old.reasons reason k (count_for reason old + 1) 0 same inside in
+          let hit : cond (denies_for k answer) 1 0 ≡ 1 = ap (λ (b : Bool). cond b 1 0) (denies k ∙ eq-eqb reason k (sym same)) in
+          let here : count_for k old ≡ count_for reason old = ap (λ i. count_for i old) same in
+          omega (arith, grown, read, wrote, hit, before, here)
+      | inr other ↦
+          let wrote = get_or-set_other old.reasons reason k (count_for reason old + 1) 0 other in
+          let miss : cond (denies_for k answer) 1 0 ≡ 0 = ap (λ (b : Bool). cond b 1 0) (denies k ∙ ne_eqb reason k (λ e. other (sym e))) in
+          omega (arith, grown, read, wrote, miss, before)
+    ]
+
+-- after one that denies a call for this reason
+pub after_denial : (replies : List Reply) (answer : Reply) (reason : ℕ) (old new : Denials) → ((i : ℕ) → denies_for i answer ≡ (reason == i)) → is_denial answer ≡ true → reason < length old.reasons → old.total + 1 < 2 ^ 32
+    → new.total ≡ old.total + 1 → (count_for reason old + 1 < 2 ^ 32 → new.reasons ≡ slice_set old.reasons reason (count_for reason old + 1)) → Counts replies old → Counts (replies ++ answer ∷ []) new
+after_denial replies answer reason old new denies one inside room added counted h =
+    let here = h.each reason in
+    let among = are_among reason replies in
+    let is = counted (omega (arith, here, among, h.total, room)) in
+    let yes : cond (is_denial answer) 1 0 ≡ 1 = ap (λ (b : Bool). cond b 1 0) one in
+    record {
+      total = let all = last is_denial replies answer in omega (arith, yes, all, h.total, added);
+      each = λ k. count_after replies answer reason k old new denies inside is h;
+    }
+
+of_refusal : (refusal : Refusal) → cond (number_of refusal == number_of BadFrame) 1 0 + cond (number_of refusal == number_of BadVm) 1 0 ≡ cond (is_outside (reply.Refused refusal)) 1 0
+of_refusal BadVm = refl
+of_refusal BadFrame = refl
+of_refusal _ = refl
+
+of_reply : (answer : Reply) → cond (denies_for (number_of BadFrame) answer) 1 0 + cond (denies_for (number_of BadVm) answer) 1 0 ≡ cond (is_outside answer) 1 0
+of_reply (reply.Refused refusal) = of_refusal refusal
+of_reply (reply.Rejected image) = refl
+of_reply _ = refl
+
+of_replies : (replies : List Reply) → length (filter (denies_for (number_of BadFrame)) replies) + length (filter (denies_for (number_of BadVm)) replies) ≡ length (filter is_outside replies)
+of_replies [] = refl
+of_replies (answer ∷ more) =
+    let rest = of_replies more in
+    let frames = first (denies_for (number_of BadFrame)) answer more in
+    let slots = first (denies_for (number_of BadVm)) answer more in
+    let outside = first is_outside answer more in
+    let one = of_reply answer in
+    omega (arith, rest, frames, slots, outside, one)
+
+-- the replies that refuse a call for what the machine does not have
+pub outside_is : (replies : List Reply) (denials : Denials) → Counts replies denials → outside_in denials ≡ length (filter is_outside replies)
+outside_is replies denials h =
+    let frames = h.each (number_of BadFrame) in
+    let slots = h.each (number_of BadVm) in
+    let all = of_replies replies in
+    omega (arith, frames, slots, all)

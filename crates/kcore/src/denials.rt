@@ -1,0 +1,43 @@
+//! What is said of the calls that a trace's machine refused or rejected.
+use kc_cli::{Answered, Denials, REFUSALS};
+use std::fmt;
+
+/// How many calls were denied for each reason, in the order of the reasons' numbers.
+#[derive(Clone, Copy)]
+struct Reasons(Denials);
+
+impl fmt::Display for Reasons {
+    fn fmt<W: fmt::Write>(&self, f: &mut fmt::Formatter<W>) -> fmt::Result {
+        let mut comma = "";
+        for refusal in REFUSALS {
+            let count = self.0.refused(refusal);
+            if count > 0 {
+                write!(f, "{comma}{count} {}", refusal.name())?;
+                comma = ", ";
+            }
+        }
+        let rejected = self.0.rejected();
+        if rejected > 0 {
+            write!(f, "{comma}{rejected} rejected")?;
+        }
+        Ok(())
+    }
+}
+
+/// Says how many calls were refused or rejected, and for what.
+pub fn explain_denials(rt: &HostRuntime, answered: &Answered) {
+    let (denied, calls) = (answered.denials.total, answered.calls);
+    if denied == 0 {
+        let _ = eprintln!(rt; "  none of {calls} calls was refused");
+        return;
+    }
+    let reasons = Reasons(answered.denials);
+    let _ = eprintln!(rt; "  {denied} of {calls} calls were refused: {reasons}");
+}
+
+/// Says which machine calls were made on if no configuration was named.
+pub fn explain_default(rt: &HostRuntime) {
+    let _ = eprintln!(rt;
+        "  without --config the machine is the default one: frames 0 to 7, slots 0 to 15"
+    );
+}
