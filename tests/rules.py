@@ -21,6 +21,16 @@ DEFAULT = {
 }
 
 
+# What is said of a trace of another machine, whatever is asked for of its custody.
+WARNING = "kcore: warning: more than half of the calls name frames or slots that the machine does not have\n"
+OUTSIDE = "refused bad-frame", "refused bad-vm"
+
+
+def warning_of(replies):
+    """What custody says on standard error of calls that are answered so."""
+    return WARNING if 2 * sum(it in OUTSIDE for it in replies) > len(replies) else ""
+
+
 def denied_in(remarks):
     """How many calls were refused or rejected."""
     return sum(option == REMARKS[0] for option, *_ in remarks)

@@ -7,7 +7,7 @@ import re
 
 import calls
 from common import run
-from rules import PAGE, REMARKS, Core, denied_in, noted
+from rules import PAGE, REMARKS, Core, denied_in, noted, warning_of
 from states import blanked, fault_of, state_text
 
 WORKERS = (1, 2, 64)
@@ -29,6 +29,7 @@ class Volume:
         # Each without the bytes of guests and the host's in active VMs' frames, as they are when it is made.
         made = [(core.redacted(line), core.answer(line)) for line in lines]
         self.hidden, self.replies = [line for line, _ in made], "".join(f"{reply}\n" for _, reply in made)
+        self.warning = warning_of([reply for _, reply in made])
         calls = len(lines), denied_in(remarks)
         self.custody = [([], core.custody_text(calls, told))]
         self.custody.append((list(REMARKS), core.custody_text(calls, noted(told, remarks, REMARKS))))
@@ -168,7 +169,8 @@ def volume_differs(rng, program, volume):
     start = ["--from", program.file("from", volume.before)]
     if rng.random() < 0.15:
         form, wanted = rng.choice(volume.custody)
-        return None if program.ran(volume.lines, "custody", *form, *start) == (0, wanted, "") else "its custody"
+        same = program.ran(volume.lines, "custody", *form, *start) == (0, wanted, volume.warning)
+        return None if same else "its custody"
     plain = [], volume.replies
     form, wanted = rng.choice([plain, plain, (["--state"], volume.behind), (["--dump"], volume.dump)])
     words, workers = [*start, "--to", program.file("to", volume.behind)], str(rng.choice(WORKERS))
@@ -184,7 +186,7 @@ def blank_differs(rng, program, volume):
         return "redacted"
     start = ["--from", program.file("from", blanked(volume.before))]
     form, wanted = rng.choice(volume.custody)
-    if program.ran(made, "custody", *form, *start) != (0, wanted, ""):
+    if program.ran(made, "custody", *form, *start) != (0, wanted, volume.warning):
         return "its custody, redacted"
     form, wanted = rng.choice([("--state", left), ("--dump", left[left.index("kcore-dump "):])])
     words = [*start, form, "--blank", "--to", program.file("to", left), "--workers", str(rng.choice(WORKERS))]
@@ -200,7 +202,7 @@ def host_differs(rng, program, volume):
     if program.ran(volume.lines, "redact", "--host", *starts[rng.randrange(2)]) != (0, program.trace_of(volume.hidden), ""):
         return "redacted with --host"
     form, wanted = rng.choice(volume.custody)
-    if program.ran(volume.hidden, "custody", *form, *starts[rng.randrange(2)]) != (0, wanted, ""):
+    if program.ran(volume.hidden, "custody", *form, *starts[rng.randrange(2)]) != (0, wanted, volume.warning):
         return "its custody, redacted with --host"
     words = [*starts[1], "--blank", "--to", program.file("to", blanked(volume.behind))]
     is_left = program.ran(volume.hidden, "replay", *words)[::2] == (0, "")

@@ -2,23 +2,23 @@
 use kc_cli::{Answered, Denials, REFUSALS};
 use std::fmt;
 
-/// How many calls were denied for each reason, in the order of the reasons' numbers.
+/// How many calls were denied for each reason, in the order of the reasons' numbers, after a colon; nothing if none was.
 #[derive(Clone, Copy)]
 struct Reasons(Denials);
 
 impl fmt::Display for Reasons {
     fn fmt<W: fmt::Write>(&self, f: &mut fmt::Formatter<W>) -> fmt::Result {
-        let mut comma = "";
+        let mut before = ": ";
         for refusal in REFUSALS {
             let count = self.0.refused(refusal);
             if count > 0 {
-                write!(f, "{comma}{count} {}", refusal.name())?;
-                comma = ", ";
+                write!(f, "{before}{count} {}", refusal.name())?;
+                before = ", ";
             }
         }
         let rejected = self.0.rejected();
         if rejected > 0 {
-            write!(f, "{comma}{rejected} rejected")?;
+            write!(f, "{before}{rejected} rejected")?;
         }
         Ok(())
     }
@@ -27,12 +27,8 @@ impl fmt::Display for Reasons {
 /// Says how many calls were refused or rejected, and for what.
 pub fn explain_denials(rt: &HostRuntime, answered: &Answered) {
     let (denied, calls) = (answered.denials.total, answered.calls);
-    if denied == 0 {
-        let _ = eprintln!(rt; "  none of {calls} calls was refused");
-        return;
-    }
     let reasons = Reasons(answered.denials);
-    let _ = eprintln!(rt; "  {denied} of {calls} calls were refused: {reasons}");
+    let _ = eprintln!(rt; "  {denied} of {calls} calls were refused or rejected{reasons}");
 }
 
 /// Says which machine calls were made on if no configuration was named.
