@@ -8,9 +8,6 @@ ghost use Rattle.kc_run.specs.Endings.{Takes, took, status_after, fault_in, answ
 use crate::clash::Clash;
 use kc_cli::{Answered, Sink, TextFault, tell, write_whole};
 
-const OUTSIDE: &str =
-    "kcore: warning: more than half of the calls name frames or slots that the machine does not have\n";
-
 /// How a job ends that meets no fault.
 #[derive(Clone, Copy, Debug, PartialEq, Eq)]
 pub enum Ending {
@@ -65,7 +62,10 @@ fn warn<L: Sink>(answered: &Answered, err: &mut L)
     ensures { IsWarned (is_mostly_outside answered.now) (took (L.failed err.new) (L.taken err.old) (L.taken err.new)) (err.new ≡ err.old) }
 {
     if answered.is_mostly_outside() {
-        say(OUTSIDE, err);
+        say(
+            "kcore: warning: more than half of the calls name frames or slots that the machine does not have\n",
+            err,
+        );
     }
 }
 
