@@ -1,5 +1,6 @@
 -- What is kept of calls that come after others.
-use Rattle.std.proofs.Common.{ℕ, ◌≡◌, ◌++◌, Bool, true, false, List, All, Option, None, subst, refl, ap, ap₂, sym, ◌∙◌}
+use Rattle.std.proofs.Common.{ℕ, ◌≡◌, ◌++◌, Bool, true, false, List, All, Option, None, Result, Ok, Err, subst, refl, ap, ap₂, sym, ◌∙◌}
+use Rattle.std.specs.Prelude.{OnOk}
 use Rattle.std.specs.Global.{Vec}
 use Rattle.std.proofs.lemmas.List.Elements.{filter_map-append, All-filter}
 use Rattle.kc_types.specs.Configuration.{Configuration}
@@ -21,7 +22,10 @@ use Rattle.kc_trace.specs.RemarkText.{notes_text_of}
 use Rattle.kc_remarks.specs.declared.remark.Note.{Note}
 use Rattle.kc_remarks.specs.declared.remark.Remarks.{Remarks}
 use Rattle.kc_remarks.specs.Remarks.{notes_from, event_in, events_in}
+use Rattle.kc_remarks.specs.declared.attempt.Attempt.{Attempt}
+use Rattle.kc_remarks.specs.Attempts.{attempts_in}
 use Rattle.kc_remarks.proofs.Events.{events-of-notes_from}
+use Rattle.kc_remarks.proofs.Attempts.{both}
 use Rattle.kc_cli.specs.declared.account.CustodyForm.{CustodyForm}
 use Rattle.kc_cli.specs.declared.account.CustodyForm.TheVariants.{Changes, Summary, Picture, Html}
 use Rattle.kc_cli.specs.declared.ledger.Ledger.TheVariants as kept
@@ -51,12 +55,17 @@ changes_grow n m calls old new grown Summary told h = h
 changes_grow n m calls old new grown Picture told h = h
 changes_grow n m calls old new grown (Html origin) told h = h
 
-pub summary_grows : (n : ℕ) (m : State) (calls : List Call) (old new : Vec Event) → new.items ≡ old.items ++ events_from n m calls
-    → (form : CustodyForm) (told : List Note) → Keeps form told (kept.Summary old) → Keeps form (told ++ notes_from n m calls) (kept.Summary new)
-summary_grows n m calls old new grown (Changes origin remarks) told h = h
-summary_grows n m calls old new grown Summary told h = events_more n m calls told old.items new.items grown h
-summary_grows n m calls old new grown Picture told h = h
-summary_grows n m calls old new grown (Html origin) told h = h
+pub on_ok_both : {T E P Q : Type 0} (r : Result T E) → OnOk r P → OnOk r Q → OnOk r (P × Q)
+on_ok_both (Ok x) p q = (p, q)
+on_ok_both (Err e) p q = tt
+
+pub summary_grows : (n : ℕ) (m : State) (calls : List Call) (old new : Vec Event) (before after : Vec Attempt) → new.items ≡ old.items ++ events_from n m calls → after.items ≡ before.items ++ attempts_in (notes_from n m calls)
+    → (form : CustodyForm) (told : List Note) → Keeps form told (kept.Summary old before) → Keeps form (told ++ notes_from n m calls) (kept.Summary new after)
+summary_grows n m calls old new before after grown tried (Changes origin remarks) told h = h
+summary_grows n m calls old new before after grown tried Summary told h =
+    (events_more n m calls told old.items new.items grown h.0, tried ∙ ap (λ (xs : List Attempt). xs ++ attempts_in (notes_from n m calls)) h.1 ∙ sym (both told (notes_from n m calls)))
+summary_grows n m calls old new before after grown tried Picture told h = h
+summary_grows n m calls old new before after grown tried (Html origin) told h = h
 
 pub picture_grows : (n : ℕ) (m : State) (calls : List Call) (old new : Vec Event) → new.items ≡ old.items ++ events_from n m calls
     → (form : CustodyForm) (told : List Note) → Keeps form told (kept.Picture old) → Keeps form (told ++ notes_from n m calls) (kept.Picture new)
@@ -76,22 +85,22 @@ html_grows n m calls old new grown (Html origin) told h = grown ∙ ap (λ (xs :
 pub kept_events : (form : CustodyForm) (told : List Note) (ledger : Ledger) → Keeps form told ledger → events_kept ledger ≡ events_in told
 kept_events (Changes origin remarks) told (kept.Changes events) h = h.1
 kept_events (Changes origin remarks) told (kept.Notes wanted notes) h = ap events_in h.1
-kept_events (Changes origin remarks) told (kept.Summary events) h = absurd h
+kept_events (Changes origin remarks) told (kept.Summary events attempts) h = absurd h
 kept_events (Changes origin remarks) told (kept.Picture events) h = absurd h
 kept_events (Changes origin remarks) told (kept.Html notes) h = absurd h
 kept_events Summary told (kept.Changes events) h = absurd h
 kept_events Summary told (kept.Notes wanted notes) h = absurd h
-kept_events Summary told (kept.Summary events) h = h
+kept_events Summary told (kept.Summary events attempts) h = h.0
 kept_events Summary told (kept.Picture events) h = absurd h
 kept_events Summary told (kept.Html notes) h = absurd h
 kept_events Picture told (kept.Changes events) h = absurd h
 kept_events Picture told (kept.Notes wanted notes) h = absurd h
-kept_events Picture told (kept.Summary events) h = absurd h
+kept_events Picture told (kept.Summary events attempts) h = absurd h
 kept_events Picture told (kept.Picture events) h = h
 kept_events Picture told (kept.Html notes) h = absurd h
 kept_events (Html origin) told (kept.Changes events) h = absurd h
 kept_events (Html origin) told (kept.Notes wanted notes) h = absurd h
-kept_events (Html origin) told (kept.Summary events) h = absurd h
+kept_events (Html origin) told (kept.Summary events attempts) h = absurd h
 kept_events (Html origin) told (kept.Picture events) h = absurd h
 kept_events (Html origin) told (kept.Html notes) h = ap events_in h
 
@@ -103,22 +112,22 @@ account_given (Changes origin remarks) vm heading config count refused told (kep
     ∙ sym (plain heading config count refused vm told)
     ∙ ap (λ (r : Remarks). notes_text_of heading config count refused (chosen vm r told)) (sym h.0)
 account_given (Changes origin remarks) vm heading config count refused told (kept.Notes wanted notes) text h given = given ∙ ap₂ (λ (r : Remarks) (xs : List Note). notes_text_of heading config count refused (chosen vm r xs)) h.0 h.1
-account_given (Changes origin remarks) vm heading config count refused told (kept.Summary events) text h given = absurd h
+account_given (Changes origin remarks) vm heading config count refused told (kept.Summary events attempts) text h given = absurd h
 account_given (Changes origin remarks) vm heading config count refused told (kept.Picture events) text h given = absurd h
 account_given (Changes origin remarks) vm heading config count refused told (kept.Html notes) text h given = absurd h
 account_given Summary vm heading config count refused told (kept.Changes events) text h given = absurd h
 account_given Summary vm heading config count refused told (kept.Notes wanted notes) text h given = absurd h
-account_given Summary vm heading config count refused told (kept.Summary events) text h given = given ∙ ap (λ (xs : List Event). summary_text_of heading config count refused (selected_lives vm (lives (reported heading.is_unseen xs)))) h
+account_given Summary vm heading config count refused told (kept.Summary events attempts) text h given = given ∙ ap₂ (λ (xs : List Event) (ys : List Attempt). summary_text_of heading config count refused ys (selected_lives vm (lives (reported heading.is_unseen xs)))) h.0 h.1
 account_given Summary vm heading config count refused told (kept.Picture events) text h given = absurd h
 account_given Summary vm heading config count refused told (kept.Html notes) text h given = absurd h
 account_given Picture vm heading config count refused told (kept.Changes events) text h given = absurd h
 account_given Picture vm heading config count refused told (kept.Notes wanted notes) text h given = absurd h
-account_given Picture vm heading config count refused told (kept.Summary events) text h given = absurd h
+account_given Picture vm heading config count refused told (kept.Summary events attempts) text h given = absurd h
 account_given Picture vm heading config count refused told (kept.Picture events) text h given = tt
 account_given Picture vm heading config count refused told (kept.Html notes) text h given = absurd h
 account_given (Html origin) vm heading config count refused told (kept.Changes events) text h given = absurd h
 account_given (Html origin) vm heading config count refused told (kept.Notes wanted notes) text h given = absurd h
-account_given (Html origin) vm heading config count refused told (kept.Summary events) text h given = absurd h
+account_given (Html origin) vm heading config count refused told (kept.Summary events attempts) text h given = absurd h
 account_given (Html origin) vm heading config count refused told (kept.Picture events) text h given = absurd h
 account_given (Html origin) vm heading config count refused told (kept.Html notes) text h given = given ∙ ap (λ (xs : List Note). html_text_of (notes_text_of heading config count refused (chosen vm (page_remarks heading.is_unseen) xs))) h
 

@@ -1,9 +1,10 @@
--- What the engine of custody keeps of the notes on a trace: all of them, or their events if these are enough.
+-- What the engine of custody keeps of the notes on a trace: all of them, or their events, with the attempts at pages of VMs, if these are enough.
 use Rattle.std.specs.Prelude.{◌≡◌, ℕ, List, Option}
 use Rattle.kc_types.specs.Configuration.{Configuration}
 use Rattle.kc_types.specs.declared.custody.Event.{Event}
 use Rattle.kc_remarks.specs.declared.remark.Note.{Note}
 use Rattle.kc_remarks.specs.Remarks.{events_in}
+use Rattle.kc_remarks.specs.Attempts.{attempts_in}
 use Rattle.kc_model.specs.Lives.{lives, selected_lives}
 use Rattle.kc_model.specs.Events.{changes_in}
 use Rattle.kc_custody.specs.Selected.{selected}
@@ -23,7 +24,7 @@ use Rattle.kc_cli.specs.declared.ledger.Ledger.TheVariants as kept
 abbrev pub Keeps : CustodyForm → List Note → Ledger → Type 0
 Keeps (Changes origin remarks) told (kept.Changes events) = (remarks ≡ no_remarks) × (events.items ≡ events_in told)
 Keeps (Changes origin remarks) told (kept.Notes wanted notes) = (wanted ≡ remarks) × (notes.items ≡ told)
-Keeps Summary told (kept.Summary events) = events.items ≡ events_in told
+Keeps Summary told (kept.Summary events attempts) = (events.items ≡ events_in told) × (attempts.items ≡ attempts_in told)
 Keeps Picture told (kept.Picture events) = events.items ≡ events_in told
 Keeps (Html origin) told (kept.Html notes) = notes.items ≡ told
 Keeps form told ledger = ⊥
@@ -32,7 +33,7 @@ Keeps form told ledger = ⊥
 abbrev pub events_kept : Ledger → List Event
 events_kept (kept.Changes events) = events.items
 events_kept (kept.Notes wanted notes) = events_in notes.items
-events_kept (kept.Summary events) = events.items
+events_kept (kept.Summary events attempts) = events.items
 events_kept (kept.Picture events) = events.items
 events_kept (kept.Html notes) = events_in notes.items
 
@@ -40,6 +41,6 @@ events_kept (kept.Html notes) = events_in notes.items
 abbrev pub IsGiven : Option ℕ → Heading → Configuration → ℕ → ℕ → Ledger → List ℕ → Type 0
 IsGiven vm heading config count refused (kept.Changes events) text = text ≡ custody_text_of heading config count refused (selected vm (changes_in events.items))
 IsGiven vm heading config count refused (kept.Notes wanted notes) text = text ≡ notes_text_of heading config count refused (chosen vm wanted notes.items)
-IsGiven vm heading config count refused (kept.Summary events) text = text ≡ summary_text_of heading config count refused (selected_lives vm (lives (reported heading.is_unseen events.items)))
+IsGiven vm heading config count refused (kept.Summary events attempts) text = text ≡ summary_text_of heading config count refused attempts.items (selected_lives vm (lives (reported heading.is_unseen events.items)))
 IsGiven vm heading config count refused (kept.Picture events) text = Unit {0}
 IsGiven vm heading config count refused (kept.Html notes) text = text ≡ html_text_of (notes_text_of heading config count refused (chosen vm (page_remarks heading.is_unseen) notes.items))

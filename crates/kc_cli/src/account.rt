@@ -19,7 +19,7 @@ use crate::ledger::Ledger;
 use kc_custody::{choose, lives, select, select_lives};
 use kc_html::{HEAD, TAIL};
 use kc_picture::{bars, picture};
-use kc_remarks::{Answered, Remarks};
+use kc_remarks::{Answered, Attempt, Remarks};
 use kc_texts::{Failed, Line, Origin, Sink, TextFault, empty_piece, give_lines, write_whole};
 use kc_trace::{Heading, push_custody_end, push_custody_header, summary_text};
 use kc_types::{Config, Event, Memory};
@@ -224,7 +224,7 @@ fn reported(events: Vec<Event>, is_unseen: bool) -> Vec<Event>
     events
 }
 
-/// The summary of some events.
+/// The summary of some events and attempts.
 fn summary_of(
     alloc: Global,
     heading: &Heading,
@@ -232,15 +232,16 @@ fn summary_of(
     calls: usize,
     refused: usize,
     events: Vec<Event>,
+    attempts: &[Attempt],
     vm: Option<u32>,
 ) -> Result<Vec<u8>, Memory>
     requires { All (IsWithin config.now.frames) events.items }
-    ensures { IfOk result (λ text. text.items ≡ summary_text_of heading.now config.now calls refused (selected_lives vm (lives (reported heading.now.is_unseen events.items)))) }
+    ensures { IfOk result (λ text. text.items ≡ summary_text_of heading.now config.now calls refused attempts.now (selected_lives vm (lives (reported heading.now.is_unseen events.items)))) }
 {
     let events = reported(events, heading.is_unseen);
     let mut lives = lives(alloc, config.frames(), events)?;
     select_lives(&mut lives, vm);
-    summary_text(alloc, heading, config, calls, refused, &lives)
+    summary_text(alloc, heading, config, calls, refused, attempts, &lives)
 }
 
 /// The picture of some events.
@@ -290,8 +291,11 @@ pub(crate) fn give_told<K: Sink>(
             choose(&mut notes, vm, remarks);
             give_changes(alloc, &heading, &config, calls, refused, notes, out)
         },
-        Ledger::Summary(events) => {
-            let Ok(text) = summary_of(alloc, &heading, &config, calls, refused, events, vm) else {
+        Ledger::Summary(events, attempts) => {
+            let made = summary_of(
+                alloc, &heading, &config, calls, refused, events, &attempts, vm,
+            );
+            let Ok(text) = made else {
                 return Err(TextFault::Memory);
             };
             give_whole(&text, out)

@@ -9,18 +9,18 @@ ghost use Rattle.kc_cli.specs.Ledgers.{Keeps};
 
 use crate::account::CustodyForm;
 use kc_core::KCore;
-use kc_custody::{note_calls, tell_calls};
-use kc_remarks::{Denials, Note, Remarks};
+use kc_custody::{note_calls, summarize_calls, tell_calls};
+use kc_remarks::{Attempt, Denials, Note, Remarks};
 use kc_types::{Call, Event, Memory};
 use std::alloc::Global;
 
-/// What is kept to be written in a form: the notes on the calls if remarks are asked for, else their events alone, which take
-/// less time and memory.
+/// What is kept to be written in a form: the notes on the calls if remarks are asked for, else their events, which take less time
+/// and memory, for a summary with the attempts at pages of VMs.
 #[derive(Drop)]
 pub(crate) enum Ledger {
     Changes(Vec<Event>),
     Notes(Remarks, Vec<Note>),
-    Summary(Vec<Event>),
+    Summary(Vec<Event>, Vec<Attempt>),
     Picture(Vec<Event>),
     Html(Vec<Note>),
 }
@@ -39,7 +39,7 @@ impl Ledger {
                 },
             ) => Ledger::Changes(Vec::new(alloc)),
             CustodyForm::Changes(_, remarks) => Ledger::Notes(remarks, Vec::new(alloc)),
-            CustodyForm::Summary => Ledger::Summary(Vec::new(alloc)),
+            CustodyForm::Summary => Ledger::Summary(Vec::new(alloc), Vec::new(alloc)),
             CustodyForm::Picture => Ledger::Picture(Vec::new(alloc)),
             CustodyForm::Html(_) => Ledger::Html(Vec::new(alloc)),
         }
@@ -66,7 +66,9 @@ impl Ledger {
         match self {
             Ledger::Changes(events) => tell_calls(alloc, core, calls, first, events, denials),
             Ledger::Notes(_, notes) => note_calls(alloc, core, calls, first, notes, denials),
-            Ledger::Summary(events) => tell_calls(alloc, core, calls, first, events, denials),
+            Ledger::Summary(events, attempts) => {
+                summarize_calls(alloc, core, calls, first, events, attempts, denials)
+            },
             Ledger::Picture(events) => tell_calls(alloc, core, calls, first, events, denials),
             Ledger::Html(notes) => note_calls(alloc, core, calls, first, notes, denials),
         }

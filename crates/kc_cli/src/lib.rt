@@ -24,7 +24,7 @@ pub use custody::{CustodyOrder, custody_text};
 pub use history::replay_history;
 pub use kc_args::{ArgFault, Job, job_of};
 pub use kc_digests::Lanes;
-pub use kc_remarks::{Answered, Denials, REFUSALS, Remarks};
+pub use kc_remarks::{Answered, Denials, Remarks, refusals};
 pub use kc_texts::{
     DEFAULT_CONFIG, Failed, Mem, Origin, ReadFault, Sink, Source, Std, TextFault, audit_text,
     read_whole, tell, write_whole,

@@ -6,7 +6,7 @@
 //! - marks before a call, changes after it: `specs/Marks.antt`, `src/telling.rt`; of a call that somebody else makes:
 //!   `src/watching.rt`
 //! - one VM's changes: `specs/Selected.antt`, `src/selected.rt`
-//! - calls made and noted: `src/noting.rt`; the frame that a call names: `src/naming.rt`; which notes are written:
+//! - calls made, and noted or summarized: `src/noting.rt`; the frame that a call names: `src/naming.rt`; which notes are written:
 //!   `specs/Chosen.antt`, `src/chosen.rt`
 //! - how lives are counted, from the last event to the first: what the events after a point say of a slot, of a frame
 //!   and of all: `specs/Tally.antt`, `specs/Ends.antt`, `specs/Behind.antt`; the loop: `src/gathering.rt`
@@ -31,7 +31,7 @@ mod watching;
 pub use chosen::choose;
 pub use gathering::lives;
 pub use look_ups::custody_at;
-pub use noting::{note_call, note_calls};
+pub use noting::{note_call, note_calls, summarize_call, summarize_calls};
 pub use selected::select;
 pub use selected_lives::select_lives;
 pub use telling::{tell_call, tell_calls};

@@ -2,3 +2,4 @@ pub mod Runs
 pub mod Events
 pub mod Counted
 pub mod Counts
+pub mod Attempts

@@ -1,2 +1,3 @@
 pub mod Remarks
 pub mod Denials
+pub mod Attempts

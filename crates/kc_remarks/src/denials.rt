@@ -9,36 +9,6 @@ use kc_types::{Refusal, Reply};
 /// The numbers of refusals, 1 to 26, and 0 for calls that were rejected.
 const REASONS: usize = 27;
 
-/// All reasons for refusals, in the order of their numbers.
-pub const REFUSALS: [Refusal; 26] = [
-    Refusal::BadVm,
-    Refusal::BadVcpu,
-    Refusal::BadFrame,
-    Refusal::BadGfn,
-    Refusal::BadRange,
-    Refusal::SlotUsed,
-    Refusal::NoVm,
-    Refusal::WrongPhase,
-    Refusal::VcpuUsed,
-    Refusal::NoVcpu,
-    Refusal::ImagesFull,
-    Refusal::Overlap,
-    Refusal::NoImage,
-    Refusal::ImageFull,
-    Refusal::ImageShort,
-    Refusal::NoFault,
-    Refusal::Mapped,
-    Refusal::NotMapped,
-    Refusal::NotHost,
-    Refusal::Protected,
-    Refusal::NotPresent,
-    Refusal::TablesFull,
-    Refusal::ShareFull,
-    Refusal::NotShared,
-    Refusal::Shared,
-    Refusal::NoFree,
-];
-
 /// How many calls were refused or rejected, and for what.
 #[derive(Clone, Copy, Debug, PartialEq, Eq)]
 pub struct Denials {

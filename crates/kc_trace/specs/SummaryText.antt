@@ -1,9 +1,13 @@
 -- How lives of VMs are spelled: an object of JSON (RFC 8259) a line.
-use Rattle.std.specs.Prelude.{ℕ, Bool, true, false, List, [], ◌∷◌, ◌++◌, codes, length}
+use Rattle.std.specs.Prelude.{ℕ, zero, Bool, true, false, List, [], ◌∷◌, ◌++◌, codes, drop, length}
 use Rattle.std.specs.List.{flat_map}
 use Rattle.kc_types.specs.Configuration.{Configuration}
 use Rattle.kc_types.specs.declared.custody.Sharing.{Sharing}
 use Rattle.kc_types.specs.declared.custody.Life.{Life}
+use Rattle.kc_types.specs.Refusals.{name_of}
+use Rattle.kc_types.specs.declared.refusal.Refusal.{Refusal}
+use Rattle.kc_remarks.specs.declared.attempt.Attempt.{Attempt}
+use Rattle.kc_remarks.specs.Attempts.{attempts_in_life, count_attempts, refusals}
 use Rattle.kc_trace.specs.declared.custody_writer.Heading.{Heading}
 use Rattle.kc_trace.specs.CustodyText.{member, number_text, images_text, heading_text}
 
@@ -40,9 +44,25 @@ sharings_text (sharing ∷ sharings) = sharing_text sharing ++ flat_map more_sha
 abbrev pub shared_text : Life → List ℕ
 shared_text life = codes ",\"shared\":[" ++ (sharings_text life.shared ++ (codes "]}" ++ 10 ∷ []))
 
--- the line of a life, with its newline
-abbrev pub life_line : Bool → Life → List ℕ
-life_line unseen life = turns_text life ++ (life_images_text life ++ (counts_text unseen life ++ shared_text life))
+-- a reason with the number of calls that were refused for it, after a comma; nothing if there are none
+abbrev pub reason_member : Refusal → ℕ → List ℕ
+reason_member reason zero = []
+reason_member reason count = codes ",\"" ++ (name_of reason ++ member (codes "\":") count)
+
+abbrev pub reason_text : List Attempt → Refusal → List ℕ
+reason_text attempts reason = reason_member reason (count_attempts attempts reason)
+
+-- the reasons in the order of their numbers, with a comma between two
+abbrev pub reasons_text : List Attempt → List ℕ
+reasons_text attempts = drop 1 (flat_map (reason_text attempts) refusals)
+
+-- the calls that were refused at pages of the VM, by their reasons
+abbrev pub refused_text : List Attempt → List ℕ
+refused_text attempts = codes ",\"refused\":{" ++ (reasons_text attempts ++ codes "}")
+
+-- the line of a life, with its newline, by all attempts at pages of VMs
+abbrev pub life_line : Bool → List Attempt → Life → List ℕ
+life_line unseen attempts life = turns_text life ++ (life_images_text life ++ (counts_text unseen life ++ (refused_text (attempts_in_life life attempts) ++ shared_text life)))
 
 -- the first line
 abbrev pub summary_header : Heading → Configuration → List ℕ
@@ -52,6 +72,6 @@ summary_header heading config = codes "{\"summary\":" ++ heading_text heading co
 abbrev pub summary_end : ℕ → ℕ → ℕ → List ℕ
 summary_end calls lives refused = member (codes "{\"calls\":") calls ++ (member (codes ",\"lives\":") lives ++ (member (codes ",\"refused\":") refused ++ (codes "}" ++ 10 ∷ [])))
 
--- the text of the lives in a trace, by the numbers of its calls and of those that were refused or rejected
-abbrev pub summary_text_of : Heading → Configuration → ℕ → ℕ → List Life → List ℕ
-summary_text_of heading config calls refused lives = summary_header heading config ++ (flat_map (life_line heading.is_unseen) lives ++ summary_end calls (length lives) refused)
+-- the text of the lives in a trace, by the numbers of its calls and of those that were refused or rejected, and the attempts at pages of VMs
+abbrev pub summary_text_of : Heading → Configuration → ℕ → ℕ → List Attempt → List Life → List ℕ
+summary_text_of heading config calls refused attempts lives = summary_header heading config ++ (flat_map (life_line heading.is_unseen attempts) lives ++ summary_end calls (length lives) refused)

@@ -1,13 +1,15 @@
 //! Lives of VMs, as JSON Lines (RFC 8259): an object a line.
-ghost use Rattle.std.specs.Prelude.{◌≡◌, ◌≤◌, ◌+◌, ◌++◌, length, vec_len, vec_capacity, IfOk, OnOk};
+ghost use Rattle.std.specs.Prelude.{◌≡◌, ◌≤◌, ◌+◌, ◌++◌, drop, length, vec_len, vec_capacity, IfOk, OnOk};
 ghost use Rattle.std.specs.List.{flat_map};
-ghost use Rattle.kc_trace.specs.SummaryText.{turns_text, life_images_text, accesses_counted, counts_text, sharing_text, more_sharing_text, sharings_text, shared_text, life_line, summary_header, summary_end, summary_text_of};
+ghost use Rattle.kc_remarks.specs.Attempts.{refusals};
+ghost use Rattle.kc_trace.specs.SummaryText.{turns_text, life_images_text, accesses_counted, counts_text, sharing_text, more_sharing_text, sharings_text, shared_text, reason_member, reason_text, refused_text, life_line, summary_header, summary_end, summary_text_of};
 
 use crate::custody_writer::{
     Heading, push_gfn, push_heading, push_images, push_member, push_number,
 };
 use kc_lines::push_bytes;
-use kc_types::{Config, Life, Memory, Sharing};
+use kc_remarks::{Attempt, attempts_in_life, count_attempts, refusals};
+use kc_types::{Config, Life, Memory, Refusal, Sharing};
 use std::alloc::Global;
 
 /// More bytes than each part of a line has: its turns, its images, its counts, and a stretch in which a frame was shared.
@@ -116,22 +118,85 @@ fn push_shared(text: &mut Vec<u8>, life: &Life) -> Result<(), Memory>
     Ok(())
 }
 
-/// Appends the line of a life, with its newline.
-fn push_life(text: &mut Vec<u8>, is_unseen: bool, life: &Life) -> Result<(), Memory>
-    ensures { OnOk result (text.new.items ≡ text.old.items ++ life_line is_unseen life.now) }
+/// Appends a reason with the number of calls that were refused for it, if there are some, after a comma.
+fn push_reason(text: &mut Vec<u8>, reason: Refusal, count: usize) -> Result<(), Memory>
+    ensures { OnOk result (text.new.items ≡ text.old.items ++ reason_member reason count) }
+{
+    if count == 0 {
+        return Ok(());
+    }
+    text.reserve(LONGEST_PART)?;
+    push_bytes(text, b",\"");
+    push_bytes(text, reason.name().as_bytes());
+    push_member(text, b"\":", count);
+    Ok(())
+}
+
+/// All reasons with such numbers, each after a comma.
+fn reasons_of(alloc: Global, attempts: &[Attempt]) -> Result<Vec<u8>, Memory>
+    ensures { IfOk result (λ text. text.items ≡ flat_map (reason_text attempts.now) refusals) }
+{
+    let mut text = Vec::new(alloc);
+    let all = refusals();
+    for reason in &all {
+        push_reason(&mut text, *reason, count_attempts(attempts, *reason))?;
+    }
+    Ok(text)
+}
+
+/// Appends what comes after the first of some bytes, for which there is room.
+fn push_rest(text: &mut Vec<u8>, bytes: &[u8])
+    requires { vec_len text.old + length bytes.now ≤ vec_capacity text.old }
+    ensures items { text.new.items ≡ text.old.items ++ drop 1 bytes.now }
+    ensures len { vec_len text.new ≤ vec_len text.old + length bytes.now }
+    ensures capacity { vec_capacity text.old ≤ vec_capacity text.new }
+{
+    if let Some((_, rest)) = bytes.split_first() {
+        push_bytes(text, rest);
+    }
+}
+
+/// Appends the calls that were refused at pages of a VM, by their reasons.
+fn push_refused(alloc: Global, text: &mut Vec<u8>, attempts: &[Attempt]) -> Result<(), Memory>
+    ensures { OnOk result (text.new.items ≡ text.old.items ++ refused_text attempts.now) }
+{
+    let reasons = reasons_of(alloc, attempts)?;
+    text.reserve(LONGEST_PART + reasons.len())?;
+    push_bytes(text, b",\"refused\":{");
+    push_rest(text, &reasons);
+    push_bytes(text, b"}");
+    Ok(())
+}
+
+/// Appends the line of a life, with its newline, by all attempts at pages of VMs.
+fn push_life(
+    alloc: Global,
+    text: &mut Vec<u8>,
+    is_unseen: bool,
+    attempts: &[Attempt],
+    life: &Life,
+) -> Result<(), Memory>
+    ensures { OnOk result (text.new.items ≡ text.old.items ++ life_line is_unseen attempts.now life.now) }
 {
     push_turns(text, life)?;
     push_life_images(text, life)?;
     push_counts(text, is_unseen, life)?;
+    push_refused(alloc, text, &attempts_in_life(alloc, life, attempts)?)?;
     push_shared(text, life)
 }
 
 /// Appends the lines of some lives.
-fn push_lives(text: &mut Vec<u8>, is_unseen: bool, lives: &[Life]) -> Result<(), Memory>
-    ensures { OnOk result (text.new.items ≡ text.old.items ++ flat_map (life_line is_unseen) lives.now) }
+fn push_lives(
+    alloc: Global,
+    text: &mut Vec<u8>,
+    is_unseen: bool,
+    attempts: &[Attempt],
+    lives: &[Life],
+) -> Result<(), Memory>
+    ensures { OnOk result (text.new.items ≡ text.old.items ++ flat_map (life_line is_unseen attempts.now) lives.now) }
 {
     for life in lives {
-        push_life(text, is_unseen, life)?;
+        push_life(alloc, text, is_unseen, attempts, life)?;
     }
     Ok(())
 }
@@ -163,20 +228,22 @@ fn push_summary_end(
     Ok(())
 }
 
-/// The text of the lives in a trace, by the numbers of its calls and of those that were refused or rejected.
+/// The text of the lives in a trace, by the numbers of its calls and of those that were refused or rejected, and the attempts at
+/// pages of VMs.
 pub fn summary_text(
     alloc: Global,
     heading: &Heading,
     config: &Config,
     calls: usize,
     refused: usize,
+    attempts: &[Attempt],
     lives: &[Life],
 ) -> Result<Vec<u8>, Memory>
-    ensures { IfOk result (λ text. text.items ≡ summary_text_of heading.now config.now calls refused lives.now) }
+    ensures { IfOk result (λ text. text.items ≡ summary_text_of heading.now config.now calls refused attempts.now lives.now) }
 {
     let mut text = Vec::new(alloc);
     push_summary_header(&mut text, heading, config)?;
-    push_lives(&mut text, heading.is_unseen, lives)?;
+    push_lives(alloc, &mut text, heading.is_unseen, attempts, lives)?;
     push_summary_end(&mut text, calls, lives.len(), refused)?;
     Ok(text)
 }

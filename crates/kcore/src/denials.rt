@@ -1,5 +1,5 @@
 //! What is said of the calls that a trace's machine refused or rejected.
-use kc_cli::{Answered, Denials, REFUSALS};
+use kc_cli::{Answered, Denials, refusals};
 use std::fmt;
 
 /// How many calls were denied for each reason, in the order of the reasons' numbers, after a colon; nothing if none was.
@@ -9,7 +9,7 @@ struct Reasons(Denials);
 impl fmt::Display for Reasons {
     fn fmt<W: fmt::Write>(&self, f: &mut fmt::Formatter<W>) -> fmt::Result {
         let mut before = ": ";
-        for refusal in REFUSALS {
+        for refusal in refusals() {
             let count = self.0.refused(refusal);
             if count > 0 {
                 write!(f, "{before}{count} {}", refusal.name())?;

@@ -5,4 +5,4 @@ use Rattle.kc_trace.proofs.summary_writer.push_lives.Given as goal
 
 -- the lives so far
 abbrev pub invariant-loop-life : goal.invariant-loop-life
-invariant-loop-life l = l.text.items ≡ l.fn.text.items ++ flat_map (life_line l.is_unseen) (take l.life-index l.lives)
+invariant-loop-life l = l.text.items ≡ l.fn.text.items ++ flat_map (life_line l.is_unseen l.attempts) (take l.life-index l.lives)
