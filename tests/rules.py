@@ -13,6 +13,12 @@ SLOTS, FRAMES = {1: 16, 2: 64}, {1: 8192, 2: 65536}
 REMARKS = "--refused", "--accesses"
 # What the first line of custody names.
 VERSION = "2.0.0"
+# Why calls are refused, by number.
+REASONS = (
+    "bad-vm bad-vcpu bad-frame bad-gfn bad-range slot-used no-vm wrong-phase vcpu-used no-vcpu images-full overlap no-image"
+    " image-full image-short no-fault mapped not-mapped not-host protected not-present tables-full share-full not-shared shared"
+    " no-free"
+).split()
 # What is said of a frame, in the order in which it is told.
 CUSTODY = [operator.attrgetter(name) for name in ("owner", "gfn", "share", "present")]
 # The configuration that the program has where none is named.
@@ -63,8 +69,14 @@ class Life:
 
     def __init__(self, v, line):
         self.told = {"vm": v, "registered": line, "active": None, "dead": None, "cleared": None, "images": []}
-        self.told |= dict.fromkeys(("frames", "most", "left", "returned", "reads", "writes"), 0) | {"shared": []}
+        self.told |= dict.fromkeys(("frames", "most", "left", "returned", "reads", "writes"), 0) | {"refused": {}, "shared": []}
         self.ever, self.last, self.open = set(), set(), {}
+
+    def refuse(self, reason):
+        """Counts a call that was refused at a page of the VM."""
+        counts = self.told["refused"]
+        counts[reason] = counts.get(reason, 0) + 1
+        self.told["refused"] = {it: counts[it] for it in REASONS if it in counts}
 
     def look(self, line, table):
         """Looks at the frames that it has behind the call on this line."""
@@ -351,18 +363,26 @@ class Core:
                 told.append(((v,), {"line": number, "vm": v, "phase": new, "images": measured}))
         return told
 
+    def named(self, line):
+        """The numbers that a call names, by their letters, and the frame, if it exists: by its number, or by the guest
+        frame that it is mapped at, of a range by the first."""
+        name, *words = line.split(" ")
+        named = {letter: int(word) for letter, word in zip(calls.WORDS[name], words) if letter != "data"}
+        f = named.get("f")
+        if name in calls.GUESTS and named["v"] < len(self.slots):
+            f = self.slots[named["v"]].table.get(named["g"])
+        return named, f if f is not None and f < len(self.frames) else None
+
     def remarks(self, lines):
         """What is reported of these calls of a trace beside custody: the option that asks for it, whose VMs' line it
         is, and the line."""
         remarks = []
         for number, line in enumerate(lines, 2):
             name, *words = line.split(" ")
-            named = {letter: int(word) for letter, word in zip(calls.WORDS[name], words) if letter != "data"}
-            slot, f = named.get("v"), named.get("f")
-            if name in calls.GUESTS and slot < len(self.slots):
-                f = self.slots[slot].table.get(named["g"])
+            named, f = self.named(line)
+            slot = named.get("v")
             # What the frame is before the call.
-            exists = f is not None and f < len(self.frames)
+            exists = f is not None
             owner, gfn = (self.frames[f].owner, self.frames[f].gfn) if exists else (None, None)
             why, *what = self.answer(line).split(" ")
             made = {"line": number, "call": name}
@@ -392,6 +412,10 @@ class Core:
             if is_served and name == "verify":
                 current[at].told["active" if reply == "done" else "dead"] = number
                 current[at].told["images"] = [image_of(*image) for image in self.measured(at)]
+            # A refused call changes nothing.
+            f = self.named(line)[1] if reply.startswith("refused") else None
+            if f is not None and self.frames[f].owner in current:
+                current[self.frames[f].owner].refuse(reply.split(" ")[1])
             if is_served and name in ("hread", "hwrite") and self.frames[at].owner in current:
                 current[self.frames[at].owner].told["reads" if name == "hread" else "writes"] += 1
             for v, life in current.items():
