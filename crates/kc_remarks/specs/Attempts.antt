@@ -48,7 +48,7 @@ is_before line (Some end) = nat_lt line end
 
 -- whether the page was the VM's in this life: the call comes after the one that registers the VM, and before the one that clears it
 abbrev pub is_in_life : Life → Attempt → Bool
-is_in_life life attempt = (attempt.vm == life.vm) && (nat_lt life.registered attempt.line && is_before attempt.line life.cleared)
+is_in_life life attempt = ((attempt.vm == life.vm) && nat_lt life.registered attempt.line) && is_before attempt.line life.cleared
 
 abbrev pub attempts_in_life : Life → List Attempt → List Attempt
 attempts_in_life life attempts = filter (is_in_life life) attempts

@@ -86,9 +86,7 @@ fn is_before(line: u32, end: Option<u32>) -> bool
 fn is_in_life(life: &Life, attempt: &Attempt) -> bool
     ensures { result ≡ is_in_life life.now attempt.now }
 {
-    attempt.vm == life.vm
-        && life.registered < attempt.line
-        && is_before(attempt.line, life.cleared)
+    attempt.vm == life.vm && life.registered < attempt.line && is_before(attempt.line, life.cleared)
 }
 
 /// The attempts at pages that a VM owned in this life. `Memory` where a growth was refused.

@@ -181,7 +181,8 @@ fn push_life(
     push_turns(text, life)?;
     push_life_images(text, life)?;
     push_counts(text, is_unseen, life)?;
-    push_refused(alloc, text, &attempts_in_life(alloc, life, attempts)?)?;
+    let own = attempts_in_life(alloc, life, attempts)?;
+    push_refused(alloc, text, &own)?;
     push_shared(text, life)
 }
 
