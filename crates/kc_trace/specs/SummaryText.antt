@@ -1,5 +1,5 @@
 -- How lives of VMs are spelled: an object of JSON (RFC 8259) a line.
-use Rattle.std.specs.Prelude.{ℕ, zero, Bool, true, false, List, [], ◌∷◌, ◌++◌, codes, drop, length}
+use Rattle.std.specs.Prelude.{ℕ, ◌==◌, if◌then◌else◌, Bool, true, false, List, [], ◌∷◌, ◌++◌, codes, drop, length}
 use Rattle.std.specs.List.{flat_map}
 use Rattle.kc_types.specs.Configuration.{Configuration}
 use Rattle.kc_types.specs.declared.custody.Sharing.{Sharing}
@@ -46,8 +46,7 @@ shared_text life = codes ",\"shared\":[" ++ (sharings_text life.shared ++ (codes
 
 -- a reason with the number of calls that were refused for it, after a comma; nothing if there are none
 abbrev pub reason_member : Refusal → ℕ → List ℕ
-reason_member reason zero = []
-reason_member reason count = codes ",\"" ++ (name_of reason ++ member (codes "\":") count)
+reason_member reason count = if count == 0 then [] else codes ",\"" ++ (name_of reason ++ member (codes "\":") count)
 
 abbrev pub reason_text : List Attempt → Refusal → List ℕ
 reason_text attempts reason = reason_member reason (count_attempts attempts reason)

@@ -54,7 +54,7 @@ fn push_head(text: &mut Vec<u8>, line: u32, call: CallKind)
 }
 
 /// Appends a refusal's name.
-fn push_refusal(text: &mut Vec<u8>, refusal: Refusal)
+pub(crate) fn push_refusal(text: &mut Vec<u8>, refusal: Refusal)
     requires { vec_len text.old + 20 ≤ vec_capacity text.old }
     ensures items { text.new.items ≡ text.old.items ++ name_of refusal }
     ensures len { vec_len text.new ≤ vec_len text.old + 20 }

@@ -7,6 +7,7 @@ ghost use Rattle.kc_trace.specs.SummaryText.{turns_text, life_images_text, acces
 use crate::custody_writer::{
     Heading, push_gfn, push_heading, push_images, push_member, push_number,
 };
+use crate::remark_writer::push_refusal;
 use kc_lines::push_bytes;
 use kc_remarks::{Attempt, attempts_in_life, count_attempts, refusals};
 use kc_types::{Config, Life, Memory, Refusal, Sharing};
@@ -127,7 +128,7 @@ fn push_reason(text: &mut Vec<u8>, reason: Refusal, count: usize) -> Result<(), 
     }
     text.reserve(LONGEST_PART)?;
     push_bytes(text, b",\"");
-    push_bytes(text, reason.name().as_bytes());
+    push_refusal(text, reason);
     push_member(text, b"\":", count);
     Ok(())
 }
