@@ -13,6 +13,10 @@ use Rattle.kc_types.specs.declared.reply.Reply.TheVariants as reply
 use Rattle.kc_remarks.specs.declared.denials.Denials.{Denials}
 use Rattle.kc_remarks.specs.Denials.{is_denial, denies_for, is_outside, count_for, outside_in, Counts}
 
+-- there is a count for each reason
+pub number_low : (refusal : Refusal) → number_of refusal < 27
+number_low _ = omega arith
+
 -- the first of some elements passes a test, or does not
 pub first : {X : Type 0} (p : X → Bool) (x : X) (more : List X) → length (filter p (x ∷ more)) ≡ cond (p x) 1 0 + length (filter p more)
 first {X} p x more = by_test (p x) (filter p more)
