@@ -8,7 +8,7 @@ use Rattle.kc_types.specs.declared.refusal.Refusal.{Refusal}
 use Rattle.kc_types.specs.declared.reply.Reply.{Reply}
 use Rattle.kc_types.specs.declared.reply.Reply.TheVariants as reply
 use Rattle.kc_types.specs.declared.custody.Event.{Event}
-use Rattle.kc_types.specs.Slots.{vm_of}
+use Rattle.kc_types.specs.Slots.{slot_of, vm_of}
 use Rattle.kc_model.specs.State.{State}
 use Rattle.kc_model.specs.Next.{next, state_after}
 use Rattle.kc_model.specs.Events.{events_by}
@@ -17,7 +17,8 @@ use Rattle.kc_remarks.specs.declared.remark.CallKind.{CallKind}
 use Rattle.kc_remarks.specs.declared.remark.NamedFrame.{NamedFrame}
 use Rattle.kc_remarks.specs.declared.remark.Note.{Note}
 use Rattle.kc_remarks.specs.declared.remark.Note.TheVariants as note
-use Rattle.kc_remarks.specs.Remarks.{access_at, access_to, read_told, write_told, remark_told, remark_by, named_by, notes_by, notes_from}
+use Rattle.kc_remarks.specs.declared.remark.Denial.TheVariants as denial
+use Rattle.kc_remarks.specs.Remarks.{kind_of, access_at, access_to, read_told, write_told, remark_told, remark_by, named_by, notes_by, notes_from}
 use Rattle.kc_remarks.specs.Attempts.{attempt_on, attempt_told, attempt_in, attempts_in}
 use Rattle.kc_remarks.proofs.Runs.{notes-more}
 
@@ -50,7 +51,7 @@ one told = by_case (attempt_in told) refl
     by_case (Some attempt) is = rw is refl
 
 of-remark : (line : ℕ) (named : Option NamedFrame) (call : Call) (answer : Reply) → attempts_in (option_to_list (remark_told line named call answer)) ≡ option_to_list (attempt_told line named answer)
-of-remark line named call (reply.Refused reason) = one _
+of-remark line named call (reply.Refused reason) = one (note.Denied (record { line = line; call = kind_of call; reason = denial.Refused reason; slot = slot_of call; named = named }))
 of-remark line named call (reply.Rejected image) = refl
 of-remark line named call (reply.Data bytes) = of-read line named call
 of-remark line named call reply.Done = of-write line named call

@@ -7,7 +7,7 @@ use Rattle.std.proofs.lemmas.List.{length-append, get_or-set_other}
 use Rattle.std.proofs.lemmas.List.Elements.{filter-append}
 use Rattle.kc_types.specs.Refusals.{number_of}
 use Rattle.kc_types.specs.declared.refusal.Refusal.{Refusal}
-use Rattle.kc_types.specs.declared.refusal.Refusal.TheVariants.{BadVm, BadFrame}
+use Rattle.kc_types.specs.declared.refusal.Refusal.TheVariants.{BadVm, BadVcpu, BadFrame, BadGfn, BadRange, SlotUsed, NoVm, WrongPhase, VcpuUsed, NoVcpu, ImagesFull, Overlap, NoImage, ImageFull, ImageShort, NoFault, Mapped, NotMapped, NotHost, Protected, NotPresent, TablesFull, ShareFull, NotShared, Shared, NoFree}
 use Rattle.kc_types.specs.declared.reply.Reply.{Reply}
 use Rattle.kc_types.specs.declared.reply.Reply.TheVariants as reply
 use Rattle.kc_remarks.specs.declared.denials.Denials.{Denials}
@@ -15,29 +15,57 @@ use Rattle.kc_remarks.specs.Denials.{is_denial, denies_for, is_outside, count_fo
 
 -- there is a count for each reason
 pub number_low : (refusal : Refusal) → number_of refusal < 27
-number_low _ = omega arith
+number_low BadVm = omega arith
+number_low BadVcpu = omega arith
+number_low BadFrame = omega arith
+number_low BadGfn = omega arith
+number_low BadRange = omega arith
+number_low SlotUsed = omega arith
+number_low NoVm = omega arith
+number_low WrongPhase = omega arith
+number_low VcpuUsed = omega arith
+number_low NoVcpu = omega arith
+number_low ImagesFull = omega arith
+number_low Overlap = omega arith
+number_low NoImage = omega arith
+number_low ImageFull = omega arith
+number_low ImageShort = omega arith
+number_low NoFault = omega arith
+number_low Mapped = omega arith
+number_low NotMapped = omega arith
+number_low NotHost = omega arith
+number_low Protected = omega arith
+number_low NotPresent = omega arith
+number_low TablesFull = omega arith
+number_low ShareFull = omega arith
+number_low NotShared = omega arith
+number_low Shared = omega arith
+number_low NoFree = omega arith
+
+abbrev one_if : Bool → ℕ
+one_if b = cond b 1 0
 
 -- the first of some elements passes a test, or does not
-pub first : {X : Type 0} (p : X → Bool) (x : X) (more : List X) → length (filter p (x ∷ more)) ≡ cond (p x) 1 0 + length (filter p more)
+pub first : {X : Type 0} (p : X → Bool) (x : X) (more : List X) → length (filter p (x ∷ more)) ≡ one_if (p x) + length (filter p more)
 first {X} p x more = by_test (p x) (filter p more)
   where
-    by_test : (b : Bool) (rest : List X) → length (cond b (x ∷ rest) rest) ≡ cond b 1 0 + length rest
+    by_test : (b : Bool) (rest : List X) → length (cond b (x ∷ rest) rest) ≡ one_if b + length rest
     by_test true rest = let e : suc (length rest) ≡ 1 + length rest = omega arith in e
     by_test false rest = let e : length rest ≡ 0 + length rest = omega arith in e
 
 -- the last of some does
-pub last : {X : Type 0} (p : X → Bool) (xs : List X) (x : X) → length (filter p (xs ++ x ∷ [])) ≡ length (filter p xs) + cond (p x) 1 0
+pub last : {X : Type 0} (p : X → Bool) (xs : List X) (x : X) → length (filter p (xs ++ x ∷ [])) ≡ length (filter p xs) + one_if (p x)
 last p xs x =
     let split = ap length (filter-append p xs (x ∷ [])) ∙ length-append (filter p xs) (filter p (x ∷ [])) in
     let end = first p x [] in
     let none : length (filter p []) ≡ 0 = refl in
     omega (arith, split, end, none)
 
-one_at_most : (b : Bool) → cond b 1 0 ≤ 1
+one_at_most : (b : Bool) → one_if b ≤ 1
 one_at_most true = omega arith
 one_at_most false = omega arith
 
-is_among : (reason : ℕ) (answer : Reply) → cond (denies_for reason answer) 1 0 ≤ cond (is_denial answer) 1 0
+is_among : (reason : ℕ) (answer : Reply) → one_if (denies_for reason answer) ≤ one_if (is_denial answer)
 is_among reason (reply.Refused refusal) = one_at_most (number_of refusal == reason)
 is_among reason (reply.Rejected image) = one_at_most (0 == reason)
 is_among reason _ = omega arith
@@ -55,7 +83,7 @@ are_among reason (answer ∷ more) =
 -- after a reply that denies no call
 pub after_other : (replies : List Reply) (answer : Reply) (denials : Denials) → is_denial answer ≡ false → Counts replies denials → Counts (replies ++ answer ∷ []) denials
 after_other replies answer denials other h =
-    let no : cond (is_denial answer) 1 0 ≡ 0 = ap (λ (b : Bool). cond b 1 0) other in
+    let no : one_if (is_denial answer) ≡ 0 = ap one_if other in
     record {
       total = let all = last is_denial replies answer in omega (arith, no, all, h.total);
       each = λ reason. let all = last (denies_for reason) replies answer in let one = is_among reason answer in let before = h.each reason in omega (arith, no, all, one, before);
@@ -70,12 +98,12 @@ count_after replies answer reason k old new denies inside is h =
     elim (cases_eq k reason) [
       | inl same ↦
           let wrote = get_or-set_at old.reasons reason k (count_for reason old + 1) 0 same inside in
-          let hit : cond (denies_for k answer) 1 0 ≡ 1 = ap (λ (b : Bool). cond b 1 0) (denies k ∙ eq-eqb reason k (sym same)) in
+          let hit : one_if (denies_for k answer) ≡ 1 = ap one_if (denies k ∙ eq-eqb reason k (sym same)) in
           let here : count_for k old ≡ count_for reason old = ap (λ i. count_for i old) same in
           omega (arith, grown, read, wrote, hit, before, here)
       | inr other ↦
           let wrote = get_or-set_other old.reasons reason k (count_for reason old + 1) 0 other in
-          let miss : cond (denies_for k answer) 1 0 ≡ 0 = ap (λ (b : Bool). cond b 1 0) (denies k ∙ ne_eqb reason k (λ e. other (sym e))) in
+          let miss : one_if (denies_for k answer) ≡ 0 = ap one_if (denies k ∙ ne_eqb reason k (λ e. other (sym e))) in
           omega (arith, grown, read, wrote, miss, before)
     ]
 
@@ -86,18 +114,18 @@ after_denial replies answer reason old new denies one inside room added counted 
     let here = h.each reason in
     let among = are_among reason replies in
     let is = counted (omega (arith, here, among, h.total, room)) in
-    let yes : cond (is_denial answer) 1 0 ≡ 1 = ap (λ (b : Bool). cond b 1 0) one in
+    let yes : one_if (is_denial answer) ≡ 1 = ap one_if one in
     record {
       total = let all = last is_denial replies answer in omega (arith, yes, all, h.total, added);
       each = λ k. count_after replies answer reason k old new denies inside is h;
     }
 
-of_refusal : (refusal : Refusal) → cond (number_of refusal == number_of BadFrame) 1 0 + cond (number_of refusal == number_of BadVm) 1 0 ≡ cond (is_outside (reply.Refused refusal)) 1 0
+of_refusal : (refusal : Refusal) → one_if (number_of refusal == number_of BadFrame) + one_if (number_of refusal == number_of BadVm) ≡ one_if (is_outside (reply.Refused refusal))
 of_refusal BadVm = refl
 of_refusal BadFrame = refl
 of_refusal _ = refl
 
-of_reply : (answer : Reply) → cond (denies_for (number_of BadFrame) answer) 1 0 + cond (denies_for (number_of BadVm) answer) 1 0 ≡ cond (is_outside answer) 1 0
+of_reply : (answer : Reply) → one_if (denies_for (number_of BadFrame) answer) + one_if (denies_for (number_of BadVm) answer) ≡ one_if (is_outside answer)
 of_reply (reply.Refused refusal) = of_refusal refusal
 of_reply (reply.Rejected image) = refl
 of_reply _ = refl

@@ -81,6 +81,7 @@ impl Denials {
     /// How many calls were refused since they name a frame or a slot that the machine does not have.
     pub fn outside(&self) -> usize
         ensures count { result ≡ outside_in self.now }
+        ensures small { result < 2 ^ 33 }
         ensures replies { (replies : List Reply) → Counts replies self.now → result ≡ length (filter is_outside replies) }
     {
         self.refused(Refusal::BadFrame) as usize + self.refused(Refusal::BadVm) as usize
