@@ -1,5 +1,5 @@
 -- What is kept of calls that come after others.
-use Rattle.std.proofs.Common.{ℕ, ◌≡◌, ◌++◌, Bool, true, false, List, All, Option, None, Result, Ok, Err, subst, refl, ap, ap₂, sym, ◌∙◌}
+use Rattle.std.proofs.Common.{ℕ, ◌≡◌, ◌++◌, Bool, true, false, List, All, Option, None, Result, Ok, Err, subst, refl, ap, ap₂, sym, ◌∙◌, [], arith}
 use Rattle.std.specs.Prelude.{OnOk}
 use Rattle.std.specs.Global.{Vec}
 use Rattle.std.proofs.lemmas.List.Elements.{filter_map-append, All-filter}
@@ -23,7 +23,7 @@ use Rattle.kc_remarks.specs.declared.remark.Note.{Note}
 use Rattle.kc_remarks.specs.declared.remark.Remarks.{Remarks}
 use Rattle.kc_remarks.specs.Remarks.{notes_from, event_in, events_in}
 use Rattle.kc_remarks.specs.declared.attempt.Attempt.{Attempt}
-use Rattle.kc_remarks.specs.Attempts.{attempts_in}
+use Rattle.kc_remarks.specs.Attempts.{AreInOrder, attempts_in}
 use Rattle.kc_remarks.proofs.Events.{events-of-notes_from}
 use Rattle.kc_remarks.proofs.Attempts.{both}
 use Rattle.kc_cli.specs.declared.account.CustodyForm.{CustodyForm}
@@ -32,7 +32,7 @@ use Rattle.kc_cli.specs.declared.ledger.Ledger.TheVariants as kept
 use Rattle.kc_cli.specs.declared.ledger.Ledger.{Ledger}
 use Rattle.kc_html.specs.Html.{html_text_of}
 use Rattle.kc_cli.specs.Custody.{IsAccount, page_remarks, reported}
-use Rattle.kc_cli.specs.Ledgers.{Keeps, events_kept, IsGiven}
+use Rattle.kc_cli.specs.Ledgers.{attempts_kept, Keeps, events_kept, IsGiven}
 
 -- the events of notes that more are added to
 events_more : (n : ℕ) (m : State) (calls : List Call) (told : List Note) (old new : List Event) → new ≡ old ++ events_from n m calls → old ≡ events_in told → new ≡ events_in (told ++ notes_from n m calls)
@@ -103,6 +103,20 @@ kept_events (Html origin) told (kept.Notes wanted notes) h = absurd h
 kept_events (Html origin) told (kept.Summary events attempts) h = absurd h
 kept_events (Html origin) told (kept.Picture events) h = absurd h
 kept_events (Html origin) told (kept.Html notes) h = ap events_in h
+
+no_attempts : AreInOrder []
+no_attempts i j d le lt = absurd (omega (arith, lt))
+
+-- the attempts that are kept are in order if those of the notes are
+pub kept_in_order : (form : CustodyForm) (told : List Note) (ledger : Ledger) → Keeps form told ledger → AreInOrder (attempts_in told) → AreInOrder (attempts_kept ledger)
+kept_in_order form told (kept.Changes events) h order = no_attempts
+kept_in_order form told (kept.Notes wanted notes) h order = no_attempts
+kept_in_order form told (kept.Picture events) h order = no_attempts
+kept_in_order form told (kept.Html notes) h order = no_attempts
+kept_in_order Summary told (kept.Summary events attempts) h order = subst AreInOrder (sym h.1) order
+kept_in_order (Changes origin remarks) told (kept.Summary events attempts) h order = absurd h
+kept_in_order Picture told (kept.Summary events attempts) h order = absurd h
+kept_in_order (Html origin) told (kept.Summary events attempts) h order = absurd h
 
 -- what is given of what is kept is the account of the notes
 pub account_given : (form : CustodyForm) (vm : Option ℕ) (heading : Heading) (config : Configuration) (count refused : ℕ) (told : List Note) (ledger : Ledger) (text : List ℕ) → Keeps form told ledger → IsGiven vm heading config count refused ledger text → IsAccount form vm heading config count refused told text

@@ -1,9 +1,10 @@
 -- What the engine of custody keeps of the notes on a trace: all of them, or their events, with the attempts at pages of VMs, if these are enough.
-use Rattle.std.specs.Prelude.{◌≡◌, ℕ, List, Option}
+use Rattle.std.specs.Prelude.{◌≡◌, ℕ, List, [], Option}
 use Rattle.kc_types.specs.Configuration.{Configuration}
 use Rattle.kc_types.specs.declared.custody.Event.{Event}
 use Rattle.kc_remarks.specs.declared.remark.Note.{Note}
 use Rattle.kc_remarks.specs.Remarks.{events_in}
+use Rattle.kc_remarks.specs.declared.attempt.Attempt.{Attempt}
 use Rattle.kc_remarks.specs.Attempts.{attempts_in}
 use Rattle.kc_model.specs.Lives.{lives, selected_lives}
 use Rattle.kc_model.specs.Events.{changes_in}
@@ -36,6 +37,11 @@ events_kept (kept.Notes wanted notes) = events_in notes.items
 events_kept (kept.Summary events attempts) = events.items
 events_kept (kept.Picture events) = events.items
 events_kept (kept.Html notes) = events_in notes.items
+
+-- the attempts at pages of VMs that it keeps beside events
+abbrev pub attempts_kept : Ledger → List Attempt
+attempts_kept (kept.Summary events attempts) = attempts.items
+attempts_kept _ = []
 
 -- the text that is given of what it keeps, by the numbers of calls and of those that were refused or rejected; of a picture's bytes nothing is said
 abbrev pub IsGiven : Option ℕ → Heading → Configuration → ℕ → ℕ → Ledger → List ℕ → Type 0

@@ -13,7 +13,8 @@ ghost use Rattle.kc_trace.specs.SummaryText.{summary_text_of};
 ghost use Rattle.kc_trace.specs.Spelling.{longest_call};
 ghost use Rattle.kc_texts.specs.Outcomes.{TellsSink};
 ghost use Rattle.kc_cli.specs.Custody.{origin_of, names_trace, names_start, reported};
-ghost use Rattle.kc_cli.specs.Ledgers.{events_kept, IsGiven};
+ghost use Rattle.kc_remarks.specs.Attempts.{AreInOrder};
+ghost use Rattle.kc_cli.specs.Ledgers.{attempts_kept, events_kept, IsGiven};
 
 use crate::ledger::Ledger;
 use kc_custody::{choose, lives, select, select_lives};
@@ -235,7 +236,8 @@ fn summary_of(
     attempts: &[Attempt],
     vm: Option<u32>,
 ) -> Result<Vec<u8>, Memory>
-    requires { All (IsWithin config.now.frames) events.items }
+    requires within { All (IsWithin config.now.frames) events.items }
+    requires order { AreInOrder attempts.now }
     ensures { IfOk result (λ text. text.items ≡ summary_text_of heading.now config.now calls refused attempts.now (selected_lives vm (lives (reported heading.now.is_unseen events.items)))) }
 {
     let events = reported(events, heading.is_unseen);
@@ -270,6 +272,7 @@ pub(crate) fn give_told<K: Sink>(
     requires few { told.answered.calls ≤ call_limit }
     requires within { All (IsWithin told.config.frames) (events_kept told.ledger) }
     requires changes { All (IsIn told.config.frames) (changes_in (events_kept told.ledger)) }
+    requires order { AreInOrder (attempts_kept told.ledger) }
     ensures ok { OnOk result ((text : List ℕ) × IsGiven vm told.heading told.config told.answered.calls told.answered.denials.total told.ledger text × Appends (K.taken out.old) (K.taken out.new) text) }
     ensures sink { TellsSink (K.failed out.new) ((text : List ℕ) × (n : ℕ) × IsGiven vm told.heading told.config told.answered.calls told.answered.denials.total told.ledger text × Appends (K.taken out.old) (K.taken out.new) (take n text)) (out.new ≡ out.old) result }
     ensures fault { IfErr result (λ fault. (fault ≡ TextFault.Memory) ⊎ (fault ≡ TextFault.Write)) }

@@ -20,7 +20,8 @@ ghost use Rattle.kc_remarks.specs.declared.remark.Note.{Note};
 ghost use Rattle.kc_cli.specs.Custody.{AreNotesOf, IsCustodyTold, IsCustodyText, TellsCustody, origin_of, names_trace};
 ghost use Rattle.kc_cli.specs.Answers.{AreAnsweredFrom, AreAnswered};
 ghost use Rattle.kc_cli.specs.Headings.{HasDigest, heading_by, IsHeaded};
-ghost use Rattle.kc_cli.specs.Ledgers.{Keeps, events_kept, IsGiven};
+ghost use Rattle.kc_remarks.specs.Attempts.{AreInOrder};
+ghost use Rattle.kc_cli.specs.Ledgers.{Keeps, attempts_kept, events_kept, IsGiven};
 
 use crate::account::{CustodyForm, FIRST_LINE, Scope, Told, give_told};
 use crate::ledger::Ledger;
@@ -239,6 +240,7 @@ fn give_answered<K: Sink>(
     requires few { told.answered.calls ≤ call_limit }
     requires within { All (IsWithin told.config.frames) (events_kept told.ledger) }
     requires changes { All (IsIn told.config.frames) (changes_in (events_kept told.ledger)) }
+    requires order { AreInOrder (attempts_kept told.ledger) }
     ensures answered { IfOk result (λ answered. answered ≡ told.answered) }
     ensures ok { OnOk result ((text : List ℕ) × IsGiven vm told.heading told.config told.answered.calls told.answered.denials.total told.ledger text
         × Appends (K.taken out.old) (K.taken out.new) text) }

@@ -3,3 +3,4 @@ pub mod Events
 pub mod Counted
 pub mod Counts
 pub mod Attempts
+pub mod Ordered

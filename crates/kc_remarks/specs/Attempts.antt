@@ -1,6 +1,7 @@
 -- Attempts: which calls were refused at a page of a VM, and in which of its lives.
 use Rattle.std.specs.Prelude.{ℕ, Bool, true, false, ◌&&◌, ◌==◌, nat_lt, List, [], ◌∷◌, filter, length, Option, Some, None}
 use Rattle.std.specs.List.{filter_map}
+use Rattle.std.specs.List.Sorted.{IsNonDecreasingBy}
 use Rattle.std.specs.Option.{option_map}
 use Rattle.kc_types.specs.Refusals.{number_of}
 use Rattle.kc_types.specs.Slots.{vm_of}
@@ -41,6 +42,10 @@ attempt_in _ = None
 -- the attempts among notes
 abbrev pub attempts_in : List Note → List Attempt
 attempts_in told = filter_map attempt_in told
+
+-- no attempt is on a line before that of an earlier one
+abbrev pub AreInOrder : List Attempt → Type 0
+AreInOrder attempts = IsNonDecreasingBy (λ (a : Attempt). a.line) attempts
 
 abbrev pub is_before : ℕ → Option ℕ → Bool
 is_before line None = true

@@ -1,6 +1,7 @@
 //! Calls that were refused at a page of a VM.
-ghost use Rattle.std.specs.Prelude.{◌≡◌, IfOk};
-ghost use Rattle.kc_remarks.specs.Attempts.{attempt_on, attempt_told, is_before, is_in_life, attempts_in_life, is_for, count_attempts, refusals};
+ghost use Rattle.std.specs.Prelude.{◌≡◌, Some, IfOk};
+ghost use Rattle.kc_types.specs.declared.custody.Life.{Life};
+ghost use Rattle.kc_remarks.specs.Attempts.{AreInOrder, attempt_on, attempt_told, is_before, is_in_life, attempts_in_life, is_for, count_attempts, refusals};
 
 use crate::remark::NamedFrame;
 use kc_types::{Life, Memory, Refusal, Reply, vm_of};
@@ -89,15 +90,48 @@ fn is_in_life(life: &Life, attempt: &Attempt) -> bool
     attempt.vm == life.vm && life.registered < attempt.line && is_before(attempt.line, life.cleared)
 }
 
-/// The attempts at pages that a VM owned in this life. `Memory` where a growth was refused.
+/// Leaves out the attempts up to a line.
+fn after(attempts: &[Attempt], line: u32) -> &[Attempt]
+    requires { AreInOrder attempts.now }
+    ensures order { AreInOrder result.now }
+    ensures same { (life : Life) → life.registered ≡ line → attempts_in_life life result.now ≡ attempts_in_life life attempts.now }
+{
+    let first = attempts.partition_point(|attempt| attempt.line <= line);
+    &attempts[first..]
+}
+
+/// Leaves out the attempts from a line on.
+fn before(attempts: &[Attempt], line: u32) -> &[Attempt]
+    requires { AreInOrder attempts.now }
+    ensures { (life : Life) → life.cleared ≡ Some line → attempts_in_life life result.now ≡ attempts_in_life life attempts.now }
+{
+    let end = attempts.partition_point(|attempt| attempt.line < line);
+    &attempts[..end]
+}
+
+/// Leaves out the attempts outside the lines of a life: each attempt is within the lives of at most 64 VMs.
+fn within<'a>(life: &Life, attempts: &'a [Attempt]) -> &'a [Attempt]
+    requires { AreInOrder attempts.now }
+    ensures { attempts_in_life life.now result.now ≡ attempts_in_life life.now attempts.now }
+{
+    let attempts = after(attempts, life.registered);
+    match life.cleared {
+        Some(line) => before(attempts, line),
+        None => attempts,
+    }
+}
+
+/// Lists the attempts at pages that a VM owned in this life. `Memory` if memory cannot be had.
 pub fn attempts_in_life(
     alloc: Global,
     life: &Life,
     attempts: &[Attempt],
 ) -> Result<Vec<Attempt>, Memory>
+    requires { AreInOrder attempts.now }
     ensures { IfOk result (λ own. own.items ≡ attempts_in_life life.now attempts.now) }
 {
     let mut own = Vec::new(alloc);
+    let attempts = within(life, attempts);
     for attempt in attempts {
         if is_in_life(life, attempt) {
             own.push(*attempt)?;

@@ -1,7 +1,7 @@
 //! Lives of VMs, as JSON Lines (RFC 8259): an object a line.
 ghost use Rattle.std.specs.Prelude.{◌≡◌, ◌≤◌, ◌+◌, ◌++◌, drop, length, vec_len, vec_capacity, IfOk, OnOk};
 ghost use Rattle.std.specs.List.{flat_map};
-ghost use Rattle.kc_remarks.specs.Attempts.{refusals};
+ghost use Rattle.kc_remarks.specs.Attempts.{AreInOrder, refusals};
 ghost use Rattle.kc_trace.specs.SummaryText.{turns_text, life_images_text, accesses_counted, counts_text, sharing_text, more_sharing_text, sharings_text, shared_text, reason_member, reason_text, refused_text, life_line, summary_header, summary_end, summary_text_of};
 
 use crate::custody_writer::{
@@ -177,6 +177,7 @@ fn push_life(
     attempts: &[Attempt],
     life: &Life,
 ) -> Result<(), Memory>
+    requires { AreInOrder attempts.now }
     ensures { OnOk result (text.new.items ≡ text.old.items ++ life_line is_unseen attempts.now life.now) }
 {
     push_turns(text, life)?;
@@ -195,6 +196,7 @@ fn push_lives(
     attempts: &[Attempt],
     lives: &[Life],
 ) -> Result<(), Memory>
+    requires { AreInOrder attempts.now }
     ensures { OnOk result (text.new.items ≡ text.old.items ++ flat_map (life_line is_unseen attempts.now) lives.now) }
 {
     for life in lives {
@@ -241,6 +243,7 @@ pub fn summary_text(
     attempts: &[Attempt],
     lives: &[Life],
 ) -> Result<Vec<u8>, Memory>
+    requires { AreInOrder attempts.now }
     ensures { IfOk result (λ text. text.items ≡ summary_text_of heading.now config.now calls refused attempts.now lives.now) }
 {
     let mut text = Vec::new(alloc);

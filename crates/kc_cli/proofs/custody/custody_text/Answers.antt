@@ -5,7 +5,10 @@ use Rattle.kc_custody.specs.Within.{IsWithin}
 use Rattle.kc_custody.proofs.Traced.{events-within}
 use Rattle.kc_texts.proofs.Told.{sources_err, texts_err, sink_more}
 use Rattle.kc_types.specs.declared.custody.Event.{Event}
-use Rattle.kc_cli.proofs.Ledgers.{kept_events}
+use Rattle.kc_remarks.specs.declared.remark.Note.{Note}
+use Rattle.kc_remarks.specs.Attempts.{AreInOrder, attempts_in}
+use Rattle.kc_remarks.proofs.Ordered.{told_in_order}
+use Rattle.kc_cli.proofs.Ledgers.{kept_events, kept_in_order}
 use Rattle.kc_cli.proofs.Told.{gives_custody, begins_custody, custody_err}
 use Rattle.kc_cli.proofs.custody.custody_text.Goals as goal
 
@@ -35,6 +38,11 @@ give_answered-requires-clause-within g c =
     let h = c.in_ok-told.ensures.ok in
     let same = kept_events _ h.3 _ h.5 ∙ h.4.events in
     rw h.2 (subst (λ (events : List Event). All (IsWithin h.0.config.frames) events) (sym same) (events-within first_line h.0 h.4.calls))
+
+pub give_answered-requires-clause-order : goal.give_answered-requires-clause-order
+give_answered-requires-clause-order g c =
+    let h = c.in_ok-told.ensures.ok in
+    kept_in_order _ h.3 _ h.5 (subst (λ (told : List Note). AreInOrder (attempts_in told)) (sym h.4.exact) (told_in_order first_line h.0 h.4.calls))
 
 pub returns-clause-answered : goal.returns-clause-answered
 returns-clause-answered g c = IfOk-weaker c.give_answered.result _ _ (λ answered same. rw same c.in_ok-told.ensures.answered) c.give_answered.ensures.answered
