@@ -1,11 +1,12 @@
 //! The core under its one lock.
 ghost use Rattle.std.specs.Prelude.{◌≡◌, ◌≢◌, ◌↔◌, Err, IfOk, OnOk, OnErr};
 ghost use Rattle.kc_types.specs.Actors.{actor as actor_made};
-ghost use Rattle.kc_live.specs.Book.{IsLegal, IsKept};
+ghost use Rattle.kc_live.specs.Book.{VolumeView, IsDigestOf, IsLegal, IsKept};
 ghost use Rattle.kc_live.specs.Seat.{GainsReceipt};
 
 use crate::book::{Book, History, Volume};
 use crate::fault::LiveFault;
+use crate::journal::VolumeDigest;
 use crate::seat::Seat;
 use kc_types::{CALL_LIMIT, Call, Config, Memory};
 use std::alloc::Global;
@@ -48,6 +49,15 @@ impl LiveCore {
     {
         let room = Vec::with_capacity(self.alloc, CALL_LIMIT)?;
         Ok(self.book.lock(rt).turn(room))
+    }
+
+    /// Gives the digest of the volume that is being filled, as it is published (`docs/WITNESS.md`); it may wait for the lock,
+    /// under which the calls since it was last asked are hashed. No memory is taken.
+    // An empty volume has a digest too: tests compare digests.
+    pub fn digest<R: Wait>(&self, rt: &R) -> VolumeDigest
+        ensures { (v : VolumeView) × IsLegal v × IsDigestOf v result }
+    {
+        self.book.lock(rt).digest()
     }
 
     /// Ends the history and hands out its last volume and the core. It waits for nobody.
