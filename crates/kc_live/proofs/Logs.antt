@@ -21,7 +21,7 @@ use Rattle.kc_live.specs.Book.{Log, IsMadeFrom, IsServed, MayStart, IsKept, IsWh
 pub buffer_fits : (m : State) (call : Call) (reply : Reply) (spare : ℕ) → reply ≡ (next m call).0 → most_reply_bytes call ≤ spare → bytes_in reply ≤ spare
 buffer_fits m call reply spare is_reply made = let few = bytes-next m call in rw is_reply (omega arith)
 
--- a volume with one call more is made from where it was made from
+-- a volume with one call more, made from the same state
 made_more : (start : State) (l : Log) (call : Call) → IsLawful start → IsMadeFrom start (volume_in l) → l.state ≡ state_after start (calls_of l.entries)
     → IsMadeFrom start (volume_in (longer l call)) × ((longer l call).state ≡ state_after start (calls_of (longer l call).entries))
 made_more start l call lawful made ends =

@@ -52,13 +52,13 @@ pub record MayStart (number : ℕ) (start : State) : Type 0 where
   pub leads : start ≡ state_after (boot config) before
   pub first : number ≡ 0 → before ≡ []
 
--- one thread could have made the volume, from where it may start on
+-- one thread could have made the volume, from a state in which it may start
 pub record IsLegal (v : VolumeView) : Type 0 where
   pub start : State
   pub may : MayStart v.number start
   pub made : IsMadeFrom start v
 
--- the volume is legal and not too long, and a core in this state stands at its end
+-- the volume is legal and not too long, and a core that made its calls is in this state
 pub record IsKept (l : Log) : Type 0 where
   pub legal : IsLegal (volume_in l)
   pub ends : l.state ≡ state_after legal.start (calls_of l.entries)

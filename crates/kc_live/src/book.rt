@@ -127,7 +127,7 @@ impl Model for Volume {
 impl Volume {
     ghost use Rattle.kc_live.specs.Book.{IsLegal};
 
-    /// Its number, from 0: how many volumes came before.
+    /// The volume's number, from 0: how many volumes came before.
     pub fn number(&self) -> u64
         ensures { result ≡ self.now.number }
     {

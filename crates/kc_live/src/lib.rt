@@ -1,5 +1,5 @@
-//! The core under one lock with the history of its calls: books, seats, receipts, and whether receipts are a history's.
-//! The core run live: programs, a thread for each, and the history that they leave with its receipts.
+//! The core under one lock with the history of its calls: books, seats, receipts, and whether receipts are those of a
+//! history. The core run live: programs, a thread for each, and the history that they leave with its receipts.
 //!
 //! - what a book keeps, seats, settling: `specs/Book.antt`, `specs/Seat.antt`, `specs/Settling.antt`; a history:
 //!   `kc_model/specs/Histories.antt`
