@@ -121,7 +121,7 @@ impl<'a, R: Clock + Sync> Gate for MeetingPlace<'a, R> {
     }
 }
 
-/// What a replay by so many workers gives: the replies, or the dump of the core that it leaves.
+/// Prints what a replay by a number of workers gives: the replies, or the dump of the core that it leaves.
 fn print_replay<R: Threads + Wait + Clock + Sync>(
     rt: &HostRuntime,
     threads: &R,
@@ -163,9 +163,9 @@ fn print_history(rt: &HostRuntime, history: History) -> Result<()> {
     Ok(())
 }
 
-/// What a live run leaves, with a thread for each actor of the trace: the calls of its history. Where it gave no answer, a
-/// line with the cause comes first, and whether the receipts are those of the history; there are no calls where it left
-/// no history.
+/// Prints what a live run leaves, with a thread for each actor of the trace: the calls of its history. If it gave no answer,
+/// a line with the cause comes first, and whether the receipts are those of the history; there are no calls if it left no
+/// history.
 fn print_live<R: Threads + Wait + Clock + Sync>(
     rt: &HostRuntime,
     threads: &R,
@@ -298,7 +298,7 @@ fn read_calls(rt: &HostRuntime, path: &str) -> Result<Vec<Call>> {
     Ok(read_trace(rt.alloc(), text.as_slice())?)
 }
 
-/// As often as the word says, a line with what footprints and plan take.
+/// Prints, as often as asked, a line with what footprints and plan take.
 fn print_times(rt: &HostRuntime, core: &KCore, calls: &[Call], times: &str) -> Result<()> {
     for _ in 0..times.parse::<u32>()? {
         print_time(rt, core, calls)?;
