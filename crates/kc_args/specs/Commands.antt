@@ -1,4 +1,4 @@
--- The program's command, in clap's words.
+-- The program's command, in clap's terms.
 use Rattle.std.specs.Prelude.{◌-◌, List, [], ◌∷◌, codes, pos, Some, true}
 use Rattle.clap.specs.Words.{App, Rule, Text, new_app, new_rule, with_rule, with_subcommand}
 use Rattle.clap.specs.Simple.{on_top}

@@ -13,12 +13,12 @@ use std::alloc::{AllocError, Global};
 /// What the program is asked to do.
 #[derive(Clone, Copy, Debug, PartialEq, Eq)]
 pub enum Job<'a> {
-    /// Replay the trace, with the configuration in a file if a path is given, or from the state whose text is in the file
-    /// `from`, by 1 to 64 workers, and write the replies, or with `dump` the dump of the core that it leaves, or with `state`
-    /// the text of its state; and compare that text with the file `to` if a path is given; all this with `blank` of the core
-    /// with the pages of active VMs zeroed. `config` and `from` exclude each other, and `dump` and `state`, and `blank` needs
-    /// one of `dump`, `state` and `to`. Here and below: the trace, or the dump, is in the file `input`, or on standard input
-    /// if no path is given; `explain`: say more of a fault.
+    /// Replay the trace, with the configuration in a file if a path is given, or from the state whose text is in the
+    /// file `from`, with 1 to 64 workers, and write the replies, or with `dump` the dump of the core that it leaves, or
+    /// with `state` the text of its state; and compare that text with the file `to` if a path is given; with `blank`,
+    /// all this for the core with the pages of active VMs zeroed. `config` and `from` exclude each other, as do `dump`
+    /// and `state`, and `blank` needs one of `dump`, `state` and `to`. Here and below: the trace, or the dump, is in
+    /// the file `input`, or on standard input if no path is given; `explain`: say more about a fault.
     Replay {
         input: Option<&'a str>,
         config: Option<&'a str>,
@@ -30,21 +30,22 @@ pub enum Job<'a> {
         blank: bool,
         explain: bool,
     },
-    /// Run the trace live, with the configuration in a file if a path is given, and replay the history by 1 to 64 workers.
+    /// Run the trace live, with the configuration in a file if a path is given, and replay the history with 1 to 64
+    /// workers.
     Live {
         input: Option<&'a str>,
         config: Option<&'a str>,
         workers: u32,
         explain: bool,
     },
-    /// Make the calls of the trace, with the configuration in a file if a path is given, or from the state whose text is in
-    /// the file `from`, and write what happened to each frame and slot, of one slot's VM alone if a slot is given: every
-    /// change, with `refused` also each call that was refused or rejected, and with `accesses` each read and write of the
-    /// host that a VM's frame served; or with `summary` an object for each life of a VM, or with `svg` a picture, or with
-    /// `html` all of these lines in a page for a browser. `unseen`: the machine's own reads and writes are not in the trace,
-    /// and none is reported; `digests`: the texts that were read are named by their digests. `config` and `from` exclude each
-    /// other; so do `summary`, `svg` and `from`; `summary`, `svg` and `html`; `summary` and `svg` exclude `refused` and
-    /// `accesses`; and `unseen` excludes `accesses`.
+    /// Make the calls of the trace, with the configuration in a file if a path is given, or from the state whose text
+    /// is in the file `from`, and write what happened to each frame and slot, or only to those of one slot's VM if a
+    /// slot is given: every change, with `refused` also each call that was refused or rejected, and with `accesses`
+    /// each read and write by the host that a VM's frame served; or with `summary` an object for each life of a VM, or
+    /// with `svg` a picture, or with `html` all of these lines in a page for a browser. `unseen`: the machine's own
+    /// reads and writes are not in the trace, and none is reported; `digests`: the texts that were read are named by
+    /// their digests. `config` and `from` exclude each other; so do `summary`, `svg` and `from`; `summary`, `svg` and
+    /// `html`; `summary` and `svg` exclude `refused` and `accesses`; and `unseen` excludes `accesses`.
     Custody {
         input: Option<&'a str>,
         config: Option<&'a str>,
@@ -59,15 +60,16 @@ pub enum Job<'a> {
         digests: bool,
         explain: bool,
     },
-    /// Audit the dump, and write each finding, or the report alone.
+    /// Audit the dump, and write each finding, or only the report.
     Audit {
         input: Option<&'a str>,
         all: bool,
         explain: bool,
     },
-    /// Write the trace with zeros in place of the bytes that VMs write, and with `host` also of those that the host writes to
-    /// a frame of a VM that is active then, if the calls begin with the configuration in a file, the default one if no path is
-    /// given, or in the state whose text is in the file `from`. `config` and `from` exclude each other, and both need `host`.
+    /// Write the trace with zeros in place of the bytes that VMs write, and with `host` also of those that the host
+    /// writes to a frame of a VM that is active then, if the calls begin with the configuration in a file (the default
+    /// one if no path is given) or in the state whose text is in the file `from`. `config` and `from` exclude each
+    /// other, and both need `host`.
     Redact {
         input: Option<&'a str>,
         config: Option<&'a str>,
@@ -80,7 +82,7 @@ pub enum Job<'a> {
 /// Why there is no job.
 #[derive(Debug, Drop)]
 pub enum ArgFault {
-    /// Memory cannot be had.
+    /// Memory could not be had.
     Memory,
     /// What is to be printed, and the exit status: 0 for help or the version, which was asked for, and 2 for a wrong command
     /// line.
@@ -128,7 +130,7 @@ fn is_set(matches: &ArgMatches<'_>, flag: &str) -> bool
     }
 }
 
-/// The number, or 1 if the command's rules do not let it through.
+/// The number, or 1 if the command's rules do not accept it.
 fn in_range(workers: u8) -> u32
     ensures { result ≡ in_range workers }
 {
@@ -149,7 +151,7 @@ fn workers_in(matches: &ArgMatches<'_>) -> u32
     }
 }
 
-/// The number after `--vm`; 0 if the command's rules do not let it through.
+/// The number after `--vm`; 0 if the command's rules do not accept it.
 fn slot_in(matches: &ArgMatches<'_>) -> u32
     ensures { result ≡ slot_in (rows_of (found_of matches.now)) }
 {
@@ -175,7 +177,7 @@ fn is_named(name: &str, command: &str) -> bool
     name == command
 }
 
-/// The file to be read; none for `-`, which is standard input.
+/// The file to be read; `None` for `-`, which is standard input.
 fn input_in<'a>(matches: &ArgMatches<'a>) -> Option<&'a str>
     ensures { HasInput (rows_of (found_of matches.now)) result }
 {
@@ -253,7 +255,8 @@ fn job_in<'a>(name: &str, found: &ArgMatches<'a>) -> Job<'a>
 /// `--workers N` with a number from 1 to 64, `replay` also with `--from PATH`, `--to PATH`, `--dump`, `--state` and
 /// `--blank`; `custody`, with or without `--config PATH` and `--vm V` with a number from 0 to 63, `--summary`, `--svg`,
 /// `--html`, `--refused`, `--accesses`, `--unseen` and `--digests`; `audit`, also with `--all`; `redact`, also with
-/// `--config PATH`, `--from PATH` and `--host`; each also with `--explain` and the file to be read; and `replay` if there are none.
+/// `--config PATH`, `--from PATH` and `--host`; each also with `--explain` and the file to be read; and `replay` if
+/// there are no arguments.
 pub fn job_of<'a>(alloc: Global, arguments: &'a [&'a str]) -> Result<Job<'a>, ArgFault>
     // The job is what the arguments say by the command's rules, and only a command line that breaks them is refused.
     ensures job { IfOk result (IsJob (map (λ w. w.now) arguments.entry.now)) }

@@ -1,10 +1,11 @@
-//! The text of a page for a browser, but for the lines of custody in it, which it shows: what is before them, and after them.
+//! The text of a page for a browser, without the lines of custody that it shows: what comes before them, and what comes
+//! after them.
 //!
-//! The page runs its own script and applies its own style alone, by their digests in its policy, and has nothing from elsewhere:
-//! whoever changes one of both has to write its new digest there, which `tests/html` prints.
+//! The page runs only its own script and applies only its own style, by their digests in its policy, and has nothing
+//! from elsewhere: whoever changes either must write its new digest there, which `tests/html` prints.
 #![tactic(auto)]
 
-/// What is before the lines.
+/// What comes before the lines.
 pub const HEAD: &str = r##"<!doctype html>
 <html lang="en">
 <head>
@@ -128,7 +129,7 @@ button.line { color: inherit; text-decoration: none; }
 <script id="lines" type="application/x-ndjson">
 "##;
 
-/// What is after the lines.
+/// What comes after the lines.
 pub const TAIL: &str = r##"</script>
 <script>
 "use strict";

@@ -14,7 +14,7 @@ pub enum LiveFault {
     /// The volume has 65,536 calls.
     #[error("the history is full")]
     HistoryFull,
-    /// Memory cannot be had.
+    /// Memory could not be had.
     #[error("out of memory")]
     Memory,
 }

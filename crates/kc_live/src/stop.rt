@@ -8,7 +8,7 @@ pub enum LiveCause {
     NotYours(usize, usize),
     /// There are more than 65,536 calls in all.
     HistoryFull,
-    /// Memory cannot be had.
+    /// Memory could not be had.
     Memory,
     /// A thread could not be started.
     Start,

@@ -118,7 +118,7 @@ keeps-all : (calls : List Call) → KeepsImages all_frames calls
 keeps-all [] = tt
 keeps-all (call ∷ calls) = (keeps-call call, keeps-all calls)
 
--- the redacted calls from any such state say what they say from the blank one, and that is what the calls say
+-- from any such state, the redacted calls say what they say from the blank one, and that is what the calls say
 record SaysTheSame (m n : State) (calls : List Call) : Type 0 where
   pub events : events n (redacted_from m calls) ≡ events m calls
   pub custody : custody n (redacted_from m calls) ≡ custody m calls

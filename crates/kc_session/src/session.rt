@@ -38,7 +38,7 @@ pub enum AskFault {
     NotYours,
     /// The volume has 65,536 calls.
     HistoryFull,
-    /// Memory cannot be had.
+    /// Memory could not be had.
     Memory,
 }
 

@@ -159,7 +159,7 @@ fn any_is_new(calls: &[Call]) -> bool
     calls.iter().any(|call| is_new(call))
 }
 
-/// The first version in which all of these calls may stand.
+/// The first version whose texts may have all of these calls.
 #[tactic(auto, unfolding(crate::specs::Spelling::version_of))]
 pub fn version_of(calls: &[Call]) -> Version
     ensures { result ≡ version_of calls.now }
@@ -183,8 +183,8 @@ pub fn push_header(text: &mut Vec<u8>, version: Version)
     }
 }
 
-/// The text of at most 65,536 calls: the header of the first version in which they may all stand, and a line for
-/// each call. Each line ends with a newline. `read_trace` reads it as these calls.
+/// Makes the text of at most 65,536 calls: the header of the first version whose texts may have them all, and a line
+/// for each call. Each line ends with a newline. `read_trace` reads it as these calls.
 pub fn write_trace(alloc: Global, calls: &[Call]) -> Result<Vec<u8>, Memory>
     requires { length calls.now ≤ call_limit }
     // No clause can rule out that memory runs out: tests write traces.
