@@ -30,17 +30,6 @@ fn path_arg<'a>(alloc: Global, name: &'a str, help: &'a str) -> Arg<'a>
         .help(help)
 }
 
-/// Makes a flag, which takes no value.
-fn flag_arg<'a>(alloc: Global, name: &'a str, help: &'a str) -> Arg<'a>
-    ensures rule { rule_of result ≡ flag_rule name.now }
-    ensures local { result.global ≡ false }
-{
-    Arg::new(alloc, name)
-        .long(name)
-        .action(ArgAction::SetTrue)
-        .help(help)
-}
-
 fn config_arg<'a>(alloc: Global) -> Arg<'a>
     ensures rule { rule_of result ≡ path_rule (codes "config") }
     ensures local { result.global ≡ false }
@@ -49,17 +38,6 @@ fn config_arg<'a>(alloc: Global) -> Arg<'a>
         alloc,
         "config",
         "A JSON text: frames, core, host, leaves and approved",
-    )
-}
-
-fn from_arg<'a>(alloc: Global) -> Arg<'a>
-    ensures rule { rule_of result ≡ path_rule (codes "from") }
-    ensures local { result.global ≡ false }
-{
-    path_arg(
-        alloc,
-        "from",
-        "Begin in the state of this text, in place of a configuration's boot state",
     )
 }
 
@@ -85,13 +63,6 @@ fn vm_arg<'a>(alloc: Global) -> Arg<'a>
         .value_name("V")
         .value_parser(clap::value_parser!(u8).range(0..=i64::from(SLOT_LIMIT) - 1))
         .help("Report the VM in this slot alone, 0 to 63")
-}
-
-fn explain_arg<'a>(alloc: Global) -> Arg<'a>
-    ensures rule { rule_of result ≡ flag_rule (codes "explain") }
-    ensures local { result.global ≡ false }
-{
-    flag_arg(alloc, "explain", "Say more of a fault, in further lines")
 }
 
 /// Makes the argument without a name: the file to be read.
@@ -123,20 +94,65 @@ fn subcommand<'a>(
 fn with_own<'a>(command: Command<'a>, arg: Arg<'a>) -> Result<Command<'a>, AllocError>
     requires command { (fields_of command).has_globals ≡ false }
     requires arg { arg.global ≡ false }
-    ensures app { IfOk result (λ c. app_of c ≡ with_rule (app_of command) (rule_of arg)) }
+    ensures app { IfOk result (λ c. app_of c ≡ with_rule (app_of command.entry) (rule_of arg.entry)) }
     ensures local { IfOk result (λ c. (fields_of c).has_globals ≡ false) }
 {
     command.arg(arg)
 }
 
+/// Adds the two options for what the calls begin with.
+fn with_start<'a>(alloc: Global, command: Command<'a>) -> Result<Command<'a>, AllocError>
+    requires { (fields_of command).has_globals ≡ false }
+    ensures app { IfOk result (λ c. app_of c ≡ with_rule (with_rule (app_of command.entry) (path_rule (codes "config"))) (path_rule (codes "from"))) }
+    ensures local { IfOk result (λ c. (fields_of c).has_globals ≡ false) }
+{
+    let command = with_own(command, config_arg(alloc))?;
+    let help = "Begin in the state of this text, in place of a configuration's boot state";
+    with_own(command, path_arg(alloc, "from", help))
+}
+
+/// Adds a flag to a command, which has it for itself and not for all subcommands.
+fn with_flag<'a>(
+    alloc: Global,
+    command: Command<'a>,
+    name: &'a str,
+    help: &'a str,
+) -> Result<Command<'a>, AllocError>
+    requires { (fields_of command).has_globals ≡ false }
+    ensures app { IfOk result (λ c. app_of c ≡ with_rule (app_of command.entry) (flag_rule name.now)) }
+    ensures local { IfOk result (λ c. (fields_of c).has_globals ≡ false) }
+{
+    let arg = Arg::new(alloc, name)
+        .long(name)
+        .action(ArgAction::SetTrue)
+        .help(help);
+    with_own(command, arg)
+}
+
 /// Adds the two arguments that each subcommand has.
 fn ended<'a>(alloc: Global, command: Command<'a>, help: &'a str) -> Result<Command<'a>, AllocError>
     requires { (fields_of command).has_globals ≡ false }
-    ensures app { IfOk result (λ c. app_of c ≡ with_rule (with_rule (app_of command) (flag_rule (codes "explain"))) file_rule) }
+    ensures app { IfOk result (λ c. app_of c ≡ with_rule (with_rule (app_of command.entry) (flag_rule (codes "explain"))) file_rule) }
     ensures local { IfOk result (λ c. (fields_of c).has_globals ≡ false) }
 {
-    let command = with_own(command, explain_arg(alloc))?;
+    let about = "Say more of a fault, in further lines";
+    let command = with_flag(alloc, command, "explain", about)?;
     with_own(command, file_arg(alloc, help))
+}
+
+/// Adds the flags for what a replay writes.
+fn with_outputs<'a>(alloc: Global, command: Command<'a>) -> Result<Command<'a>, AllocError>
+    requires { (fields_of command).has_globals ≡ false }
+    ensures app { IfOk result (λ c. app_of c ≡ with_rule (with_rule (with_rule (app_of command.entry) (flag_rule (codes "dump"))) (flag_rule (codes "state"))) (flag_rule (codes "blank"))) }
+    ensures local { IfOk result (λ c. (fields_of c).has_globals ≡ false) }
+{
+    let help = "Write the dump of the core that the trace leaves, in place of the replies";
+    let command = with_flag(alloc, command, "dump", help)?;
+    let help =
+        "Write the text of the state that the trace leaves, with every guest's bytes, in place of the replies";
+    let command = with_flag(alloc, command, "state", help)?;
+    let help = "Zero the pages of active VMs first, for --dump, --state and --to";
+    with_flag(alloc, command, "blank", help)
 }
 
 fn replay_command<'a>(alloc: Global) -> Result<Command<'a>, AllocError>
@@ -150,17 +166,12 @@ fn replay_command<'a>(alloc: Global) -> Result<Command<'a>, AllocError>
         "kcore replay [OPTIONS] [FILE]",
         "Example: kcore replay --config machine.json run.trace > replies",
     );
-    let command = with_own(command, config_arg(alloc))?;
-    let command = with_own(command, from_arg(alloc))?;
-    let help = "Compare the state that the trace leaves with this text; the status is 1 if it is another";
+    let command = with_start(alloc, command)?;
+    let help =
+        "Compare the state that the trace leaves with this text; the status is 1 if it is another";
     let command = with_own(command, path_arg(alloc, "to", help))?;
     let command = with_own(command, workers_arg(alloc))?;
-    let help = "Write the dump of the core that the trace leaves, in place of the replies";
-    let command = with_own(command, flag_arg(alloc, "dump", help))?;
-    let help = "Write the text of the state that the trace leaves, with every guest's bytes, in place of the replies";
-    let command = with_own(command, flag_arg(alloc, "state", help))?;
-    let help = "Zero the pages of active VMs first, for --dump, --state and --to";
-    let command = with_own(command, flag_arg(alloc, "blank", help))?;
+    let command = with_outputs(alloc, command)?;
     ended(alloc, command, TRACE_HELP)
 }
 
@@ -180,6 +191,36 @@ fn live_command<'a>(alloc: Global) -> Result<Command<'a>, AllocError>
     ended(alloc, command, TRACE_HELP)
 }
 
+/// Adds the flags for the form in which custody is reported.
+fn with_forms<'a>(alloc: Global, command: Command<'a>) -> Result<Command<'a>, AllocError>
+    requires { (fields_of command).has_globals ≡ false }
+    ensures app { IfOk result (λ c. app_of c ≡ with_rule (with_rule (with_rule (app_of command.entry) (flag_rule (codes "summary"))) (flag_rule (codes "svg"))) (flag_rule (codes "html"))) }
+    ensures local { IfOk result (λ c. (fields_of c).has_globals ≡ false) }
+{
+    let help = "Write an object for each life of a VM, in place of the changes";
+    let command = with_flag(alloc, command, "summary", help)?;
+    let help = "Write a picture (SVG 1.1), in place of the changes";
+    let command = with_flag(alloc, command, "svg", help)?;
+    let help = "Write a page for a browser, with the lines of --refused and --accesses in it";
+    with_flag(alloc, command, "html", help)
+}
+
+/// Adds the flags for what else is reported.
+fn with_contents<'a>(alloc: Global, command: Command<'a>) -> Result<Command<'a>, AllocError>
+    requires { (fields_of command).has_globals ≡ false }
+    ensures app { IfOk result (λ c. app_of c ≡ with_rule (with_rule (with_rule (with_rule (app_of command.entry) (flag_rule (codes "refused"))) (flag_rule (codes "accesses"))) (flag_rule (codes "unseen"))) (flag_rule (codes "digests"))) }
+    ensures local { IfOk result (λ c. (fields_of c).has_globals ≡ false) }
+{
+    let help = "Also write each call that was refused or rejected";
+    let command = with_flag(alloc, command, "refused", help)?;
+    let help = "Also write each read and write of the host that a VM's frame served";
+    let command = with_flag(alloc, command, "accesses", help)?;
+    let help = "The trace lacks the machine's own reads and writes: report none";
+    let command = with_flag(alloc, command, "unseen", help)?;
+    let help = "Name the trace, and the configuration or the state, by SHA-256 in the first line";
+    with_flag(alloc, command, "digests", help)
+}
+
 fn custody_command<'a>(alloc: Global) -> Result<Command<'a>, AllocError>
     ensures app { IfOk result (λ c. app_of c ≡ custody) }
     ensures local { IfOk result (λ c. (fields_of c).has_globals ≡ false) }
@@ -191,23 +232,10 @@ fn custody_command<'a>(alloc: Global) -> Result<Command<'a>, AllocError>
         "kcore custody [OPTIONS] [FILE]",
         "Example: kcore custody --vm 3 --summary --config machine.json run.trace",
     );
-    let command = with_own(command, config_arg(alloc))?;
-    let command = with_own(command, from_arg(alloc))?;
+    let command = with_start(alloc, command)?;
     let command = with_own(command, vm_arg(alloc))?;
-    let help = "Write an object for each life of a VM, in place of the changes";
-    let command = with_own(command, flag_arg(alloc, "summary", help))?;
-    let help = "Write a picture (SVG 1.1), in place of the changes";
-    let command = with_own(command, flag_arg(alloc, "svg", help))?;
-    let help = "Write a page for a browser, with the lines of --refused and --accesses in it";
-    let command = with_own(command, flag_arg(alloc, "html", help))?;
-    let help = "Also write each call that was refused or rejected";
-    let command = with_own(command, flag_arg(alloc, "refused", help))?;
-    let help = "Also write each read and write of the host that a VM's frame served";
-    let command = with_own(command, flag_arg(alloc, "accesses", help))?;
-    let help = "The trace lacks the machine's own reads and writes: report none";
-    let command = with_own(command, flag_arg(alloc, "unseen", help))?;
-    let help = "Name the trace, and the configuration or the state, by SHA-256 in the first line";
-    let command = with_own(command, flag_arg(alloc, "digests", help))?;
+    let command = with_forms(alloc, command)?;
+    let command = with_contents(alloc, command)?;
     ended(alloc, command, TRACE_HELP)
 }
 
@@ -223,7 +251,7 @@ fn audit_command<'a>(alloc: Global) -> Result<Command<'a>, AllocError>
         "Example: kcore audit --all run.dump",
     );
     let help = "Write a line for each finding, and the report last";
-    let command = with_own(command, flag_arg(alloc, "all", help))?;
+    let command = with_flag(alloc, command, "all", help)?;
     ended(alloc, command, DUMP_HELP)
 }
 
@@ -238,10 +266,9 @@ fn redact_command<'a>(alloc: Global) -> Result<Command<'a>, AllocError>
         "kcore redact [OPTIONS] [FILE]",
         "Example: kcore redact run.trace > redacted.trace",
     );
-    let command = with_own(command, config_arg(alloc))?;
-    let command = with_own(command, from_arg(alloc))?;
+    let command = with_start(alloc, command)?;
     let help = "Blank also what the host writes to frames of active VMs; this replays the trace";
-    let command = with_own(command, flag_arg(alloc, "host", help))?;
+    let command = with_flag(alloc, command, "host", help)?;
     ended(alloc, command, TRACE_HELP)
 }
 

@@ -1,5 +1,5 @@
 //! A core, and the calls of one volume with their replies and their digest.
-ghost use Rattle.std.specs.Prelude.{◌≡◌, ◌≤◌, ◌↔◌, ◌++◌, [], List, length, vec_capacity, IsErr, IfOk, IfErr, OnOk, OnErr};
+ghost use Rattle.std.specs.Prelude.{◌≡◌, ◌<◌, ◌≤◌, ◌↔◌, ◌++◌, [], List, length, vec_capacity, IsErr, IfOk, IfErr, OnOk, OnErr};
 ghost use Rattle.sha2.specs.Sha256.{sha256};
 ghost use Rattle.kc_types.specs.Limits.{call_limit};
 ghost use Rattle.kc_types.specs.declared.call.Call.{Call};
@@ -91,6 +91,7 @@ impl Journal {
         ensures receipt { IfOk result (λ r. r ≡ receipt_of self.old ready) }
         ensures entry { OnOk result (self.new ≡ longer self.old ready) }
         ensures full { IsErr result ↔ (length self.old.entries ≡ call_limit) }
+        ensures room { OnOk result (length self.old.entries < call_limit) }
         ensures fault { IfErr result (λ fault. fault ≡ LiveFault.HistoryFull) }
         ensures err { OnErr result (self.new ≡ self.old) }
     {

@@ -4,7 +4,7 @@ use Rattle.kc_session.proofs.Traced.{lines_are_witnessed, lines_are_redacted}
 use Rattle.kc_session.proofs.session.Session.digest.Goals as goal
 
 pub returns-clause-digest : goal.returns-clause-digest
-returns-clause-digest c = c.digest.ensures.digest ∙ ap sha256 (sym (lines_are_witnessed c.self.inside.journal))
+returns-clause-digest c = rw (← c.self.view_is) (c.digest.ensures.digest ∙ ap sha256 (sym (lines_are_witnessed c.self.inside.journal)))
 
 pub returns-clause-redaction : goal.returns-clause-redaction
-returns-clause-redaction c = lines_are_redacted c.self.inside.journal c.self.invariant c.digest.ensures.short
+returns-clause-redaction c = rw (← c.self.view_is) (lines_are_redacted c.self.inside.journal c.self.invariant c.digest.ensures.short)
