@@ -29,6 +29,6 @@ pub use origin::Origin;
 pub use reading::{DEFAULT_CONFIG, read_both, read_configuration};
 pub use source::{Failed, PIECE, Sink, Source};
 pub use standard::Std;
-pub use stream::{CallStream, Part, StreamFault, read_calls};
+pub use stream::{CallStream, NextCalls, StreamFault, read_calls};
 pub use telling::tell;
 pub use whole::{ReadFault, read_secret, read_whole};

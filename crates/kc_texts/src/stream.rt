@@ -65,7 +65,7 @@ fn joined(mut calls: Vec<Call>, mut more: Vec<Call>) -> Result<Vec<Call>, AllocE
 
 /// The next calls of a trace.
 #[derive(Drop)]
-pub struct Part {
+pub struct NextCalls {
     pub calls: Vec<Call>,
     /// Whether the source has no more bytes.
     pub is_last: bool,
@@ -148,7 +148,7 @@ impl CallStream {
         alloc: Global,
         source: &mut T,
         buffer: &mut [u8; PIECE],
-    ) -> Result<Part, ReadFault>
+    ) -> Result<NextCalls, ReadFault>
         requires { T.failed source.old ≡ false }
         ensures calls { IfOk result (λ part. GoesOn self.old self.new (T.left source.old) (T.left source.new) part.calls.items) }
         ensures last { IfOk result (λ part. part.is_last ≡ true → IsAtEnd (T.left source.new)) }
@@ -168,7 +168,7 @@ impl CallStream {
                 Err(Failed) => return Err(ReadFault::Read),
             };
             if n == 0 {
-                return Ok(Part {
+                return Ok(NextCalls {
                     calls,
                     is_last: true,
                 });
@@ -191,7 +191,7 @@ impl CallStream {
                 },
             }
         }
-        Ok(Part {
+        Ok(NextCalls {
             calls,
             is_last: false,
         })
@@ -227,7 +227,7 @@ pub fn read_calls<T: Source>(alloc: Global, source: &mut T) -> Result<Vec<Call>,
     let mut calls = Vec::new(alloc);
     loop {
         let part = stream.next(alloc, source, &mut buffer)?;
-        let Part {
+        let NextCalls {
             calls: mut more,
             is_last,
         } = part;

@@ -16,7 +16,7 @@ use Rattle.kc_types.specs.declared.call.Call.{Call}
 use Rattle.kc_types.specs.Limits.{line_limit}
 use Rattle.kc_trace.specs.declared.fault.TraceFault.{TraceFault}
 use Rattle.kc_trace.specs.declared.fault.TraceFault.TheVariants.{NoHeader, BadLine, NoNewline, TooManyCalls, Memory}
-use Rattle.kc_trace.specs.Spelling.{line_of, lines_of, header_line, trace_header, stands_in}
+use Rattle.kc_trace.specs.Spelling.{line_of, lines_of, header_line, trace_header, is_allowed_in}
 use Rattle.kc_trace.specs.Machine.{◌>>=◌, Gives, Fails, Progress, start, kept, longer_line, longer, version_in, begins_header, standing, call_of_kept, call_in, after_line, begun, after_header, line_ended, with_front, feed, feed_each, nothing_begun, ended, reading}
 use Rattle.kc_lines.specs.Lines.{IsOneLine}
 use Rattle.kc_trace.specs.Trace.{IsCallOf, AreCalls, StopsAt, IsTrace, IsRefused}
@@ -26,12 +26,12 @@ use Rattle.kc_trace.proofs.Spelled.{line_is_spelled}
 
 -- ---- a line that is kept
 
-stood : (v : Version) (found : Option Call) (call : Call) → standing v found ≡ Some call → (found ≡ Some call) × (stands_in v call ≡ true)
+stood : (v : Version) (found : Option Call) (call : Call) → standing v found ≡ Some call → (found ≡ Some call) × (is_allowed_in v call ≡ true)
 stood v None call e = cc
-stood v (Some other) call e = by_test (stands_in v other) refl e
+stood v (Some other) call e = by_test (is_allowed_in v other) refl e
   where
-    by_test : (b : Bool) → stands_in v other ≡ b → cond b (Some other) None ≡ Some call → (Some other ≡ Some call) × (stands_in v call ≡ true)
-    by_test true h e = (e, let same : other ≡ call = cc in subst (λ c. stands_in v c ≡ true) same h)
+    by_test : (b : Bool) → is_allowed_in v other ≡ b → cond b (Some other) None ≡ Some call → (Some other ≡ Some call) × (is_allowed_in v call ≡ true)
+    by_test true h e = (e, let same : other ≡ call = cc in subst (λ c. is_allowed_in v c ≡ true) same h)
     by_test false h e = cc
 
 kept_is_call : (v : Version) (line : List ℕ) (call : Call) → call_in v (kept line) ≡ Some call → (line ≡ line_of call) × IsCallOf v call

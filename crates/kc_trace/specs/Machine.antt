@@ -8,7 +8,7 @@ use Rattle.kc_types.specs.declared.call.Call.{Call}
 use Rattle.kc_trace.specs.declared.fault.TraceFault.{TraceFault}
 use Rattle.kc_trace.specs.declared.fault.TraceFault.TheVariants.{NoHeader, BadLine, NoNewline, TooManyCalls, Memory}
 use Rattle.kc_types.specs.Limits.{call_limit, line_limit}
-use Rattle.kc_trace.specs.Spelling.{header_line, stands_in}
+use Rattle.kc_trace.specs.Spelling.{header_line, is_allowed_in}
 use Rattle.kc_trace.specs.Reading.{call_of}
 
 -- what `?` is in code
@@ -67,7 +67,7 @@ begins_header (Some line) = starts_with ◌==◌ (header_line One) line || start
 -- the call, if a text of this version may have it
 abbrev pub standing : Version → Option Call → Option Call
 standing version None = None
-standing version (Some call) = if stands_in version call then Some call else None
+standing version (Some call) = if is_allowed_in version call then Some call else None
 
 -- the call that a line is, if it is one
 abbrev pub call_of_kept : Option (List ℕ) → Option Call

@@ -44,15 +44,15 @@ abbrev pub lines_of : List Call → List ℕ
 lines_of calls = flat_map (λ call. line_of call ++ 10 ∷ []) calls
 
 -- whether only texts of the second version may have the call
-abbrev pub is_new : Call → Bool
-is_new (GrantRange vm vcpu gfn count) = true
-is_new (RevokeRange vm vcpu gfn count) = true
-is_new _ = false
+abbrev pub is_range_call : Call → Bool
+is_range_call (GrantRange vm vcpu gfn count) = true
+is_range_call (RevokeRange vm vcpu gfn count) = true
+is_range_call _ = false
 
 -- whether a text of this version may have the call
-abbrev pub stands_in : Version → Call → Bool
-stands_in One call = not (is_new call)
-stands_in Two call = true
+abbrev pub is_allowed_in : Version → Call → Bool
+is_allowed_in One call = not (is_range_call call)
+is_allowed_in Two call = true
 
 -- the first line of each trace, without its newline
 abbrev pub header_line : Version → List ℕ
@@ -69,7 +69,7 @@ text_of version calls = trace_header version ++ lines_of calls
 
 -- the first version whose texts may have all of these calls
 unfoldable pub version_of : List Call → Version
-version_of calls = if list_any is_new calls then Two else One
+version_of calls = if list_any is_range_call calls then Two else One
 
 -- the text that is written for a list of calls
 abbrev pub trace_of : List Call → List ℕ

@@ -8,11 +8,11 @@ use Rattle.kc_model.specs.Ranged.{IsRanged}
 use Rattle.kc_lines.specs.Lines.{IsOneLine}
 use Rattle.kc_trace.specs.declared.fault.TraceFault.{TraceFault}
 use Rattle.kc_trace.specs.declared.fault.TraceFault.TheVariants.{NoHeader, BadLine, NoNewline, TooManyCalls, Memory}
-use Rattle.kc_trace.specs.Spelling.{line_of, lines_of, trace_header, text_of, stands_in}
+use Rattle.kc_trace.specs.Spelling.{line_of, lines_of, trace_header, text_of, is_allowed_in}
 
 -- a call that a trace of this version may have: its numbers and bytes are in range
 abbrev pub IsCallOf : Version → Call → Type 0
-IsCallOf version call = IsRanged call × (stands_in version call ≡ true)
+IsCallOf version call = IsRanged call × (is_allowed_in version call ≡ true)
 
 abbrev pub AreCalls : Version → List Call → Type 0
 AreCalls version calls = AllByRecursion (IsCallOf version) calls

@@ -3,7 +3,7 @@ ghost use Rattle.std.specs.Prelude.{◌≡◌, codes, not, IfOk, option_map, opt
 ghost use Rattle.std.specs.Str.{bytes_eq};
 ghost use Rattle.kc_types.specs.declared.call.Call.TheVariants.{HostWrite};
 ghost use Rattle.kc_lines.specs.Words.{data_of};
-ghost use Rattle.kc_trace.specs.Spelling.{is_new, stands_in};
+ghost use Rattle.kc_trace.specs.Spelling.{is_range_call, is_allowed_in};
 ghost use Rattle.kc_trace.specs.Reading.{one_word, with_one_number, with_two_numbers, with_three_numbers, with_four_numbers, read_guest_access, call_of};
 
 use kc_lines::{read_data, read_number, split_number, split_word};
@@ -11,18 +11,18 @@ use kc_types::{Call, Version};
 use std::alloc::{AllocError, Global};
 
 /// Whether only texts of the second version may have the call.
-pub fn is_new(call: &Call) -> bool
-    ensures { result ≡ is_new call.now }
+pub fn is_range_call(call: &Call) -> bool
+    ensures { result ≡ is_range_call call.now }
 {
     matches!(call, Call::GrantRange { .. } | Call::RevokeRange { .. })
 }
 
 /// Whether a text of this version may have the call.
-pub fn stands_in(version: Version, call: &Call) -> bool
-    ensures { result ≡ stands_in version call.now }
+pub fn is_allowed_in(version: Version, call: &Call) -> bool
+    ensures { result ≡ is_allowed_in version call.now }
 {
     match version {
-        Version::One => !is_new(call),
+        Version::One => !is_range_call(call),
         Version::Two => true,
     }
 }

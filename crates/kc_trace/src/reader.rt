@@ -7,7 +7,7 @@ ghost use Rattle.kc_trace.specs.Trace.{IsTrace, IsRefused};
 ghost use Rattle.kc_trace.specs.Machine.{Gives, Fails, start, longer, version_in, begins_header, begun, line_ended_by, line_ended, with_front, feed, fed, ended, reading, standing, call_of_kept, call_in, kept};
 
 use crate::fault::TraceFault;
-use crate::line::{call_of_line, stands_in};
+use crate::line::{call_of_line, is_allowed_in};
 use arrayvec::ArrayVec;
 use kc_lines::split_line;
 use kc_types::{CALL_LIMIT, Call, LINE_LIMIT, Version};
@@ -39,7 +39,7 @@ fn standing(version: Version, call: Option<Call>) -> Option<Call>
     ensures { result ≡ standing version call }
 {
     match call {
-        Some(call) => if stands_in(version, &call) {
+        Some(call) => if is_allowed_in(version, &call) {
             Some(call)
         } else {
             None
