@@ -1,6 +1,7 @@
 -- The text of a page for a browser, which shows these lines.
 use Rattle.std.specs.Prelude.{ℕ, List, ◌++◌}
-use Rattle.kc_html.specs.declared.TheConstants.{HEAD, TAIL}
+use Rattle.kc_html.specs.declared.head.TheConstants.{HEAD}
+use Rattle.kc_html.specs.declared.tail.TheConstants.{TAIL}
 
 -- what comes before the lines
 abbrev pub html_head : List ℕ
