@@ -40,7 +40,7 @@ enum kcore_status {
     KCORE_BAD_CORE_HOST = 11,  /* its core and host are refused */
     KCORE_BAD_LEAVES = 12,     /* its leaves are refused */
     KCORE_TOO_MANY_DIGESTS = 13, /* it approves too many digests */
-    KCORE_NOT_YOURS = 14,      /* the call is not by the one that asks */
+    KCORE_NOT_YOURS = 14,      /* the call is not the asker's */
     KCORE_NO_SUCH_FRAME = 15,  /* there is no such frame, or none at this place */
     KCORE_NO_SUCH_CHANGE = 16, /* the last call changed fewer frames */
     KCORE_NO_SUCH_CALL = 17,   /* no call has this number, or it needs 1 to 4,096 bytes and has fewer or more */
@@ -57,7 +57,7 @@ enum kcore_status {
 /* Who owns a frame. */
 enum kcore_owner { KCORE_CORE = 0, KCORE_HOST = 1, KCORE_FREE = 2, KCORE_VM = 3 };
 
-/* No slot, no guest frame; as the vm that asks, the host. */
+/* No slot, or no guest frame; for the vm that asks, it means the host. */
 #define KCORE_NONE UINT32_C(0xffffffff)
 
 /* The custody of a frame. */
@@ -121,8 +121,8 @@ typedef struct {
     uint32_t number;
 } kcore_answer;
 
-/* How many frames a core has, how many of them are its own and the host's, its slots, and how many more calls its
- * volume can hold. */
+/* How many frames a core has, how many of them were its own and the host's at boot, its slots, and how many more calls
+ * its volume can hold. */
 typedef struct {
     uint32_t frames, core, host, slots, left;
 } kcore_size;
