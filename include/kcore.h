@@ -1,8 +1,8 @@
 /* The trusted core in a program of your own: link with -lkcore. docs/EMBED.md says more, and what a monitor of virtual
- * machines owes.
+ * machines must do.
  *
- * What each function says below of its status, of *used and of the buffer is proved, for a caller that keeps to this, which
- * nothing checks:
+ * What is said below of each function's status, of *used and of the buffer is proved for a caller that obeys these
+ * rules, which nothing checks:
  *  - a pointer and the length after it are bytes of the caller's, or as many changes, and any other pointer is to one
  *    value of its type; nothing else uses them while the call runs, and they and the session do not overlap;
  *  - a session begins as {0}, and then only these functions change it; it is not copied while it is open;
@@ -28,11 +28,11 @@ typedef struct {
 enum kcore_status {
     KCORE_DONE = 0,
     KCORE_CLOSED = 1,          /* the session is not open */
-    KCORE_ALREADY_OPEN = 2,    /* it is open, and has to be ended first */
-    KCORE_MEMORY = 3,          /* a growth of memory was refused */
+    KCORE_ALREADY_OPEN = 2,    /* it is open, and must be ended first */
+    KCORE_MEMORY = 3,          /* memory could not be had */
     KCORE_NO_ROOM = 4,         /* the buffer is too short */
     KCORE_NO_SUCH_LINE = 5,    /* the trace has fewer lines */
-    KCORE_BAD_LINE = 6,        /* the line is no call */
+    KCORE_BAD_LINE = 6,        /* the line is not a call */
     KCORE_HISTORY_FULL = 7,    /* the volume has 65,536 calls */
     KCORE_NOT_JSON = 8,        /* the configuration is not JSON */
     KCORE_BAD_SHAPE = 9,       /* it has other keys, or other kinds of values */
@@ -40,24 +40,24 @@ enum kcore_status {
     KCORE_BAD_CORE_HOST = 11,  /* its core and host are refused */
     KCORE_BAD_LEAVES = 12,     /* its leaves are refused */
     KCORE_TOO_MANY_DIGESTS = 13, /* it approves too many digests */
-    KCORE_NOT_YOURS = 14,      /* the call is another's than the one that asks */
-    KCORE_NO_SUCH_FRAME = 15,  /* there is no such frame, or none there */
+    KCORE_NOT_YOURS = 14,      /* the call is not the asker's */
+    KCORE_NO_SUCH_FRAME = 15,  /* there is no such frame, or none at this place */
     KCORE_NO_SUCH_CHANGE = 16, /* the last call changed fewer frames */
-    KCORE_NO_SUCH_CALL = 17,   /* no call has this number, or it has 1 to 4,096 bytes and the request has not */
+    KCORE_NO_SUCH_CALL = 17,   /* no call has this number, or it needs 1 to 4,096 bytes and has fewer or more */
     KCORE_TOO_LONG = 18,       /* the text has more than 1,073,741,824 bytes */
-    KCORE_NO_STATE_HEADER = 19, /* the text does not begin as that of a state */
-    KCORE_BAD_STATE_LINE = 20, /* no line of this number may stand there */
-    KCORE_MISSING_FRAME = 21,  /* in its dump the line of this frame is due, and is not there */
-    KCORE_BAD_SIZES = 22,      /* its numbers are of no configuration, or it has other slots or frames */
+    KCORE_NO_STATE_HEADER = 19, /* the text does not begin as a state's does */
+    KCORE_BAD_STATE_LINE = 20, /* the line of this number may not be there */
+    KCORE_MISSING_FRAME = 21,  /* in its dump, the line of this frame is due and not there */
+    KCORE_BAD_SIZES = 22,      /* no configuration has its numbers, or it has other slots or frames */
     KCORE_BAD_DUMP = 23,       /* an audit of its dump finds something */
     KCORE_BAD_SLOT = 24,       /* no core has this slot */
-    KCORE_BAD_FRAME = 25       /* no core has this frame: as where its digest is not that of its page */
+    KCORE_BAD_FRAME = 25       /* no core has this frame: for example, its digest is not that of its page */
 };
 
 /* Who owns a frame. */
 enum kcore_owner { KCORE_CORE = 0, KCORE_HOST = 1, KCORE_FREE = 2, KCORE_VM = 3 };
 
-/* No slot, no guest frame; as a vm that asks, the host. */
+/* No slot, or no guest frame; for the vm that asks, it means the host. */
 #define KCORE_NONE UINT32_C(0xffffffff)
 
 /* The custody of a frame. */
@@ -98,7 +98,7 @@ enum kcore_call_number {
     KCORE_CLEAR = 18    /* vm */
 };
 
-/* A call by numbers. Those that it does not have are not read. */
+/* A call by numbers. Numbers that it does not have are not read. */
 typedef struct {
     uint32_t call; /* an enum kcore_call_number */
     uint32_t number[5];
@@ -109,7 +109,7 @@ enum kcore_reply_number {
     KCORE_IS_DONE = 0,
     KCORE_IS_FRAME = 1,    /* the frame */
     KCORE_IS_IMAGE = 2,    /* the image */
-    KCORE_IS_DATA = 3,     /* how many bytes */
+    KCORE_IS_DATA = 3,     /* the number of bytes */
     KCORE_IS_FAULT = 4,    /* the guest frame */
     KCORE_IS_REJECTED = 5, /* the image */
     KCORE_IS_REFUSED = 6   /* the refusal, 1 to 26: docs/RULES.md */
@@ -121,56 +121,58 @@ typedef struct {
     uint32_t number;
 } kcore_answer;
 
-/* How many frames a core has, its own and the host's of them, its slots, and how many calls more its volume holds. */
+/* How many frames a core has, how many of them were its own and the host's at boot, its slots, and how many more calls
+ * its volume can hold. */
 typedef struct {
     uint32_t frames, core, host, slots, left;
 } kcore_size;
 
-/* How many bytes the longest reply has, and the longest line of a trace, each with its newline. */
+/* The numbers of bytes of the longest reply and of the longest line of a trace, each with its newline. */
 size_t kcore_longest_reply(void);
 size_t kcore_longest_line(void);
 
-/* Opens a closed session, whose core is in the boot state of the configuration that the bytes are (JSON). Where it does
- * not, the session stays closed. */
+/* Opens a closed session, whose core is in the boot state of the configuration that the bytes are (JSON). If it cannot,
+ * the session stays closed. */
 uint32_t kcore_boot(kcore *core, const uint8_t *config, size_t config_length);
 
-/* Opens a closed session, whose core is in the state that the bytes tell, and that was asked nothing yet: the text is what
- * kcore_state or kcore_blank_state told, or `kcore replay --state` wrote. It is judged as by `kcore replay --from`, and the
- * first fault is answered; then *place is the number of the line, frame or slot that is at fault, or 0, and the session
- * stays closed. */
+/* Opens a closed session, whose core is in the state that the bytes spell, and that was asked nothing yet: the text is
+ * what kcore_state or kcore_blank_state gave, or `kcore replay --state` wrote. It is judged as by
+ * `kcore replay --from`, and the first fault is reported; then *place is the number of the line, frame or slot that is
+ * at fault, or 0, and the session stays closed. */
 uint32_t kcore_resume(kcore *core, const uint8_t *text, size_t text_length, uint32_t *place);
 
-/* Answers the call that a line is, given without its newline. The reply's line, with its newline, is the first *used
- * bytes of the buffer, which has room for kcore_longest_reply() bytes; the bytes after them stay. If it does not answer,
- * session and buffer stay as they are, and *used is 0; after KCORE_MEMORY the same line may be asked again. */
+/* Answers the call on a line, which is given without its newline. The reply's line, with its newline, is the first
+ * *used bytes of the buffer, which has room for kcore_longest_reply() bytes; the bytes after them stay. If it does not
+ * answer, session and buffer stay as they are, and *used is 0; after KCORE_MEMORY the same line may be asked again. */
 uint32_t kcore_call(kcore *core, const uint8_t *line, size_t line_length, uint8_t *out, size_t out_length,
                     size_t *used);
 
-/* Answers as kcore_call does if the line's call is of the one that asks: virtual processor vcpu of slot vm, or the host if
- * vm is KCORE_NONE, whatever vcpu is. If it is another's, the status is KCORE_NOT_YOURS and nothing has changed: so no
- * line that the host sends makes a guest's call, if the caller says truly who asks. kcore_call is for recorded traces and
- * consoles, which have the calls of all. */
+/* Answers as kcore_call does if the line's call is by the one that asks: virtual processor vcpu of slot vm, or the host
+ * if vm is KCORE_NONE, whatever vcpu is. If it is by another, the status is KCORE_NOT_YOURS and nothing has changed: so
+ * no line that the host sends makes a guest's call, if the caller says truly who asks. kcore_call is for recorded
+ * traces and consoles, which have the calls of all. */
 uint32_t kcore_call_by(kcore *core, uint32_t vm, uint32_t vcpu, const uint8_t *line, size_t line_length, uint8_t *out,
                        size_t out_length, size_t *used);
 
-/* Makes a call that is given by numbers, and for KCORE_HWRITE and KCORE_GWRITE by its 1 to 4,096 bytes, which no other call
- * reads. The trace has its line, as if kcore_call had been asked. The reply is *answer, and its bytes are the first *used
- * of the buffer, which has room for 4,096; the bytes after them stay. If it does not answer, session, buffer and *answer
- * stay as they are, and *used is 0. Who asks is not tested: this is for replays and tests, as kcore_call is. */
+/* Makes a call that is given by numbers, and for KCORE_HWRITE and KCORE_GWRITE by its 1 to 4,096 bytes, which no other
+ * call reads. The trace has its line, as if kcore_call had been asked. The reply is *answer, and its bytes are the
+ * first *used of the buffer, which has room for 4,096; the bytes after them stay. If it does not answer, session,
+ * buffer and *answer stay as they are, and *used is 0. Who asks is not checked: this is for replays and tests, as
+ * kcore_call is. */
 uint32_t kcore_do(kcore *core, const kcore_request *request, const uint8_t *bytes, size_t bytes_length, uint8_t *out,
                   size_t out_length, size_t *used, kcore_answer *answer);
 
-/* Makes a call as kcore_do does if it is of the one that asks, as kcore_call_by has it: this is for a monitor. */
+/* Makes a call as kcore_do does, if it is by the one that asks, given as in kcore_call_by: this is for a monitor. */
 uint32_t kcore_do_by(kcore *core, uint32_t vm, uint32_t vcpu, const kcore_request *request, const uint8_t *bytes,
                      size_t bytes_length, uint8_t *out, size_t out_length, size_t *used, kcore_answer *answer);
 
-/* Reports what the last call that was answered changed of the custody of frames: a change, by its place from 0, in rising
- * order of frames. Those from 0 to KCORE_NO_SUCH_CHANGE are all of them; a refused call has none. They stay until the next
- * call is answered, also over kcore_turn. If there is no such change, *change stays. */
+/* Reports what the last call that was answered changed in the custody of frames: one change, by its place from 0, in
+ * rising order of frames. Those from 0 to KCORE_NO_SUCH_CHANGE are all of them; a refused call has none. They stay
+ * until the next call is answered, even after kcore_turn. If there is no such change, *change stays. */
 uint32_t kcore_change(kcore *core, size_t number, kcore_frame_change *change);
 
-/* Reports all of them, in the first *count places of a buffer of this many changes; the places after them stay. If they
- * have no room, the status is KCORE_NO_ROOM, the buffer stays, and *count is how many there are. */
+/* Reports all of them, in the first *count places of a buffer of this many changes; the places after them stay. If
+ * there is not enough room, the status is KCORE_NO_ROOM, the buffer stays, and *count is how many there are. */
 uint32_t kcore_changes(kcore *core, kcore_frame_change *changes, size_t changes_length, size_t *count);
 
 /* Report the custody of a frame; the frame at a guest frame of a slot; the first frame, from a number on, that has this
@@ -180,41 +182,41 @@ uint32_t kcore_frame_of(kcore *core, uint32_t vm, uint32_t gfn, uint32_t *frame)
 uint32_t kcore_next(kcore *core, uint32_t owner, uint32_t vm, uint32_t from, uint32_t *frame);
 uint32_t kcore_sizes(kcore *core, kcore_size *size);
 
-/* Tells a line of the volume's trace, by its place from 0, with its newline: the header, then a line for each call that
- * was answered. The lines from 0 to KCORE_NO_SUCH_LINE, one after the other, are the trace. The bytes after the first *used
- * stay; if no line is given, *used is 0. */
+/* Gives a line of the volume's trace, by its place from 0, with its newline: the header, then a line for each call that
+ * was answered. The lines from 0 to KCORE_NO_SUCH_LINE, one after the other, are the trace. The bytes after the first
+ * *used stay; if no line is given, *used is 0. */
 uint32_t kcore_line(kcore *core, size_t number, uint8_t *out, size_t out_length, size_t *used);
 
-/* Does what kcore_line does, with zeros in the place of the bytes that virtual processors wrote: what may be written to a
- * disk, or shown. The lines from 0 to KCORE_NO_SUCH_LINE, one after the other, are the volume's redacted trace, which is what
- * `kcore redact` makes of its trace. */
+/* Does what kcore_line does, with zeros in place of the bytes that virtual processors wrote: what may be written to a
+ * disk, or shown. The lines from 0 to KCORE_NO_SUCH_LINE, one after the other, are the volume's redacted trace, which
+ * is what `kcore redact` makes of its trace. */
 uint32_t kcore_redacted_line(kcore *core, size_t number, uint8_t *out, size_t out_length, size_t *used);
 
-/* Tells the SHA-256 digest of the volume's redacted trace so far, 32 bytes: what sha256sum prints of its lines. The calls
- * since it was last asked are hashed now, and a session that is not asked pays nothing. The bytes after the first *used stay;
- * if no digest is given, *used is 0. No memory is taken. */
+/* Gives the SHA-256 digest of the volume's redacted trace so far, 32 bytes: what sha256sum prints for its lines. The
+ * calls since it was last asked for are hashed now, and a session that is not asked pays nothing. The bytes after the
+ * first *used stay; if no digest is given, *used is 0. No memory is taken. */
 uint32_t kcore_digest(kcore *core, uint8_t *out, size_t out_length, size_t *used);
 
-/* Tells the text of the core's state, which is what `kcore replay --state` writes of the calls so far; and the same with
- * zero pages in place of those of active VMs, as `--state --blank` writes it. Of F frames it has at most
- * 8,600 F + 600,000 bytes; the buffer may be a file that is mapped. The bytes after the first *used stay; if no text is
- * given, *used is 0. */
+/* Gives the text of the core's state, which is what `kcore replay --state` writes after the calls so far; and the same
+ * with zero pages in place of those of active VMs, as `--state --blank` writes it. For F frames it has at most 8,600 F
+ * + 600,000 bytes; the buffer may be a file that is mapped. The bytes after the first *used stay; if no text is given,
+ * *used is 0. */
 uint32_t kcore_state(kcore *core, uint8_t *out, size_t out_length, size_t *used);
 uint32_t kcore_blank_state(kcore *core, uint8_t *out, size_t out_length, size_t *used);
 
-/* Tells the SHA-256 digest of the text that kcore_blank_state tells, 32 bytes: what sha256sum prints of it. The bytes after
- * the first *used stay; if no digest is given, *used is 0. */
+/* Gives the SHA-256 digest of the text that kcore_blank_state gives, 32 bytes: what sha256sum prints for it. The bytes
+ * after the first *used stay; if no digest is given, *used is 0. */
 uint32_t kcore_blank_digest(kcore *core, uint8_t *out, size_t out_length, size_t *used);
 
-/* Tells the dump of the core, as `kcore replay --dump` writes it: of F frames at most 320 F + 200,000 bytes. The bytes after
- * the first *used stay; if no dump is given, *used is 0. */
+/* Gives the dump of the core, as `kcore replay --dump` writes it: for F frames at most 320 F + 200,000 bytes. The bytes
+ * after the first *used stay; if no dump is given, *used is 0. */
 uint32_t kcore_dump(kcore *core, uint8_t *out, size_t out_length, size_t *used);
 
-/* Begins the next volume, with the core as it is: calls and lines from then on are of the next one, and those of the last
- * one are gone. After KCORE_MEMORY nothing has changed. */
+/* Begins the next volume, with the core as it is: calls and lines from then on are those of the next volume, and those
+ * of the last one are gone. After KCORE_MEMORY nothing has changed. */
 uint32_t kcore_turn(kcore *core);
 
-/* Ends a session: zeroes the core's pages, gives the memory back, and closes it. */
+/* Ends a session: zeroes the core's pages, frees the memory, and closes it. */
 uint32_t kcore_end(kcore *core);
 
 #ifdef __cplusplus

@@ -43,7 +43,7 @@ named_in : {Z : Type 0} (found : Option (Box SubCommand Z)) → option_map (λ b
 named_in None = refl
 named_in (Some b) = refl
 
--- the name of the subcommand that the parse met
+-- the name of the subcommand that the parse found
 pub named : (m : ArgMatches) → subcommand_name_of m ≡ option_map (λ p. p.0) (subcommand_rows_of m)
 named m = named_in (out-ArgMatches m).subcommand
 

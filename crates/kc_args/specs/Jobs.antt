@@ -1,4 +1,4 @@
--- What a command line asks for, and which one is refused.
+-- What a command line asks for, and which command lines are refused.
 use Rattle.std.specs.Prelude.{◌≡◌, ◌≢◌, ◌⊎◌, ◌↔◌, ◌&&◌, false, IsTrue, ℕ, nat_le, List, [], codes, Option, Some, None, option_map, if◌then◌else◌}
 use Rattle.std.specs.Option.{option_map_or}
 use Rattle.std.specs.Borrow.{Bor}
@@ -13,7 +13,7 @@ use Rattle.kc_args.specs.declared.job.ArgFault.{ArgFault}
 use Rattle.kc_args.specs.declared.job.ArgFault.TheVariants.{Memory, Message}
 use Rattle.kc_args.specs.Commands.{kcore}
 
--- 1 to 64: the command's rules let no other number of workers through
+-- 1 to 64: the command's rules accept no other number of workers
 abbrev pub in_range : ℕ → ℕ
 in_range n = if nat_le 1 n && nat_le n worker_limit then n else 1
 
@@ -41,7 +41,7 @@ HasOptions rows config workers = HasPath (codes "config") rows config × (worker
 abbrev pub IsSet : Text → List Row → Type 0
 IsSet flag rows = first_of flag rows ≡ Some (codes "true")
 
--- the file that is read; `-`, and no file, is standard input
+-- the file that is read; `-`, or no file, is standard input
 abbrev pub HasInput : List Row → Option (Bor Text) → Type 0
 HasInput rows None = (first_of (codes "file") rows ≡ None) ⊎ (first_of (codes "file") rows ≡ Some (codes "-"))
 HasInput rows (Some name) = (first_of (codes "file") rows ≡ Some name.now) × (name.now ≢ codes "-")
@@ -58,7 +58,7 @@ IsJobIn name rows (Custody input config from vm summary svg html refused accesse
 IsJobIn name rows (Audit input all explain) = (name ≡ codes "audit") × HasInput rows input × (IsTrue all ↔ IsSet (codes "all") rows) × (IsTrue explain ↔ IsSet (codes "explain") rows)
 IsJobIn name rows (Redact input config from host explain) = (name ≡ codes "redact") × HasInput rows input × HasPath (codes "config") rows config × HasPath (codes "from") rows from × (IsTrue host ↔ IsSet (codes "host") rows) × (IsTrue explain ↔ IsSet (codes "explain") rows)
 
--- the same if there may be no subcommand: then it is as if `replay` were given alone
+-- the same if there may be no subcommand: then it is as if only `replay` were given
 abbrev pub Asks : Option (Text × List Row) → Job → Type 0
 Asks None (Replay input config from to workers dump state blank explain) = (input ≡ None) × HasOptions [] config workers × HasPath (codes "from") [] from × HasPath (codes "to") [] to × (dump ≡ false) × (state ≡ false) × (blank ≡ false) × (explain ≡ false)
 Asks None (Live input config workers explain) = ⊥

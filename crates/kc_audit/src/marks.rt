@@ -50,8 +50,7 @@ fn mark_slots(dump: &Dump, marks: &mut [bool])
     }
 }
 
-/// Marks, of the frames of VMs, those that the VM's table maps where their record says, in time linear in frames and
-/// entries.
+/// Marks the frames of VMs that their VM's table maps where their record says, in time linear in frames and entries.
 pub fn marks(alloc: Global, dump: &Dump) -> Result<Vec<bool>, Memory>
     // No clause can rule out that memory runs out: a test audits dumps.
     ensures { IfOk result (λ marks. AreMarks dump.now marks.items) }

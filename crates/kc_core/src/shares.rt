@@ -191,7 +191,7 @@ fn expect_range(
 }
 
 /// The slot, if the host may be granted access once more to each of `count` guest frames from `gfn` on.
-fn expect_grantable(
+fn grantable_range(
     parts: &Parts,
     config: &Config,
     vm: u32,
@@ -211,7 +211,7 @@ fn expect_grantable(
 }
 
 /// The slot, if the host has a grant of each of `count` guest frames from `gfn` on that may be taken back.
-fn expect_shared(
+fn shared_range(
     parts: &Parts,
     config: &Config,
     vm: u32,
@@ -242,7 +242,7 @@ pub fn grant_range(
     requires { IsAble config.now parts.old (GrantRange vm vcpu gfn count) }
     ensures { IsAnswer config.now parts.old parts.new (GrantRange vm vcpu gfn count) (reply_of result) }
 {
-    let slot = expect_grantable(parts, config, vm, vcpu, gfn, count)?;
+    let slot = grantable_range(parts, config, vm, vcpu, gfn, count)?;
     for at in gfn..gfn + count {
         let frame = mapped_at(parts, config, slot, at).unwrap();
         grant_frame(parts, config, frame);
@@ -262,7 +262,7 @@ pub fn revoke_range(
     requires { IsAble config.now parts.old (RevokeRange vm vcpu gfn count) }
     ensures { IsAnswer config.now parts.old parts.new (RevokeRange vm vcpu gfn count) (reply_of result) }
 {
-    let slot = expect_shared(parts, config, vm, vcpu, gfn, count)?;
+    let slot = shared_range(parts, config, vm, vcpu, gfn, count)?;
     for at in gfn..gfn + count {
         let frame = mapped_at(parts, config, slot, at).unwrap();
         revoke_frame(parts, config, frame);

@@ -34,7 +34,7 @@ hash_after_more ini m p (suc k) whole =
     let block = ap (λ n. drop n (m ++ p)) start ∙ sym (drop-drop (k * 64) (length m) (m ++ p)) ∙ ap (drop (k * 64)) (drop_at m p (length m) refl) in
     ap₂ compress (hash_after_more ini m p k whole) (sym (ap (take 64) block)) ∙ sym (hash_after_next ini (m ++ p) (q + k)) ∙ ap (hash_after ini (m ++ p)) (sym next)
 
--- whole blocks more are fed
+-- more whole blocks are fed
 pub fed-more : (measure next : MeasureFour) (j : ℕ) (m p : List ℕ) → length p % 64 ≡ 0 → next.len ≡ (measure.len + length p) % 2 ^ 64
     → state_lane slice_index j next.state ≡ hash_after (state_lane slice_index j measure.state) p (length p / 64) → LaneWasFed measure j m → LaneWasFed next j (m ++ p)
 fed-more measure next j m p whole count hash fed =

@@ -10,7 +10,7 @@ use Rattle.std.proofs.lemmas.List.{get_or-map, get_or-set_other, get_or-set_same
 use Rattle.sha2.specs.Sha256.{word_at}
 use Rattle.kc_digests.specs.Lanes.{block, lane, part_of}
 
--- what holds of each of four
+-- what is true of each of four
 pub below_four : (P : ℕ → Type 0) → P 0 → P 1 → P 2 → P 3 → (j : ℕ) → j < 4 → P j
 below_four P p0 p1 p2 p3 zero h = p0
 below_four P p0 p1 p2 p3 (suc zero) h = p1
@@ -22,7 +22,7 @@ below_four P p0 p1 p2 p3 (suc (suc (suc (suc n)))) h = absurd (omega arith)
 pub slice_index-zip2 : (f : ℕ → ℕ → ℕ) (n : ℕ) (x y : List ℕ) (j : ℕ) → length x ≡ n → length y ≡ n → j < n → slice_index (zip2 f x y) j ≡ f (slice_index x j) (slice_index y j)
 slice_index-zip2 f n x y j left right low = get_or-zip2 f x y j 0 0 0 (omega arith) (omega arith)
 
--- the same where the second is a number in each lane
+-- the same if the second is a number in each lane
 pub slice_index-zip2_splat : (f : ℕ → ℕ → ℕ) (n : ℕ) (x : List ℕ) (k j : ℕ) → length x ≡ n → j < n → slice_index (zip2 f x (replicate n k)) j ≡ f (slice_index x j) k
 slice_index-zip2_splat f n x k j same low =
     slice_index-zip2 f n x (replicate n k) j same (length-replicate n k) low ∙ ap (f (slice_index x j)) (get_or-replicate n j k 0 low)
@@ -51,7 +51,7 @@ word_at-block bytes at k low = rw (
   block_index bytes at (k + 3) (at + k + 3) (omega arith) (omega arith),
 ) refl
 
--- what holds of the first elements, and of what is written at the next place, holds of one more
+-- what is true of the first elements, and of what is written at the next place, is true of one more
 pub written-next : {X : Type 0} (P : ℕ → X → Type 0) (xs : List X) (i : ℕ) (x none : X) → i < length xs
     → ((j : ℕ) → j < i → P j (get_or xs j none)) → P i x → (j : ℕ) → j < i + 1 → P j (get_or (set xs i x) j none)
 written-next P xs i x none room before here j low =

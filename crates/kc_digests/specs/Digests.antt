@@ -3,7 +3,7 @@ use Rattle.std.specs.Prelude.{ℕ, List}
 use Rattle.sha2.specs.Sha256.{sha256}
 use Rattle.kc_page.specs.declared.page.Page.{Page}
 
--- the SHA-256 of a page whose bytes `bytes` tells
+-- the SHA-256 of a page whose bytes `bytes` gives
 abbrev pub digest_by : {P : Type 0} → (P → List ℕ) → P → List ℕ
 digest_by bytes page = sha256 (bytes page)
 

@@ -17,7 +17,7 @@ use std::alloc::Global;
 use std::simd::{u32x4, u32x8};
 use std::thread::Threads;
 
-/// A multiple of eight, so that only the last chunk has pages that are hashed one by one; some 300 microseconds of
+/// A multiple of eight, so that only the last chunk has pages that are hashed one by one; about 300 microseconds of
 /// work for a thread.
 const PAGES_A_CHUNK: usize = 64;
 
@@ -31,7 +31,7 @@ fn is_zero(bytes: &[u8]) -> bool
     bytes == &ZERO_PAGE[..]
 }
 
-/// Whether all bytes of a page are zero, which are not looked at if that is known.
+/// Whether all bytes of a page are zero; they are not read if that is known.
 fn is_zero_page(page: &PageBytes) -> bool
     ensures { IsTrue result → page.now ≡ zero_page }
 {
@@ -51,11 +51,11 @@ pub fn zero_digest() -> [u8; 32]
 pub enum Lanes {
     /// For vectors of 128 bits, which every processor of x86-64 has.
     Four,
-    /// For vectors of 256 bits: faster where the program is built for processors that have them, and slower where it is not.
+    /// For vectors of 256 bits: faster if the program is built for processors that have them, and slower if it is not.
     Eight,
 }
 
-/// Writes the digests of pages of 4,096 bytes, a lane for each, in order.
+/// Writes the digests of pages of 4,096 bytes, in order, with a lane for each.
 fn hash_pages<V: Vector>(pages: &[&[u8]], out: &mut [[u8; 32]])
     requires count { length pages.now ≡ V.LANES }
     requires whole { All (λ page. length page.now ≡ page_size) pages.now }
@@ -84,7 +84,7 @@ fn are_zero<P: Bytes>(pages: &[P]) -> bool
     true
 }
 
-/// The bytes of each page, and behind them pages of zero bytes.
+/// The bytes of each page, followed by pages of zero bytes.
 fn bytes_of<P: Bytes>(pages: &[P]) -> [&[u8]; MOST_LANES]
     requires { length pages.now ≤ 8 }
     ensures bytes { map (λ page. page.now) (take (length pages.now) result) ≡ map P.bytes pages.now }
@@ -106,8 +106,8 @@ fn fill(out: &mut [[u8; 32]], digest: [u8; 32])
     }
 }
 
-/// Writes the digests of as many pages as there are lanes, in order, where that of a page of zero bytes is known, so that
-/// pages that are all zero, as free ones are, cost no hashing.
+/// Writes the digests of as many pages as there are lanes, in order. The digest of a page of zero bytes is given, so
+/// that pages that are all zero, as free ones are, cost no hashing.
 fn digest_pages<V: Vector, P: Bytes>(pages: &[P], zero: [u8; 32], out: &mut [[u8; 32]])
     requires count { length pages.now ≡ V.LANES }
     requires zero { zero ≡ sha256 zero_page }
@@ -121,7 +121,7 @@ fn digest_pages<V: Vector, P: Bytes>(pages: &[P], zero: [u8; 32], out: &mut [[u8
     }
 }
 
-/// Writes the digest of each page, in order, of as many as there are lanes at once.
+/// Writes the digest of each page, in order; as many as there are lanes are hashed at once.
 fn write_by<V: Vector, P: Bytes>(pages: &[P], out: &mut [[u8; 32]])
     requires { length out.old ≡ length pages.now }
     ensures { out.new ≡ map (digest_by P.bytes) pages.now }
@@ -149,7 +149,7 @@ fn write_digests<P: Bytes>(pages: &[P], out: &mut [[u8; 32]], lanes: Lanes)
     }
 }
 
-/// The digest of each page, in order, by several threads.
+/// Computes the digest of each page, in order, with several threads.
 fn digests<P: Bytes + Sync>(
     rt: &(impl Threads + Sync),
     alloc: Global,
@@ -171,8 +171,8 @@ fn digests<P: Bytes + Sync>(
     Ok(digests)
 }
 
-/// The SHA-256 digest (FIPS 180-4) of each page, in order, by several threads, of so many at once. `Memory` where a
-/// growth was refused; where no thread can be started, this one does all.
+/// Computes the SHA-256 digest (FIPS 180-4) of each page, in order, with several threads, this many side by side.
+/// `Memory` if memory cannot be had; if no thread can be started, this one does everything.
 pub fn frame_digests(
     rt: &(impl Threads + Sync),
     alloc: Global,
@@ -185,7 +185,7 @@ pub fn frame_digests(
     digests(rt, alloc, pages, lanes)
 }
 
-/// What `frame_digests` answers, of pages without records.
+/// Does what `frame_digests` does, for pages without records.
 pub fn bytes_digests(
     rt: &(impl Threads + Sync),
     alloc: Global,

@@ -21,7 +21,7 @@ pub(crate) trait Vector: Copy {
 
     const LANES: usize;
 
-    /// The same word of each.
+    /// The same word for each message.
     fn splat(number: u32) -> Self
         ensures { (j : ℕ) → j < LANES → word result j ≡ number };
 
@@ -46,7 +46,7 @@ pub(crate) trait Vector: Copy {
         requires { (0 < count) × (count < 32) }
         ensures { (j : ℕ) → j < LANES → word result j ≡ rotate_right w32 (word self j) count };
 
-    /// The word at a byte of each message (FIPS 180-4, 5.2.1).
+    /// Loads the word at a byte of each message (FIPS 180-4, 5.2.1).
     fn load(parts: &[&[u8]], at: usize) -> Self
         requires count { length parts.now ≡ LANES }
         requires room { All (λ part. at + 4 ≤ length part.now) parts.now }

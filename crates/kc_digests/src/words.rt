@@ -1,4 +1,4 @@
-//! The functions of SHA-256 on words (FIPS 180-4, 4.1.2), on a word of each message at once.
+//! The functions of SHA-256 on words (FIPS 180-4, 4.1.2), for a word of each message at once.
 ghost use Rattle.std.specs.Prelude.{◌≡◌, ℕ, ◌<◌};
 ghost use Rattle.sha2.specs.Sha256.{big_sigma0, big_sigma1, ch, maj, round, small_sigma0, small_sigma1};
 ghost use Rattle.kc_digests.specs.Lanes.{state_lane};

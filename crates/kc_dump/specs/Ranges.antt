@@ -35,7 +35,7 @@ is_frame version frames frame =
     is_owner version frame.owner && nat_le frame.share share_limit && is_below gfn_limit frame.gfn && is_below frames frame.prev && is_below frames frame.next
     && length frame.digest == 32 && list_all (λ b. nat_lt b 256) frame.digest
 
--- what holds of every dump
+-- what is true of every dump
 pub record IsDump (d : Dumped) : Type 0 where
   pub some_frames : 0 < length d.frames
   pub few_frames : length d.frames ≤ most_frames d.version

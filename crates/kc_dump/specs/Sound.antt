@@ -10,7 +10,7 @@ use Rattle.kc_dump.specs.declared.line.FrameLine.{FrameLine}
 use Rattle.kc_dump.specs.Dump.{Dumped, SlotDump, line_at, line_owner, line_link, slot_dump_at, empty_dump, maps}
 use Rattle.kc_dump.specs.Lists.{HasList}
 
--- what holds of the frame of this number alone
+-- what is true of the frame of this number alone
 pub record IsSoundFrame (core : ℕ) (f : ℕ) (line : FrameLine) : Type 0 where
   -- the core owns the first frames and no other
   pub placed : (line.owner ≡ Core) ↔ (f < core)
@@ -24,7 +24,7 @@ pub record IsSoundFrame (core : ℕ) (f : ℕ) (line : FrameLine) : Type 0 where
   pub reached : IsTrue line.present → (line.owner ≡ Host) ⊎ (0 < line.share)
   pub zeroed : line.owner ≡ Free → line.digest ≡ sha256 zero_page
 
--- what holds of one slot alone
+-- what is true of one slot alone
 pub record IsSoundSlot (leaves : ℕ) (slot : SlotDump) : Type 0 where
   pub few_leaves : length slot.leaves ≤ leaves
   pub leaves_once : (root : ℕ) → times_in slot.leaves root ≤ 1

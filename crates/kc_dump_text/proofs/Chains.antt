@@ -23,7 +23,7 @@ end-both place [] ys = refl
 end-both place (x ∷ xs) ys = end-both (behind place x) xs ys
 
 module _ (version : Version) (n : ℕ) where
-  -- what holds of a line that may come
+  -- what is true of a line that may come
   pub record May (place : Place) (l : DumpLine) : Type 0 where
     pub order : place.section ≤ section l
     pub next : comes version place l ≡ true

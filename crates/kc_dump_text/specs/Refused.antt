@@ -38,7 +38,7 @@ pub record LacksFrame (version : Version) (lines : List DumpLine) (rest : List �
   pub due : GoesOn version lines dump (FrameOf f frame ∷ next)
   pub why : (rest ≡ []) ⊎ ((other : ℕ) × (line : FrameLine) × (more : List ℕ) × (rest ≡ spell (FrameOf other line) ++ more) × (other < length dump.frames) × (is_frame version (length dump.frames) line ≡ true) × (other ≡ f → ⊥))
 
--- the rest goes on with no line that may come, for this reason
+-- the rest does not go on with a line that may come, for this reason
 abbrev pub Stuck : Version → List DumpLine → List ℕ → DumpFault → Type 0
 Stuck version lines rest NoHeader = ⊥
 Stuck version lines rest (BadLine n) = (n ≡ length lines + 2) × ((f : ℕ) → LacksFrame version lines rest f → ⊥)

@@ -7,14 +7,14 @@ use kc_types::Memory as Want;
 use std::error::Error;
 use std::fmt;
 
-/// Why a text is not a dump. Lines are taken from the front, and the first fault is returned.
+/// Why a text is not a dump. Lines are read in order, and the first fault counts.
 #[derive(Clone, Copy, Debug, PartialEq, Eq)]
 pub enum DumpFault {
     /// The text does not begin with the header and its newline.
     NoHeader,
     /// The line of this number may not come there. The header is line 1.
     BadLine(u32),
-    /// The line of this frame should come next, but there is that of another frame, or none.
+    /// The line of this frame should come next, but there is another frame's, or none.
     Frame(u32),
     /// Memory could not be had.
     Memory,

@@ -16,7 +16,7 @@ fn is_key(name: &str) -> bool {
     false
 }
 
-/// Says what is wrong with the number under a key, and answers whether something is.
+/// Says what is wrong with the number under a key, and returns whether something is.
 fn explain_number<P: Eprint>(to: &P, value: &Value, key: &str) -> bool {
     let Some(found) = value.get(key) else {
         let _ = eprintln!(to; "  the key {key} is missing");
@@ -41,7 +41,7 @@ fn is_digest(value: &Value) -> bool {
     }
 }
 
-/// The same of the approved digests.
+/// Does the same for the approved digests.
 fn explain_digests<P: Eprint>(to: &P, value: &Value) -> bool {
     let Some(found) = value.get("approved") else {
         let _ = eprintln!(to; "  the key approved is missing");
@@ -64,7 +64,7 @@ fn explain_digests<P: Eprint>(to: &P, value: &Value) -> bool {
     false
 }
 
-/// The same of the version, where there is one.
+/// Does the same for the version, if there is one.
 fn explain_version<P: Eprint>(to: &P, value: &Value) -> bool {
     match value.get("version") {
         Some(version) => match version.as_u64() {
@@ -78,7 +78,7 @@ fn explain_version<P: Eprint>(to: &P, value: &Value) -> bool {
     }
 }
 
-/// The same of keys that no configuration has.
+/// Does the same for keys that no configuration has.
 fn explain_keys<P: Eprint>(to: &P, value: &Value) -> bool {
     let Some(members) = value.as_object() else {
         let _ = to.eprintln("  it is no object");
@@ -94,8 +94,8 @@ fn explain_keys<P: Eprint>(to: &P, value: &Value) -> bool {
     false
 }
 
-/// Says what keeps a text from being a configuration of any numbers: where it is no JSON, or which key is wrong first.
-/// Nothing is said where nothing is wrong, or where memory is refused.
+/// Says why a text is not a configuration, whatever its numbers: where it is not JSON, or which key is wrong first.
+/// Nothing is said if nothing is wrong, or if memory cannot be had.
 pub fn explain_config<P: Eprint>(alloc: Global, to: &P, text: &[u8]) {
     let value = match Value::from_slice(alloc, text) {
         Ok(value) => value,

@@ -1,4 +1,4 @@
-//! Why a line of a dump or a state's text is none.
+//! Why a line is not one of a dump or of a state's text.
 use crate::trace_line::{LineFault, fault_of_number, has_empty_word, is_among, is_digit};
 use kc_lines::split_word;
 
@@ -55,7 +55,7 @@ fn fault_of(word: &[u8], place: usize, letter: u8) -> Option<LineFault> {
     }
 }
 
-/// Why a line of a dump or a state's text, without its newline, is none of it, by the line alone.
+/// Why a line, without its newline, is not one of a dump or of a state's text, judged by the line alone.
 pub fn fault_of_text_line(line: &[u8]) -> LineFault {
     if line.is_empty() {
         return LineFault::Empty;

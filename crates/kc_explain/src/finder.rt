@@ -4,7 +4,8 @@ use std::alloc::Global;
 /// The most bytes that are kept of a line.
 pub(crate) const MOST_OF_LINE: usize = 16_384;
 
-/// Appends a beginning of some bytes, so that no more than `most` are kept. Nothing is appended if memory is refused.
+/// Appends a beginning of some bytes, so that no more than `most` are kept. Nothing is appended if memory cannot be
+/// had.
 pub(crate) fn keep(text: &mut Vec<u8>, bytes: &[u8], most: usize) {
     let count = most.saturating_sub(text.len()).min(bytes.len());
     let _ = text.extend_from_slice(&bytes[..count]);
@@ -14,14 +15,14 @@ pub(crate) fn keep(text: &mut Vec<u8>, bytes: &[u8], most: usize) {
 #[derive(Drop)]
 pub struct LineFinder {
     wanted: u64,
-    /// How many lines ended.
+    /// The number of lines that ended.
     ended: u64,
     before: Vec<u8>,
     line: Vec<u8>,
 }
 
 impl LineFinder {
-    /// Nothing is read yet.
+    /// Makes a finder that has read nothing yet.
     pub fn new(alloc: Global, wanted: u64) -> LineFinder {
         LineFinder {
             wanted,
@@ -31,7 +32,7 @@ impl LineFinder {
         }
     }
 
-    /// Takes the next bytes of the text, and answers whether more are wanted.
+    /// Takes the next bytes of the text, and returns whether more are wanted.
     pub fn feed(&mut self, piece: &[u8]) -> bool {
         let mut is_first = true;
         for part in piece.split(|byte| *byte == b'\n') {

@@ -1,12 +1,11 @@
-//! What is said after a fault's line: why a line of a trace is not a call, or a line of a dump or of a state's text not
-//! one of those, what a text looks like that is not a trace, which key of a configuration is wrong, and how far a long
-//! read is. What is said is tested, and no clause speaks of it; what is read through its sources is what their own
-//! sources give.
+//! What is said after a fault's line: why a line is not a call, or not one of a dump or of a state's text; what a text
+//! that is not a trace looks like; which key of a configuration is wrong; and how far a long read has come. What is
+//! said is tested, and no clause is about it; what is read through its sources is what their own sources give.
 //!
-//! - each call with the number of its words: `src/trace_line.rt`; lines of dumps and states: `src/dump_line.rt`; the keys
-//!   of a configuration: `src/config_key.rt`
+//! - the number of words of each call: `src/trace_line.rt`; lines of dumps and states: `src/dump_line.rt`; the keys of
+//!   a configuration: `src/config_key.rt`
 //! - who asks, and over which files: `kcore/src/explaining.rt`, `kcore/src/folder.rt`
-//! - how far a long read is: `src/progress.rt`, `src/shown.rt`
+//! - how far a long read has come: `src/progress.rt`, `src/shown.rt`
 #![tactic(auto)]
 
 mod config_key;

@@ -12,7 +12,7 @@ pub enum Header {
     None,
 }
 
-/// What a text looks like that is not of the kind that was wanted.
+/// What a text that is not of the wanted kind looks like.
 #[derive(Clone, Copy, Debug, PartialEq, Eq)]
 pub enum Look {
     Empty,
@@ -22,11 +22,11 @@ pub enum Look {
     Xz,
     Zstd,
     CarriageReturn,
-    /// The header that is wanted, without its newline.
+    /// The wanted header, without its newline.
     Unended,
     /// The header of a version that this program does not read.
     Newer(u32),
-    /// The name of the header that is wanted, whose newest version is this, and something else than a version after it.
+    /// The name of the wanted header, whose newest version is this, followed by something that is not a version.
     NoVersion(u32),
     Trace,
     Dump,
@@ -98,7 +98,7 @@ fn begins_as_reply(text: &[u8]) -> bool {
         || name == b"fault".as_slice()
 }
 
-/// What the first bytes say that other programs wrote, if they do.
+/// What a text that another program wrote looks like by its first bytes, if it is one.
 fn foreign(text: &[u8]) -> Option<Look> {
     if text.starts_with(&[239, 187, 191]) {
         Some(Look::ByteOrderMark)
@@ -115,7 +115,7 @@ fn foreign(text: &[u8]) -> Option<Look> {
     }
 }
 
-/// What is wrong with a header that has the name that is wanted, by what follows the name; its newest version is this.
+/// What is wrong with a header of the wanted name, given what follows the name; its newest version is this.
 fn look_of_header(version: &[u8], newest: u32) -> Look {
     match read_number(first_line(version)) {
         Some(number) if number > newest => Look::Newer(number),
@@ -146,7 +146,7 @@ fn ours(text: &[u8], wanted: Header) -> Option<Look> {
     }
 }
 
-/// What a text looks like that is not of the kind that is wanted, by its first 64 bytes or more.
+/// What a text that is not of the wanted kind looks like, given its first 64 bytes or more.
 pub fn look_of(text: &[u8], wanted: Header) -> Look {
     if text.is_empty() {
         return Look::Empty;

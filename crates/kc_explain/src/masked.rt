@@ -1,8 +1,8 @@
-//! Bytes as a terminal may be shown them: none ends the line, moves the cursor or colours what follows.
+//! Bytes as they may be shown on a terminal: none ends the line, moves the cursor or colours what follows.
 use arrayvec::ArrayString;
 use std::fmt;
 
-/// Writes at most 64 bytes, each that is not printable ASCII as a `.`.
+/// Writes at most 64 bytes, with a `.` for each that is not printable ASCII.
 fn write_masked<W: fmt::Write>(bytes: &[u8], f: &mut fmt::Formatter<W>) -> fmt::Result {
     let mut text = ArrayString::<64>::new();
     for byte in bytes {
@@ -16,7 +16,7 @@ fn write_masked<W: fmt::Write>(bytes: &[u8], f: &mut fmt::Formatter<W>) -> fmt::
     f.write_str(text.as_str())
 }
 
-/// A path or another word of the command line, whole, in which each byte that is not printable ASCII is a `.`.
+/// A whole path or another argument, with a `.` for each byte that is not printable ASCII.
 #[derive(Drop)]
 pub struct Masked<'a>(pub &'a str);
 
@@ -29,7 +29,7 @@ impl fmt::Display for Masked<'_> {
     }
 }
 
-/// At most 60 bytes of a line, in which each that is not printable ASCII is a `.`.
+/// At most 60 bytes of a line, with a `.` for each that is not printable ASCII.
 #[derive(Drop)]
 pub struct Shortened<'a>(pub &'a [u8]);
 

@@ -15,10 +15,10 @@ const MOST_ACTORS: usize = 514;
 struct Lines {
     reader: TraceReader,
     is_bad: bool,
-    /// How many lines ended before it.
+    /// The number of lines that ended before it.
     ended: u64,
     line: Vec<u8>,
-    /// How many calls came.
+    /// The number of calls so far.
     calls: u64,
     /// The first actors, and the line of the first call of each.
     actors: Vec<(Actor, u64)>,
@@ -42,7 +42,7 @@ impl Lines {
         }
     }
 
-    /// Notes who makes these calls. Nothing is kept if memory is refused.
+    /// Notes who makes these calls. Nothing is kept if memory cannot be had.
     fn note_actors(&mut self, calls: &[Call]) {
         for call in calls {
             self.calls = self.calls.saturating_add(1);
@@ -70,7 +70,7 @@ impl Lines {
         }
     }
 
-    /// Keeps the line of this number, from 1, that ends in the piece or is begun there.
+    /// Keeps the line of this number, from 1, that ends in the piece or is begun in it.
     fn find(&mut self, piece: &[u8], number: u64) {
         let mut at = self.ended;
         for line in piece.split(|byte| *byte == b'\n') {
@@ -86,8 +86,8 @@ impl Lines {
     }
 }
 
-/// A source, and of what it gave the first bytes and, if it is a trace, the line begun or the bad one, and its actors. Memory is
-/// bounded, and nothing is kept if nothing is to be explained.
+/// A source, with the first bytes that it gave and, if it is a trace, the line begun or the bad one, and its actors.
+/// Memory is bounded, and nothing is kept if nothing is to be explained.
 #[derive(Drop)]
 pub struct Noted<S: Source + Drop> {
     pub inner: S,
@@ -100,7 +100,7 @@ pub struct Noted<S: Source + Drop> {
 }
 
 impl<S: Source + Drop> Noted<S> {
-    /// A source of which so many of the first bytes are kept.
+    /// Makes a source of which this many of the first bytes are kept.
     pub fn with_head(alloc: Global, inner: S, most: usize) -> Noted<S>
         ensures { result.inner ≡ inner }
     {
@@ -114,7 +114,7 @@ impl<S: Source + Drop> Noted<S> {
         }
     }
 
-    /// A trace, of which the line begun or the bad one is kept too.
+    /// Makes a source of a trace, of which the line begun or the bad one is kept too.
     pub fn with_lines(alloc: Global, inner: S, most: usize) -> Noted<S>
         ensures { result.inner ≡ inner }
     {
@@ -155,7 +155,7 @@ impl<S: Source + Drop> Noted<S> {
         Some((*actor, *line))
     }
 
-    /// How many bytes came.
+    /// The number of bytes so far.
     pub fn total(&self) -> u64 {
         self.total
     }

@@ -3,10 +3,10 @@ use std::cell::Cell;
 use std::io::Eprint;
 use std::time::{Clock, Instant};
 
-/// Each time that so many bytes more were read, it is shown: 16 MB.
+/// The line is shown anew after each further 16 MB.
 const STEP: u64 = 16_000_000;
 
-/// Where there is no clock, not before so many bytes.
+/// If there is no clock, the line is not shown before this many bytes.
 const FIRST: u64 = 64_000_000;
 
 /// A line on a terminal that shows how much was read. It overwrites itself, and is erased before anything else is written.
@@ -14,12 +14,12 @@ const FIRST: u64 = 64_000_000;
 pub struct Progress<'a, P: Eprint + Clock> {
     to: &'a P,
     start: Option<Instant>,
-    /// How many bytes it showed last, 0 if there is no line.
+    /// The number of bytes that it showed last, 0 if there is no line.
     shown: Cell<u64>,
 }
 
 impl<'a, P: Eprint + Clock> Progress<'a, P> {
-    /// No line yet.
+    /// Makes a `Progress` without a line.
     pub fn new(to: &'a P) -> Progress<'a, P> {
         Progress {
             to,
@@ -28,7 +28,7 @@ impl<'a, P: Eprint + Clock> Progress<'a, P> {
         }
     }
 
-    /// Whether so many bytes are worth a line: not in the first second.
+    /// Whether this many bytes are worth a line: not in the first second.
     fn is_due(&self, read: u64) -> bool {
         if read.saturating_sub(self.shown.get()) < STEP {
             return false;
@@ -42,7 +42,7 @@ impl<'a, P: Eprint + Clock> Progress<'a, P> {
         }
     }
 
-    /// Shows that so many bytes were read, if that is due.
+    /// Shows that this many bytes were read, if that is due.
     pub(crate) fn show(&self, read: u64) {
         if self.is_due(read) {
             self.shown.set(read);

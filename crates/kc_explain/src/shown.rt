@@ -1,5 +1,5 @@
-//! The ends of a run on a terminal: a source that shows how much of it was read, one that says that it is awaited, and a sink
-//! that comes after the line of progress.
+//! The ends of a run on a terminal: a source that shows how much of it was read, one that says what it waits for, and a
+//! sink that erases the line of progress first.
 ghost use Rattle.std.specs.Prelude.{◌≡◌};
 
 use crate::progress::Progress;
@@ -17,7 +17,7 @@ pub struct Shown<'a, S: Source + Drop, P: Eprint + Clock> {
 }
 
 impl<'a, S: Source + Drop, P: Eprint + Clock> Shown<'a, S, P> {
-    /// A source of which nothing was read.
+    /// Makes a source of which nothing was read.
     pub fn new(inner: S, progress: Option<&'a Progress<'a, P>>) -> Shown<'a, S, P>
         ensures { result.inner ≡ inner }
     {
@@ -48,7 +48,7 @@ impl<'a, S: Source + Drop, P: Eprint + Clock> Source for Shown<'a, S, P> {
     }
 }
 
-/// A source that says what is awaited, if that is to be said, before it is first read.
+/// A source that says what it waits for before it is first read, if that is to be said.
 #[derive(Drop)]
 pub struct Awaited<'a, S: Source + Drop, P: Eprint> {
     pub inner: S,
@@ -57,7 +57,7 @@ pub struct Awaited<'a, S: Source + Drop, P: Eprint> {
 }
 
 impl<'a, S: Source + Drop, P: Eprint> Awaited<'a, S, P> {
-    /// A source of which nothing was read.
+    /// Makes a source of which nothing was read.
     pub fn new(inner: S, to: &'a P, what: Option<&'static str>) -> Awaited<'a, S, P>
         ensures { result.inner ≡ inner }
     {
@@ -90,7 +90,7 @@ pub struct Erasing<'a, K: Sink + Drop, P: Eprint + Clock> {
 }
 
 impl<'a, K: Sink + Drop, P: Eprint + Clock> Erasing<'a, K, P> {
-    /// A sink to which nothing was written.
+    /// Makes a sink to which nothing was written.
     pub fn new(inner: K, progress: &'a Progress<'a, P>) -> Erasing<'a, K, P>
         ensures { result.inner ≡ inner }
     {

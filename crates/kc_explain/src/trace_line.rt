@@ -24,9 +24,9 @@ pub enum LineFault {
     NotBit(usize),
     NotDigest(usize),
     NotPage,
-    /// Nothing of these, of a line of a dump or a state's text: it may not come here, or a number is out of range.
+    /// None of these, for a line of a dump or a state's text: it may not come here, or a number is out of range.
     NotDue,
-    /// Nothing of these, of a call: `grantr` or `revoker` after `kcore-trace 1`, or a line that is longer than any call.
+    /// None of these, for a call: `grantr` or `revoker` after `kcore-trace 1`, or a line that is longer than any call.
     Other,
 }
 
@@ -167,7 +167,7 @@ pub(crate) fn has_empty_word(line: &[u8]) -> bool {
     false
 }
 
-/// Why a line, without its newline, is not a call, if it is none.
+/// Why a line, without its newline, is not a call, if it is not one.
 pub fn fault_of_line(line: &[u8]) -> LineFault {
     if line.is_empty() {
         return LineFault::Empty;

@@ -9,7 +9,7 @@ pub record Stamps : Type 0 where
   pub principal_waves : List ℕ
   pub reach_waves : List ℕ
 
--- 0 stands for no wave
+-- 0 means no wave
 abbrev pub frame_wave : Stamps → ℕ → ℕ
 frame_wave s f = get_or s.frame_waves f 0
 

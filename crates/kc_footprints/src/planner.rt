@@ -18,7 +18,7 @@ use std::marker::Model;
 /// that touched a principal or what it may have.
 #[derive(Drop)]
 pub(crate) struct Planner {
-    // By frame; the others are by principal. 0 stands for no wave.
+    // By frame; the others are by principal. 0 means no wave.
     frame_waves: Vec<u32>,
     principal_waves: Vec<u32>,
     reach_waves: Vec<u32>,

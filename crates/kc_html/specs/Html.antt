@@ -1,12 +1,13 @@
--- The text of a page for a browser, of these lines.
+-- The text of a page for a browser, which shows these lines.
 use Rattle.std.specs.Prelude.{ℕ, List, ◌++◌}
-use Rattle.kc_html.specs.declared.TheConstants.{HEAD, TAIL}
+use Rattle.kc_html.specs.declared.head.TheConstants.{HEAD}
+use Rattle.kc_html.specs.declared.tail.TheConstants.{TAIL}
 
--- what is before the lines
+-- what comes before the lines
 abbrev pub html_head : List ℕ
 html_head = HEAD.now
 
--- what is after them
+-- what comes after them
 abbrev pub html_tail : List ℕ
 html_tail = TAIL.now
 

@@ -31,7 +31,7 @@ same_actor-true (Vcpu s c) (Vcpu t d) h =
 pub same_actor-false : (a b : Actor) → b ≢ a → same_actor a b ≡ false
 same_actor-false a b apart = false_from_ne_true (same_actor a b) (λ t. apart (sym (same_actor-true a b t)))
 
--- g lists what stands in h, from this place on
+-- g lists what is in h, from this place on
 abbrev Tail : (ℕ → Option Entry) → ℕ → List Entry → Type 0
 Tail g base [] = (n : ℕ) (e : Entry) → base ≤ n → g n ≡ Some e → ⊥
 Tail g base (e ∷ es) = (g base ≡ Some e) × Tail g (base + 1) es
@@ -46,7 +46,7 @@ tail_of pre (e ∷ es) =
       rw (length_push pre e) at rest,
     )
 
--- a number below all of a rising list does not stand there
+-- a number below all of a rising list is not in it
 times_low : (n least : ℕ) (xs : List ℕ) → n < least → RisesFrom least xs → times n xs ≡ 0
 times_low n least [] lt rises = refl
 times_low n least (x ∷ xs) lt rises =
@@ -58,7 +58,7 @@ times_low n least (x ∷ xs) lt rises =
 lt_from_ne : (a b : ℕ) → (a ≡ b → ⊥) → a ≤ b → a < b
 lt_from_ne a b apart le = elim (cases_lt a b) [ inl lt ↦ lt | inr ge ↦ absurd (apart (omega arith)) ]
 
--- each receipt says what stands at its number
+-- each receipt says what is at its number
 abbrev SaysAll : (ℕ → Option Entry) → List Receipt → Type 0
 SaysAll g [] = Unit {0}
 SaysAll g (r ∷ rs) = (g r.number ≡ Some (entry r.call r.reply)) × SaysAll g rs
@@ -111,7 +111,7 @@ times-append : (n : ℕ) (xs ys : List ℕ) → times n (xs ++ ys) ≡ times n x
 times-append n [] ys = omega arith
 times-append n (x ∷ xs) ys = let rest = times-append n xs ys in omega arith
 
--- what stands at a number of a row is a call of the row's actor
+-- what is at a number of a row is a call of the row's actor
 in_row : (a : Actor) (g : ℕ → Option Entry) (n : ℕ) (e : Entry) (row : List Receipt) → SaysAll g row → OwnedBy a row → g n ≡ Some e → 1 ≤ times n (numbers_of row) → actor e.call ≡ a
 in_row a g n e [] says own at some = absurd (omega arith)
 in_row a g n e (r ∷ rs) says own at some =
@@ -123,7 +123,7 @@ in_row a g n e (r ∷ rs) says own at some =
       | inr t ↦ in_row a g n e rs says.1 own.1 at (let more : 1 ≤ 0 + times n (numbers_of rs) = rw t.0 at some in omega arith)
     ]
 
--- what stands at a number of rows of other actors is no call of this actor
+-- what is at a number of rows of other actors is not a call of this actor
 of_others : (a : Actor) (g : ℕ → Option Entry) (n : ℕ) (e : Entry) (owners : List Actor) (rows : List (List Receipt)) → OwnedRows owners rows → SaysRows g rows → NoneIs a owners → g n ≡ Some e → 1 ≤ times n (all_numbers rows) → same_actor a (actor e.call) ≡ false
 of_others a g n e [] [] own says apart at some = absurd (omega arith)
 of_others a g n e [] (row ∷ rows) own says apart at some = absurd own
@@ -139,7 +139,7 @@ AllBy h [] rows = Unit {0}
 AllBy h (a ∷ owners) [] = Unit {0}
 AllBy h (a ∷ owners) (row ∷ rows) = (calls_by a (calls_of h) ≡ receipt_calls row) × AllBy h owners rows
 
--- the actors before are other than those behind
+-- the actors before are other than those after
 abbrev Cross : List Actor → List Actor → Type 0
 Cross before [] = Unit {0}
 Cross before (a ∷ owners) = NoneIs a before × Cross before owners

@@ -12,7 +12,7 @@ beginnings-push (first ∷ rows) (others ∷ all) row calls are begun = (are.0, 
 beginnings-push [] (others ∷ all) row calls are begun = absurd are
 beginnings-push (first ∷ rows) [] row calls are begun = absurd are
 
--- two threads of which nothing is told both made all their calls
+-- two threads of which nothing is reported both made all their calls
 pub none-graver : (met stop : Option ThreadStop) → graver met stop ≡ None → (met ≡ None) × (stop ≡ None)
 none-graver None None none = (refl, refl)
 none-graver None (Some Start) none = cc

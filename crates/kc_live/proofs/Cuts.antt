@@ -18,7 +18,7 @@ use Rattle.kc_live.specs.Plans.{count_of, stranger_in, stranger_from}
 use Rattle.kc_live.specs.Cuts.{program_of, AreOf, OwnCalls, IsCut, IsPlaceOf, grown, noted, appearing, with_call, KeepsOrders}
 use Rattle.kc_live.proofs.Actors.{same_actor-refl, same_actor-true, same_actor-false}
 
--- the call, where it is this actor's
+-- the call, if it is this actor's
 abbrev mine : Actor → Call → List Call
 mine a call = cond (same_actor a (actor call)) (call ∷ []) []
 

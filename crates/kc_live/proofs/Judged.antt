@@ -19,7 +19,7 @@ use Rattle.kc_live.proofs.Actors.{same_actor-true}
 use Rattle.kc_live.proofs.Planning.{known_push}
 use Rattle.kc_live.proofs.Cuts.{cut-more, strangers-none}
 
--- the core has all that make the calls of a trace where it has the actors of its programs
+-- the core has all actors of a trace if it has those of its programs
 noted-known : (config : Configuration) (seen : List Actor) (a : Actor) → AreActors config (noted seen a) → AreActors config seen × IsActor config a
 noted-known config [] a known = (tt, known.0)
 noted-known config (b ∷ seen) a known =
@@ -43,7 +43,7 @@ appearing-known config seen (call ∷ calls) known =
 cut-known : (config : Configuration) (calls : List Call) (ps : List ProgramView) → IsCut calls ps → AreActors config (actors_of ps) → AreActors config (callers calls)
 cut-known config calls ps cut known = (appearing-known config [] calls (rw cut.order at known)).1
 
--- a call more leaves the actors of the programs that stand where they are
+-- a call more leaves the actors of earlier programs as they are
 actors-before : (call : Call) (ps : List ProgramView) (i : ℕ) (p : ProgramView) → slice_get ps i ≡ Some p → actors_of (take i (with_call call ps)) ≡ actors_of (take i ps)
 actors-before call [] i p at = cc
 actors-before call (q ∷ ps) zero p at = refl
@@ -106,7 +106,7 @@ judged-up-to config calls i first =
       known = λ known. absurd (first.unknown (taken config calls i first.call first.there (rw next at known)));
     }
 
--- where the core has the actors of the programs, all calls were judged
+-- if the core has the actors of the programs, all calls were judged
 pub judged-whole : (config : Configuration) (calls part : List Call) (ps : List ProgramView) → IsJudgedPart config calls part → IsCut part ps → AreActors config (actors_of ps) → calls ≡ part
 judged-whole config calls part ps judged cut known = judged.whole ∙ (ap (λ rest. part ++ rest) (judged.known (cut-known config part ps cut known)) ∙ append-nil part)
 

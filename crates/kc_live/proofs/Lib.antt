@@ -1,4 +1,5 @@
 pub mod Logs
+pub mod Witnessed
 pub mod Settlement
 pub mod Configs
 pub mod Actors

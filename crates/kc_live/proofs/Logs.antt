@@ -1,4 +1,4 @@
--- A history with one call more, and the volume behind it.
+-- A history with one call more, and the volume after it.
 use Rattle.std.proofs.Common.{◌≡◌, ℕ, ◌≤◌, ◌<◌, List, [], ◌∷◌, ◌++◌, length, refl, ap, sym, subst, ◌∙◌, arith, length-append}
 use Rattle.std.proofs.lemmas.List.{map-append}
 use Rattle.kc_types.specs.Configuration.{Configuration}
@@ -15,32 +15,61 @@ use Rattle.kc_model.proofs.States.Runs.{replies_from-append, state_after-append}
 use Rattle.kc_model.proofs.Promises.{promises_kept}
 use Rattle.kc_model.proofs.Refusals.ReplyBytes.{bytes-next}
 use Rattle.kc_live.specs.declared.receipt.Entry.{Entry}
-use Rattle.kc_live.specs.Book.{Log, IsMadeFrom, MayStart, IsKept, IsWholeFrom, calls_of, entry, log, longer, new_log, next_volume, reply_to, volume_in}
+use Rattle.kc_live.specs.Book.{Log, IsMadeFrom, IsServed, MayStart, IsKept, IsWholeFrom, calls_of, entry, log, longer, new_log, next_volume, reply_to, volume_in}
 
 -- a buffer made for the call has room for its reply
 pub buffer_fits : (m : State) (call : Call) (reply : Reply) (spare : ℕ) → reply ≡ (next m call).0 → most_reply_bytes call ≤ spare → bytes_in reply ≤ spare
 buffer_fits m call reply spare is_reply made = let few = bytes-next m call in rw is_reply (omega arith)
 
--- a volume with one call more
+-- a volume with one call more, made from the same state
+made_more : (start : State) (l : Log) (call : Call) → IsLawful start → IsMadeFrom start (volume_in l) → l.state ≡ state_after start (calls_of l.entries)
+    → IsMadeFrom start (volume_in (longer l call)) × ((longer l call).state ≡ state_after start (calls_of (longer l call).entries))
+made_more start l call lawful made ends =
+    let one = entry call (reply_to l call) ∷ [] in
+    let calls : calls_of (l.entries ++ one) ≡ calls_of l.entries ++ call ∷ [] = map-append (λ (e : Entry). e.call) l.entries one in (
+      record {
+        replies =
+            map-append (λ (e : Entry). e.reply) l.entries one
+            ∙ rw (calls, replies_from-append start (calls_of l.entries) (call ∷ []), made.replies, ends) refl;
+        promises = promises_kept start _ lawful;
+      },
+      rw (calls, state_after-append start (calls_of l.entries) (call ∷ []), ends) refl,
+    )
+
+pub served_more : (l : Log) (call : Call) → IsServed l → length l.entries < 65536 → IsServed (longer l call)
+served_more l call served fits =
+    let more = made_more served.start l call served.lawful served.made served.ends in
+    record {
+      start = served.start;
+      lawful = served.lawful;
+      made = more.0;
+      ends = more.1;
+      short = omega (arith, length-append l.entries (entry call (reply_to l call) ∷ []));
+    }
+
 pub kept_more : (l : Log) (call : Call) → IsKept l → length l.entries < 65536 → IsKept (longer l call)
 kept_more l call kept fits =
-    let one = entry call (reply_to l call) ∷ [] in
     let start = kept.legal.start in
-    let calls : calls_of (l.entries ++ one) ≡ calls_of l.entries ++ call ∷ [] = map-append (λ (e : Entry). e.call) l.entries one in
+    let more = made_more start l call kept.legal.may.lawful kept.legal.made kept.ends in
     record {
-      legal = record {
-        start = start;
-        may = kept.legal.may;
-        made = record {
-          replies =
-              map-append (λ (e : Entry). e.reply) l.entries one
-              ∙ rw (calls, replies_from-append start (calls_of l.entries) (call ∷ []), kept.legal.made.replies, kept.ends) refl;
-          promises = promises_kept start _ kept.legal.may.lawful;
-        };
-      };
-      ends = rw (calls, state_after-append start (calls_of l.entries) (call ∷ []), kept.ends) refl;
-      short = omega (arith, length-append l.entries one);
+      legal = record { start = start; may = kept.legal.may; made = more.0 };
+      ends = more.1;
+      short = omega (arith, length-append l.entries (entry call (reply_to l call) ∷ []));
     }
+
+-- a volume without calls
+pub served_none : (number : ℕ) (start : State) → IsLawful start → IsServed (log number [] start)
+served_none number start lawful = record {
+  start = start;
+  lawful = lawful;
+  made = record { replies = refl; promises = promises_kept start [] lawful };
+  ends = refl;
+  short = omega arith;
+}
+
+-- the volume after a volume
+pub served_next : (l : Log) → IsServed l → IsServed (next_volume l)
+served_next l served = served_none _ l.state (rw served.ends (lawful-after served.start (calls_of l.entries) served.lawful))
 
 -- where a volume begins that has no calls yet
 begun : (number : ℕ) (start : State) → MayStart number start → IsKept (log number [] start)
@@ -53,7 +82,7 @@ begun number start may = record {
 pub kept_new : (config : Configuration) → IsLawful (boot config) → IsKept (new_log config)
 kept_new config lawful = begun 0 (boot config) (record { lawful = lawful; config = config; before = []; leads = refl; first = λ _. refl })
 
--- the volume behind a volume
+-- the volume after a volume
 pub kept_next : (l : Log) → IsKept l → IsKept (next_volume l)
 kept_next l kept =
     let may = kept.legal.may in

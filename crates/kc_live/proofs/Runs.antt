@@ -1,4 +1,4 @@
--- The calls of each program stand in the history.
+-- The calls of each program are in the history.
 use Rattle.std.proofs.Common.{◌≡◌, ℕ, zero, suc, ◌+◌, ◌<◌, Bool, true, false, cond, Option, Some, None, List, [], ◌∷◌, length, get_or, map, take, refl, ap, sym, ◌∙◌, not, arith}
 use Rattle.std.specs.List.{position_from}
 use Rattle.std.specs.Option.{option_map_or}
@@ -91,7 +91,7 @@ module _ {X : Type 0} (items : X → List Receipt) (v : VolumeView) (ps : List P
   by_actors : AllBy v.entries (actors_of ps) (map items rows)
   by_actors = settled_by_actors v (actors_of ps) (map items rows) settled owned apart
 
-  -- where a row has all calls of its program, so has the history
+  -- if a row has all calls of its program, so has the history
   pub run_calls : map (λ row. receipt_calls (items row)) rows ≡ map (λ p. p.calls) ps → HasCalls v.entries ps
   run_calls same = has_calls v.entries ps (map items rows) (calls_in_rows items rows ∙ same) by_actors
 

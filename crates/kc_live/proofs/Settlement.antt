@@ -1,4 +1,4 @@
--- The rows fit one after another exactly where they are settled.
+-- The rows fit one after another exactly if they are settled.
 use Rattle.std.proofs.Common.{◌≡◌, ℕ, ◌+◌, ◌<◌, Bool, true, false, cond, eqb, get_or, set, List, [], ◌∷◌, ◌++◌, length, replicate, refl, ap, sym, ◌∙◌, arith, length-set, get_or-set_other, inl, inr}
 use Rattle.std.specs.Prelude.{IsTrue, ◌↔◌}
 use Rattle.std.proofs.lemmas.List.{get_or-replicate, length-replicate}
@@ -14,7 +14,7 @@ use Rattle.kc_live.specs.Settling.{times, numbers_of, all_numbers, RisesFrom, Ro
 abbrev pub mark_at : List Bool → ℕ → ℕ
 mark_at seen n = cond (get_or seen n false) 1 0
 
--- each number below the bound is marked, or stands once in the list
+-- each number below the bound is marked, or is in the list once
 abbrev pub Once : ℕ → List Bool → List ℕ → Type 0
 Once len seen xs = (n : ℕ) → n < len → times n xs + mark_at seen n ≡ 1
 

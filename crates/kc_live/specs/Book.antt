@@ -10,6 +10,9 @@ use Rattle.kc_model.specs.Lawful.{IsLawful}
 use Rattle.kc_model.specs.Promises.{KeepsPromises}
 use Rattle.kc_model.specs.Next.{next, state_after}
 use Rattle.kc_model.specs.Histories.{IsLegalHistory}
+use Rattle.kc_redact.specs.Witness.{witnessed}
+use Rattle.sha2.specs.Sha256.{sha256}
+use Rattle.kc_live.specs.declared.journal.VolumeDigest.{VolumeDigest}
 use Rattle.kc_live.specs.declared.receipt.Entry.{Entry}
 use Rattle.kc_live.specs.declared.receipt.Receipt.{Receipt}
 
@@ -49,16 +52,24 @@ pub record MayStart (number : ℕ) (start : State) : Type 0 where
   pub leads : start ≡ state_after (boot config) before
   pub first : number ≡ 0 → before ≡ []
 
--- one thread could have made the volume, from where it may start on
+-- one thread could have made the volume, from a state in which it may start
 pub record IsLegal (v : VolumeView) : Type 0 where
   pub start : State
   pub may : MayStart v.number start
   pub made : IsMadeFrom start v
 
--- the volume is legal and not too long, and a core in this state stands at its end
+-- the volume is legal and not too long, and a core that made its calls is in this state
 pub record IsKept (l : Log) : Type 0 where
   pub legal : IsLegal (volume_in l)
   pub ends : l.state ≡ state_after legal.start (calls_of l.entries)
+  pub short : length l.entries ≤ call_limit
+
+-- one thread makes the volume's calls from some lawful state on, gets its replies, and leaves the core in this state
+pub record IsServed (l : Log) : Type 0 where
+  pub start : State
+  pub lawful : IsLawful start
+  pub made : IsMadeFrom start (volume_in l)
+  pub ends : l.state ≡ state_after start (calls_of l.entries)
   pub short : length l.entries ≤ call_limit
 
 -- all calls were made in the first volume, from the boot state of the configuration on
@@ -80,10 +91,16 @@ reply_to l call = (next l.state call).0
 abbrev pub longer : Log → Call → Log
 longer l call = log l.volume (l.entries ++ entry call (reply_to l call) ∷ []) (next l.state call).1
 
--- the log of the volume behind this one: it starts where this one ends, and has no calls yet (numbers end with those of 64 bits)
+-- the log of the volume after this one: it starts where this one ends, and has no calls yet (numbers end with those of 64 bits)
 abbrev pub next_volume : Log → Log
 next_volume l = log (min (l.volume + 1) (2 ^ 64 - 1)) [] l.state
 
 -- the receipt of the next call: its number is how many calls of the volume came before
 abbrev pub receipt_of : Log → Call → Receipt
 receipt_of l call = record { volume = l.volume; number = length l.entries; call = call; reply = reply_to l call }
+
+-- the number of a volume, how many calls it has, and the SHA-256 digest of their redacted trace
+pub record IsDigestOf (v : VolumeView) (d : VolumeDigest) : Type 0 where
+  pub volume : d.volume ≡ v.number
+  pub calls : d.calls ≡ length v.entries
+  pub digest : d.digest ≡ sha256 (witnessed (calls_of v.entries))

@@ -13,7 +13,7 @@ use Rattle.kc_live.specs.Book.{Log}
 use Rattle.kc_live.specs.Plans.{IsActor, AreActors, IsFirstBad, MayRunTogether, count_of}
 use Rattle.kc_live.specs.Stops.{IsLeftHistory}
 
--- the calls of the actor's program; none where it has no program
+-- the calls of the actor's program; none if it has no program
 abbrev pub program_of : Actor → List ProgramView → List Call
 program_of a [] = []
 program_of a (p ∷ ps) = if same_actor a p.actor then p.calls else program_of a ps
@@ -28,12 +28,12 @@ abbrev pub OwnCalls : List ProgramView → Type 0
 OwnCalls [] = Unit {0}
 OwnCalls (p ∷ ps) = AreOf p.actor p.calls × OwnCalls ps
 
--- an actor noted behind others, where it isn't among them
+-- an actor noted after others, if it is not among them
 abbrev pub noted : List Actor → Actor → List Actor
 noted [] a = a ∷ []
 noted (b ∷ bs) a = if same_actor b a then b ∷ bs else b ∷ noted bs a
 
--- these actors, and behind them the others of the calls in the order in which they first appear
+-- these actors, and after them the others of the calls in the order in which they first appear
 abbrev pub appearing : List Actor → List Call → List Actor
 appearing seen [] = seen
 appearing seen (call ∷ calls) = appearing (noted seen (actor call)) calls
@@ -50,14 +50,14 @@ pub record IsCut (calls : List Call) (ps : List ProgramView) : Type 0 where
 abbrev pub grown : ProgramView → Call → ProgramView
 grown p call = record { actor = p.actor; calls = p.calls ++ call ∷ [] }
 
--- the first program of the actor stands at this place
+-- the first program of the actor is at this place
 pub record IsPlaceOf (ps : List ProgramView) (a : Actor) (i : ℕ) : Type 0 where
   pub program : ProgramView
   pub at : slice_get ps i ≡ Some program
   pub owned : program.actor ≡ a
   pub before : NoneIs a (actors_of (take i ps))
 
--- the programs with one call more, in the program of its actor, which is a new one where there is none
+-- the programs with one call more, in the program of its actor, or in a new one if there is none
 abbrev pub with_call : Call → List ProgramView → List ProgramView
 with_call call [] = record { actor = actor call; calls = call ∷ [] } ∷ []
 with_call call (p ∷ ps) = if same_actor p.actor (actor call) then grown p call ∷ ps else p ∷ with_call call ps
@@ -70,7 +70,7 @@ KeepsOrders made calls = (a : Actor) → calls_by a made ≡ calls_by a calls
 abbrev pub MayRun : Configuration → List Call → Type 0
 MayRun config calls = (ps : List ProgramView) × IsCut calls ps × MayRunTogether config ps
 
--- why a trace gives no answer: one of its actors is none of the core's, it has more calls than a history, or it may run, and the cause shows only in a run; memory may run out before
+-- why a trace gives no answer: the core does not have one of its actors, it has more calls than a history, or it may run, and the cause shows only in a run; memory may run out before
 abbrev pub StopsTrace : Configuration → List Call → LiveCause → Type 0
 StopsTrace config calls (BadActor i) = (ps : List ProgramView) × IsCut calls ps × IsFirstBad config ps i
 StopsTrace config calls (NotYours i call) = ⊥
@@ -87,14 +87,14 @@ IsLeftOf config calls is_settled left = (ps : List ProgramView) × IsCut calls p
 abbrev pub callers : List Call → List Actor
 callers calls = map actor calls
 
--- the core has none that makes this call, and it is the first such call
+-- the core does not have the actor of this call, and it is the first such call
 pub record IsFirstUnknown (config : Configuration) (calls : List Call) (at : ℕ) : Type 0 where
   pub call : Call
   pub there : slice_get calls at ≡ Some call
   pub unknown : IsActor config (actor call) → ⊥
   pub before : AreActors config (callers (take at calls))
 
--- a beginning of the calls that shows whether the core has all that make them: nothing is behind it where it has those of the beginning
+-- a beginning of the calls that shows whether the core has all their actors: if it has those of the beginning, this is all of the calls
 pub record IsJudgedPart (config : Configuration) (calls part : List Call) : Type 0 where
   pub rest : List Call
   pub whole : calls ≡ part ++ rest

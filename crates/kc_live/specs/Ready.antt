@@ -3,7 +3,7 @@ use Rattle.std.specs.Prelude.{◌≡◌, ◌≤◌, ℕ}
 use Rattle.kc_types.specs.declared.call.Call.{Call}
 use Rattle.kc_types.specs.ReplyBytes.{most_reply_bytes}
 
--- beside the call stand the same call once more, a buffer for the bytes of its reply, and one for a copy of them
+-- the call is there twice, with a buffer for the bytes of its reply, and one for a copy of them
 pub record IsReady (call copy : Call) (buffer copy_buffer : ℕ) : Type 0 where
   pub copied : copy ≡ call
   pub fits : most_reply_bytes call ≤ buffer

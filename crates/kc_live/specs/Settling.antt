@@ -4,7 +4,7 @@ use Rattle.kc_types.specs.Configuration.{Configuration}
 use Rattle.kc_live.specs.declared.receipt.Receipt.{Receipt}
 use Rattle.kc_live.specs.Book.{Log, VolumeView, entry, volume_in}
 
--- how often a number stands in a list
+-- how often a number is in a list
 abbrev pub times : ℕ → List ℕ → ℕ
 times n [] = 0
 times n (x ∷ xs) = (if x == n then 1 else 0) + times n xs
@@ -36,7 +36,7 @@ abbrev pub RowsMatch : VolumeView → List (List Receipt) → Type 0
 RowsMatch v [] = Unit {0}
 RowsMatch v (row ∷ rows) = (RisesFrom 0 (numbers_of row) × RowMatches v row) × RowsMatch v rows
 
--- each entry's number stands in exactly one receipt, each receipt is of an entry of the volume and says what it says, and numbers rise in each row
+-- each entry's number is in exactly one receipt, each receipt is of an entry of the volume and says what it says, and numbers rise in each row
 pub record IsSettled (v : VolumeView) (rows : List (List Receipt)) : Type 0 where
   pub once : (n : ℕ) → n < length v.entries → times n (all_numbers rows) ≡ 1
   pub match : RowsMatch v rows

@@ -30,7 +30,7 @@ IsLate Memory = Unit {0}
 IsLate Start = Unit {0}
 IsLate Unsettled = Unit {0}
 
--- a history is handed back just where the run began: without memory it may not have
+-- a history is handed back exactly if the run began: without memory it may not have
 abbrev pub FitsHistory : LiveCause → Bool → Type 0
 FitsHistory (BadActor i) is_there = is_there ≡ false
 FitsHistory (NotYours i call) is_there = is_there ≡ false
@@ -39,14 +39,14 @@ FitsHistory Memory is_there = Unit {0}
 FitsHistory Start is_there = is_there ≡ true
 FitsHistory Unsettled is_there = is_there ≡ true
 
--- the history of a run that gave no answer: it is legal, and where the receipts are settled with it all of it was made from the boot state of the configuration handed in on, it has of each program's calls a beginning, and no others
+-- the history of a run that gave no answer: it is legal, and if the receipts are settled with it, all of it was made from the boot state of the given configuration on, and it has a beginning of each program's calls, and no others
 pub record IsLeftHistory (machine : Configuration) (ps : List ProgramView) (is_settled : Bool) (left : Log) : Type 0 where
   pub legal : IsLegal (volume_in left)
   pub whole : is_settled ≡ true → IsWholeFrom machine left
   pub begun : is_settled ≡ true → HasBeginnings left.entries ps
   pub others : is_settled ≡ true → HasNoOthers left.entries ps
 
--- the cause that a call which a thread did not make is: out of memory is told as that, and with programs that were judged any other fault settles nothing
+-- the cause if a thread did not make a call: out of memory is reported as that; any other fault, of programs that were judged, leaves the run unsettled
 abbrev pub fault_cause : LiveFault → LiveCause
 fault_cause faults.Memory = Memory
 fault_cause faults.NotYours = Unsettled

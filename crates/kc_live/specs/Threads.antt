@@ -7,7 +7,7 @@ use Rattle.kc_live.specs.declared.program.ThreadStop.{ThreadStop}
 use Rattle.kc_live.specs.declared.program.ThreadStop.TheVariants.{Start, Fault}
 use Rattle.kc_live.specs.Program.{receipt_calls}
 
--- the receipts of a beginning of these calls, and of all of them where nothing stopped the thread
+-- the receipts of a beginning of these calls, and of all of them if nothing stopped the thread
 pub record IsRun (calls : List Call) (receipts : List Receipt) (stop : Option ThreadStop) : Type 0 where
   pub count : ℕ
   pub begun : receipt_calls receipts ≡ take count calls
@@ -20,7 +20,7 @@ AreBeginnings (row ∷ rows) (calls ∷ rest) = ((n : ℕ) × (row ≡ take n ca
 AreBeginnings [] (calls ∷ rest) = ⊥
 AreBeginnings (row ∷ rows) [] = ⊥
 
--- what is told of two threads: a start that was refused goes first, then out of memory
+-- what is reported of two threads: a start that was refused goes first, then out of memory
 abbrev pub graver : Option ThreadStop → Option ThreadStop → Option ThreadStop
 graver (Some Start) stop = Some Start
 graver met (Some Start) = Some Start

@@ -1,79 +1,55 @@
-//! The core beside the history of its calls.
+//! The history of a core, volume by volume, from a configuration's boot state on.
 ghost use Rattle.std.specs.Prelude.{◌≡◌, ◌<◌, ◌≤◌, ◌↔◌, ◌++◌, ◌∷◌, [], length, vec_capacity, IsErr, IfOk, IfErr, OnOk, OnErr};
 ghost use Rattle.kc_types.specs.Limits.{call_limit};
 
 use crate::fault::LiveFault;
+use crate::journal::{Journal, VolumeDigest};
 use crate::ready::Ready;
 use crate::receipt::{Entry, Receipt};
 use kc_core::KCore;
-use kc_types::{CALL_LIMIT, Config, Memory};
+use kc_types::{Config, Memory};
 use std::alloc::Global;
 use std::marker::Model;
-use std::mem;
 
-/// The core of one thread, and the volume of its calls that is being filled. Every value of it is legal: each reply is the
-/// one that a single thread gets at that point, from the start of the volume on, and the core stands at the volume's end.
+/// A journal from a configuration's boot state on. Every value of it is legal: one thread could have made all its volumes.
 #[derive(Drop)]
 pub struct Book {
-    core: KCore,
-    /// The number of the volume, from 0.
-    volume: u64,
-    entries: Vec<Entry>,
+    journal: Journal,
 }
 
 impl Model for Book {
-    ghost use Rattle.std.specs.Prelude.{◌≤◌, vec_capacity};
     ghost use Rattle.std.specs.Coded.{codes, coded_ℕ};
     ghost use Rattle.std.specs.FinMap as map;
     ghost use Rattle.std.specs.Ordering.{nat_cmp};
-    ghost use Rattle.kc_types.specs.Limits.{call_limit};
-    ghost use Rattle.kc_live.specs.Book.{Log, IsKept, log};
+    ghost use Rattle.kc_live.specs.Book.{Log, IsKept};
 
     ghost Value = { Log };
 
     ghost coded = { Prim.hlevel (codes, map.code {R = nat_cmp} coded_ℕ coded_ℕ) };
 
-    ghost view = { λ b. log b.volume b.entries.items b.core };
+    ghost view = { λ b. b.journal };
 
-    ghost invariant = { λ b. IsKept (log b.volume b.entries.items b.core) × (call_limit ≤ vec_capacity b.entries) };
+    ghost invariant = { λ b. IsKept b.journal };
 }
 
 impl Book {
-    ghost use Rattle.kc_live.specs.Book.{IsLegal, IsKept, longer, next_volume, receipt_of, new_log, volume_in};
+    ghost use Rattle.kc_live.specs.Book.{IsDigestOf, IsLegal, IsKept, longer, next_volume, receipt_of, new_log, volume_in};
 
-    /// The core in the boot state of its configuration, no calls, and room for as many as there can be; `Memory`
-    /// where a growth was refused.
+    /// Begins with the core in the boot state of its configuration, no calls, and room for as many as there can be; `Memory`
+    /// if memory cannot be had.
     pub fn new(alloc: Global, config: Config) -> Result<Book, Memory>
         // No clause can rule out that memory runs out: tests make books.
         ensures { IfOk result (λ book. book ≡ new_log config) }
     {
+        let core = KCore::boot(alloc, config)?;
         Ok(Book {
-            core: KCore::boot(alloc, config)?,
-            volume: 0,
-            entries: Vec::with_capacity(alloc, CALL_LIMIT)?,
+            journal: Journal::of(alloc, core)?,
         })
     }
 
-    /// Makes one call, which the volume then has with its reply. Memory cannot run out here. The one fault is
-    /// `HistoryFull`, which comes exactly where the volume has 65,536 calls.
-    pub fn step(&mut self, ready: Ready) -> Result<Receipt, LiveFault>
-        ensures receipt { IfOk result (λ r. r ≡ receipt_of self.old ready) }
-        ensures entry { OnOk result (self.new ≡ longer self.old ready) }
-        ensures full { IsErr result ↔ (length self.old.entries ≡ call_limit) }
-        ensures fault { IfErr result (λ fault. fault ≡ LiveFault.HistoryFull) }
-        ensures err { OnErr result (self.new ≡ self.old) }
-    {
-        if self.entries.len() >= CALL_LIMIT {
-            return Err(LiveFault::HistoryFull);
-        }
-        let number = self.entries.len() as u32;
-        let (entry, receipt) = ready.make(&mut self.core, self.volume, number);
-        self.entries.push_reserved(entry);
-        Ok(receipt)
-    }
-
-    /// Makes one call as `step` does, and puts its receipt in the place that is reserved for it: the call is made and
-    /// has its receipt, or neither.
+    /// Makes one call, which the volume then has with its reply, and puts its receipt in the place that is reserved for it: the
+    /// call is made and has its receipt, or neither. Memory cannot run out here. The one fault is `HistoryFull`, which comes
+    /// exactly if the volume has 65,536 calls.
     pub fn record(&mut self, ready: Ready, receipts: &mut Vec<Receipt>) -> Result<(), LiveFault>
         requires { length receipts.old.items < vec_capacity receipts.old }
         ensures receipt { OnOk result (receipts.new.items ≡ receipts.old.items ++ receipt_of self.old ready ∷ []) }
@@ -82,7 +58,7 @@ impl Book {
         ensures fault { IfErr result (λ fault. fault ≡ LiveFault.HistoryFull) }
         ensures err { OnErr result ((receipts.new ≡ receipts.old) × (self.new ≡ self.old)) }
     {
-        let receipt = self.step(ready)?;
+        let receipt = self.journal.step(ready)?;
         receipts.push_reserved(receipt);
         Ok(())
     }
@@ -96,27 +72,22 @@ impl Book {
         ensures next { self.new ≡ next_volume self.old }
         ensures legal { IsLegal result }
     {
-        let volume = Volume {
-            number: self.volume,
-            entries: mem::replace(&mut self.entries, room),
-        };
-        self.volume = self.volume.saturating_add(1);
-        volume
+        let number = self.journal.volume();
+        let entries = self.journal.turn(room);
+        Volume { number, entries }
     }
 
-    /// The calls of the volume so far, in the order in which they were made, each with its reply.
-    pub fn entries(&self) -> &[Entry]
-        ensures entries { result.now ≡ self.now.entries }
-        ensures short { length self.now.entries ≤ call_limit }
+    /// Gives the digest of the volume so far. The calls since it was last asked are hashed now. No memory is taken.
+    pub fn digest(&mut self) -> VolumeDigest
+        ensures digest { IsDigestOf (volume_in self.old) result }
+        ensures legal { IsLegal (volume_in self.old) }
+        ensures same { self.new ≡ self.old }
     {
-        self.entries.as_slice()
-    }
-
-    /// The core as the calls so far left it.
-    pub fn core(&self) -> &KCore
-        ensures { result.now ≡ self.now.state }
-    {
-        &self.core
+        VolumeDigest {
+            volume: self.journal.volume(),
+            calls: self.journal.entries().len() as u32,
+            digest: self.journal.digest(),
+        }
     }
 
     /// Ends the history.
@@ -124,11 +95,8 @@ impl Book {
         ensures same { result ≡ self }
         ensures kept { IsKept result }
     {
-        let Book {
-            core,
-            volume: number,
-            entries,
-        } = self;
+        let Book { journal } = self;
+        let (number, entries, core) = journal.into_parts();
         History {
             volume: Volume { number, entries },
             core,
@@ -159,7 +127,7 @@ impl Model for Volume {
 impl Volume {
     ghost use Rattle.kc_live.specs.Book.{IsLegal};
 
-    /// Its number, from 0: how many volumes came before.
+    /// The volume's number, from 0: how many volumes came before.
     pub fn number(&self) -> u64
         ensures { result ≡ self.now.number }
     {

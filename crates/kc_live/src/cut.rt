@@ -38,7 +38,7 @@ fn place_of(programs: &[Program], actor: Actor) -> Option<usize>
     None
 }
 
-/// A program of one call.
+/// Makes a program of one call.
 fn begun(alloc: Global, call: Call) -> Result<Program, Memory>
     ensures { IfOk result (λ program. program ≡ record { actor = actor_made call; calls = call ∷ [] }) }
 {
@@ -69,7 +69,7 @@ pub fn programs_of(alloc: Global, calls: Vec<Call>) -> Result<Vec<Program>, Memo
     Ok(programs)
 }
 
-/// The first call that is made by none of the core's actors.
+/// Finds the first call whose actor the core does not have.
 fn first_unknown(config: &Config, calls: &[Call]) -> Option<usize>
     ensures { MatchOption result (AreActors config.now (callers calls.now)) (IsFirstUnknown config.now calls.now) }
 {
@@ -81,8 +81,8 @@ fn first_unknown(config: &Config, calls: &[Call]) -> Option<usize>
     None
 }
 
-/// The calls up to the first that is made by none of the core's actors, and this one: it is what the trace is refused
-/// for, and its actor's program is the last that those before it may be cut into.
+/// Keeps the calls up to the first whose actor the core does not have, and this one: the trace is refused for it, and its
+/// actor's program is the last into which these calls are cut.
 fn judged_part(config: &Config, calls: Vec<Call>) -> Vec<Call>
     ensures { IsJudgedPart config.now calls.items result.items }
 {

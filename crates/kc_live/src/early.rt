@@ -31,14 +31,14 @@ pub fn is_actor(config: &Config, actor: Actor) -> bool
     }
 }
 
-/// Whether the program may stand behind these.
+/// Whether the program may come after these.
 fn may_join(config: &Config, earlier: &[Program], program: &Program) -> bool
     ensures { IsTrue result ↔ MayJoin config.now earlier.now program.now }
 {
     is_free(earlier, program.actor()) && is_actor(config, program.actor())
 }
 
-/// The first program whose actor is an earlier one's or none of the core's.
+/// Finds the first program whose actor an earlier program has, or the core does not have.
 pub fn first_bad(config: &Config, programs: &[Program]) -> Option<usize>
     ensures { MatchOption result (HaveActors config.now programs.now) (IsFirstBad config.now programs.now) }
 {
@@ -63,7 +63,7 @@ fn is_strange(actor: Actor, call: &Call) -> bool
     }
 }
 
-/// The first call of a program that is another actor's.
+/// Finds the first call of a program that is another actor's.
 fn first_strange(program: &Program) -> Option<usize>
     ensures { result ≡ stranger_in program.now }
 {
@@ -74,7 +74,7 @@ fn first_strange(program: &Program) -> Option<usize>
         .position(|call| is_strange(actor, call))
 }
 
-/// The first program with a call of another actor, and its first such call.
+/// Finds the first program with a call of another actor, and its first such call.
 pub fn first_stranger(programs: &[Program]) -> Option<(usize, usize)>
     ensures { result ≡ stranger_from 0 programs.now }
 {

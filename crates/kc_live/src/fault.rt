@@ -5,7 +5,7 @@ use kc_types::Memory;
 use std::alloc::AllocError;
 use thiserror::Error;
 
-/// Why a live call was not made. The first that applies is answered, and then nothing has changed.
+/// Why a live call was not made. The first that applies is given, and then nothing has changed.
 #[derive(Clone, Copy, Debug, PartialEq, Eq, Error)]
 pub enum LiveFault {
     /// The call's actor is not the seat's.
@@ -14,7 +14,7 @@ pub enum LiveFault {
     /// The volume has 65,536 calls.
     #[error("the history is full")]
     HistoryFull,
-    /// A growth of memory was refused.
+    /// Memory could not be had.
     #[error("out of memory")]
     Memory,
 }

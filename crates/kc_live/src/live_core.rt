@@ -1,18 +1,19 @@
 //! The core under its one lock.
 ghost use Rattle.std.specs.Prelude.{◌≡◌, ◌≢◌, ◌↔◌, Err, IfOk, OnOk, OnErr};
 ghost use Rattle.kc_types.specs.Actors.{actor as actor_made};
-ghost use Rattle.kc_live.specs.Book.{IsLegal, IsKept};
+ghost use Rattle.kc_live.specs.Book.{VolumeView, IsDigestOf, IsLegal, IsKept};
 ghost use Rattle.kc_live.specs.Seat.{GainsReceipt};
 
 use crate::book::{Book, History, Volume};
 use crate::fault::LiveFault;
+use crate::journal::VolumeDigest;
 use crate::seat::Seat;
 use kc_types::{CALL_LIMIT, Call, Config, Memory};
 use std::alloc::Global;
 use std::sync::{Mutex, Wait};
 
-/// The core and its history under one lock, which many threads share. Whenever the lock is free the volume that is being
-/// filled is one that a single thread could have made, and the core stands at its end.
+/// The core and its history under one lock, which many threads share. Whenever the lock is free, the volume that is being
+/// filled is one that a single thread could have made, and the core is in the state after its last call.
 #[derive(Drop)]
 pub struct LiveCore {
     alloc: Global,
@@ -20,7 +21,7 @@ pub struct LiveCore {
 }
 
 impl LiveCore {
-    /// The core in the boot state of its configuration, and no calls; `Memory` where a growth was refused.
+    /// Begins with the core in the boot state of its configuration, and no calls; `Memory` if memory cannot be had.
     // No clause can name what is under the lock: tests call, close and settle.
     pub fn new(alloc: Global, config: Config) -> Result<LiveCore, Memory> {
         Ok(LiveCore {
@@ -29,9 +30,9 @@ impl LiveCore {
         })
     }
 
-    /// Makes one call from a seat, which gains its receipt; it may wait for the lock, before which all is made that
-    /// the call cannot do without of memory. The first fault that applies is answered: `NotYours`, `Memory`, `HistoryFull`.
-    /// Seat and history are then unchanged.
+    /// Makes one call from a seat, which gains its receipt; it may wait for the lock, and takes all memory that the call
+    /// needs before. The first fault that applies is given: `NotYours`, `Memory`, `HistoryFull`. Seat and history are then
+    /// unchanged.
     pub fn call<R: Wait>(&self, rt: &R, seat: &mut Seat, call: Call) -> Result<(), LiveFault>
         ensures gains { OnOk result (GainsReceipt seat.old seat.new call) }
         ensures yours { (result ≡ Err LiveFault.NotYours) ↔ (actor_made call ≢ seat.old.actor) }
@@ -40,14 +41,23 @@ impl LiveCore {
         seat.make(rt, self.alloc, &self.book, call)
     }
 
-    /// Hands out the volume, full or not, and begins the next one with the core as it is; it may wait for the lock, before
-    /// which the room for the next one's calls is made. `Memory` where that growth was refused, and then nothing has changed.
+    /// Hands out the volume, full or not, and begins the next one with the core as it is; it may wait for the lock, and
+    /// makes the room for the next one's calls before. `Memory` if that cannot be had, and then nothing has changed.
     // An empty volume is legal too: tests turn volumes over.
     pub fn turn<R: Wait>(&self, rt: &R) -> Result<Volume, Memory>
         ensures { IfOk result IsLegal }
     {
         let room = Vec::with_capacity(self.alloc, CALL_LIMIT)?;
         Ok(self.book.lock(rt).turn(room))
+    }
+
+    /// Gives the digest of the volume that is being filled, as it is published (`docs/WITNESS.md`); it may wait for the lock,
+    /// under which the calls since it was last asked are hashed. No memory is taken.
+    // An empty volume has a digest too: tests compare digests.
+    pub fn digest<R: Wait>(&self, rt: &R) -> VolumeDigest
+        ensures { (v : VolumeView) × IsLegal v × IsDigestOf v result }
+    {
+        self.book.lock(rt).digest()
     }
 
     /// Ends the history and hands out its last volume and the core. It waits for nobody.

@@ -40,8 +40,8 @@ pub enum ThreadStop {
     Fault(LiveFault),
 }
 
-/// What a thread made of its program: the receipts of the calls that it made, in order, and why it made no more where
-/// it did not make all.
+/// What a thread made of its program: the receipts of the calls that it made, in order, and why it made no more if it
+/// did not make all.
 #[derive(Drop)]
 pub struct Ran {
     pub receipts: Vec<Receipt>,
@@ -59,7 +59,7 @@ impl Promise<Ran> for MakesCalls {
 }
 
 impl Program {
-    /// A program of an actor. Whether the calls are this actor's is judged when the program is to run.
+    /// Makes a program of an actor. Whether the calls are this actor's is judged when the program is to run.
     pub fn new(actor: Actor, calls: Vec<Call>) -> Program
         ensures { result ≡ record { actor = actor; calls = calls.items } }
     {
@@ -80,7 +80,7 @@ impl Program {
         self.calls.as_slice()
     }
 
-    /// Adds a call behind the others. `Memory` where a growth was refused, and then nothing has changed.
+    /// Adds a call after the others. `Memory` if memory cannot be had, and then nothing has changed.
     pub fn add(&mut self, call: Call) -> Result<(), Memory>
         ensures more { OnOk result (self.new ≡ grown self.old call) }
         ensures err { OnErr result (self.new ≡ self.old) }
@@ -90,7 +90,7 @@ impl Program {
         Ok(())
     }
 
-    /// What a thread promises that makes the calls.
+    /// What a thread promises to do: to make the calls.
     pub fn promise(&self) -> MakesCalls
         ensures { result.0.value.items ≡ self.now.calls }
     {
@@ -98,7 +98,7 @@ impl Program {
     }
 }
 
-/// Makes the calls of a program in order, and ends at the first that is not made. The gate is told the numbers from
+/// Makes the calls of a program in order, and ends at the first that is not made. The gate is given the numbers from
 /// `first` on, outside the lock.
 pub fn run_program<G: Gate, R: Wait>(
     rt: &R,

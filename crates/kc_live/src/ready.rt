@@ -9,8 +9,8 @@ use kc_types::{Call, Memory, ReplyBuffer};
 use std::alloc::Global;
 use std::marker::Model;
 
-/// A call with all the memory that making it cannot do without. History and receipt each hold the call and its reply, and share the
-/// bytes of both; a second buffer is there for the case that the reply's cannot be shared.
+/// A call with all the memory that making it needs. History and receipt each hold the call and its reply, and share the bytes
+/// of both; a second buffer is there in case the reply's bytes cannot be shared.
 #[derive(Debug, Drop)]
 pub struct Ready {
     alloc: Global,
@@ -32,7 +32,7 @@ impl Model for Ready {
 }
 
 impl Ready {
-    /// Makes a call ready; `Memory` where a growth was refused.
+    /// Makes a call ready; `Memory` if memory cannot be had.
     pub fn new(alloc: Global, call: Call) -> Result<Ready, Memory>
         // No clause can rule out that memory runs out: tests make calls ready.
         ensures { IfOk result (λ ready. ready ≡ call) }
@@ -49,8 +49,8 @@ impl Ready {
         })
     }
 
-    /// Makes the call of a core, for which memory cannot run out: what the history keeps of it, and the receipt, with
-    /// this place in this volume.
+    /// Makes the call of a core, for which memory cannot run out, and gives what the history keeps of it, and the receipt,
+    /// with this place in this volume.
     pub fn make(self, core: &mut KCore, volume: u64, number: u32) -> (Entry, Receipt)
         ensures entry { result.0 ≡ entry self (next core.old self).0 }
         ensures receipt { result.1 ≡ record { volume = volume; number = number; call = self; reply = (next core.old self).0 } }

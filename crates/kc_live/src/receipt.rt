@@ -1,4 +1,4 @@
-//! What a call leaves behind.
+//! What is kept of a call.
 
 use kc_types::{Call, Reply};
 
@@ -9,11 +9,11 @@ pub struct Entry {
     pub reply: Reply,
 }
 
-/// What the caller of a live call keeps of it. It is a plain value, which anyone can make: whether it stands in a
+/// What the caller of a live call keeps of it. It is a plain value, which anyone can make: whether it is one of a
 /// history is decided by `settle`.
 #[derive(Debug, Drop, PartialEq)]
 pub struct Receipt {
-    /// The number of the volume that the call stands in, from 0.
+    /// The number of the volume that the call is in, from 0.
     pub volume: u64,
     /// The place of the call in that volume, from 0.
     pub number: u32,

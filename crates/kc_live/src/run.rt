@@ -22,7 +22,7 @@ use std::alloc::Global;
 use std::sync::Wait;
 use std::thread::Threads;
 
-/// A run that was refused before it began.
+/// Gives the stop of a run that was refused before it began.
 pub fn refused(cause: LiveCause) -> LiveStop
     ensures { result ≡ record { cause = cause; history = None; is_settled = false } }
 {
@@ -33,7 +33,7 @@ pub fn refused(cause: LiveCause) -> LiveStop
     }
 }
 
-/// A run that left a history.
+/// Gives the stop of a run that left a history.
 fn stopped(cause: LiveCause, history: History, is_settled: bool) -> LiveStop
     ensures { result ≡ record { cause = cause; history = Some history; is_settled = is_settled } }
 {
@@ -44,7 +44,7 @@ fn stopped(cause: LiveCause, history: History, is_settled: bool) -> LiveStop
     }
 }
 
-/// All that a run takes of memory beside its calls, made before it begins: a copy of the configuration, the core, room
+/// Takes all memory that a run needs beside its calls, before it begins: a copy of the configuration, the core, room
 /// to settle its history, and places for the threads of this many programs.
 fn open(
     alloc: Global,
@@ -62,7 +62,7 @@ fn open(
     Ok((kept, core, marks, places))
 }
 
-/// What is wrong with the programs.
+/// Judges the programs: what is wrong with them, if anything is.
 fn early_stop(config: &Config, programs: &[Program]) -> Option<LiveCause>
     ensures cause { MatchOption result (MayRunTogether config.now programs.now) (IsCauseOf config.now programs.now) }
     ensures early { IfSome result (λ cause. FitsHistory cause false) }
@@ -121,13 +121,13 @@ fn is_answer(config: &Config, history: &History, marks: Marks, rows: &[Vec<Recei
         && marks.settle(history.volume(), rows)
 }
 
-/// Runs each program in a thread of its own, and answers the closed history and each program's receipts.
+/// Runs each program in a thread of its own, and gives the closed history and each program's receipts.
 ///
 /// Before the run the programs are judged: `BadActor`, `NotYours` and `HistoryFull` come in this order. Each thread is
-/// joined, whatever comes; a program that is out of memory makes no more calls, one whose thread could not be
+/// joined, whatever happens; a program that is out of memory makes no more calls, one whose thread could not be
 /// started makes none, and the others go on to their ends. Then the receipts are settled with the history. `Start` goes
-/// before `Memory`, and both before `Unsettled`, where the receipts are not the history's. The gate is told call `j` of
-/// program `p` by the number `j` plus the lengths of the programs before `p`, outside the lock.
+/// before `Memory`, and both before `Unsettled`, if the receipts are not the history's. For call `j` of program `p` the
+/// gate is given `j` plus the lengths of the programs before `p`, outside the lock.
 pub fn run_live<G: Gate + Sync, R: Threads + Wait + Sync>(
     rt: &R,
     alloc: Global,

@@ -29,7 +29,7 @@ impl Model for Seat {
 impl Seat {
     ghost use Rattle.kc_live.specs.Seat.{GainsReceipt, new_seat};
 
-    /// A seat with no receipts.
+    /// Makes a seat with no receipts.
     pub fn new(alloc: Global, actor: Actor) -> Seat
         ensures { result ≡ new_seat actor }
     {
@@ -54,8 +54,8 @@ impl Seat {
         receipts
     }
 
-    /// Makes one call of the book under its lock, and keeps its receipt; it may wait for the lock, before which all is made
-    /// that the call cannot do without of memory, the place of its receipt too. The faults are those of `LiveCore::call`.
+    /// Makes one call of the book under its lock, and keeps its receipt; it may wait for the lock, and takes all memory that
+    /// the call needs before, also for its receipt. The faults are those of `LiveCore::call`.
     pub(crate) fn make<R: Wait>(
         &mut self,
         rt: &R,

@@ -51,7 +51,7 @@ fn is_next(volume: &Volume, seen: &[bool], least: u64, receipt: &Receipt) -> boo
     is_of(entry, receipt)
 }
 
-/// Whether the receipts of a row may come next, in order; it marks them.
+/// Marks the receipts of a row, if they may come next, in order; gives whether they may.
 fn mark_row(volume: &Volume, seen: &mut [bool], row: &[Receipt]) -> bool
     requires { length seen.old ≡ length volume.now.entries }
     ensures fits { IsTrue result ↔ RowFits volume.now seen.old 0 row.now }
@@ -68,7 +68,7 @@ fn mark_row(volume: &Volume, seen: &mut [bool], row: &[Receipt]) -> bool
     true
 }
 
-/// Whether all rows may come next, and leave no entry unmarked.
+/// Marks the receipts of all rows; gives whether each may come next, and no entry is left unmarked.
 fn mark_rows(volume: &Volume, seen: &mut [bool], rows: &[Vec<Receipt>]) -> bool
     requires { length seen.old ≡ length volume.now.entries }
     ensures { IsTrue result ↔ RowsFit volume.now seen.old (map (λ v. v.items) rows.now) }
@@ -98,7 +98,7 @@ impl Model for Marks {
 }
 
 impl Marks {
-    /// Room for a volume of this many calls; `Memory` where a growth was refused.
+    /// Makes room for a volume of this many calls; `Memory` if memory cannot be had.
     pub fn with_room(alloc: Global, calls: usize) -> Result<Marks, Memory>
         // No clause can rule out that memory runs out: tests settle.
         ensures { IfOk result (λ marks. marks ≡ calls) }
@@ -108,9 +108,9 @@ impl Marks {
         Ok(Marks { seen })
     }
 
-    /// Whether the receipts are just those of a volume's entries: each entry's number stands in exactly one receipt and no
-    /// other number does, each receipt is of this volume and says what its entry says, and numbers rise in each row. It
-    /// takes no memory.
+    /// Judges whether the receipts are exactly those of a volume's entries: each entry's number is in exactly one receipt and
+    /// no other number is in any, each receipt is of this volume and says what its entry says, and numbers rise in each
+    /// row. It takes no memory.
     pub fn settle(self, volume: &Volume, rows: &[Vec<Receipt>]) -> bool
         requires { length volume.now.entries ≤ self }
         ensures { IsTrue result ↔ IsSettled volume.now (map (λ v. v.items) rows.now) }
@@ -120,7 +120,7 @@ impl Marks {
     }
 }
 
-/// The same as `Marks::settle`, in room made for it; `Memory` where a growth was refused.
+/// Judges as `Marks::settle` does, in room made for it; `Memory` if memory cannot be had.
 pub fn settle(alloc: Global, volume: &Volume, rows: &[Vec<Receipt>]) -> Result<bool, Memory>
     // No clause can rule out that memory runs out: tests settle.
     ensures { IfOk result (λ yes. IsTrue yes ↔ IsSettled volume.now (map (λ v. v.items) rows.now)) }

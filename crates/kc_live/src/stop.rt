@@ -8,17 +8,17 @@ pub enum LiveCause {
     NotYours(usize, usize),
     /// There are more than 65,536 calls in all.
     HistoryFull,
-    /// A growth of memory was refused.
+    /// Memory could not be had.
     Memory,
     /// A thread could not be started.
     Start,
     /// The receipts are not those of the history, or it is of another configuration or has other volumes.
     Unsettled,
-    /// The first program whose actor an earlier program has, or is no slot or no virtual processor of the core.
+    /// The first program whose actor an earlier program has, or whose slot or virtual processor the core does not have.
     BadActor(usize),
 }
 
-/// A live run that gave no answer, and the closed history that it left: none where it did not begin.
+/// A live run that gave no answer, and the closed history that it left: none if it did not begin.
 #[derive(Drop)]
 pub struct LiveStop {
     pub cause: LiveCause,

@@ -15,7 +15,7 @@ use std::sync::Wait;
 use std::thread;
 use std::thread::{PromisedHandle, Threads};
 
-/// The thread of a program, where it could be started. Seen as the calls that it is to make.
+/// The thread of a program, if it could be started. Seen as the calls that it is to make.
 #[derive(Drop)]
 struct Running {
     promise: MakesCalls,
@@ -74,7 +74,7 @@ impl Model for Places {
 }
 
 impl Places {
-    /// Places for this many programs; `Memory` where a growth was refused.
+    /// Makes places for this many programs; `Memory` if memory cannot be had.
     pub fn with_room(alloc: Global, programs: usize) -> Result<Places, Memory>
         // No clause can rule out that memory runs out: tests run programs.
         ensures { IfOk result (λ places. programs ≤ places) }
@@ -94,14 +94,14 @@ impl Places {
     }
 }
 
-/// What the threads of a run made: each program's receipts, and why not all calls were made, where that is so.
+/// What the threads of a run made: each program's receipts, and why not all calls were made, if they were not.
 #[derive(Drop)]
 pub struct Made {
     pub rows: Vec<Vec<Receipt>>,
     pub stop: Option<ThreadStop>,
 }
 
-/// What is told of two threads: a start that was refused goes first, then out of memory.
+/// Chooses what is reported of two threads: a start that was refused goes first, then out of memory.
 fn graver(met: Option<ThreadStop>, stop: Option<ThreadStop>) -> Option<ThreadStop>
     ensures { result ≡ graver met stop }
 {

@@ -19,7 +19,7 @@ use Rattle.kc_model.specs.Blanking.{blank_state}
 use Rattle.kc_model.proofs.States.ZeroPage.{zeros-are_bytes}
 use Rattle.kc_model.proofs.Redaction.Traces.{bytes_decide_nothing}
 use Rattle.kc_model.proofs.Redaction.Blank.{told_alike, audited_blank}
-use Rattle.kc_trace.specs.Spelling.{lines_of, trace_header, text_of, stands_in}
+use Rattle.kc_trace.specs.Spelling.{lines_of, trace_header, text_of, is_allowed_in}
 use Rattle.kc_trace.specs.Trace.{IsCallOf, AreCalls, IsTrace}
 use Rattle.kc_redact.specs.Redacted.{blanked, redacted_call, redacted_line, redacted, redacted_in, redacted_from, all_frames, DifferInBytes, IsRedaction, IsHostRedaction}
 
@@ -53,7 +53,7 @@ blanked-is bytes is =
       each_byte = zeros-are_bytes (length bytes);
     }
 
-stands-too : (version : Version) (call : Call) → stands_in version call ≡ true → stands_in version (redacted_call call) ≡ true
+stands-too : (version : Version) (call : Call) → is_allowed_in version call ≡ true → is_allowed_in version (redacted_call call) ≡ true
 stands-too One (GuestWrite v c g off bytes) h = refl
 stands-too One _ h = h
 stands-too Two _ h = refl
@@ -91,7 +91,7 @@ data-kept false bytes is = blanked-is bytes is
 host-is : (m : State) (version : Version) (call : Call) → IsCallOf version call → IsCallOf version (redacted_in all_frames m call)
 host-is m version (HostWrite f off bytes) is = ((is.0.0, is.0.1, data-kept (counts all_frames m f (frame_at m f).owner) bytes is.0.2), host-stands version is.1)
   where
-    host-stands : (v : Version) → stands_in v (HostWrite f off bytes) ≡ true → stands_in v (redacted_in all_frames m (HostWrite f off bytes)) ≡ true
+    host-stands : (v : Version) → is_allowed_in v (HostWrite f off bytes) ≡ true → is_allowed_in v (redacted_in all_frames m (HostWrite f off bytes)) ≡ true
     host-stands One h = refl
     host-stands Two h = refl
 host-is m version (GuestWrite v c g off bytes) is = redacted-is version (GuestWrite v c g off bytes) is
@@ -118,7 +118,7 @@ keeps-all : (calls : List Call) → KeepsImages all_frames calls
 keeps-all [] = tt
 keeps-all (call ∷ calls) = (keeps-call call, keeps-all calls)
 
--- the redacted calls from any such state say what they say from the blank one, and that is what the calls say
+-- from any such state, the redacted calls say what they say from the blank one, and that is what the calls say
 record SaysTheSame (m n : State) (calls : List Call) : Type 0 where
   pub events : events n (redacted_from m calls) ≡ events m calls
   pub custody : custody n (redacted_from m calls) ≡ custody m calls

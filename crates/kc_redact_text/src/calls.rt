@@ -16,7 +16,7 @@ enum Kept {
     Whole(Call),
 }
 
-/// A call of a redacted trace. Of bytes that it writes and that are not shown it keeps only the number.
+/// A call of a redacted trace. It keeps only the number of the bytes that it writes and that are not shown.
 #[derive(Debug, Drop)]
 pub struct RedactedCall {
     kept: Kept,
@@ -59,8 +59,8 @@ impl RedactedCall {
         }
     }
 
-    /// Redacts a call: it has zeros in place of the bytes that it writes, also of those that the host writes. The
-    /// memory of those is zeroed.
+    /// Redacts a call: it has zeros in place of the bytes that it writes, even if the host writes them. The memory of
+    /// those is zeroed.
     pub fn blanked(call: Call) -> RedactedCall
         ensures { result ≡ blanked_call call }
     {

@@ -221,31 +221,3 @@ pub fn replay<R: Threads + Wait + Sync, G: Gate + Sync>(
     let core = replayer.finish()?;
     Ok(Outcome { replies, core })
 }
-
-/// Makes the calls of a volume from a core on, by 1 to 64 workers: the replies, in the order of the volume, and the
-/// core with its page records, lists, tables and bytes are those of one thread that makes the calls in that order.
-/// `BadWorkers` for any other number of workers; `Start` if a worker could not be started, otherwise `Memory` if
-/// memory cannot be had, and then all pages are wiped.
-pub fn replay_from<R: Threads + Wait + Sync, G: Gate + Sync>(
-    rt: &R,
-    alloc: Global,
-    core: KCore,
-    calls: &[Call],
-    workers: usize,
-    gate: &G,
-) -> Result<Outcome, ReplayFault>
-    requires { length calls.now ≤ call_limit }
-    ensures blind { IfOk result (λ outcome. ShowsNothing core calls.now outcome.replies.items outcome.core) }
-    ensures promises { OnOk result (KeepsPromises core calls.now) }
-    ensures replies { IfOk result (λ outcome. outcome.replies.items ≡ replies_from core calls.now) }
-    ensures state { IfOk result (λ outcome. outcome.core ≡ state_after core calls.now) }
-    ensures workers { OnOk result ((0 < workers) × (workers ≤ worker_limit)) }
-    ensures bad_workers { IfErr result (λ fault. (fault ≡ BadWorkers) ↔ ((workers ≡ 0) ⊎ (worker_limit < workers))) }
-    ensures whole { result ≢ Err Broken }
-    ensures started { result ≡ Err ReplayFault.Start → 1 < workers }
-{
-    let mut replayer = Replayer::from_core(core, workers)?;
-    let replies = replayer.feed(rt, alloc, calls, gate)?;
-    let core = replayer.finish()?;
-    Ok(Outcome { replies, core })
-}

@@ -1,9 +1,9 @@
 -- The lines of a session are those of a trace.
-use Rattle.std.proofs.Common.{◌≡◌, ◌≤◌, ◌<◌, List, [], ◌∷◌, ◌++◌, map, ℕ, suc, ◌+◌, ◌-◌, length, take, drop, get_or, refl, ap, sym, subst, ◌∙◌, append_assoc, take-append-drop, length-append, arith}
+use Rattle.std.proofs.Common.{◌≡◌, ◌≤◌, List, [], ◌∷◌, ◌++◌, map, ℕ, suc, ◌+◌, length, refl, ap, sym, subst, arith}
 use Rattle.std.specs.Prelude.{slice_get, option_map}
 use Rattle.std.specs.List.{AllByRecursion, concat}
 use Rattle.std.proofs.lemmas.Option.{slice_get-map}
-use Rattle.std.proofs.lemmas.List.{length-map, length-drop, map-append, take-append-le, take_all, take_more}
+use Rattle.std.proofs.lemmas.List.{length-map}
 use Rattle.kc_types.specs.Limits.{call_limit}
 use Rattle.kc_types.specs.declared.call.Call.{Call}
 use Rattle.kc_types.specs.declared.version.Version.TheVariants.{Two}
@@ -13,8 +13,7 @@ use Rattle.kc_trace.specs.Trace.{AreCalls, IsTrace}
 use Rattle.kc_live.specs.declared.receipt.Entry.{Entry}
 use Rattle.kc_live.specs.Book.{Log, calls_of}
 use Rattle.kc_redact.specs.Redacted.{redacted, redacted_line, IsRedaction}
-use Rattle.kc_redact.specs.Witness.{witnessed, HasSeen}
-use Rattle.sha2.specs.declared.Sha256.{Sha256}
+use Rattle.kc_redact.specs.Witness.{witnessed}
 use Rattle.kc_redact.proofs.Redacted.{is_redaction}
 use Rattle.kc_session.specs.declared.session.Form.{Form}
 use Rattle.kc_session.specs.Session.{trace_lines, redacted_lines, lines_in, line_in}
@@ -63,35 +62,3 @@ lines_are_witnessed log = ap (λ rest. trace_header Two ++ rest) (joined_redacte
 pub lines_are_redacted : (log : Log) → AllByRecursion IsRanged (calls_of log.entries) → length log.entries ≤ call_limit → IsRedaction (concat (trace_lines log)) (concat (redacted_lines log)) (calls_of log.entries)
 unfolding is_trace
 lines_are_redacted log ranged short = is_redaction (concat (trace_lines log)) (concat (redacted_lines log)) (calls_of log.entries) (is_trace log ranged short) (lines_are_witnessed log)
-
--- one entry more
-pub noted_more : (calls : List Call) (entries : List Entry) (entry : Entry) (n : ℕ) → n < length entries → entry ≡ get_or entries n entry → (calls ++ calls_of (take n entries)) ++ entry.call ∷ [] ≡ calls ++ calls_of (take (n + 1) entries)
-noted_more calls entries entry n lt is =
-    let one = get_or entries n entry in
-    let more : calls_of (take (n + 1) entries) ≡ calls_of (take n entries) ++ one.call ∷ [] =
-    ap calls_of (take_more entries n entry lt) ∙ map-append (λ (e : Entry). e.call) (take n entries) (one ∷ []) in
-    append_assoc calls (calls_of (take n entries)) (entry.call ∷ [])
-    ∙ ap (λ (e : Entry). calls ++ (calls_of (take n entries) ++ e.call ∷ [])) is
-    ∙ ap (λ rest. calls ++ rest) (sym more)
-
--- those that were seen, and the others
-pub seen_and_rest : (entries : List Entry) (n : ℕ) → calls_of (take n entries) ++ calls_of (drop n entries) ≡ calls_of entries
-seen_and_rest entries n = sym (map-append (λ (e : Entry). e.call) (take n entries) (drop n entries)) ∙ ap calls_of (take-append-drop n entries)
-
-pub all_seen : (hasher : Sha256) (entries shown : List Entry) (n : ℕ) → shown ≡ entries → HasSeen hasher (calls_of (take n entries) ++ calls_of (take (length shown - n) (drop n shown))) → HasSeen hasher (calls_of entries)
-all_seen hasher entries shown n same seen =
-    let rest : take (length shown - n) (drop n shown) ≡ drop n shown = take_all (length shown - n) (drop n shown) (omega (arith, length-drop n shown)) in
-    subst (λ (calls : List Call). HasSeen hasher calls)
-    (ap (λ (es : List Entry). calls_of (take n entries) ++ calls_of es) (rest ∙ ap (drop n) same) ∙ seen_and_rest entries n) seen
-
-pub all_seen_again : (hasher : Sha256) (entries shown : List Entry) → shown ≡ entries → HasSeen hasher (calls_of entries) → HasSeen hasher (calls_of (take (length shown) entries))
-all_seen_again hasher entries shown same seen =
-    let few : length entries ≤ length shown = omega (arith, ap length same) in
-    subst (λ (calls : List Call). HasSeen hasher calls) (sym (ap calls_of (take_all (length shown) entries few))) seen
-
--- an entry more, which the witness has not seen
-pub more_seen : (entries new : List Entry) (one : Entry) (seen : ℕ) (witness : Sha256) → new ≡ entries ++ one ∷ [] → IsRanged one.call → AllByRecursion IsRanged (calls_of entries) → seen ≤ length entries → HasSeen witness (calls_of (take seen entries)) → length entries < call_limit
-    → AllByRecursion IsRanged (calls_of new) × (seen ≤ length new) × HasSeen witness (calls_of (take seen new)) × (length new ≤ call_limit)
-more_seen entries new one seen witness made ranged all some noted few =
-    let long : length (entries ++ one ∷ []) ≡ length entries + 1 = length-append entries (one ∷ []) in
-    rw made (with_one_more entries one all ranged, omega (arith, some, long), rw (take-append-le seen entries (one ∷ []) some) noted, omega (arith, few, long))

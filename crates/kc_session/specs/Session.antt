@@ -70,7 +70,7 @@ IsUnmade asker kept call NotYours = IsAnothers asker call
 IsUnmade asker kept call HistoryFull = IsOf asker call × (length kept.log.entries ≡ call_limit)
 IsUnmade asker kept call Memory = Unit {0}
 
--- why a line is not answered: it is not a call, or it is one that is not made, or memory was short
+-- why a line is not answered: it is not a call, or the call is not made, or memory was short
 abbrev pub IsUnanswered : Option Actor → Kept → List ℕ → AskFault → Type 0
 IsUnanswered asker kept line BadLine = call_of line ≡ None
 IsUnanswered asker kept line Memory = Unit {0}
@@ -81,7 +81,7 @@ abbrev pub line_in : Form → Call → List ℕ
 line_in Whole call = line_of call ++ 10 ∷ []
 line_in Redacted call = redacted_line call
 
--- the trace of a volume in a form, line by line: the header under which every call may stand, and the calls
+-- the trace of a volume in a form, line by line: the header under which any call may come, and the calls
 abbrev pub lines_in : Form → Log → List (List ℕ)
 lines_in form log = trace_header Two ∷ map (λ entry. line_in form entry.call) log.entries
 

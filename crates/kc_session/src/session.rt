@@ -2,6 +2,7 @@
 ghost use Rattle.std.specs.Prelude.{◌≡◌, ◌≤◌, ◌+◌, ◌++◌, List, true, false, length, vec_len, vec_capacity, slice_get, option_map, IfOk, IfErr, OnOk, OnErr};
 ghost use Rattle.std.specs.List.{concat};
 ghost use Rattle.kc_types.specs.Limits.{byte_limit, call_limit};
+ghost use Rattle.kc_model.specs.Lawful.{IsLawful};
 ghost use Rattle.kc_model.specs.Volumes.{IsCoreState};
 ghost use Rattle.kc_trace.specs.ReplyText.{longest_reply};
 ghost use Rattle.kc_trace.specs.Spelling.{longest_call};
@@ -9,23 +10,21 @@ ghost use Rattle.kc_trace.specs.Trace.{IsTrace};
 ghost use Rattle.sha2.specs.Sha256.{sha256};
 ghost use Rattle.kc_types.specs.declared.call.Call.{Call};
 ghost use Rattle.kc_model.specs.Ranged.{IsRanged};
-ghost use Rattle.kc_live.specs.Book.{calls_of, reply_to};
+ghost use Rattle.kc_live.specs.Book.{IsServed, calls_of, reply_to};
 ghost use Rattle.kc_redact.specs.Redacted.{IsRedaction};
-ghost use Rattle.kc_redact.specs.Witness.{HasSeen};
 ghost use Rattle.kc_state_text.specs.Refused.{IsRefusedState};
 ghost use Rattle.kc_state_text.specs.StateText.{state_text};
 ghost use Rattle.kc_session.specs.Session.{new_session, begun, turned, with_call, IsOf, IsAnothers, IsAnswer, IsUnmade, IsUnanswered, trace_lines, redacted_lines, lines_in, line_in};
 
 use kc_core::KCore;
 use kc_custody::{note_marks, tell_marks};
-use kc_live::{Entry, Ready};
-use kc_redact::{Witness, push_redacted};
+use kc_live::{Entry, Journal, Ready};
+use kc_redact::push_redacted;
 use kc_state_text::{StateFault, read_state_alone};
 use kc_trace::{LONGEST_CALL, LONGEST_REPLY, call_of_line, push_call, push_header, push_reply};
 use kc_types::{Actor, CALL_LIMIT, Call, Config, FrameChange, Memory, Reply, Version, actor_of};
 use std::alloc::{AllocError, Global};
 use std::marker::Model;
-use std::mem;
 
 /// The line of a trace's first call, after its header.
 const FIRST_LINE: u32 = 2;
@@ -33,13 +32,13 @@ const FIRST_LINE: u32 = 2;
 /// Why a line was not answered, or a call not made. Nothing has changed then.
 #[derive(Clone, Copy, Debug, PartialEq, Eq)]
 pub enum AskFault {
-    /// The line is no call.
+    /// The line is not a call.
     BadLine,
-    /// The call is another's than the one's that asks.
+    /// The call is not the asker's.
     NotYours,
-    /// It is a call, and the volume has 65,536 calls.
+    /// The volume has 65,536 calls.
     HistoryFull,
-    /// A growth of memory was refused.
+    /// Memory could not be had.
     Memory,
 }
 
@@ -63,8 +62,8 @@ impl From<AllocError> for AskFault {
     }
 }
 
-/// How the lines of a volume's trace are told: as they are, or with zeros in the place of the bytes that virtual processors
-/// wrote.
+/// How the lines of a volume's trace are given: as they are, or with zeros in place of the bytes that virtual processors
+/// write.
 #[derive(Clone, Copy, Debug, PartialEq, Eq)]
 pub enum Form {
     Whole,
@@ -79,15 +78,6 @@ fn push_line(text: &mut Vec<u8>, form: Form, call: &Call)
     match form {
         Form::Whole => push_call(text, call),
         Form::Redacted => push_redacted(text, call),
-    }
-}
-
-/// Has a witness see the calls of some entries more.
-fn note_each(witness: &mut Witness, entries: &[Entry])
-    ensures { (calls : List Call) → HasSeen witness.old calls → HasSeen witness.new (calls ++ calls_of entries.now) }
-{
-    for entry in entries {
-        witness.note(&entry.call);
     }
 }
 
@@ -107,13 +97,7 @@ fn is_of(asker: Option<Actor>, call: &Call) -> bool
 #[derive(Drop)]
 pub struct Session {
     alloc: Global,
-    core: KCore,
-    /// The number of the volume, from 0.
-    volume: u64,
-    entries: Vec<Entry>,
-    witness: Witness,
-    /// How many calls of the volume the witness has seen.
-    seen: usize,
+    journal: Journal,
     changes: Vec<FrameChange>,
     /// Room for what is noted before a call.
     marks: Vec<FrameChange>,
@@ -124,41 +108,35 @@ impl Model for Session {
     ghost use Rattle.std.specs.FinMap as map;
     ghost use Rattle.std.specs.List.{AllByRecursion};
     ghost use Rattle.std.specs.Ordering.{nat_cmp};
-    ghost use Rattle.kc_types.specs.Limits.{call_limit};
     ghost use Rattle.kc_model.specs.Ranged.{IsRanged};
-    ghost use Rattle.std.specs.Prelude.{◌≤◌, length, take, vec_capacity};
-    ghost use Rattle.kc_live.specs.Book.{calls_of, log};
-    ghost use Rattle.kc_redact.specs.Witness.{HasSeen};
+    ghost use Rattle.kc_live.specs.Book.{calls_of};
     ghost use Rattle.kc_session.specs.Session.{Kept};
 
     ghost Value = { Kept };
 
     ghost coded = { Prim.hlevel (codes, map.code {R = nat_cmp} coded_ℕ coded_ℕ) };
 
-    ghost view = { λ s. record { log = log s.volume s.entries.items s.core; changes = s.changes.items } };
+    ghost view = { λ s. record { log = s.journal; changes = s.changes.items } };
 
-    ghost invariant = { λ s. AllByRecursion IsRanged (calls_of s.entries.items) × (s.seen ≤ length s.entries.items) × HasSeen s.witness (calls_of (take s.seen s.entries.items))
-        × (length s.entries.items ≤ call_limit) × (call_limit ≤ vec_capacity s.entries) };
+    ghost invariant = { λ s. AllByRecursion IsRanged (calls_of s.journal.entries) };
 }
 
 impl Session {
-    /// A core that was asked nothing yet.
+    /// Begins with a core that was asked nothing yet.
     fn of(alloc: Global, core: KCore) -> Result<Session, Memory>
+        requires { IsLawful core }
         ensures { IfOk result (λ session. session ≡ begun core) }
     {
         Ok(Session {
             alloc,
-            core,
-            volume: 0,
-            entries: Vec::with_capacity(alloc, CALL_LIMIT)?,
-            witness: Witness::new(alloc)?,
-            seen: 0,
+            journal: Journal::of(alloc, core)?,
             changes: Vec::new(alloc),
             marks: Vec::new(alloc),
         })
     }
 
-    /// The core in the boot state of its configuration, asked nothing yet; `Memory` where a growth was refused.
+    /// Opens a session with the core in the boot state of its configuration, asked nothing yet; `Memory` if memory cannot be
+    /// had.
     pub fn new(alloc: Global, config: Config) -> Result<Session, Memory>
         // No clause can rule out that memory runs out: tests open sessions.
         ensures { IfOk result (λ session. session ≡ new_session config) }
@@ -166,8 +144,8 @@ impl Session {
         Session::of(alloc, KCore::boot(alloc, config)?)
     }
 
-    /// The core in the state that a text tells, of at most 1,073,741,824 bytes, asked nothing yet; else the text's first
-    /// fault. Memory is the only fault that says nothing of it.
+    /// Opens a session with the core in the state that a text of up to 1,073,741,824 bytes describes, asked nothing yet; else
+    /// gives the text's first fault, or `Memory`, which may come whatever the text is.
     pub fn resume(alloc: Global, text: &[u8]) -> Result<Session, StateFault>
         requires { length text.now ≤ byte_limit }
         // What is read is the state's one text.
@@ -183,8 +161,8 @@ impl Session {
         }
     }
 
-    /// Makes a call if it is the asker's, or anybody's if nobody is named: its reply. `NotYours` if it is another's,
-    /// `HistoryFull` if the volume has 65,536 calls, `Memory` if a growth was refused: all memory is taken before the
+    /// Makes a call if it is the asker's, or anybody's if nobody is named, and gives its reply. `NotYours` if it is another's,
+    /// `HistoryFull` if the volume has 65,536 calls, `Memory` if memory cannot be had: all memory is taken before the
     /// call, so that nothing has changed then.
     pub fn make(&mut self, asker: Option<Actor>, call: Call) -> Result<Reply, AskFault>
         requires { IsRanged call }
@@ -197,29 +175,27 @@ impl Session {
         if !is_of(asker, &call) {
             return Err(AskFault::NotYours);
         }
-        let number = self.entries.len() as u32;
+        let line = self.journal.entries().len() as u32 + FIRST_LINE;
         self.marks.clear();
         note_marks(
             self.alloc,
-            &self.core,
+            self.journal.core(),
             &call,
-            number + FIRST_LINE,
+            line,
             &mut self.marks,
         )?;
         self.changes.reserve(self.marks.len())?;
         let ready = Ready::new(self.alloc, call)?;
-        if self.entries.len() >= CALL_LIMIT {
+        let Ok(receipt) = self.journal.step(ready) else {
             return Err(AskFault::HistoryFull);
-        }
-        let (entry, receipt) = ready.make(&mut self.core, self.volume, number);
-        self.entries.push_reserved(entry);
+        };
         self.changes.clear();
-        tell_marks(&self.core, &self.marks, &mut self.changes);
+        tell_marks(self.journal.core(), &self.marks, &mut self.changes);
         Ok(receipt.reply)
     }
 
-    /// Answers the call that a line is, given without its newline, as `make` does: the line of its reply, with its newline.
-    /// `BadLine` if it is not a call, `Memory` if a growth was refused, whatever the line is.
+    /// Answers the call that a line is, given without its newline, as `make` does, with the line of its reply and a newline.
+    /// `BadLine` if it is not a call, `Memory` if memory cannot be had, whatever the line is.
     pub fn ask(&mut self, asker: Option<Actor>, line: &[u8]) -> Result<Vec<u8>, AskFault>
         ensures reply { IfOk result (λ told. IsAnswer asker self.old self.new line.now told.items) }
         ensures short { IfOk result (λ told. vec_len told ≤ longest_reply) }
@@ -235,7 +211,7 @@ impl Session {
         Ok(told)
     }
 
-    /// What the last call that was answered changed of the custody of frames, in rising order of frames; nothing if no
+    /// What the last call that was answered changed of the custody of frames, in ascending order of frames; nothing if no
     /// call was.
     pub fn changes(&self) -> &[FrameChange]
         ensures { result.now ≡ self.now.changes }
@@ -243,58 +219,54 @@ impl Session {
         self.changes.as_slice()
     }
 
-    /// How many calls more the volume has room for.
+    /// How many further calls the volume has room for.
     pub fn left(&self) -> u32
         ensures { result + length self.now.log.entries ≡ call_limit }
     {
-        (CALL_LIMIT - self.entries.len()) as u32
+        (CALL_LIMIT - self.journal.entries().len()) as u32
     }
 
     /// The core as the calls so far left it.
     pub fn core(&self) -> &KCore
         ensures { result.now ≡ self.now.log.state }
     {
-        &self.core
+        self.journal.core()
     }
 
     /// Hands out the calls of the volume with their replies, full or not, and begins the next one with the core as it is:
-    /// the lines from then on are of the next one. `Memory` where the room for its calls was refused.
+    /// the lines from then on are of the next one. `Memory` if the room for its calls cannot be had.
     pub fn turn(&mut self) -> Result<Vec<Entry>, Memory>
         ensures entries { IfOk result (λ entries. entries.items ≡ self.old.log.entries) }
+        // One thread gets these replies.
+        ensures served { OnOk result (IsServed self.old.log) }
         ensures next { OnOk result (self.new ≡ turned self.old) }
         ensures err { OnErr result (self.new ≡ self.old) }
     {
         let room = Vec::with_capacity(self.alloc, CALL_LIMIT)?;
-        self.witness.restart();
-        self.seen = 0;
-        self.volume = self.volume.saturating_add(1);
-        Ok(mem::replace(&mut self.entries, room))
+        Ok(self.journal.turn(room))
     }
 
-    /// The SHA-256 digest of the volume's redacted trace so far: of its redacted lines, one after the other. The calls since
-    /// it was last asked are hashed now. No memory is taken.
+    /// Gives the SHA-256 digest of the volume's redacted trace so far: of its redacted lines, one after the other. The calls
+    /// since it was last asked are hashed now. No memory is taken.
     pub fn digest(&mut self) -> [u8; 32]
         ensures digest { result ≡ sha256 (concat (redacted_lines self.old.log)) }
         ensures redaction { IsRedaction (concat (trace_lines self.old.log)) (concat (redacted_lines self.old.log)) (calls_of self.old.log.entries) }
         ensures same { self.new ≡ self.old }
     {
-        let entries = self.entries.as_slice();
-        note_each(&mut self.witness, &entries[self.seen..]);
-        self.seen = entries.len();
-        self.witness.digest()
+        self.journal.digest()
     }
 
-    /// How many lines the volume's trace has: the header, and a line for each call that was answered. All of them, one
+    /// Counts the lines of the volume's trace: the header, and a line for each call that was answered. All of them, one
     /// after the other, are the trace of these calls.
     pub fn lines(&self) -> usize
         ensures count { result ≡ length (trace_lines self.now.log) }
         ensures trace { IsTrace (concat (trace_lines self.now.log)) (calls_of self.now.log.entries) }
     {
-        self.entries.len() + 1
+        self.journal.entries().len() + 1
     }
 
-    /// A line of that trace in a form, by its place from 0, with its newline. `None` where there are no more; `Memory` where a
-    /// growth was refused.
+    /// Gives a line of that trace in a form, by its place from 0, with its newline. `None` if it has no such line; `Memory` if
+    /// memory cannot be had.
     pub fn line(&self, form: Form, number: usize) -> Result<Option<Vec<u8>>, Memory>
         ensures { IfOk result (λ told. option_map (λ line. line.items) told ≡ slice_get (lines_in form self.now.log) number) }
     {
@@ -304,8 +276,7 @@ impl Session {
             return Ok(Some(told));
         }
         let place = number - 1;
-        let entries = self.entries.as_slice();
-        let Some(entry) = entries.get(place) else {
+        let Some(entry) = self.journal.entries().get(place) else {
             return Ok(None);
         };
         push_line(&mut told, form, &entry.call);

@@ -1,4 +1,4 @@
--- The parts that are made of what is told are those of a core, of which it is told.
+-- The parts that are made from a description are those of a core, which it describes.
 use denote.Bor.{Bor}
 use Rattle.std.proofs.Common.{ℕ, ◌≡◌, ◌<◌, ◌≤◌, inl, inr, true, false, cond, List, [], length, map, get_or, Option, Some, None, is_some, All, refl, sym, ap, subst, ◌∙◌, arith}
 use Rattle.std.specs.List.{range_with_len}
@@ -39,11 +39,11 @@ use Rattle.kc_state.proofs.Mapped.{entry-key, has}
 use Rattle.kc_state.proofs.Shows.{Shows, SharesInActive}
 use Rattle.kc_state.proofs.Shown.{core-shown}
 
--- what stands where no slot is
+-- what is there if there is no slot
 abbrev no_rest : SlotRest
 no_rest = record { vcpus = no_vcpus; images = [] }
 
--- the neighbours of a page that is shown are the line's: the core's and the host's frames have none
+-- the neighbours of a page's frame are those of its line: the core's and the host's frames have none
 module _ (core f : ℕ) (line : FrameLine) (bytes : List ℕ) (is : IsSoundFrame core f line) where
   prev-shown : (shown (page_told line bytes).meta).prev ≡ line.prev
   prev-shown = by_owner line.owner refl
@@ -206,14 +206,14 @@ module _ (t : Told) (sized : IsSized t) (judged : IsJudged t) (vms : List (Optio
       let within : f < length d.frames = rw length-map-range_with_len at low in
       get_or-map-range_with_len (λ f. frame_line (frame_at m f) (link_at m f)) 0 config.frames f f absent_line within (omega arith) ∙ line-told f within)
 
-  -- of the core's state all of this is told
+  -- this is the description of the core's state
   pub told-made : told_of m ≡ t
   told-made i = record {
     rest = record { host = t.rest.host; approved = t.rest.approved; slots = rests-told i; pages = pages-told i };
     dump = record { version = d.version; core = d.core; leaves = d.leaves; free = sym (free-some config h core-made d.free refl) i; slots = slots-told i; frames = lines-told i };
   }
 
--- the same of parts that are made one after another
+-- the same for parts that are made one after another
 module _ (t : Told) (sized : IsSized t) (judged : IsJudged t) (vms : List (Option VmSlot)) (count : length vms ≡ length t.dump.slots) (each : AreVmsTold t.dump t.rest.slots vms (length t.dump.slots))
     (config : Configuration) (lines : List FrameLine) (bytes : List (List ℕ)) (pages : List Page) (free : Ends) (parts : Held) (is_config : config ≡ config_of t) (is_lines : lines ≡ t.dump.frames) (is_bytes : bytes ≡ t.rest.pages)
     (are_pages : pages ≡ map (λ f. page_told (line_at lines f) (page_of bytes f)) (range_with_len 0 (length lines))) (is_free : free ≡ t.dump.free) (are_parts : parts ≡ parts_of pages vms free) where

@@ -30,7 +30,7 @@ use Rattle.kc_vms.proofs.Rising.{empty-entries}
 use Rattle.kc_core.proofs.Ended.{first-same, last-same}
 use Rattle.kc_dump.proofs.Entries.{entry-get}
 
--- a list whose members have their neighbours in it as links is linked
+-- a list is linked if the links of its members are their neighbours in it
 linked-by : (links : Links) (before : Option ℕ) (fs : List ℕ) → IsOnce fs → ((f : ℕ) → 0 < times_in fs f → links f ≡ Some (link_after before fs f)) → NamesNeighbours links before fs None
 linked-by links before [] once each = tt
 linked-by links before (x ∷ xs) once each = (

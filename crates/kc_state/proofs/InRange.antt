@@ -52,7 +52,7 @@ ends-in limit fs low once =
     let most = sum-ones (times_in fs) limit once in
     and_from _ _ (and_from _ _ (first-below limit fs low) (last-below limit None fs refl low)) (le-leb (length fs) limit (omega (arith, all, most)))
 
--- the neighbours of a frame are below
+-- the neighbours of a frame are below this
 record NearBelow (limit : ℕ) (link : Link) : Type 0 where
   prev : is_below limit link.prev ≡ true
   next : is_below limit link.next ≡ true

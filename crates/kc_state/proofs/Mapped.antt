@@ -24,7 +24,7 @@ find-key g (e ∷ es) = elim (cases_eq e.0 g) [
   | inr other ↦ rw (keys-other g e.0 (λ s. other (sym s)), ne_eqb e.0 g other) (find-key g es)
 ]
 
--- a map has a guest frame where its entries have it
+-- a map has a guest frame if and only if its entries have it
 pub entry-key : (m : finite.FinMap nat_cmp ℕ) (g : ℕ) → is_some (finite.get m g) ≡ has (finite.entries m) g
 entry-key m g = ap is_some (finite.get-entries m g) ∙ find-key g (finite.entries m)
 

@@ -1,4 +1,4 @@
--- The slots and the pages that are made of what is told, one after another.
+-- The slots and the pages that are made from a description, one after another.
 use Rattle.std.proofs.Common.{ℕ, zero, suc, ◌≡◌, ◌<◌, ◌≤◌, ◌+◌, inl, inr, List, [], ◌∷◌, ◌++◌, length, get_or, drop, map, Option, Some, None, refl, sym, ap, subst, ◌∙◌, arith, length-append}
 use Rattle.std.specs.List.{range_with_len}
 use Rattle.std.proofs.lemmas.List.FromFn.{map-range_with_len_more}
@@ -15,7 +15,7 @@ use Rattle.kc_state.specs.Told.{SlotRest}
 use Rattle.kc_state.specs.Unlawful.{slot_rest_at}
 use Rattle.kc_state.specs.Making.{IsPlaceTold, IsVmTold, AreVmsTold}
 
--- there is a table of what a sound dump shows of a slot
+-- there is a table with what a sound dump shows of a slot
 pub mappings : (d : Dumped) (v : ℕ) → IsDump d → IsSound d → v < length d.slots → AreMappings d.leaves (slot_dump_at d v).leaves (slot_dump_at d v).entries
 mappings d v range sound low =
     let slot = sound.each_slot v low in
@@ -31,7 +31,7 @@ mappings d v range sound low =
 pub longer : {X : Type 0} (old new : List X) (x : X) (n : ℕ) → length old ≡ n → new ≡ old ++ x ∷ [] → length new ≡ n + 1
 longer old new x n count pushed = ap length pushed ∙ length-append old (x ∷ []) ∙ ap (λ k. k + 1) count
 
--- one slot more
+-- one more slot
 pub vms-more : (d : Dumped) (rests : List SlotRest) (n : ℕ) (old new : List (Option VmSlot)) (vm : VmSlot) → length old ≡ n → AreVmsTold d rests old n → new ≡ old ++ Some vm ∷ [] → IsVmTold d.leaves (slot_dump_at d n) (slot_rest_at rests n) vm → AreVmsTold d rests new (n + 1)
 vms-more d rests n old new vm count each pushed is v low = subst (λ (vms : List (Option VmSlot)). IsPlaceTold d.leaves (slot_dump_at d v) (slot_rest_at rests v) (get_or vms v None)) (sym pushed) (elim (cases_lt v n) [
   | inl less ↦ rw (get_or_append_left old (Some vm ∷ []) None v (rw count less)) (each v less)

@@ -42,7 +42,7 @@ module _ (m : State) (is : IsLawful m) where
   pub frames-told : (v : ℕ) → v < slot_count m.config → listed (line_links (dump_of m).frames) (slot_dump_at (dump_of m) v).list ≡ (slot_at m v).frames
   frames-told v low = ap (λ (s : SlotDump). listed (line_links (dump_of m).frames) s.list) (slot-low m is v (rw (slots m is) low)) ∙ list-told (Vm v) (slot_at m v).frames (λ e. cc) refl (is.listed v low)
 
--- the configuration is told
+-- the configuration follows from the description
 pub config-told : (m : State) → IsLawful m → config_of (told_of m) ≡ m.config
 config-told m is i = record m.config { frames = long m is i }
 

@@ -1,4 +1,4 @@
--- What is refused is told of no lawful state.
+-- What is refused describes no lawful state.
 use Rattle.std.proofs.Common.{ℕ, ◌≡◌, ◌<◌, List, [], ◌∷◌, length, map, get_or, refl, sym, ap, subst, ◌∙◌, arith}
 use Rattle.std.proofs.lemmas.List.{get_or-map, length-map}
 use Rattle.kc_types.specs.Configuration.{Configuration, IsConfiguration, slot_count}

@@ -44,7 +44,7 @@ use Rattle.kc_dump.proofs.Entries.{entry-get}
 use Rattle.kc_model.proofs.States.Owners.{same-is}
 use Rattle.kc_state.proofs.Shows.{ShowsPage, ShowsSlot, Shows}
 
--- what stands where something does
+-- there is something
 there-is : {X : Type 0} (o : Option X) → is_some o ≡ true → (x : X) × (o ≡ Some x)
 there-is None h = cc
 there-is (Some x) h = (x, refl)
@@ -75,7 +75,7 @@ owner-low version owner v e is = ltb-true v (slots_of version) (rw is at e)
 below-of : (limit : ℕ) (o : Option ℕ) (g : ℕ) → is_below limit o ≡ true → o ≡ Some g → g < limit
 below-of limit o g e is = ltb-true g limit (rw is at e)
 
--- a number that stands once in a list or not at all, by whose it is
+-- a number that is in a list only if the owners are the same, and is in it
 mine-where : (a b : Owner) (n : ℕ) → 0 < n → n ≡ cond (same_owner a b) 1 0 → a ≡ b
 mine-where a b n some e = by_test (same_owner a b) refl
   where
@@ -173,7 +173,7 @@ module _ (config : Configuration) (d : Dumped) (h : Held) (is : IsConfiguration 
     | inr past ↦ ap (λ there. (frame_in there).owner) (page-past f past) ∙ sym (ap (λ (l : FrameLine). l.owner) (line-past f past))
   ]
 
-  -- ends and links of a dump's list spell it in the parts
+  -- the ends and links of a dump's list spell it in the parts
   list-is : (owner : Owner) (ends : Ends) → HasList lines owner ends → IsList (links_of h) ends
   list-is owner ends list = chain-is_list (links_of h) ends list.frames (rw links-same list.spelled.chain)
 

@@ -14,7 +14,7 @@ use Rattle.kc_parts.specs.Booting.{IsWhole}
 use Rattle.kc_dump.specs.declared.line.FrameLine.{FrameLine}
 use Rattle.kc_dump.specs.Dump.{Dumped, SlotDump, line_at, line_owner, slot_dump_at}
 
--- the record of the page is the line's, and a free page has zero bytes
+-- the record of the page is that of the line, and a free page has zero bytes
 pub record ShowsPage (line : FrameLine) (page : Page) : Type 0 where
   pub owner : page.meta.owner ≡ line.owner
   pub share : page.meta.share ≡ line.share
@@ -25,7 +25,7 @@ pub record ShowsPage (line : FrameLine) (page : Page) : Type 0 where
   pub zeroed : line.owner ≡ Free → page.bytes ≡ zero_page
   pub whole : IsPage page.bytes
 
--- the slot is the dump's, and while it boots the images' pages so far are mapped, and nothing else
+-- the slot is the dump's, and while it boots, the images' pages so far are mapped and nothing else
 pub record ShowsSlot (there : SlotDump) (vm : VmSlot) : Type 0 where
   pub phase : vm.slot.phase ≡ there.phase
   pub list : vm.slot.frames ≡ there.list

@@ -25,14 +25,14 @@ frame_line frame link = record {
 abbrev pub digests_of : State → List (List ℕ)
 digests_of m = map (λ (frame : Frame). sha256 frame.bytes) m.frames
 
--- the first frames, so many of them
+-- this many of the first frames
 abbrev pub frame_lines : State → ℕ → List FrameLine
 frame_lines m n = map (λ f. frame_line (frame_at m f) (link_at m f)) (range_with_len 0 n)
 
 abbrev pub slot_dump : Slot → SlotDump
 slot_dump slot = record { phase = slot.phase; list = ends_of slot.frames; leaves = slot.leaves; entries = finite.entries slot.mapped }
 
--- the first slots, so many of them
+-- this many of the first slots
 abbrev pub slot_dumps : State → ℕ → List SlotDump
 slot_dumps m n = map (λ v. slot_dump (slot_at m v)) (range_with_len 0 n)
 

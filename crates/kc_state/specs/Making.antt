@@ -1,4 +1,4 @@
--- The parts of the core that is made of what is told.
+-- The parts of the core that is made from a description.
 use Rattle.std.specs.Prelude.{ℕ, ◌≡◌, ◌<◌, List, length, slice_index_or, Option, Some, None}
 use Rattle.std.specs.FinMap as finite
 use Rattle.kc_model.specs.Lawful.{IsPage}
@@ -11,7 +11,7 @@ use Rattle.kc_dump.specs.Ranges.{IsDump}
 use Rattle.kc_state.specs.Told.{Told, SlotRest}
 use Rattle.kc_state.specs.Unlawful.{IsSized, AreSlotsTold, AreFramesTold, slot_rest_at, page_of}
 
--- nothing is wrong with what is told
+-- nothing is wrong with the description
 pub record IsJudged (t : Told) : Type 0 where
   pub range : IsDump t.dump
   pub sound : IsSound t.dump
@@ -26,7 +26,7 @@ page_told line bytes = record {
   bytes = bytes;
 }
 
--- the slot is what is told of it, and its table has room for so many leaves
+-- the slot is as described, and its table has room for this many leaves
 pub record IsVmTold (leaves : ℕ) (slot : SlotDump) (rest : SlotRest) (vm : VmSlot) : Type 0 where
   pub phase : vm.slot.phase ≡ slot.phase
   pub vcpus : vm.slot.vcpus ≡ rest.vcpus
@@ -40,6 +40,6 @@ abbrev pub IsPlaceTold : ℕ → SlotDump → SlotRest → Option VmSlot → Typ
 IsPlaceTold leaves slot rest (Some vm) = IsVmTold leaves slot rest vm
 IsPlaceTold leaves slot rest None = ⊥
 
--- the slots before this one are those that are told
+-- the slots before this one are as described
 abbrev pub AreVmsTold : Dumped → List SlotRest → List (Option VmSlot) → ℕ → Type 0
 AreVmsTold d rests vms n = (v : ℕ) → v < n → IsPlaceTold d.leaves (slot_dump_at d v) (slot_rest_at rests v) (slice_index_or vms v None)

@@ -1,4 +1,4 @@
--- What is told of a state: its dump, and all that a dump leaves out.
+-- What describes a state: its dump, and all that a dump leaves out.
 use Rattle.std.specs.Prelude.{ℕ, List, length, map}
 use Rattle.kc_types.specs.Configuration.{Configuration}
 use Rattle.kc_model.specs.State.{State, Frame, Slot, Vcpu, Image}
@@ -32,11 +32,11 @@ rest_of m = record {
   pages = map (λ (frame : Frame). frame.bytes) m.frames;
 }
 
--- all that is told of a state
+-- the description of a state
 abbrev pub told_of : State → Told
 told_of m = record { rest = rest_of m; dump = dump_of m }
 
--- the configuration of a state of which this is told
+-- the configuration of a state that has this description
 abbrev pub config_of : Told → Configuration
 config_of t = record {
   version = t.dump.version;

@@ -1,4 +1,4 @@
--- What is told of no lawful state, and why.
+-- Which descriptions are those of no lawful state, and why.
 use Rattle.std.specs.Prelude.{ℕ, ◌≡◌, ◌<◌, ◌==◌, [], ◌∷◌, List, length, slice_index_or}
 use Rattle.std.specs.List.{list_any}
 use Rattle.sha2.specs.Sha256.{sha256}
@@ -17,13 +17,14 @@ use Rattle.kc_state.specs.declared.unlawful.Unlawful.{Unlawful}
 use Rattle.kc_state.specs.declared.unlawful.Unlawful.TheVariants as unlawful
 use Rattle.kc_state.specs.Told.{Told, SlotRest, config_of}
 
--- there is such a configuration, and something is told of each of its slots and frames
+-- there is such a configuration, and each of its slots and frames is described
 pub record IsSized (t : Told) : Type 0 where
   pub config : IsConfiguration (config_of t)
   pub pages : length t.rest.pages ≡ length t.dump.frames
   pub slots : length t.rest.slots ≡ length t.dump.slots
 
--- a lawful state may have this slot, as far as one slot shows; while it boots its table maps the images' pages so far, and nothing else
+-- a lawful state may have this slot, as far as one slot shows; while it boots, its table maps the images' pages so far
+-- and nothing else
 pub record IsSlotOf (slot : SlotDump) (rest : SlotRest) : Type 0 where
   pub kept : IsSlot slot.phase rest.vcpus rest.images
   pub booting : slot.phase ≡ Booting → (g : ℕ) → list_any (λ (e : ℕ × ℕ). e.0 == g) slot.entries ≡ list_any (holds g) rest.images
@@ -59,7 +60,8 @@ AreSlotsTold t n = AreSlotsOf t.dump t.rest.slots n
 abbrev pub AreFramesTold : Told → ℕ → Type 0
 AreFramesTold t n = AreFramesOf t.dump t.rest.pages n
 
--- of no lawful state all of this is told, and this is the first reason: its sizes, what an audit of the dump finds first, the first slot, the first frame
+-- no lawful state has this description, and this is the first reason: its sizes, what an audit of the dump finds first,
+-- the first slot, the first frame
 abbrev pub IsUnlawful : Told → Unlawful → Type 0
 IsUnlawful t unlawful.Sizes = IsSized t → ⊥
 IsUnlawful t (unlawful.Found finding) = IsSized t × ((others : List Finding) × AreFindings t.dump (finding ∷ others))

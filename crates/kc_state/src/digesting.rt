@@ -1,4 +1,4 @@
-//! The digests of pages, by the thread that asks.
+//! The digests of pages, computed on the calling thread.
 ghost use Rattle.std.specs.Prelude.{◌≡◌, map, IfOk};
 ghost use Rattle.sha2.specs.Sha256.{sha256};
 ghost use Rattle.kc_model.specs.State.{zero_page};
@@ -13,7 +13,7 @@ use kc_types::Memory;
 use sha2::{Digest, Sha256};
 use std::alloc::Global;
 
-/// The digest of a page, where that of a page of zero bytes is given.
+/// The digest of a page; that of a page of zero bytes is given.
 fn page_digest(page: &PageBytes, zero: &[u8; 32]) -> [u8; 32]
     requires { zero.now ≡ sha256 zero_page }
     ensures { result ≡ sha256 page.now }
@@ -25,7 +25,7 @@ fn page_digest(page: &PageBytes, zero: &[u8; 32]) -> [u8; 32]
     }
 }
 
-/// The digest of each page, in order. `Memory` where a growth was refused.
+/// Computes the digest of each page, in order. `Memory` if memory cannot be had.
 pub(crate) fn bytes_digests_alone(
     alloc: Global,
     pages: &[PageBytes],
@@ -40,7 +40,7 @@ pub(crate) fn bytes_digests_alone(
     Ok(digests)
 }
 
-/// The digest of each frame's page in a form, in order. `Memory` where a growth was refused.
+/// Computes the digest of each frame's page in a form, in order. `Memory` if memory cannot be had.
 pub(crate) fn frame_digests_alone(
     alloc: Global,
     core: &KCore,

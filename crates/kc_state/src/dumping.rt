@@ -22,7 +22,7 @@ struct Digests {
     each: Vec<[u8; 32]>,
 }
 
-/// The records of all frames with the digests of their pages.
+/// Lists the records of all frames with the digests of their pages.
 fn lines(alloc: Global, core: &KCore, digests: &Digests) -> Result<Vec<FrameLine>, Memory>
     requires { digests.now.each.items ≡ digests_of (in_form digests.now.form core.now) }
     ensures { IfOk result (λ lines. lines.items ≡ frame_lines (in_form digests.now.form core.now) core.now.config.frames) }
@@ -44,7 +44,7 @@ fn lines(alloc: Global, core: &KCore, digests: &Digests) -> Result<Vec<FrameLine
     Ok(lines)
 }
 
-/// A VM slot that exists.
+/// Dumps a VM slot that exists.
 fn slot(alloc: Global, core: &KCore, vm: u32) -> Result<SlotDump, Memory>
     requires { vm < slot_count core.now.config }
     ensures { IfOk result (λ slot. slot ≡ slot_dump (slot_at core.now vm)) }
@@ -56,7 +56,7 @@ fn slot(alloc: Global, core: &KCore, vm: u32) -> Result<SlotDump, Memory>
     Ok(SlotDump::new(phase, list, leaves, entries))
 }
 
-/// All VM slots.
+/// Dumps all VM slots.
 fn slots(alloc: Global, core: &KCore) -> Result<Vec<SlotDump>, Memory>
     ensures { IfOk result (λ slots. slots.items ≡ slot_dumps core.now (slot_count core.now.config)) }
 {
@@ -67,7 +67,7 @@ fn slots(alloc: Global, core: &KCore) -> Result<Vec<SlotDump>, Memory>
     Ok(slots)
 }
 
-/// The dump of a core with these digests.
+/// Dumps a core with these digests.
 fn dump_with(alloc: Global, core: &KCore, digests: &Digests) -> Result<Dump, Memory>
     requires { digests.now.each.items ≡ digests_of (in_form digests.now.form core.now) }
     ensures dump { IfOk result (λ dump. dump ≡ dump_of (in_form digests.now.form core.now)) }
@@ -86,8 +86,8 @@ fn dump_with(alloc: Global, core: &KCore, digests: &Digests) -> Result<Dump, Mem
     ))
 }
 
-/// A dump of a core, in time that grows with its frames, its mapped guest frames and its leaves. The pages are hashed
-/// by several threads, of so many at once. `Memory` where a growth was refused.
+/// Dumps a core, in time that grows with its frames, its mapped guest frames and its leaves. The pages are hashed by
+/// several threads, this many side by side. `Memory` if memory cannot be had.
 pub fn dump(
     rt: &(impl Threads + Sync),
     alloc: Global,
@@ -105,7 +105,7 @@ pub fn dump(
     dump_with(alloc, core, &digests)
 }
 
-/// A dump of a core in a form, as `dump` makes it, by this thread alone, which hashes page by page.
+/// Dumps a core in a form, as `dump` does, on this thread alone, which hashes page by page.
 pub fn dump_alone(alloc: Global, core: &KCore, form: StateForm) -> Result<Dump, Memory>
     // No clause can rule out that memory runs out: tests dump a core.
     ensures dump { IfOk result (λ dump. dump ≡ dump_of (in_form form core.now)) }

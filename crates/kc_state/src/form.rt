@@ -1,4 +1,4 @@
-//! How a state is told: whole, or without what active VMs keep secret.
+//! In which form a state is described: whole, or without what active VMs keep secret.
 ghost use Rattle.std.specs.Prelude.{◌≡◌, ◌<◌};
 ghost use Rattle.kc_model.specs.State.{frame_at, slot_at, zero_page};
 ghost use Rattle.kc_model.specs.Refusals.{is_active};
@@ -9,7 +9,7 @@ use kc_core::KCore;
 use kc_page::PageBytes;
 use kc_types::{Owner, Phase};
 
-/// How a state is told.
+/// In which form a state is described.
 #[derive(Clone, Copy, Debug, PartialEq, Eq)]
 pub enum StateForm {
     /// As it is.
@@ -18,7 +18,7 @@ pub enum StateForm {
     Blank,
 }
 
-/// Whether the VM in a slot is active; not in a slot that does not exist.
+/// Whether the VM in a slot is active; false for a slot that does not exist.
 fn is_active(core: &KCore, vm: u32) -> bool
     ensures { result ≡ is_active (slot_at core.now vm).phase }
 {
@@ -29,7 +29,7 @@ fn is_active(core: &KCore, vm: u32) -> bool
     }
 }
 
-/// Whether an active VM is the owner.
+/// Whether the owner is an active VM.
 fn is_guests(core: &KCore, owner: Owner) -> bool
     ensures { result ≡ is_guests core.now owner }
 {
@@ -50,7 +50,7 @@ fn owner_of(core: &KCore, frame: u32) -> Owner
     }
 }
 
-/// The bytes of a frame that exists in a form, where `zero` is a page of zero bytes.
+/// The bytes of a frame that exists in a form; `zero` is a page of zero bytes.
 pub fn bytes_in<'a>(
     core: &'a KCore,
     form: StateForm,

@@ -20,7 +20,7 @@ fn is_zero(page: &[u8]) -> bool
     page == &ZERO_PAGE[..]
 }
 
-/// A page has 4,096 bytes, each of which is one.
+/// Shows that a page has 4,096 bytes, each of which is one.
 fn check_page(bytes: &PageBytes)
     ensures { IsPage bytes.now }
 {
@@ -56,7 +56,7 @@ fn is_frame_of(dump: &Dump, line: &FrameLine, bytes: &PageBytes, digest: &[u8; 3
     }
 }
 
-/// The first frame that no lawful state has, with the digests of all pages.
+/// The first frame that no lawful state has, given the digests of all pages.
 pub(crate) fn first_wrong_frame(
     dump: &Dump,
     pages: &[PageBytes],

@@ -1,4 +1,4 @@
-//! Whether a lawful state is told so.
+//! Whether a description is that of a lawful state.
 ghost use Rattle.std.specs.Prelude.{OnOk, IfOk, IfErr, ◌≡◌, ◌↔◌, [], length, map};
 ghost use Rattle.sha2.specs.Sha256.{sha256};
 ghost use Rattle.kc_dump.specs.Sound.{IsSound};
@@ -18,7 +18,7 @@ use kc_types::Config;
 use std::alloc::Global;
 use std::thread::Threads;
 
-/// The configuration, where there is such a one and something is told of each of its slots and frames.
+/// The configuration, if there is one like this and each of its slots and frames is described.
 pub(crate) fn sized(told: &Told) -> Result<Config, Unlawful>
     ensures config { IfOk result (λ config. config ≡ config_of told.now) }
     ensures sized { OnOk result (IsSized told.now) }
@@ -45,7 +45,8 @@ pub(crate) fn sized(told: &Told) -> Result<Config, Unlawful>
     }
 }
 
-/// The first reason for which no lawful state is told so, by what an audit of the dump finds and by the slots.
+/// Judges a description by what an audit of the dump finds and by the slots; returns the first reason why it is that of
+/// no lawful state.
 fn judge_found(told: &Told, found: &[Finding]) -> Result<(), Unlawful>
     requires sized { IsSized told.now }
     requires found { AreFindings told.now.dump found.now }
@@ -63,7 +64,8 @@ fn judge_found(told: &Told, found: &[Finding]) -> Result<(), Unlawful>
     }
 }
 
-/// The first frame for which no lawful state is told so, by the digests of all pages; dump and slots are in order.
+/// Judges the frames of a description, given the digests of all pages; returns the first frame that no lawful state
+/// has. The dump and the slots are in order.
 fn judge_frames(told: &Told, digests: &[[u8; 32]]) -> Result<(), Unlawful>
     requires sized { IsSized told.now }
     requires sound { IsSound told.now.dump }
@@ -79,8 +81,8 @@ fn judge_frames(told: &Told, digests: &[[u8; 32]]) -> Result<(), Unlawful>
     }
 }
 
-/// The first reason for which no lawful state is told so. The pages are hashed, and the frames audited, by several
-/// threads.
+/// Judges a description: returns the first reason why it is that of no lawful state. The pages are hashed, and the
+/// frames audited, by several threads.
 pub(crate) fn judge(
     rt: &(impl Threads + Sync),
     alloc: Global,
@@ -101,7 +103,7 @@ pub(crate) fn judge(
     judge_frames(told, digests.as_slice())
 }
 
-/// What `judge` answers, by this thread alone.
+/// Does what `judge` does, on this thread alone.
 pub(crate) fn judge_alone(alloc: Global, told: &Told) -> Result<(), Unlawful>
     requires { IsSized told.now }
     ensures judged { OnOk result (IsJudged told.now) }

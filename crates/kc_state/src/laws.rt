@@ -12,7 +12,7 @@ pub fn one_state()
     ensures { (m n : State) → IsLawful m → IsLawful n → told_of m ≡ told_of n → m ≡ n }
 {}
 
-/// What is refused is told of no lawful state.
+/// What is refused describes no lawful state.
 pub fn unlawful()
     ensures { (t : Told) (why : Reason) → (why ≡ Memory → ⊥) → IsUnlawful t why → (m : State) → IsLawful m → told_of m ≡ t → ⊥ }
 {}

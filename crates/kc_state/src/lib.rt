@@ -1,10 +1,10 @@
-//! A core as a dump and what a dump leaves out, and a core that is made of these again.
+//! A core as a dump and what a dump leaves out, and a core that is made from these again.
 //!
 //! - how a core is dumped: `specs/Dumping.antt`, `src/dumping.rt`
-//! - what a dump leaves out of a state, and when what is given is of no lawful state: `specs/Told.antt`,
+//! - what a dump leaves out of a state, and when a description is that of no lawful state: `specs/Told.antt`,
 //!   `specs/Unlawful.antt`
-//! - how a core is made of what is given, and what is judged first: `src/making.rt`, `src/judging.rt`, `src/slots.rt`,
-//!   `src/frames.rt`
+//! - how a core is made from a description, and what is judged first: `src/making.rt`, `src/judging.rt`,
+//!   `src/slots.rt`, `src/frames.rt`
 #![tactic(auto)]
 
 mod digesting;

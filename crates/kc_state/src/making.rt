@@ -1,4 +1,4 @@
-//! The core of which something is told.
+//! Making a core from its description.
 ghost use Rattle.std.specs.Prelude.{◌≡◌, ◌≤◌, ◌<◌, [], length, map, vec_capacity, IfOk, IfErr};
 ghost use Rattle.std.specs.List.{range_with_len};
 ghost use Rattle.kc_types.specs.Limits.{leaf_limit};
@@ -24,7 +24,7 @@ use kc_vms::{Stage2, Vm};
 use std::alloc::Global;
 use std::thread::Threads;
 
-/// A slot that may be so.
+/// Makes a slot that a lawful state may have.
 fn make_slot(alloc: Global, leaves: u32, slot: &SlotDump, rest: &SlotRest) -> Result<Vm, Memory>
     requires room { leaves ≤ leaf_limit }
     requires kept { IsSlot slot.now.phase rest.now.vcpus rest.now.images }
@@ -41,7 +41,7 @@ fn make_slot(alloc: Global, leaves: u32, slot: &SlotDump, rest: &SlotRest) -> Re
     Ok(Vm::with(slot.phase(), vcpus, images, *slot.list(), table))
 }
 
-/// All slots.
+/// Makes all slots.
 fn make_slots(alloc: Global, dump: &Dump, rests: &[SlotRest]) -> Result<Vec<Option<Vm>>, Memory>
     requires count { length rests.now ≡ length dump.now.slots }
     requires sound { IsSound dump.now }
@@ -57,7 +57,7 @@ fn make_slots(alloc: Global, dump: &Dump, rests: &[SlotRest]) -> Result<Vec<Opti
     Ok(vms)
 }
 
-/// The page of these bytes, with the record that the dump shows.
+/// Makes the page of these bytes, with the record that the dump shows.
 fn make_page(line: &FrameLine, bytes: PageBytes) -> Page
     ensures { result ≡ page_told line.now bytes }
 {
@@ -72,7 +72,7 @@ fn make_page(line: &FrameLine, bytes: PageBytes) -> Page
     Page { meta, bytes }
 }
 
-/// All pages, in a vector that has room for them.
+/// Makes all pages, in a vector that has room for them.
 fn make_pages(lines: &[FrameLine], bytes: Vec<PageBytes>, mut pages: Vec<Page>) -> Vec<Page>
     requires count { length bytes.items ≡ length lines.now }
     requires none { pages.items ≡ [] }
@@ -87,7 +87,7 @@ fn make_pages(lines: &[FrameLine], bytes: Vec<PageBytes>, mut pages: Vec<Page>) 
     pages
 }
 
-/// The core of what was judged; `Memory` where a growth was refused.
+/// Makes a core from what was judged; `Memory` if memory cannot be had.
 fn make_core(alloc: Global, config: Config, told: Told) -> Result<KCore, Memory>
     requires config { config ≡ config_of told }
     requires sized { IsSized told }
@@ -102,7 +102,7 @@ fn make_core(alloc: Global, config: Config, told: Told) -> Result<KCore, Memory>
     Ok(KCore::from_parts(alloc, config, parts))
 }
 
-/// The core of what was judged, or `Memory`, which says nothing of it.
+/// Makes a core from what was judged, or returns `Memory`, which says nothing about it.
 fn made(alloc: Global, config: Config, told: Told) -> Result<KCore, Unlawful>
     requires config { config ≡ config_of told }
     requires sized { IsSized told }
@@ -116,8 +116,8 @@ fn made(alloc: Global, config: Config, told: Told) -> Result<KCore, Unlawful>
     }
 }
 
-/// The core of which this is told, exactly; else the first reason for which there is none. The dump is audited, and the
-/// pages are hashed, by several threads, of so many pages at once.
+/// Makes the core that has exactly this description; else returns the first reason why there is none. The dump is
+/// audited, and the pages are hashed, by several threads, this many pages side by side.
 pub fn core_of(
     rt: &(impl Threads + Sync),
     alloc: Global,
@@ -137,7 +137,7 @@ pub fn core_of(
     made(alloc, config, told)
 }
 
-/// What `core_of` answers, by this thread alone, which hashes page by page.
+/// Does what `core_of` does, on this thread alone, which hashes page by page.
 pub fn core_alone(alloc: Global, told: Told) -> Result<KCore, Unlawful>
     ensures told { IfOk result (λ core. told_of core ≡ told) }
     ensures unlawful { IfErr result (IsUnlawful told) }

@@ -69,7 +69,7 @@ fn are_mapped(entries: &[(Gfn, FrameNo)], images: &[Image]) -> bool
     true
 }
 
-/// Whether the images' pages so far are mapped, and nothing else.
+/// Whether the images' pages so far are mapped and nothing else.
 fn maps_images(entries: &[(Gfn, FrameNo)], images: &[Image]) -> bool
     ensures { IsTrue result ↔ ((g : ℕ) → list_any (λ (e : ℕ × ℕ). e.0 == g) entries.now ≡ list_any (holds g) images.now) }
 {
@@ -79,7 +79,7 @@ fn maps_images(entries: &[(Gfn, FrameNo)], images: &[Image]) -> bool
     are_mapped(entries, images)
 }
 
-/// Whether a lawful state may have this slot, as far as the slot shows by itself.
+/// Whether a lawful state may have this slot, as far as the slot itself shows.
 fn is_slot_of(slot: &SlotDump, rest: &SlotRest) -> bool
     ensures { IsTrue result ↔ IsSlotOf slot.now rest.now }
 {

@@ -1,4 +1,4 @@
-//! What is told of a state.
+//! The description of a state.
 use arrayvec::ArrayVec;
 use kc_dump::Dump;
 use kc_page::PageBytes;
@@ -27,7 +27,7 @@ pub struct Told {
     pub host: u32,
     /// The SHA-256 digests of the boot images that are approved.
     pub approved: Vec<[u8; 32]>,
-    /// Of each slot, by its number.
+    /// For each slot, by its number.
     pub slots: Vec<SlotRest>,
     /// The bytes of each frame's page, by its number.
     pub pages: Vec<PageBytes>,
@@ -45,7 +45,7 @@ impl Model for Told {
 impl Told {
     ghost use Rattle.std.specs.Prelude.{◌≡◌};
 
-    /// The bytes of the pages, and the dump.
+    /// Takes apart: the bytes of the pages, and the dump.
     pub(crate) fn into_parts(self) -> (Vec<PageBytes>, Dump)
         ensures pages { result.0.items ≡ self.rest.pages }
         ensures dump { result.1 ≡ self.dump }

@@ -1,10 +1,10 @@
-//! Why what is told of a state is told of no lawful one.
+//! Why a description is that of no lawful state.
 use kc_audit::Finding;
 
-/// Why no lawful state is told so; the first that applies is answered.
+/// Why a description is that of no lawful state; the first reason that applies.
 #[derive(Clone, Copy, Debug, PartialEq, Eq)]
 pub enum Unlawful {
-    /// The numbers are of no configuration, or not as much is told as it has slots and frames.
+    /// There is no configuration of these numbers, or not all of its slots and frames are described.
     Sizes,
     /// What an audit of the dump finds first.
     Found(Finding),
@@ -12,6 +12,6 @@ pub enum Unlawful {
     Slot(u32),
     /// No lawful state has this frame.
     Frame(u32),
-    /// A growth of memory was refused.
+    /// Memory could not be had.
     Memory,
 }

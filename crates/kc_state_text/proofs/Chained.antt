@@ -1,4 +1,4 @@
--- Volumes that are replayed each by itself are the whole.
+-- Volumes that are each replayed alone are the whole.
 use Rattle.std.proofs.Common.{ℕ, ◌≡◌, List, [], ◌∷◌, ◌++◌, refl, ap, sym, ◌∙◌}
 use Rattle.kc_model.specs.State.{State}
 use Rattle.kc_model.specs.Next.{replies_from, state_after}

@@ -1,4 +1,4 @@
--- Lines of one kind after one another.
+-- Lines of one kind, one after another.
 use Rattle.std.proofs.Common.{ℕ, ◌≡◌, ◌<◌, ◌≤◌, ◌+◌, List, [], ◌∷◌, ◌++◌, length, All, refl, sym, ap, ◌∙◌, append_assoc, arith, length-append}
 use Rattle.std.specs.List.{flat_map}
 use Rattle.std.proofs.lemmas.List.{append-nil}
@@ -37,7 +37,7 @@ read-lacks Is spelled first count n text xs rest few read none = record {
 }
 
 module _ {X : Type 0} (Is : X → Type 0) (name : List ℕ) (spelled : X → List (List ℕ)) where
-  -- as many bytes as lines
+  -- there are at least as many bytes as lines
   pub many-lines : (xs : List X) → length xs ≤ length (flat_map (λ x. line name (spelled x)) xs)
   many-lines [] = omega arith
   many-lines (x ∷ xs) =
@@ -58,7 +58,7 @@ module _ {X : Type 0} (Is : X → Type 0) (name : List ℕ) (spelled : X → Lis
     pub first-same : (x y : X) (c d : List ℕ) → Is x → Is y → line name (spelled x) ++ c ≡ line name (spelled y) ++ d → (x ≡ y) × (c ≡ d)
     first-same x y c d a b e = let both = line-same name name (spelled x) (spelled y) c d (words x a) (words y b) e in (same x y a b (let w : spelled x ≡ spelled y = cc (both.0) in w), both.1)
 
-    -- as many on both sides are the same
+    -- as many first lines of one text are the same lines
     pub lines-same : (xs ys : List X) (c d : List ℕ) → All Is xs → All Is ys → length xs ≡ length ys → flat_map (λ x. line name (spelled x)) xs ++ c ≡ flat_map (λ x. line name (spelled x)) ys ++ d → (xs ≡ ys) × (c ≡ d)
     lines-same [] [] c d a b long e = (refl, e)
     lines-same [] (y ∷ ys) c d a b long e = absurd (omega (arith, long))
@@ -69,7 +69,7 @@ module _ {X : Type 0} (Is : X → Type 0) (name : List ℕ) (spelled : X → Lis
         let rest = lines-same xs ys c d (tail-of Is x xs a) (tail-of Is y ys b) (omega (arith, long)) first.1 in
         (ap (λ z. z ∷ xs) first.0 ∙ ap (λ l. y ∷ l) rest.0, rest.1)
 
-    -- where fewer lines stand first, another one follows
+    -- if fewer lines come first, another one follows
     pub lines-go-on : (xs ys : List X) (c d : List ℕ) → All Is xs → All Is ys → length xs < length ys → flat_map (λ x. line name (spelled x)) xs ++ c ≡ flat_map (λ x. line name (spelled x)) ys ++ d
         → HasNone Is (λ x. line name (spelled x)) c → ⊥
     lines-go-on xs ys c d a b few e none =

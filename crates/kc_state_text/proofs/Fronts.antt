@@ -115,7 +115,7 @@ module _ (text r0 r1 : List ℕ) (sizes : numbers.Sizes) (header : text ≡ stat
       pub all-begun : (r4 : List ℕ) (pages : List (List ℕ)) → AreRead IsPage page_line sizes.frames r3 pages r4 → BeginsWith text (said sizes digests slots pages) r4 × IsWholeFront (said sizes digests slots pages)
       all-begun r4 pages z = (begun sizes.approved sizes.slots sizes.frames r2 r3 r4 digests slots pages x y z, record { approved = x.many; slots = y.many; pages = z.many })
 
--- no more lines than bytes
+-- there are no more lines than bytes
 pub front-short : (text rest : List ℕ) (f : Front) → BeginsWith text f rest → line_count f + length rest ≤ length text
 front-short text rest f b =
     let a = many-lines IsDigest (codes "approved") approved_words f.approved in
@@ -130,7 +130,7 @@ front-short text rest f b =
     let l5 = length-append (flat_map slot_line f.slots) (flat_map page_line f.pages) in
     omega (arith, a, s, p, z, w, l1, l2, l3, l4, l5)
 
--- what the reading of the lines stops for is why the text is no state's
+-- why reading the lines stops is why the text is not a state's
 pub front-refused : (text : List ℕ) (fault : StateFault) → IsFrontFault text fault → IsRefusedState text fault
 front-refused text NoHeader w = w
 front-refused text (BadLine n) w = inl w
@@ -151,7 +151,7 @@ many (l ∷ lines) =
     let b : length (spell l) ≡ length (bare l) + 1 = ap length (spell-bare l) ∙ (let c = length-append (bare l) (10 ∷ []) in omega (arith, c)) in
     omega (arith, rest, a, b)
 
--- a bad line of a dump is one of its lines, or the one behind them
+-- a bad line of a dump is one of its lines, or the one after them
 pub dump-line-low : (rest : List ℕ) (fault : DumpFault) (n : ℕ) → fault ≡ dump.BadLine n → IsRefusedDump rest fault → n ≤ length rest + 2
 dump-line-low rest fault n e r = low (subst (IsRefusedDump rest) e r)
   where

@@ -1,4 +1,4 @@
--- Some things of a line's words were taken, one after another.
+-- Things that were taken from the words of a line, one after another.
 use Rattle.std.proofs.Common.{ℕ, zero, suc, ◌≡◌, ◌<◌, ◌≤◌, ◌+◌, List, [], ◌∷◌, ◌++◌, length, All, refl, sym, ap, ◌∙◌, append_assoc, arith}
 use Rattle.std.specs.List.{flat_map}
 use Rattle.std.proofs.lemmas.List.{append-nil, length-map, map-append}
@@ -16,14 +16,14 @@ all-more P [] x all is (suc k) d lt = absurd (omega (arith, lt))
 all-more P (y ∷ xs) x all is zero d lt = all 0 d (omega arith)
 all-more P (y ∷ xs) x all is (suc k) d lt = all-more P xs x (tail-of P y xs all) is k d (omega (arith, lt))
 
--- what is left of lines whose first are these
+-- what is left of lines that begin with these
 pub record IsRest {X A : Type 0} (Is : X → Type 0) (spelled : X → List A) (xs ys : List X) (left more : List A) : Type 0 where
   pub rest : List X
   pub each : All Is rest
   pub long : length ys ≡ length xs + length rest
   pub whole : left ≡ flat_map spelled rest ++ more
 
--- if each thing that begins a list begins it in one way, then the things of a list begin with those taken
+-- if each thing that begins a list begins it in one way only, then the things of a list begin with those taken
 module _ {X A : Type 0} (Is : X → Type 0) (spelled : X → List A) (one : (x y : X) (c d : List A) → Is x → Is y → spelled x ++ c ≡ spelled y ++ d → c ≡ d) where
   pub left-of : (xs ys : List X) (left more : List A) → All Is xs → All Is ys → length xs ≤ length ys → flat_map spelled xs ++ left ≡ flat_map spelled ys ++ more → IsRest Is spelled xs ys left more
   left-of [] ys left more a b le e = record { rest = ys; each = b; long = omega arith; whole = e }
@@ -49,7 +49,7 @@ vcpus-more vcpus vcpu words rest more e f =
     e ∙ ap (λ (ws : List (List ℕ)). vcpus_words vcpus ++ ws) f ∙ sym (append_assoc (vcpus_words vcpus) (vcpu_words vcpu) more)
     ∙ ap (λ (ws : List (List ℕ)). ws ++ more) (sym (map-append vcpu_word vcpus (vcpu ∷ [])))
 
--- too few are there
+-- there are too few
 pub vcpus-lack : (vcpus : List Vcpu) (words rest : List (List ℕ)) → All IsVcpuWord vcpus → length vcpus < vcpu_limit → words ≡ vcpus_words vcpus ++ rest → LacksFirst IsVcpuWord vcpu_words rest → LacksFirst AreVcpus vcpus_words words
 vcpus-lack vcpus words rest all few e lacks others more are is =
     let eight = are.eight in
@@ -76,7 +76,7 @@ few-images [] ys left a b e = omega arith
 few-images (x ∷ xs) [] left a b e = absurd cc
 few-images (x ∷ xs) (y ∷ ys) left a b e = let more : flat_map image_words xs ++ left ≡ flat_map image_words ys = cc in let r = few-images xs ys left (tail-of AreImageWords x xs a) (tail-of AreImageWords y ys b) more in omega (arith, r)
 
--- words are left, so another list of images that they are goes on
+-- words are left, so another list of images that they spell goes on
 goes-on : (images others : List Image) (words rest : List (List ℕ)) → All AreImageWords images → All AreImageWords others → words ≡ images_words images ++ rest → words ≡ images_words others → IsRest AreImageWords image_words images others rest []
 goes-on images others words rest all each e is =
     let same : flat_map image_words images ++ rest ≡ flat_map image_words others = sym e ∙ is in
@@ -89,7 +89,7 @@ images-lack images words rest all some e lacks others are is = let r = goes-on i
     by_rest [] each whole = some whole
     by_rest (x ∷ xs) each whole = lacks x (flat_map image_words xs ++ []) (head-of AreImageWords x xs each) (whole ∙ append_assoc (image_words x) (flat_map image_words xs) [])
 
--- no fifth one may stand there
+-- there may not be a fifth one
 pub images-many : (images : List Image) (words rest : List (List ℕ)) → All AreImageWords images → (rest ≡ [] → ⊥) → length images ≡ image_limit → words ≡ images_words images ++ rest → LacksWhole AreImages images_words words
 images-many images words rest all some full e others are is = let r = goes-on images others words rest all are.each e is in by_rest r.rest r.long r.whole
   where
@@ -99,7 +99,7 @@ images-many images words rest all some full e others are is = let r = goes-on im
 
 -- ---- slots
 
--- the words behind 8 virtual processors are no images
+-- the words after 8 virtual processors are not images
 pub no-images : (name : List ℕ) (words first second : List (List ℕ)) (vcpus : List Vcpu) → words ≡ name ∷ first → BeginsAs AreVcpus vcpus_words first vcpus second → LacksWhole AreImages images_words second
     → LacksWhole IsSlotLine (behind name slot_words) words
 no-images name words first second vcpus e begins lacks slot is g =

@@ -1,4 +1,4 @@
--- A line is cut off a text in one way, and its words are cut in one way.
+-- There is one way to cut a line off a text, and one way to cut a line into words.
 use Rattle.std.proofs.Common.{ℕ, ◌≡◌, ◌<◌, true, List, [], ◌∷◌, ◌++◌, length, refl, sym, ap, ◌∙◌, append_assoc, arith, length-append}
 use Rattle.std.specs.Prelude.{◌==◌, not}
 use Rattle.std.specs.List.{list_all, slice_split, join_with_byte}
@@ -29,7 +29,7 @@ cut-same (x ∷ a) (y ∷ b) c d h g e =
     let rest = cut-same a b c d (rest-one x a h) (rest-one y b g) tail in
     (ap (λ z. z ∷ a) head ∙ ap (λ l. y ∷ l) rest.0, rest.1)
 
--- a line with no newline in it has none
+-- a line has no newline in it
 no-newline : (a c l : List ℕ) → IsOneLine l → l ≡ a ++ 10 ∷ c → ⊥
 no-newline [] c [] h e = absurd cc
 no-newline [] c (y ∷ l) h e = newline-in y l h (let z : y ≡ 10 = cc in z)
@@ -54,24 +54,24 @@ line-cut name words more l rest are one e =
     let both = cut-same l (join_with_byte 32 (name ∷ words)) rest more one (join_is_one_line name words are) (e ∙ line-joined name words more) in
     (ap (slice_split is_space) both.0 ∙ split_join name words are, both.1)
 
--- what is cut into these words is their line
+-- what is cut into these words is the line of them
 pub line-made : (name : List ℕ) (words : List (List ℕ)) (l rest : List ℕ) → words_in l ≡ name ∷ words → l ++ 10 ∷ rest ≡ line name words ++ rest
 line-made name words l rest e =
     ap (λ (l : List ℕ). l ++ 10 ∷ rest) (sym (join_with_byte-slice_split 32 l) ∙ ap (join_with_byte 32) e) ∙ sym (line-joined name words rest)
 
--- two lines of words are the same words
+-- two equal lines of words have the same words
 pub line-same : (name other : List ℕ) (a b : List (List ℕ)) (c d : List ℕ) → AreWords (name ∷ a) → AreWords (other ∷ b) → line name a ++ c ≡ line other b ++ d → (name ∷ a ≡ other ∷ b) × (c ≡ d)
 line-same name other a b c d h g e =
     let both = cut-same (join_with_byte 32 (name ∷ a)) (join_with_byte 32 (other ∷ b)) c d (join_is_one_line name a h) (join_is_one_line other b g)
     (sym (line-joined name a c) ∙ e ∙ line-joined other b d) in
     (sym (split_join name a h) ∙ ap (slice_split is_space) both.0 ∙ split_join other b g, both.1)
 
--- a line is some bytes
+-- a line is at least some bytes
 pub line-long : (name : List ℕ) (words : List (List ℕ)) → 0 < length (line name words)
 line-long name words = let a = length-append name (spaced words ++ 10 ∷ []) in let b = length-append (spaced words) (10 ∷ []) in omega (arith, a, b)
 
 module _ {X : Type 0} (Is : X → Type 0) (name : List ℕ) (spelled : X → List (List ℕ)) (words : (x : X) → Is x → AreWords (name ∷ spelled x)) where
-  -- a text of one line with no end begins with no line
+  -- a text of one line that does not end begins with no line
   pub none-no-end : (text : List ℕ) → IsOneLine text → HasNone Is (λ x. line name (spelled x)) text
   none-no-end text one x more is e = no-newline (join_with_byte 32 (name ∷ spelled x)) more text one (e ∙ line-joined name (spelled x) more)
 

@@ -1,4 +1,4 @@
--- A text is told of one state at most, and what is refused is no state's.
+-- A text is that of at most one state, and a text that is refused is not a state's.
 use Rattle.std.proofs.Common.{ℕ, ◌≡◌, ◌≤◌, inl, inr, List, [], ◌∷◌, ◌++◌, length, map, get_or, Option, Some, None, All, true, false, refl, sym, ap, subst, ◌∙◌, append_assoc, arith, length-append}
 use Rattle.std.specs.Prelude.{codes}
 use Rattle.std.specs.List.{flat_map}
@@ -44,7 +44,7 @@ behind-header f rest = regrouped state_header (sizes_line f.sizes) (flat_map app
     regrouped : (h s a b c r : List ℕ) → (h ++ (s ++ (a ++ (b ++ c)))) ++ r ≡ h ++ (s ++ (a ++ (b ++ (c ++ r))))
     regrouped h s a b c r = simp append_assoc
 
--- lines that say the same sizes, and what stands behind them
+-- lines that give the same sizes, and what follows them
 record SameSizes (f g : Front) (c d : List ℕ) : Type 0 where
   sizes : f.sizes ≡ g.sizes
   rest : flat_map approved_line f.approved ++ (flat_map slot_line f.slots ++ (flat_map page_line f.pages ++ c)) ≡ flat_map approved_line g.approved ++ (flat_map slot_line g.slots ++ (flat_map page_line g.pages ++ d))
@@ -55,7 +55,7 @@ sizes-told f g c d x y e =
     let both = first-same AreSizes (codes "config") sizes_words sizes-are-words sizes-same f.sizes g.sizes _ _ x.sizes y.sizes behind in
     record { sizes = both.0; rest = both.1 }
 
--- whole fronts are told by their text
+-- a text has at most one whole front
 fronts-same : (f g : Front) (c d : List ℕ) → IsFront f → IsFront g → IsWholeFront f → IsWholeFront g → front_text f ++ c ≡ front_text g ++ d → (f ≡ g) × (c ≡ d)
 fronts-same f g c d x y v w e =
     let s = sizes-told f g c d x y e in
@@ -68,7 +68,7 @@ fronts-same f g c d x y v w e =
     let three = lines-same IsPage (codes "page") page_words page-are-words page-same f.pages g.pages c d x.pages y.pages (omega (arith, p1, p2, z3)) two.1 in
     (λ i. record { sizes = s.sizes i; approved = one.0 i; slots = two.0 i; pages = three.0 i }, three.1)
 
--- a text that has a whole front lacks no line of it
+-- a text that has a whole front lacks none of its lines
 front-goes-on : (f g : Front) (c d : List ℕ) → IsFront f → IsFront g → IsWholeFront g → front_text f ++ c ≡ front_text g ++ d → LacksLine f c → ⊥
 front-goes-on f g c d x y w e lacks = by_kind lacks
   where
@@ -159,7 +159,7 @@ module _ (m : State) (is : IsCoreState m) where
   dump-short : length (state_text m) ≤ byte_limit → length (dump_text (dump_of m)) ≤ byte_limit
   dump-short short = let a = length-append (front_text state-front) (dump_text (dump_of m)) in omega (arith, short, a)
 
-  -- what is told in a state's text is told of it
+  -- a state's text describes that state
   pub told-same : (t : Told) → IsTextOf (state_text m) t → length (state_text m) ≤ byte_limit → told_of m ≡ t
   told-same t told short =
       let both = fronts-same (front_of (rest_of m)) (front_of t.rest) (dump_text (dump_of m)) (dump_text t.dump) front-is told.front front-whole (record { approved = refl; slots = refl; pages = refl }) told.whole in
@@ -169,7 +169,7 @@ module _ (m : State) (is : IsCoreState m) where
   tells-it : IsTextOf (state_text m) (told_of m)
   tells-it = record { whole = refl; front = front-is; dump = dumped }
 
-  -- ---- why a text is no state's
+  -- ---- why a text is not a state's
 
   not-before : (text : List ℕ) (n : ℕ) → text ≡ state_text m → StopsBefore text n → ⊥
   not-before text n e (inl stop) =

@@ -74,7 +74,7 @@ written-page word digits page are e =
     let same = e ∙ written-whole digits are.page in
     record { is = subst IsPage (sym same) are.page; whole = are.whole ∙ sym (digits-word digits are.some) ∙ ap page_word (sym same) }
 
--- a line with another word is no page's
+-- a line with another word is not a page's
 pub other-word : (name line word : List ℕ) → words_in line ≡ name ∷ word ∷ [] → LacksWhole IsPage page_word word → LacksWhole IsPage (behind name page_words) (words_in line)
 other-word name line word e lacks bytes is g = lacks bytes is (let both : name ∷ word ∷ [] ≡ name ∷ page_word bytes ∷ [] = sym e ∙ g in ap (λ (ws : List (List ℕ)). get_or ws 1 []) both)
 

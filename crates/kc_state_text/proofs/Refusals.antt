@@ -1,4 +1,4 @@
--- Why what a text tells is told of no lawful state.
+-- Why a text describes no lawful state.
 use Rattle.std.proofs.Common.{ℕ, ◌≡◌, List, All, sym, ap, subst}
 use Rattle.kc_model.specs.State.{State}
 use Rattle.kc_model.specs.Lawful.{IsLawful}

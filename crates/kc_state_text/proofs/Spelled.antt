@@ -1,4 +1,4 @@
--- What each line spells: it is some words, and no other thing has the same.
+-- What each line spells: it is made of words, and nothing else has the same words.
 use Rattle.std.proofs.Common.{ℕ, suc, ◌≡◌, ◌<◌, ◌≤◌, ◌^◌, inl, inr, Bool, true, false, cond, List, [], ◌∷◌, ◌++◌, length, map, get_or, Option, Some, None, All, refl, sym, ap, subst, ◌∙◌, arith}
 use Rattle.std.specs.Prelude.{◌==◌, nat_lt, codes, option_map}
 use Rattle.std.specs.List.{flat_map, list_all}
@@ -25,7 +25,7 @@ use Rattle.kc_state_text.specs.StateText.{sizes_words, approved_words, fault_wor
 use Rattle.kc_state_text.specs.Refused.{AreSizes, IsVcpuWord, AreImageWords, IsSlotLine}
 use Rattle.kc_state_text.proofs.Lines.{AreWords}
 
--- ---- lists of which each member is spelled in its own way
+-- ---- lists whose members are each spelled in one way
 
 pub head-of : {X : Type 0} (P : X → Type 0) (x : X) (xs : List X) → All P (x ∷ xs) → P x
 head-of P x xs all = all 0 x (omega arith)
@@ -42,7 +42,7 @@ map-same spelled P one (x ∷ xs) (y ∷ ys) a b e =
     let rest : map spelled xs ≡ map spelled ys = cc in
     ap (λ z. z ∷ xs) (one x y (head-of P x xs a) (head-of P y ys b) first) ∙ ap (λ l. y ∷ l) (map-same spelled P one xs ys (tail-of P x xs a) (tail-of P y ys b) rest)
 
--- two lists behind two others of one length
+-- two lists after two others of one length
 pub append-same : {X : Type 0} (xs ys cs ds : List X) → length xs ≡ length ys → xs ++ cs ≡ ys ++ ds → (xs ≡ ys) × (cs ≡ ds)
 append-same [] [] cs ds long e = (refl, e)
 append-same [] (y ∷ ys) cs ds long e = absurd (omega (arith, long))
@@ -152,7 +152,7 @@ vcpus-are-words (v ∷ vs) all = and_from (is_word (vcpu_word v)) (list_all is_w
     by_test true = fault-is-word v.fault (small-gfn v (head-of IsVcpuWord v vs all))
     by_test false = refl
 
--- a number's word is no name
+-- a number's word is not a name
 unnamed : (n : ℕ) (text : List ℕ) → n < 2 ^ 32 → number_in text ≡ None → bytes_eq (decimal n) text ≡ false
 unnamed n text lt none = by_test (bytes_eq (decimal n) text) refl
   where
@@ -269,7 +269,7 @@ page-same a b x y e = by_test (is_zero a) (is_zero b) refl refl (let word : cond
     by_test false true p q e = (let no : Some a ≡ None = sym (data_of-encode_lower a (data-page a x)) ∙ ap data_of e ∙ no-data-dash in absurd cc)
     by_test false false p q e = digits-same a b (data-page a x) (data-page b y) e
 
--- a word that is no dash is a page's only if its digits are
+-- a word that is not a dash is a page's only if its digits are
 pub page-undashed : (bytes word : List ℕ) → IsPage bytes → bytes_eq word (codes "-") ≡ false → word ≡ page_word bytes → (word ≡ encode_lower bytes) × (is_zero bytes ≡ false)
 page-undashed bytes word is other e = by_test (is_zero bytes) refl e
   where

@@ -35,7 +35,7 @@ number-read None words word rest e f = λ n more is g.
     none-some n (f ∙ ap number_in (first-same word (decimal n) rest more (sym e ∙ g)) ∙ number_of-decimal n is)
 number-read (Some n) words word rest e f = e ∙ ap (λ (w : List ℕ). w ∷ rest) (number_is_decimal word n (sym f)).0
 
--- a number past the most
+-- a number above the most
 pub number-past : (most a : ℕ) → most < a → a < 2 ^ 32 → (words rest : List (List ℕ)) → words ≡ decimal a ∷ rest → LacksFirst (IsAtMost most) number_words words
 number-past most a past low words rest e n more is g =
     let same = decimal-same a n low (omega (arith, past, low, is)) (first-same (decimal a) (decimal n) rest more (sym e ∙ g)) in omega (arith, past, is, same)

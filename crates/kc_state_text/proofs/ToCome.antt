@@ -1,4 +1,4 @@
--- What was given of a state's text and what is still to come are the whole of it.
+-- What was given of a state's text and what is still to come are the whole text.
 use Rattle.std.proofs.Common.{ℕ, ◌≡◌, ◌<◌, ◌≤◌, ◌+◌, List, [], ◌++◌, length, map, refl, sym, ap, ◌∙◌, append_assoc}
 use Rattle.std.specs.List.{flat_map}
 use Rattle.std.specs.Prelude.{◌↔◌}
@@ -20,18 +20,18 @@ use Rattle.kc_state_text.specs.Pieces.{Pieces, page_lines, to_come}
 abbrev bytes_of : Frame → List ℕ
 bytes_of frame = frame.bytes
 
--- the first of the pages to come has its line in front
+-- the first of the pages to come has its line first
 pub page_first : (m : State) (n : ℕ) → n < length m.frames → page_lines m n ≡ page_line (frame_at m n).bytes ++ page_lines m (n + 1)
 page_first m n low =
     let pages = map bytes_of m.frames in
     ap (flat_map page_line) (drop_more pages n zero_page (rw (length-map m.frames bytes_of) low))
     ∙ ap (λ (page : List ℕ). page_line page ++ page_lines m (n + 1)) (get_or-map bytes_of m.frames n (untouched Core))
 
--- no lines are to come behind the last page
+-- after the last page no lines are to come
 pub pages_done : (m : State) (n : ℕ) → length m.frames ≤ n → page_lines m n ≡ []
 pages_done m n past = ap (flat_map page_line) (drop_all n (map bytes_of m.frames) (rw (length-map m.frames bytes_of) past))
 
--- one page more was given
+-- one more page was given
 pub page_given : (m : State) (old new : Pieces) (start before after : List ℕ) → old.page < length (in_form old.form m).frames → new.form ≡ old.form → old.front ≡ [] → new.front ≡ [] → new.page ≡ old.page + 1 → new.dump ≡ old.dump
     → before ++ to_come m old ≡ start → after ≡ before ++ page_line (frame_at (in_form old.form m) old.page).bytes → after ++ to_come m new ≡ start
 page_given m old new start before after low form front front' page dump given pushed =
@@ -42,7 +42,7 @@ page_given m old new start before after low form front front' page dump given pu
     let left : to_come m new ≡ rest = rw (front', form, page, dump) refl in
     rw (left, pushed) (append_assoc before line rest ∙ ap (λ (l : List ℕ). before ++ l) (sym come) ∙ given)
 
--- a text of which a piece is taken away is what is still to come just where it was so before
+-- a text without its first piece is what is still to come if and only if this was so before
 pub rest_after : (rest more piece left next : List ℕ) (Same : Type 0) → rest ≡ piece ++ more → piece ++ next ≡ left → (rest ≡ left) ↔ Same → (more ≡ next) ↔ Same
 rest_after rest more piece left next Same cut given is =
     (λ e. is.0 (cut ∙ ap (λ (l : List ℕ). piece ++ l) e ∙ given), λ same. append_cancel_left piece more next (sym cut ∙ is.1 same ∙ sym given))

@@ -1,4 +1,4 @@
--- What is said of a text that is no state.
+-- What the program says of a text that is not a state.
 use Rattle.std.specs.Prelude.{ℕ, ◌+◌, List, [], codes, Option, Some, None}
 use Rattle.kc_state_text.specs.declared.fault.StateFault.{StateFault}
 use Rattle.kc_state_text.specs.declared.fault.StateFault.TheVariants.{NoHeader, BadLine, Missing, Sizes, Found, Slot, Frame, Memory}
@@ -7,14 +7,14 @@ use Rattle.kc_state.specs.declared.unlawful.Unlawful.TheVariants as unlawful
 use Rattle.kc_dump_text.specs.declared.fault.DumpFault.{DumpFault}
 use Rattle.kc_dump_text.specs.declared.fault.DumpFault.TheVariants as dump
 
--- what is wrong with a state where this is wrong with its dump, which stands behind so many lines
+-- what is wrong with a state if this is wrong with its dump, which comes after this many lines
 abbrev pub dump_fault : ℕ → DumpFault → StateFault
 dump_fault before dump.NoHeader = BadLine (before + 1)
 dump_fault before (dump.BadLine n) = BadLine (before + n)
 dump_fault before (dump.Frame f) = Missing f
 dump_fault before dump.Memory = Memory
 
--- what is wrong with the text of what is told of no lawful state for this reason
+-- what is wrong with a text that describes no lawful state, for this reason
 abbrev pub unlawful_fault : Unlawful → StateFault
 unlawful_fault unlawful.Sizes = Sizes
 unlawful_fault (unlawful.Found finding) = Found finding
@@ -22,7 +22,7 @@ unlawful_fault (unlawful.Slot v) = Slot v
 unlawful_fault (unlawful.Frame f) = Frame f
 unlawful_fault unlawful.Memory = Memory
 
--- why a text is no state's, up to the number of a line, a frame or a slot; of a finding its text follows
+-- why a text is not a state's, up to the number of a line, a frame or a slot; the text of a finding follows
 abbrev pub state_fault_words : StateFault → List ℕ
 state_fault_words NoHeader = codes "no state header"
 state_fault_words (BadLine number) = codes "bad state line "
@@ -44,7 +44,7 @@ state_fault_number (Slot vm) = Some vm
 state_fault_number (Frame frame) = Some frame
 state_fault_number Memory = None
 
--- the same behind the number
+-- what follows the number
 abbrev pub state_fault_end : StateFault → List ℕ
 state_fault_end (Missing frame) = codes " missing or doubled"
 state_fault_end fault = []

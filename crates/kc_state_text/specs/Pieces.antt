@@ -6,7 +6,8 @@ use Rattle.kc_state.specs.declared.form.StateForm.{StateForm}
 use Rattle.kc_state.specs.Form.{in_form}
 use Rattle.kc_state_text.specs.StateText.{page_line}
 
--- the form of a text, and what was not given yet: of the lines before those of the pages, from which page on, and of the dump
+-- the form of a text, and what was not given yet: the lines before those of the pages, the number of the next page, and
+-- the dump
 pub record Pieces : Type 0 where
   pub form : StateForm
   pub front : List ℕ

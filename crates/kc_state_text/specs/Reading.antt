@@ -1,4 +1,4 @@
--- What words, or lines, begin with, and how far some lines were read.
+-- What words or lines begin with, and how far some lines were read.
 use Rattle.std.specs.Prelude.{ℕ, ◌≡◌, ◌<◌, ◌≤◌, ◌+◌, ◌^◌, false, List, [], ◌∷◌, ◌++◌, length, All}
 use Rattle.std.specs.Fmt.{decimal}
 use Rattle.std.specs.List.{flat_map}
@@ -14,7 +14,7 @@ use Rattle.kc_state_text.specs.Refused.{IsVcpuWord, AreImageWords, HasNone, Stop
 abbrev pub IsNumber : ℕ → Type 0
 IsNumber n = n < 2 ^ 32
 
--- none past this
+-- it is at most this
 abbrev pub IsAtMost : ℕ → ℕ → Type 0
 IsAtMost most n = n ≤ most
 
@@ -25,15 +25,15 @@ number_words n = decimal n ∷ []
 abbrev pub behind : {X : Type 0} → List ℕ → (X → List (List ℕ)) → X → List (List ℕ)
 behind name spelled x = name ∷ spelled x
 
--- the list begins with no such thing
+-- the list does not begin with such a thing
 abbrev pub LacksFirst : {X A : Type 0} → (X → Type 0) → (X → List A) → List A → Type 0
 LacksFirst {X} {A} Is spelled list = (x : X) (more : List A) → Is x → list ≡ spelled x ++ more → ⊥
 
--- the list is no such thing
+-- the list is not such a thing
 abbrev pub LacksWhole : {X A : Type 0} → (X → Type 0) → (X → List A) → List A → Type 0
 LacksWhole {X} {A} Is spelled list = (x : X) → Is x → list ≡ spelled x → ⊥
 
--- the list begins with this thing, and then comes the rest
+-- the list begins with this thing, and the rest follows
 pub record BeginsAs {X A : Type 0} (Is : X → Type 0) (spelled : X → List A) (list : List A) (x : X) (rest : List A) : Type 0 where
   pub is : Is x
   pub whole : list ≡ spelled x ++ rest
@@ -43,11 +43,11 @@ pub record IsWhole {X A : Type 0} (Is : X → Type 0) (spelled : X → List A) (
   pub is : Is x
   pub whole : list ≡ spelled x
 
--- one more thing, and the list is it
+-- one more thing, which the list is
 abbrev pub IsOneMore : {X A : Type 0} → (X → Type 0) → (X → List A) → List A → List X → List X → Type 0
 IsOneMore {X} Is spelled list xs ys = (x : X) × IsWhole Is spelled list x × (ys ≡ xs ++ x ∷ [])
 
--- the word is these bytes, of a page that is not zero
+-- the word spells these bytes, of a page that is not zero
 pub record AreDigits (word bytes : List ℕ) : Type 0 where
   pub page : IsPage bytes
   pub some : is_zero bytes ≡ false
@@ -61,13 +61,13 @@ pub record AreImages (images : List Image) : Type 0 where
   pub few : length images ≤ image_limit
   pub each : All AreImageWords images
 
--- the text begins with the lines of so many things, and then comes the rest
+-- the text begins with the lines of this many things, and the rest follows
 pub record AreRead {X : Type 0} (Is : X → Type 0) (spelled : X → List ℕ) (count : ℕ) (text : List ℕ) (xs : List X) (rest : List ℕ) : Type 0 where
   pub many : length xs ≡ count
   pub each : All Is xs
   pub whole : text ≡ flat_map spelled xs ++ rest
 
--- behind fewer lines the text goes on with none
+-- after fewer lines, the text does not go on with another one
 pub record Lacks {X : Type 0} (Is : X → Type 0) (spelled : X → List ℕ) (first count : ℕ) (text : List ℕ) (n : ℕ) : Type 0 where
   pub xs : List X
   pub rest : List ℕ
@@ -76,7 +76,7 @@ pub record Lacks {X : Type 0} (Is : X → Type 0) (spelled : X → List ℕ) (fi
   pub none : HasNone Is spelled rest
   pub number : n ≡ first + length xs
 
--- reading so many lines, of which the first has this number, stops for this reason
+-- reading this many lines, the first of which has this number, stops for this reason
 abbrev pub StopsAmong : {X : Type 0} → (X → Type 0) → (X → List ℕ) → ℕ → ℕ → List ℕ → StateFault → Type 0
 StopsAmong Is spelled first count text NoHeader = ⊥
 StopsAmong Is spelled first count text (BadLine n) = Lacks Is spelled first count text n

@@ -1,4 +1,4 @@
--- Which text is which state's, and why a text is none.
+-- Which text is which state's, and why a text is not a state's.
 use Rattle.std.specs.Prelude.{ℕ, ◌≡◌, ◌<◌, ◌≤◌, ◌+◌, ◌^◌, ◌⊎◌, List, [], ◌++◌, length, All, Some, false, None}
 use Rattle.kc_types.specs.Limits.{frame_limit, slot_limit, gfn_limit, vcpu_limit, image_limit, digest_limit}
 use Rattle.kc_model.specs.State.{Vcpu, Image}
@@ -17,14 +17,14 @@ use Rattle.kc_state_text.specs.declared.fault.StateFault.TheVariants.{NoHeader, 
 use Rattle.kc_state_text.specs.declared.sizes.Sizes as numbers
 use Rattle.kc_state_text.specs.StateText.{Front, state_header, sizes_line, approved_line, slot_line, page_line, front_text, front_of, told_text}
 
--- which numbers the line of sizes may have: none that is past the limits of every configuration
+-- which numbers the line of sizes may have: none above the limits of every configuration
 pub record AreSizes (sizes : numbers.Sizes) : Type 0 where
   pub slots : sizes.slots ≤ slot_limit
   pub frames : sizes.frames ≤ frame_limit
   pub host : sizes.host ≤ frame_limit
   pub approved : sizes.approved ≤ digest_limit
 
--- one that is not registered waits for nothing
+-- a virtual processor that is not registered waits for nothing
 pub record IsVcpuWord (vcpu : Vcpu) : Type 0 where
   pub absent : vcpu.registered ≡ false → vcpu.fault ≡ None
   pub gfn : (g : ℕ) → vcpu.fault ≡ Some g → g < gfn_limit
@@ -57,11 +57,11 @@ pub record IsWholeFront (front : Front) : Type 0 where
 abbrev pub line_count : Front → ℕ
 line_count front = 2 + length front.approved + length front.slots + length front.pages
 
--- the text goes on with no such line
+-- the text does not go on with such a line
 abbrev pub HasNone : {X : Type 0} → (X → Type 0) → (X → List ℕ) → List ℕ → Type 0
 HasNone {X} Is spelled text = (x : X) (more : List ℕ) → Is x → text ≡ spelled x ++ more → ⊥
 
--- a line of the front is due, and the text goes on with no such line
+-- a line of the front is due, and the text does not go on with such a line
 abbrev pub LacksLine : Front → List ℕ → Type 0
 LacksLine front text =
     ((length front.approved < front.sizes.approved) × (front.slots ≡ []) × (front.pages ≡ []) × HasNone IsDigest approved_line text)
@@ -73,13 +73,13 @@ pub record BeginsWith (text : List ℕ) (said : Front) (rest : List ℕ) : Type 
   pub whole : text ≡ front_text said ++ rest
   pub front : IsFront said
 
--- no line of this number, counted from 1 with the header as the first, may stand there before the dump
+-- the line of this number, counted from 1 with the header as the first, may not be there before the dump
 abbrev pub StopsBefore : List ℕ → ℕ → Type 0
 StopsBefore text n =
     ((n ≡ 2) × ((rest : List ℕ) × (text ≡ state_header ++ rest) × HasNone AreSizes sizes_line rest))
     ⊎ ((front : Front) × (rest : List ℕ) × BeginsWith text front rest × LacksLine front rest × (n ≡ line_count front + 1))
 
--- what follows the front is no dump, for this reason; lines are counted on
+-- what follows the front is not a dump, for this reason; the count of lines goes on
 abbrev pub IsDumpFault : Front → List ℕ → StateFault → Type 0
 IsDumpFault front rest NoHeader = ⊥
 IsDumpFault front rest (BadLine n) =
@@ -92,7 +92,7 @@ IsDumpFault front rest (Slot v) = ⊥
 IsDumpFault front rest (Frame f) = ⊥
 IsDumpFault front rest Memory = ⊥
 
--- the front is whole, and what follows is no dump
+-- the front is whole, and what follows is not a dump
 pub record StopsWithin (text : List ℕ) (fault : StateFault) : Type 0 where
   pub front : Front
   pub rest : List ℕ
@@ -100,17 +100,17 @@ pub record StopsWithin (text : List ℕ) (fault : StateFault) : Type 0 where
   pub whole : IsWholeFront front
   pub why : IsDumpFault front rest fault
 
--- the text has this told in it, each line where it may stand
+-- the text is this description, each line where it may be
 pub record IsTextOf (text : List ℕ) (t : Told) : Type 0 where
   pub whole : text ≡ told_text t
   pub front : IsFront (front_of t.rest)
   pub dump : IsDumpText (dump_text t.dump) t.dump
 
--- what the text tells is told of no lawful state
+-- the text describes no lawful state
 abbrev pub TellsNone : List ℕ → Unlawful → Type 0
 TellsNone text why = (t : Told) × IsTextOf text t × IsUnlawful t why
 
--- the text is no lawful state's, and this is the first reason
+-- the text is not a lawful state's, and this is the first reason
 abbrev pub IsRefusedState : List ℕ → StateFault → Type 0
 IsRefusedState text NoHeader = (rest : List ℕ) → text ≡ state_header ++ rest → ⊥
 IsRefusedState text (BadLine n) = StopsBefore text n ⊎ StopsWithin text (BadLine n)

@@ -1,4 +1,4 @@
--- How a state is spelled: a line each for all that a dump leaves out, and then its dump.
+-- How a state is spelled: a line for each thing that a dump leaves out, and then its dump.
 use Rattle.std.specs.Prelude.{ℕ, Bool, if◌then◌else◌, List, [], ◌∷◌, ◌++◌, length, map, codes, Option, Some, None, ◌==◌}
 use Rattle.std.specs.Fmt.{decimal}
 use Rattle.std.specs.List.{flat_map, list_all}
@@ -25,7 +25,8 @@ approved_words digest = encode_lower digest ∷ []
 abbrev pub approved_line : List ℕ → List ℕ
 approved_line digest = line (codes "approved") (approved_words digest)
 
--- a virtual processor: a dash where it is not registered, a dot where it waits for nothing, else the guest frame that it waits for
+-- a virtual processor: a dash if it is not registered, a dot if it waits for nothing, else the guest frame that it
+-- waits for
 abbrev pub fault_word : Option ℕ → List ℕ
 fault_word None = codes "."
 fault_word (Some g) = decimal g
@@ -55,7 +56,7 @@ slot_line rest = line (codes "slot") (slot_words rest)
 abbrev pub is_zero : List ℕ → Bool
 is_zero bytes = list_all (λ b. b == 0) bytes
 
--- a page: a dash where all its bytes are zero
+-- a page: a dash if all its bytes are zero
 abbrev pub page_word : List ℕ → List ℕ
 page_word bytes = if is_zero bytes then codes "-" else encode_lower bytes
 

@@ -9,7 +9,7 @@ use Rattle.kc_dump_text.specs.Words.{below_of}
 abbrev pub words_in : List ℕ → List (List ℕ)
 words_in line = slice_split (λ b. b == 32) line
 
--- one that is registered
+-- a virtual processor that is registered
 abbrev pub waiting : Option ℕ → Vcpu
 waiting fault = record { registered = true; fault = fault }
 

@@ -1,4 +1,4 @@
-//! Why a text is no state's.
+//! Why a text is not a state's.
 ghost use Rattle.std.specs.Prelude.{◌≡◌, ◌≤◌, length};
 ghost use Rattle.kc_state_text.specs.Faults.{state_fault_words, state_fault_number, state_fault_end};
 ghost use Rattle.kc_state_text.specs.declared.fault.StateFault.TheVariants.{Memory};
@@ -7,16 +7,17 @@ use kc_audit::Finding;
 use kc_types::Memory as Want;
 use std::alloc::AllocFailed;
 
-/// Why a text is no lawful state's. Lines are taken from the front, and the first fault is answered.
+/// Why a text is not a lawful state's. Lines are read in order, and the first fault counts.
 #[derive(Clone, Copy, Debug, PartialEq, Eq)]
 pub enum StateFault {
     /// The text does not begin with the header and its newline.
     NoHeader,
-    /// No line of this number may stand there, counted from 1 with the header as the first.
+    /// The line of this number, counted from 1 with the header as the first, may not be there.
     BadLine(u32),
-    /// In the dump the line of this frame is due, and another frame's stands there, or none.
+    /// In the dump, the line of this frame is due, and another frame's line is there, or none.
     Missing(u32),
-    /// The numbers are of no configuration, or the lines before the dump are of other slots or frames than its own.
+    /// There is no configuration of these numbers, or the lines before the dump are of other slots or frames than its
+    /// own.
     Sizes,
     /// What an audit of the dump finds first.
     Found(Finding),
@@ -25,13 +26,13 @@ pub enum StateFault {
     /// No lawful state has this frame: its digest is not that of its page, it is free and not zero, or it is shared by a VM
     /// that is not active.
     Frame(u32),
-    /// A growth of memory was refused.
+    /// Memory could not be had.
     Memory,
 }
 
 impl StateFault {
-    /// What is wrong; of a line, a frame or a slot, what is said before its number, and of what an audit finds, before its
-    /// text.
+    /// What is wrong; for a line, a frame or a slot, what is said before its number, and for what an audit finds,
+    /// before its text.
     pub const fn words(&self) -> &'static str
         ensures text { result.now ≡ state_fault_words self.now }
         ensures short { length result.now ≤ 40 }
@@ -61,7 +62,7 @@ impl StateFault {
         }
     }
 
-    /// What is said behind the number.
+    /// What is said after the number.
     pub const fn end(&self) -> &'static str
         ensures text { result.now ≡ state_fault_end self.now }
         ensures short { length result.now ≤ 20 }

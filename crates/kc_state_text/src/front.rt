@@ -36,7 +36,7 @@ impl Model for Front {
 impl Front {
     ghost use Rattle.kc_state_text.specs.Refused.{line_count};
 
-    /// How many lines these are.
+    /// The number of these lines.
     pub fn line_count(&self) -> u32
         requires { line_count self.now < 2 ^ 32 }
         ensures { result ≡ line_count self.now }
@@ -45,7 +45,7 @@ impl Front {
     }
 }
 
-/// What stands behind the header, if the text begins with it.
+/// What follows the header, if the text begins with it.
 fn behind_header(text: &[u8]) -> Option<&[u8]>
     ensures { MatchOption result ((rest : List ℕ) → text.now ≡ state_header ++ rest → ⊥) (λ rest. text.now ≡ state_header ++ rest.now) }
 {
@@ -60,7 +60,7 @@ fn behind_header(text: &[u8]) -> Option<&[u8]>
     }
 }
 
-/// The sizes, if the text begins with their line, and what stands behind it.
+/// Reads the sizes, if the text begins with their line; also returns what follows it.
 fn sizes_at(text: &[u8]) -> Option<(Sizes, &[u8])>
     ensures { MatchOption result (HasNone AreSizes sizes_line text.now) (λ cut. BeginsAs AreSizes sizes_line text.now cut.0 cut.1.now) }
 {
@@ -68,7 +68,7 @@ fn sizes_at(text: &[u8]) -> Option<(Sizes, &[u8])>
     Some((read_sizes(line)?, rest))
 }
 
-/// An approved digest, if the text begins with the line of one, and what stands behind it.
+/// Reads an approved digest, if the text begins with the line of one; also returns what follows it.
 fn approved_at(text: &[u8]) -> Option<([u8; 32], &[u8])>
     ensures { MatchOption result (HasNone IsDigest approved_line text.now) (λ cut. BeginsAs IsDigest approved_line text.now cut.0 cut.1.now) }
 {
@@ -76,7 +76,7 @@ fn approved_at(text: &[u8]) -> Option<([u8; 32], &[u8])>
     Some((read_approved(line)?, rest))
 }
 
-/// A slot, if the text begins with the line of one, and what stands behind it.
+/// Reads a slot, if the text begins with the line of one; also returns what follows it.
 fn slot_at(text: &[u8]) -> Option<(SlotRest, &[u8])>
     ensures { MatchOption result (HasNone IsSlotLine slot_line text.now) (λ cut. BeginsAs IsSlotLine slot_line text.now cut.0 cut.1.now) }
 {
@@ -84,7 +84,7 @@ fn slot_at(text: &[u8]) -> Option<(SlotRest, &[u8])>
     Some((read_slot(line)?, rest))
 }
 
-/// So many approved digests, the first on the line of this number, and what stands behind them.
+/// Reads this many approved digests, the first on the line of this number; also returns what follows them.
 fn read_all_approved<'a>(
     alloc: Global,
     text: &'a [u8],
@@ -109,7 +109,7 @@ fn read_all_approved<'a>(
     Ok((digests, rest))
 }
 
-/// So many slots, the first on the line of this number, and what stands behind them.
+/// Reads this many slots, the first on the line of this number; also returns what follows them.
 fn read_all_slots<'a>(
     alloc: Global,
     text: &'a [u8],
@@ -133,7 +133,7 @@ fn read_all_slots<'a>(
     Ok((slots, rest))
 }
 
-/// The bytes of so many pages, the first on the line of this number, and what stands behind them.
+/// Reads the bytes of this many pages, the first on the line of this number; also returns what follows them.
 fn read_all_pages<'a>(
     alloc: Global,
     text: &'a [u8],
@@ -157,7 +157,7 @@ fn read_all_pages<'a>(
     Ok((pages, rest))
 }
 
-/// All lines before the dump, and what stands behind them.
+/// Reads all lines before the dump; also returns what follows them.
 pub fn read_front(alloc: Global, text: &[u8]) -> Result<(Front, &[u8]), StateFault>
     requires { length text.now ≤ byte_limit }
     ensures { MatchResult result

@@ -20,14 +20,14 @@ pub fn one_text()
     states::one_state()
 }
 
-/// What is refused is no lawful state's text.
+/// What is refused is not a lawful state's text.
 pub fn refused()
     ensures { (text : List ℕ) (fault : Fault) → (fault ≡ Memory → ⊥) → IsRefusedState text fault → (m : State) → IsCoreState m → length text ≤ byte_limit → text ≡ state_text m → ⊥ }
 {
     states::unlawful()
 }
 
-/// Volumes that are replayed each by itself, the first from the text of the boot state, are one run of one thread.
+/// Volumes that are each replayed alone, the first from the text of the boot state, are one run of one thread.
 pub fn one_run()
     ensures { (config : Configuration) (volumes : List Volume) → IsConfiguration config → All IsDigest config.approved → AreReplayedFrom state_text (state_text (boot config)) volumes → IsOneRun config volumes }
 {

@@ -17,7 +17,7 @@ use kc_types::{
     DIGEST_LIMIT, FRAME_LIMIT, GFN_LIMIT, IMAGE_LIMIT, Image, SLOT_LIMIT, VCPU_LIMIT, Vcpu,
 };
 
-/// The line of sizes, each one that a configuration may have.
+/// Reads the line of sizes, each one that a configuration may have.
 pub fn read_sizes(line: &[u8]) -> Option<Sizes>
     ensures { MatchOption result
         (LacksWhole AreSizes (behind (codes "config") sizes_words) (words_in line.now))
@@ -38,7 +38,7 @@ pub fn read_sizes(line: &[u8]) -> Option<Sizes>
     })
 }
 
-/// The line of an approved digest.
+/// Reads the line of an approved digest.
 pub fn read_approved(line: &[u8]) -> Option<[u8; 32]>
     ensures { MatchOption result
         (LacksWhole IsDigest (behind (codes "approved") approved_words) (words_in line.now))
@@ -51,7 +51,7 @@ pub fn read_approved(line: &[u8]) -> Option<[u8; 32]>
     Some(digest)
 }
 
-/// A virtual processor's word.
+/// Reads a virtual processor's word.
 #[tactic(auto, unfolding(crate::specs::Words::vcpu_in))]
 fn vcpu_of(word: &[u8]) -> Option<Vcpu>
     ensures { result ≡ vcpu_in word.now }
@@ -79,7 +79,7 @@ fn vcpu_of(word: &[u8]) -> Option<Vcpu>
     }
 }
 
-/// The next virtual processor.
+/// Reads the next virtual processor.
 fn read_vcpu(words: &mut LineWords) -> Option<Vcpu>
     ensures { MatchOption result
         (LacksFirst IsVcpuWord vcpu_words words.old)
@@ -88,7 +88,7 @@ fn read_vcpu(words: &mut LineWords) -> Option<Vcpu>
     vcpu_of(words.next()?)
 }
 
-/// The next 8 virtual processors.
+/// Reads the next 8 virtual processors.
 fn read_vcpus(words: &mut LineWords) -> Option<ArrayVec<Vcpu, VCPU_LIMIT>>
     ensures { MatchOption result
         (LacksFirst AreVcpus vcpus_words words.old)
@@ -101,7 +101,7 @@ fn read_vcpus(words: &mut LineWords) -> Option<ArrayVec<Vcpu, VCPU_LIMIT>>
     Some(vcpus)
 }
 
-/// The next image.
+/// Reads the next image.
 fn read_image(words: &mut LineWords) -> Option<Image>
     ensures { MatchOption result
         (LacksFirst AreImageWords image_words words.old)
@@ -113,7 +113,7 @@ fn read_image(words: &mut LineWords) -> Option<Image>
     Some(Image { base, len, pages })
 }
 
-/// The images that the words left are, at most 4.
+/// Reads the words that are left as images, at most 4.
 fn read_images(words: &mut LineWords) -> Option<ArrayVec<Image, IMAGE_LIMIT>>
     ensures { MatchOption result
         (LacksWhole AreImages images_words words.old)
@@ -130,7 +130,7 @@ fn read_images(words: &mut LineWords) -> Option<ArrayVec<Image, IMAGE_LIMIT>>
     Some(images)
 }
 
-/// The line of a slot.
+/// Reads the line of a slot.
 pub fn read_slot(line: &[u8]) -> Option<SlotRest>
     ensures { MatchOption result
         (LacksWhole IsSlotLine (behind (codes "slot") slot_words) (words_in line.now))

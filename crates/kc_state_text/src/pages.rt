@@ -21,7 +21,7 @@ pub fn is_zero(bytes: &[u8]) -> bool
     bytes.iter().all(|byte| *byte == 0)
 }
 
-/// The bytes of a page, seen as them.
+/// A buffer for the bytes of a page, seen as these bytes.
 #[derive(Drop)]
 pub struct Buffer {
     bytes: SecretBytes,
@@ -39,7 +39,7 @@ impl Model for Buffer {
 }
 
 impl Buffer {
-    /// All zero.
+    /// Makes a buffer of zeros.
     pub fn new(alloc: Global) -> Result<Buffer, Memory> {
         Ok(Buffer {
             bytes: SecretBytes::new(vec![in alloc; 0u8; PAGE_SIZE as usize]?),
@@ -47,7 +47,7 @@ impl Buffer {
     }
 }
 
-/// The bytes that a word of digits is, if they are those of a page and not all zero.
+/// Decodes a word of digits, and returns whether it spells the bytes of a page that are not all zero.
 fn decode_page(word: &[u8], bytes: &mut [u8]) -> bool
     requires { length bytes.old ≡ page_size }
     ensures spelled { IsTrue result → AreDigits word.now bytes.new }
@@ -62,7 +62,7 @@ fn decode_page(word: &[u8], bytes: &mut [u8]) -> bool
     !is_zero(bytes)
 }
 
-/// Lets a zero page have the bytes that a word is, and says whether it is the word of a page.
+/// Fills a zero page from its spelling; returns false if the word does not spell a page.
 fn fill_page(word: &[u8], page: &mut PageBytes, buffer: &mut Buffer) -> bool
     requires { page.old ≡ zero_page }
     ensures spelled { IsTrue result → IsWhole IsPage page_word word.now page.new }
@@ -94,7 +94,7 @@ impl Model for Pages {
 }
 
 impl Pages {
-    /// None yet.
+    /// Makes an empty list of pages.
     pub fn new(alloc: Global) -> Pages
         ensures { result ≡ [] }
     {
@@ -103,7 +103,7 @@ impl Pages {
         }
     }
 
-    /// One more page, if a word is that of one.
+    /// Adds a page, if a word spells one.
     fn add(&mut self, alloc: Global, word: &[u8], buffer: &mut Buffer) -> Result<bool, Memory>
         ensures spelled { IfOk result (λ valid. IsTrue valid → IsOneMore IsPage page_word word.now self.old self.new) }
         ensures refused { IfOk result (λ valid. valid ≡ false → LacksWhole IsPage page_word word.now) }
@@ -117,7 +117,7 @@ impl Pages {
         Ok(true)
     }
 
-    /// One more page, if the text begins with the line of one, and what stands behind it.
+    /// Adds a page, if the text begins with the line of one; returns what follows it.
     pub fn read<'a>(
         &mut self,
         alloc: Global,

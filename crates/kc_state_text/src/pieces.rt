@@ -1,4 +1,4 @@
-//! A state's text, a piece at a time, so that it never lies in memory as a whole.
+//! A state's text, a piece at a time, so that it is never in memory as a whole.
 ghost use Rattle.std.specs.Prelude.{ℕ, List, MatchOption, ◌≡◌, ◌<◌, ◌≤◌, ◌+◌, ◌++◌, ◌↔◌, [], length, vec_len, vec_capacity, IsTrue, IfOk};
 ghost use Rattle.kc_state.specs.Dumping.{dump_of};
 ghost use Rattle.kc_state.specs.Form.{in_form};
@@ -18,7 +18,7 @@ use std::alloc::Global;
 use std::marker::Model;
 use std::thread::Threads;
 
-/// Bytes of which the first were given, seen as the others.
+/// Bytes of which the first were given; it is seen as the others.
 #[derive(Drop)]
 struct Left {
     bytes: Vec<u8>,
@@ -36,7 +36,7 @@ impl Model for Left {
 }
 
 impl Left {
-    /// None were given.
+    /// Takes all these bytes, none of which were given.
     fn all(bytes: Vec<u8>) -> Left
         ensures { result ≡ bytes.items }
     {
@@ -71,7 +71,7 @@ impl Left {
     }
 }
 
-/// The text of a core's state in a form, of which some was given already.
+/// The text of a core's state in a form, some of which was given already.
 #[derive(Drop)]
 pub struct StatePieces {
     form: StateForm,
@@ -97,7 +97,7 @@ impl Model for StatePieces {
 }
 
 impl StatePieces {
-    /// The whole text of a core with this dump, of which nothing was given.
+    /// Makes the whole text of a core with this dump, nothing of which was given.
     fn begun(
         alloc: Global,
         core: &KCore,
@@ -118,8 +118,8 @@ impl StatePieces {
         })
     }
 
-    /// The whole text, of which nothing was given. All memory that it takes is taken here: `Memory` where a growth was
-    /// refused. The pages are hashed by several threads, of so many at once.
+    /// Makes the whole text, nothing of which was given. All memory that it needs is taken here: `Memory` if memory
+    /// cannot be had. The pages are hashed by several threads, this many side by side.
     pub fn new(
         rt: &(impl Threads + Sync),
         alloc: Global,
@@ -132,7 +132,7 @@ impl StatePieces {
         StatePieces::begun(alloc, core, StateForm::Whole, &dumped)
     }
 
-    /// The whole text in a form, as `new` makes it, by this thread alone.
+    /// Makes the whole text in a form, as `new` does, on this thread alone.
     pub fn alone(alloc: Global, core: &KCore, form: StateForm) -> Result<StatePieces, Memory>
         ensures { IfOk result (λ pieces. to_come core.now pieces ≡ state_text (in_form form core.now)) }
     {
@@ -140,7 +140,7 @@ impl StatePieces {
         StatePieces::begun(alloc, core, form, &dumped)
     }
 
-    /// At least as many bytes as are still to come.
+    /// An upper bound for the number of bytes that are still to come.
     pub(crate) fn most(&self, core: &KCore) -> usize {
         let pages = LONGEST_PAGE_LINE.saturating_mul(core.config().frames() as usize);
         let ends = self
@@ -151,7 +151,7 @@ impl StatePieces {
         pages.saturating_add(ends)
     }
 
-    /// Appends the lines of the next pages, one at least, as many as there is room for.
+    /// Appends the lines of the next pages, at least one, as many as there is room for.
     fn give_pages(&mut self, core: &KCore, piece: &mut Vec<u8>)
         requires room { vec_len piece.old + longest_page_line ≤ vec_capacity piece.old }
         requires front { self.old.front ≡ [] }
@@ -170,8 +170,8 @@ impl StatePieces {
         }
     }
 
-    /// Gives the next piece of the text, in place of what stands there: as much as the piece has room for, 8,198 bytes or
-    /// more. It is empty only where nothing is left.
+    /// Replaces the piece by the next piece of the text: as much as it has room for, at least 8,198 bytes. It is empty
+    /// only if nothing is left.
     pub fn fill(&mut self, core: &KCore, piece: &mut Vec<u8>)
         requires { longest_page_line ≤ vec_capacity piece.old }
         ensures given { piece.new.items ++ to_come core.now self.new ≡ to_come core.now self.old }
@@ -192,7 +192,7 @@ impl StatePieces {
 /// How much of a text is compared at once, in bytes.
 const PIECE: usize = 65_536;
 
-/// What stands behind some bytes, if the text begins with them.
+/// What follows some bytes, if the text begins with them.
 fn behind<'a>(text: &'a [u8], bytes: &[u8]) -> Option<&'a [u8]>
     ensures { MatchOption result ((rest : List ℕ) → text.now ≡ bytes.now ++ rest → ⊥) (λ rest. text.now ≡ bytes.now ++ rest.now) }
 {
@@ -222,8 +222,8 @@ fn is_rest(core: &KCore, pieces: StatePieces, piece: &mut Vec<u8>, text: &[u8]) 
     }
 }
 
-/// Whether a text is that of a core's state. It is written piece by piece beside the text, and the memory that held a piece is
-/// wiped. `Memory` where a growth was refused.
+/// Whether a text is that of a core's state. It is written piece by piece and compared with the text, and the memory
+/// that held a piece is wiped. `Memory` if memory cannot be had.
 pub fn is_state_text(
     rt: &(impl Threads + Sync),
     alloc: Global,

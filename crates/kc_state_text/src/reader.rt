@@ -17,7 +17,7 @@ use kc_state::{Told, Unlawful, core_alone, core_of};
 use std::alloc::Global;
 use std::thread::Threads;
 
-/// What is wrong with a state where this is wrong with its dump, which stands behind so many lines.
+/// What is wrong with a state if this is wrong with its dump, which comes after this many lines.
 fn dump_fault(fault: DumpFault, before: u32) -> StateFault
     requires few { before < 2 ^ 31 }
     requires counted { (n : ℕ) → fault ≡ BadLine n → before + n < 2 ^ 32 }
@@ -31,7 +31,7 @@ fn dump_fault(fault: DumpFault, before: u32) -> StateFault
     }
 }
 
-/// The lines before the dump and the dump together.
+/// Joins the lines before the dump and the dump.
 fn told_of(front: Front, dump: Dump) -> Told
     ensures host { result.rest.host ≡ front.sizes.host }
     ensures approved { result.rest.approved ≡ front.approved }
@@ -54,7 +54,7 @@ fn told_of(front: Front, dump: Dump) -> Told
     }
 }
 
-/// All that a text tells, of at most 1,073,741,824 bytes.
+/// Reads the whole description in a text of at most 1,073,741,824 bytes.
 fn read_told(alloc: Global, text: &[u8]) -> Result<Told, StateFault>
     requires { length text.now ≤ byte_limit }
     ensures { MatchResult result (λ told. IsTextOf text.now told) (λ fault. IsRefusedState text.now fault) }
@@ -67,7 +67,7 @@ fn read_told(alloc: Global, text: &[u8]) -> Result<Told, StateFault>
     }
 }
 
-/// What is wrong with the text of what is told of no lawful state.
+/// What is wrong with a text that describes no lawful state.
 fn unlawful_fault(why: Unlawful) -> StateFault
     ensures { result ≡ unlawful_fault why }
 {
@@ -80,8 +80,9 @@ fn unlawful_fault(why: Unlawful) -> StateFault
     }
 }
 
-/// The core whose state's text this is, of at most 1,073,741,824 bytes. Memory is the only fault that says nothing of the
-/// text. The pages are hashed by several threads, of so many at once, and compared with their digests.
+/// Makes the core whose state's text this is, of at most 1,073,741,824 bytes. Only `Memory` is a fault that says
+/// nothing about the text. The pages are hashed by several threads, this many side by side, and compared with their
+/// digests.
 pub fn read_state(
     rt: &(impl Threads + Sync),
     alloc: Global,
@@ -89,7 +90,7 @@ pub fn read_state(
     lanes: Lanes,
 ) -> Result<KCore, StateFault>
     requires { length text.now ≤ byte_limit }
-    // What is read is the state's one text, and what is refused is no lawful state's, for its first fault.
+    // What is read is the state's one text, and what is refused is not a lawful state's, for its first fault.
     ensures state { IfOk result (λ core. text.now ≡ state_text core) }
     ensures core { IfOk result IsCoreState }
     ensures refused { IfErr result (IsRefusedState text.now) }
@@ -104,7 +105,7 @@ pub fn read_state(
     }
 }
 
-/// What `read_state` answers, by this thread alone, which hashes page by page.
+/// Does what `read_state` does, on this thread alone, which hashes page by page.
 pub fn read_state_alone(alloc: Global, text: &[u8]) -> Result<KCore, StateFault>
     requires { length text.now ≤ byte_limit }
     ensures state { IfOk result (λ core. text.now ≡ state_text core) }

@@ -1,4 +1,4 @@
-//! The whole text of a core's state, made by the thread that asks.
+//! The whole text of a core's state, made by the calling thread.
 ghost use Rattle.std.specs.Prelude.{◌≡◌, ◌≤◌, ◌++◌, vec_capacity, IfOk, OnOk};
 ghost use Rattle.sha2.specs.Sha256.{sha256};
 ghost use Rattle.kc_state.specs.Form.{in_form};
@@ -16,7 +16,7 @@ use std::alloc::Global;
 /// How much of a text is appended at once, in bytes.
 const PIECE: usize = 65_536;
 
-/// Appends all that is to come.
+/// Appends all that is still to come.
 fn push_pieces(
     text: &mut Vec<u8>,
     core: &KCore,
@@ -36,7 +36,7 @@ fn push_pieces(
     }
 }
 
-/// The text of a core's state in a form, for which memory is taken once. `Memory` where a growth was refused. What held
+/// Makes the text of a core's state in a form; memory for it is taken once. `Memory` if memory cannot be had. What held
 /// pieces of it is wiped, and so is the text when it is dropped.
 pub fn whole_text(alloc: Global, core: &KCore, form: StateForm) -> Result<SecretBytes, Memory>
     // No clause can rule out that memory runs out: tests ask for states.
@@ -54,8 +54,8 @@ pub fn whole_text(alloc: Global, core: &KCore, form: StateForm) -> Result<Secret
     }
 }
 
-/// The SHA-256 digest of the text of a core's state in a form: what `sha256sum` prints of it. `Memory` where a growth was
-/// refused.
+/// Computes the SHA-256 digest of the text of a core's state in a form: what `sha256sum` prints for it. `Memory` if
+/// memory cannot be had.
 pub fn state_digest(alloc: Global, core: &KCore, form: StateForm) -> Result<[u8; 32], Memory>
     // No clause can rule out that memory runs out: tests ask for digests.
     ensures { IfOk result (λ digest. digest ≡ sha256 (state_text (in_form form core.now))) }

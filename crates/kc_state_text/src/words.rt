@@ -16,14 +16,14 @@ pub fn take_name(words: &mut LineWords, name: &[u8]) -> Option<()>
     }
 }
 
-/// The next word as a number.
+/// Takes the next word as a number.
 pub fn take_number(words: &mut LineWords) -> Option<u32>
     ensures { MatchOption result (LacksFirst IsNumber number_words words.old) (λ n. words.old ≡ decimal n ∷ words.new) }
 {
     read_number(words.next()?)
 }
 
-/// The next word as a number that is at most this.
+/// Takes the next word as a number that is at most this.
 pub fn take_number_to(words: &mut LineWords, most: u32) -> Option<u32>
     ensures { MatchOption result (LacksFirst (IsAtMost most) number_words words.old) (λ n. BeginsAs (IsAtMost most) number_words words.old n words.new) }
 {

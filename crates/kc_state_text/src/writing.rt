@@ -163,7 +163,8 @@ fn push_sizes(text: &mut Vec<u8>, sizes: Sizes) -> Result<(), Memory>
     Ok(())
 }
 
-/// The lines of a core's state before those of its pages: at most 300,000 bytes. `Memory` where a growth was refused.
+/// Makes the lines of a core's state before those of its pages: at most 300,000 bytes. `Memory` if memory cannot be
+/// had.
 pub fn write_front(alloc: Global, core: &KCore) -> Result<Vec<u8>, Memory>
     // No clause can rule out that memory runs out: a test writes states.
     ensures { IfOk result (λ text. text.items ≡ front_begin core.now) }

@@ -1,4 +1,4 @@
--- Steps over bytes that a source or a sink tells.
+-- Steps over bytes that a source or a sink reports.
 use Rattle.std.proofs.Common.{◌≡◌, ◌≤◌, ◌+◌, ◌-◌, ℕ, List, ◌++◌, length, take, drop, Option, sym, ap, ◌∙◌, arith, length-append}
 use Rattle.std.proofs.lemmas.List.{take_at, take-take, take-append-drop, take-append-le, length-take, length-drop, drop-drop}
 use Rattle.std.proofs.Math.Seq.{take-add, take-append-add}
@@ -11,14 +11,14 @@ read_part bytes buffer from n le =
     let front : take n (take n (drop from bytes) ++ drop n buffer) ≡ take n (drop from bytes) = take_at (take n (drop from bytes)) (drop n buffer) n (omega (arith, length-take n (drop from bytes))) in
     rw (front, ← drop-drop n from bytes) (sym (take-append-drop n (drop from bytes)))
 
--- what a read copies behind the bytes at the front
+-- what a read copies to a place after the bytes at the front
 pub read_behind : (front buffer after rest : List ℕ) (used n len : ℕ) → length front ≡ used → n ≤ length buffer → used + n ≤ len → take (used + n) (take len (front ++ (buffer ++ after) ++ rest)) ≡ front ++ take n buffer
 read_behind front buffer after rest used n len is le within =
     let fits : used + n ≤ length (front ++ (buffer ++ after)) = omega (arith, is, le, length-append front (buffer ++ after), length-append buffer after) in
     let here : take (used + n) (front ++ (buffer ++ after)) ≡ front ++ take n (buffer ++ after) = rw (sym is) (take-append-add front (buffer ++ after) n) in
     take-take (used + n) len (front ++ (buffer ++ after) ++ rest) within ∙ take-append-le (used + n) (front ++ (buffer ++ after)) rest fits ∙ here ∙ ap (λ xs. front ++ xs) (take-append-le n buffer after le)
 
--- bytes are as many at least as a beginning of theirs
+-- there are at least as many bytes as in a beginning of them
 pub begun_with : (bytes front : List ℕ) (n : ℕ) → take n bytes ≡ front → length front ≡ n → n ≤ length bytes
 begun_with bytes front n is len = omega (arith, length-take n bytes, ap length is, len)
 

@@ -1,4 +1,4 @@
--- Which fault of reading a fault of the engine is.
+-- Which fault of the engine a fault of reading is.
 use Rattle.std.proofs.Common.{◌≡◌, ◌≢◌, ap}
 use Rattle.kc_trace.specs.declared.config_text.ConfigTextFault.{ConfigTextFault}
 use Rattle.kc_trace.specs.declared.fault.TraceFault.TheVariants.{Memory}

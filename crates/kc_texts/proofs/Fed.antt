@@ -40,7 +40,7 @@ fails_is Memory read other h = absurd (other refl)
 
 -- ---- how many calls came
 
--- behind so many bytes the calls are counted, and there are not too many of them
+-- after this many bytes the calls are counted, and there are not too many of them
 abbrev Counts : Progress → Progress × List Call → Type 0
 Counts p read = (read.0.calls ≡ p.calls + length read.1) × (read.0.calls ≤ call_limit)
 
@@ -97,7 +97,7 @@ feed_counts bytes p le = lines_counts (slice_split (λ b. b == 10) bytes) p le
 
 -- ---- one more piece
 
--- it is hashed too
+-- the piece is hashed too
 abbrev Hashes : Streamed → Streamed → List ℕ → Type 0
 Hashes stream after piece = (bytes : List ℕ) → AreHashed stream.hasher bytes → AreHashed after.hasher (bytes ++ piece)
 
@@ -176,7 +176,7 @@ finished stream bytes calls (Some text) now result h end e =
     let same : text ≡ bytes = all_read (Some text) now bytes h.consumed end in
     rw same (reading_of bytes stream.reader.fault stream.reader.progress calls result h.so_far e)
 
--- what was read is the trace, or why there is none
+-- what was read is the trace, or there is none for this reason
 read_is_trace : (known : Option (List ℕ)) (calls : List Call) → IfSome known (λ text. reading text ≡ Ok calls) → IfSome known (λ text. IsTrace text calls)
 read_is_trace None calls h = tt
 read_is_trace (Some text) calls h = let e : Reads text (Ok calls) = rw h at (reading_reads text) in e

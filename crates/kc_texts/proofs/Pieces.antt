@@ -9,7 +9,7 @@ use Rattle.std.specs.Io.KnownBytes.{Appends}
 use Rattle.std.proofs.KnownBytes.{Appends-trans}
 use Rattle.std.specs.List.{flat_map}
 
--- of this text the sink took a beginning, and what is left of it stands in the buffer
+-- of this text the sink took a beginning, and the rest of it is in the buffer
 pub record IsGiven (text piece : List ℕ) (old new : Option (List ℕ)) : Type 0 where
   pub sent : List ℕ
   pub taken : Appends old new sent
@@ -25,11 +25,11 @@ given_whole text piece old mid new given more = record {
 pub given_all : (text : List ℕ) (old new : Option (List ℕ)) → IsGiven text [] old new → Appends old new text
 given_all text old new given = rw (given.joined, append-nil given.sent) given.taken
 
--- the lines of some values after a front
+-- the lines of some values, after a front
 abbrev pub text_of : {X : Type 0} → (X → List ℕ) → List ℕ → List X → List ℕ
 text_of line front xs = front ++ flat_map line xs
 
--- one line more, which the buffer took
+-- one more line, which the buffer took
 pub given_more : {X : Type 0} (line : X → List ℕ) (front : List ℕ) (xs : List X) (x : X) (piece more : List ℕ) (old new : Option (List ℕ)) → IsGiven (text_of line front xs) piece old new → more ≡ piece ++ line x
     → IsGiven (text_of line front (xs ++ x ∷ [])) more old new
 given_more line front xs x piece more old new given grown =

@@ -1,4 +1,4 @@
--- What is told of the ends stays so in the last step of an engine.
+-- What is reported of the ends stays true in the last step of an engine.
 use Rattle.std.proofs.Common.{◌≡◌, ◌≢◌, ◌⊎◌, ℕ, Bool, true, List, Option, Some, None, Result, Ok, Err, inl, inr, refl}
 use Rattle.std.specs.Prelude.{IfErr, IfSome, is_err, OnErr}
 use Rattle.std.specs.Io.KnownBytes.{IsAtEnd}
@@ -18,7 +18,7 @@ use Rattle.kc_texts.specs.Outcomes.{Seen, TellsSources, TellsTexts, TellsReplay,
 use Rattle.kc_texts.specs.declared.fault.TextFault.{TextFault}
 use Rattle.kc_texts.specs.declared.fault.TextFault.TheVariants as texts
 
--- the last step is refused for memory or for its sink alone
+-- the last step is refused for memory or its sink only
 abbrev pub IsLastFault : TextFault → Type 0
 IsLastFault fault = (fault ≡ texts.Memory) ⊎ (fault ≡ texts.Write)
 
@@ -60,11 +60,11 @@ replay_err workers origin start f h = record {
   slot = λ n e. h.slot n (let same : f ≡ texts.NoSlot n = cc in cc);
 }
 
--- the sink took a beginning of what stands for more
+-- the sink took a beginning, and more follows from that
 pub sink_more : {A : Type 0} (failed : Bool) (begun more untouched : Type 0) (result : Result A TextFault) → (begun → more) → TellsSink failed begun untouched result → TellsSink failed more untouched result
 sink_more failed begun more untouched result step h = record { write = λ e. let one = h.write e in (one.0, step one.1); failed_is = h.failed_is; kept = h.kept }
 
--- a source that tells its text tells a start
+-- a source that reports its text reports a start
 pub begun_is : (origin : Origin) (had : Option (List ℕ)) (m : State) → IfSome had (λ text. BeginsIn origin text m) → IsBegun origin had
 begun_is origin None m h = tt
 begun_is origin (Some text) m h = (m, h)
@@ -90,7 +90,7 @@ texts_start origin start trace unread f config state fault none = record {
   told = fault.reading.told;
 }
 
--- the trace was refused, behind a start
+-- the trace was refused, after a start
 pub texts_trace : {A : Type 0} (origin : Origin) (start trace : Seen) (unread : Type 0) (m : State) (f : TextFault) → IfSome start.had (λ text. BeginsIn origin text m) → ((said : TraceFault) → f ≡ texts.Trace said → IfSome trace.had (λ text. IsRefused text said) × IsAtEnd trace.has)
     → ((said : ConfigTextFault) → f ≢ texts.Config said) → ((said : StateFault) → f ≢ texts.State said) → IsTold f → TellsTexts {A = A} origin start trace unread (Err f)
 texts_trace origin start trace unread m f known refused config state told = record {

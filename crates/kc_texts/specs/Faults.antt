@@ -44,7 +44,7 @@ abbrev pub state_fault : StateFault → TextFault
 state_fault states.Memory = texts.Memory
 state_fault fault = texts.State fault
 
--- 3 where memory, a thread, a source or the sink failed, 2 where the input is refused
+-- 3 if memory, a thread, a source or the sink failed, 2 if the input is refused
 abbrev pub status_of : TextFault → ℕ
 status_of (texts.Config configs.Memory) = 3
 status_of (texts.Config fault) = 2
@@ -92,7 +92,7 @@ abbrev pub numeral_of : Option ℕ → List ℕ
 numeral_of None = []
 numeral_of (Some number) = decimal number
 
--- what is said behind the number
+-- what is said after the number
 abbrev pub fault_end : TextFault → List ℕ
 fault_end (texts.Dump fault) = dump_fault_end fault
 fault_end (texts.State fault) = state_fault_end fault

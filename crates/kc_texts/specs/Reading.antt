@@ -20,12 +20,12 @@ use Rattle.kc_texts.specs.declared.origin.Origin.TheVariants as origins
 use Rattle.kc_texts.specs.declared.fault.TextFault.{TextFault}
 use Rattle.kc_texts.specs.declared.fault.TextFault.TheVariants as texts
 
--- calls begin in this state: the boot state of the configuration that the text is, or the one whose text it is
+-- calls begin in this state: the boot state of the configuration that the text spells, or the state that it spells
 abbrev pub BeginsIn : Origin → List ℕ → State → Type 0
 BeginsIn origins.Boot text m = (config : Configuration) × (config_in text ≡ Ok config) × (m ≡ boot config)
 BeginsIn origins.State text m = IsCoreState m × (text ≡ state_text m)
 
--- there is a state in which they begin, where the source tells its text
+-- there is a state in which they begin, if the source reports its text
 abbrev pub IsBegun : Origin → Option (List ℕ) → Type 0
 IsBegun origin None = Unit {0}
 IsBegun origin (Some text) = (m : State) × BeginsIn origin text m
@@ -35,12 +35,12 @@ pub record AreRead (config_text trace_text : List ℕ) (config : Configuration) 
   pub configured : config_in config_text ≡ Ok config
   pub traced : IsTrace trace_text calls
 
--- they are what was read, each where its source tells the text
+-- they are what was read, each if its source reports the text
 pub record HaveRead (config_source trace_source : Option (List ℕ)) (config : Configuration) (calls : List Call) : Type 0 where
   pub configured : IfSome config_source (λ text. config_in text ≡ Ok config)
   pub traced : IfSome trace_source (λ text. IsTrace text calls)
 
--- out of memory is told as that, and never as a fault of a text; no fault is one of a dump
+-- out of memory is reported as that, and never as a fault of a text; no fault is one of a dump
 abbrev pub IsTold : TextFault → Type 0
 IsTold fault = (fault ≢ texts.Config configs.Memory) × (fault ≢ texts.Trace traces.Memory) × (fault ≢ texts.State states.Memory) × ((said : DumpFault) → fault ≢ texts.Dump said)
 
@@ -54,23 +54,23 @@ pub record IsReadingFault (fault : TextFault) : Type 0 where
   pub write : fault ≢ texts.Write
   pub told : IsTold fault
 
--- reading what the calls begin with ends in no fault of a trace
+-- reading what the calls begin with does not end in a fault of a trace
 pub record IsStartFault (fault : TextFault) : Type 0 where
   pub reading : IsReadingFault fault
   pub trace : (said : TraceFault) → fault ≢ texts.Trace said
 
--- reading a configuration ends in no fault of a state either
+-- reading a configuration does not end in a fault of a state either
 pub record IsConfigFault (fault : TextFault) : Type 0 where
   pub start : IsStartFault fault
   pub state : (said : StateFault) → fault ≢ texts.State said
 
--- the sink took a text of what the sources held, where all of them tell
+-- the sink took a text made from what the sources held, if all of them report it
 abbrev pub Writes : (List ℕ → List ℕ → List ℕ → Type 0) → Option (List ℕ) → Option (List ℕ) → Option (List ℕ) → Option (List ℕ) → Type 0
 Writes IsText None trace old new = Unit {0}
 Writes IsText (Some config) None old new = Unit {0}
 Writes IsText (Some config) (Some trace) old new = (text : List ℕ) × IsText config trace text × Appends old new text
 
--- the same of a beginning of the text
+-- the same for a beginning of the text
 abbrev pub Begins : (List ℕ → List ℕ → List ℕ → Type 0) → Option (List ℕ) → Option (List ℕ) → Option (List ℕ) → Option (List ℕ) → Type 0
 Begins IsText None trace old new = Unit {0}
 Begins IsText (Some config) None old new = Unit {0}

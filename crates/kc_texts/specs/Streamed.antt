@@ -1,4 +1,4 @@
--- A trace that is read a part at a time.
+-- A trace that is read one part at a time.
 use Rattle.std.specs.Prelude.{ℕ, ◌≡◌, ◌≤◌, ◌++◌, List, length, Option, Some, None, Result, Ok, Err, IfSome}
 use Rattle.std.specs.Io.KnownBytes.{Consumes}
 use Rattle.sha2.specs.Hashers.{Holds256}
@@ -27,12 +27,13 @@ pub record Streamed : Type 0 where
 abbrev pub AreHashed : Option Sha256 → List ℕ → Type 0
 AreHashed hasher bytes = IfSome hasher (λ h. Holds256 h bytes)
 
--- what reading the bytes so far answers
+-- what reading the bytes so far returns
 abbrev pub answer : Option TraceFault → Progress → List Call → Result (Progress × List Call) TraceFault
 answer None progress calls = Ok (progress, calls)
 answer (Some fault) progress calls = Err fault
 
--- the stream was fed these bytes of a source, which had first and has now so much left, and these calls came
+-- the stream was fed these bytes of a source, which first had this much left and has this much left now, and these
+-- calls came
 pub record HasRead (stream : Streamed) (bytes : List ℕ) (calls : List Call) (first now : Option (List ℕ)) : Type 0 where
   pub so_far : feed start bytes ≡ answer stream.reader.fault stream.reader.progress calls
   pub consumed : Consumes first now bytes
@@ -40,7 +41,7 @@ pub record HasRead (stream : Streamed) (bytes : List ℕ) (calls : List Call) (f
   pub few : length calls ≤ call_limit
   pub hashed : AreHashed stream.hasher bytes
 
--- whatever was read before, these calls came from there on
+-- whatever was read before, the next calls are these
 abbrev pub GoesOn : Streamed → Streamed → Option (List ℕ) → Option (List ℕ) → List Call → Type 0
 GoesOn before after left now more =
     (bytes : List ℕ) (calls : List Call) (first : Option (List ℕ)) → HasRead before bytes calls first left → (piece : List ℕ) × HasRead after (bytes ++ piece) (calls ++ more) first now

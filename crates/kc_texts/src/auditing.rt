@@ -22,7 +22,7 @@ fn is_nothing(found: &[Finding]) -> bool
     found.is_empty()
 }
 
-/// Whether nothing is found in the dump that a text is, and what is written of it.
+/// Audits the dump that a text is: whether nothing is found in it, and what is written of it.
 fn audited(
     rt: &(impl Threads + Sync),
     alloc: Global,
@@ -44,11 +44,11 @@ fn audited(
     Ok((is_nothing(&found), lines))
 }
 
-/// Reads a dump to its end, writes the report of what an audit finds in it, where `all` is set behind a line for each
-/// finding, and answers whether that is nothing.
+/// Reads a dump to its end and writes the report of what an audit finds in it, after a line for each finding if `all`
+/// is set. Returns whether nothing is found.
 ///
-/// Nothing is written but after the whole audit. A source that fails, or that has more than 1,073,741,824 bytes, is
-/// `Read`, also where its bytes so far are refused already.
+/// Nothing is written before the whole audit is done. A source that fails, or that has more than 1,073,741,824 bytes,
+/// is `Read`, even if its bytes so far are refused already.
 pub fn audit_text<D: Source, K: Sink>(
     rt: &(impl Threads + Sync),
     alloc: Global,
@@ -64,7 +64,7 @@ pub fn audit_text<D: Source, K: Sink>(
     ensures sources { TellsSources (seen (D.failed dump.new) (D.left dump.old) (D.left dump.new) ∷ []) result }
     ensures sink { TellsSink (K.failed out.new) (BeginsAudit all (D.left dump.old) (K.taken out.old) (K.taken out.new)) (out.new ≡ out.old) result }
 
-    // A fault of the dump is that of all the bytes that the source held, and no other fault comes.
+    // A fault of the dump is that of all the bytes that the source held, and there is no other fault.
     ensures dump { (fault : DumpFault) → result ≡ Err (TextFault.Dump fault) → IfSome (D.left dump.old) (λ text. IsRefusedDump text fault) × IsAtEnd (D.left dump.new) }
     ensures others { IfErr result (λ fault. IsDumpFault fault ⊎ ((fault ≡ TextFault.Read) ⊎ (fault ≡ TextFault.Write))) }
 {

@@ -1,4 +1,4 @@
-//! What goes wrong between the sources and the sink.
+//! What can go wrong between the sources and the sink.
 ghost use Rattle.std.specs.Prelude.{◌≡◌, ◌≤◌, length};
 ghost use Rattle.kc_texts.specs.Faults.{read_fault, text_fault, config_fault, dump_fault, state_fault, status_of, fault_words, fault_number, fault_end};
 
@@ -10,7 +10,7 @@ use kc_trace::{ConfigTextFault, TraceFault};
 use std::error::Error;
 use std::fmt;
 
-/// Why an engine over texts ended without its answer.
+/// Why an engine over texts ended without a result.
 #[derive(Clone, Copy, Debug, PartialEq, Eq)]
 pub enum TextFault {
     /// The configuration's text is refused.
@@ -23,13 +23,13 @@ pub enum TextFault {
     State(StateFault),
     /// The number of workers is 0 or above 64.
     Workers,
-    /// A growth of memory was refused.
+    /// Memory could not be had.
     Memory,
     /// A thread could not be started.
     Start,
     /// The receipts of a live run are not those of its history.
     Unsettled,
-    /// The actor of this program, counted from 0, is none of the core's.
+    /// The actor of this program, counted from 0, is not one of the core's.
     BadActor(usize),
     /// The machine has no slot of this number.
     NoSlot(u32),
@@ -96,7 +96,7 @@ impl From<StateFault> for TextFault {
 }
 
 impl TextFault {
-    /// The exit status: 2 where the input is refused, 3 where memory, a thread, a source or the sink failed.
+    /// The exit status: 2 if the input is refused, 3 if memory, a thread, a source or the sink failed.
     pub const fn status(&self) -> u8
         ensures { result ≡ status_of self.now }
     {
@@ -156,7 +156,7 @@ impl TextFault {
         }
     }
 
-    /// What is said behind the number.
+    /// What is said after the number.
     pub(crate) const fn end(&self) -> &'static str
         ensures text { result.now ≡ fault_end self.now }
         ensures short { length result.now ≤ 20 }

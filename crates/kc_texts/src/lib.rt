@@ -4,7 +4,7 @@
 //! - how an engine reads its texts, and what goes wrong there: `src/reading.rt`, `src/fault.rt`; a trace, as it comes:
 //!   `src/stream.rt`
 //! - how replies, traces and changes are written in pieces: `src/lines.rt`
-//! - what an engine's answer says of its sources and its sink: `specs/Outcomes.antt`; of what the texts say:
+//! - what an engine's result says of its sources and its sink: `specs/Outcomes.antt`; of the contents of the texts:
 //!   `specs/Reading.antt`, `specs/Audit.antt`, `kc_cli/specs/Engine.antt`, `kc_cli/specs/Live.antt`
 //! - the line and the exit status of each fault: `specs/Faults.antt`, `src/telling.rt`
 #![tactic(auto)]
@@ -29,6 +29,6 @@ pub use origin::Origin;
 pub use reading::{DEFAULT_CONFIG, read_both, read_configuration};
 pub use source::{Failed, PIECE, Sink, Source};
 pub use standard::Std;
-pub use stream::{CallStream, Part, StreamFault, read_calls};
+pub use stream::{CallStream, NextCalls, StreamFault, read_calls};
 pub use telling::tell;
 pub use whole::{ReadFault, read_secret, read_whole};

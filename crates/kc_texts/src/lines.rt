@@ -1,4 +1,4 @@
-//! Text given to a sink: whole, or in lines, a piece at a time.
+//! Giving text to a sink: whole, or in lines, a piece at a time.
 ghost use Rattle.std.specs.Prelude.{◌≡◌, ◌≤◌, ◌+◌, ◌++◌, ◌∷◌, [], false, ℕ, List, take, vec_len, vec_capacity, is_err, IfOk, OnOk, OnErr};
 ghost use Rattle.std.specs.List.{flat_map};
 ghost use Rattle.std.specs.Io.KnownBytes.{Appends};
@@ -31,7 +31,7 @@ pub fn write_whole<S: Sink>(sink: &mut S, bytes: &[u8]) -> Result<(), Failed>
     Ok(())
 }
 
-/// A piece without text, which has room for 65,536 bytes: for the longest line many times over.
+/// Makes an empty piece, which has room for 65,536 bytes: for many of the longest lines.
 pub fn empty_piece(alloc: Global) -> Result<Vec<u8>, Memory>
     ensures empty { IfOk result (λ piece. piece.items ≡ []) }
     ensures room { IfOk result (λ piece. longest_call ≤ vec_capacity piece) }
@@ -39,7 +39,7 @@ pub fn empty_piece(alloc: Global) -> Result<Vec<u8>, Memory>
     Ok(Vec::with_capacity(alloc, PIECE)?)
 }
 
-/// What stands in a line of its own.
+/// What is written on a line of its own.
 pub trait Line {
     /// Its line, with the newline.
     ghost line: { Self → List ℕ };
@@ -67,7 +67,7 @@ impl Line for Call {
     }
 }
 
-/// A change of custody has a line, and no other event has one.
+/// A change of custody has a line; no other event has one.
 impl Line for Event {
     ghost line = { λ event. event_line event };
 
@@ -79,7 +79,7 @@ impl Line for Event {
     }
 }
 
-/// A denied call has a line, an access has one, and an event has its own, if it has one.
+/// A denied call and an access have a line, and an event has its own, if it has one.
 impl Line for Note {
     ghost line = { λ note. note_line note };
 
@@ -92,9 +92,9 @@ impl Line for Note {
     }
 }
 
-/// Gives a sink what the piece holds and then some lines, in pieces as large as that one has room for: memory does not
-/// grow. Each line's owner is let go once its line is in a piece, while its bytes are still in the cache. After an `Err`
-/// the sink has taken a beginning of it.
+/// Gives a sink what the piece holds and then some lines, in pieces as large as that piece has room for: memory does
+/// not grow. Each line's owner is dropped once its line is in a piece, while its bytes are still in the cache. After an
+/// `Err` the sink has taken a beginning of it.
 pub fn give_lines<K: Sink, L: Line + Drop>(
     out: &mut K,
     mut piece: Vec<u8>,

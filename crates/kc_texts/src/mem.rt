@@ -5,7 +5,7 @@ ghost use Rattle.std.specs.Io.KnownBytes.{ReadConsumes};
 use crate::{Failed, Sink, Source};
 use std::alloc::Global;
 
-/// Bytes in memory: as a source those from `position` on are left, as a sink it appends.
+/// Bytes in memory. As a source, those from `position` on are left; as a sink, it appends.
 #[derive(Debug, Drop)]
 pub struct Mem {
     pub bytes: Vec<u8>,
@@ -15,7 +15,7 @@ pub struct Mem {
 }
 
 impl Mem {
-    /// No bytes.
+    /// Makes a `Mem` without bytes.
     pub fn new(alloc: Global) -> Mem
         ensures bytes { result.bytes.items ≡ [] }
         ensures start { result.position ≡ 0 }
@@ -24,7 +24,7 @@ impl Mem {
         Mem::with_bytes(Vec::new(alloc))
     }
 
-    /// These bytes, all of them left.
+    /// Makes a `Mem` of these bytes, all of which are left.
     pub fn with_bytes(bytes: Vec<u8>) -> Mem
         ensures bytes { result.bytes.items ≡ bytes.items }
         ensures start { result.position ≡ 0 }

@@ -17,8 +17,8 @@ use kc_trace::read_config;
 use kc_types::{Call, Config};
 use std::alloc::Global;
 
-/// The configuration where no other is named: 8 frames, of which the first is the core's and the next four are the host's,
-/// one leaf table a VM, and the digest of `abc` approved (from the examples of FIPS 180-4).
+/// The configuration if no other is named: 8 frames, of which the first is the core's and the next four are the host's,
+/// one leaf table for each VM, and the digest of `abc` approved (from the examples of FIPS 180-4).
 pub const DEFAULT_CONFIG: &str =
     "{\"frames\":8,\"core\":1,\"host\":4,\"leaves\":1,\"approved\":[\"ba7816bf8f01cfea414140de5dae2223b00361a396177a9cb410ff61f20015ad\"]}";
 
@@ -38,7 +38,7 @@ pub fn read_configuration<C: Source>(alloc: Global, source: &mut C) -> Result<Co
     Ok(config)
 }
 
-/// Reads a configuration and then a trace, each to its end; the trace only where the configuration is not refused.
+/// Reads a configuration and then a trace, each to its end; the trace only if the configuration is accepted.
 pub fn read_both<C: Source, T: Source>(
     alloc: Global,
     config: &mut C,

@@ -4,18 +4,19 @@ ghost use Rattle.std.specs.Prelude.{◌≡◌, false};
 use crate::{Failed, Sink, Source};
 use std::io::{ErrorKind, Read, Write};
 
-/// A reader of std as a source, or a writer as a sink, that tells what it tells. A call that was interrupted is repeated.
+/// A reader of std as a source, or a writer as a sink, which reports what the reader or writer reports. A call that was
+/// interrupted is repeated.
 #[derive(Drop)]
 pub struct Std<E: Drop> {
     pub inner: E,
     /// Whether a read or a write has failed.
     pub failed: bool,
-    /// About how many bytes the reader had at first, 0 where that is not known.
+    /// About how many bytes the reader had at first, 0 if that is not known.
     size: usize,
 }
 
 impl<E: Drop> Std<E> {
-    /// A source over a reader, or a sink over a writer.
+    /// Makes a source of a reader, or a sink of a writer.
     pub fn new(inner: E) -> Std<E>
         ensures inner { result.inner ≡ inner }
         ensures mark { result.failed ≡ false }
@@ -23,7 +24,7 @@ impl<E: Drop> Std<E> {
         Std::with_size(inner, 0)
     }
 
-    /// A source over a reader of about so many bytes.
+    /// Makes a source of a reader of about this many bytes.
     pub fn with_size(inner: E, size: usize) -> Std<E>
         ensures inner { result.inner ≡ inner }
         ensures mark { result.failed ≡ false }

@@ -21,10 +21,10 @@ use thiserror::Error;
 /// Why the calls of a source are not all read.
 #[derive(Clone, Copy, Debug, PartialEq, Eq, Error)]
 pub enum StreamFault {
-    /// The bytes are no trace.
+    /// The bytes are not a trace.
     #[error("{0}")]
     Trace(TraceFault),
-    /// A growth of memory was refused.
+    /// Memory could not be had.
     #[error("out of memory")]
     Memory,
     /// A read failed, or there are more than 1,073,741,824 bytes.
@@ -46,13 +46,13 @@ impl From<ReadFault> for StreamFault {
     }
 }
 
-/// So many calls are worth going on with, before more are read.
+/// The number of calls that are enough to go on with, before more are read.
 const CALLS_AT_ONCE: usize = 4_096;
 
-/// So many bytes of text are, too: calls with whole pages drop their memory before it has to grow.
+/// The number of bytes of text that are enough, too: calls with whole pages drop their memory before it has to grow.
 const TEXT_AT_ONCE: usize = 2 * PIECE;
 
-/// The calls with more after them; if there were none, those that come as they are.
+/// Appends more calls to these; if there were none, takes the others as they are.
 fn joined(mut calls: Vec<Call>, mut more: Vec<Call>) -> Result<Vec<Call>, AllocError>
     ensures { IfOk result (λ all. all.items ≡ calls.items ++ more.items) }
 {
@@ -65,13 +65,13 @@ fn joined(mut calls: Vec<Call>, mut more: Vec<Call>) -> Result<Vec<Call>, AllocE
 
 /// The next calls of a trace.
 #[derive(Drop)]
-pub struct Part {
+pub struct NextCalls {
     pub calls: Vec<Call>,
     /// Whether the source has no more bytes.
     pub is_last: bool,
 }
 
-/// Hashes a piece more, if bytes are hashed.
+/// Hashes one more piece, if bytes are hashed.
 fn hash(hasher: &mut Option<Sha256>, piece: &[u8])
     ensures hashed { (bytes : List ℕ) → AreHashed hasher.old bytes → AreHashed hasher.new (bytes ++ piece.now) }
     ensures same { is_some hasher.new ≡ is_some hasher.old }
@@ -81,7 +81,8 @@ fn hash(hasher: &mut Option<Sha256>, piece: &[u8])
     }
 }
 
-/// A trace that is read from a source a part at a time. No more of the text is kept than one piece and the line begun.
+/// A trace that is read from a source one part at a time. No more of the text is kept than one piece and the line
+/// begun.
 #[derive(Drop)]
 pub struct CallStream {
     reader: TraceReader,
@@ -102,7 +103,7 @@ impl Model for CallStream {
 }
 
 impl CallStream {
-    /// Before the header.
+    /// Makes a stream that is before the header.
     pub fn new() -> CallStream
         ensures { (first : Option (List ℕ)) → HasRead result [] [] first first }
     {
@@ -113,7 +114,7 @@ impl CallStream {
         }
     }
 
-    /// The same, and the bytes will be hashed.
+    /// Makes the same stream, which also hashes the bytes.
     pub fn hashing() -> CallStream
         ensures none { (first : Option (List ℕ)) → HasRead result [] [] first first }
         ensures hashed { is_some result.hasher ≡ true }
@@ -139,15 +140,15 @@ impl CallStream {
         }
     }
 
-    /// Reads on in the source until at least 4,096 calls or 131,072 bytes came or it has no more bytes. After a fault of
-    /// the trace, which `finish` tells, the rest of the source is only read to its end. What the buffer holds is written
-    /// over.
+    /// Reads from the source until there are at least 4,096 calls or 131,072 bytes, or it has no more bytes. After a
+    /// fault of the trace, which `finish` reports, the rest of the source is only read to its end. The buffer is
+    /// overwritten.
     pub fn next<T: Source>(
         &mut self,
         alloc: Global,
         source: &mut T,
         buffer: &mut [u8; PIECE],
-    ) -> Result<Part, ReadFault>
+    ) -> Result<NextCalls, ReadFault>
         requires { T.failed source.old ≡ false }
         ensures calls { IfOk result (λ part. GoesOn self.old self.new (T.left source.old) (T.left source.new) part.calls.items) }
         ensures last { IfOk result (λ part. part.is_last ≡ true → IsAtEnd (T.left source.new)) }
@@ -167,7 +168,7 @@ impl CallStream {
                 Err(Failed) => return Err(ReadFault::Read),
             };
             if n == 0 {
-                return Ok(Part {
+                return Ok(NextCalls {
                     calls,
                     is_last: true,
                 });
@@ -178,7 +179,7 @@ impl CallStream {
             self.total += n;
             let (piece, _) = buffer.split_at(n);
             hash(&mut self.hasher, piece);
-            // After a fault the reader answers it again, so the rest is only read to its end.
+            // After a fault the reader returns it again, so the rest is only read to its end.
             match self.reader.feed(alloc, piece) {
                 Ok(more) => match joined(calls, more) {
                     Ok(all) => calls = all,
@@ -190,7 +191,7 @@ impl CallStream {
                 },
             }
         }
-        Ok(Part {
+        Ok(NextCalls {
             calls,
             is_last: false,
         })
@@ -200,14 +201,14 @@ impl CallStream {
     pub fn finish(self) -> Result<(), TraceFault>
         ensures ok { OnOk result ((bytes : List ℕ) (calls : List Call) (first now : Option (List ℕ)) → HasRead self bytes calls first now → IsAtEnd now → IfSome first (λ text. IsTrace text calls)) }
         ensures trace { (fault : TraceFault) → result ≡ Err fault → (bytes : List ℕ) (calls : List Call) (first now : Option (List ℕ)) → HasRead self bytes calls first now → IsAtEnd now → IfSome first (λ text. IsRefused text fault) }
-        // Out of memory is no fault of the trace.
+        // Out of memory is not a fault of the trace.
         ensures told { result ≢ Err TraceFault.Memory }
     {
         self.reader.finish()
     }
 }
 
-/// The calls of the trace that a source has left, which is read to its end also where the trace is refused.
+/// Reads the calls of the trace that a source has left. It is read to its end even if the trace is refused.
 pub fn read_calls<T: Source>(alloc: Global, source: &mut T) -> Result<Vec<Call>, StreamFault>
     requires { T.failed source.old ≡ false }
     ensures ok { IfOk result (λ calls. IfSome (T.left source.old) (λ text. IsTrace text calls.items)) }
@@ -215,9 +216,9 @@ pub fn read_calls<T: Source>(alloc: Global, source: &mut T) -> Result<Vec<Call>,
     ensures ended { OnOk result (IsAtEnd (T.left source.new)) }
     ensures trace { (fault : TraceFault) → result ≡ Err (StreamFault.Trace fault) → IfSome (T.left source.old) (λ text. IsRefused text fault) × IsAtEnd (T.left source.new) }
     ensures read { result ≡ Err StreamFault.Read → ReadFailed (T.failed source.new) (T.left source.old) (T.left source.new) }
-    // Out of memory is no fault of the trace.
+    // Out of memory is not a fault of the trace.
     ensures told { result ≢ Err (StreamFault.Trace TraceFault.Memory) }
-    // A read that failed is reported as nothing else, and more bytes than are read as nothing else but out of memory.
+    // A read that failed is reported as nothing else, and too many bytes as nothing else but out of memory.
     ensures failure { T.failed source.new ≡ true → result ≡ Err StreamFault.Read }
     ensures few { result ≢ Err StreamFault.Read → result ≢ Err StreamFault.Memory → IfSome (T.left source.old) (λ text. length text ≤ byte_limit) }
 {
@@ -226,7 +227,7 @@ pub fn read_calls<T: Source>(alloc: Global, source: &mut T) -> Result<Vec<Call>,
     let mut calls = Vec::new(alloc);
     loop {
         let part = stream.next(alloc, source, &mut buffer)?;
-        let Part {
+        let NextCalls {
             calls: mut more,
             is_last,
         } = part;

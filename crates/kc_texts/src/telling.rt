@@ -12,7 +12,7 @@ use itoa::Buffer;
 use kc_audit::finding_text;
 use kc_state_text::StateFault;
 
-/// What stands behind a fault's words: a number, what an audit finds, or nothing.
+/// What follows the text of a fault: a number, what an audit finds, or nothing.
 fn detail(fault: &TextFault) -> ArrayString<160>
     ensures bytes { result.bytes ≡ numeral_of (fault_number fault.now) ++ fault_finding fault.now }
     ensures short { array_string_len result ≤ 160 }
@@ -40,12 +40,12 @@ fn line(fault: &TextFault) -> ArrayString<256>
     line
 }
 
-/// Writes the fault's line, and answers the exit status, also where the sink fails. It takes no memory.
+/// Writes the fault's line, and returns the exit status, even if the sink fails. It takes no memory.
 pub fn tell<K: Sink>(fault: &TextFault, sink: &mut K) -> u8
     requires { K.failed sink.old ≡ false }
     ensures status { result ≡ status_of fault.now }
     ensures line { K.failed sink.new ≡ false → Appends (K.taken sink.old) (K.taken sink.new) (fault_line fault.now) }
-    // Of a sink that fails, a beginning of the line may have been taken.
+    // A sink that fails may have taken a beginning of the line.
     ensures begun { (n : ℕ) × Appends (K.taken sink.old) (K.taken sink.new) (take n (fault_line fault.now)) }
 {
     let _ = write_whole(sink, line(fault).as_bytes());

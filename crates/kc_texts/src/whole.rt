@@ -12,7 +12,7 @@ use thiserror::Error;
 /// Why the bytes of a source are not all read.
 #[derive(Clone, Copy, Debug, PartialEq, Eq, Error)]
 pub enum ReadFault {
-    /// A growth of memory was refused.
+    /// Memory could not be had.
     #[error("out of memory")]
     Memory,
     /// A read failed, or there are more than 1,073,741,824 bytes.
@@ -20,7 +20,7 @@ pub enum ReadFault {
     Read,
 }
 
-/// All bytes that a source has left.
+/// Reads all bytes that a source has left.
 pub fn read_whole<S: Source>(alloc: Global, source: &mut S) -> Result<Vec<u8>, ReadFault>
     requires { S.failed source.old ≡ false }
     ensures ok { IfOk result (λ all. Consumes (S.left source.old) (S.left source.new) all.items) }
@@ -50,14 +50,14 @@ pub fn read_whole<S: Source>(alloc: Global, source: &mut S) -> Result<Vec<u8>, R
     }
 }
 
-/// Gives a text more room: twice its bytes, at least 65,536 and one more than are awaited, and at most 65,536 more than are
-/// ever read. An `Err` leaves the text as it was.
+/// Gives a text more room: twice its bytes, at least 65,536 and one more than are expected, and at most 65,536 more
+/// than are ever read. An `Err` leaves the text as it was.
 fn grow(alloc: Global, text: &mut SecretBytes, awaited: usize) -> Result<(), Memory>
     requires { length text.old ≤ byte_limit }
     ensures kept { (n : ℕ) → n ≤ length text.old → take n text.new ≡ take n text.old }
     ensures more { OnOk result (length text.old < length text.new) }
 {
-    // (one more, so that the end is seen without another growth)
+    // (one more, so that the end is seen without growing again)
     let room = (2 * text.as_slice().len())
         .max(PIECE)
         .max(awaited.saturating_add(1))
@@ -66,7 +66,7 @@ fn grow(alloc: Global, text: &mut SecretBytes, awaited: usize) -> Result<(), Mem
     Ok(())
 }
 
-/// Reads what a source has left into a text. After an `Err` there may be bytes of it anywhere in the text.
+/// Reads what a source has left into a text. After an `Err`, bytes of it may be anywhere in the text.
 fn read_into<S: Source>(
     alloc: Global,
     source: &mut S,
@@ -100,7 +100,7 @@ fn read_into<S: Source>(
     }
 }
 
-/// What `read_whole` does, for bytes that are a secret.
+/// Does what `read_whole` does, for bytes that are secret.
 pub fn read_secret<S: Source>(alloc: Global, source: &mut S) -> Result<SecretBytes, ReadFault>
     requires { S.failed source.old ≡ false }
     ensures ok { IfOk result (λ all. Consumes (S.left source.old) (S.left source.new) all) }

@@ -9,7 +9,7 @@ use Rattle.serde_json.specs.View.{members_view}
 use Rattle.serde_json.specs.Read.{read as read_text}
 use Rattle.kc_trace.specs.ConfigText.{member_count, value_in}
 
--- digests with those that were found before in front
+-- digests that follow those found before
 abbrev pub with_front : List (List ℕ) → Option (List (List ℕ)) → Option (List (List ℕ))
 with_front front found = option_map (λ digests. front ++ digests) found
 

@@ -1,4 +1,4 @@
--- A line whose words are cut off one after another is read by how many they are.
+-- A line whose words are cut off one after another is read according to their number.
 use Rattle.std.proofs.Common.{◌≡◌, ◌<◌, ℕ, true, false, List, [], ◌∷◌, length, Option, Some, None, refl, sym, arith}
 use Rattle.std.specs.Prelude.{codes, option_map, option_and_then}
 use Rattle.std.specs.List.{slice_split}
@@ -23,7 +23,7 @@ pub three_words_read : (name line rest rest_1 : List ℕ) (a b : Option ℕ) →
 unfolding call_of_words
 three_words_read name line rest rest_1 a b cut first second = rw (cut, first.1, first.2, second.0, second.1) refl
 
--- a name but `hwrite`
+-- a name other than `hwrite`
 pub four_words_read : (name line rest rest_1 rest_2 : List ℕ) (a b c : Option ℕ) → slice_split is_space line ≡ name ∷ slice_split is_space rest → IsFirstNumber rest a rest_1 → IsFirstNumber rest_1 b rest_2 → IsLastNumber rest_2 c
     → bytes_eq name (codes "hwrite") ≡ false → option_and_then (λ x. option_and_then (λ y. option_and_then (with_three_numbers name x y) c) b) a ≡ call_of line
 unfolding call_of_words

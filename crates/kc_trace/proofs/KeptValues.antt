@@ -1,4 +1,4 @@
--- What is kept of a value says the same of a configuration.
+-- What is kept of a value gives the same configuration as the value.
 use Rattle.std.proofs.Common.{◌≡◌, ℕ, ◌<◌, ◌≤◌, List, [], ◌∷◌, ◌++◌, Option, Some, None, Ordering, Less, Equal, Greater, Bool, true, false, nat_cmp, refl, sym, ap, ◌∙◌, subst, inl, inr, arith}
 use Rattle.std.proofs.lemmas.Bool.Decides.{nat_tests}
 use Rattle.std.specs.Prelude.{codes, option_map, option_and_then, is_some, if◌then◌else◌, ◌==◌}
@@ -49,7 +49,7 @@ count_alike no_members (member m e ds) all = absurd all
 count_alike (member l w vs) no_members all = absurd all
 count_alike (member l w vs) (member m e ds) all = omega (arith, count_alike vs ds all.2)
 
--- of what is found under a key
+-- what is found under a key
 found_at : {R : Type 0} (f : Option Data → R) (o : Ordering) (a b : Option Data) (v d : Data) → f a ≡ f b → f (Some v) ≡ f (Some d) → f (match_ordering o a (Some v) a) ≡ f (match_ordering o b (Some d) b)
 found_at f Less a b v d others here = others
 found_at f Equal a b v d others here = here
@@ -77,7 +77,7 @@ too_many said n h = grind (arith, nat_tests)
 shape_of_many : (ms : Members) → 6 < member_count ms → shape_in (object ms) ≡ None
 shape_of_many ms h = ap (option_and_then (λ version. fields_in version (object ms))) (too_many (number_under (codes "version") (object ms)) (member_count ms) h)
 
--- an object says what is kept of it
+-- an object gives the same as what is kept of it
 pub shape_kept : (vs ds : Members) → KeepsMembers vs ds → shape_in (object vs) ≡ shape_in (object ds)
 shape_kept vs ds (inl all) =
     let under = λ (key : List ℕ). number_alike key vs ds all in
@@ -94,23 +94,23 @@ put_more : (k : List ℕ) (d : Data) (ms : Members) → member_count ms ≤ memb
 put_more k d no_members = omega arith
 put_more k d (member l e ms) = put_more_at (slice_cmp nat_cmp k l) k l d e ms (put_more k d ms)
 
--- where few are kept, one more is
+-- if few are kept, one more is kept
 pub one_more_kept : (k : List ℕ) (v d : Data) (vs ds : Members) → member_count vs ≤ 6 → IsAlike v d → KeepsMembers vs ds → KeepsMembers (put k v vs) (put k d ds)
 one_more_kept k v d vs ds few one (inl all) = inl (put_alike k v d vs ds one all)
 one_more_kept k v d vs ds few one (inr many) = absurd (omega (arith, many.0))
 
--- where many are kept, no more has to be
+-- if many are kept, no more need to be
 pub enough_kept : (k : List ℕ) (d : Data) (vs ds : Members) → 6 < member_count vs → KeepsMembers vs ds → KeepsMembers vs (put k d ds)
 enough_kept k d vs ds many (inl all) = inr (many, omega (arith, put_more k d ds, count_alike vs ds all))
 enough_kept k d vs ds many (inr both) = inr (many, omega (arith, put_more k d ds, both.1))
 
 -- ---- items
 
--- a digest before others, where each is one
+-- a digest before others, if each is one
 abbrev digest_first : Option (List ℕ) → Option (List (List ℕ)) → Option (List (List ℕ))
 digest_first first behind = option_and_then (λ digest. option_map (λ digests. digest ∷ digests) behind) first
 
--- the digests of some values and of those behind them
+-- the digests of some values, before those of the values that follow
 abbrev pub digests_before : List Value → Option (List (List ℕ)) → Option (List (List ℕ))
 digests_before [] behind = behind
 digests_before (v ∷ vs) behind = digest_first (digest_of_value (view v)) (digests_before vs behind)
@@ -134,8 +134,8 @@ digests_before-none (v ∷ vs) = ap (digest_first (digest_of_value (view v))) (d
 abbrev pub FindsNone : List Value → Type 0
 FindsNone found = (behind : Option (List (List ℕ))) → digests_before found behind ≡ None
 
--- Of all items, those that were read stand before those that are left, and what was found has their digests. Where not all
--- of it are digests, nothing that follows matters.
+-- All items are those that were read and then those that are left, and what was found has the digests of those read. If
+-- not all of them are digests, nothing that follows matters.
 pub record FindsDigests (found : List Value) (are_digests : Bool) (all left : Option (Items × List Token)) : Type 0 where
   pub front : Items → Items
   pub read : all ≡ parse_map front left
@@ -157,7 +157,7 @@ module _ (found : List Value) (are_digests : Bool) (all left more : Option (Item
   read_on : all ≡ parse_map (λ rest. so_far.front (item d rest)) more
   read_on = so_far.read ∙ ap (parse_map so_far.front) turn ∙ with_item so_far.front d more
 
-  -- an item is kept behind the digests
+  -- an item is kept after the digests
   item_found : (v : Value) (is_digest : Bool) → digest_of_value (view v) ≡ digest_of_value d → (is_digest ≡ false → digest_of_value d ≡ None) → FindsDigests (found ++ v ∷ []) is_digest all more
   item_found v is_digest same none = record {
     front = λ rest. so_far.front (item d rest);
@@ -168,7 +168,7 @@ module _ (found : List Value) (are_digests : Bool) (all left more : Option (Item
         ∙ ap (λ digest. digests_before found (digest_first digest behind)) (same ∙ none other) ∙ digests_before-none found;
   }
 
-  -- an item is passed over behind one that is no digest
+  -- an item is passed over after one that is not a digest
   item_passed : are_digests ≡ false → FindsDigests found false all more
   item_passed other = record {
     front = λ rest. so_far.front (item d rest);

@@ -101,7 +101,7 @@ two_fit a b fits_a fits_b = omega (arith, ten_digits a fits_a, ten_digits b fits
 three_fit : (a b c : ℕ) → IsWord a → IsWord b → IsWord c → width (decimal a ∷ decimal b ∷ decimal c ∷ []) ≤ 33
 three_fit a b c fits_a fits_b fits_c = omega (arith, ten_digits a fits_a, two_fit b c fits_b fits_c)
 
--- a name of at most seven letters, and what stands behind it
+-- a name of at most seven letters, and what follows it
 fits_behind : (name : List ℕ) (words : List (List ℕ)) → length name ≤ 7 → width words ≤ 8236 → length (join_with_byte 32 (name ∷ words)) ≤ line_limit
 fits_behind name words short few = omega (arith, length-join name words)
 

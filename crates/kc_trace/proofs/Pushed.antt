@@ -45,7 +45,7 @@ eight t t1 t2 t3 t4 t5 t6 t7 t8 a b c d e f g h h1 h2 h3 h4 h5 h6 h7 h8 =
     (more t5 t6 t8 f (g ++ h) h6
     (more t6 t7 t8 g (h) h7 h8))))))
 
--- one line more
+-- one more line
 pub lines_more : {X : Type 0} (line : X → List ℕ) (front : List ℕ) (n : ℕ) (xs : List X) (x : X) (before after : List ℕ) → n < length xs → x ≡ get_or xs n x
     → before ≡ front ++ flat_map line (take n xs) → after ≡ before ++ line x → after ≡ front ++ flat_map line (take (n + 1) xs)
 lines_more line front n xs x before after lt is so_far added =

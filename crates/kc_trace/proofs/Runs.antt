@@ -24,7 +24,7 @@ cut_none (byte ∷ line) one =
     let parts = and_parts (not (byte == 10)) (list_all (λ b. not (b == 10)) line) one in
     rw (slice_split-cons_no is_newline byte line (not-true (byte == 10) parts.0), cut_none line parts.1) refl
 
--- a line in front of its newline is the first
+-- a line before its newline is the first
 pub cut_first : (line rest : List ℕ) → IsOneLine line → slice_split is_newline (line ++ 10 ∷ rest) ≡ line ∷ slice_split is_newline rest
 cut_first [] rest one = slice_split-cons_yes is_newline 10 rest refl
 cut_first (byte ∷ line) rest one =
@@ -46,7 +46,7 @@ pub feed_nothing : (p : Progress) → feed p [] ≡ Ok (p, [])
 unfolding feed feed_lines
 feed_nothing p = refl
 
--- a line begun, of some bytes
+-- some bytes of a line that has begun
 pub feed_begun : (p : Progress) (bytes : List ℕ) → 0 < length bytes → IsOneLine bytes → feed p bytes ≡ begun (longer p bytes)
 unfolding feed feed_lines
 feed_begun p [] some one = absurd (omega arith)
@@ -61,7 +61,7 @@ pub is_done : (front : List Call) (p : Progress) (rest : List ℕ) (total : Resu
 is_done front p [] total none so_far = sym so_far ∙ ap (with_front front) (feed_nothing p) ∙ ap (λ (cs : List Call). Ok (p, cs)) (append-nil front)
 is_done front p (byte ∷ left) total none so_far = absurd (omega arith)
 
--- what fails fails whatever comes behind it
+-- what fails still fails, whatever follows it
 pub fails_then : {A B : Type 0} (fault : TraceFault) (read : Result A TraceFault) (then : A → Result B TraceFault) → Fails fault read → Fails fault (read >>= then)
 fails_then NoHeader read then h = rw h refl
 fails_then (BadLine n) read then h = rw h refl

@@ -25,7 +25,7 @@ record IsSpelled (words : List (List ℕ)) (call : Call) : Type 0 where
 is_named : (name text : List ℕ) (arguments : List (List ℕ)) (call : Call) → bytes_eq name text ≡ true → words_of call ≡ text ∷ arguments → IsRanged call → IsSpelled (name ∷ arguments) call
 is_named name text arguments call e spelled fits = record { words_are = ap (λ (n : List ℕ). n ∷ arguments) (name_is name text e) ∙ sym spelled; ranged = fits }
 
--- one name tried, and the rest where it is another
+-- one name is tried, and the rest if it is another
 by_name : (name text : List ℕ) (arguments : List (List ℕ)) (made call : Call) (rest : Option Call) → words_of made ≡ text ∷ arguments → IsRanged made
     → (rest ≡ Some call → IsSpelled (name ∷ arguments) call) → cond (bytes_eq name text) (Some made) rest ≡ Some call → IsSpelled (name ∷ arguments) call
 by_name name text arguments made call rest spelled fits others e =
@@ -71,7 +71,7 @@ four_numbers_are name a b c d call fits e =
     (by_name name (codes "revoker") arguments (RevokeRange a b c d) call None refl fits none_left)
     e
 
--- the last word is the bytes of a call that stands under this name
+-- the last word spells the bytes of a call with this name
 bytes_are : (name text last : List ℕ) (arguments : List (List ℕ) → List (List ℕ)) (make : List ℕ → Call) (call : Call) → ((bytes : List ℕ) → words_of (make bytes) ≡ text ∷ arguments (encode_lower bytes ∷ []))
     → ((bytes : List ℕ) → IsData bytes → IsRanged (make bytes)) → bytes_eq name text ≡ true → option_map make (data_of last) ≡ Some call → IsSpelled (name ∷ arguments (last ∷ [])) call
 bytes_are name text last arguments make call spelled fits named e =
@@ -106,7 +106,7 @@ guest_access_is name last a b c d call fits_a fits_b fits_c fits_d e =
       ]
     ]
 
--- a number is read, and what follows holds of the number
+-- a number is read, and what follows is true of the number
 numeral_then : (word : List ℕ) (then : ℕ → Option Call) (call : Call) (spelled : List ℕ → Type 0) → ((a : ℕ) → IsWord a → then a ≡ Some call → spelled (decimal a)) → option_and_then then (number_in word) ≡ Some call → spelled word
 numeral_then word then call spelled holds e =
     let a = then_some then (number_in word) call e in
@@ -167,7 +167,7 @@ line_is_spelled line call e =
     let words = words_are_spelled (slice_split is_space line) call e in
     (sym (join_with_byte-slice_split 32 line) ∙ ap (join_with_byte 32) words.words_are, words.ranged)
 
--- ---- a word more than any call has
+-- ---- one word more than any call has
 
 beyond : (a b c d e f : List ℕ) (words : List (List ℕ)) → 0 < length words → call_of_words (a ∷ b ∷ c ∷ d ∷ e ∷ f ∷ words) ≡ None
 unfolding call_of_words

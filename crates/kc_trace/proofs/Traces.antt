@@ -16,7 +16,7 @@ use Rattle.kc_types.specs.declared.call.Call.{Call}
 use Rattle.kc_types.specs.Limits.{line_limit}
 use Rattle.kc_trace.specs.declared.fault.TraceFault.{TraceFault}
 use Rattle.kc_trace.specs.declared.fault.TraceFault.TheVariants.{NoHeader, BadLine, NoNewline, TooManyCalls, Memory}
-use Rattle.kc_trace.specs.Spelling.{line_of, lines_of, header_line, trace_header, stands_in}
+use Rattle.kc_trace.specs.Spelling.{line_of, lines_of, header_line, trace_header, is_allowed_in}
 use Rattle.kc_trace.specs.Machine.{◌>>=◌, Gives, Fails, Progress, start, kept, longer_line, longer, version_in, begins_header, standing, call_of_kept, call_in, after_line, begun, after_header, line_ended, with_front, feed, feed_each, nothing_begun, ended, reading}
 use Rattle.kc_lines.specs.Lines.{IsOneLine}
 use Rattle.kc_trace.specs.Trace.{IsCallOf, AreCalls, StopsAt, IsTrace, IsRefused}
@@ -26,12 +26,12 @@ use Rattle.kc_trace.proofs.Spelled.{line_is_spelled}
 
 -- ---- a line that is kept
 
-stood : (v : Version) (found : Option Call) (call : Call) → standing v found ≡ Some call → (found ≡ Some call) × (stands_in v call ≡ true)
+stood : (v : Version) (found : Option Call) (call : Call) → standing v found ≡ Some call → (found ≡ Some call) × (is_allowed_in v call ≡ true)
 stood v None call e = cc
-stood v (Some other) call e = by_test (stands_in v other) refl e
+stood v (Some other) call e = by_test (is_allowed_in v other) refl e
   where
-    by_test : (b : Bool) → stands_in v other ≡ b → cond b (Some other) None ≡ Some call → (Some other ≡ Some call) × (stands_in v call ≡ true)
-    by_test true h e = (e, let same : other ≡ call = cc in subst (λ c. stands_in v c ≡ true) same h)
+    by_test : (b : Bool) → is_allowed_in v other ≡ b → cond b (Some other) None ≡ Some call → (Some other ≡ Some call) × (is_allowed_in v call ≡ true)
+    by_test true h e = (e, let same : other ≡ call = cc in subst (λ c. is_allowed_in v c ≡ true) same h)
     by_test false h e = cc
 
 kept_is_call : (v : Version) (line : List ℕ) (call : Call) → call_in v (kept line) ≡ Some call → (line ≡ line_of call) × IsCallOf v call
@@ -48,9 +48,9 @@ kept_is_none v line e call fits same =
     let some : call_in v (kept line) ≡ Some call = rw (le-leb (length line) line_limit short, same, call_of-line_of call fits.0, fits.1) refl in
     cc
 
--- ---- the text behind the header
+-- ---- the text after the header
 
--- behind so many calls, in front of a line
+-- after this many calls, at the start of a line
 abbrev at_line : Version → ℕ → Progress
 at_line v calls = record { version = Some v; calls = calls; line = Some [] }
 
@@ -192,7 +192,7 @@ HeaderCases text =
     ((v : Version) × (rest : List ℕ) × (text ≡ trace_header v ++ rest) × (outcome start text ≡ outcome (at_line v 0) rest))
     ⊎ ((outcome start text ≡ Err NoHeader) × ((v : Version) (rest : List ℕ) → text ≡ trace_header v ++ rest → ⊥))
 
--- a line that does not end is no header
+-- a line that does not end is not a header
 open_header : (line : List ℕ) → IsOneLine line → outcome start line ≡ Err NoHeader
 open_header [] one = rw (feed_nothing start) refl
 open_header (byte ∷ line) one = rw (feed_begun start (byte ∷ line) (omega arith) one) (by_test (begins_header (kept (byte ∷ line))))
@@ -238,7 +238,7 @@ reading_is : (text : List ℕ) → reading text ≡ outcome start text
 unfolding reading
 reading_is text = refl
 
--- what reading answers is the trace, or the first reason why there is none
+-- what reading returns is the trace, or the first reason why there is none
 pub reading_reads : (text : List ℕ) → Reads text (reading text)
 reading_reads text =
     elim (through_header text [] refl) [
@@ -306,7 +306,7 @@ told_begins v (Some line) e = rw (version_of_line v line e) (own v)
     own One = refl
     own Two = refl
 
--- a line that has begun so, or one that no bytes make well
+-- a line that has begun like this, or one that no further bytes make valid
 abbrev BegunCases : Progress → Type 0
 BegunCases p = (begun p ≡ Ok (p, [])) ⊎ ((f : TraceFault) × (begun p ≡ Err f) × ((more : List ℕ) → begun (longer p more) ≡ Err f) × ((more : List ℕ) → line_ended (longer p more) ≡ Err f))
 
@@ -333,7 +333,7 @@ begun_cases p = by_version p.version refl
 is_one_line : (one two : List ℕ) → IsOneLine one → IsOneLine two → IsOneLine (one ++ two)
 is_one_line one two h k = rw (list_all-append (λ b. not (b == 10)) one two, h, k) refl
 
--- where a piece ends within a line, the next goes on with it
+-- if a piece ends within a line, the next piece continues it
 module _ (p : Progress) (byte : ℕ) (bytes : List ℕ) (one : IsOneLine (byte ∷ bytes)) where
   abbrev line : List ℕ
   line = byte ∷ bytes

@@ -1,4 +1,4 @@
--- The loops of JSON's grammar, a turn at a time, where each value that is read is data.
+-- The loops of JSON's grammar, one turn at a time, if each value that is read is data.
 use Rattle.std.proofs.Common.{◌≡◌, ℕ, zero, suc, ◌-◌, ◌<◌, ◌≤◌, List, [], ◌∷◌, length, Option, Bool, Some, None, refl, ap, ap₂, ◌∙◌}
 use Rattle.std.specs.Prelude.{option_map, option_and_then}
 use Rattle.json.specs.Token.{Token}
@@ -8,7 +8,7 @@ use Rattle.json.proofs.Grammar.{value_is, value-begin_array, value-begin_object,
 use Rattle.serde_json.specs.Data.{Num, Data, null, boolean, string, number, array, object, no_items, item, Members, no_members, put}
 use Rattle.serde_json.specs.Read.{of_json, of_items, of_members, converted, number_of}
 
--- what is data was read, and where it is none after reading, it is none
+-- what is data was read, and if it is none after reading, it is none
 abbrev given : {A : Type 0} → A → Option A → A
 given a None = a
 given a (Some b) = b

@@ -5,7 +5,7 @@ use Rattle.std.proofs.lemmas.Bool.{cases_Bool, or_parts}
 use Rattle.kc_types.specs.declared.version.Version.TheVariants.{One, Two}
 use Rattle.kc_types.specs.declared.call.Call.{Call}
 use Rattle.kc_model.specs.Ranged.{IsRanged}
-use Rattle.kc_trace.specs.Spelling.{is_new, version_of}
+use Rattle.kc_trace.specs.Spelling.{is_range_call, version_of}
 use Rattle.kc_trace.specs.Trace.{AreCalls}
 
 pub ranged_push : (calls : List Call) (call : Call) → AllByRecursion IsRanged calls → IsRanged call → AllByRecursion IsRanged (calls ++ call ∷ [])
@@ -16,16 +16,16 @@ in_the_second : (calls : List Call) → AllByRecursion IsRanged calls → AreCal
 in_the_second [] all = tt
 in_the_second (call ∷ calls) all = ((all.0, refl), in_the_second calls all.1)
 
-in_the_first : (calls : List Call) → list_any is_new calls ≡ false → AllByRecursion IsRanged calls → AreCalls One calls
+in_the_first : (calls : List Call) → list_any is_range_call calls ≡ false → AllByRecursion IsRanged calls → AreCalls One calls
 in_the_first [] none all = tt
 in_the_first (call ∷ calls) none all =
-    let parts = or_parts (is_new call) (list_any is_new calls) none in
+    let parts = or_parts (is_range_call call) (list_any is_range_call calls) none in
     ((all.0, rw parts.0 refl), in_the_first calls parts.1 all.1)
 
 pub are_calls : (calls : List Call) → AllByRecursion IsRanged calls → AreCalls (version_of calls) calls
 unfolding version_of
 are_calls calls all =
-    elim (cases_Bool (list_any is_new calls)) [
+    elim (cases_Bool (list_any is_range_call calls)) [
       | inl new ↦ rw new (in_the_second calls all)
       | inr old ↦ rw old (in_the_first calls old all)
     ]

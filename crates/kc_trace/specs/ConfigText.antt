@@ -14,7 +14,7 @@ use Rattle.kc_types.specs.declared.config.ConfigFault.{ConfigFault}
 use Rattle.kc_trace.specs.declared.config_text.ConfigTextFault.{ConfigTextFault}
 use Rattle.kc_trace.specs.declared.config_text.ConfigTextFault.TheVariants as faults
 
--- the JSON value that bytes are; bytes that are not UTF-8 are none
+-- the JSON value that bytes are; bytes that are not UTF-8 are not a value
 abbrev pub value_in : List ℕ → Option Data
 value_in bytes = if is_utf8 bytes then read_text bytes else None
 
@@ -29,7 +29,7 @@ number_under key value = option_and_then small (option_and_then as_u64 (option_a
 abbrev pub digest_of_value : Data → Option (List ℕ)
 digest_of_value value = option_and_then (λ text. result_ok (decode_sized text 32)) (as_str value)
 
--- the digests of an array, each of which has to be one
+-- the digests of an array, if each item is one
 abbrev pub digests_in : Items → Option (List (List ℕ))
 digests_in no_items = Some []
 digests_in (item value values) = option_and_then (λ digest. option_map (λ digests. digest ∷ digests) (digests_in values)) (digest_of_value value)
@@ -45,7 +45,7 @@ fields_in version value =
     (approved_in value))
     (number_under (codes "leaves") value)) (number_under (codes "host") value)) (number_under (codes "core") value)) (number_under (codes "frames") value)
 
--- how many members an object has; their keys do not repeat
+-- how many members an object has; no key appears twice
 abbrev pub member_count : Members → ℕ
 member_count no_members = 0
 member_count (member key value members) = suc (member_count members)
@@ -54,7 +54,7 @@ abbrev pub version_numbered : Option ℕ → Option Version
 version_numbered None = None
 version_numbered (Some n) = if n == 1 then Some One else if n == 2 then Some Two else None
 
--- the version of an object of so many members: the first of five, and of six what stands under `version`
+-- the version of an object with this many members: with five the first, with six the one under `version`
 abbrev pub version_in : Data → Option ℕ → Option Version
 version_in value None = None
 version_in value (Some count) = if count == 5 then Some One else if count == 6 then version_numbered (number_under (codes "version") value) else None
@@ -79,7 +79,7 @@ abbrev pub of_value : Option Data → Result Configuration ConfigTextFault
 of_value None = Err faults.NotJson
 of_value (Some value) = of_shape (shape_in value)
 
--- the configuration that bytes say, or why they say none
+-- the configuration that bytes spell, or why they spell none
 unfoldable pub config_in : List ℕ → Result Configuration ConfigTextFault
 config_in bytes = of_value (value_in bytes)
 
@@ -89,7 +89,7 @@ ConfigFails faults.NotJson said = said ≡ Err faults.NotJson
 ConfigFails faults.BadShape said = said ≡ Err faults.BadShape
 ConfigFails (faults.Config fault) said = said ≡ Err (faults.Config fault)
 
--- an answer is what the text says, unless memory ran out
+-- a result is what the text says, unless memory ran out
 abbrev pub ConfigGives : Result Configuration ConfigTextFault → Result Configuration ConfigTextFault → Type 0
 ConfigGives (Ok config) said = said ≡ Ok config
 ConfigGives (Err fault) said = ConfigFails fault said

@@ -12,22 +12,22 @@ use Rattle.kc_trace.specs.declared.config_text.ConfigTextFault.TheVariants as fa
 abbrev pub number_in : Data → Option ℕ
 number_in value = option_and_then small (option_and_then as_u64 (as_number value))
 
--- the digests of a value that is an array of nothing else
+-- the digests of a value that is an array of digests alone
 abbrev pub digests_of : Data → Option (List (List ℕ))
 digests_of value = option_and_then digests_in (as_array value)
 
--- under a key or in an array, what is kept says the same of a configuration as the value
+-- under a key or in an array, what is kept gives the same for a configuration as the value
 pub record IsAlike (kept value : Data) : Type 0 where
   pub number : number_in kept ≡ number_in value
   pub digest : digest_of_value kept ≡ digest_of_value value
   pub digests : digests_of kept ≡ digests_of value
 
--- and it says the same where the value is a whole text
+-- and it gives the same if the value is a whole text
 pub record Keeps (kept value : Data) : Type 0 where
   pub alike : IsAlike kept value
   pub shape : shape_in kept ≡ shape_in value
 
--- an item is kept behind digests alone, and it is known whether it is a text too
+-- an item is kept only after digests, and it is known whether it is a text too
 abbrev pub KeepsItem : Bool → List Value → Data → Bool → List Value → Type 0
 KeepsItem true old value is_digest new = (kept : Value) × (new ≡ old ++ kept ∷ []) × (digest_of_value (view kept) ≡ digest_of_value value) × (is_digest ≡ is_some (as_str value))
 KeepsItem false old value is_digest new = (new ≡ old) × (is_digest ≡ false)
@@ -39,17 +39,17 @@ AreAlike no_members (member key value values) = ⊥
 AreAlike (member key kept more) no_members = ⊥
 AreAlike (member key kept more) (member name value values) = (key ≡ name) × IsAlike kept value × AreAlike more values
 
--- each member is kept, or both have more of them than a configuration
+-- each member is kept, or both have more members than a configuration
 abbrev pub KeepsMembers : Members → Members → Type 0
 KeepsMembers kept members = AreAlike kept members ⊎ ((6 < member_count kept) × (6 < member_count members))
 
--- a whole number of 64 bits is kept, and of another number nothing
+-- a whole number of 64 bits is kept, and nothing of any other number
 abbrev pub kept_number : Num → Data
 kept_number (unsigned n) = number (unsigned n)
 kept_number (negative z) = null
 kept_number (float x) = null
 
--- nothing was read, since memory ran out or, where that is the fault, since there is no JSON
+-- nothing was read, since memory ran out or, if that is the fault, since it is not JSON
 abbrev pub NotRead : {A : Type 0} → ConfigTextFault → Option A → Type 0
 NotRead faults.Memory said = ⊤
 NotRead faults.NotJson said = said ≡ None

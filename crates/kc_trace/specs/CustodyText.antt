@@ -1,4 +1,4 @@
--- How changes of custody are spelled: an object of JSON (RFC 8259) a line.
+-- How changes of custody are spelled: one JSON object (RFC 8259) on each line.
 use Rattle.std.specs.Prelude.{ℕ, Bool, true, false, List, [], ◌∷◌, ◌++◌, codes, length, Option, Some, None}
 use Rattle.std.specs.List.{flat_map}
 use Rattle.std.specs.Fmt.{decimal}
@@ -35,7 +35,7 @@ abbrev pub flag_text : Bool → List ℕ
 flag_text true = codes "true"
 flag_text false = codes "false"
 
--- a key, and what stands before it, and a number
+-- a number, with its key and what comes before the key
 abbrev pub member : List ℕ → ℕ → List ℕ
 member key number = key ++ decimal number
 
@@ -59,11 +59,11 @@ abbrev pub image_text : MeasuredImage → List ℕ
 image_text image = member (codes "{\"base\":") image.base ++ (member (codes ",\"len\":") image.len
     ++ (codes ",\"sha256\":\"" ++ (encode_lower image.digest ++ codes "\"}")))
 
--- one that is not the first, with a comma before it
+-- an image that is not the first, with a comma before it
 abbrev pub more_image_text : MeasuredImage → List ℕ
 more_image_text image = 44 ∷ image_text image
 
--- with a comma between two
+-- with commas between them
 abbrev pub images_text : List MeasuredImage → List ℕ
 images_text [] = []
 images_text (image ∷ images) = image_text image ++ flat_map more_image_text images
@@ -77,7 +77,7 @@ abbrev pub change_line : Change → List ℕ
 change_line (change.Frame told) = frame_line told
 change_line (change.Phase told) = phase_line told
 
--- an event's line: a change's, and none for the host's reads and writes
+-- an event's line: that of a change; the host's reads and writes have none
 abbrev pub event_line : Event → List ℕ
 event_line (event.Change told) = change_line told
 event_line _ = []
@@ -122,11 +122,11 @@ header_line heading config = codes "{\"custody\":" ++ heading_text heading confi
 abbrev pub end_line : ℕ → ℕ → ℕ → List ℕ
 end_line calls lines refused = member (codes "{\"calls\":") calls ++ (member (codes ",\"lines\":") lines ++ (member (codes ",\"refused\":") refused ++ (codes "}" ++ 10 ∷ [])))
 
--- the text of the changes that a trace makes, by the numbers of its calls and of those that were refused or rejected
+-- the text of the changes that a trace makes, given the numbers of its calls and of those that were refused or rejected
 abbrev pub custody_text_of : Heading → Configuration → ℕ → ℕ → List Change → List ℕ
 custody_text_of heading config calls refused changes = header_line heading config ++ (flat_map change_line changes ++ end_line calls (length changes) refused)
 
--- no longer text is made of a custody, an image, four images, and a change
+-- upper bounds for the text of a custody, of an image, of four images, and of a change
 abbrev pub longest_custody : ℕ
 longest_custody = 100
 
@@ -139,7 +139,7 @@ longest_images = 550
 abbrev pub longest_change : ℕ
 longest_change = 768
 
--- nor of a digest in quotation marks, of what calls begin with, and of all that was read
+-- and for that of a digest in quotation marks, of what calls begin with, and of all that was read
 abbrev pub longest_digest : ℕ
 longest_digest = 66
 

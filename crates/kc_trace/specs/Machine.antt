@@ -1,4 +1,4 @@
--- Reading a trace line after line, of which the first is its header.
+-- Reading a trace line by line; the first line is its header.
 use Rattle.std.specs.Prelude.{◌+◌, ◌==◌, ◌||◌, Bool, false, nat_le, ℕ, List, [], ◌∷◌, ◌++◌, length, Option, Some, None, if◌then◌else◌, Result, Ok, Err, ◌≡◌}
 use Rattle.std.specs.List.{slice_split, starts_with}
 use Rattle.std.specs.Str.{bytes_eq}
@@ -8,10 +8,10 @@ use Rattle.kc_types.specs.declared.call.Call.{Call}
 use Rattle.kc_trace.specs.declared.fault.TraceFault.{TraceFault}
 use Rattle.kc_trace.specs.declared.fault.TraceFault.TheVariants.{NoHeader, BadLine, NoNewline, TooManyCalls, Memory}
 use Rattle.kc_types.specs.Limits.{call_limit, line_limit}
-use Rattle.kc_trace.specs.Spelling.{header_line, stands_in}
+use Rattle.kc_trace.specs.Spelling.{header_line, is_allowed_in}
 use Rattle.kc_trace.specs.Reading.{call_of}
 
--- the ? of the definitions
+-- what `?` is in code
 infixl 10 ◌>>=◌
 abbrev pub ◌>>=◌ : {A B : Type 0} → Result A TraceFault → (A → Result B TraceFault) → Result B TraceFault
 (Ok x) >>= f = f x
@@ -30,18 +30,18 @@ abbrev pub Gives : {X Y : Type 0} → (X → Y) → Result X TraceFault → Resu
 Gives view (Ok x) read = read ≡ Ok (view x)
 Gives view (Err e) read = Fails e read
 
--- how far a trace has been read: the version that its header told, once that was read, how many calls came, and the
--- line begun, or nothing where it is longer than any call
+-- how far a trace has been read: the version in its header, once that was read, how many calls there were, and the line
+-- begun, or nothing if it is longer than any call
 pub record Progress : Type 0 where
   pub version : Option Version
   pub calls : ℕ
   pub line : Option (List ℕ)
 
--- in front of the header
+-- before the header
 abbrev pub start : Progress
 start = record { version = None; calls = 0; line = Some [] }
 
--- a line, or nothing where it is longer than any call
+-- a line, or nothing if it is longer than any call
 abbrev pub kept : List ℕ → Option (List ℕ)
 kept line = if nat_le (length line) line_limit then Some line else None
 
@@ -64,26 +64,26 @@ abbrev pub begins_header : Option (List ℕ) → Bool
 begins_header None = false
 begins_header (Some line) = starts_with ◌==◌ (header_line One) line || starts_with ◌==◌ (header_line Two) line
 
--- the call, if it may stand in a text of this version
+-- the call, if a text of this version may have it
 abbrev pub standing : Version → Option Call → Option Call
 standing version None = None
-standing version (Some call) = if stands_in version call then Some call else None
+standing version (Some call) = if is_allowed_in version call then Some call else None
 
 -- the call that a line is, if it is one
 abbrev pub call_of_kept : Option (List ℕ) → Option Call
 call_of_kept None = None
 call_of_kept (Some line) = call_of line
 
--- the same, if it may stand there
+-- the same, if it may be there
 abbrev pub call_in : Version → Option (List ℕ) → Option Call
 call_in version line = standing version (call_of_kept line)
 
--- behind the newline of a line that is this call, or none
+-- after the newline of a line that is this call, or is not a call
 abbrev pub after_line : Progress → Option Call → Result (Progress × List Call) TraceFault
 after_line progress None = Err (BadLine (progress.calls + 2))
 after_line progress (Some call) = Ok (record progress { calls = progress.calls + 1; line = Some [] }, call ∷ [])
 
--- a line that has begun so and not ended: no header begins so, or there are calls enough
+-- a line that has begun like this and not ended: no header begins so, or there are as many calls as may be
 abbrev pub begun_by : Option Version → Progress → Result (Progress × List Call) TraceFault
 begun_by None progress = if begins_header progress.line then Ok (progress, []) else Err NoHeader
 begun_by (Some version) progress = if nat_le call_limit progress.calls then Err TooManyCalls else Ok (progress, [])
@@ -91,12 +91,12 @@ begun_by (Some version) progress = if nat_le call_limit progress.calls then Err 
 abbrev pub begun : Progress → Result (Progress × List Call) TraceFault
 begun progress = begun_by progress.version progress
 
--- behind a header of this version, or none
+-- after a header of this version, or a line that is not one
 abbrev pub after_header : Progress → Option Version → Result (Progress × List Call) TraceFault
 after_header progress None = Err NoHeader
 after_header progress (Some version) = Ok (record progress { version = Some version; line = Some [] }, [])
 
--- behind the newline of the line begun: the header's, or a call's
+-- after the newline of the line begun: the header's, or a call's
 abbrev pub line_ended_by : Option Version → Progress → Result (Progress × List Call) TraceFault
 line_ended_by None progress = after_header progress (version_in progress.line)
 line_ended_by (Some version) progress = if nat_le call_limit progress.calls then Err TooManyCalls else after_line progress (call_in version progress.line)
@@ -104,12 +104,12 @@ line_ended_by (Some version) progress = if nat_le call_limit progress.calls then
 abbrev pub line_ended : Progress → Result (Progress × List Call) TraceFault
 line_ended progress = line_ended_by progress.version progress
 
--- what the last line of a piece makes of it, which has not ended and may have no byte
+-- how far it is after the last line of a piece, which has not ended and may have no bytes
 abbrev pub last_begun : Progress → List ℕ → Result (Progress × List Call) TraceFault
 last_begun progress [] = Ok (progress, [])
 last_begun progress (byte ∷ bytes) = begun (longer progress (byte ∷ bytes))
 
--- what the lines of a piece make of it, with the calls that they are
+-- how far it is after the lines of a piece, and the calls in them
 unfoldable pub feed_lines : Progress → List (List ℕ) → Result (Progress × List Call) TraceFault
 feed_lines progress [] = Ok (progress, [])
 feed_lines progress (last ∷ []) = last_begun progress last
@@ -118,11 +118,11 @@ feed_lines progress (line ∷ next ∷ lines) = do
   others ← feed_lines first.0 (next ∷ lines)
   Ok (others.0, first.1 ++ others.1)
 
--- what a piece makes of it, with the calls whose lines it ends
+-- how far it is after a piece, and the calls whose lines the piece ends
 unfoldable pub feed : Progress → List ℕ → Result (Progress × List Call) TraceFault
 feed progress bytes = feed_lines progress (slice_split (λ b. b == 10) bytes)
 
--- what is read behind some calls, with them
+-- what is read after some calls, and these calls
 abbrev pub with_front : List Call → Result (Progress × List Call) TraceFault → Result (Progress × List Call) TraceFault
 with_front front read = do
   others ← read
@@ -154,11 +154,11 @@ abbrev pub fed_after : Option TraceFault → Progress → List ℕ → Result (P
 fed_after None progress piece = feed progress piece
 fed_after (Some fault) progress piece = Err fault
 
--- what a reader answers to a piece
+-- what a reader returns for a piece
 abbrev pub fed : Reader → List ℕ → Result (Progress × List Call) TraceFault
 fed reader piece = fed_after reader.fault reader.progress piece
 
--- the answers to pieces in turn, joined
+-- the results for pieces in turn, joined
 unfoldable pub feed_each : Progress → List (List ℕ) → Result (Progress × List Call) TraceFault
 feed_each progress [] = Ok (progress, [])
 feed_each progress (piece ∷ pieces) = do

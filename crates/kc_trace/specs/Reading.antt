@@ -6,7 +6,7 @@ use Rattle.kc_types.specs.declared.call.Call.{Call}
 use Rattle.kc_types.specs.declared.call.Call.TheVariants.{Take, Give, HostFault, HostRead, HostWrite, RegisterVm, RegisterVcpu, SetBoot, Remap, Verify, Map, GuestRead, GuestWrite, Grant, Revoke, GrantRange, RevokeRange, Drop, Clear}
 use Rattle.kc_lines.specs.Words.{number_in, data_of}
 
--- ---- a name and so many numbers
+-- ---- a name and its numbers
 
 abbrev pub one_word : List ℕ → Option Call
 one_word name = if bytes_eq name (codes "take") then Some Take else None
@@ -53,7 +53,7 @@ read_guest_access name vm vcpu gfn offset last =
     else if bytes_eq name (codes "gread") then option_map (GuestRead vm vcpu gfn offset) (number_in last)
     else None
 
--- ---- a name and so many words
+-- ---- a name and its words
 
 abbrev pub two_words : List ℕ → List ℕ → Option Call
 two_words name first = option_and_then (with_one_number name) (number_in first)

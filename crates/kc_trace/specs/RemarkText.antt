@@ -1,4 +1,4 @@
--- How notes are spelled: an object of JSON (RFC 8259) a line. None has bytes of a page.
+-- How notes are spelled: one JSON object (RFC 8259) on each line. None has bytes of a page.
 use Rattle.std.specs.Prelude.{ℕ, List, [], ◌∷◌, ◌++◌, codes, length, Option, Some, None}
 use Rattle.std.specs.List.{flat_map}
 use Rattle.kc_types.specs.Configuration.{Configuration}
@@ -56,7 +56,7 @@ named_text (Some named) = member (codes ",\"frame\":") named.frame ++ (codes ",\
 abbrev pub denied_line : Denied → List ℕ
 denied_line told = head_text told.line told.call ++ (reason_text told.reason ++ (slot_text told.slot ++ (named_text told.named ++ (codes "}" ++ 10 ∷ []))))
 
--- the line of an access of the host's, with its newline
+-- the line of an access by the host, with its newline
 abbrev pub access_line : Access → List ℕ
 access_line told = head_text told.line told.call ++ (member (codes ",\"frame\":") told.frame ++ (member (codes ",\"vm\":") told.vm ++ (codes ",\"gfn\":" ++ (number_text told.gfn
     ++ (member (codes ",\"off\":") told.offset ++ (member (codes ",\"len\":") told.len ++ (codes "}" ++ 10 ∷ [])))))))
@@ -67,11 +67,11 @@ note_line (note.Denied told) = denied_line told
 note_line (note.Access told) = access_line told
 note_line (note.Event told) = event_line told
 
--- the text of these notes on a trace, by the numbers of its calls and of those that were refused or rejected
+-- the text of these notes on a trace, given the numbers of its calls and of those that were refused or rejected
 abbrev pub notes_text_of : Heading → Configuration → ℕ → ℕ → List Note → List ℕ
 notes_text_of heading config calls refused told = header_line heading config ++ (flat_map note_line told ++ end_line calls (length told) refused)
 
--- no longer text is made of a beginning, a reason, a slot, a frame
+-- upper bounds for the text of a beginning, of a reason, of a slot, of a frame
 abbrev pub longest_head : ℕ
 longest_head = 60
 

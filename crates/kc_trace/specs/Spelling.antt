@@ -43,16 +43,16 @@ longest_call = line_limit + 1
 abbrev pub lines_of : List Call → List ℕ
 lines_of calls = flat_map (λ call. line_of call ++ 10 ∷ []) calls
 
--- whether the call stands in texts of the second version alone
-abbrev pub is_new : Call → Bool
-is_new (GrantRange vm vcpu gfn count) = true
-is_new (RevokeRange vm vcpu gfn count) = true
-is_new _ = false
+-- whether only texts of the second version may have the call
+abbrev pub is_range_call : Call → Bool
+is_range_call (GrantRange vm vcpu gfn count) = true
+is_range_call (RevokeRange vm vcpu gfn count) = true
+is_range_call _ = false
 
--- whether the call may stand in a text of this version
-abbrev pub stands_in : Version → Call → Bool
-stands_in One call = not (is_new call)
-stands_in Two call = true
+-- whether a text of this version may have the call
+abbrev pub is_allowed_in : Version → Call → Bool
+is_allowed_in One call = not (is_range_call call)
+is_allowed_in Two call = true
 
 -- the first line of each trace, without its newline
 abbrev pub header_line : Version → List ℕ
@@ -63,13 +63,13 @@ header_line Two = codes "kcore-trace 2"
 abbrev pub trace_header : Version → List ℕ
 trace_header version = header_line version ++ 10 ∷ []
 
--- the text of some calls under the header of a version
+-- the text of some calls, with the header of a version
 abbrev pub text_of : Version → List Call → List ℕ
 text_of version calls = trace_header version ++ lines_of calls
 
--- the first version in which all of these calls may stand
+-- the first version whose texts may have all of these calls
 unfoldable pub version_of : List Call → Version
-version_of calls = if list_any is_new calls then Two else One
+version_of calls = if list_any is_range_call calls then Two else One
 
 -- the text that is written for a list of calls
 abbrev pub trace_of : List Call → List ℕ

@@ -1,4 +1,4 @@
--- How lives of VMs are spelled: an object of JSON (RFC 8259) a line.
+-- How lives of VMs are spelled: one JSON object (RFC 8259) on each line.
 use Rattle.std.specs.Prelude.{ℕ, ◌==◌, if◌then◌else◌, Bool, true, false, List, [], ◌∷◌, ◌++◌, codes, drop, length}
 use Rattle.std.specs.List.{flat_map}
 use Rattle.kc_types.specs.Configuration.{Configuration}
@@ -19,7 +19,7 @@ turns_text life = member (codes "{\"vm\":") life.vm ++ (member (codes ",\"regist
 abbrev pub life_images_text : Life → List ℕ
 life_images_text life = codes ",\"images\":[" ++ (images_text life.images ++ codes "]")
 
--- how many reads and writes of the host were served, unless the machine's accesses are not in the trace
+-- how many reads and writes by the host were served, unless the machine's accesses are not in the trace
 abbrev pub accesses_counted : Bool → Life → List ℕ
 accesses_counted false life = member (codes ",\"reads\":") life.reads ++ member (codes ",\"writes\":") life.writes
 accesses_counted true life = codes ",\"reads\":null,\"writes\":null"
@@ -32,11 +32,11 @@ abbrev pub sharing_text : Sharing → List ℕ
 sharing_text sharing = member (codes "{\"frame\":") sharing.frame ++ (codes ",\"gfn\":" ++ (number_text sharing.gfn ++ (member (codes ",\"from\":") sharing.from
     ++ (codes ",\"to\":" ++ (number_text sharing.to ++ codes "}")))))
 
--- one that is not the first, with a comma before it
+-- a stretch that is not the first, with a comma before it
 abbrev pub more_sharing_text : Sharing → List ℕ
 more_sharing_text sharing = 44 ∷ sharing_text sharing
 
--- with a comma between two
+-- with commas between them
 abbrev pub sharings_text : List Sharing → List ℕ
 sharings_text [] = []
 sharings_text (sharing ∷ sharings) = sharing_text sharing ++ flat_map more_sharing_text sharings
@@ -67,10 +67,10 @@ life_line unseen attempts life = turns_text life ++ (life_images_text life ++ (c
 abbrev pub summary_header : Heading → Configuration → List ℕ
 summary_header heading config = codes "{\"summary\":" ++ heading_text heading config
 
--- the last line: how many calls the trace has, how many lives the text, and how many calls were refused or rejected
+-- the last line: how many calls the trace has, how many lives the text has, and how many calls were refused or rejected
 abbrev pub summary_end : ℕ → ℕ → ℕ → List ℕ
 summary_end calls lives refused = member (codes "{\"calls\":") calls ++ (member (codes ",\"lives\":") lives ++ (member (codes ",\"refused\":") refused ++ (codes "}" ++ 10 ∷ [])))
 
--- the text of the lives in a trace, by the numbers of its calls and of those that were refused or rejected, and the attempts at pages of VMs
+-- the text of the lives in a trace, given the numbers of its calls and of those that were refused or rejected, and the attempts at pages of VMs
 abbrev pub summary_text_of : Heading → Configuration → ℕ → ℕ → List Attempt → List Life → List ℕ
 summary_text_of heading config calls refused attempts lives = summary_header heading config ++ (flat_map (life_line heading.is_unseen attempts) lives ++ summary_end calls (length lives) refused)

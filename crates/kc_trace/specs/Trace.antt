@@ -1,4 +1,4 @@
--- Which text is which list of calls, and why a text is none.
+-- Which text is which list of calls, and why a text is not a trace.
 use Rattle.std.specs.Prelude.{◌≡◌, ◌+◌, ◌<◌, ◌≤◌, true, ℕ, List, ◌∷◌, ◌++◌, length}
 use Rattle.std.specs.List.{AllByRecursion}
 use Rattle.kc_types.specs.Limits.{call_limit}
@@ -8,16 +8,16 @@ use Rattle.kc_model.specs.Ranged.{IsRanged}
 use Rattle.kc_lines.specs.Lines.{IsOneLine}
 use Rattle.kc_trace.specs.declared.fault.TraceFault.{TraceFault}
 use Rattle.kc_trace.specs.declared.fault.TraceFault.TheVariants.{NoHeader, BadLine, NoNewline, TooManyCalls, Memory}
-use Rattle.kc_trace.specs.Spelling.{line_of, lines_of, trace_header, text_of, stands_in}
+use Rattle.kc_trace.specs.Spelling.{line_of, lines_of, trace_header, text_of, is_allowed_in}
 
 -- a call that a trace of this version may have: its numbers and bytes are in range
 abbrev pub IsCallOf : Version → Call → Type 0
-IsCallOf version call = IsRanged call × (stands_in version call ≡ true)
+IsCallOf version call = IsRanged call × (is_allowed_in version call ≡ true)
 
 abbrev pub AreCalls : Version → List Call → Type 0
 AreCalls version calls = AllByRecursion (IsCallOf version) calls
 
--- what stands behind so many calls is no further call, for this reason
+-- what follows this many calls is not another call, for this reason
 abbrev pub StopsAt : Version → ℕ → List ℕ → TraceFault → Type 0
 StopsAt version before rest TooManyCalls = (before ≡ call_limit) × (0 < length rest)
 StopsAt version before rest NoNewline = (before < call_limit) × (0 < length rest) × IsOneLine rest
@@ -33,7 +33,7 @@ pub record IsTrace (text : List ℕ) (calls : List Call) : Type 0 where
   pub each : AreCalls version calls
   pub few : length calls ≤ call_limit
 
--- the text is none, and this is the first reason
+-- the text is not a trace, and this is the first reason
 abbrev pub IsRefused : List ℕ → TraceFault → Type 0
 IsRefused text NoHeader = (version : Version) (rest : List ℕ) → text ≡ trace_header version ++ rest → ⊥
 IsRefused text Memory = Unit {0}

@@ -15,17 +15,17 @@ use std::error::Error;
 use std::fmt;
 use std::marker::Model;
 
-/// Why a text is no configuration.
+/// Why a text is not a configuration.
 #[derive(Clone, Copy, Debug, PartialEq, Eq)]
 pub enum ConfigTextFault {
     /// The bytes are not UTF-8 or not JSON, or arrays and objects nest deeper than 127.
     NotJson,
-    /// A JSON value that is no object of the five keys, or of these and `version`, or with another kind of value
-    /// under one of them.
+    /// A JSON value that is not an object with the five keys, or with these and `version`, or that has another kind of
+    /// value under one of them.
     BadShape,
     /// There is no configuration of these numbers and digests.
     Config(ConfigFault),
-    /// A growth of memory was refused.
+    /// Memory could not be had.
     Memory,
 }
 
@@ -199,7 +199,7 @@ fn digests_of(alloc: Global, values: &[Value]) -> Result<Option<Vec<[u8; 32]>>, 
     Ok(Some(digests))
 }
 
-/// The number of members, where the value is an object.
+/// The number of members, if the value is an object.
 fn count_members(value: &Value) -> Option<usize>
     ensures { result ≡ option_map member_count (as_object (view value.now)) }
 {
@@ -209,7 +209,7 @@ fn count_members(value: &Value) -> Option<usize>
     }
 }
 
-/// The version of an object of five members, or of six, of which one is `version`.
+/// The version of an object of five members, or of six, one of which is `version`.
 fn version_of_value(value: &Value) -> Option<Version>
     ensures { result ≡ version_in (view value.now) (option_map member_count (as_object (view value.now))) }
 {
@@ -224,11 +224,11 @@ fn version_of_value(value: &Value) -> Option<Version>
     }
 }
 
-/// The configuration that a JSON text says: an object of exactly the keys `frames`, `core`, `host` and `leaves`
-/// with whole numbers of 32 bits, and `approved` with an array of texts of 64 hexadecimal digits each, upper or
-/// lower case; a key `version` may stand beside them, with 1 or 2, and without it the version is 1. Of a key that
-/// stands twice the last value counts. A number with a fraction or an exponent is no whole number. Of the text no more is
-/// kept than a configuration may say.
+/// Reads a configuration: a JSON object with exactly the keys `frames`, `core`, `host` and `leaves`, each a whole
+/// number of 32 bits, and `approved`, an array of texts of 64 hexadecimal digits each, upper or lower case. There may
+/// also be a key `version`, which is 1 or 2; without it the version is 1. If a key appears twice, the last value
+/// counts. A number with a fraction or an exponent is not a whole number. No more of the text is kept than a
+/// configuration can hold.
 #[tactic(auto, unfolding(crate::specs::ConfigText::config_in))]
 pub fn read_config(alloc: Global, bytes: &[u8]) -> Result<Config, ConfigTextFault>
     // The configuration or the fault of the text, unless memory runs out.

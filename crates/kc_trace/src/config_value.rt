@@ -1,5 +1,5 @@
-//! Reading the JSON value of a configuration's text, of which no more is kept than a configuration may say. So a text of
-//! any form takes memory of a few times its length.
+//! Reading the JSON value of a configuration's text. No more of it is kept than a configuration can hold, so any text
+//! takes memory of a few times its length.
 ghost use Rattle.std.specs.Prelude.{◌≡◌, ◌<◌, ◌==◌, length, slice_index, Some, None, IfOk, IfErr, OnOk, IsTrue, true, false, option_map};
 ghost use Rattle.json.specs.Json.{value, items, members};
 ghost use Rattle.serde_json.specs.Data.{Data, Items, Members, number, string, no_members, put};
@@ -18,7 +18,7 @@ use std::alloc::{AllocError, Global};
 /// How deep arrays and objects may nest.
 const MAX_DEPTH: usize = 127;
 
-/// The most members of a configuration. Of an object one more is kept, which shows that it is none.
+/// The most members of a configuration. One more member of an object is kept, which shows that it is not one.
 const MOST_MEMBERS: usize = 6;
 
 fn has_minus(bytes: &[u8]) -> bool
@@ -28,7 +28,7 @@ fn has_minus(bytes: &[u8]) -> bool
     !bytes.is_empty() && bytes[0] == b'-'
 }
 
-/// Keeps nothing of a number that is no whole one of 64 bits. `None` where it is past a float's range.
+/// Keeps nothing of a number that is not a whole number of 64 bits. `None` if it is past a float's range.
 fn keep_float(negative: bool, numeral: &Numeral<'_>) -> Option<Value>
     ensures { option_map view result ≡ option_map kept_number (float_of negative numeral.now) }
 {
@@ -59,9 +59,9 @@ fn keep_negative(numeral: &Numeral<'_>) -> Option<Value>
     keep_float(true, numeral)
 }
 
-// What takes much of the stack is not inlined, since arrays and objects nest deep.
+// Functions that use much stack are not inlined, since arrays and objects nest deeply.
 
-/// Keeps the number that a token spells where it is a whole one of 64 bits. `None` where it is past a float's range.
+/// Keeps the number that a token spells if it is a whole number of 64 bits. `None` if it is past a float's range.
 #[inline(never)]
 fn keep_number(text: &str) -> Option<Value>
     ensures { option_map view result ≡ option_map kept_number (number_of text.now) }
@@ -87,7 +87,7 @@ fn keep_text(alloc: Global, text: &str) -> Result<Value, AllocError>
 
 /// Keeps a value under a key, unless it is an object, so that what is kept does not branch.
 fn keep_inner(value: Value) -> Value
-    // It holds of the value itself too: how little is kept is a matter of memory alone.
+    // This is true of the value itself too: how little is kept is only a matter of memory.
     ensures { IsAlike (view result) (view value) }
 {
     match value {
@@ -96,7 +96,8 @@ fn keep_inner(value: Value) -> Value
     }
 }
 
-/// Keeps an item, where those before it are digests; of one that is none, only that it is there. Answers whether all are.
+/// Keeps an item if all items before it are digests; of an item that is not one, only that it is there. Returns whether
+/// all are digests.
 #[inline(never)]
 fn keep_item(found: &mut Vec<Value>, are_digests: bool, item: Value) -> Result<bool, AllocError>
     ensures { IfOk result (λ are. KeepsItem are_digests found.old.items (view item) are found.new.items) }
@@ -131,7 +132,7 @@ fn keep_member(
     Ok(())
 }
 
-/// The next value. `NotJson` where there is none, or where arrays and objects nest deeper.
+/// Reads the next value. `NotJson` if there is none, or if arrays and objects nest deeper.
 #[cycle(read)]
 fn read(alloc: Global, reader: &mut Reader<'_>, depth: usize) -> Result<Value, ConfigTextFault>
     ensures ok { IfOk result (λ kept. (d : Data)
@@ -166,7 +167,7 @@ fn read(alloc: Global, reader: &mut Reader<'_>, depth: usize) -> Result<Value, C
     }
 }
 
-/// The items of an array up to the first that is no digest. The others are passed over.
+/// Reads the items of an array up to the first that is not a digest, and passes over the others.
 #[cycle(read)]
 fn read_items(
     alloc: Global,
@@ -189,7 +190,7 @@ fn read_items(
     Ok(found)
 }
 
-/// The members of an object, or as many as show that it is no configuration. The others are passed over.
+/// Reads the members of an object, or as many as show that it is not a configuration, and passes over the others.
 #[cycle(read)]
 fn read_members(
     alloc: Global,
@@ -212,7 +213,7 @@ fn read_members(
     Ok(found)
 }
 
-/// The value that a whole text is.
+/// Reads the value that a whole text is.
 fn read_text(alloc: Global, text: &str, scratch: &mut Scratch) -> Result<Value, ConfigTextFault>
     ensures ok { IfOk result (λ kept. option_map shape_in (read_text text.now) ≡ Some (shape_in (view kept))) }
     ensures err { IfErr result (λ fault. NotRead fault (read_text text.now)) }
@@ -225,7 +226,7 @@ fn read_text(alloc: Global, text: &str, scratch: &mut Scratch) -> Result<Value, 
     Ok(kept)
 }
 
-/// The value that bytes are, with what is kept of it. `NotJson` where they are none.
+/// Reads the value that bytes are, and keeps what a configuration needs. `NotJson` if they are not a value.
 pub(crate) fn read_value(alloc: Global, bytes: &[u8]) -> Result<Value, ConfigTextFault>
     ensures ok { IfOk result (λ kept. option_map shape_in (value_in bytes.now) ≡ Some (shape_in (view kept))) }
     ensures err { IfErr result (λ fault. NotRead fault (value_in bytes.now)) }

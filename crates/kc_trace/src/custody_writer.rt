@@ -1,4 +1,4 @@
-//! What happened to frames and slots, as JSON Lines (RFC 8259): an object a line.
+//! What happened to frames and slots, as JSON Lines (RFC 8259): one object on each line.
 ghost use Rattle.std.specs.Prelude.{◌≡◌, ◌≤◌, ◌+◌, ◌*◌, ◌++◌, ◌∷◌, [], length, vec_len, vec_capacity};
 ghost use Rattle.std.specs.List.{flat_map};
 ghost use Rattle.std.specs.Fmt.{decimal};
@@ -12,7 +12,7 @@ use kc_types::{
     Change, Config, Custody, FrameChange, Gfn, MeasuredImage, Owner, Phase, PhaseChange,
 };
 
-/// More bytes than the longest line of a change, of the beginning or of the end has, with its newline.
+/// More bytes than the longest line of a change, and than the first and the last line, with their newlines.
 pub const LONGEST_CHANGE: usize = 768;
 
 /// The version of kcore, which `kcore --version` prints too.
@@ -36,7 +36,7 @@ pub struct Digests {
     pub start: StartDigest,
 }
 
-/// What the first line of custody and of a summary says beside the sizes of the core.
+/// What the first line of custody and of a summary says besides the sizes of the core.
 #[derive(Clone, Copy, Debug, PartialEq, Eq)]
 pub struct Heading {
     /// The texts that were read, if they are named.
@@ -174,7 +174,7 @@ fn push_image(text: &mut Vec<u8>, image: &MeasuredImage)
     push_bytes(text, b"\"}");
 }
 
-/// Appends images as objects with a comma before each, at most 4.
+/// Appends at most 4 images as objects with a comma before each.
 fn push_more_images(text: &mut Vec<u8>, images: &[MeasuredImage])
     requires few { length images.now ≤ image_limit }
     requires room { vec_len text.old + length images.now * (longest_image + 1) ≤ vec_capacity text.old }
@@ -188,7 +188,7 @@ fn push_more_images(text: &mut Vec<u8>, images: &[MeasuredImage])
     }
 }
 
-/// Appends images as objects with a comma between two, at most 4.
+/// Appends at most 4 images as objects with commas between them.
 pub(crate) fn push_images(text: &mut Vec<u8>, images: &[MeasuredImage])
     requires few { length images.now ≤ image_limit }
     requires room { vec_len text.old + longest_images ≤ vec_capacity text.old }
@@ -217,7 +217,7 @@ fn push_phase_change(text: &mut Vec<u8>, change: &PhaseChange)
     push_bytes(text, b"]}\n");
 }
 
-/// Appends the line of a change, with its newline, for which there is room: memory does not grow.
+/// Appends the line of a change and its newline, for which there is room: memory does not grow.
 pub fn push_change(text: &mut Vec<u8>, change: &Change)
     requires { vec_len text.old + longest_change ≤ vec_capacity text.old }
     ensures line { text.new.items ≡ text.old.items ++ change_line change.now }
@@ -299,8 +299,8 @@ fn push_accesses(text: &mut Vec<u8>, is_unseen: bool)
     }
 }
 
-/// Appends what the first line of custody and of a summary says, with its newline: the versions, what was read, the sizes of
-/// the core, as the boot state follows from them, and whether the machine's accesses are in the trace.
+/// Appends what the first line of custody and of a summary says, with its newline: the versions, what was read, the
+/// sizes of the core, from which the boot state follows, and whether the machine's accesses are in the trace.
 pub(crate) fn push_heading(text: &mut Vec<u8>, heading: &Heading, config: &Config)
     requires { vec_len text.old + 512 ≤ vec_capacity text.old }
     ensures line { text.new.items ≡ text.old.items ++ heading_text heading.now config.now }
@@ -326,7 +326,7 @@ pub fn push_custody_header(text: &mut Vec<u8>, heading: &Heading, config: &Confi
     push_heading(text, heading, config);
 }
 
-/// Appends the last line, with its newline: how many calls the trace has, how many lines come between the first and this
+/// Appends the last line, with its newline: how many calls the trace has, how many lines are between the first and this
 /// one, and how many calls were refused or rejected.
 pub fn push_custody_end(text: &mut Vec<u8>, calls: usize, lines: usize, refused: usize)
     requires { vec_len text.old + longest_change ≤ vec_capacity text.old }

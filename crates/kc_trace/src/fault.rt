@@ -7,23 +7,23 @@ use std::alloc::{AllocError, AllocFailed};
 use std::error::Error;
 use std::fmt;
 
-/// Why a text is no trace. Lines are taken from the front, and the first fault is answered.
+/// Why a text is not a trace. Lines are read in order, and the first fault counts.
 #[derive(Clone, Copy, Debug, PartialEq, Eq)]
 pub enum TraceFault {
     /// The text does not begin with the header and its newline.
     NoHeader,
-    /// The line of this number, counted from 1 with the header as the first, is no call.
+    /// The line of this number, counted from 1 with the header as the first, is not a call.
     BadLine(u32),
-    /// Bytes are left behind the last newline.
+    /// There are bytes after the last newline.
     NoNewline,
-    /// Bytes are left behind 65,536 calls.
+    /// There are bytes after 65,536 calls.
     TooManyCalls,
-    /// A growth of memory was refused.
+    /// Memory could not be had.
     Memory,
 }
 
 impl TraceFault {
-    /// What is wrong; of a bad line, what is said before its number.
+    /// What is wrong; for a bad line, what is said before its number.
     pub const fn words(&self) -> &'static str
         ensures text { result.now ≡ trace_fault_words self.now }
         ensures short { length result.now ≤ 40 }

@@ -1,28 +1,28 @@
-//! One line as a call, and in which texts that call may stand.
+//! Lines as calls, and which texts may have a call.
 ghost use Rattle.std.specs.Prelude.{◌≡◌, codes, not, IfOk, option_map, option_and_then};
 ghost use Rattle.std.specs.Str.{bytes_eq};
 ghost use Rattle.kc_types.specs.declared.call.Call.TheVariants.{HostWrite};
 ghost use Rattle.kc_lines.specs.Words.{data_of};
-ghost use Rattle.kc_trace.specs.Spelling.{is_new, stands_in};
+ghost use Rattle.kc_trace.specs.Spelling.{is_range_call, is_allowed_in};
 ghost use Rattle.kc_trace.specs.Reading.{one_word, with_one_number, with_two_numbers, with_three_numbers, with_four_numbers, read_guest_access, call_of};
 
 use kc_lines::{read_data, read_number, split_number, split_word};
 use kc_types::{Call, Version};
 use std::alloc::{AllocError, Global};
 
-/// Whether a call stands in texts of the second version alone.
-pub fn is_new(call: &Call) -> bool
-    ensures { result ≡ is_new call.now }
+/// Whether only texts of the second version may have the call.
+pub fn is_range_call(call: &Call) -> bool
+    ensures { result ≡ is_range_call call.now }
 {
     matches!(call, Call::GrantRange { .. } | Call::RevokeRange { .. })
 }
 
-/// Whether the call may stand in a text of this version.
-pub fn stands_in(version: Version, call: &Call) -> bool
-    ensures { result ≡ stands_in version call.now }
+/// Whether a text of this version may have the call.
+pub fn is_allowed_in(version: Version, call: &Call) -> bool
+    ensures { result ≡ is_allowed_in version call.now }
 {
     match version {
-        Version::One => !is_new(call),
+        Version::One => !is_range_call(call),
         Version::Two => true,
     }
 }
@@ -175,7 +175,7 @@ fn read_five_words(
     with_four_numbers(name, first?, second?, third?, fourth?)
 }
 
-/// Two numbers and bytes.
+/// Reads two numbers and bytes.
 fn read_host_write(
     alloc: Global,
     first: Option<u32>,
@@ -194,7 +194,7 @@ fn read_host_write(
     }))
 }
 
-/// Four numbers, and a number or bytes.
+/// Reads four numbers, and a number or bytes.
 fn read_guest_access(
     alloc: Global,
     name: &[u8],
@@ -233,7 +233,7 @@ fn is_host_write(name: &[u8]) -> bool
     name == b"hwrite".as_slice()
 }
 
-/// The call that a line is, without its newline. Each word is gone over once, as a number where it may be one.
+/// Reads a line, without its newline, as a call. Each word is read once, as a number if it may be one.
 pub fn call_of_line(alloc: Global, line: &[u8]) -> Result<Option<Call>, AllocError>
     ensures { IfOk result (λ found. found ≡ call_of line.now) }
 {

@@ -7,7 +7,7 @@ ghost use Rattle.kc_trace.specs.Trace.{IsTrace, IsRefused};
 ghost use Rattle.kc_trace.specs.Machine.{Gives, Fails, start, longer, version_in, begins_header, begun, line_ended_by, line_ended, with_front, feed, fed, ended, reading, standing, call_of_kept, call_in, kept};
 
 use crate::fault::TraceFault;
-use crate::line::{call_of_line, stands_in};
+use crate::line::{call_of_line, is_allowed_in};
 use arrayvec::ArrayVec;
 use kc_lines::split_line;
 use kc_types::{CALL_LIMIT, Call, LINE_LIMIT, Version};
@@ -34,12 +34,12 @@ fn begins_header(line: &[u8]) -> bool
     b"kcore-trace 1".starts_with(line) || b"kcore-trace 2".starts_with(line)
 }
 
-/// The call, if it may stand in a text of this version.
+/// The call, if a text of this version may have it.
 fn standing(version: Version, call: Option<Call>) -> Option<Call>
     ensures { result ≡ standing version call }
 {
     match call {
-        Some(call) => if stands_in(version, &call) {
+        Some(call) => if is_allowed_in(version, &call) {
             Some(call)
         } else {
             None
@@ -48,7 +48,7 @@ fn standing(version: Version, call: Option<Call>) -> Option<Call>
     }
 }
 
-/// The call that a line is, if it is one.
+/// Reads a line as a call, if it is one.
 fn call_of_whole(alloc: Global, line: &[u8]) -> Result<Option<Call>, AllocError>
     ensures { IfOk result (λ call. call ≡ call_of_kept (kept line.now)) }
 {
@@ -58,13 +58,13 @@ fn call_of_whole(alloc: Global, line: &[u8]) -> Result<Option<Call>, AllocError>
     call_of_line(alloc, line)
 }
 
-/// Room for the calls of so many bytes, as most lines have eight and more.
+/// The room for the calls in this many bytes: most lines have at least eight.
 fn room_for(bytes: usize) -> usize {
     (bytes / 8).min(CALL_LIMIT)
 }
 
-/// How far a trace has been read: the version that its header told, once that was read, how many calls came, and the line
-/// begun.
+/// How far a trace has been read: the version in its header, once that was read, how many calls there were, and the
+/// line begun.
 #[derive(Drop)]
 struct Progress {
     version: Option<Version>,
@@ -97,7 +97,7 @@ impl Progress {
         }
     }
 
-    /// The same, so that the first stays as it was where memory runs out.
+    /// Makes a copy, so that the original stays as it was if memory runs out.
     fn copy(&self) -> Progress
         ensures { result ≡ self.now }
     {
@@ -111,7 +111,7 @@ impl Progress {
         }
     }
 
-    /// More bytes of the line.
+    /// Appends bytes to the line.
     fn push_each(&mut self, run: &[u8])
         ensures { self.new ≡ longer self.old run.now }
     {
@@ -122,7 +122,7 @@ impl Progress {
         }
     }
 
-    /// The next line begins.
+    /// Begins the next line.
     fn begin_line(&mut self)
         ensures { self.new ≡ record self.old { line = Some [] } }
     {
@@ -130,8 +130,8 @@ impl Progress {
         self.is_too_long = false;
     }
 
-    /// Takes more bytes of a line that has not ended. `NoHeader` where no header begins so, `TooManyCalls` behind the last call
-    /// that may stand in a trace.
+    /// Takes more bytes of a line that has not ended. `NoHeader` if no header begins so, `TooManyCalls` after the last
+    /// call that a trace may have.
     fn begin(&mut self, bytes: &[u8]) -> Result<(), TraceFault>
         ensures { MatchResult result (λ nothing. begun (longer self.old bytes.now) ≡ Ok (self.new, [])) (λ fault. Fails fault (begun (longer self.old bytes.now))) }
     {
@@ -150,7 +150,7 @@ impl Progress {
         }
     }
 
-    /// Takes the last bytes of the header; `NoHeader` where it is none.
+    /// Takes the last bytes of the header; `NoHeader` if it is not one.
     fn end_header(&mut self, last: &[u8]) -> Result<(), TraceFault>
         ensures { MatchResult result (λ nothing. line_ended_by None (longer self.old last.now) ≡ Ok (self.new, [])) (λ fault. Fails fault (line_ended_by None (longer self.old last.now))) }
     {
@@ -166,8 +166,8 @@ impl Progress {
         Ok(())
     }
 
-    /// The call that the line is, whose last bytes these are, in a trace of this version. It is read where it lies, unless it
-    /// began in an earlier piece.
+    /// Reads a line as a call of a trace of this version, given its last bytes. It is read in place, unless it began in
+    /// an earlier piece.
     fn call(
         &mut self,
         alloc: Global,
@@ -187,7 +187,7 @@ impl Progress {
         Ok(standing(version, call_of_line(alloc, self.line.as_slice())?))
     }
 
-    /// Takes the last bytes of a line, and gives the call that it is; the header is none.
+    /// Takes the last bytes of a line, and gives the call that it is; the header is not a call.
     fn end_line(&mut self, alloc: Global, last: &[u8]) -> Result<Option<Call>, TraceFault>
         ensures { MatchResult result (λ call. line_ended (longer self.old last.now) ≡ Ok (self.new, option_to_list call)) (λ fault. Fails fault (line_ended (longer self.old last.now))) }
     {
@@ -206,7 +206,7 @@ impl Progress {
         Ok(Some(call))
     }
 
-    /// Takes a line up to its newline, with the call that it is, or what there is of it.
+    /// Takes a line up to its newline and gives the call that it is, or takes what there is of it.
     fn take_line<'a>(
         &mut self,
         alloc: Global,
@@ -263,22 +263,22 @@ fn read_all(alloc: Global, text: &[u8]) -> Result<Vec<Call>, TraceFault>
     Ok(calls)
 }
 
-/// The calls of a whole trace, in order. Memory is the only fault that says nothing of the text.
+/// Reads the calls of a whole trace, in order. Only `Memory` is a fault that says nothing about the text.
 pub fn read_trace(alloc: Global, text: &[u8]) -> Result<Vec<Call>, TraceFault>
-    // What is read is a trace, and what is refused is none, for its first fault.
+    // What is read is a trace, and what is refused is not one, for its first fault.
     ensures found { MatchResult result (λ calls. IsTrace text.now calls.items) (λ fault. IsRefused text.now fault) }
 
     // A trace is read as its calls, unless memory runs out.
     ensures only { (calls : List Call) → IsTrace text.now calls → Gives (λ calls. calls.items) result (Ok calls) }
 
-    // What reading line after line answers.
+    // What reading line by line returns.
     ensures exact { Gives (λ calls. calls.items) result (reading text.now) }
 {
     read_all(alloc, text)
 }
 
-/// A reader of a trace that comes in pieces, cut anywhere. It keeps the line begun, at most 8,243 bytes, and
-/// the fault that it met. The answers are those of `read_trace` on the whole text.
+/// A reader of a trace that comes in pieces, cut anywhere. It keeps the line begun, at most 8,243 bytes, and the fault
+/// that it met. The results are those of `read_trace` for the whole text.
 #[derive(Drop)]
 pub struct TraceReader {
     progress: Progress,
@@ -298,7 +298,7 @@ impl Model for TraceReader {
 }
 
 impl TraceReader {
-    /// A reader in front of the header.
+    /// Makes a reader that is before the header.
     pub fn new() -> TraceReader
         ensures { result ≡ record { progress = start; fault = None } }
     {
@@ -308,10 +308,9 @@ impl TraceReader {
         }
     }
 
-    /// The calls whose lines this piece ends, in order. A fault comes with the piece whose bytes decide it, with
-    /// no call of that piece, and then again with each further piece. After `Memory` the reader is as it
-    /// was, so the piece may be fed again. A piece is best not too small, as a copy of the line begun is made for
-    /// each.
+    /// Reads the calls whose lines this piece ends, in order. A fault comes with the piece whose bytes decide it,
+    /// without any call of that piece, and then again with each further piece. After `Memory` the reader is as it was,
+    /// so the piece may be fed again. Pieces should not be too small, since the line begun is copied for each.
     pub fn feed(&mut self, alloc: Global, piece: &[u8]) -> Result<Vec<Call>, TraceFault>
         ensures answer { Gives (λ calls. (self.new.progress, calls.items)) result (fed self.old piece.now) }
         ensures ok { OnOk result (self.new.fault ≡ None) }
@@ -336,7 +335,7 @@ impl TraceReader {
         }
     }
 
-    /// Whether the text may end here. It is the fault met before, else `NoHeader` within the header and
+    /// Whether the text may end here. If not, the fault is the one met before, else `NoHeader` within the header and
     /// `NoNewline` within a line.
     pub fn finish(self) -> Result<(), TraceFault>
         ensures fault { MatchOption self.fault (result ≡ ended self.progress.version self.progress.line) (λ fault. result ≡ Err fault) }

@@ -1,4 +1,4 @@
-//! Calls that were denied and accesses of the host's, as JSON Lines (RFC 8259): an object a line.
+//! Calls that were denied and accesses by the host, as JSON Lines (RFC 8259): one object on each line.
 ghost use Rattle.std.specs.Prelude.{◌≡◌, ◌≤◌, ◌+◌, ◌++◌, ◌∷◌, [], codes, length, vec_len, vec_capacity};
 ghost use Rattle.std.specs.Fmt.{decimal};
 ghost use Rattle.kc_types.specs.Refusals.{name_of};
@@ -118,7 +118,8 @@ fn push_named(text: &mut Vec<u8>, named: Option<NamedFrame>)
     }
 }
 
-/// Appends the line of a call that was refused or rejected, with its newline, for which there is room: memory does not grow.
+/// Appends the line of a call that was refused or rejected and its newline, for which there is room: memory does not
+/// grow.
 pub fn push_denied(text: &mut Vec<u8>, denied: &Denied)
     requires { vec_len text.old + longest_change ≤ vec_capacity text.old }
     ensures line { text.new.items ≡ text.old.items ++ denied_line denied.now }
@@ -131,7 +132,7 @@ pub fn push_denied(text: &mut Vec<u8>, denied: &Denied)
     push_bytes(text, b"}\n");
 }
 
-/// Appends the line of an access of the host's, with its newline, for which there is room: memory does not grow.
+/// Appends the line of an access by the host and its newline, for which there is room: memory does not grow.
 pub fn push_access(text: &mut Vec<u8>, access: &Access)
     requires { vec_len text.old + longest_change ≤ vec_capacity text.old }
     ensures line { text.new.items ≡ text.old.items ++ access_line access.now }

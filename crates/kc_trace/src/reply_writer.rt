@@ -66,7 +66,7 @@ pub fn push_reply(text: &mut Vec<u8>, reply: &Reply)
     }
 }
 
-/// The text of some replies: a line for each, in order, each ended by a newline, with no header.
+/// Makes the text of some replies: a line for each, in order, each ended by a newline, with no header.
 pub fn write_replies(alloc: Global, replies: &[Reply]) -> Result<Vec<u8>, Memory>
     // No clause can rule out that memory runs out: tests write replies.
     ensures { IfOk result (λ text. text.items ≡ reply_text_of replies.now) }

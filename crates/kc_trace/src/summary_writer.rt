@@ -1,4 +1,4 @@
-//! Lives of VMs, as JSON Lines (RFC 8259): an object a line.
+//! Lives of VMs, as JSON Lines (RFC 8259): one object on each line.
 ghost use Rattle.std.specs.Prelude.{◌≡◌, ◌≤◌, ◌+◌, ◌++◌, drop, length, vec_len, vec_capacity, IfOk, OnOk};
 ghost use Rattle.std.specs.List.{flat_map};
 ghost use Rattle.kc_remarks.specs.Attempts.{AreInOrder, refusals};
@@ -16,7 +16,7 @@ use std::alloc::Global;
 /// More bytes than each part of a line has: its turns, its images, its counts, and a stretch in which a frame was shared.
 const LONGEST_PART: usize = 768;
 
-/// Appends the slot of a life and the lines of its turns; `Memory`, here and below, where a growth was refused.
+/// Appends the slot of a life and the lines of its turns. Here and below, `Memory` if memory cannot be had.
 fn push_turns(text: &mut Vec<u8>, life: &Life) -> Result<(), Memory>
     ensures { OnOk result (text.new.items ≡ text.old.items ++ turns_text life.now) }
 {
@@ -43,7 +43,7 @@ fn push_life_images(text: &mut Vec<u8>, life: &Life) -> Result<(), Memory>
     Ok(())
 }
 
-/// Appends how many reads and writes of the host were served, or `null` if the machine's accesses are not in the trace.
+/// Appends how many reads and writes by the host were served, or `null` if the machine's accesses are not in the trace.
 fn push_accesses(text: &mut Vec<u8>, is_unseen: bool, life: &Life)
     requires { vec_len text.old + 60 ≤ vec_capacity text.old }
     ensures { text.new.items ≡ text.old.items ++ accesses_counted is_unseen life.now }
@@ -96,7 +96,7 @@ fn push_more_sharings(text: &mut Vec<u8>, sharings: &[Sharing]) -> Result<(), Me
     Ok(())
 }
 
-/// Appends stretches as objects with a comma between two.
+/// Appends stretches as objects with commas between them.
 fn push_sharings(text: &mut Vec<u8>, sharings: &[Sharing]) -> Result<(), Memory>
     ensures { OnOk result (text.new.items ≡ text.old.items ++ sharings_text sharings.now) }
 {
@@ -215,7 +215,8 @@ fn push_summary_header(text: &mut Vec<u8>, heading: &Heading, config: &Config) -
     Ok(())
 }
 
-/// Appends the last line: how many calls the trace has, how many lives the text, and how many calls were refused or rejected.
+/// Appends the last line: how many calls the trace has, how many lives the text has, and how many calls were refused or
+/// rejected.
 fn push_summary_end(
     text: &mut Vec<u8>,
     calls: usize,
@@ -232,8 +233,8 @@ fn push_summary_end(
     Ok(())
 }
 
-/// The text of the lives in a trace, by the numbers of its calls and of those that were refused or rejected, and the attempts at
-/// pages of VMs.
+/// Makes the text of the lives in a trace, given the numbers of its calls and of those that were refused or rejected, and the
+/// attempts at pages of VMs.
 pub fn summary_text(
     alloc: Global,
     heading: &Heading,

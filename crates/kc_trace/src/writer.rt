@@ -8,9 +8,9 @@ ghost use Rattle.kc_types.specs.Bytes.{IsData};
 ghost use Rattle.kc_model.specs.Ranged.{IsRanged};
 ghost use Rattle.kc_types.specs.Limits.{line_limit};
 ghost use Rattle.kc_trace.specs.Trace.{IsTrace};
-ghost use Rattle.kc_trace.specs.Spelling.{is_new, version_of, trace_header, line_of, longest_call, trace_of};
+ghost use Rattle.kc_trace.specs.Spelling.{is_range_call, version_of, trace_header, line_of, longest_call, trace_of};
 
-use crate::line::is_new;
+use crate::line::is_range_call;
 use kc_lines::{push_bytes, push_digits, push_number};
 use kc_types::{Call, Data, LINE_LIMIT, Memory, Version};
 use std::alloc::Global;
@@ -153,18 +153,18 @@ pub fn push_call(text: &mut Vec<u8>, call: &Call)
     push_bytes(text, b"\n");
 }
 
-fn any_is_new(calls: &[Call]) -> bool
-    ensures { result ≡ list_any is_new calls.now }
+fn any_is_range_call(calls: &[Call]) -> bool
+    ensures { result ≡ list_any is_range_call calls.now }
 {
-    calls.iter().any(|call| is_new(call))
+    calls.iter().any(|call| is_range_call(call))
 }
 
-/// The first version in which all of these calls may stand.
+/// The first version whose texts may have all of these calls.
 #[tactic(auto, unfolding(crate::specs::Spelling::version_of))]
 pub fn version_of(calls: &[Call]) -> Version
     ensures { result ≡ version_of calls.now }
 {
-    if any_is_new(calls) {
+    if any_is_range_call(calls) {
         Version::Two
     } else {
         Version::One
@@ -183,8 +183,8 @@ pub fn push_header(text: &mut Vec<u8>, version: Version)
     }
 }
 
-/// The text of at most 65,536 calls: the header of the first version in which they may all stand, and a line for
-/// each call. Each line ends with a newline. `read_trace` reads it as these calls.
+/// Makes the text of at most 65,536 calls: the header of the first version whose texts may have them all, and a line
+/// for each call. Each line ends with a newline. `read_trace` reads it as these calls.
 pub fn write_trace(alloc: Global, calls: &[Call]) -> Result<Vec<u8>, Memory>
     requires { length calls.now ≤ call_limit }
     // No clause can rule out that memory runs out: tests write traces.

@@ -9,7 +9,7 @@ pub enum Kind {
     Config,
     /// A state in which calls begin.
     State,
-    /// A state that is compared with the one that they leave.
+    /// A state that is compared with the one that the calls leave.
     Compared,
 }
 
@@ -24,7 +24,7 @@ impl Kind {
         }
     }
 
-    /// Whether it is a text of which a job reads one, on standard input or in a file.
+    /// Whether a job reads one text of this kind, on standard input or in a file.
     pub fn is_input(self) -> bool {
         match self {
             Kind::Trace | Kind::Dump => true,
@@ -32,8 +32,8 @@ impl Kind {
         }
     }
 
-    /// How many of the first bytes are kept to explain a fault: of a state, which is a secret, the header. A dump of 65,536
-    /// frames has some 8 MB.
+    /// How many of the first bytes are kept to explain a fault: of a state, which is secret, only the header. A dump of
+    /// 65,536 frames has about 8 MB.
     pub fn kept(self) -> usize {
         match self {
             Kind::Trace | Kind::State => 64,

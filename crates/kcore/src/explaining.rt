@@ -15,7 +15,7 @@ use std::io::{ErrorKind, Read};
 
 const TOO_LONG: &str = "it has more than 1073741824 bytes";
 
-/// What was read before a fault came.
+/// What was read before there was a fault.
 #[derive(Drop)]
 pub struct Reading<'a> {
     /// The files that were given back.
@@ -59,7 +59,8 @@ fn unread_file(file: &Named<'_>) -> Option<&'static str> {
     }
 }
 
-/// The same of standard input, after so many bytes. If it is closed, the folder that stands in for it is read.
+/// Why standard input could not be read, after this many bytes. If it is closed, the folder that takes its place is
+/// read.
 fn unread_input(rt: &HostRuntime, total: u64) -> &'static str {
     if total > BYTE_LIMIT as u64 {
         return TOO_LONG;
@@ -74,7 +75,7 @@ fn unread_input(rt: &HostRuntime, total: u64) -> &'static str {
     }
 }
 
-/// Says which key is wrong, or where the text is no JSON, of a configuration that is kept whole.
+/// Says which key of a configuration is wrong, or where its text is not JSON, if it is kept whole.
 fn explain_keys(rt: &HostRuntime, config: &Named<'_>) {
     let text = config.source.head();
     if config.source.total() == text.len() as u64 {
@@ -82,7 +83,7 @@ fn explain_keys(rt: &HostRuntime, config: &Named<'_>) {
     }
 }
 
-/// Says what may have been meant, if an argument that is no command is a file or an option.
+/// Says what may have been meant, if an argument that is not a command is a file or an option.
 pub fn explain_arguments(rt: &HostRuntime, arguments: &[&str]) {
     let Some(first) = arguments.first() else {
         return;
@@ -95,7 +96,7 @@ pub fn explain_arguments(rt: &HostRuntime, arguments: &[&str]) {
     }
 }
 
-/// The file at a path, read again to its end for its bad line and its actors.
+/// Reads the file at a path again to its end, for its bad line and its actors.
 fn noted_again(rt: &HostRuntime, path: &str) -> Option<Noted<Std<File>>> {
     let file = File::open(rt, path).ok()?;
     let mut noted = Noted::with_lines(rt.alloc(), Std::new(file), 0);
@@ -112,7 +113,7 @@ fn noted_again(rt: &HostRuntime, path: &str) -> Option<Noted<Std<File>>> {
     Some(noted)
 }
 
-/// The line of this number in the file at a path, and the line before it.
+/// Reads the line of this number in the file at a path again, and the line before it.
 fn line_again(rt: &HostRuntime, path: &str, number: u32) -> Option<LineFinder> {
     let mut file = Std::new(File::open(rt, path).ok()?);
     let mut finder = LineFinder::new(rt.alloc(), u64::from(number));
@@ -133,7 +134,7 @@ fn line_again(rt: &HostRuntime, path: &str, number: u32) -> Option<LineFinder> {
     Some(finder)
 }
 
-/// A line as it is shown: of a page, whose bytes are a guest's, the name alone.
+/// A line as it is shown; only the name of a page's line, whose bytes are a guest's.
 fn shown(line: &[u8]) -> Shortened<'_> {
     if line.starts_with(b"page ") {
         Shortened(b"page ...")
@@ -142,7 +143,7 @@ fn shown(line: &[u8]) -> Shortened<'_> {
     }
 }
 
-/// Says why a line of a dump or a state's text is none.
+/// Says why a line is not one of a dump or of a state's text.
 fn explain_text_line(rt: &HostRuntime, file: &Named<'_>, number: u32) {
     let finder = match &file.path {
         Some(path) if file.is_regular => line_again(rt, path.as_str(), number),
@@ -161,7 +162,8 @@ fn explain_text_line(rt: &HostRuntime, file: &Named<'_>, number: u32) {
     }
 }
 
-/// Says which actor of a trace, in the order in which they appear, is none of a core's, and on which line it comes first.
+/// Says which actor of a trace, in the order in which they appear, is not one of a core's, and on which line it comes
+/// first.
 fn explain_actor<S: Source + Drop>(rt: &HostRuntime, noted: &Noted<S>, program: usize) {
     if let Some((Actor::Vcpu(vm, vcpu), line)) = noted.actor(program) {
         let _ = eprintln!(rt;
@@ -181,7 +183,7 @@ fn explain_trace_line<S: Source + Drop>(rt: &HostRuntime, noted: &Noted<S>, faul
 }
 
 impl<'a> Reading<'a> {
-    /// The files that were given back, and standard input.
+    /// Gathers the files that were given back, and standard input.
     pub fn of(files: &'a Folder<'a>, standard: &'a Named<'a>) -> Reading<'a> {
         let files = files.read.as_slice();
         let input = files
@@ -196,7 +198,7 @@ impl<'a> Reading<'a> {
         self.files.iter().find(|file| file.kind == kind)
     }
 
-    /// Says more of a fault, after its line.
+    /// Says more about a fault, after its line.
     pub fn explain(&self, rt: &HostRuntime, fault: &TextFault) {
         match fault {
             TextFault::Trace(fault) => self.explain_trace(rt, fault),
@@ -223,7 +225,7 @@ impl<'a> Reading<'a> {
         }
     }
 
-    /// The trace, read again if it is an ordinary file that was named.
+    /// Reads the trace again, if it is an ordinary file that was named.
     fn again(&self, rt: &HostRuntime) -> Option<Noted<Std<File>>> {
         match &self.input.path {
             Some(path) if self.input.is_regular => noted_again(rt, path.as_str()),
@@ -303,7 +305,7 @@ impl<'a> Reading<'a> {
         }
     }
 
-    /// Of the file whose reading failed, else of standard input.
+    /// Says why a file could not be read, or else why standard input could not be.
     fn explain_read(&self, rt: &HostRuntime) {
         for file in self.files.iter().rev() {
             if let Some(why) = unread_file(file) {

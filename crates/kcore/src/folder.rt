@@ -20,7 +20,7 @@ pub enum Opened {
 }
 
 impl Source for Opened {
-    // What the system gives is known to no clause.
+    // No clause knows what the system gives.
     ghost left = { λ _. None };
 
     ghost failed = { λ opened. has_failed opened };
@@ -43,7 +43,7 @@ impl Source for Opened {
 /// What the engines read, with what explains a fault of it.
 #[derive(Drop)]
 pub struct Named<'a> {
-    /// The path; none is standard input's.
+    /// The path; `None` for standard input.
     pub path: Option<String>,
     pub kind: Kind,
     /// Whether it is an ordinary file, which can be read again.
@@ -80,7 +80,7 @@ impl<'a> Source for Named<'a> {
     }
 }
 
-/// The files of the system. Those that were read are kept for what explains a fault.
+/// The files of the system. Those that were read are kept to explain a fault.
 #[derive(Drop)]
 pub struct Folder<'a> {
     rt: &'a HostRuntime,
@@ -94,7 +94,7 @@ pub struct Folder<'a> {
 }
 
 impl<'a> Folder<'a> {
-    /// No file is open yet.
+    /// Makes a folder with no file open yet.
     pub fn new(
         rt: &'a HostRuntime,
         asked: Asked<'a>,
@@ -112,7 +112,7 @@ impl<'a> Folder<'a> {
         }
     }
 
-    /// Standard input. At a terminal that it awaits it says so.
+    /// Standard input. If it waits for a terminal, it says so.
     pub fn standard_input(&self) -> Named<'a>
         ensures { has_failed result.source.inner.inner.inner ≡ false }
     {
@@ -125,8 +125,8 @@ impl<'a> Folder<'a> {
         self.named(None, self.asked.kind, false, opened, awaited)
     }
 
-    /// What was opened, with what is kept of it to explain a fault, and shown, if it is the trace or dump and standard error is
-    /// a terminal and standard output is not, how much of it was read.
+    /// What was opened, with what is kept of it to explain a fault. If it is the trace or dump, standard error is a
+    /// terminal and standard output is not, it shows how much of it was read.
     fn named(
         &self,
         path: Option<String>,
@@ -190,7 +190,7 @@ impl<'a> Files for Folder<'a> {
     }
 
     fn close(&mut self, file: Named<'a>) {
-        // Without memory nothing is kept to be explained.
+        // If memory cannot be had, nothing is kept to explain a fault.
         let _ = self.read.push(file);
     }
 }

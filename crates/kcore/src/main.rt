@@ -22,18 +22,19 @@ use std::process::ExitCode;
 use std::sync::Wait;
 use std::thread::Threads;
 
-/// Writes the fault's line on standard error, and answers the exit status.
+/// Writes the fault's line on standard error, and returns the exit status.
 fn fail(rt: &HostRuntime, fault: TextFault) -> u8 {
     tell(&fault, &mut Std::new(rt.stderr()))
 }
 
-/// The root folder, opened: if standard input or output is closed it takes the number, which the configuration's file
-/// would have otherwise. Nothing can be read of it, and nothing written. If it can't be opened, the program does without.
+/// Opens the root folder: if standard input or output is closed, it takes that number, which the configuration's file
+/// would have otherwise. Nothing can be read from it, and nothing written to it. If it can't be opened, the program
+/// does without.
 fn stand_in(rt: &HostRuntime) -> Option<File> {
     File::open(rt, "/").ok()
 }
 
-/// Says more of the fault that a job ended with, if it did.
+/// Says more about the fault that a job ended with, if it did.
 fn explain_exit(rt: &HostRuntime, files: &Folder<'_>, input: &Named<'_>, exit: &Exit) {
     let Some(fault) = &exit.fault else { return };
     match &files.refused {
@@ -50,8 +51,9 @@ fn explain_answered(rt: &HostRuntime, asked: &Asked<'_>, answered: &Answered) {
     }
 }
 
-/// Opens standard input and the other streams, has the job run, and answers the exit status. A fault is explained if that is
-/// asked for, and at a terminal; and how the calls were answered, if that is asked for, and at a terminal after a warning.
+/// Opens standard input and the other streams, runs the job, and returns the exit status. A fault is explained if that
+/// is asked for, and at a terminal; and how the calls were answered, if that is asked for, and at a terminal after a
+/// warning.
 fn run_with<'a, R: Threads + Wait + Sync>(
     rt: &'a HostRuntime,
     threads: &'a R,
@@ -85,7 +87,7 @@ fn run_with<'a, R: Threads + Wait + Sync>(
     exit.status
 }
 
-/// Prints what comes in place of a job, and answers the exit status.
+/// Prints what comes in place of a job, and returns the exit status.
 fn refuse(rt: &HostRuntime, arguments: &[&str], fault: ArgFault) -> u8 {
     match fault {
         ArgFault::Memory => fail(rt, TextFault::Memory),
@@ -103,7 +105,7 @@ fn refuse(rt: &HostRuntime, arguments: &[&str], fault: ArgFault) -> u8 {
     }
 }
 
-/// Says why the command line can't be read, and answers the exit status.
+/// Says why the command line can't be read, and returns the exit status.
 fn refuse_arguments(rt: &HostRuntime, error: &Error) -> u8 {
     if error.kind() == ErrorKind::OutOfMemory {
         return fail(rt, TextFault::Memory);
@@ -112,8 +114,9 @@ fn refuse_arguments(rt: &HostRuntime, error: &Error) -> u8 {
     2
 }
 
-/// How many pages are hashed at once, by the program's own name, since code cannot ask what it is built for: that for newer
-/// processors (x86-64-v3) is dist/'s `kcore-x86_64-v3-linux` or an installed `kcore-v3`. By another name it is only slower.
+/// How many pages are hashed at once, by the program's own name, since code cannot ask what it is built for: the
+/// program for newer processors (x86-64-v3) is `kcore-x86_64-v3-linux` in `dist/`, or an installed `kcore-v3`. By
+/// another name it is only slower.
 fn lanes_of(name: &str) -> Lanes {
     if name.ends_with("-v3-linux") || name.ends_with("-v3") {
         Lanes::Eight

@@ -1,4 +1,4 @@
--- What is owned behind a pointer that C keeps.
+-- What a pointer that C keeps owns.
 use base.Fml.{Fml, ftrue}
 use base.Stored.{Coded}
 use denote.RawPtr.{Ptr}
@@ -9,7 +9,7 @@ use Rattle.std.specs.Global.{Global}
 use Rattle.std.specs.contracts.impls.GlobalAllocator.TheImpl.{ghosts}
 use Rattle.kc_session.specs.contracts.session.Session.{the_row}
 
--- a session, as a `Box<Session>` owns one; where there is none, nothing
+-- a session, as a `Box<Session>` owns one; if there is none, nothing
 abbrev pub held_owns : Global → Ptr → Option the_row.Denot → Fml
 held_owns alloc ptr (Some session) = box_owns (ghosts.dealloc_token alloc) the_row ptr session
 held_owns alloc ptr None = ftrue

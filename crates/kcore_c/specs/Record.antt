@@ -1,4 +1,4 @@
--- What C is told of frames and of a session, in numbers.
+-- What C gets of frames and of a session, in numbers.
 use Rattle.std.specs.Prelude.{◌≡◌, ◌<◌, ◌≤◌, ℕ, ◌==◌, ◌&&◌, Bool, true, false, if◌then◌else◌, Option, Some, None}
 use Rattle.kc_types.specs.declared.owner.Owner.{Owner}
 use Rattle.kc_types.specs.declared.owner.Owner.TheVariants.{Core, Host, Free, Vm}
@@ -11,7 +11,7 @@ use Rattle.kc_model.specs.Custody.{custody_at}
 use Rattle.kcore_c.specs.declared.record.Record.{Record}
 use Rattle.kcore_c.specs.declared.record.Change.{Change}
 
--- the number of no slot and of no guest frame; as a slot that asks, the host
+-- the number for no slot and for no guest frame; as a slot that asks, the host
 abbrev pub none_code : ℕ
 none_code = 4294967295
 

@@ -60,7 +60,7 @@ abbrev pub bytes_of : Reply → List ℕ
 bytes_of (replies.Data bytes) = bytes
 bytes_of _ = []
 
--- the request is a call of the asker's, which the session now has, and its reply's numbers and bytes are reported
+-- the request is a call by the one that asks, which the session now has, and its reply's numbers and bytes are reported
 pub record IsDone (asker : Option Actor) (old new : Kept) (request : Request) (given told : List ℕ) (answer : Answer) : Type 0 where
   pub call : Call
   pub read : requested request given ≡ Some call

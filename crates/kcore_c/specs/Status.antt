@@ -1,4 +1,5 @@
--- What each function says of a session by its status. A session is the volume that it fills, with what its last call changed; there is none if it is closed.
+-- What each function says of a session by its status. A session is the volume that it fills, with what its last call
+-- changed; if it is closed, there is none.
 use Rattle.std.specs.Prelude.{◌≡◌, ◌≤◌, ◌<◌, ◌+◌, ℕ, List, Option, Some, None, Ok, IsSome, length, map, take, drop, slice_get, option_map}
 use Rattle.std.specs.List.{concat}
 use Rattle.kc_types.specs.Configuration.{Configuration, slot_count}
@@ -34,7 +35,7 @@ use Rattle.kcore_c.specs.declared.record.Sizes.{Sizes}
 use Rattle.kcore_c.specs.declared.status.Status.{Status}
 use Rattle.kcore_c.specs.declared.status.Status.TheVariants.{Done, Closed, AlreadyOpen, Memory, NoRoom, NoSuchLine, NoSuchFrame, NoSuchChange, NoSuchCall, Ask, Config, TooLong, State}
 
--- the numbers that C has for them
+-- their numbers in C
 abbrev pub code_of : Status → ℕ
 code_of Done = 0
 code_of Closed = 1
@@ -74,7 +75,7 @@ IsCode Says code = (status : Status) × (code ≡ code_of status) × Says status
 abbrev pub IsBooted : Option Kept → List ℕ → Type 0
 IsBooted session text = (config : Configuration) × (config_in text ≡ Ok config) × (session ≡ Some (new_session config))
 
--- opening a session by a text
+-- opening a session with a text
 abbrev pub BootSays : Option Kept → Option Kept → List ℕ → Status → Type 0
 BootSays old new text Done = (old ≡ None) × IsBooted new text
 BootSays old new text AlreadyOpen = IsSome old × (new ≡ old)
@@ -89,12 +90,12 @@ place_of (states.Slot v) = v
 place_of (states.Frame f) = f
 place_of _ = 0
 
--- the session is that of a core in the state that the text tells, asked nothing yet
+-- the session is that of a core in the state that the text spells, and was asked nothing yet
 abbrev pub IsResumed : Option Kept → List ℕ → Type 0
 IsResumed None text = ⊥
 IsResumed (Some kept) text = (kept ≡ begun kept.log.state) × (text ≡ state_text kept.log.state) × IsCoreState kept.log.state
 
--- opening a session by the text of a state; a place is reported if the text is refused
+-- opening a session with the text of a state; a place is reported if the text is refused
 abbrev pub ResumeSays : Option Kept → Option Kept → List ℕ → ℕ → ℕ → Status → Type 0
 ResumeSays old new text before after Done = (old ≡ None) × IsResumed new text × (after ≡ before)
 ResumeSays old new text before after AlreadyOpen = IsSome old × (new ≡ old) × (after ≡ before)
@@ -102,7 +103,7 @@ ResumeSays old new text before after TooLong = (old ≡ None) × (new ≡ None) 
 ResumeSays old new text before after (State fault) = (old ≡ None) × (new ≡ None) × (length text ≤ byte_limit) × IsRefusedState text fault × (after ≡ place_of fault)
 ResumeSays old new text before after _ = ⊥
 
--- telling the text of a session's state in a form, with room for so many bytes
+-- giving the text of a session's state in a form, with room for this many bytes
 abbrev pub StateSays : StateForm → Option Kept → ℕ → List ℕ → Status → Type 0
 StateSays form (Some kept) room bytes Done = bytes ≡ state_text (in_form form kept.log.state)
 StateSays form (Some kept) room bytes NoRoom = room < length (state_text (in_form form kept.log.state))
@@ -110,7 +111,7 @@ StateSays form (Some kept) room bytes Memory = Unit {0}
 StateSays form None room bytes Closed = Unit {0}
 StateSays form _ room bytes _ = ⊥
 
--- telling the dump of a session's core, with room for so many bytes
+-- giving the dump of a session's core, with room for this many bytes
 abbrev pub DumpSays : Option Kept → ℕ → List ℕ → Status → Type 0
 DumpSays (Some kept) room bytes Done = bytes ≡ dump_text (dump_of kept.log.state)
 DumpSays (Some kept) room bytes NoRoom = room < length (dump_text (dump_of kept.log.state))
@@ -118,7 +119,7 @@ DumpSays (Some kept) room bytes Memory = Unit {0}
 DumpSays None room bytes Closed = Unit {0}
 DumpSays _ room bytes _ = ⊥
 
--- telling the digest of the text of a session's blank state, with room for so many bytes
+-- giving the digest of the text of a session's blank state, with room for this many bytes
 abbrev pub BlankDigestSays : Option Kept → ℕ → List ℕ → Status → Type 0
 BlankDigestSays (Some kept) room bytes Done = bytes ≡ sha256 (state_text (in_form Blank kept.log.state))
 BlankDigestSays (Some kept) room bytes NoRoom = room < 32
@@ -151,7 +152,7 @@ ChangeSays (Some kept) number old new NoSuchChange = (slice_get kept.changes num
 ChangeSays None number old new Closed = new ≡ old
 ChangeSays _ _ _ _ _ = ⊥
 
--- all these changes, in front of a buffer's other places; how many there are is reported in any case
+-- all these changes, at the front of a buffer, whose other places stay; their number is reported in any case
 abbrev pub ChangesSays : Option Kept → List Change → List Change → ℕ → Status → Type 0
 ChangesSays (Some kept) old new count Done = (count ≡ length kept.changes) × (count ≤ length old) × (take count new ≡ map change_of kept.changes) × (drop count new ≡ drop count old)
 ChangesSays (Some kept) old new count NoRoom = (count ≡ length kept.changes) × (length old < count) × (new ≡ old)
@@ -192,7 +193,7 @@ SizesSays (Some kept) old new Done = AreSizes kept new
 SizesSays None old new Closed = new ≡ old
 SizesSays _ _ _ _ = ⊥
 
--- telling a line of a session's trace in a form, with room for so many bytes
+-- giving a line of a session's trace in a form, with room for this many bytes
 abbrev pub LineSays : Form → Option Kept → ℕ → ℕ → List ℕ → Status → Type 0
 LineSays form (Some kept) number room bytes Done = slice_get (lines_in form kept.log) number ≡ Some bytes
 LineSays form (Some kept) number room bytes NoSuchLine = slice_get (lines_in form kept.log) number ≡ None
@@ -201,14 +202,14 @@ LineSays form (Some kept) number room bytes Memory = Unit {0}
 LineSays form None number room bytes Closed = Unit {0}
 LineSays form _ number room bytes _ = ⊥
 
--- telling the digest of a session's redacted trace, with room for so many bytes
+-- giving the digest of a session's redacted trace, with room for this many bytes
 abbrev pub DigestSays : Option Kept → ℕ → List ℕ → Status → Type 0
 DigestSays (Some kept) room bytes Done = bytes ≡ sha256 (concat (redacted_lines kept.log))
 DigestSays (Some kept) room bytes NoRoom = room < 32
 DigestSays None room bytes Closed = Unit {0}
 DigestSays _ room bytes _ = ⊥
 
--- turning a session over
+-- beginning a session's next volume
 abbrev pub TurnSays : Option Kept → Option Kept → Status → Type 0
 TurnSays (Some old) new Done = new ≡ Some (turned old)
 TurnSays (Some old) new Memory = new ≡ Some old

@@ -63,7 +63,7 @@ impl Handle {
         mem::replace(self, Handle::closed(alloc)).into_session()
     }
 
-    /// Puts a session in, where there is none.
+    /// Puts a session in, if there is none.
     pub fn put(&mut self, session: Box<Session>)
         requires { self.old.held.session ≡ None }
         ensures { self.new.held.session ≡ Some session.value }

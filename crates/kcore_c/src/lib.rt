@@ -1,12 +1,12 @@
-//! The core for a program in C: a session behind a handle that C keeps. No proof covers C, so each function tests all
-//! that it needs but the pointers themselves; what C has to keep to is in `kcore.h`.
+//! The core for a program in C: a session behind a handle that C keeps. No proof covers C, so each function checks all
+//! that it needs except the pointers themselves; what the C program must obey is in `kcore.h`.
 //!
 //! - what each function of C says by its status: `specs/Status.antt`, this file over `src/session.rt` and
 //!   `src/look_ups.rt`; the numbers: `src/status.rt`, `include/kcore.h`
-//! - which numbers are which call and which reply, and what C is given of records and changes: `specs/Request.antt`,
+//! - which numbers are which call and which reply, and what C gets of records and changes: `specs/Request.antt`,
 //!   `specs/Record.antt`, `src/request.rt`, `src/record.rt`
 //! - what C keeps of a session, and what its pointer owns: `src/handle.rt`, `src/handle/held.rt`, `specs/Handle.antt`
-//! - how a monitor has an MMU follow the records, and compares both: `examples/kvm/mmu.c`; who asks, and what comes
+//! - how a monitor makes an MMU follow the records, and compares both: `examples/kvm/mmu.c`; who asks, and what comes
 //!   first: `examples/kvm/core.c`, `monitor.c`
 //! - how Python calls the C library: `examples/python/kcore.py`
 #![tactic(auto)]
@@ -36,7 +36,7 @@ pub use request::{Answer, Request};
 pub use status::Status;
 use std::alloc::Global;
 
-/// How many bytes the longest reply has, with its newline: as much room `kcore_call` wants.
+/// The number of bytes of the longest reply, with its newline: the room that `kcore_call` needs.
 #[unsafe(no_mangle)]
 pub extern "C" fn kcore_longest_reply() -> usize
     ensures { result ≡ longest_reply }
@@ -44,7 +44,7 @@ pub extern "C" fn kcore_longest_reply() -> usize
     LONGEST_REPLY
 }
 
-/// How many bytes the longest line of a trace has, with its newline.
+/// The number of bytes of the longest line of a trace, with its newline.
 #[unsafe(no_mangle)]
 pub extern "C" fn kcore_longest_line() -> usize
     ensures { result ≡ longest_call }
@@ -52,8 +52,8 @@ pub extern "C" fn kcore_longest_line() -> usize
     LONGEST_CALL
 }
 
-/// Opens a session whose core is in the boot state of the configuration that a text is. Where it does not, the handle
-/// stays as it is.
+/// Opens a session whose core is in the boot state of the configuration that a text is. If it cannot, the handle stays
+/// as it is.
 #[unsafe(no_mangle)]
 pub extern "C" fn kcore_boot(alloc: Global, core: &mut Handle, config: &[u8]) -> u32
     ensures { IsCode (BootSays core.old.held.session core.new.held.session config.now) result }
@@ -61,8 +61,8 @@ pub extern "C" fn kcore_boot(alloc: Global, core: &mut Handle, config: &[u8]) ->
     session::boot(alloc, core, config).code()
 }
 
-/// Opens a session whose core is in the state that a text tells, and that was asked nothing yet. If the text is refused,
-/// `place` is the number of the line, frame or slot that is at fault, or 0, and the handle stays as it is.
+/// Opens a session whose core is in the state that a text spells, and that was asked nothing yet. If the text is
+/// refused, `place` is the number of the line, frame or slot that is at fault, or 0, and the handle stays as it is.
 #[unsafe(no_mangle)]
 pub extern "C" fn kcore_resume(
     alloc: Global,
@@ -75,9 +75,9 @@ pub extern "C" fn kcore_resume(
     session::resume(alloc, core, text, place).code()
 }
 
-/// Answers the call that a line is, given without its newline: the first `used` bytes of the buffer are the reply's
-/// line, with its newline, and the bytes after them stay. If it is not answered, the session and the buffer stay as they
-/// are and `used` is 0.
+/// Answers the call on a line, which is given without its newline: the first `used` bytes of the buffer are the reply's
+/// line, with its newline, and the bytes after them stay. If it is not answered, the session and the buffer stay as
+/// they are and `used` is 0.
 #[unsafe(no_mangle)]
 pub extern "C" fn kcore_call(
     alloc: Global,
@@ -94,8 +94,8 @@ pub extern "C" fn kcore_call(
     session::call(alloc, core, None, line, out, used).code()
 }
 
-/// Answers as `kcore_call` does if the line's call is the one's that asks: a virtual processor of a slot, or the host if the
-/// slot is 4,294,967,295. If it is another's, it is not answered.
+/// Answers as `kcore_call` does if the line's call is by the one that asks: a virtual processor of a slot, or the host
+/// if the slot is 4,294,967,295. A call by another is not answered.
 #[unsafe(no_mangle)]
 pub extern "C" fn kcore_call_by(
     alloc: Global,
@@ -114,9 +114,9 @@ pub extern "C" fn kcore_call_by(
     session::call(alloc, core, Some(asking(vm, vcpu)), line, out, used).code()
 }
 
-/// Makes a call that is given by numbers and bytes: the numbers of its reply, and of the buffer, which has room for 4,096
-/// bytes, the first `used` are the reply's; the others stay. If it is not made, session, buffer and answer stay as they are
-/// and `used` is 0. Who asks is not tested.
+/// Makes a call that is given by numbers and bytes, and gives the numbers of its reply; the reply's bytes are the first
+/// `used` of the buffer, which has room for 4,096, and the others stay. If the call is not made, session, buffer and
+/// answer stay as they are and `used` is 0. Who asks is not checked.
 #[unsafe(no_mangle)]
 pub extern "C" fn kcore_do(
     alloc: Global,
@@ -135,7 +135,7 @@ pub extern "C" fn kcore_do(
     session::make(alloc, core, None, request, bytes, out, used, answer).code()
 }
 
-/// Makes a call as `kcore_do` does if it is the one's that asks, as `kcore_call_by` has it.
+/// Makes a call as `kcore_do` does, if it is by the one that asks; who asks is given as in `kcore_call_by`.
 #[unsafe(no_mangle)]
 pub extern "C" fn kcore_do_by(
     alloc: Global,
@@ -166,8 +166,8 @@ pub extern "C" fn kcore_do_by(
     .code()
 }
 
-/// Reports what the last call that was answered changed of the custody of frames: a change, by its place from 0, in
-/// rising order of frames. If there is none there, `change` stays.
+/// Reports what the last call that was answered changed in the custody of frames: one change, by its place from 0, in
+/// rising order of frames. If there is no such change, `change` stays.
 #[unsafe(no_mangle)]
 pub extern "C" fn kcore_change(
     alloc: Global,
@@ -181,8 +181,8 @@ pub extern "C" fn kcore_change(
     look_ups::change(alloc, core, number, change).code()
 }
 
-/// Reports all these changes, the first `count` of the buffer, of which the rest stays; if they have no room, how many
-/// there are.
+/// Reports all these changes in the first `count` places of the buffer; the others stay. If there is not enough room,
+/// `count` is how many changes there are.
 #[unsafe(no_mangle)]
 pub extern "C" fn kcore_changes(
     alloc: Global,
@@ -241,7 +241,7 @@ pub extern "C" fn kcore_next(
     look_ups::next(alloc, core, owner, vm, from, frame).code()
 }
 
-/// Reports how large the core is, and how many calls more the volume holds.
+/// Reports how large the core is, and how many more calls the volume can hold.
 #[unsafe(no_mangle)]
 pub extern "C" fn kcore_sizes(alloc: Global, core: &mut Handle, size: &mut Sizes) -> u32
     ensures says { IsCode (SizesSays core.old.held.session size.old size.new) result }
@@ -250,9 +250,9 @@ pub extern "C" fn kcore_sizes(alloc: Global, core: &mut Handle, size: &mut Sizes
     look_ups::sizes(alloc, core, size).code()
 }
 
-/// Tells a line of the volume's trace, by its place from 0, with its newline: the header, then a line for each call that was
-/// answered, so that all lines, one after the other, are the trace. The bytes after the first `used` stay; if no line is
-/// given, `used` is 0.
+/// Gives a line of the volume's trace, by its place from 0, with its newline: the header, then a line for each call
+/// that was answered, so that all lines, one after the other, are the trace. The bytes after the first `used` stay; if
+/// no line is given, `used` is 0.
 #[unsafe(no_mangle)]
 pub extern "C" fn kcore_line(
     alloc: Global,
@@ -270,8 +270,8 @@ pub extern "C" fn kcore_line(
     session::line(alloc, core, Form::Whole, number, out, used).code()
 }
 
-/// Does what `kcore_line` does, with zeros in the place of the bytes that virtual processors wrote: all these lines, one after
-/// the other, are the volume's redacted trace.
+/// Does what `kcore_line` does, with zeros in place of the bytes that virtual processors wrote: all these lines, one
+/// after the other, are the volume's redacted trace.
 #[unsafe(no_mangle)]
 pub extern "C" fn kcore_redacted_line(
     alloc: Global,
@@ -289,8 +289,8 @@ pub extern "C" fn kcore_redacted_line(
     session::line(alloc, core, Form::Redacted, number, out, used).code()
 }
 
-/// Tells the SHA-256 digest of the volume's redacted trace so far, which has 32 bytes. The calls since it was last asked are
-/// hashed now. The bytes after the first `used` stay; if no digest is given, `used` is 0.
+/// Gives the SHA-256 digest of the volume's redacted trace so far, which has 32 bytes. The calls since it was last
+/// asked for are hashed now. The bytes after the first `used` stay; if no digest is given, `used` is 0.
 #[unsafe(no_mangle)]
 pub extern "C" fn kcore_digest(
     alloc: Global,
@@ -307,8 +307,8 @@ pub extern "C" fn kcore_digest(
     session::digest(alloc, core, out, used).code()
 }
 
-/// Tells the text of the core's state: what `kcore_resume` opens again, and what `kcore replay --state` writes. The bytes
-/// after the first `used` stay; if no text is given, `used` is 0.
+/// Gives the text of the core's state, which `kcore_resume` can open again and which `kcore replay --state` writes. The
+/// bytes after the first `used` stay; if no text is given, `used` is 0.
 #[unsafe(no_mangle)]
 pub extern "C" fn kcore_state(
     alloc: Global,
@@ -342,8 +342,8 @@ pub extern "C" fn kcore_blank_state(
     session::state(alloc, core, StateForm::Blank, out, used).code()
 }
 
-/// Tells the SHA-256 digest of the text that `kcore_blank_state` tells, which has 32 bytes. The bytes after the first `used`
-/// stay; if no digest is given, `used` is 0.
+/// Gives the SHA-256 digest of the text that `kcore_blank_state` gives, which has 32 bytes. The bytes after the first
+/// `used` stay; if no digest is given, `used` is 0.
 #[unsafe(no_mangle)]
 pub extern "C" fn kcore_blank_digest(
     alloc: Global,
@@ -360,7 +360,7 @@ pub extern "C" fn kcore_blank_digest(
     session::blank_digest(alloc, core, out, used).code()
 }
 
-/// Tells the dump of the core, as `kcore replay --dump` writes it. The bytes after the first `used` stay; if no dump is
+/// Gives the dump of the core, as `kcore replay --dump` writes it. The bytes after the first `used` stay; if no dump is
 /// given, `used` is 0.
 #[unsafe(no_mangle)]
 pub extern "C" fn kcore_dump(
@@ -378,7 +378,7 @@ pub extern "C" fn kcore_dump(
     session::dump(alloc, core, out, used).code()
 }
 
-/// Begins the session's next volume, with the core as it is: the lines from then on are of the next one.
+/// Begins the session's next volume, with the core as it is; lines from then on are those of the next volume.
 #[unsafe(no_mangle)]
 pub extern "C" fn kcore_turn(alloc: Global, core: &mut Handle) -> u32
     ensures { IsCode (TurnSays core.old.held.session core.new.held.session) result }
@@ -386,7 +386,7 @@ pub extern "C" fn kcore_turn(alloc: Global, core: &mut Handle) -> u32
     session::turn(alloc, core).code()
 }
 
-/// Ends a session: the core's pages are zeroed before their memory goes, and the handle is closed.
+/// Ends a session: the core's pages are zeroed before their memory is freed, and the handle is closed.
 #[unsafe(no_mangle)]
 pub extern "C" fn kcore_end(alloc: Global, core: &mut Handle) -> u32
     ensures says { IsCode (EndSays core.old.held.session) result }

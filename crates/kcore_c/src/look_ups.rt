@@ -1,4 +1,4 @@
-//! What is read of a handle's session.
+//! What is read from a handle's session.
 ghost use Rattle.std.specs.Prelude.{◌≡◌};
 ghost use Rattle.kcore_c.specs.Status.{ChangeSays, ChangesSays, RecordSays, FrameSays, NextSays, SizesSays, AreSizes};
 
@@ -65,7 +65,7 @@ pub fn frame(alloc: Global, core: &mut Handle, vm: u32, gfn: u32, out: &mut u32)
     status
 }
 
-/// Reports the first frame from a number on whose record has an owner.
+/// Reports the first frame from a number on whose record has this owner.
 pub fn next(
     alloc: Global,
     core: &mut Handle,
@@ -125,7 +125,7 @@ fn sizes_of(session: &Session) -> Sizes
     }
 }
 
-/// Reports how large the session's core is, and how many calls its volume has room for yet.
+/// Reports how large the session's core is, and how many more calls its volume can hold.
 pub fn sizes(alloc: Global, core: &mut Handle, out: &mut Sizes) -> Status
     ensures says { SizesSays core.old.held.session out.old out.new result }
     ensures same { core.new.held.session ≡ core.old.held.session }

@@ -1,4 +1,4 @@
-//! What C is given of frames and of a session, in numbers.
+//! What C gets of frames and of a session, in numbers.
 ghost use Rattle.std.specs.Prelude.{◌≡◌, ◌≤◌, length, map, take, drop, MatchOption};
 ghost use Rattle.kcore_c.specs.Record.{owner_code, vm_code, gfn_code, flag_code, asking, record_of, change_of, is_of, IsNextOf, HasNoneOf};
 
@@ -6,7 +6,7 @@ use kc_core::KCore;
 use kc_custody::custody_at;
 use kc_types::{Actor, Custody, FrameChange, Gfn, Owner};
 
-/// The number of no slot and of no guest frame; as a slot that asks, the host.
+/// The number for no slot and for no guest frame; as a slot that asks, the host.
 pub const NONE: u32 = 4_294_967_295;
 
 /// The custody of a frame.
@@ -34,7 +34,8 @@ pub struct Change {
     pub after: Record,
 }
 
-/// How many frames a session's core has, its own and the host's of them, its slots, and how many calls more its volume holds.
+/// How many frames a session's core has, how many of them are its own and the host's, its slots, and how many more
+/// calls its volume can hold.
 #[repr(C)]
 #[derive(Clone, Copy)]
 pub struct Sizes {
@@ -91,7 +92,7 @@ fn flag_code(flag: bool) -> u32
     if flag { 1 } else { 0 }
 }
 
-/// What C is told of a frame's custody.
+/// What C gets of a frame's custody.
 pub fn record_of(custody: &Custody) -> Record
     ensures { result ≡ record_of custody.now }
 {
@@ -104,7 +105,7 @@ pub fn record_of(custody: &Custody) -> Record
     }
 }
 
-/// What C is told of a change.
+/// What C gets of a change.
 pub fn change_of(change: &FrameChange) -> Change
     ensures { result ≡ change_of change.now }
 {
@@ -115,7 +116,7 @@ pub fn change_of(change: &FrameChange) -> Change
     }
 }
 
-/// Puts what C is told of changes in front of a buffer's other places.
+/// Puts what C gets of changes at the front of a buffer, whose other places stay.
 pub fn tell_changes(changes: &[FrameChange], out: &mut [Change])
     requires { length changes.now ≤ length out.old }
     ensures front { take (length changes.now) out.new ≡ map change_of changes.now }

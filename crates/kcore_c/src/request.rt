@@ -8,7 +8,7 @@ ghost use Rattle.kcore_c.specs.Request.{is_data, numbered, requested, answer_of,
 use kc_types::{Call, Data, PAGE_SIZE, Reply};
 use std::alloc::{AllocError, Global};
 
-/// A call: which one, and its numbers in the order of a trace's line. Those that it does not have are not read.
+/// A call: which one, and its numbers in the order of a trace's line. Numbers that it does not have are not read.
 #[repr(C)]
 #[derive(Clone, Copy)]
 pub struct Request {
@@ -20,7 +20,8 @@ pub struct Request {
     pub fifth: u32,
 }
 
-/// A reply: of which kind, and its number: a frame, an image, how many bytes, a guest frame, a refusal; 0 if it has none.
+/// A reply: its kind and its number, which is a frame, an image, a number of bytes, a guest frame or a refusal; 0 if it
+/// has none.
 #[repr(C)]
 #[derive(Clone, Copy)]
 pub struct Answer {
@@ -106,7 +107,7 @@ fn numbered(request: Request) -> Option<Call>
     }
 }
 
-/// Bytes of a call; `None` if they are too many or too few.
+/// Takes the bytes of a call; `None` if there are too many or too few.
 fn data_of(alloc: Global, bytes: &[u8]) -> Result<Option<Data>, AllocError>
     ensures value { IfOk result (λ made. made ≡ if is_data bytes.now then Some bytes.now else None) }
     ensures within { IfOk result (λ made. IfSome made IsData) }

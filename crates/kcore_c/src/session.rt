@@ -1,4 +1,4 @@
-//! What is done with the session behind a handle.
+//! What is done with the session of a handle.
 ghost use Rattle.std.specs.Prelude.{◌≡◌, ◌≢◌, ◌≤◌, Some, None, length, take, drop, IfOk, IfErr};
 ghost use Rattle.kc_trace.specs.ConfigText.{config_in, ConfigFails};
 ghost use Rattle.kcore_c.specs.Status.{BootSays, CallSays, DoSays, LineSays, DigestSays, ResumeSays, StateSays, DumpSays, BlankDigestSays, IsResumed, TurnSays, EndSays, IsBooted, place_of};
@@ -19,10 +19,10 @@ use kc_trace::{ConfigTextFault, LONGEST_REPLY, read_config};
 use kc_types::{Actor, BYTE_LIMIT, Memory, PAGE_SIZE};
 use std::alloc::Global;
 
-/// How many bytes a digest has.
+/// The number of bytes of a digest.
 const DIGEST: usize = 32;
 
-/// Puts a digest in front of a buffer's other bytes.
+/// Puts a digest at the front of a buffer, whose other bytes stay.
 fn put_digest(out: &mut [u8], digest: &[u8; DIGEST])
     requires { 32 ≤ length out.old }
     ensures front { take 32 out.new ≡ digest.now }
@@ -46,7 +46,7 @@ fn opened(alloc: Global, text: &[u8]) -> Result<Box<Session>, ConfigTextFault>
     }
 }
 
-/// Opens a session by the text of its configuration.
+/// Opens a session with the text of its configuration.
 pub fn boot(alloc: Global, core: &mut Handle, text: &[u8]) -> Status
     ensures { BootSays core.old.held.session core.new.held.session text.now result }
 {
@@ -87,7 +87,7 @@ fn resumed(alloc: Global, text: &[u8]) -> Result<Box<Session>, StateFault>
     }
 }
 
-/// Opens a session by the text of a state.
+/// Opens a session with the text of a state.
 pub fn resume(alloc: Global, core: &mut Handle, text: &[u8], place: &mut u32) -> Status
     ensures { ResumeSays core.old.held.session core.new.held.session text.now place.old place.new result }
 {
@@ -144,7 +144,7 @@ pub fn call(
     }
 }
 
-/// Makes the call that a request is, as an actor or as nobody: the numbers of its reply, and its bytes into `out`.
+/// Makes the call that a request is, as an actor or as nobody: gives the numbers of its reply, and its bytes in `out`.
 pub fn make(
     alloc: Global,
     core: &mut Handle,
@@ -193,7 +193,7 @@ pub fn make(
     }
 }
 
-/// Tells a line of the session's trace in a form into `out`.
+/// Gives a line of the session's trace in a form, in `out`.
 pub fn line(
     alloc: Global,
     core: &mut Handle,
@@ -228,7 +228,7 @@ pub fn line(
     }
 }
 
-/// Tells the digest of the session's redacted trace so far into `out`.
+/// Gives the digest of the session's redacted trace so far, in `out`.
 pub fn digest(alloc: Global, core: &mut Handle, out: &mut [u8], used: &mut usize) -> Status
     ensures says { DigestSays core.old.held.session (length out.old) (take used.new out.new) result }
     ensures within { used.new ≤ length out.new }
@@ -252,7 +252,7 @@ pub fn digest(alloc: Global, core: &mut Handle, out: &mut [u8], used: &mut usize
     Status::Done
 }
 
-/// Tells the text of the session's state in a form into `out`.
+/// Gives the text of the session's state in a form, in `out`.
 pub fn state(
     alloc: Global,
     core: &mut Handle,
@@ -286,7 +286,7 @@ pub fn state(
     }
 }
 
-/// The text of a core's dump.
+/// Makes the text of a core's dump.
 fn dumped(alloc: Global, core: &KCore) -> Result<Vec<u8>, Memory>
     ensures { IfOk result (λ text. text.items ≡ dump_text (dump_of core.now)) }
 {
@@ -294,7 +294,7 @@ fn dumped(alloc: Global, core: &KCore) -> Result<Vec<u8>, Memory>
     write_dump(alloc, &dump)
 }
 
-/// Tells the dump of the session's core into `out`.
+/// Gives the dump of the session's core, in `out`.
 pub fn dump(alloc: Global, core: &mut Handle, out: &mut [u8], used: &mut usize) -> Status
     ensures says { DumpSays core.old.held.session (length out.old) (take used.new out.new) result }
     ensures within { used.new ≤ length out.new }
@@ -321,7 +321,7 @@ pub fn dump(alloc: Global, core: &mut Handle, out: &mut [u8], used: &mut usize) 
     }
 }
 
-/// Tells the digest of the text of the session's blank state into `out`.
+/// Gives the digest of the text of the session's blank state, in `out`.
 pub fn blank_digest(alloc: Global, core: &mut Handle, out: &mut [u8], used: &mut usize) -> Status
     ensures says { BlankDigestSays core.old.held.session (length out.old) (take used.new out.new) result }
     ensures within { used.new ≤ length out.new }

@@ -1,4 +1,4 @@
-//! What a function answers C.
+//! What a function returns to C.
 ghost use Rattle.std.specs.Prelude.{◌≡◌};
 ghost use Rattle.kcore_c.specs.Status.{code_of};
 
@@ -7,7 +7,7 @@ use kc_state_text::StateFault;
 use kc_trace::ConfigTextFault;
 use kc_types::ConfigFault;
 
-/// What a function answers C.
+/// What a function returns to C.
 #[derive(Clone, Copy, Debug, PartialEq, Eq)]
 pub enum Status {
     /// It is done.
@@ -16,13 +16,13 @@ pub enum Status {
     Closed,
     /// A session is open already.
     AlreadyOpen,
-    /// A growth of memory was refused.
+    /// Memory could not be had.
     Memory,
     /// The buffer is too short.
     NoRoom,
     /// The trace has no such line.
     NoSuchLine,
-    /// There is no such frame, or none there.
+    /// There is no such frame, or none at this place.
     NoSuchFrame,
     /// The last call changed fewer frames.
     NoSuchChange,
@@ -30,16 +30,16 @@ pub enum Status {
     NoSuchCall,
     /// The line was not answered.
     Ask(AskFault),
-    /// The text is no configuration.
+    /// The text is not a configuration.
     Config(ConfigTextFault),
     /// The text has more than 1,073,741,824 bytes.
     TooLong,
-    /// The text is no lawful state's.
+    /// The text is not a lawful state's.
     State(StateFault),
 }
 
 impl Status {
-    /// The number of it that `kcore.h` names.
+    /// Its number in `kcore.h`.
     pub fn code(self) -> u32
         ensures { result ≡ code_of self }
     {

@@ -1,9 +1,9 @@
 //! What each call of a trace may touch, and its wave, to be compared with what another program finds; how long finding
-//! that takes; what a replay gives whose waves are all taken by workers, whatever they gain; what a live run leaves; or
-//! whether a core is turned over while it is called.
+//! that takes; what a replay gives whose waves are all taken by workers, whatever they gain; what a live run leaves;
+//! whether a core is turned over while it is called; or the digests that it publishes of its volumes.
 //!
-//! The words are the paths of a configuration and of a trace, and perhaps a number, how often to measure; or the word
-//! `replay` or `dump` and a number of workers; or the word `live` or `turn`.
+//! The arguments are the paths of a configuration and of a trace, and perhaps a number, how often to measure; or `replay`
+//! or `dump` and a number of workers; or `live` or `turn`; or `digest` and how many calls a volume has.
 #![tactic(auto)]
 
 use anyhow::{Result, bail};
@@ -11,11 +11,11 @@ use itoa::{Buffer, Integer};
 use kc_core::KCore;
 use kc_digests::Lanes;
 use kc_dump_text::write_dump;
-use kc_live::{Entry, History, LiveCore, LiveStop, Seat, Volume, run_trace};
+use kc_live::{Entry, History, LiveCore, LiveStop, Seat, Volume, VolumeDigest, run_trace};
 use kc_replay::{Gate, Outcome, Plan, footprints, replay};
 use kc_state::dump;
 use kc_trace::{read_config, read_trace, write_replies, write_trace};
-use kc_types::{Actor, Call, Config, Resource};
+use kc_types::{Actor, Call, Config, Resource, actor_of};
 use std::io::Write;
 use std::rt::Clock;
 use std::sync::Wait;
@@ -101,7 +101,7 @@ fn print_time(rt: &HostRuntime, core: &KCore, calls: &[Call]) -> Result<()> {
 }
 
 /// A gate at which calls could wait for each other, so that every wave of two calls and more is taken by workers. It looks
-/// at the clock before each call and after it, by which a program around this one sees when a call is told.
+/// at the clock before each call and after it, by which a program around this one sees when the gate is told of a call.
 #[derive(Drop)]
 struct MeetingPlace<'a, R: Clock + Sync> {
     rt: &'a R,
@@ -121,7 +121,7 @@ impl<'a, R: Clock + Sync> Gate for MeetingPlace<'a, R> {
     }
 }
 
-/// What a replay by so many workers gives: the replies, or the dump of the core that it leaves.
+/// Prints what a replay by a number of workers gives: the replies, or the dump of the core that it leaves.
 fn print_replay<R: Threads + Wait + Clock + Sync>(
     rt: &HostRuntime,
     threads: &R,
@@ -163,9 +163,9 @@ fn print_history(rt: &HostRuntime, history: History) -> Result<()> {
     Ok(())
 }
 
-/// What a live run leaves, with a thread for each actor of the trace: the calls of its history. Where it gave no answer, a
-/// line with the cause comes first, and whether the receipts are those of the history; there are no calls where it left
-/// no history.
+/// Prints what a live run leaves, with a thread for each actor of the trace: the calls of its history. If it gave no answer,
+/// a line with the cause comes first, and whether the receipts are those of the history; there are no calls if it left no
+/// history.
 fn print_live<R: Threads + Wait + Clock + Sync>(
     rt: &HostRuntime,
     threads: &R,
@@ -190,7 +190,41 @@ fn print_live<R: Threads + Wait + Clock + Sync>(
     }
 }
 
-/// Makes the host's calls from a seat, and turns the core over behind them: the volume that they are in.
+/// Prints the digest of a volume so far, as it is published.
+fn print_digest(rt: &HostRuntime, said: VolumeDigest) -> Result<()> {
+    let mut line = String::new(rt.alloc());
+    push_number(&mut line, "{\"volume\":", said.volume)?;
+    push_number(&mut line, ",\"calls\":", said.calls)?;
+    line.push_str(",\"trace_sha256\":\"")?;
+    line.push_str(hex::encode(rt.alloc(), said.digest.as_slice())?.as_str())?;
+    line.push_str("\"}\n")?;
+    rt.stdout().write_all(line.as_bytes())?;
+    Ok(())
+}
+
+/// Makes the calls from seats of their actors, in volumes of a number of calls, and prints the digest after each call.
+fn print_digests<R: Wait>(
+    rt: &HostRuntime,
+    threads: &R,
+    config: Config,
+    calls: Vec<Call>,
+    most: usize,
+) -> Result<()> {
+    let alloc = rt.alloc();
+    let core = LiveCore::new(alloc, config)?;
+    for call in calls {
+        let mut seat = Seat::new(alloc, actor_of(&call));
+        core.call(threads, &mut seat, call)?;
+        let said = core.digest(threads);
+        print_digest(rt, said)?;
+        if said.calls as usize >= most {
+            core.turn(threads)?;
+        }
+    }
+    Ok(())
+}
+
+/// Makes the host's calls from a seat, and turns the core over after them: the volume that they are in.
 fn make_and_turn<R: Wait>(
     rt: &R,
     core: &LiveCore,
@@ -227,7 +261,7 @@ fn read_until<R: Wait>(rt: &R, core: &LiveCore, seat: &mut Seat, is_over: &Atomi
     }
 }
 
-/// A line that says whether the host's calls were made and the core was turned over behind them, while a guest's calls
+/// A line that says whether the host's calls were made and the core was turned over after them, while a guest's calls
 /// were made.
 fn print_turn<R: Threads + Wait + Sync>(
     rt: &HostRuntime,
@@ -264,7 +298,7 @@ fn read_calls(rt: &HostRuntime, path: &str) -> Result<Vec<Call>> {
     Ok(read_trace(rt.alloc(), text.as_slice())?)
 }
 
-/// As often as the word says, a line with what footprints and plan take.
+/// Prints, as often as asked, a line with what footprints and plan take.
 fn print_times(rt: &HostRuntime, core: &KCore, calls: &[Call], times: &str) -> Result<()> {
     for _ in 0..times.parse::<u32>()? {
         print_time(rt, core, calls)?;
@@ -272,7 +306,7 @@ fn print_times(rt: &HostRuntime, core: &KCore, calls: &[Call], times: &str) -> R
     Ok(())
 }
 
-/// What the words behind configuration and trace ask for.
+/// Does what the arguments after configuration and trace ask for.
 fn print_asked<R: Threads + Wait + Clock + Sync>(
     rt: &HostRuntime,
     threads: &R,
@@ -284,6 +318,9 @@ fn print_asked<R: Threads + Wait + Clock + Sync>(
     match (word, number) {
         (Some("live"), _) => print_live(rt, threads, config, calls),
         (Some("turn"), _) => print_turn(rt, threads, config, calls),
+        (Some("digest"), Some(most)) => {
+            print_digests(rt, threads, config, calls, most.parse::<usize>()?)
+        },
         (Some(word), Some(workers)) => {
             let workers = workers.parse::<usize>()?;
             print_replay(
@@ -310,7 +347,7 @@ fn main(rt: HostRuntime) -> Result<()> {
     let words = env::args(&rt)?.skip(1).collect::<Vec<String>>(rt.alloc())?;
     let (Some(config), Some(trace)) = (words.first(), words.get(1)) else {
         bail!(
-            "usage: plan_lister CONFIG TRACE [TIMES | replay WORKERS | dump WORKERS | live | turn]"
+            "usage: plan_lister CONFIG TRACE [TIMES | replay WORKERS | dump WORKERS | live | turn | digest CALLS]"
         );
     };
     let config = read_machine(&rt, config.as_str())?;

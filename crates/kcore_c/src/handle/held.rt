@@ -1,4 +1,4 @@
-//! A pointer with the session behind it, or with none.
+//! A pointer that owns a session or nothing.
 ghost use Rattle.std.specs.Prelude.{◌≡◌, Option, Some, None, IsSome};
 ghost use Rattle.kc_session.specs.Session.{Kept};
 ghost use Rattle.kcore_c.specs.Handle.{held_coded, held_owns};
@@ -9,7 +9,7 @@ use std::alloc::Global;
 use std::marker::Model;
 use std::ptr;
 
-/// A pointer that owns the session behind it, or one with none. It is only dropped where there is none.
+/// A pointer that owns the session behind it, or owns nothing. It is only dropped if it owns nothing.
 #[repr(C)]
 #[derive(Drop)]
 pub struct Held {
@@ -26,7 +26,7 @@ impl Model for Held {
 unsafe impl Send for Held {}
 
 impl Held {
-    /// No session.
+    /// Makes a pointer without a session.
     pub fn none(alloc: Global) -> Held
         ensures { result.session ≡ None }
     {

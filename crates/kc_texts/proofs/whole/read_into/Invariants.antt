@@ -2,7 +2,7 @@ use Rattle.std.proofs.Common.{◌≡◌, ◌≤◌, ◌-◌, false, length, take
 use Rattle.std.specs.Io.KnownBytes.{Consumes}
 use Rattle.kc_texts.proofs.whole.read_into.Given as goal
 
--- what was read stands at the front
+-- what was read is at the front
 abbrev pub invariant-loop-used : goal.invariant-loop-used
 invariant-loop-used g l = record {
   read : Consumes (g.S.Source.left l.fn.source) (g.S.Source.left l.source) (take l.used l.text);

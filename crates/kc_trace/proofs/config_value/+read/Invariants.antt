@@ -16,7 +16,7 @@ decreases-read_items l = 2 * l.depth + 1
 abbrev pub decreases-read_members : goal.decreases-read_members
 decreases-read_members l = 2 * l.depth + 1
 
--- all items are those that were read and those that are left
+-- the items that were read and those that are left are all the items
 abbrev pub invariant-read_items-items : goal.invariant-read_items-items
 invariant-read_items-items l =
     (n : ℕ) × (length l.reader ≤ n) × (length l.reader ≤ length l.initial.reader)
@@ -25,7 +25,7 @@ invariant-read_items-items l =
 abbrev pub decreases-read_items-items : goal.decreases-read_items-items
 decreases-read_items-items l = length l.reader
 
--- the members are those that were read, with those that are left put in
+-- the members that were read, with those that are left put in, are all the members
 abbrev pub invariant-read_members-members : goal.invariant-read_members-members
 invariant-read_members-members l =
     (n : ℕ) × (length l.reader ≤ n) × (length l.reader ≤ length l.initial.reader)

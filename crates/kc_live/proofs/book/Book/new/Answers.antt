@@ -2,7 +2,4 @@ use Rattle.kc_live.proofs.Logs.{kept_new}
 use Rattle.kc_live.proofs.book.Book.new.Goals as goal
 
 pub invariant_of-result : goal.invariant_of-result
-invariant_of-result c = (
-  rw (c.in_ok-boot.ensures.state, c.in_ok-with_capacity.ensures.items) (kept_new c.args.config c.in_ok-boot.ensures.lawful),
-  c.in_ok-with_capacity.ensures.capacity,
-)
+invariant_of-result c = rw (c.in_ok-of.ensures, c.in_ok-core.ensures.state) (kept_new c.args.config c.in_ok-core.ensures.lawful)

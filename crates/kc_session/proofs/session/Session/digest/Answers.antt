@@ -1,24 +1,10 @@
-use Rattle.std.proofs.Common.{◌≤◌, ◌∙◌, length, take, sym, ap, arith}
+use Rattle.std.proofs.Common.{◌∙◌, sym, ap}
 use Rattle.sha2.specs.Sha256.{sha256}
-use Rattle.kc_live.specs.Book.{calls_of, log}
-use Rattle.kc_session.proofs.Traced.{lines_are_witnessed, lines_are_redacted, all_seen, all_seen_again}
+use Rattle.kc_session.proofs.Traced.{lines_are_witnessed, lines_are_redacted}
 use Rattle.kc_session.proofs.session.Session.digest.Goals as goal
 
-pub invariant_of-self : goal.invariant_of-self
-invariant_of-self c =
-    let entries = c.self.inside.entries.items in
-    let shown = c.as_slice-entries.result.now in
-    let same = c.as_slice-entries.ensures.value in
-    let noted = c.note_each.ensures (calls_of (take c.self.inside.seen entries)) c.self.invariant.2 in
-    let within : length shown ≤ length entries = omega (arith, ap length same) in
-    (c.self.invariant.0, within, all_seen_again c.note_each.new.witness entries shown same (all_seen c.note_each.new.witness entries shown c.self.inside.seen same noted), c.self.invariant.3, c.self.invariant.4)
-
 pub returns-clause-digest : goal.returns-clause-digest
-returns-clause-digest c =
-    let entries = c.self.inside.entries.items in
-    let noted = c.note_each.ensures (calls_of (take c.self.inside.seen entries)) c.self.invariant.2 in
-    let seen = all_seen c.note_each.new.witness entries c.as_slice-entries.result.now c.self.inside.seen c.as_slice-entries.ensures.value noted in
-    rw (← c.self.view_is) (c.digest.ensures (calls_of entries) seen ∙ ap sha256 (sym (lines_are_witnessed (log c.self.inside.volume entries c.self.inside.core))))
+returns-clause-digest c = rw (← c.self.view_is) (c.digest.ensures.digest ∙ ap sha256 (sym (lines_are_witnessed c.self.inside.journal)))
 
 pub returns-clause-redaction : goal.returns-clause-redaction
-returns-clause-redaction c = rw (← c.self.view_is) (lines_are_redacted (log c.self.inside.volume c.self.inside.entries.items c.self.inside.core) c.self.invariant.0 c.self.invariant.3)
+returns-clause-redaction c = rw (← c.self.view_is) (lines_are_redacted c.self.inside.journal c.self.invariant c.digest.ensures.short)

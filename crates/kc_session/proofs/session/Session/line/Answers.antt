@@ -8,6 +8,6 @@ pub returns : goal.returns
 returns c =
     let after = line_after c.args.form c.args.self.now.log c.args.number (c.args.number - 1) (omega (arith, c.if-number-eq0.false)) in
     let there = (c.in-Some.ensures).lookup in
-    let is : slice_get c.as_slice-entries.result.now (c.args.number - 1) ≡ Some c.in-Some.entry.now =
-    slice_get_read c.as_slice-entries.result.now (length c.as_slice-entries.result.now) (c.args.number - 1) c.in-Some.entry.now refl there.3.0 there.1 in
-    rw (after, ← c.self.view_is, ← c.as_slice-entries.ensures.value, is, c.push_line.ensures, c.in_ok-told.ensures.items) refl
+    let is : slice_get c.entries.result.now (c.args.number - 1) ≡ Some c.in-Some.entry.now =
+    slice_get_read c.entries.result.now (length c.entries.result.now) (c.args.number - 1) c.in-Some.entry.now refl there.3.0 there.1 in
+    rw (after, ← c.self.view_is, ← c.entries.ensures.entries, is, c.push_line.ensures, c.in_ok-told.ensures.items) refl

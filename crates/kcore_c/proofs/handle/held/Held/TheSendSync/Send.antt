@@ -1,4 +1,4 @@
--- A handle may go to another thread: as a session may, or with nothing behind it.
+-- A handle may go to another thread if a session may, or if there is none behind its pointer.
 use mir.Raw.{raw}
 use base.Shift.{Keyless}
 use denote.Memory.{lone}

@@ -1,4 +1,4 @@
--- `none` makes the null pointer, behind which nothing is owned.
+-- `none` makes the null pointer, which owns nothing.
 use mathlib.Core.Path.{refl, sym, subst}
 use mathlib.Core.List.{List, [], ◌∷◌, ◌++◌}
 use Rattle.std.specs.Prelude.{None}

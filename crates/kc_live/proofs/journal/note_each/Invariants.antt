@@ -2,7 +2,7 @@ use Rattle.std.proofs.Common.{List, ◌++◌, take}
 use Rattle.kc_types.specs.declared.call.Call.{Call}
 use Rattle.kc_live.specs.Book.{calls_of}
 use Rattle.kc_redact.specs.Witness.{HasSeen}
-use Rattle.kc_session.proofs.session.note_each.Given as goal
+use Rattle.kc_live.proofs.journal.note_each.Given as goal
 
 -- the calls of the first entries were seen
 abbrev pub invariant-loop-entry : goal.invariant-loop-entry

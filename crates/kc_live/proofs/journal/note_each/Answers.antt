@@ -3,8 +3,8 @@ use Rattle.std.proofs.lemmas.List.{take_all}
 use Rattle.kc_types.specs.declared.call.Call.{Call}
 use Rattle.kc_live.specs.Book.{calls_of}
 use Rattle.kc_redact.specs.Witness.{HasSeen}
-use Rattle.kc_session.proofs.Traced.{noted_more}
-use Rattle.kc_session.proofs.session.note_each.Goals as goal
+use Rattle.kc_live.proofs.Witnessed.{noted_more}
+use Rattle.kc_live.proofs.journal.note_each.Goals as goal
 
 pub loop-entry-init : goal.loop-entry-init
 loop-entry-init c calls seen = rw (append-nil calls) seen

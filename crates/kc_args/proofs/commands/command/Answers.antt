@@ -3,7 +3,7 @@ use Rattle.std.proofs.lemmas.Result.{IfOk-weaker}
 use Rattle.clap.specs.Words.{App, app_of, with_subcommand, new_app}
 use Rattle.clap.specs.Simple.{on_top, app_of_fields}
 use Rattle.kc_args.specs.Commands.{base}
-use Rattle.kc_args.proofs.job.command.Goals as goal
+use Rattle.kc_args.proofs.commands.command.Goals as goal
 
 pub returns : goal.returns
 returns c =

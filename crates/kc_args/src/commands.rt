@@ -1,0 +1,294 @@
+//! The program's command, as `clap` has it.
+ghost use Rattle.std.specs.Prelude.{◌≡◌, IfOk, codes, false};
+ghost use Rattle.clap.specs.declared.builder.command.Command.TheViews.{out-Command as fields_of};
+ghost use Rattle.clap.specs.Words.{app_of, rule_of, new_app, with_rule};
+ghost use Rattle.kc_args.specs.Commands.{kcore, replay, live, custody, audit, redact, path_rule, flag_rule, workers_rule, vm_rule, file_rule};
+
+use clap::{Arg, ArgAction, Command};
+use kc_types::{SLOT_LIMIT, WORKER_LIMIT};
+use std::alloc::{AllocError, Global};
+
+/// What `--version` prints after the program's name: the version, which the first line of custody names too, and on a second
+/// line the toolchain that proves it.
+const VERSION: &str = "2.0.0\nrattle-kit-13f";
+
+const TRACE_HELP: &str = "The trace; standard input if this is - or not given";
+
+const DUMP_HELP: &str = "The dump; standard input if this is - or not given";
+
+const EXAMPLES: &str =
+    "Examples:\n  kcore replay run.trace\n  kcore replay --dump run.trace | kcore audit\n  kcore custody --summary --config machine.json run.trace";
+
+/// Makes an option that takes a path.
+fn path_arg<'a>(alloc: Global, name: &'a str, help: &'a str) -> Arg<'a>
+    ensures rule { rule_of result ≡ path_rule name.now }
+    ensures local { result.global ≡ false }
+{
+    Arg::new(alloc, name)
+        .long(name)
+        .value_name("PATH")
+        .help(help)
+}
+
+fn config_arg<'a>(alloc: Global) -> Arg<'a>
+    ensures rule { rule_of result ≡ path_rule (codes "config") }
+    ensures local { result.global ≡ false }
+{
+    path_arg(
+        alloc,
+        "config",
+        "A JSON text: frames, core, host, leaves and approved",
+    )
+}
+
+fn workers_arg<'a>(alloc: Global) -> Arg<'a>
+    ensures rule { rule_of result ≡ workers_rule }
+    ensures local { result.global ≡ false }
+{
+    Arg::new(alloc, "workers")
+        .long("workers")
+        .value_name("N")
+        .value_parser(clap::value_parser!(u8).range(1..=WORKER_LIMIT as i64))
+        .help(
+            "Up to N threads, 1 to 64, make the calls of a replay, started if that pays; 1 if not given",
+        )
+}
+
+fn vm_arg<'a>(alloc: Global) -> Arg<'a>
+    ensures rule { rule_of result ≡ vm_rule }
+    ensures local { result.global ≡ false }
+{
+    Arg::new(alloc, "vm")
+        .long("vm")
+        .value_name("V")
+        .value_parser(clap::value_parser!(u8).range(0..=i64::from(SLOT_LIMIT) - 1))
+        .help("Report the VM in this slot alone, 0 to 63")
+}
+
+/// Makes the argument without a name: the file to be read.
+fn file_arg<'a>(alloc: Global, help: &'a str) -> Arg<'a>
+    ensures rule { rule_of result ≡ file_rule }
+    ensures local { result.global ≡ false }
+{
+    Arg::new(alloc, "file").value_name("FILE").help(help)
+}
+
+/// Begins a subcommand.
+fn subcommand<'a>(
+    alloc: Global,
+    name: &'a str,
+    about: &'a str,
+    usage: &'a str,
+    example: &'a str,
+) -> Command<'a>
+    ensures app { app_of result ≡ new_app name.now }
+    ensures local { (fields_of result).has_globals ≡ false }
+{
+    Command::new(alloc, name)
+        .about(about)
+        .override_usage(usage)
+        .after_help(example)
+}
+
+/// Adds an argument to a command, which has it for itself and not for all subcommands.
+fn with_own<'a>(command: Command<'a>, arg: Arg<'a>) -> Result<Command<'a>, AllocError>
+    requires command { (fields_of command).has_globals ≡ false }
+    requires arg { arg.global ≡ false }
+    ensures app { IfOk result (λ c. app_of c ≡ with_rule (app_of command.entry) (rule_of arg.entry)) }
+    ensures local { IfOk result (λ c. (fields_of c).has_globals ≡ false) }
+{
+    command.arg(arg)
+}
+
+/// Adds the two options for what the calls begin with.
+fn with_start<'a>(alloc: Global, command: Command<'a>) -> Result<Command<'a>, AllocError>
+    requires { (fields_of command).has_globals ≡ false }
+    ensures app { IfOk result (λ c. app_of c ≡ with_rule (with_rule (app_of command.entry) (path_rule (codes "config"))) (path_rule (codes "from"))) }
+    ensures local { IfOk result (λ c. (fields_of c).has_globals ≡ false) }
+{
+    let command = with_own(command, config_arg(alloc))?;
+    let help = "Begin in the state of this text, in place of a configuration's boot state";
+    with_own(command, path_arg(alloc, "from", help))
+}
+
+/// Adds a flag to a command, which has it for itself and not for all subcommands.
+fn with_flag<'a>(
+    alloc: Global,
+    command: Command<'a>,
+    name: &'a str,
+    help: &'a str,
+) -> Result<Command<'a>, AllocError>
+    requires { (fields_of command).has_globals ≡ false }
+    ensures app { IfOk result (λ c. app_of c ≡ with_rule (app_of command.entry) (flag_rule name.now)) }
+    ensures local { IfOk result (λ c. (fields_of c).has_globals ≡ false) }
+{
+    let arg = Arg::new(alloc, name)
+        .long(name)
+        .action(ArgAction::SetTrue)
+        .help(help);
+    with_own(command, arg)
+}
+
+/// Adds the two arguments that each subcommand has.
+fn ended<'a>(alloc: Global, command: Command<'a>, help: &'a str) -> Result<Command<'a>, AllocError>
+    requires { (fields_of command).has_globals ≡ false }
+    ensures app { IfOk result (λ c. app_of c ≡ with_rule (with_rule (app_of command.entry) (flag_rule (codes "explain"))) file_rule) }
+    ensures local { IfOk result (λ c. (fields_of c).has_globals ≡ false) }
+{
+    let about = "Say more of a fault, in further lines";
+    let command = with_flag(alloc, command, "explain", about)?;
+    with_own(command, file_arg(alloc, help))
+}
+
+/// Adds the flags for what a replay writes.
+fn with_outputs<'a>(alloc: Global, command: Command<'a>) -> Result<Command<'a>, AllocError>
+    requires { (fields_of command).has_globals ≡ false }
+    ensures app { IfOk result (λ c. app_of c ≡ with_rule (with_rule (with_rule (app_of command.entry) (flag_rule (codes "dump"))) (flag_rule (codes "state"))) (flag_rule (codes "blank"))) }
+    ensures local { IfOk result (λ c. (fields_of c).has_globals ≡ false) }
+{
+    let help = "Write the dump of the core that the trace leaves, in place of the replies";
+    let command = with_flag(alloc, command, "dump", help)?;
+    let help =
+        "Write the text of the state that the trace leaves, with every guest's bytes, in place of the replies";
+    let command = with_flag(alloc, command, "state", help)?;
+    let help = "Zero the pages of active VMs first, for --dump, --state and --to";
+    with_flag(alloc, command, "blank", help)
+}
+
+fn replay_command<'a>(alloc: Global) -> Result<Command<'a>, AllocError>
+    ensures app { IfOk result (λ c. app_of c ≡ replay) }
+    ensures local { IfOk result (λ c. (fields_of c).has_globals ≡ false) }
+{
+    let command = subcommand(
+        alloc,
+        "replay",
+        "Replay a trace and write the replies; with no command, standard input is replayed",
+        "kcore replay [OPTIONS] [FILE]",
+        "Example: kcore replay --config machine.json run.trace > replies",
+    );
+    let command = with_start(alloc, command)?;
+    let help =
+        "Compare the state that the trace leaves with this text; the status is 1 if it is another";
+    let command = with_own(command, path_arg(alloc, "to", help))?;
+    let command = with_own(command, workers_arg(alloc))?;
+    let command = with_outputs(alloc, command)?;
+    ended(alloc, command, TRACE_HELP)
+}
+
+fn live_command<'a>(alloc: Global) -> Result<Command<'a>, AllocError>
+    ensures app { IfOk result (λ c. app_of c ≡ live) }
+    ensures local { IfOk result (λ c. (fields_of c).has_globals ≡ false) }
+{
+    let command = subcommand(
+        alloc,
+        "live",
+        "Run a trace's actors in a thread each, and write their calls as they were answered",
+        "kcore live [OPTIONS] [FILE]",
+        "Example: kcore live --config machine.json run.trace > history.trace",
+    );
+    let command = with_own(command, config_arg(alloc))?;
+    let command = with_own(command, workers_arg(alloc))?;
+    ended(alloc, command, TRACE_HELP)
+}
+
+/// Adds the flags for the form in which custody is reported.
+fn with_forms<'a>(alloc: Global, command: Command<'a>) -> Result<Command<'a>, AllocError>
+    requires { (fields_of command).has_globals ≡ false }
+    ensures app { IfOk result (λ c. app_of c ≡ with_rule (with_rule (with_rule (app_of command.entry) (flag_rule (codes "summary"))) (flag_rule (codes "svg"))) (flag_rule (codes "html"))) }
+    ensures local { IfOk result (λ c. (fields_of c).has_globals ≡ false) }
+{
+    let help = "Write an object for each life of a VM, in place of the changes";
+    let command = with_flag(alloc, command, "summary", help)?;
+    let help = "Write a picture (SVG 1.1), in place of the changes";
+    let command = with_flag(alloc, command, "svg", help)?;
+    let help = "Write a page for a browser, with the lines of --refused and --accesses in it";
+    with_flag(alloc, command, "html", help)
+}
+
+/// Adds the flags for what else is reported.
+fn with_contents<'a>(alloc: Global, command: Command<'a>) -> Result<Command<'a>, AllocError>
+    requires { (fields_of command).has_globals ≡ false }
+    ensures app { IfOk result (λ c. app_of c ≡ with_rule (with_rule (with_rule (with_rule (app_of command.entry) (flag_rule (codes "refused"))) (flag_rule (codes "accesses"))) (flag_rule (codes "unseen"))) (flag_rule (codes "digests"))) }
+    ensures local { IfOk result (λ c. (fields_of c).has_globals ≡ false) }
+{
+    let help = "Also write each call that was refused or rejected";
+    let command = with_flag(alloc, command, "refused", help)?;
+    let help = "Also write each read and write of the host that a VM's frame served";
+    let command = with_flag(alloc, command, "accesses", help)?;
+    let help = "The trace lacks the machine's own reads and writes: report none";
+    let command = with_flag(alloc, command, "unseen", help)?;
+    let help = "Name the trace, and the configuration or the state, by SHA-256 in the first line";
+    with_flag(alloc, command, "digests", help)
+}
+
+fn custody_command<'a>(alloc: Global) -> Result<Command<'a>, AllocError>
+    ensures app { IfOk result (λ c. app_of c ≡ custody) }
+    ensures local { IfOk result (λ c. (fields_of c).has_globals ≡ false) }
+{
+    let command = subcommand(
+        alloc,
+        "custody",
+        "Write what happened to each frame and VM: every change, with the line of its call",
+        "kcore custody [OPTIONS] [FILE]",
+        "Example: kcore custody --vm 3 --summary --config machine.json run.trace",
+    );
+    let command = with_start(alloc, command)?;
+    let command = with_own(command, vm_arg(alloc))?;
+    let command = with_forms(alloc, command)?;
+    let command = with_contents(alloc, command)?;
+    ended(alloc, command, TRACE_HELP)
+}
+
+fn audit_command<'a>(alloc: Global) -> Result<Command<'a>, AllocError>
+    ensures app { IfOk result (λ c. app_of c ≡ audit) }
+    ensures local { IfOk result (λ c. (fields_of c).has_globals ≡ false) }
+{
+    let command = subcommand(
+        alloc,
+        "audit",
+        "Say what is wrong with a dump; the status is 1 if something is",
+        "kcore audit [OPTIONS] [FILE]",
+        "Example: kcore audit --all run.dump",
+    );
+    let help = "Write a line for each finding, and the report last";
+    let command = with_flag(alloc, command, "all", help)?;
+    ended(alloc, command, DUMP_HELP)
+}
+
+fn redact_command<'a>(alloc: Global) -> Result<Command<'a>, AllocError>
+    ensures app { IfOk result (λ c. app_of c ≡ redact) }
+    ensures local { IfOk result (λ c. (fields_of c).has_globals ≡ false) }
+{
+    let command = subcommand(
+        alloc,
+        "redact",
+        "Write a trace with zeros in place of the bytes that VMs write",
+        "kcore redact [OPTIONS] [FILE]",
+        "Example: kcore redact run.trace > redacted.trace",
+    );
+    let command = with_start(alloc, command)?;
+    let help = "Blank also what the host writes to frames of active VMs; this replays the trace";
+    let command = with_flag(alloc, command, "host", help)?;
+    ended(alloc, command, TRACE_HELP)
+}
+
+/// Makes the whole command.
+pub fn command<'a>(alloc: Global) -> Result<Command<'a>, AllocError>
+    ensures app { IfOk result (λ c. app_of c ≡ kcore) }
+{
+    let replay = replay_command(alloc)?;
+    let live = live_command(alloc)?;
+    let custody = custody_command(alloc)?;
+    let audit = audit_command(alloc)?;
+    let redact = redact_command(alloc)?;
+    let base = Command::new(alloc, "kcore")
+        .no_binary_name(true)
+        .version(VERSION)
+        .about("Replay calls on the trusted core of a hypervisor")
+        .after_help(EXAMPLES)
+        .subcommand(replay)?;
+    base.subcommand(live)?
+        .subcommand(custody)?
+        .subcommand(audit)?
+        .subcommand(redact)
+}

@@ -1,0 +1,14 @@
+use Rattle.std.proofs.Common.{◌≡◌, ◌≤◌, [], vec_capacity, arith}
+use Rattle.kc_types.specs.Limits.{call_limit}
+use Rattle.kc_live.proofs.Logs.{served_next}
+use Rattle.kc_live.proofs.journal.Journal.turn.Goals as goal
+
+pub invariant_of-self : goal.invariant_of-self
+invariant_of-self c =
+    let empty : c.args.room.items ≡ [] = c.requires.empty in
+    let room : call_limit ≤ vec_capacity c.args.room = c.requires.room in (
+      rw (c.saturating_add-self-inside.ensures, c.replace.ensures.after, empty) (served_next _ c.self.invariant.0),
+      rw c.replace.ensures.after room,
+      omega arith,
+      c.restart.ensures,
+    )
