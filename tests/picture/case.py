@@ -15,10 +15,10 @@ def count_of(number, name):
 
 
 class Case:
-    """A picture, perhaps of one VM alone, and what the rules say of its trace."""
+    """A picture, perhaps of one VM alone, and what the rules say of its trace; and what its foot is to say."""
 
-    def __init__(self, picture, config, told, vm):
-        self.picture, self.config, self.told, self.vm = picture, config, told, vm
+    def __init__(self, picture, config, told, vm, foot):
+        self.picture, self.config, self.told, self.vm, self.foot = picture, config, told, vm, foot
         self.calls, self.last = told.calls, told.last
         self.bars = [it for it in told.bars if vm in (None, it.owner)]
         self.lives = collections.defaultdict(list)
@@ -76,6 +76,13 @@ class Case:
             said = [it.element.text for it in self.picture.texts if it.element.text[:12] == words[:12]]
             want(self.picture.has_words(words), f"it does not say '{words}', but {said}")
 
+    def try_foot(self):
+        """Its last words, below all else, say of what it is."""
+        last = self.picture.texts[-1]
+        want(last.element.text == self.foot, f"its foot is '{last.element.text}'")
+        want(all(it.box[3] < last.box[1] for it in self.picture.shapes if it is not last and it.kind != "rect"),
+             "something is below its foot")
+
     def remark_on_lanes(self):
         most = max((step.frames for vm in self.lives for step in self.told.steps[vm]), default=0)
         said = f"{'highest lane: ' if self.vm is None else 'at most '}{count_of(most, 'frame')}"
@@ -109,7 +116,7 @@ class Case:
         wanted = self.samples()
         axis = max(it.box[3] for it in self.picture.texts if it.element.text.startswith("line of the trace"))
         below = [it for it in self.picture.shapes if it.box[1] > axis]
-        words = {it.element.text: it for it in below if it.kind == "text"}
+        words = {it.element.text: it for it in below if it.kind == "text" and not it.element.text.startswith("kcore ")}
         want(set(words) == set(wanted), f"its legend lacks or has {set(words) ^ set(wanted)}")
         for word, fills in wanted.items():
             x, y = (number(words[word].element, key) for key in ("x", "y"))

@@ -137,7 +137,7 @@ account_given Summary vm heading config count refused told (kept.Html notes) tex
 account_given Picture vm heading config count refused told (kept.Changes events) text h given = absurd h
 account_given Picture vm heading config count refused told (kept.Notes wanted notes) text h given = absurd h
 account_given Picture vm heading config count refused told (kept.Summary events attempts) text h given = absurd h
-account_given Picture vm heading config count refused told (kept.Picture events) text h given = tt
+account_given Picture vm heading config count refused told (kept.Picture events) text h given = given
 account_given Picture vm heading config count refused told (kept.Html notes) text h given = absurd h
 account_given (Html origin) vm heading config count refused told (kept.Changes events) text h given = absurd h
 account_given (Html origin) vm heading config count refused told (kept.Notes wanted notes) text h given = absurd h

@@ -26,6 +26,7 @@ use Rattle.kc_remarks.specs.Attempts.{attempts_in}
 use Rattle.kc_remarks.specs.declared.remark.Remarks.{Remarks}
 use Rattle.kc_remarks.specs.Denials.{is_denied, is_denial}
 use Rattle.kc_html.specs.Html.{html_text_of}
+use Rattle.kc_picture.specs.Foot.{HasFoot}
 use Rattle.kc_custody.specs.Chosen.{chosen}
 use Rattle.kc_trace.specs.Trace.{IsTrace}
 use Rattle.kc_trace.specs.declared.custody_writer.StartDigest.TheVariants as starts
@@ -86,11 +87,11 @@ reported true told = map event.Change (changes_in told)
 abbrev pub page_remarks : Bool → Remarks
 page_remarks unseen = record { refused = true; accesses = not unseen }
 
--- the text is that of the changes of all frames and slots, or of one slot's VM, and of what else is asked for; that of the lives of all VMs, or of one slot's, with what was refused at their pages; a picture, of whose bytes nothing is said; or a page for a browser, with the first of these texts in it, and what was refused and served
+-- the text is that of the changes of all frames and slots, or of one slot's VM, and of what else is asked for; that of the lives of all VMs, or of one slot's, with what was refused at their pages; a picture, which says at its foot of what it is; or a page for a browser, with the first of these texts in it, and what was refused and served
 abbrev pub IsAccount : CustodyForm → Option ℕ → Heading → Configuration → ℕ → ℕ → List Note → List ℕ → Type 0
 IsAccount (Changes origin remarks) vm heading config count refused told text = text ≡ notes_text_of heading config count refused (chosen vm remarks told)
 IsAccount Summary vm heading config count refused told text = text ≡ summary_text_of heading config count refused (attempts_in told) (selected_lives vm (lives (reported heading.is_unseen (events_in told))))
-IsAccount Picture vm heading config count refused told text = Unit {0}
+IsAccount Picture vm heading config count refused told text = HasFoot heading text
 IsAccount (Html origin) vm heading config count refused told text = text ≡ html_text_of (notes_text_of heading config count refused (chosen vm (page_remarks heading.is_unseen) told))
 
 -- what the calls begin with: lives and pictures begin at boot

@@ -17,6 +17,7 @@ use Rattle.kc_trace.specs.RemarkText.{notes_text_of}
 use Rattle.kc_cli.specs.declared.account.CustodyForm.{CustodyForm}
 use Rattle.kc_cli.specs.declared.account.CustodyForm.TheVariants.{Changes, Summary, Picture, Html}
 use Rattle.kc_html.specs.Html.{html_text_of}
+use Rattle.kc_picture.specs.Foot.{HasFoot}
 use Rattle.kc_cli.specs.Custody.{page_remarks, reported}
 use Rattle.kc_cli.specs.declared.ledger.Ledger.{Ledger}
 use Rattle.kc_cli.specs.declared.ledger.Ledger.TheVariants as kept
@@ -43,10 +44,10 @@ abbrev pub attempts_kept : Ledger → List Attempt
 attempts_kept (kept.Summary events attempts) = attempts.items
 attempts_kept _ = []
 
--- the text that is given of what it keeps, by the numbers of calls and of those that were refused or rejected; of a picture's bytes nothing is said
+-- the text that is given of what it keeps, by the numbers of calls and of those that were refused or rejected; of a picture's bytes only the foot
 abbrev pub IsGiven : Option ℕ → Heading → Configuration → ℕ → ℕ → Ledger → List ℕ → Type 0
 IsGiven vm heading config count refused (kept.Changes events) text = text ≡ custody_text_of heading config count refused (selected vm (changes_in events.items))
 IsGiven vm heading config count refused (kept.Notes wanted notes) text = text ≡ notes_text_of heading config count refused (chosen vm wanted notes.items)
 IsGiven vm heading config count refused (kept.Summary events attempts) text = text ≡ summary_text_of heading config count refused attempts.items (selected_lives vm (lives (reported heading.is_unseen events.items)))
-IsGiven vm heading config count refused (kept.Picture events) text = Unit {0}
+IsGiven vm heading config count refused (kept.Picture events) text = HasFoot heading text
 IsGiven vm heading config count refused (kept.Html notes) text = text ≡ html_text_of (notes_text_of heading config count refused (chosen vm (page_remarks heading.is_unseen) notes.items))

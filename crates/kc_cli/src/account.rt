@@ -6,6 +6,7 @@ ghost use Rattle.kc_types.specs.Limits.{call_limit};
 ghost use Rattle.kc_model.specs.Events.{changes_in};
 ghost use Rattle.kc_model.specs.Lives.{lives, selected_lives};
 ghost use Rattle.kc_custody.specs.Within.{IsWithin};
+ghost use Rattle.kc_picture.specs.Foot.{HasFoot};
 ghost use Rattle.kc_picture.specs.Frames.{IsIn};
 ghost use Rattle.kc_html.specs.Html.{html_head, html_tail, html_text_of};
 ghost use Rattle.kc_trace.specs.CustodyText.{header_line, end_line};
@@ -249,6 +250,7 @@ fn summary_of(
 /// The picture of some events.
 fn picture_of(
     alloc: Global,
+    heading: &Heading,
     config: &Config,
     calls: usize,
     events: &[Event],
@@ -256,9 +258,10 @@ fn picture_of(
 ) -> Result<Vec<u8>, Memory>
     requires few { calls ≤ call_limit }
     requires within { All (IsIn config.now.frames) (changes_in events.now) }
+    ensures { IfOk result (λ text. HasFoot heading.now text.items) }
 {
     let bars = bars(alloc, config, FIRST_LINE + calls as u32, events)?;
-    picture(alloc, config, calls, events, &bars, vm)
+    picture(alloc, heading, config, calls, events, &bars, vm)
 }
 
 /// Gives what was kept in its form, of one slot's VM alone if one is named.
@@ -305,7 +308,7 @@ pub(crate) fn give_told<K: Sink>(
         },
         Ledger::Picture(events) => {
             let events = reported(events, heading.is_unseen);
-            let Ok(text) = picture_of(alloc, &config, calls, &events, vm) else {
+            let Ok(text) = picture_of(alloc, &heading, &config, calls, &events, vm) else {
                 return Err(TextFault::Memory);
             };
             give_whole(&text, out)

@@ -1,5 +1,6 @@
 pub mod Cells
 pub mod Columns
+pub mod Foot
 pub mod Frames
 pub mod OutlineWords
 pub mod Outlines

@@ -1,4 +1,7 @@
-//! The whole picture: lanes of VMs above, frames below, an axis and a legend.
+//! The whole picture: lanes of VMs above, frames below, an axis, a legend and a foot.
+ghost use Rattle.std.specs.Prelude.{IfOk};
+ghost use Rattle.kc_picture.specs.Foot.{HasFoot};
+
 use crate::colour::{CORE, Colour, DEAD, EDGE, FAINT, FREE, HOST, INK, LIFE, SEVERAL};
 use crate::lane_drawing::{LanePlace, draw_lane};
 use crate::rows::{bars_by_row, shown_of};
@@ -7,6 +10,7 @@ use crate::svg::{Anchor, Area, HEADING, PLAIN, REMARK, Style, Svg};
 use crate::vms::{Lane, lanes_of};
 use crate::words::Text;
 use crate::{cells, exact};
+use kc_trace::Heading;
 use kc_types::{Bar, Config, Event, Memory};
 use std::alloc::Global;
 
@@ -36,6 +40,8 @@ struct Layout {
     frames: u64,
     axis: u64,
     legend: u64,
+    /// The base line of the foot.
+    foot: u64,
     height: u64,
 }
 
@@ -47,13 +53,15 @@ fn layout_of(lanes: u64, frames_height: u64) -> Layout {
     let below = behind.saturating_add(2_800);
     let axis = below.saturating_add(frames_height).saturating_add(400);
     let legend = axis.saturating_add(4_600);
+    let foot = legend.saturating_add(if lanes > 0 { 5_200 } else { 3_300 });
     Layout {
         lanes: first,
         lane_height,
         frames: below,
         axis,
         legend,
-        height: legend.saturating_add(if lanes > 0 { 4_500 } else { 2_600 }),
+        foot,
+        height: foot.saturating_add(800),
     }
 }
 
@@ -352,12 +360,15 @@ fn draw_legend(svg: &mut Svg, y: u64, exact: bool, lanes: u64, vm: Option<u32>) 
 /// one VM's alone where its slot is named. `Memory` where a growth was refused.
 pub fn picture(
     alloc: Global,
+    heading: &Heading,
     config: &Config,
     calls: usize,
     events: &[Event],
     bars: &[Bar],
     vm: Option<u32>,
-) -> Result<Vec<u8>, Memory> {
+) -> Result<Vec<u8>, Memory>
+    ensures { IfOk result (λ text. HasFoot heading.now text.items) }
+{
     let frames = u64::from(config.frames());
     let scale = Scale::of_calls(calls);
     let lanes = lanes_of(alloc, events)?;
@@ -390,5 +401,5 @@ pub fn picture(
     }
     draw_axis(&mut svg, scale, layout.axis);
     draw_legend(&mut svg, layout.legend, exact, extent.lanes, vm);
-    svg.close()
+    svg.close(layout.foot, heading)
 }

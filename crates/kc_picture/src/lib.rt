@@ -14,6 +14,7 @@ mod cells;
 mod colour;
 mod drawing;
 mod exact;
+mod foot;
 mod lane_drawing;
 mod outlines;
 mod rows;

@@ -1,6 +1,11 @@
 //! A picture as a text of SVG 1.1. Lengths are in hundredths of a point, from the left and from above.
+ghost use Rattle.std.specs.Prelude.{IfOk};
+ghost use Rattle.kc_picture.specs.Foot.{HasFoot};
+
 use crate::colour::{Colour, FAINT, FREE, INK};
+use crate::foot::put_foot;
 use crate::words::Text;
+use kc_trace::Heading;
 use kc_types::Memory;
 use std::alloc::Global;
 
@@ -64,6 +69,13 @@ pub(crate) const REMARK: Style = Style {
     colour: FAINT,
     bold: false,
 };
+/// The foot, of which 180 letters are to fit into the width.
+const FOOT: Style = Style {
+    size: 900,
+    anchor: Anchor::Start,
+    colour: FAINT,
+    bold: false,
+};
 
 /// The picture so far.
 #[derive(Drop)]
@@ -105,9 +117,14 @@ impl Svg {
         self.alloc
     }
 
-    /// The whole text, or `Memory` where a growth of it was refused.
-    pub fn close(mut self) -> Result<Vec<u8>, Memory> {
-        self.text.put("</svg>\n");
+    /// Writes the foot on a base line and ends the picture: the whole text, or `Memory` if a growth of it was refused.
+    pub fn close(mut self, y: u64, heading: &Heading) -> Result<Vec<u8>, Memory>
+        ensures { IfOk result (λ text. HasFoot heading.now text.items) }
+    {
+        let alloc = self.alloc;
+        self.begin_words(800, y, &FOOT);
+        put_foot(&mut self.text, alloc, heading);
+        self.text.put("</text>\n</svg>\n");
         let Svg { alloc: _, text } = self;
         Ok(text.finish()?.into_bytes())
     }

@@ -1,5 +1,5 @@
 //! The words and numbers of a picture's texts.
-ghost use Rattle.std.specs.Prelude.{◌≡◌, ◌++◌, [], false, string_bytes};
+ghost use Rattle.std.specs.Prelude.{◌≡◌, ◌++◌, [], true, false, string_bytes, IfOk};
 ghost use Rattle.std.specs.Fmt.{decimal};
 ghost use Rattle.kc_picture.specs.Words.{Puts, length_words};
 
@@ -114,12 +114,17 @@ impl Text {
     }
 
     /// There was no memory for something that was to be put here.
-    pub fn refuse(&mut self) {
+    pub fn refuse(&mut self)
+        ensures { self.new.refused ≡ true }
+    {
         self.refused = true;
     }
 
     /// The whole text, or `Memory` where a growth of it was refused.
-    pub fn finish(self) -> Result<String, Memory> {
+    pub fn finish(self) -> Result<String, Memory>
+        ensures whole { IfOk result (λ text. string_bytes text ≡ string_bytes self.text) }
+        ensures had { IfOk result (λ text. self.refused ≡ false) }
+    {
         let Text { text, refused } = self;
         if refused {
             return Err(Memory);

@@ -1,0 +1,36 @@
+-- The foot of a picture: the version of kcore, and what the picture is of.
+use Rattle.std.specs.Prelude.{ℕ, ◌≡◌, Bool, true, false, List, [], ◌∷◌, ◌++◌, codes, Option, Some, None}
+use Rattle.hex.specs.Hex.{encode_lower}
+use Rattle.kc_trace.specs.declared.custody_writer.StartDigest.{StartDigest}
+use Rattle.kc_trace.specs.declared.custody_writer.StartDigest.TheVariants as start
+use Rattle.kc_trace.specs.declared.custody_writer.Digests.{Digests}
+use Rattle.kc_trace.specs.declared.custody_writer.Heading.{Heading}
+use Rattle.kc_trace.specs.CustodyText.{version_text}
+
+-- what calls begin with, by its digest, unless it is the default configuration
+abbrev pub start_words : StartDigest → List ℕ
+start_words start.Default = codes ", default configuration"
+start_words (start.Config digest) = codes ", configuration SHA-256 " ++ encode_lower digest
+start_words (start.State digest) = codes ", state SHA-256 " ++ encode_lower digest
+
+-- the texts that were read, if they are named
+abbrev pub digests_words : Option Digests → List ℕ
+digests_words None = []
+digests_words (Some digests) = (codes ", trace SHA-256 " ++ encode_lower digests.trace) ++ start_words digests.start
+
+-- that the machine's own accesses are not in the trace, if they are not
+abbrev pub unseen_words : Bool → List ℕ
+unseen_words false = []
+unseen_words true = codes ", accesses unseen"
+
+-- as "kcore 2.0.0, trace SHA-256 .., default configuration": what the first line of custody says, but the sizes of the core
+abbrev pub foot_words : Heading → List ℕ
+foot_words heading = (codes "kcore " ++ version_text) ++ (digests_words heading.digests ++ unseen_words heading.is_unseen)
+
+-- how a picture ends after the words of its foot
+abbrev pub closing : List ℕ
+closing = codes "</text>" ++ 10 ∷ (codes "</svg>" ++ 10 ∷ [])
+
+-- the last words of a picture are those of its foot
+abbrev pub HasFoot : Heading → List ℕ → Type 0
+HasFoot heading text = (drawn : List ℕ) × (text ≡ drawn ++ (foot_words heading ++ closing))
