@@ -55,9 +55,9 @@ changes_grow n m calls old new grown Summary told h = h
 changes_grow n m calls old new grown Picture told h = h
 changes_grow n m calls old new grown (Html origin) told h = h
 
-pub on_ok_both : {T E P Q : Type 0} (r : Result T E) → OnOk r P → OnOk r Q → OnOk r (P × Q)
-on_ok_both (Ok x) p q = (p, q)
-on_ok_both (Err e) p q = tt
+pub on_ok_both : {T E : Type 0} (P Q : Type 0) (r : Result T E) → OnOk r P → OnOk r Q → OnOk r (P × Q)
+on_ok_both P Q (Ok x) p q = (p, q)
+on_ok_both P Q (Err e) p q = tt
 
 pub summary_grows : (n : ℕ) (m : State) (calls : List Call) (old new : Vec Event) (before after : Vec Attempt) → new.items ≡ old.items ++ events_from n m calls → after.items ≡ before.items ++ attempts_in (notes_from n m calls)
     → (form : CustodyForm) (told : List Note) → Keeps form told (kept.Summary old before) → Keeps form (told ++ notes_from n m calls) (kept.Summary new after)

@@ -6,4 +6,4 @@ mod Ledgers
 mod Headings
 mod Told
 pub mod Sources
-pub mod Answered
+pub mod Counted

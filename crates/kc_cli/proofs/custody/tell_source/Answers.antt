@@ -5,7 +5,7 @@ use Rattle.kc_remarks.specs.declared.remark.Note.{Note}
 use Rattle.kc_remarks.specs.Remarks.{notes}
 use Rattle.kc_cli.specs.Ledgers.{Keeps}
 use Rattle.kc_cli.proofs.Told.{told_more, left_more, denied_more, counted_more}
-use Rattle.kc_cli.proofs.Answered.{answered_from}
+use Rattle.kc_cli.proofs.Counted.{answered_from}
 use Rattle.kc_cli.proofs.custody.tell_source.Goals as goal
 
 pub loop-ledger-init : goal.loop-ledger-init

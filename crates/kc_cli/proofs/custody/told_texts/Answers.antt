@@ -3,7 +3,7 @@ use Rattle.std.proofs.lemmas.Result.{err_from_is_err_and, IfOk-weaker}
 use Rattle.kc_texts.proofs.Told.{texts_start}
 use Rattle.kc_cli.specs.Custody.{origin_of}
 use Rattle.kc_cli.proofs.Headings.{headed}
-use Rattle.kc_cli.proofs.Answered.{are_answered}
+use Rattle.kc_cli.proofs.Counted.{are_answered}
 use Rattle.kc_cli.proofs.custody.told_texts.Goals as goal
 
 pub returns-in_err-begun-clause-texts : goal.returns-in_err-begun-clause-texts

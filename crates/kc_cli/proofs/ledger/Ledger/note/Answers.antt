@@ -9,7 +9,7 @@ returns-in-Changes-clause-kept c =
 pub returns-in-Summary-clause-kept : goal.returns-in-Summary-clause-kept
 returns-in-Summary-clause-kept c =
     on_ok_weaker c.summarize_calls.result (λ grown. λ form told h. summary_grows c.args.first c.args.core.now c.args.calls.now c.in-Summary.events c.summarize_calls.new.events c.in-Summary.attempts c.summarize_calls.new.attempts grown.0 grown.1 form told (rw c.in-Summary.is at h))
-    (on_ok_both c.summarize_calls.result c.summarize_calls.ensures.events c.summarize_calls.ensures.attempts)
+    (on_ok_both _ _ c.summarize_calls.result c.summarize_calls.ensures.events c.summarize_calls.ensures.attempts)
 
 pub returns-in-Picture-clause-kept : goal.returns-in-Picture-clause-kept
 returns-in-Picture-clause-kept c =
