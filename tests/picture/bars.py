@@ -8,8 +8,8 @@ from picture.told import title_of
 
 
 class Bars(Case):
-    def try_bars(self):
-        """All bars are there and no other, each where it should be."""
+    def rows_of_bars(self):
+        """All bars are there and no other, each where it should be; where the row of each frame begins and ends."""
         drawn = [it for it in self.picture.titles if it.startswith("frame")]
         wanted = {title_of(it): it for it in self.bars}
         lacking, more = wanted.keys() - set(drawn), set(drawn) - wanted.keys()
@@ -26,6 +26,11 @@ class Bars(Case):
             for box in (it.box for it in parts):
                 is_within = left - 0.05 <= box[0] <= box[2] <= right + 0.05 and top <= box[1] <= box[3] <= bottom + 0.05
                 want(is_within, f"'{title}' has a part elsewhere")
+        return rows
+
+    def try_bars(self):
+        """The bars of all frames are in rows, by the frames' numbers."""
+        rows = self.rows_of_bars()
         order = [rows[it] for it in sorted(rows)]
         want(all(one[1] <= other[0] for one, other in zip(order, order[1:])), "the rows of frames meet, or do not rise")
         self.try_numbers(rows)

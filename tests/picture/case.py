@@ -4,8 +4,8 @@ import functools
 import re
 
 from picture.colours import (
-    DEAD, EDGE, HUES, INK, LEFT, LIFE, MOST_BARS, MOST_CALLS, MOST_COLUMNS, MOST_FRAMES, MOST_ROWS, OTHERS, PLOT,
-    SEVERAL, colour_of_vm, learned, nearer,
+    DEAD, EDGE, HUES, INK, LEFT, LIFE, MOST_BARS, MOST_CALLS, MOST_COLUMNS, MOST_FRAMES, MOST_ROWS, MOST_ROWS_OF_VM,
+    OTHERS, PLOT, REFUSED, SEVERAL, colour_of_vm, learned, nearer,
 )
 from picture.reading import is_near, number, want
 
@@ -17,15 +17,17 @@ def count_of(number, name):
 class Case:
     """A picture, perhaps of one VM alone, and what the rules say of its trace; and what its foot is to say."""
 
-    def __init__(self, picture, config, told, vm, foot):
+    def __init__(self, picture, config, told, reported, vm, foot):
         self.picture, self.config, self.told, self.vm, self.foot = picture, config, told, vm, foot
         self.calls, self.last = told.calls, told.last
-        self.bars = [it for it in told.bars if vm in (None, it.owner)]
+        self.bars, self.remarks = (told.bars, []) if vm is None else (reported.bars, reported.remarks)
         self.lives = collections.defaultdict(list)
         for it in told.lives:
             if vm in (None, it.vm):
                 self.lives[it.vm].append(it)
         few = config["frames"] <= MOST_FRAMES and self.calls <= MOST_CALLS
+        if vm is not None:
+            few = len({it.frame for it in self.bars}) <= MOST_ROWS_OF_VM
         self.has_bars = few and len(self.bars) <= MOST_BARS
         self.bases = self.bases_of_lanes()
         self.learn_colours()
@@ -66,7 +68,7 @@ class Case:
         title = f"Custody of {count_of(frames, 'frame')} of 4,096 bytes through {count_of(self.calls, 'call')}, "
         title += f"{count_of(len(slots), 'VM')}{alone}"
         want(self.picture.root[0].text == title, f"its title is {self.picture.root[0].text}")
-        wanted = [title, "Every frame, by number"]
+        wanted = [title, self.heading_of_frames()]
         if self.lives:
             whose = "each VM" if self.vm is None else f"vm {self.vm}"
             wanted += [f"Frames of {whose}, and of them shared with the host (hatched)", self.remark_on_lanes()]
@@ -76,12 +78,25 @@ class Case:
             said = [it.element.text for it in self.picture.texts if it.element.text[:12] == words[:12]]
             want(self.picture.has_words(words), f"it does not say '{words}', but {said}")
 
+    def heading_of_frames(self):
+        if self.vm is None:
+            return "Every frame, by number"
+        if self.has_bars:
+            return f"Each frame of vm {self.vm}, in the order in which they came"
+        return f"Frames of vm {self.vm}, by number"
+
     def try_foot(self):
-        """Its last words, below all else, say of what it is."""
-        last = self.picture.texts[-1]
+        """Its last words, below all else, say of what it is; those of a picture of all VMs before that, what it lacks."""
+        *before, last = self.picture.texts
         want(last.element.text == self.foot, f"its foot is '{last.element.text}'")
         want(all(it.box[3] < last.box[1] for it in self.picture.shapes if it is not last and it.kind != "rect"),
              "something is below its foot")
+        lacks = [it.element.text for it in before if it.element.text.startswith("Not shown: ")]
+        cells = "which frame of a cell was whose on which line, what was refused, what the host read and wrote. "
+        cells += "--vm V shows a VM's frames one by one, with marks of these."
+        bars = "what was refused, and what the host read and wrote. --vm V shows them for one VM."
+        wanted = [f"Not shown: {bars if self.has_bars else cells}"] if self.vm is None else []
+        want(lacks == wanted, f"it says that it lacks {lacks}")
 
     def remark_on_lanes(self):
         most = max((step.frames for vm in self.lives for step in self.told.steps[vm]), default=0)
@@ -116,11 +131,12 @@ class Case:
         wanted = self.samples()
         axis = max(it.box[3] for it in self.picture.texts if it.element.text.startswith("line of the trace"))
         below = [it for it in self.picture.shapes if it.box[1] > axis]
-        words = {it.element.text: it for it in below if it.kind == "text" and not it.element.text.startswith("kcore ")}
+        words = {it.element.text: it for it in below if it.kind == "text"}
+        words = {word: it for word, it in words.items() if not word.startswith(("kcore ", "Not shown: "))}
         want(set(words) == set(wanted), f"its legend lacks or has {set(words) ^ set(wanted)}")
         for word, fills in wanted.items():
             x, y = (number(words[word].element, key) for key in ("x", "y"))
-            near = [it for it in below if it.kind == "rect" and x - 20 < it.box[0] < x and y - 11 < it.box[1] < y]
+            near = [it for it in below if it.kind != "text" and x - 20 < it.box[0] < x and y - 11 < it.box[1] < y]
             want([it.looks["fill"] for it in near] == fills, f"'{word}' has a sample of {[it.looks for it in near]}")
             middle = sum(near[0].box[::2]) / 2
             is_beside = is_near(middle, x - 12) or len(near) == 4
@@ -140,6 +156,8 @@ class Case:
             words["shared with the host"] = [hue, "#ffffff", "url(#shared)"]
             words |= {"shares a frame": [hue, INK], "a VM's life": [LIFE], "registered": [EDGE]}
             words |= {"measured and active, or cleared": [INK], "measured and dead": [DEAD]}
+        if vm is not None:
+            words |= {"hread served": ["#ffffff"], "hwrite served": [INK], "refused": [REFUSED]}
         if self.has_bars:
             words["reached by the host"] = [OTHERS["host"] if vm is None else hue, INK]
         elif has_lanes:

@@ -4,7 +4,7 @@ import functools
 import itertools
 
 from picture.case import Case
-from picture.colours import INK, MOST_COLUMNS, MOST_ROWS, OTHERS, PALER, SEVERAL, colour_of_vm, nearer
+from picture.colours import DEAD, EDGE, INK, MOST_COLUMNS, MOST_ROWS, OTHERS, PALER, SEVERAL, colour_of_vm, nearer
 from picture.reading import is_near, levels_of, number, uprights_of, want
 from picture.told import lines_in
 
@@ -20,7 +20,8 @@ def painted(picture, plot, rows, columns):
             half, lines = float(it.looks.get("stroke-width", 1)) / 2, levels_of(it.element.get("d"))
             colour = it.looks["stroke"] if colour == "none" else None
             boxes = [(begin, y - half, end, y + half) for begin, y, end in lines]
-        if it.kind == "text" or not colour or colour == "none":
+        # A mark of a rejected boot goes through all rows.
+        if it.kind == "text" or not colour or colour in ("none", DEAD):
             continue
         for x, y, behind, below in boxes:
             if y >= bottom or below <= top:
@@ -38,7 +39,8 @@ class Cells(Case):
     @functools.cached_property
     def grid(self):
         """The box of all cells, and how many rows and columns they have."""
-        plots = [it.box for it in self.picture.shapes if it.kind == "rect" and it.looks.get("fill") == "none"]
+        edges = [it for it in self.picture.shapes if it.kind == "rect" and it.looks.get("fill") == "none"]
+        plots = [it.box for it in edges if it.looks["stroke"] == EDGE]
         want(len(plots) == 1, f"there are {len(plots)} frames of cells")
         return plots[0], min(self.config["frames"], MOST_ROWS), min(self.last, MOST_COLUMNS)
 

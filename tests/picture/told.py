@@ -108,6 +108,43 @@ class Told:
         return numbers
 
 
+class Reported:
+    """What the lines of `custody --refused --accesses --vm V` say: a bar for each stretch in which a frame is the VM's,
+    in the order in which they begin, and the lines of what was refused and served."""
+
+    def __init__(self, config, lines, vm):
+        told, remarks, last = rules.Core(config).custody(lines)[1], rules.Core(config).remarks(lines), len(lines) + 1
+        self.remarks = [line for _, vms, line in remarks if vm in vms]
+        begun, bars = {}, []
+        for line in (it for vms, it in told if vm in vms and "frame" in it):
+            if line["frame"] in begun:
+                bars.append(self.bar(vm, line["frame"], *begun.pop(line["frame"]), line["line"] - 1))
+            if line["to"]["owner"] == f"vm{vm}":
+                begun[line["frame"]] = line["line"], line["to"]
+        bars += [self.bar(vm, frame, *it, last) for frame, it in begun.items()]
+        self.bars = sorted(bars, key=lambda it: it.first)
+
+    @staticmethod
+    def bar(vm, frame, first, custody, last):
+        return Bar(frame, first, last, vm, custody["gfn"], custody["share"], custody["present"])
+
+
+def place_of(gfn):
+    return "" if gfn is None else f" at guest frame {gfn}"
+
+
+def title_of_remark(line):
+    """The title of the mark of a line of what was refused or served."""
+    said = f"line {line['line']}: {line['call']}"
+    if "vm" in line:
+        return f"{said} of {line['len']} bytes from byte {line['off']} of frame {line['frame']}{place_of(line['gfn'])}"
+    said += f" refused, {line['refused']}" if "refused" in line else f" rejected, image {line['rejected']}"
+    if line["frame"] is None:
+        return said
+    owner = line["owner"].replace("vm", "vm ")
+    return f"{said}: frame {line['frame']}, {owner}{place_of(line['gfn'])}"
+
+
 def lines_in(last, columns, column):
     """The lines that fall into a column, even in part: the first, and the last."""
     return column * last // columns + 1, -(-(column + 1) * last // columns)

@@ -74,6 +74,13 @@ picture_grows n m calls old new grown Summary told h = h
 picture_grows n m calls old new grown Picture told h = events_more n m calls told old.items new.items grown h
 picture_grows n m calls old new grown (Html origin) told h = h
 
+pub vm_picture_grows : (n : ℕ) (m : State) (calls : List Call) (v : ℕ) (old new : Vec Note) → new.items ≡ old.items ++ notes_from n m calls
+    → (form : CustodyForm) (told : List Note) → Keeps form told (kept.VmPicture v old) → Keeps form (told ++ notes_from n m calls) (kept.VmPicture v new)
+vm_picture_grows n m calls v old new grown (Changes origin remarks) told h = h
+vm_picture_grows n m calls v old new grown Summary told h = h
+vm_picture_grows n m calls v old new grown Picture told h = grown ∙ ap (λ (xs : List Note). xs ++ notes_from n m calls) h
+vm_picture_grows n m calls v old new grown (Html origin) told h = h
+
 pub html_grows : (n : ℕ) (m : State) (calls : List Call) (old new : Vec Note) → new.items ≡ old.items ++ notes_from n m calls
     → (form : CustodyForm) (told : List Note) → Keeps form told (kept.Html old) → Keeps form (told ++ notes_from n m calls) (kept.Html new)
 html_grows n m calls old new grown (Changes origin remarks) told h = h
@@ -87,21 +94,25 @@ kept_events (Changes origin remarks) told (kept.Changes events) h = h.1
 kept_events (Changes origin remarks) told (kept.Notes wanted notes) h = ap events_in h.1
 kept_events (Changes origin remarks) told (kept.Summary events attempts) h = absurd h
 kept_events (Changes origin remarks) told (kept.Picture events) h = absurd h
+kept_events (Changes origin remarks) told (kept.VmPicture v notes) h = absurd h
 kept_events (Changes origin remarks) told (kept.Html notes) h = absurd h
 kept_events Summary told (kept.Changes events) h = absurd h
 kept_events Summary told (kept.Notes wanted notes) h = absurd h
 kept_events Summary told (kept.Summary events attempts) h = h.0
 kept_events Summary told (kept.Picture events) h = absurd h
+kept_events Summary told (kept.VmPicture v notes) h = absurd h
 kept_events Summary told (kept.Html notes) h = absurd h
 kept_events Picture told (kept.Changes events) h = absurd h
 kept_events Picture told (kept.Notes wanted notes) h = absurd h
 kept_events Picture told (kept.Summary events attempts) h = absurd h
 kept_events Picture told (kept.Picture events) h = h
+kept_events Picture told (kept.VmPicture v notes) h = ap events_in h
 kept_events Picture told (kept.Html notes) h = absurd h
 kept_events (Html origin) told (kept.Changes events) h = absurd h
 kept_events (Html origin) told (kept.Notes wanted notes) h = absurd h
 kept_events (Html origin) told (kept.Summary events attempts) h = absurd h
 kept_events (Html origin) told (kept.Picture events) h = absurd h
+kept_events (Html origin) told (kept.VmPicture v notes) h = absurd h
 kept_events (Html origin) told (kept.Html notes) h = ap events_in h
 
 no_attempts : AreInOrder []
@@ -112,6 +123,7 @@ pub kept_in_order : (form : CustodyForm) (told : List Note) (ledger : Ledger) �
 kept_in_order form told (kept.Changes events) h order = no_attempts
 kept_in_order form told (kept.Notes wanted notes) h order = no_attempts
 kept_in_order form told (kept.Picture events) h order = no_attempts
+kept_in_order form told (kept.VmPicture v notes) h order = no_attempts
 kept_in_order form told (kept.Html notes) h order = no_attempts
 kept_in_order Summary told (kept.Summary events attempts) h order = subst AreInOrder (sym h.1) order
 kept_in_order (Changes origin remarks) told (kept.Summary events attempts) h order = absurd h
@@ -128,21 +140,25 @@ account_given (Changes origin remarks) vm heading config count refused told (kep
 account_given (Changes origin remarks) vm heading config count refused told (kept.Notes wanted notes) text h given = given ∙ ap₂ (λ (r : Remarks) (xs : List Note). notes_text_of heading config count refused (chosen vm r xs)) h.0 h.1
 account_given (Changes origin remarks) vm heading config count refused told (kept.Summary events attempts) text h given = absurd h
 account_given (Changes origin remarks) vm heading config count refused told (kept.Picture events) text h given = absurd h
+account_given (Changes origin remarks) vm heading config count refused told (kept.VmPicture v notes) text h given = absurd h
 account_given (Changes origin remarks) vm heading config count refused told (kept.Html notes) text h given = absurd h
 account_given Summary vm heading config count refused told (kept.Changes events) text h given = absurd h
 account_given Summary vm heading config count refused told (kept.Notes wanted notes) text h given = absurd h
 account_given Summary vm heading config count refused told (kept.Summary events attempts) text h given = given ∙ ap₂ (λ (xs : List Event) (ys : List Attempt). summary_text_of heading config count refused ys (selected_lives vm (lives (reported heading.is_unseen xs)))) h.0 h.1
 account_given Summary vm heading config count refused told (kept.Picture events) text h given = absurd h
+account_given Summary vm heading config count refused told (kept.VmPicture v notes) text h given = absurd h
 account_given Summary vm heading config count refused told (kept.Html notes) text h given = absurd h
 account_given Picture vm heading config count refused told (kept.Changes events) text h given = absurd h
 account_given Picture vm heading config count refused told (kept.Notes wanted notes) text h given = absurd h
 account_given Picture vm heading config count refused told (kept.Summary events attempts) text h given = absurd h
 account_given Picture vm heading config count refused told (kept.Picture events) text h given = given
+account_given Picture vm heading config count refused told (kept.VmPicture v notes) text h given = given
 account_given Picture vm heading config count refused told (kept.Html notes) text h given = absurd h
 account_given (Html origin) vm heading config count refused told (kept.Changes events) text h given = absurd h
 account_given (Html origin) vm heading config count refused told (kept.Notes wanted notes) text h given = absurd h
 account_given (Html origin) vm heading config count refused told (kept.Summary events attempts) text h given = absurd h
 account_given (Html origin) vm heading config count refused told (kept.Picture events) text h given = absurd h
+account_given (Html origin) vm heading config count refused told (kept.VmPicture v notes) text h given = absurd h
 account_given (Html origin) vm heading config count refused told (kept.Html notes) text h given = given ∙ ap (λ (xs : List Note). html_text_of (notes_text_of heading config count refused (chosen vm (page_remarks heading.is_unseen) xs))) h
 
 -- what is reported of events within a machine is within it

@@ -4,6 +4,7 @@ pub mod Fed
 mod Plain
 mod Ledgers
 mod Headings
+mod Marked
 mod Told
 pub mod Sources
 pub mod Counted

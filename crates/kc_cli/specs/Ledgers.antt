@@ -1,8 +1,9 @@
 -- What the engine of custody keeps of the notes on a trace: all of them, or their events, with the attempts at pages of VMs, if these are enough.
-use Rattle.std.specs.Prelude.{◌≡◌, ℕ, List, [], Option}
+use Rattle.std.specs.Prelude.{◌≡◌, ℕ, Bool, true, false, List, [], Option}
 use Rattle.kc_types.specs.Configuration.{Configuration}
 use Rattle.kc_types.specs.declared.custody.Event.{Event}
 use Rattle.kc_remarks.specs.declared.remark.Note.{Note}
+use Rattle.kc_remarks.specs.declared.remark.Note.TheVariants as note
 use Rattle.kc_remarks.specs.Remarks.{events_in}
 use Rattle.kc_remarks.specs.declared.attempt.Attempt.{Attempt}
 use Rattle.kc_remarks.specs.Attempts.{attempts_in}
@@ -28,6 +29,7 @@ Keeps (Changes origin remarks) told (kept.Changes events) = (remarks ≡ no_rema
 Keeps (Changes origin remarks) told (kept.Notes wanted notes) = (wanted ≡ remarks) × (notes.items ≡ told)
 Keeps Summary told (kept.Summary events attempts) = (events.items ≡ events_in told) × (attempts.items ≡ attempts_in told)
 Keeps Picture told (kept.Picture events) = events.items ≡ events_in told
+Keeps Picture told (kept.VmPicture v notes) = notes.items ≡ told
 Keeps (Html origin) told (kept.Html notes) = notes.items ≡ told
 Keeps form told ledger = ⊥
 
@@ -37,6 +39,7 @@ events_kept (kept.Changes events) = events.items
 events_kept (kept.Notes wanted notes) = events_in notes.items
 events_kept (kept.Summary events attempts) = events.items
 events_kept (kept.Picture events) = events.items
+events_kept (kept.VmPicture v notes) = events_in notes.items
 events_kept (kept.Html notes) = events_in notes.items
 
 -- the attempts at pages of VMs that it keeps beside events
@@ -50,4 +53,10 @@ IsGiven vm heading config count refused (kept.Changes events) text = text ≡ cu
 IsGiven vm heading config count refused (kept.Notes wanted notes) text = text ≡ notes_text_of heading config count refused (chosen vm wanted notes.items)
 IsGiven vm heading config count refused (kept.Summary events attempts) text = text ≡ summary_text_of heading config count refused attempts.items (selected_lives vm (lives (reported heading.is_unseen events.items)))
 IsGiven vm heading config count refused (kept.Picture events) text = HasFoot heading text
+IsGiven vm heading config count refused (kept.VmPicture v notes) text = HasFoot heading text
 IsGiven vm heading config count refused (kept.Html notes) text = text ≡ html_text_of (notes_text_of heading config count refused (chosen vm (page_remarks heading.is_unseen) notes.items))
+
+-- a note that is not an event: of what was refused or served
+abbrev pub is_remark : Note → Bool
+is_remark (note.Event event) = false
+is_remark _ = true

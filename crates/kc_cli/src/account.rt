@@ -1,27 +1,30 @@
 //! What is written of what was kept of a trace: every change, an object for each life of a VM, a picture, or a page for a browser.
-ghost use Rattle.std.specs.Prelude.{◌≡◌, ◌<◌, ◌≤◌, ◌+◌, ◌^◌, ◌++◌, ◌⊎◌, ℕ, List, All, map, length, take, false, is_err, vec_capacity, IfOk, IfErr, OnOk, OnErr};
+ghost use Rattle.std.specs.Prelude.{◌≡◌, ◌<◌, ◌≤◌, ◌+◌, ◌^◌, ◌++◌, ◌⊎◌, ℕ, List, All, Some, map, filter, length, take, false, is_err, vec_capacity, IfOk, IfErr, OnOk, OnErr};
 ghost use Rattle.std.specs.List.{flat_map};
 ghost use Rattle.std.specs.Io.KnownBytes.{Appends};
 ghost use Rattle.kc_types.specs.Limits.{call_limit};
 ghost use Rattle.kc_model.specs.Events.{changes_in};
 ghost use Rattle.kc_model.specs.Lives.{lives, selected_lives};
 ghost use Rattle.kc_custody.specs.Within.{IsWithin};
+ghost use Rattle.kc_custody.specs.Chosen.{chosen};
+ghost use Rattle.kc_remarks.specs.Remarks.{events_in};
 ghost use Rattle.kc_picture.specs.Foot.{HasFoot};
 ghost use Rattle.kc_picture.specs.Frames.{IsIn};
+ghost use Rattle.kc_picture.specs.Marks.{marks};
 ghost use Rattle.kc_html.specs.Html.{html_head, html_tail, html_text_of};
 ghost use Rattle.kc_trace.specs.CustodyText.{header_line, end_line};
 ghost use Rattle.kc_trace.specs.SummaryText.{summary_text_of};
 ghost use Rattle.kc_trace.specs.Spelling.{longest_call};
 ghost use Rattle.kc_texts.specs.Outcomes.{TellsSink};
-ghost use Rattle.kc_cli.specs.Custody.{origin_of, names_trace, names_start, reported};
+ghost use Rattle.kc_cli.specs.Custody.{origin_of, names_trace, names_start, page_remarks, reported};
 ghost use Rattle.kc_remarks.specs.Attempts.{AreInOrder};
-ghost use Rattle.kc_cli.specs.Ledgers.{attempts_kept, events_kept, IsGiven};
+ghost use Rattle.kc_cli.specs.Ledgers.{attempts_kept, events_kept, is_remark, IsGiven};
 
 use crate::ledger::Ledger;
 use kc_custody::{choose, lives, select, select_lives};
 use kc_html::{HEAD, TAIL};
-use kc_picture::{bars, picture};
-use kc_remarks::{Answered, Attempt, Remarks};
+use kc_picture::{Mark, bars, marks_of, picture, picture_of_vm};
+use kc_remarks::{Answered, Attempt, Note, Remarks};
 use kc_texts::{Failed, Line, Origin, Sink, TextFault, empty_piece, give_lines, write_whole};
 use kc_trace::{Heading, push_custody_end, push_custody_header, summary_text};
 use kc_types::{Config, Event, Memory};
@@ -247,21 +250,82 @@ fn summary_of(
     summary_text(alloc, heading, config, calls, refused, attempts, &lives)
 }
 
-/// The picture of some events.
+/// The picture of all frames, of some events.
 fn picture_of(
     alloc: Global,
     heading: &Heading,
     config: &Config,
     calls: usize,
     events: &[Event],
-    vm: Option<u32>,
 ) -> Result<Vec<u8>, Memory>
     requires few { calls ≤ call_limit }
     requires within { All (IsIn config.now.frames) (changes_in events.now) }
     ensures { IfOk result (λ text. HasFoot heading.now text.items) }
 {
     let bars = bars(alloc, config, FIRST_LINE + calls as u32, events)?;
-    picture(alloc, heading, config, calls, events, &bars, vm)
+    picture(alloc, heading, config, calls, events, &bars)
+}
+
+/// What is reported beside the changes in a picture or on a page: what was refused, and what was served if the machine's own
+/// accesses are in the trace.
+fn page_remarks(is_unseen: bool) -> Remarks
+    ensures { result ≡ page_remarks is_unseen }
+{
+    Remarks {
+        refused: true,
+        accesses: !is_unseen,
+    }
+}
+
+/// Takes notes apart: their events, and the others.
+fn split(alloc: Global, notes: Vec<Note>) -> Result<(Vec<Event>, Vec<Note>), Memory>
+    ensures events { IfOk result (λ parts. parts.0.items ≡ events_in notes.items) }
+    ensures remarks { IfOk result (λ parts. parts.1.items ≡ filter is_remark notes.items) }
+{
+    let mut events = Vec::new(alloc);
+    let mut remarks = Vec::new(alloc);
+    for note in notes {
+        match note {
+            Note::Event(event) => events.push(event)?,
+            Note::Denied(denied) => remarks.push(Note::Denied(denied))?,
+            Note::Access(access) => remarks.push(Note::Access(access))?,
+        }
+    }
+    Ok((events, remarks))
+}
+
+/// The events of notes, and the marks of what else is reported of one VM.
+fn marked(
+    alloc: Global,
+    notes: Vec<Note>,
+    vm: u32,
+    is_unseen: bool,
+) -> Result<(Vec<Event>, Vec<Mark>), Memory>
+    ensures events { IfOk result (λ parts. parts.0.items ≡ events_in notes.items) }
+    ensures marks { IfOk result (λ parts. parts.1.items ≡ marks (chosen (Some vm) (page_remarks is_unseen) notes.items)) }
+{
+    let (events, mut remarks) = split(alloc, notes)?;
+    choose(&mut remarks, Some(vm), page_remarks(is_unseen));
+    let marks = marks_of(alloc, &remarks)?;
+    Ok((events, marks))
+}
+
+/// The picture of one VM, of some notes.
+fn vm_picture_of(
+    alloc: Global,
+    heading: &Heading,
+    config: &Config,
+    calls: usize,
+    notes: Vec<Note>,
+    vm: u32,
+) -> Result<Vec<u8>, Memory>
+    requires few { calls ≤ call_limit }
+    requires within { All (IsIn config.now.frames) (changes_in (events_in notes.items)) }
+    ensures { IfOk result (λ text. HasFoot heading.now text.items) }
+{
+    let (events, marks) = marked(alloc, notes, vm, heading.is_unseen)?;
+    let bars = bars(alloc, config, FIRST_LINE + calls as u32, &events)?;
+    picture_of_vm(alloc, heading, config, calls, &events, bars, &marks, vm)
 }
 
 /// Gives what was kept in its form, of one slot's VM alone if one is named.
@@ -308,17 +372,19 @@ pub(crate) fn give_told<K: Sink>(
         },
         Ledger::Picture(events) => {
             let events = reported(events, heading.is_unseen);
-            let Ok(text) = picture_of(alloc, &heading, &config, calls, &events, vm) else {
+            let Ok(text) = picture_of(alloc, &heading, &config, calls, &events) else {
+                return Err(TextFault::Memory);
+            };
+            give_whole(&text, out)
+        },
+        Ledger::VmPicture(vm, notes) => {
+            let Ok(text) = vm_picture_of(alloc, &heading, &config, calls, notes, vm) else {
                 return Err(TextFault::Memory);
             };
             give_whole(&text, out)
         },
         Ledger::Html(mut notes) => {
-            let shown = Remarks {
-                refused: true,
-                accesses: !heading.is_unseen,
-            };
-            choose(&mut notes, vm, shown);
+            choose(&mut notes, vm, page_remarks(heading.is_unseen));
             give_html(alloc, &heading, &config, calls, refused, notes, out)
         },
     }

@@ -69,6 +69,7 @@ fn tell_source<T: Source>(
     core: &mut KCore,
     trace: &mut T,
     form: CustodyForm,
+    vm: Option<u32>,
     is_hashed: bool,
 ) -> Result<Traced, TextFault>
     requires { T.failed trace.old ≡ false }
@@ -85,7 +86,7 @@ fn tell_source<T: Source>(
 {
     let mut buffer = [0u8; PIECE];
     let mut stream = stream_of(is_hashed);
-    let mut ledger = Ledger::new(alloc, form);
+    let mut ledger = Ledger::new(alloc, form, vm);
     let mut denials = Denials::none();
     let mut line = FIRST_LINE;
     loop {
@@ -167,6 +168,7 @@ fn told_source<T: Source>(
         &mut core,
         trace,
         order.form,
+        order.scope.vm,
         order.scope.named.names_trace(),
     );
     core.wipe(rt);

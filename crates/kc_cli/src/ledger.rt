@@ -22,12 +22,14 @@ pub(crate) enum Ledger {
     Notes(Remarks, Vec<Note>),
     Summary(Vec<Event>, Vec<Attempt>),
     Picture(Vec<Event>),
+    /// For the picture of the VM in a slot, with marks of what was refused and served.
+    VmPicture(u32, Vec<Note>),
     Html(Vec<Note>),
 }
 
 impl Ledger {
-    /// One without calls, for this form.
-    pub(crate) fn new(alloc: Global, form: CustodyForm) -> Ledger
+    /// One without calls, for this form, perhaps of one slot's VM alone.
+    pub(crate) fn new(alloc: Global, form: CustodyForm, vm: Option<u32>) -> Ledger
         ensures { Keeps form [] result }
     {
         match form {
@@ -40,7 +42,10 @@ impl Ledger {
             ) => Ledger::Changes(Vec::new(alloc)),
             CustodyForm::Changes(_, remarks) => Ledger::Notes(remarks, Vec::new(alloc)),
             CustodyForm::Summary => Ledger::Summary(Vec::new(alloc), Vec::new(alloc)),
-            CustodyForm::Picture => Ledger::Picture(Vec::new(alloc)),
+            CustodyForm::Picture => match vm {
+                Some(vm) => Ledger::VmPicture(vm, Vec::new(alloc)),
+                None => Ledger::Picture(Vec::new(alloc)),
+            },
             CustodyForm::Html(_) => Ledger::Html(Vec::new(alloc)),
         }
     }
@@ -70,6 +75,7 @@ impl Ledger {
                 summarize_calls(alloc, core, calls, first, events, attempts, denials)
             },
             Ledger::Picture(events) => tell_calls(alloc, core, calls, first, events, denials),
+            Ledger::VmPicture(_, notes) => note_calls(alloc, core, calls, first, notes, denials),
             Ledger::Html(notes) => note_calls(alloc, core, calls, first, notes, denials),
         }
     }

@@ -2,7 +2,9 @@ pub mod Cells
 pub mod Columns
 pub mod Foot
 pub mod Frames
+pub mod Marks
 pub mod OutlineWords
 pub mod Outlines
 pub mod Titles
+pub mod VmRows
 pub mod Words

@@ -284,11 +284,11 @@ fn name_rows(svg: &mut Svg, top: u64, grid: &Grid) {
     }
 }
 
-/// Says at the right what a cell stands for.
-fn explain(svg: &mut Svg, top: u64, grid: &Grid, vm: Option<u32>) {
+/// Says at the right what a cell stands for, on a base line.
+pub(crate) fn explain(svg: &mut Svg, base: u64, grid: &Grid, vm: Option<u32>) {
     let tall = grid.frames.div_ceil(grid.rows.max(1));
     let wide = lines_of_column(grid.lines, grid.columns);
-    svg.begin_words(LEFT + PLOT, top.saturating_sub(800), &REMARK);
+    svg.begin_words(LEFT + PLOT, base, &REMARK);
     svg.text.put("a cell: up to ");
     svg.text.put_count(tall, "frame");
     svg.text.put(" through up to ");
@@ -345,19 +345,18 @@ fn draw_rows(
     Ok(())
 }
 
-/// Draws the cells of all frames from a height on; if a VM is named, by what that had alone.
+/// Draws the cells of all frames from a height on; perhaps by what one VM had alone.
 pub(crate) fn draw_frames(
     svg: &mut Svg,
     grid: &Grid,
     top: u64,
     bars: &[Bar],
     by_row: &[Vec<usize>],
-    vm: Option<u32>,
+    alone: bool,
 ) {
-    explain(svg, top, grid, vm);
     name_rows(svg, top, grid);
     svg.begin_lines(grid.height);
-    if let Err(Memory) = draw_rows(svg, grid, top, bars, by_row, vm.is_some()) {
+    if let Err(Memory) = draw_rows(svg, grid, top, bars, by_row, alone) {
         svg.text.refuse();
     }
     svg.end_group();

@@ -86,6 +86,8 @@ pub(crate) const FREE: Colour = Colour(0xff, 0xff, 0xff);
 pub(crate) const SEVERAL: Colour = Colour(0x7d, 0x6b, 0x91);
 /// The mark of a VM whose images were not approved.
 pub(crate) const DEAD: Colour = Colour(0xff, 0x00, 0x33);
+/// The mark of a refused call.
+pub(crate) const REFUSED: Colour = Colour(0xff, 0xd7, 0x00);
 /// Words and marks.
 pub(crate) const INK: Colour = Colour(0x22, 0x22, 0x22);
 /// Lesser words.

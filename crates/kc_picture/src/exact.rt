@@ -8,6 +8,8 @@ use kc_types::{Bar, Custody, Owner};
 
 /// Rows and bars that are higher have larger words.
 const ROOMY: u64 = 1_400;
+/// Lower bars have no words.
+const LOWEST_NAMED: u64 = 1_000;
 
 /// The height of a row of few frames, and of more.
 pub(crate) fn row_height(frames: u64) -> u64 {
@@ -43,7 +45,7 @@ fn same_name(a: &Custody, b: &Custody) -> bool {
 }
 
 /// The part of a row from a line up to another.
-fn area_of(scale: Scale, top: u64, height: u64, from: u32, to: u32) -> Area {
+pub(crate) fn area_of(scale: Scale, top: u64, height: u64, from: u32, to: u32) -> Area {
     let x = scale.x(from);
     Area {
         x,
@@ -67,7 +69,7 @@ fn draw_bar(svg: &mut Svg, area: &Area, bar: &Bar) {
         svg.hatched(area);
     }
     if bar.custody.present {
-        svg.foot(area, 250);
+        svg.foot(area, (area.height / 4).min(250));
     }
     svg.end_group();
 }
@@ -119,7 +121,7 @@ fn colour_of_words(custody: &Custody) -> Colour {
 fn write_on(svg: &mut Svg, area: &Area, custody: &Custody, words: &Text) -> bool {
     let lettering = lettering_of(area.height);
     let width = lettering.width.saturating_mul(words.len() as u64);
-    if area.width < width.saturating_add(600) {
+    if area.height < LOWEST_NAMED || area.width < width.saturating_add(600) {
         return false;
     }
     if custody.share > 0 {
@@ -162,7 +164,7 @@ fn name_bar(svg: &mut Svg, area: &Area, bar: &Bar) -> bool {
 }
 
 /// Writes the number of a frame beside its row.
-fn name_frame(svg: &mut Svg, frame: u64, top: u64, height: u64) {
+pub(crate) fn name_frame(svg: &mut Svg, frame: u64, top: u64, height: u64) {
     let bottom = top.saturating_add(height);
     if height > ROOMY {
         let style = Style {
@@ -183,7 +185,14 @@ fn name_frame(svg: &mut Svg, frame: u64, top: u64, height: u64) {
 }
 
 /// Draws the bars of one frame, each with its name unless the one before it has the same.
-fn draw_row(svg: &mut Svg, scale: Scale, top: u64, height: u64, bars: &[Bar], row: &[usize]) {
+pub(crate) fn draw_row(
+    svg: &mut Svg,
+    scale: Scale,
+    top: u64,
+    height: u64,
+    bars: &[Bar],
+    row: &[usize],
+) {
     let mut named: Option<Custody> = None;
     for i in row {
         if let Some(bar) = bars.get(*i) {
@@ -203,23 +212,19 @@ fn draw_row(svg: &mut Svg, scale: Scale, top: u64, height: u64, bars: &[Bar], ro
     }
 }
 
-/// Draws all frames from a height on, each by its bars; where a VM is named these are its alone.
+/// Draws all frames from a height on, each by its bars.
 pub(crate) fn draw_frames(
     svg: &mut Svg,
     scale: Scale,
     top: u64,
     bars: &[Bar],
     by_frame: &[Vec<usize>],
-    vm: Option<u32>,
 ) {
     let height = row_height(by_frame.len() as u64);
     let mut at = top;
     let mut frame = 0u64;
     for row in by_frame {
         name_frame(svg, frame, at, height);
-        if vm.is_some() {
-            svg.edge(&area_of(scale, at, height, 1, scale.end()), LIFE);
-        }
         draw_row(svg, scale, at, height, bars, row);
         at = at.saturating_add(height);
         frame = frame.saturating_add(1);

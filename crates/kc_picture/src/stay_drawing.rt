@@ -179,15 +179,15 @@ fn draw_death(svg: &mut Svg, place: &LanePlace, mark: &Deaths) {
 
 /// A word beside a mark: where it begins and ends, and which of its ends is at the mark.
 #[derive(Clone, Copy)]
-struct Word {
-    from: u64,
-    to: u64,
+pub(crate) struct Word {
+    pub from: u64,
+    pub to: u64,
     anchor: Anchor,
 }
 
 /// Where a word of this width is beside a mark: to its right, or near the right end to its left.
-fn word_beside(x: u64, width: u64) -> Word {
-    if x < LEFT + PLOT - 2_000 {
+pub(crate) fn word_beside(x: u64, width: u64) -> Word {
+    if x.saturating_add(width) < LEFT + PLOT + 1_300 {
         let from = x.saturating_add(200);
         Word {
             from,
@@ -204,18 +204,23 @@ fn word_beside(x: u64, width: u64) -> Word {
     }
 }
 
-/// Writes a word beside a mark, above its lane.
-fn write_beside(svg: &mut Svg, place: &LanePlace, at: &Word, style: &Style, word: &str) {
+/// Writes a word beside a mark, on a base line.
+pub(crate) fn write_at(svg: &mut Svg, y: u64, at: &Word, style: &Style, word: &str) {
     let x = match at.anchor {
         Anchor::Start | Anchor::Middle => at.from,
         Anchor::End => at.to,
     };
-    let y = place.base.saturating_sub(place.height).saturating_sub(100);
     let style = Style {
         anchor: at.anchor,
         ..*style
     };
     svg.words(x, y, &style, word);
+}
+
+/// Writes a word beside a mark, above its lane.
+fn write_beside(svg: &mut Svg, place: &LanePlace, at: &Word, style: &Style, word: &str) {
+    let y = place.base.saturating_sub(place.height).saturating_sub(100);
+    write_at(svg, y, at, style, word);
 }
 
 /// How the word beside the mark of dead VMs looks, and how wide it is.

@@ -30,10 +30,10 @@ picture_of-requires-clause-within g c =
 
 pub returns-clause-ok : goal.returns-clause-ok
 returns-clause-ok g c =
-    let text = page_text c.args.told.heading c.args.told.config c.args.told.answered.calls c.args.told.answered.denials.total c.choose-in-Html.new.notes.items _ c.choose-in-Html.ensures in
+    let text = page_text c.args.told.heading c.args.told.config c.args.told.answered.calls c.args.told.answered.denials.total c.choose-in-Html.new.notes.items _ (rw c.page_remarks.ensures at c.choose-in-Html.ensures) in
     rw c.in-Html.is (on_ok_weaker c.give_html.result (λ given. (_, text, given)) c.give_html.ensures.ok)
 
 pub returns-clause-sink : goal.returns-clause-sink
 returns-clause-sink g c =
-    let text = page_text c.args.told.heading c.args.told.config c.args.told.answered.calls c.args.told.answered.denials.total c.choose-in-Html.new.notes.items _ c.choose-in-Html.ensures in
+    let text = page_text c.args.told.heading c.args.told.config c.args.told.answered.calls c.args.told.answered.denials.total c.choose-in-Html.new.notes.items _ (rw c.page_remarks.ensures at c.choose-in-Html.ensures) in
     rw c.in-Html.is (sink_more _ _ _ _ _ (λ begun. (_, begun.0, text, begun.1)) c.give_html.ensures.sink)

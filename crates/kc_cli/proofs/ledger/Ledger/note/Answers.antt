@@ -1,5 +1,5 @@
 use Rattle.std.proofs.lemmas.Result.{on_ok_weaker}
-use Rattle.kc_cli.proofs.Ledgers.{changes_grow, on_ok_both, summary_grows, picture_grows, html_grows}
+use Rattle.kc_cli.proofs.Ledgers.{changes_grow, on_ok_both, summary_grows, picture_grows, vm_picture_grows, html_grows}
 use Rattle.kc_cli.proofs.ledger.Ledger.note.Goals as goal
 
 pub returns-in-Changes-clause-kept : goal.returns-in-Changes-clause-kept
@@ -14,6 +14,10 @@ returns-in-Summary-clause-kept c =
 pub returns-in-Picture-clause-kept : goal.returns-in-Picture-clause-kept
 returns-in-Picture-clause-kept c =
     on_ok_weaker c.tell_calls-in-Picture.result (λ grown. λ form told h. picture_grows c.args.first c.args.core.now c.args.calls.now c.in-Picture.events c.tell_calls-in-Picture.new.told grown form told (rw c.in-Picture.is at h)) c.tell_calls-in-Picture.ensures.told
+
+pub returns-in-VmPicture-clause-kept : goal.returns-in-VmPicture-clause-kept
+returns-in-VmPicture-clause-kept c =
+    on_ok_weaker c.note_calls-in-VmPicture.result (λ grown. λ form told h. vm_picture_grows c.args.first c.args.core.now c.args.calls.now _ c.in-VmPicture.notes c.note_calls-in-VmPicture.new.notes grown form told (rw c.in-VmPicture.is at h)) c.note_calls-in-VmPicture.ensures.notes
 
 pub returns-in-Html-clause-kept : goal.returns-in-Html-clause-kept
 returns-in-Html-clause-kept c =
