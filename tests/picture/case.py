@@ -86,7 +86,7 @@ class Case:
         return f"Frames of vm {self.vm}, by number"
 
     def try_foot(self):
-        """Its last words, below all else, say of what it is; those of a picture of all VMs before that, what it lacks."""
+        """Its last words, below all else, say of what it is; above them one of all VMs says what it lacks."""
         *before, last = self.picture.texts
         want(last.element.text == self.foot, f"its foot is '{last.element.text}'")
         want(all(it.box[3] < last.box[1] for it in self.picture.shapes if it is not last and it.kind != "rect"),

@@ -3,7 +3,7 @@ import collections
 import re
 
 from picture.case import Case
-from picture.colours import DEAD, INK, LEFT, LIFE, MOST_MARKS, REFUSED
+from picture.colours import DEAD, INK, LEFT, MOST_MARKS, REFUSED
 from picture.reading import is_near, levels_of, number, want
 from picture.told import title_of_remark
 
@@ -44,7 +44,8 @@ class Rows(Case):
             if re.fullmatch(r"(frame )?\d+", it.element.text) and it.box[2] < LEFT:
                 at = (number(it.element, "y") + (6 if high > 14 else 2.5) - top) / high - 1
                 is_row = is_near(at, round(at)) and 0 <= at < len(frames)
-                want(is_row and frames[round(at)] == int(it.element.text.split(" ")[-1]), f"{it.element.text} is at {at}")
+                is_its = is_row and frames[round(at)] == int(it.element.text.split(" ")[-1])
+                want(is_its, f"{it.element.text} is at {at}")
                 numbered.append(round(at))
         step = -(-10 // high)
         want(numbered == [*range(0, len(frames), step)], f"rows {numbered[:9]} have numbers, and not each of {step}")
@@ -60,7 +61,8 @@ class Rows(Case):
                 at = (it.box[1] + 0.5 - top) / high - 1
                 want(is_near(at, round(at)) and it.looks["stroke"] == INK, f"a row is underlined at {at}")
                 drawn[self.frames()[round(at)]] += [(begin, end) for begin, _, end in levels_of(it.element.get("d"))]
-        want(set(drawn) == set(wanted), f"of frames {sorted(set(drawn) ^ set(wanted))[:4]} rows are underlined, or are not")
+        differing = sorted(set(drawn) ^ set(wanted))
+        want(not differing, f"of frames {differing[:4]} rows are underlined, or are not")
         for frame, stretches in wanted.items():
             near = [all(map(is_near, one, other)) for one, other in zip(stretches, drawn[frame])]
             want(all(near) and len(stretches) == len(drawn[frame]), f"the row of frame {frame} is underlined elsewhere")
@@ -87,7 +89,8 @@ class Rows(Case):
                 middle = (it.box[1] + it.box[3]) / 2
                 row = None if middle < top else int((middle - top) / high)
                 drawn["all" if kind == "rejected" else row, kind].append((it, more))
-                self.try_look(it, kind, (above, above + 12) if row is None else (top + row * high, top + (row + 1) * high))
+                begin, end = (above, above + 12) if row is None else (top + row * high, top + (row + 1) * high)
+                self.try_look(it, kind, (begin, end))
         return {place: sorted(marks, key=lambda it: it[0].box[0]) for place, marks in drawn.items()}
 
     def try_look(self, shape, kind, row):
@@ -132,7 +135,8 @@ class Rows(Case):
         for it in self.picture.texts:
             if it.element.text == "rejected":
                 looks, x = (it.element.get("font-weight"), it.element.get("fill")), number(it.element, "x")
-                want(looks == ("bold", DEAD) and is_near(number(it.element, "y"), above - 1.5), f"'rejected' is {looks}")
+                is_above = is_near(number(it.element, "y"), above - 1.5)
+                want(looks == ("bold", DEAD) and is_above, f"'rejected' is {looks}")
                 is_left = it.element.get("text-anchor") == "end"
                 words.append((x - 50, x, x + 2) if is_left else (x, x + 50, x - 2))
         words.sort()
