@@ -15,10 +15,11 @@ use Rattle.clap.specs.declared.error.kind.ErrorKind.TheVariants.{OutOfMemory}
 use Rattle.clap.proofs.WalkLemmas.{byte_read}
 use Rattle.clap.proofs.OnLiterals.{clap_on_literals}
 use Rattle.kc_args.specs.declared.job.Job.{Job}
-use Rattle.kc_args.specs.declared.job.ArgFault.{ArgFault}
-use Rattle.kc_args.specs.declared.job.ArgFault.TheVariants.{Memory, Message}
+use Rattle.kc_args.specs.declared.clash.Clash.{Clash}
+use Rattle.kc_args.specs.declared.arguments.ArgFault.{ArgFault}
+use Rattle.kc_args.specs.declared.arguments.ArgFault.TheVariants as faults
 use Rattle.kc_args.specs.Commands.{kcore}
-use Rattle.kc_args.specs.Jobs.{Asks, IsJobIn, HasStatus, IsRefusal}
+use Rattle.kc_args.specs.Arguments.{Asks, Contradicts, IsJobIn, IsClashIn, HasStatus, IsRefusal}
 
 pub kcore_is_simple : is_simple kcore ≡ true
 unfolding clap_on_literals
@@ -32,12 +33,23 @@ kcore_is_free = refl
 abbrev pub Entered : Type 0
 Entered = Option (Text × List Row)
 
+-- what holds of the subcommand's name and rows holds of the subcommand
+found_in : (Holds : Text → List Row → Type 0) (found : Text × List Row) (name : Text) (rows : List Row) → Some name ≡ Some found.0 → Some rows ≡ Some found.1 → Holds name rows → Holds found.0 found.1
+found_in Holds found name rows n e h = let same : found.1 ≡ rows = cc in let named : found.0 ≡ name = cc in rw (same, named) h
+
 asked_in : (entered : Entered) (name : Text) (rows : List Row) (job : Job) → Some name ≡ option_map (λ p. p.0) entered → Some rows ≡ option_map (λ p. p.1) entered → IsJobIn name rows job → Asks entered job
 asked_in None name rows job n e h = absurd cc
-asked_in (Some found) name rows job n e h = let same : found.1 ≡ rows = cc in let named : found.0 ≡ name = cc in rw (same, named) h
+asked_in (Some found) name rows job n e h = found_in (λ its of. IsJobIn its of job) found name rows n e h
 
 pub asked_within : (arguments : List Text) (entered : Entered) (name : Text) (rows : List Row) (job : Job) → entered ≡ subcommand_of kcore arguments → Some name ≡ option_map (λ p. p.0) entered → Some rows ≡ option_map (λ p. p.1) entered → IsJobIn name rows job → Asks (subcommand_of kcore arguments) job
 asked_within arguments entered name rows job is n e h = rw is at (asked_in entered name rows job n e h)
+
+contradicts_in : (entered : Entered) (name : Text) (rows : List Row) (clash : Clash) → Some name ≡ option_map (λ p. p.0) entered → Some rows ≡ option_map (λ p. p.1) entered → IsClashIn name rows clash → Contradicts entered clash
+contradicts_in None name rows clash n e h = absurd cc
+contradicts_in (Some found) name rows clash n e h = found_in (λ its of. IsClashIn its of clash) found name rows n e h
+
+pub contradicts_within : (arguments : List Text) (entered : Entered) (name : Text) (rows : List Row) (clash : Clash) → entered ≡ subcommand_of kcore arguments → Some name ≡ option_map (λ p. p.0) entered → Some rows ≡ option_map (λ p. p.1) entered → IsClashIn name rows clash → Contradicts (subcommand_of kcore arguments) clash
+contradicts_within arguments entered name rows clash is n e h = rw is at (contradicts_in entered name rows clash n e h)
 
 named_in : {Z : Type 0} (found : Option (Box SubCommand Z)) → option_map (λ b. (out-SubCommand (box_value b)).name.now) found ≡ option_map (λ p. p.0) (subcommand_rows found)
 named_in None = refl
@@ -48,9 +60,10 @@ pub named : (m : ArgMatches) → subcommand_name_of m ≡ option_map (λ p. p.0)
 named m = named_in (out-ArgMatches m).subcommand
 
 pub refused_for : (arguments : List Text) (app : App) (kind : ErrorKind) (fault : ArgFault) → app ≡ kcore → (kind ≡ OutOfMemory) ⊎ IsAmong kind (fault_of app arguments) → HasStatus kind fault → IsRefusal arguments fault
-refused_for arguments app kind Memory same among h = tt
-refused_for arguments app kind (Message text status) same (inl none) h = absurd (h.0 none)
-refused_for arguments app kind (Message text status) same (inr among) h = (kind, rw same at among, h.1)
+refused_for arguments app kind faults.Memory same among h = tt
+refused_for arguments app kind (faults.Message text status) same (inl none) h = absurd (h.0 none)
+refused_for arguments app kind (faults.Message text status) same (inr among) h = (kind, rw same at among, h.1)
+refused_for arguments app kind (faults.Clash clash) same among h = absurd h
 
 -- what is read of an option, as a byte, is what its text says
 pub number_read : {E : Type 0} (f : ℕ → ℕ) (G : Text → Result ℕ E → Type 0) (said : Option Text) (read : Option ℕ) → ((text : Text) (r : Result ℕ E) → G text r → ParsesUnsigned 8 10 text r)

@@ -1,88 +1,144 @@
--- What a command line asks for, and which command lines are refused.
-use Rattle.std.specs.Prelude.{◌≡◌, ◌≢◌, ◌⊎◌, ◌↔◌, ◌&&◌, false, IsTrue, ℕ, nat_le, List, [], codes, Option, Some, None, option_map, if◌then◌else◌}
-use Rattle.std.specs.Option.{option_map_or}
+-- What options ask for, unless they contradict each other.
+use Rattle.std.specs.Prelude.{ℕ, Bool, true, false, ◌&&◌, List, Option, Some, None, Result, Ok, Err}
 use Rattle.std.specs.Borrow.{Bor}
-use Rattle.clap.specs.Words.{Text, Row, first_of, one_of, subcommand_of, fault_of, IsAmong}
-use Rattle.clap.specs.Walk.{byte_or_zero}
-use Rattle.clap.specs.declared.error.kind.ErrorKind.{ErrorKind}
-use Rattle.clap.specs.declared.error.kind.ErrorKind.TheVariants.{DisplayHelp, DisplayVersion, OutOfMemory}
-use Rattle.kc_types.specs.Limits.{worker_limit}
+use Rattle.kc_texts.specs.declared.origin.Origin.{Origin}
+use Rattle.kc_texts.specs.declared.origin.Origin.TheVariants as origins
+use Rattle.kc_remarks.specs.declared.remark.Remarks.{Remarks}
+use Rattle.kc_cli.specs.declared.order.ReplayForm.{ReplayForm}
+use Rattle.kc_cli.specs.declared.order.ReplayForm.TheVariants as replies
+use Rattle.kc_cli.specs.declared.account.CustodyForm.{CustodyForm}
+use Rattle.kc_cli.specs.declared.account.CustodyForm.TheVariants as forms
+use Rattle.kc_cli.specs.declared.account.Named.{Named}
+use Rattle.kc_cli.specs.declared.account.Named.TheVariants as names
+use Rattle.kc_cli.specs.declared.account.Scope.{Scope}
+use Rattle.kc_args.specs.declared.job.Start.{Start}
+use Rattle.kc_args.specs.declared.job.Start.TheVariants as starts
+use Rattle.kc_args.specs.declared.job.Account.{Account}
+use Rattle.kc_args.specs.declared.job.Account.TheVariants as accounts
+use Rattle.kc_args.specs.declared.job.Action.{Action}
+use Rattle.kc_args.specs.declared.job.Action.TheVariants as actions
 use Rattle.kc_args.specs.declared.job.Job.{Job}
-use Rattle.kc_args.specs.declared.job.Job.TheVariants.{Replay, Live, Custody, Audit, Redact}
-use Rattle.kc_args.specs.declared.job.ArgFault.{ArgFault}
-use Rattle.kc_args.specs.declared.job.ArgFault.TheVariants.{Memory, Message}
-use Rattle.kc_args.specs.Commands.{kcore}
+use Rattle.kc_args.specs.declared.options.Options.{Options}
+use Rattle.kc_args.specs.declared.options.Options.TheVariants as options
+use Rattle.kc_args.specs.declared.clash.Clash.{Clash}
+use Rattle.kc_args.specs.declared.clash.Clash.TheVariants as clashes
 
--- 1 to 64: the command's rules accept no other number of workers
-abbrev pub in_range : ℕ → ℕ
-in_range n = if nat_le 1 n && nat_le n worker_limit then n else 1
+-- a path, as a job holds it
+abbrev pub Path : Type 0
+Path = Bor (List ℕ)
 
--- the number of workers that is named; 1 if none is
-abbrev pub workers_in : List Row → ℕ
-workers_in rows = option_map_or (λ text. in_range (byte_or_zero text)) (one_of (codes "workers") rows) 1
+-- where calls begin, by `--config` and `--from`; nothing for both
+abbrev pub start_of : Option Path → Option Path → Option Start
+start_of config None = Some (starts.Boot config)
+start_of None (Some from) = Some (starts.State from)
+start_of (Some config) (Some from) = None
 
--- the number after `--vm`
-abbrev pub slot_in : List Row → ℕ
-slot_in rows = option_map_or byte_or_zero (one_of (codes "vm") rows) 0
+-- what is written of a replay, by `--dump` and `--state`; nothing for both
+abbrev pub replay_form : Bool → Bool → Option ReplayForm
+replay_form false false = Some replies.Replies
+replay_form true false = Some replies.Dump
+replay_form false true = Some replies.State
+replay_form true true = None
 
--- the slot that is named, if one is
-abbrev pub vm_in : List Row → Option ℕ
-vm_in rows = option_map (λ text. slot_in rows) (first_of (codes "vm") rows)
+-- a summary and a picture have no remarks, by `--refused` and `--accesses`, and begin at boot
+abbrev pub summary_of : Bool → Bool → Start → Result Account Clash
+summary_of true accesses start = Err clashes.SummaryRefused
+summary_of false true start = Err clashes.SummaryAccesses
+summary_of false false (starts.Boot config) = Ok (accounts.Summary config)
+summary_of false false (starts.State path) = Err clashes.FromSummary
 
--- the path after this option is that of the rows
-abbrev pub HasPath : Text → List Row → Option (Bor Text) → Type 0
-HasPath option rows path = option_map (λ s. s.now) path ≡ first_of option rows
+abbrev pub picture_of : Bool → Bool → Start → Result Account Clash
+picture_of true accesses start = Err clashes.SvgRefused
+picture_of false true start = Err clashes.SvgAccesses
+picture_of false false (starts.Boot config) = Ok (accounts.Picture config)
+picture_of false false (starts.State path) = Err clashes.FromSvg
 
--- the path of the configuration, and the number of workers, are those of the rows
-abbrev pub HasOptions : List Row → Option (Bor Text) → ℕ → Type 0
-HasOptions rows config workers = HasPath (codes "config") rows config × (workers ≡ workers_in rows)
+-- what is written of custody, by `--summary`, `--svg` and `--html`, which exclude each other, and what else is asked for, which `--html` implies
+abbrev pub account_of : Bool → Bool → Bool → Remarks → Start → Result Account Clash
+account_of false false false remarks start = Ok (accounts.Changes start remarks)
+account_of false false true remarks start = Ok (accounts.Html start)
+account_of true true html remarks start = Err clashes.SummarySvg
+account_of true false true remarks start = Err clashes.SummaryHtml
+account_of true false false remarks start = summary_of remarks.refused remarks.accesses start
+account_of false true true remarks start = Err clashes.SvgHtml
+account_of false true false remarks start = picture_of remarks.refused remarks.accesses start
 
--- the flag is given
-abbrev pub IsSet : Text → List Row → Type 0
-IsSet flag rows = first_of flag rows ≡ Some (codes "true")
+-- nothing that is asked for has a core's pages in it, which `--blank` zeroes
+abbrev pub is_alone : Bool → ReplayForm → Option Path → Bool
+is_alone true replies.Replies None = true
+is_alone blank form to = false
 
--- the file that is read; `-`, or no file, is standard input
-abbrev pub HasInput : List Row → Option (Bor Text) → Type 0
-HasInput rows None = (first_of (codes "file") rows ≡ None) ⊎ (first_of (codes "file") rows ≡ Some (codes "-"))
-HasInput rows (Some name) = (first_of (codes "file") rows ≡ Some name.now) × (name.now ≢ codes "-")
+abbrev pub blank_action : Bool → Action → Result Action Clash
+blank_action true action = Err clashes.BlankAlone
+blank_action false action = Ok action
 
--- what the subcommand of this name asks for, by the rows of its options: there are `replay`, `live`, `custody`, `audit` and `redact` alone
-abbrev pub IsJobIn : Text → List Row → Job → Type 0
-IsJobIn name rows (Replay input config from to workers dump state blank explain) = (name ≢ codes "live") × (name ≢ codes "custody") × (name ≢ codes "audit") × (name ≢ codes "redact") × HasInput rows input × HasOptions rows config workers × HasPath (codes "from") rows from × HasPath (codes "to") rows to
-    × (IsTrue dump ↔ IsSet (codes "dump") rows) × (IsTrue state ↔ IsSet (codes "state") rows) × (IsTrue blank ↔ IsSet (codes "blank") rows) × (IsTrue explain ↔ IsSet (codes "explain") rows)
-IsJobIn name rows (Live input config workers explain) = (name ≡ codes "live") × HasInput rows input × HasOptions rows config workers × (IsTrue explain ↔ IsSet (codes "explain") rows)
-IsJobIn name rows (Custody input config from vm summary svg html refused accesses unseen digests explain) = (name ≡ codes "custody") × HasInput rows input × HasPath (codes "config") rows config × HasPath (codes "from") rows from × (vm ≡ vm_in rows)
-    × (IsTrue summary ↔ IsSet (codes "summary") rows) × (IsTrue svg ↔ IsSet (codes "svg") rows) × (IsTrue html ↔ IsSet (codes "html") rows) × (IsTrue refused ↔ IsSet (codes "refused") rows) × (IsTrue accesses ↔ IsSet (codes "accesses") rows)
-    × (IsTrue unseen ↔ IsSet (codes "unseen") rows) × (IsTrue digests ↔ IsSet (codes "digests") rows)
-    × (IsTrue explain ↔ IsSet (codes "explain") rows)
-IsJobIn name rows (Audit input all explain) = (name ≡ codes "audit") × HasInput rows input × (IsTrue all ↔ IsSet (codes "all") rows) × (IsTrue explain ↔ IsSet (codes "explain") rows)
-IsJobIn name rows (Redact input config from host explain) = (name ≡ codes "redact") × HasInput rows input × HasPath (codes "config") rows config × HasPath (codes "from") rows from × (IsTrue host ↔ IsSet (codes "host") rows) × (IsTrue explain ↔ IsSet (codes "explain") rows)
+abbrev pub replay_action : Option ReplayForm → Option Start → Option Path → Bool → ℕ → Result Action Clash
+replay_action None start to blank workers = Err clashes.DumpState
+replay_action (Some form) None to blank workers = Err clashes.ReplayConfigFrom
+replay_action (Some form) (Some start) to blank workers = blank_action (is_alone blank form to) (actions.Replay start to form blank workers)
 
--- the same if there may be no subcommand: then it is as if only `replay` were given
-abbrev pub Asks : Option (Text × List Row) → Job → Type 0
-Asks None (Replay input config from to workers dump state blank explain) = (input ≡ None) × HasOptions [] config workers × HasPath (codes "from") [] from × HasPath (codes "to") [] to × (dump ≡ false) × (state ≡ false) × (blank ≡ false) × (explain ≡ false)
-Asks None (Live input config workers explain) = ⊥
-Asks None (Custody input config from vm summary svg html refused accesses unseen digests explain) = ⊥
-Asks None (Audit input all explain) = ⊥
-Asks None (Redact input config from host explain) = ⊥
-Asks (Some found) job = IsJobIn found.0 found.1 job
+-- which texts are named by their digests, by `--digests`: of the default configuration there is no text to be named
+abbrev pub named_by : Bool → Start → Named
+named_by false start = names.Nothing
+named_by true (starts.Boot None) = names.Trace
+named_by true start = names.Both
 
--- clap's rules find no fault in the arguments, and the job is what they hold for the program's command
-pub record IsJob (arguments : List Text) (job : Job) : Type 0 where
-  pub faultless : fault_of kcore arguments ≡ []
-  pub asked : Asks (subcommand_of kcore arguments) job
+-- without the machine's accesses there are none to be reported
+abbrev pub scope_action : Bool → Account → Scope → Result Action Clash
+scope_action true account scope = Err clashes.UnseenAccesses
+scope_action false account scope = Ok (actions.Custody account scope)
 
--- 0 if the text was asked for, 2 for a wrong command line
-abbrev pub exit_status : ErrorKind → ℕ
-exit_status DisplayHelp = 0
-exit_status DisplayVersion = 0
-exit_status _ = 2
+abbrev pub account_action : Result Account Clash → Bool → Scope → Result Action Clash
+account_action (Err clash) accesses scope = Err clash
+account_action (Ok account) accesses scope = scope_action (scope.is_unseen && accesses) account scope
 
-abbrev pub HasStatus : ErrorKind → ArgFault → Type 0
-HasStatus kind Memory = Unit {0}
-HasStatus kind (Message text status) = (kind ≢ OutOfMemory) × (status ≡ exit_status kind)
+abbrev pub custody_action : Bool → Bool → Bool → Remarks → Bool → Bool → Option Start → Option ℕ → Result Action Clash
+custody_action summary svg html remarks unseen digests None vm = Err clashes.CustodyConfigFrom
+custody_action summary svg html remarks unseen digests (Some start) vm =
+    account_action (account_of summary svg html remarks start) remarks.accesses (record { vm = vm; is_unseen = unseen; named = named_by digests start })
 
--- a command line is refused for a fault that clap's rules find in it, with its status
-abbrev pub IsRefusal : List Text → ArgFault → Type 0
-IsRefusal arguments Memory = Unit {0}
-IsRefusal arguments (Message text status) = (kind : ErrorKind) × IsAmong kind (fault_of kcore arguments) × (status ≡ exit_status kind)
+-- a start is named only if also the host's writes are blanked, by which the trace is replayed
+abbrev pub redact_action : Bool → Start → Result Action Clash
+redact_action true start = Ok (actions.RedactHost start)
+redact_action false (starts.Boot None) = Ok actions.Redact
+redact_action false (starts.Boot (Some config)) = Err clashes.ConfigAlone
+redact_action false (starts.State path) = Err clashes.FromAlone
+
+abbrev pub redact_from_action : Bool → Option Start → Result Action Clash
+redact_from_action host None = Err clashes.RedactConfigFrom
+redact_from_action host (Some start) = redact_action host start
+
+-- what these options ask for, or what contradicts itself in them first
+abbrev pub action_of : Options → Result Action Clash
+action_of (options.Replay config from to workers dump state blank) = replay_action (replay_form dump state) (start_of config from) to blank workers
+action_of (options.Live config workers) = Ok (actions.Live config workers)
+action_of (options.Custody config from vm summary svg html refused accesses unseen digests) =
+    custody_action summary svg html (record { refused = refused; accesses = accesses }) unseen digests (start_of config from) vm
+action_of (options.Audit all) = Ok (actions.Audit all)
+action_of (options.Redact config from host) = redact_from_action host (start_of config from)
+
+-- what no subcommand asks for: to replay standard input on one thread and write the replies
+abbrev pub plain_job : Job
+plain_job = record { input = None; action = actions.Replay (starts.Boot None) None replies.Replies false 1; explain = false }
+
+-- the file that holds what calls begin with, if one is named
+abbrev pub path_of : Start → Option Path
+path_of (starts.Boot config) = config
+path_of (starts.State path) = Some path
+
+-- what that file holds
+abbrev pub origin_at : Start → Origin
+origin_at (starts.Boot config) = origins.Boot
+origin_at (starts.State path) = origins.State
+
+abbrev pub form_of : Account → CustodyForm
+form_of (accounts.Changes start remarks) = forms.Changes (origin_at start) remarks
+form_of (accounts.Summary config) = forms.Summary
+form_of (accounts.Picture config) = forms.Picture
+form_of (accounts.Html start) = forms.Html (origin_at start)
+
+abbrev pub start_in : Account → Start
+start_in (accounts.Changes start remarks) = start
+start_in (accounts.Summary config) = starts.Boot config
+start_in (accounts.Picture config) = starts.Boot config
+start_in (accounts.Html start) = start

@@ -1,2 +1,5 @@
+pub mod Arguments
+pub mod Clashes
 pub mod Commands
 pub mod Jobs
+pub mod Options

@@ -1,10 +1,18 @@
 //! The command line, and what it asks for.
 //!
 //! - the program's command, as `clap` has it: `specs/Commands.antt`, `src/commands.rt`
-//! - which job a command line asks for, and which command lines are refused: `specs/Jobs.antt`, `src/job.rt`
+//! - which job a command line asks for, and which command lines are refused: `specs/Arguments.antt`, `src/arguments.rt`; the
+//!   options as they are given: `specs/Options.antt`, `src/options.rt`; what they ask for together: `specs/Jobs.antt`,
+//!   `src/judging.rt`, `src/job.rt`; which contradict each other: `specs/Clashes.antt`, `src/clash.rt`
 #![tactic(auto)]
 
+mod arguments;
+mod clash;
 mod commands;
 mod job;
+mod judging;
+mod options;
 
-pub use job::{ArgFault, Job, job_of};
+pub use arguments::{ArgFault, job_of};
+pub use clash::Clash;
+pub use job::{Account, Action, Job, Start};

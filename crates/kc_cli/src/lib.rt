@@ -1,5 +1,5 @@
 //! The engines that replay a trace, into replies, a dump or the text of a state, that write its custody, and that make
-//! its calls live. Re-exports `kc_texts` and `kc_args`.
+//! its calls live. Re-exports `kc_texts`.
 //!
 //! - a trace replayed as it is read: `src/replaying.rt`, `specs/Engine.antt`; what it begins in: `src/starting.rt`;
 //!   what is written of it, and how the state left is compared: `src/giving.rt`
@@ -22,7 +22,6 @@ mod starting;
 pub use account::{CustodyForm, Named, Scope};
 pub use custody::{CustodyOrder, custody_text};
 pub use history::replay_history;
-pub use kc_args::{ArgFault, Job, job_of};
 pub use kc_digests::Lanes;
 pub use kc_remarks::{Answered, Denials, Remarks, refusals};
 pub use kc_texts::{

@@ -1,4 +1,4 @@
--- What is told of a call, where marks and changes went from hand to hand.
+-- What is reported of a call, if marks and changes went from hand to hand.
 use Rattle.std.proofs.Common.{ℕ, ◌≡◌, true, List, [], ◌∷◌, ◌++◌, map, filter, Option, refl, sym, ap, ap₂, ◌∙◌, append_assoc}
 use Rattle.std.specs.Option.{option_map, option_to_list}
 use Rattle.std.proofs.lemmas.List.{map-append}
@@ -41,7 +41,7 @@ of-owner made Host = refl
 of-owner made Free = refl
 of-owner made (Vm v) = refl
 
--- what is told of the host's read or write
+-- what is reported of the host's read or write
 access-is : (m : State) (call : Call) (answered : Reply) → access_told call (accessed m call) answered ≡ access_by m call answered
 access-is m (HostRead f off len) (reply.Data bytes) = of-owner event.Read (frame_at m f).owner
 access-is m (HostWrite f off bytes) reply.Done = of-owner event.Write (frame_at m f).owner
@@ -64,7 +64,7 @@ events-of-changes line m new =
     map-append event.Change (map change.Frame (frame_changes_by line m new)) (map change.Phase (phase_changes_by line m new))
     ∙ ap₂ (λ (xs ys : List Event). xs ++ ys) (map-map event.Change change.Frame (frame_changes_by line m new)) (map-map event.Change change.Phase (phase_changes_by line m new))
 
--- the events that are told by the marks are those of the call
+-- the events that the marks report are those of the call
 pub call-told : (line : ℕ) (m new : State) (call : Call) (vm : Option ℕ) (reply : Reply) (marks : List FrameChange) (mark : Option PhaseChange) (images : List MeasuredImage) (before accesses frames after : List Event)
     → IsLawful m → IsMarked line m call marks mark → vm ≡ accessed m call → reply ≡ (next m call).0 → new ≡ (next m call).1 → images ≡ images_by m call
     → accesses ≡ before ++ access_told call vm reply → frames ≡ accesses ++ map frame_event (filter differs (map (settled new) marks)) → after ≡ frames ++ phase_told new images mark → after ≡ before ++ events_by line m call

@@ -8,7 +8,7 @@ use Rattle.kc_types.specs.declared.custody.Event.{Event}
 use Rattle.kc_types.specs.declared.custody.Event.TheVariants as event
 use Rattle.kc_model.specs.Lives.{is_turn, life_in, is_gain, is_loss, frames_gained, most_beyond}
 
--- a life is no longer than the events behind its registering
+-- a life is no longer than the events after its registering
 life-short : (v : ℕ) (more : List Event) → length (life_in v more) ≤ length more
 life-short v [] = omega arith
 life-short v (told ∷ more) = by_turns (is_turn v Booting told) (is_turn v Empty told) (life-short v more)

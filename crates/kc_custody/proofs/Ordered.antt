@@ -22,7 +22,7 @@ rising-from low (x ∷ xs) up from = (from (omega arith), rising-from (x + 1) xs
 pub rising : (xs : List ℕ) → IsRising xs → IsRisingFrom 0 xs
 rising xs up = rising-from 0 xs up (λ some. omega arith)
 
--- what a list has by either word
+-- what a list has by either definition
 among-in : (xs : List ℕ) (n : ℕ) → is_among xs n ≡ is_in xs n
 among-in [] n = refl
 among-in (x ∷ xs) n = ap₂ ◌||◌ (swapped n x) (among-in xs n)

@@ -1,4 +1,4 @@
--- The changes among events, of one slot where one is named.
+-- The changes among events, of one slot if one is named.
 use Rattle.std.proofs.Common.{ℕ, ◌≡◌, Bool, true, false, cond, List, [], ◌∷◌, map, filter, Option, Some, None, refl, ap}
 use Rattle.kc_types.specs.declared.custody.Change.{Change}
 use Rattle.kc_types.specs.declared.custody.Event.{Event}

@@ -31,7 +31,7 @@ fails-at p f held absent has = elim (cases_Bool (p f)) [
   | inr fails ↦ fails
 ]
 
--- a number above the first of a list, and in the list, is behind it
+-- a number above the first of a list, and in the list, is after it
 behind : (x : ℕ) (xs : List ℕ) (f : ℕ) → x < f → is_in (x ∷ xs) f ≡ true → is_in xs f ≡ true
 behind x xs f above held = elim (or_cases (nat_eq x f) (is_in xs f) held) [
   | inl here ↦ let is = eqb-true x f here in absurd (omega (arith, is, above))

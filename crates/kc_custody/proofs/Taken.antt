@@ -1,4 +1,4 @@
--- The tallies of all slots, where a frame's owners before and after a change of it have taken the change in.
+-- The tallies of all slots, once a frame's owners before and after a change of it have taken the change in.
 use Rattle.std.proofs.Common.{ℕ, ◌≡◌, ◌≢◌, Bool, true, false, List, ◌∷◌, Option, refl, sym, ap, ◌∙◌}
 use Rattle.std.proofs.lemmas.Bool.{eqb-true}
 use Rattle.kc_types.specs.declared.owner.Owner.{Owner}
@@ -18,13 +18,13 @@ owner-is v Host owned = cc
 owner-is v Free owned = cc
 owner-is v (Vm w) owned = ap Vm (eqb-true w v owned)
 
--- one slot's tally, where both owners are one
+-- one slot's tally, if both owners are one
 once : (v : ℕ) (told : FrameChange) (to : Option ℕ) (more : List Event) (b : Bool) (old new : Tally) → HasRoom more → to ≡ end_of_sharing told.frame more
     → is_owned_by v told.before.owner ≡ b → is_owned_by v told.after.owner ≡ b → TakesIn b v told to old new → old ≡ tally_of v more → new ≡ tally_of v (event.Change (change.Frame told) ∷ more)
 once v told to more true old new room ends before after takes is = takes more room ends is
 once v told to more false old new room ends before after takes is = takes ∙ is ∙ sym (frame-other v told more before after)
 
--- and where they are two
+-- and if they are two
 twice : (v : ℕ) (told : FrameChange) (to : Option ℕ) (more : List Event) (b a : Bool) (old mid new : Tally) → told.before.owner ≢ told.after.owner → HasRoom more → to ≡ end_of_sharing told.frame more
     → is_owned_by v told.before.owner ≡ b → is_owned_by v told.after.owner ≡ a → TakesIn b v told to old mid → TakesIn a v told to mid new → old ≡ tally_of v more → new ≡ tally_of v (event.Change (change.Frame told) ∷ more)
 twice v told to more true true old mid new differ room ends before after first second is = absurd (differ (owner-is v told.before.owner before ∙ sym (owner-is v told.after.owner after)))

@@ -1,4 +1,4 @@
--- The tally of a slot, where one event more stands before the others.
+-- The tally of a slot with one event more before the others.
 use Rattle.std.proofs.Common.{ℕ, ◌≡◌, ◌≢◌, ◌<◌, ◌≤◌, ◌+◌, ◌==◌, ◌&&◌, Bool, true, false, nat_eq, nat_lt, List, [], ◌∷◌, length, get_or, set, replicate, Some, Option, refl, sym, ap, ap₂, ◌∙◌, inl, inr, add-one, arith, get_or-set_other, get_or-set_same}
 use Rattle.std.proofs.Math.ListN.{length-set}
 use Rattle.std.proofs.lemmas.List.{get_or-replicate}

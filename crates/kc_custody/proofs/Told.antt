@@ -1,4 +1,4 @@
--- What is told of the frames that a call may change.
+-- What is reported of the frames that a call may change.
 use Rattle.std.proofs.Common.{ℕ, ◌≡◌, ◌<◌, ◌≤◌, inl, inr, Bool, true, false, cond, List, [], ◌∷◌, map, filter, length, refl, sym, ap, subst, ◌∙◌, arith, Option, Some, None}
 use Rattle.std.specs.Option.{option_to_list}
 use Rattle.std.proofs.lemmas.Bool.{cases_Bool, cases_lt}
@@ -50,7 +50,7 @@ marks-told line old new (f ∷ fs) = by_test (has_moved old new f) (filter diffe
     by_test true xs gs same = ap (λ xs. frame_change line old new f ∷ xs) same
     by_test false xs gs same = same
 
--- what is told of rising frames that hold all that a call may move is what the call changed
+-- what is reported of rising frames that hold all that a call may move is what the call changed
 pub told-is : (line : ℕ) (m : State) (call : Call) (fs : List ℕ) → IsLawful m → IsRisingFrom 0 fs → ((f : ℕ) → is_in (movable m call) f ≡ true → is_in fs f ≡ true)
     → filter differs (map (settled (next m call).1) (map (mark_of line m) fs)) ≡ frame_changes_by line m (next m call).1
 told-is line m call fs is rising held =

@@ -1,4 +1,4 @@
--- What is told of the slot whose phase a call may change.
+-- What is reported of the slot whose phase a call may change.
 use Rattle.std.proofs.Common.{ℕ, ◌≡◌, ◌<◌, ◌≤◌, ◌⊎◌, inl, inr, Bool, true, false, cond, not, List, [], ◌∷◌, map, filter, length, get_or, Option, None, Some, refl, sym, ap, subst, ◌∙◌, arith, get_or-set_other}
 use Rattle.std.specs.Option.{option_map, option_to_list}
 use Rattle.std.proofs.lemmas.Bool.{cases_Bool, cases_lt}
@@ -103,7 +103,7 @@ turned-among m call v is turned = (
   elim (cases_Bool (is_in (option_to_list (turning call)) v)) [ inl held ↦ held | inr absent ↦ let still = not-turned m (next m call).1 v (stays m call v absent) in absurd cc ],
 )
 
--- the phase of a slot that was written is what was written, and it is empty where there is no such slot
+-- the phase of a slot that was written is what was written, and it is empty if there is no such slot
 written : (m : State) (w : ℕ) (slot : Slot) → (phase_of (with_slot m w slot) w ≡ slot.phase) ⊎ (phase_of (with_slot m w slot) w ≡ Empty)
 written m w slot = elim (set-here m.slots w slot empty_slot) [
   | inl is ↦ inl (ap (λ (s : Slot). s.phase) is)
@@ -119,7 +119,7 @@ measured m w (Some i) is low images =
     let there : w < length m.slots = rw is.slots low in
     sym (ap (λ (s : Slot). images_for s.phase images) (get_or-set_same m.slots w _ empty_slot there))
 
--- where a call turns a slot, the images that it measured are those of its new phase
+-- if a call turns a slot, the images that it measured are those of its new phase
 ImagesFit : State → State → ℕ → List MeasuredImage → Type 0
 ImagesFit m new v images = has_turned m new v ≡ true → images ≡ images_for (phase_of new v) (measured_images m v)
 
@@ -153,7 +153,7 @@ fit : (m : State) (call : Call) (v : ℕ) (images : List MeasuredImage) → IsLa
 unfolding next
 fit m call v images is measures turns = fit-unless (refusal m call) m call v images is refl measures turns
 
--- one slot that turned is told, and one that did not is not
+-- one slot that turned is reported, and one that did not is not
 one-told : (same : Bool) (told : PhaseChange) (change_of : ℕ → PhaseChange) (v : ℕ) → (not same ≡ true → told ≡ change_of v) → cond same [] (phase_event told ∷ []) ≡ map phase_event (map change_of (cond (not same) (v ∷ []) []))
 one-told true told change_of v is = refl
 one-told false told change_of v is = ap (λ t. phase_event t ∷ []) (is refl)
@@ -170,7 +170,7 @@ rising-one : (at : Option ℕ) → IsRisingFrom 0 (option_to_list at)
 rising-one None = tt
 rising-one (Some v) = (omega arith, tt)
 
--- what is told of the slot whose phase a call may change is what the call changed of all slots
+-- what is reported of the slot whose phase a call may change is what the call changed of all slots
 pub phases-told : (line : ℕ) (m : State) (call : Call) (images : List MeasuredImage) → IsLawful m → images ≡ images_by m call
     → phase_told (next m call).1 images (option_map (phase_mark line m) (turning call)) ≡ map phase_event (phase_changes_by line m (next m call).1)
 phases-told line m call images is measures =

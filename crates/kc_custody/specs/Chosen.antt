@@ -19,17 +19,17 @@ abbrev pub is_frame_of : ℕ → Option NamedFrame → Bool
 is_frame_of v None = false
 is_frame_of v (Some named) = is_owned_by v named.owner
 
--- a denied call, of one slot where one is given: it names that slot, or a frame of its VM
+-- a denied call, of one slot if one is given: it names that slot, or a frame of its VM
 abbrev pub is_denied_at : Option ℕ → Denied → Bool
 is_denied_at None told = true
 is_denied_at (Some v) told = is_slot v told.slot || is_frame_of v told.named
 
--- an access, of one slot where one is given: to a frame of its VM
+-- an access, of one slot if one is given: to a frame of its VM
 abbrev pub is_access_of : Option ℕ → Access → Bool
 is_access_of None told = true
 is_access_of (Some v) told = told.vm == v
 
--- a note that is reported: a change, of one slot where one is given, and what else is asked for of it
+-- a note that is reported: a change, of one slot if one is given, and what else is asked for of it
 abbrev pub is_chosen : Option ℕ → Remarks → Note → Bool
 is_chosen vm remarks (note.Denied told) = remarks.refused && is_denied_at vm told
 is_chosen vm remarks (note.Access told) = remarks.accesses && is_access_of vm told

@@ -1,4 +1,4 @@
--- Ends: where the events behind a place in a trace end the sharing of frames.
+-- Ends: where the events after a place in a trace end the sharing of frames.
 use Rattle.std.specs.Prelude.{ℕ, ◌≡◌, ◌<◌, List, ◌∷◌, length, slice_index_or, Option, None}
 use Rattle.kc_types.specs.declared.custody.FrameChange.{FrameChange}
 use Rattle.kc_types.specs.declared.custody.Change.TheVariants as change

@@ -50,7 +50,7 @@ turning _ = None
 abbrev pub phase_mark : ℕ → State → ℕ → PhaseChange
 phase_mark line m v = record { line = line; vm = v; phase = (slot_at m v).phase; images = [] }
 
--- the mark as a change, where the slot's phase is another afterwards
+-- the mark as a change, if the slot's phase is another afterwards
 abbrev pub phase_told : State → List MeasuredImage → Option PhaseChange → List Event
 phase_told new images None = []
 phase_told new images (Some mark) =
@@ -62,7 +62,7 @@ accessed m (HostRead f off len) = vm_of (frame_at m f).owner
 accessed m (HostWrite f off bytes) = vm_of (frame_at m f).owner
 accessed m _ = None
 
--- the host's read or write of this VM's frame, where its reply says that it was served
+-- the host's read or write of this VM's frame, if its reply says that it was served
 abbrev pub access_told : Call → Option ℕ → Reply → List Event
 access_told (HostRead f off len) vm (reply.Data bytes) = map event.Read (option_to_list vm)
 access_told (HostWrite f off bytes) vm reply.Done = map event.Write (option_to_list vm)

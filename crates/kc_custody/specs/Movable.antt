@@ -1,4 +1,4 @@
--- The frames whose custody a call may change, by what it names and what stands there.
+-- The frames whose custody a call may change, by what it names and what is there.
 use Rattle.std.specs.Prelude.{ℕ, ◌||◌, nat_lt, nat_le, List, [], ◌∷◌, if◌then◌else◌}
 use Rattle.std.specs.List.{range_with_len, filter_map}
 use Rattle.std.specs.Option.{option_to_list}

@@ -16,7 +16,7 @@ abbrev pub selected : Option ℕ → List Change → List Change
 selected None changes = changes
 selected (Some v) changes = filter (is_for v) changes
 
--- an event that is a change, of one slot where one is named
+-- an event that is a change, of one slot if one is named
 abbrev pub is_selected : Option ℕ → Event → Bool
 is_selected None (event.Change told) = true
 is_selected (Some v) (event.Change told) = is_for v told

@@ -1,4 +1,4 @@
--- Tallies: what the events behind a place in a trace tell of all slots.
+-- Tallies: what the events after a place in a trace say of all slots.
 use Rattle.std.specs.Prelude.{ℕ, ◌≡◌, ◌<◌, Bool, true, false, List, ◌∷◌, length, slice_index_or, Option}
 use Rattle.kc_types.specs.Limits.{slot_limit}
 use Rattle.kc_types.specs.declared.owner.Owner.{Owner}

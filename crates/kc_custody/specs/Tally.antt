@@ -1,4 +1,4 @@
--- Tally: what the events behind a place in a trace tell of a slot, up to its life's end.
+-- Tally: what the events after a place in a trace say of a slot, up to its life's end.
 use Rattle.std.specs.Prelude.{ℕ, ◌≡◌, ◌+◌, ◌-◌, ◌<◌, ◌^◌, Bool, true, false, List, [], ◌∷◌, length, filter, Option, None}
 use Rattle.kc_types.specs.declared.slot.Phase.TheVariants.{Empty, Active, Dead}
 use Rattle.kc_types.specs.declared.custody.MeasuredImage.{MeasuredImage}
@@ -10,7 +10,7 @@ use Rattle.kc_types.specs.declared.custody.Sharing.{Sharing}
 use Rattle.kc_types.specs.declared.custody.Life.{Life}
 use Rattle.kc_model.specs.Lives.{life_in, line_of_turn, images_told, frames_gained, count_different, most_beyond, is_loss, is_read, is_write, sharings, end_of_sharing}
 
--- what is told of a slot: its lines and images, the frames gained and the stretches begun, the first of them first, and counts
+-- what is said of a slot: its lines and images, the frames gained and the stretches begun, the first of them first, and counts
 pub record Tally : Type 0 where
   pub active : Option ℕ
   pub dead : Option ℕ
@@ -23,11 +23,11 @@ pub record Tally : Type 0 where
   pub writes : ℕ
   pub shared : List Sharing
 
--- nothing is told
+-- nothing is said
 abbrev pub no_tally : Tally
 no_tally = record { active = None; dead = None; cleared = None; images = []; gained = []; lost = 0; most = 0; reads = 0; writes = 0; shared = [] }
 
--- what these events tell of the slot
+-- what these events say of the slot
 unfoldable pub tally_of : ℕ → List Event → Tally
 tally_of v more = record {
   active = line_of_turn v Active (life_in v more);
@@ -42,7 +42,7 @@ tally_of v more = record {
   shared = sharings v more;
 }
 
--- the life of a VM that is registered on this line before all that is told
+-- the life of a VM that is registered on this line before all that is said
 abbrev pub told_life : ℕ → ℕ → Tally → Life
 told_life v line tally = record {
   vm = v;
@@ -74,6 +74,6 @@ HasRoomFor tally = (tally.most + 1 < 2 ^ 64) × (tally.lost + 1 < 2 ^ 64)
 abbrev pub HasRoom : List Event → Type 0
 HasRoom more = length more + 1 < 2 ^ 64
 
--- a slot's tally of any events becomes that of one change of a frame more before them, where this is the line at which they end its sharing
+-- a slot's tally of any events becomes that of one change of a frame more before them, if this is the line at which they end its sharing
 abbrev pub TalliesFrame : ℕ → FrameChange → Option ℕ → Tally → Tally → Type 0
 TalliesFrame v told to old new = (more : List Event) → HasRoom more → to ≡ end_of_sharing told.frame more → old ≡ tally_of v more → new ≡ tally_of v (event.Change (change.Frame told) ∷ more)

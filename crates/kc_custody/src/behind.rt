@@ -1,4 +1,4 @@
-//! What events tell of all slots and frames, gathered from the last of them to the first.
+//! What events say of all slots and frames, gathered from the last of them to the first.
 ghost use Rattle.std.specs.Prelude.{◌≡◌, ℕ, List, OnOk, IfOk, []};
 ghost use Rattle.kc_types.specs.declared.custody.Event.{Event as AnEvent};
 ghost use Rattle.kc_model.specs.Lives.{lives};
@@ -9,7 +9,7 @@ use crate::tallies::Tallies;
 use kc_types::{Change, Event, Life, Memory};
 use std::alloc::Global;
 
-/// What the events behind a place in a trace tell.
+/// What the events after a place in a trace say.
 #[derive(Drop)]
 pub(crate) struct Behind {
     tallies: Tallies,
@@ -19,7 +19,7 @@ pub(crate) struct Behind {
 }
 
 impl Behind {
-    /// Behind the last event, of a core with this many frames; `Memory` where a growth was refused.
+    /// Starts after the last event, for a core with this many frames; `Memory` if memory cannot be had.
     pub(crate) fn none(alloc: Global, frames: u32) -> Result<Behind, Memory>
         ensures { IfOk result (λ behind. IsBehind frames [] behind) }
     {
@@ -30,7 +30,7 @@ impl Behind {
         })
     }
 
-    /// Takes in one event more, the one before those. `Memory` where a growth was refused; then what is told is of no use.
+    /// Takes in one more event, the one before those. After `Memory`, if memory cannot be had, what is said is of no use.
     pub(crate) fn note(&mut self, alloc: Global, event: Event) -> Result<(), Memory>
         ensures { OnOk result (Notes event self.old self.new) }
     {
@@ -51,7 +51,7 @@ impl Behind {
         Ok(())
     }
 
-    /// The lives that are told, in the order in which they begin.
+    /// The lives that are found, in the order in which they begin.
     pub(crate) fn into_lives(self) -> Vec<Life>
         ensures { (frames : ℕ) (more : List AnEvent) → IsBehind frames more self → result.items ≡ lives more }
     {

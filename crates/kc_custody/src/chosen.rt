@@ -2,8 +2,8 @@
 ghost use Rattle.std.specs.Prelude.{◌≡◌};
 ghost use Rattle.kc_custody.specs.Chosen.{is_slot, is_frame_of, is_denied_at, is_access_of, is_chosen, chosen};
 
-use crate::selected::{is_owned_by, is_selected};
-use kc_remarks::{Access, Denied, NamedFrame, Note, Remarks};
+use crate::selected::is_selected;
+use kc_remarks::{Access, Denied, NamedFrame, Note, Remarks, is_owned_by};
 
 /// Whether it is this slot that is named.
 fn is_slot(slot: Option<u32>, vm: u32) -> bool
@@ -55,7 +55,7 @@ fn is_chosen(note: &Note, vm: Option<u32>, remarks: Remarks) -> bool
     }
 }
 
-/// Leaves the changes alone and what else is asked for, of one slot where one is given, in their order.
+/// Keeps only the changes and what else is asked for, of one slot if one is given, in their order.
 pub fn choose(notes: &mut Vec<Note>, vm: Option<u32>, remarks: Remarks)
     ensures { notes.new.items ≡ chosen vm remarks notes.old.items }
 {

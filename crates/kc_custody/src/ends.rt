@@ -21,7 +21,7 @@ impl Model for Ends {
 }
 
 impl Ends {
-    /// Of no events, for this many frames; `Memory` where a growth was refused.
+    /// Starts with no events, for this many frames; `Memory` if memory cannot be had.
     pub(crate) fn none(alloc: Global, frames: u32) -> Result<Ends, Memory>
         ensures { IfOk result (λ ends. AreEnds frames [] ends) }
     {

@@ -1,4 +1,4 @@
-//! What is told of a frame and of a slot now.
+//! What is reported of a frame and of a slot.
 ghost use Rattle.std.specs.Prelude.{◌≡◌};
 ghost use Rattle.kc_model.specs.State.{slot_at};
 ghost use Rattle.kc_model.specs.Custody.{custody_at, same_custody, same_flag, same_phase};
@@ -31,7 +31,7 @@ pub fn custody_at(core: &KCore, frame: u32) -> Custody
             present: record.present,
         },
         None => {
-            // What follows of a core's state being lawful, which this clause tells.
+            // What follows from a core's state being lawful, as this clause says.
             let _config = core.config();
             Custody {
                 owner: Owner::Core,

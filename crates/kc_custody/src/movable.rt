@@ -61,7 +61,7 @@ fn of_slot(alloc: Global, core: &KCore, config: &Config, vm: u32) -> Result<Vec<
     }
 }
 
-/// The frames whose custody a call may change; some may not exist, or stand twice.
+/// The frames whose custody a call may change; some may not exist, or be there twice.
 pub(crate) fn movable(alloc: Global, core: &KCore, call: &Call) -> Result<Vec<u32>, Memory>
     ensures frames { IfOk result (λ frames. frames.items ≡ movable core.now call.now) }
     ensures lawful { IsLawful core.now }

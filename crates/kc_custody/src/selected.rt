@@ -2,19 +2,10 @@
 ghost use Rattle.std.specs.Prelude.{◌≡◌, map};
 ghost use Rattle.kc_types.specs.declared.custody.Event.TheVariants as event;
 ghost use Rattle.kc_model.specs.Events.{changes_in};
-ghost use Rattle.kc_model.specs.Lives.{is_owned_by};
 ghost use Rattle.kc_custody.specs.Selected.{is_for, is_selected, selected};
 
-use kc_types::{Change, Event, Owner};
-
-pub(crate) fn is_owned_by(owner: Owner, vm: u32) -> bool
-    ensures { result ≡ is_owned_by vm owner }
-{
-    match owner {
-        Owner::Vm(owner) => owner.index() as u32 == vm,
-        Owner::Core | Owner::Host | Owner::Free => false,
-    }
-}
+use kc_remarks::is_owned_by;
+use kc_types::{Change, Event};
 
 /// Whether the change is of a slot, or of a frame that its VM owns before or after it.
 fn is_for(change: &Change, vm: u32) -> bool
@@ -28,7 +19,7 @@ fn is_for(change: &Change, vm: u32) -> bool
     }
 }
 
-/// Whether it is a change, of this slot where one is named.
+/// Whether it is a change, of this slot if one is named.
 pub(crate) fn is_selected(event: &Event, vm: Option<u32>) -> bool
     ensures { result ≡ is_selected vm event.now }
 {
@@ -41,7 +32,7 @@ pub(crate) fn is_selected(event: &Event, vm: Option<u32>) -> bool
     }
 }
 
-/// Leaves the changes alone, of one slot where one is named, in their order.
+/// Keeps only the changes, of one slot if one is named, in their order.
 pub fn select(events: &mut Vec<Event>, vm: Option<u32>)
     ensures { events.new.items ≡ map event.Change (selected vm (changes_in events.old.items)) }
 {

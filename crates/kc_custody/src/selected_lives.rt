@@ -4,7 +4,7 @@ ghost use Rattle.kc_model.specs.Lives.{selected_lives};
 
 use kc_types::Life;
 
-/// Leaves the lives of one slot alone, where one is named, in their order.
+/// Keeps only the lives of one slot, if one is named, in their order.
 pub fn select_lives(lives: &mut Vec<Life>, vm: Option<u32>)
     ensures { lives.new.items ≡ selected_lives vm lives.old.items }
 {

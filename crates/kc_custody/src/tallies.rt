@@ -1,4 +1,4 @@
-//! What events tell of all slots.
+//! What events say of all slots.
 ghost use Rattle.std.specs.Prelude.{◌≡◌, ◌<◌, ◌∷◌, List, OnOk, IfOk, []};
 ghost use Rattle.std.specs.Option.{option_to_list};
 ghost use Rattle.kc_types.specs.Limits.{slot_limit};
@@ -30,7 +30,7 @@ impl Model for Tallies {
 }
 
 impl Tallies {
-    /// Of no events; `Memory` where a growth was refused.
+    /// Starts with no events; `Memory` if memory cannot be had.
     pub(crate) fn none(alloc: Global) -> Result<Tallies, Memory>
         ensures { IfOk result (λ tallies. AreTallied [] tallies) }
     {
@@ -76,8 +76,8 @@ impl Tallies {
         Ok(())
     }
 
-    /// A frame changes, whose sharing the events behind end on this line: its owners before and after that take it in.
-    /// `Memory` where a growth was refused; then the tallies are of no use.
+    /// Takes in the change of a frame whose sharing the later events end on this line, for its owners before and after it.
+    /// After `Memory`, if memory cannot be had, the tallies are of no use.
     pub(crate) fn note_frame(&mut self, told: &FrameChange, to: Option<u32>) -> Result<(), Memory>
         ensures { OnOk result ((more : List AnEvent) → to ≡ end_of_sharing told.now.frame more → HasRoom more
             → AreTallied more self.old → AreTallied (event.Change (change.Frame told.now) ∷ more) self.new) }
@@ -89,7 +89,8 @@ impl Tallies {
         Ok(())
     }
 
-    /// A slot's phase changes: the life that begins with that, if one does. `Memory` where a growth was refused.
+    /// Takes in the change of a slot's phase; returns the life that begins with it, if one does. `Memory` if memory cannot
+    /// be had.
     pub(crate) fn note_phase(
         &mut self,
         alloc: Global,

@@ -1,15 +1,15 @@
-//! What events tell of one slot.
+//! What events say of one slot.
 ghost use Rattle.std.specs.Prelude.{◌≡◌, ◌+◌, ◌-◌, ◌∷◌, ◌^◌, ◌<◌, ◌==◌, ◌&&◌, nat_lt, Some, IfOk, OnOk};
-ghost use Rattle.kc_model.specs.Lives.{is_owned_by};
 ghost use Rattle.kc_custody.specs.Tally.{no_tally, told_life, owning, HasRoomFor, TalliesFrame};
 
 use crate::different::count_different;
-use kc_types::{FrameChange, Gfn, Life, MeasuredImages, Memory, Owner, Sharing, Sharings, VmId};
+use kc_remarks::is_owned_by;
+use kc_types::{FrameChange, Gfn, Life, MeasuredImages, Memory, Sharing, Sharings, VmId};
 use std::alloc::Global;
 use std::marker::Model;
 use std::mem;
 
-/// What events tell of a slot up to its life's end, gathered from the last of them to the first.
+/// What events say of a slot up to its life's end, gathered from the last of them to the first.
 #[derive(Drop)]
 pub(crate) struct Tally {
     active: Option<u32>,
@@ -48,7 +48,7 @@ impl Model for Tally {
 }
 
 impl Tally {
-    /// Of no events; `Memory` where a growth was refused.
+    /// Starts with no events; `Memory` if memory cannot be had.
     pub(crate) fn none(alloc: Global) -> Result<Tally, Memory>
         ensures { IfOk result (λ tally. tally ≡ no_tally) }
     {
@@ -80,8 +80,8 @@ impl Tally {
         self.writes = self.writes.saturating_add(1);
     }
 
-    /// A VM is registered on this line: its life is told, and the tally begins anew for what came before. `Memory` where a
-    /// growth was refused; then the tally is as it was.
+    /// Takes in that a VM is registered on this line: returns its life, and begins anew for what came before. After
+    /// `Memory`, if memory cannot be had, the tally is as it was.
     pub(crate) fn register(&mut self, alloc: Global, vm: u32, line: u32) -> Result<Life, Memory>
         ensures life { IfOk result (λ life. life ≡ told_life vm line self.old) }
         ensures anew { OnOk result (self.new ≡ no_tally) }
@@ -90,8 +90,8 @@ impl Tally {
         Ok(told.into_life(vm, line))
     }
 
-    /// The slot is emptied on this line: what is told behind that is of no life that began before it. `Memory` where a growth
-    /// was refused; then the tally is as it was.
+    /// Takes in that the slot is emptied on this line: what comes after it is of no life that began before it. After
+    /// `Memory`, if memory cannot be had, the tally is as it was.
     pub(crate) fn clear(&mut self, alloc: Global, line: u32) -> Result<(), Memory>
         ensures { OnOk result (self.new ≡ record no_tally { cleared = Some line }) }
     {
@@ -167,8 +167,8 @@ impl Tally {
         Ok(())
     }
 
-    /// A frame changes, whose sharing the events end on this line. `Memory` where a growth was refused; then the tally is of
-    /// no use.
+    /// Takes in the change of a frame whose sharing the events end on this line. After `Memory`, if memory cannot be had,
+    /// the tally is of no use.
     pub(crate) fn change_frame(
         &mut self,
         vm: VmId,
@@ -177,15 +177,16 @@ impl Tally {
     ) -> Result<(), Memory>
         ensures { OnOk result (TalliesFrame vm told.now to self.old self.new) }
     {
-        let has = is_owned_by(told.after.owner, vm);
-        self.own(is_owned_by(told.before.owner, vm), has, told.frame)?;
+        let slot = vm.index() as u32;
+        let has = is_owned_by(told.after.owner, slot);
+        self.own(is_owned_by(told.before.owner, slot), has, told.frame)?;
         if has && begins_sharing(told) {
             self.share(told.frame, told.after.gfn, told.line, to)?;
         }
         Ok(())
     }
 
-    /// The life that is told, of the VM that was registered on this line.
+    /// The life of the VM that was registered on this line.
     fn into_life(self, vm: u32, registered: u32) -> Life
         ensures { result ≡ told_life vm registered self }
     {
@@ -219,12 +220,6 @@ impl Tally {
             shared: Sharings::of(shared),
         }
     }
-}
-
-fn is_owned_by(owner: Owner, vm: VmId) -> bool
-    ensures { result ≡ is_owned_by vm owner }
-{
-    owner == Owner::Vm(vm)
 }
 
 /// Whether the frame is shared after the change, and was not before.

@@ -31,7 +31,7 @@ fn turning(call: &Call) -> Option<u32>
     }
 }
 
-/// What stands of some frames before a call, in their order: changes of nothing yet.
+/// The custody of some frames before a call, in their order: changes of nothing yet.
 pub(crate) fn marks_of(
     alloc: Global,
     core: &KCore,
@@ -54,7 +54,7 @@ pub(crate) fn marks_of(
     Ok(marks)
 }
 
-/// What stands of the slot whose phase a call may change, before it.
+/// The slot whose phase a call may change, before it.
 fn phase_mark(
     alloc: Global,
     core: &KCore,
@@ -86,7 +86,7 @@ fn accessed(core: &KCore, call: &Call) -> Option<u32>
     }
 }
 
-/// Tells of the host's read or write of this VM's frame, where it was served. There is room for it.
+/// Reports the host's read or write of this VM's frame, if it was served. There is room for it.
 fn tell_access(call: &Call, vm: Option<u32>, reply: &Reply, told: &mut Vec<Event>)
     requires { vec_len told.old + 1 ≤ vec_capacity told.old }
     ensures items { told.new.items ≡ told.old.items ++ access_told call.now vm reply.now }
@@ -161,7 +161,7 @@ fn make(
     }
 }
 
-/// Makes a call, and adds its events; the call has this line in its trace. `Memory` where a growth was refused, and then
+/// Makes a call, and adds its events; the call has this line in its trace. After `Memory`, if memory cannot be had,
 /// neither core nor events are other than before.
 pub fn tell_call(
     alloc: Global,
@@ -189,7 +189,7 @@ pub fn tell_call(
 }
 
 /// Makes some calls in order, of which the first has this line in the trace, adds their events, and counts those that are
-/// refused or rejected. After `Memory`, where a growth was refused, some calls are done.
+/// refused or rejected. After `Memory`, if memory cannot be had, some calls are done.
 pub fn tell_calls(
     alloc: Global,
     core: &mut KCore,

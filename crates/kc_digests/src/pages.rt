@@ -24,20 +24,6 @@ const PAGES_A_CHUNK: usize = 64;
 /// A page of zero bytes.
 const ZERO_PAGE: [u8; PAGE_SIZE as usize] = [0; PAGE_SIZE as usize];
 
-#[tactic(auto, unfolding(kc_model::specs::State::zero_page))]
-fn is_zero(bytes: &[u8]) -> bool
-    ensures { IsTrue result ↔ (bytes.now ≡ zero_page) }
-{
-    bytes == &ZERO_PAGE[..]
-}
-
-/// Whether all bytes of a page are zero; they are not read if that is known.
-fn is_zero_page(page: &PageBytes) -> bool
-    ensures { IsTrue result → page.now ≡ zero_page }
-{
-    page.is_known_zero() || is_zero(page.as_slice())
-}
-
 /// The digest of a page of zero bytes.
 #[tactic(auto, unfolding(kc_model::specs::State::zero_page))]
 pub fn zero_digest() -> [u8; 32]
@@ -77,7 +63,7 @@ fn are_zero<P: Bytes>(pages: &[P]) -> bool
     ensures { IsTrue result → map (digest_by P.bytes) pages.now ≡ replicate (length pages.now) (sha256 zero_page) }
 {
     'pages: for i in 0..pages.len() {
-        if !is_zero_page(pages[i].bytes()) {
+        if !pages[i].bytes().is_zero() {
             return false;
         }
     }

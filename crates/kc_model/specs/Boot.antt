@@ -1,15 +1,10 @@
 -- The state that the core starts in.
-use Rattle.std.specs.Prelude.{ℕ, ◌+◌, ◌-◌, List, map, nat_lt, replicate, if◌then◌else◌}
+use Rattle.std.specs.Prelude.{ℕ, ◌+◌, ◌-◌, List, map, replicate}
 use Rattle.std.specs.List.{range_with_len}
-use Rattle.kc_types.specs.Configuration.{Configuration, slot_count}
-use Rattle.kc_types.specs.declared.owner.Owner.{Owner}
-use Rattle.kc_types.specs.declared.owner.Owner.TheVariants.{Core, Host, Free}
+use Rattle.kc_types.specs.Configuration.{Configuration, slot_count, boot_owner}
 use Rattle.kc_model.specs.State.{Frame, State, Slot, untouched, empty_slot}
 
--- the first frames are the core's, the next the host's, and the rest are free
-abbrev pub boot_owner : Configuration → ℕ → Owner
-boot_owner c f = if nat_lt f c.core then Core else (if nat_lt f (c.core + c.host) then Host else Free)
-
+-- each frame is untouched, and its owner's by its number
 abbrev pub boot_frame : Configuration → ℕ → Frame
 boot_frame c f = untouched (boot_owner c f)
 

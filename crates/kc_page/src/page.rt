@@ -106,6 +106,13 @@ impl PageBytes {
         self.is_zero
     }
 
+    /// Whether all bytes are zero; they are not read if that is known.
+    pub fn is_zero(&self) -> bool
+        ensures { IsTrue result ↔ (self.now ≡ zero_page) }
+    {
+        self.is_known_zero() || are_zero(self.as_slice())
+    }
+
     /// Copies `len` bytes from `offset` on into a buffer made before, which takes no memory.
     pub fn read(&self, offset: usize, len: usize, buffer: ReplyBuffer) -> Data
         requires some { 0 < len }

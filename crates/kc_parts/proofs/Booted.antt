@@ -9,7 +9,7 @@ use Rattle.std.proofs.lemmas.List.FromFn.{length-map-range_with_len, get_or-map-
 use Rattle.std.proofs.lemmas.Option.{slice_get-get_or, same_Some}
 use Rattle.kc_types.specs.Limits.{frame_limit, slot_limit}
 use Rattle.kc_model.proofs.States.Configurations.{few-frames}
-use Rattle.kc_types.specs.Configuration.{Configuration, IsConfiguration, slot_count, slots_of}
+use Rattle.kc_types.specs.Configuration.{Configuration, IsConfiguration, slot_count, slots_of, boot_owner}
 use Rattle.kc_types.specs.declared.version.Version.{Version}
 use Rattle.kc_types.specs.declared.version.Version.TheVariants.{One, Two}
 use Rattle.kc_types.specs.declared.link.Ends.{Ends}
@@ -18,7 +18,7 @@ use Rattle.kc_types.specs.declared.owner.Owner.{Owner}
 use Rattle.kc_types.specs.declared.owner.Owner.TheVariants.{Core, Host, Free, Vm}
 use Rattle.kc_model.specs.Lawful.{times_in}
 use Rattle.kc_model.specs.State.{empty_slot}
-use Rattle.kc_model.specs.Boot.{boot, boot_owner, boot_frame, no_vms}
+use Rattle.kc_model.specs.Boot.{boot, boot_frame, no_vms}
 use Rattle.kc_model.proofs.Lawful.AtBoot.{times_in-range}
 use Rattle.kc_page.specs.declared.page.Page.{Page}
 use Rattle.kc_vms.specs.Vm.{VmSlot, empty_vm}

@@ -1,10 +1,9 @@
 -- The parts of the boot state.
 use Rattle.std.specs.Prelude.{ℕ, ◌≡◌, ◌<◌, ◌+◌, ◌-◌, nat_lt, false, true, cond, List, length, replicate, Option, Some, None, is_some}
 use Rattle.std.specs.List.{range_with_len}
-use Rattle.kc_types.specs.Configuration.{Configuration, slot_count}
+use Rattle.kc_types.specs.Configuration.{Configuration, slot_count, boot_owner}
 use Rattle.kc_types.specs.declared.link.Ends.{Ends}
 use Rattle.kc_model.specs.State.{zero_page}
-use Rattle.kc_model.specs.Boot.{boot_owner}
 use Rattle.kc_page.specs.declared.page.Page.{Page}
 use Rattle.kc_vms.specs.Vm.{VmSlot, empty_vm}
 use Rattle.kc_parts.specs.Parts.{Held, HeldSlots, page_at, vm_at}

@@ -2,29 +2,13 @@
 ghost use Rattle.std.specs.Prelude.{◌≡◌, ◌<◌, ◌+◌, map, replicate, Some, true, IfOk};
 ghost use Rattle.std.specs.List.{range_with_len};
 ghost use Rattle.kc_types.specs.Configuration.{IsConfiguration, slot_count};
-ghost use Rattle.kc_model.specs.Boot.{boot_owner};
 ghost use Rattle.kc_vms.specs.Vm.{empty_vm};
 ghost use Rattle.kc_parts.specs.Booting.{boot_prev, boot_next, boot_page, boot_ends};
 
 use kc_page::{Page, PageBytes, PageRecord};
-use kc_types::{Config, Ends, FrameNo, Memory, Owner};
+use kc_types::{Config, Ends, FrameNo, Memory};
 use kc_vms::Vm;
 use std::alloc::Global;
-
-/// The owner of a frame at boot.
-fn boot_owner(config: &Config, frame: u32) -> Owner
-    ensures { result ≡ boot_owner config.now frame }
-{
-    let core = config.core();
-    let host = config.host();
-    if frame < core {
-        Owner::Core
-    } else if frame < core + host {
-        Owner::Host
-    } else {
-        Owner::Free
-    }
-}
 
 /// The free frame before a frame, at boot.
 fn boot_prev(config: &Config, frame: u32) -> Option<FrameNo>
@@ -56,7 +40,7 @@ fn boot_page(alloc: Global, config: &Config, frame: u32) -> Result<Page, Memory>
     ensures { IfOk result (λ page. page ≡ boot_page config.now frame) }
 {
     let meta = PageRecord {
-        owner: boot_owner(config, frame),
+        owner: config.owner_at_boot(frame),
         share: 0,
         gfn: None,
         present: false,

@@ -1,28 +1,13 @@
 //! The bars of a trace: the stretches of lines after whose calls a frame has one custody.
 ghost use Rattle.std.specs.Prelude.{◌≡◌, ◌<◌, ◌++◌, All, IfOk, reverse};
-ghost use Rattle.kc_model.specs.Boot.{boot, boot_owner};
+ghost use Rattle.kc_model.specs.Boot.{boot};
 ghost use Rattle.kc_model.specs.Custody.{custody_at};
 ghost use Rattle.kc_model.specs.Events.{changes_in};
 ghost use Rattle.kc_model.specs.Bars.{bars, later_bars};
 ghost use Rattle.kc_picture.specs.Frames.{IsIn, AreNextLines, told_in};
 
-use kc_types::{Bar, Change, Config, Custody, Event, FrameChange, Memory, Owner};
+use kc_types::{Bar, Change, Config, Custody, Event, FrameChange, Memory};
 use std::alloc::Global;
-
-/// Who owns a frame at boot.
-fn boot_owner(config: &Config, frame: u32) -> Owner
-    ensures { result ≡ boot_owner config.now frame }
-{
-    let core = config.core();
-    let host = config.host();
-    if frame < core {
-        Owner::Core
-    } else if frame < core + host {
-        Owner::Host
-    } else {
-        Owner::Free
-    }
-}
 
 /// The bar of a frame from the first line up to this one.
 fn first_bar(config: &Config, frame: u32, to: u32) -> Bar
@@ -30,7 +15,7 @@ fn first_bar(config: &Config, frame: u32, to: u32) -> Bar
     ensures { result ≡ record { frame = frame; custody = custody_at (boot config.now) frame; from = 1; to = to } }
 {
     let custody = Custody {
-        owner: boot_owner(config, frame),
+        owner: config.owner_at_boot(frame),
         gfn: None,
         share: 0,
         present: false,

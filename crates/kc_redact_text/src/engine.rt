@@ -10,8 +10,12 @@ ghost use Rattle.kc_redact_text.specs.Redacts.{Redacts, BeginsRedaction, IsRedac
 use crate::calls::RedactedCall;
 use crate::reading::{HEADER, read_redacted};
 use kc_lines::push_bytes;
-use kc_texts::{Sink, Source, TextFault, empty_piece, give_lines};
+use kc_texts::{Sink, Source, TextFault, give_lines};
 use std::alloc::Global;
+
+/// How many bytes are written at once: no more than a processor's nearest cache holds, since most are zeros that were
+/// put there just before.
+const PIECE: usize = 32_768;
 
 /// Writes the header of a trace and its calls. All memory that this needs is taken before the first byte is written.
 pub(crate) fn give_redacted<K: Sink>(
@@ -25,7 +29,7 @@ pub(crate) fn give_redacted<K: Sink>(
     ensures sink { TellsSink (K.failed out.new) ((n : ℕ) × Appends (K.taken out.old) (K.taken out.new) (take n (head.now ++ lines_of calls.items))) (out.new ≡ out.old) result }
     ensures fault { IfErr result (λ fault. (fault ≡ TextFault.Memory) ⊎ (fault ≡ TextFault.Write)) }
 {
-    let Ok(mut piece) = empty_piece(alloc) else {
+    let Ok(mut piece) = Vec::with_capacity(alloc, PIECE) else {
         return Err(TextFault::Memory);
     };
     push_bytes(&mut piece, head);

@@ -42,7 +42,7 @@ of-write : (line : ℕ) (named : Option NamedFrame) (call : Call) → attempts_i
 of-write line named (HostWrite f off bytes) = of-access line _ off _ named
 of-write line named _ = refl
 
--- one note has the attempt that it tells of
+-- one note has its own attempt
 one : (told : Note) → attempts_in (told ∷ []) ≡ option_to_list (attempt_in told)
 one told = by_case (attempt_in told) refl
   where

@@ -30,7 +30,7 @@ abbrev pub attempt_told : ℕ → Option NamedFrame → Reply → Option Attempt
 attempt_told line named (reply.Refused reason) = attempt_on line named reason
 attempt_told line named _ = None
 
--- the attempt that a note tells of
+-- the attempt of a note
 abbrev pub attempt_for : ℕ → Option NamedFrame → Denial → Option Attempt
 attempt_for line named (denial.Refused reason) = attempt_on line named reason
 attempt_for line named (denial.Rejected image) = None

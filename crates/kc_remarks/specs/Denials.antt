@@ -1,4 +1,4 @@
--- Which notes tell of a denied call, which replies deny one, and what is counted of them.
+-- Which notes are of a denied call, which replies deny one, and what is counted of them.
 use Rattle.std.specs.Prelude.{◌≡◌, ◌+◌, ◌*◌, ◌==◌, ℕ, Bool, true, false, nat_lt, List, filter, length, slice_index_or}
 use Rattle.kc_types.specs.Refusals.{number_of}
 use Rattle.kc_types.specs.declared.refusal.Refusal.TheVariants.{BadVm, BadFrame}

@@ -61,7 +61,7 @@ number_named m (RevokeRange v c g n) = mapped_at m v g
 number_named m (Drop v c g) = mapped_at m v g
 number_named m _ = None
 
--- the frame of this number, where it exists: who owns it, and where its VM sees it
+-- the frame of this number, if it exists: who owns it, and where its VM sees it
 abbrev pub frame_named : State → Option ℕ → Option NamedFrame
 frame_named m None = None
 frame_named m (Some f) = if nat_lt f m.config.frames then Some (record { frame = f; owner = (frame_at m f).owner; gfn = (frame_at m f).gfn }) else None
@@ -69,7 +69,7 @@ frame_named m (Some f) = if nat_lt f m.config.frames then Some (record { frame =
 abbrev pub named_by : State → Call → Option NamedFrame
 named_by m call = frame_named m (number_named m call)
 
--- an access to a frame, where a VM owns it
+-- an access to a frame, if a VM owns it
 abbrev pub access_at : ℕ → CallKind → ℕ → ℕ → NamedFrame → Option ℕ → Option Note
 access_at line call off len named None = None
 access_at line call off len named (Some v) = Some (note.Access (record { line = line; call = call; frame = named.frame; vm = v; gfn = named.gfn; offset = off; len = len }))

@@ -9,10 +9,12 @@
 mod attempt;
 mod denials;
 pub mod laws;
+mod owner;
 mod remark;
 mod telling;
 
 pub use attempt::{Attempt, attempt_told, attempts_in_life, count_attempts, refusals};
 pub use denials::{Answered, Denials};
+pub use owner::is_owned_by;
 pub use remark::{Access, CallKind, Denial, Denied, NamedFrame, Note, Remarks};
 pub use telling::{note_events, remark_told};

@@ -34,7 +34,7 @@ fn kind_of(call: &Call) -> CallKind
     }
 }
 
-/// An access to a frame, where a VM owns it.
+/// An access to a frame, if a VM owns it.
 fn access_at(
     line: u32,
     call: CallKind,
@@ -126,7 +126,7 @@ pub fn remark_told(line: u32, named: Option<NamedFrame>, call: &Call, reply: &Re
     }))
 }
 
-/// Appends some events to notes. After `Memory`, where a growth was refused, the notes may be others.
+/// Appends some events to notes. After `Memory`, if memory cannot be had, the notes may be others.
 pub fn note_events(alloc: Global, events: Vec<Event>, notes: &mut Vec<Note>) -> Result<(), Memory>
     ensures { OnOk result (notes.new.items ≡ notes.old.items ++ map note.Event events.items) }
 {

@@ -4,7 +4,7 @@ use Rattle.kc_texts.specs.declared.fault.TextFault.{TextFault}
 use Rattle.kc_texts.specs.declared.fault.TextFault.TheVariants as texts
 use Rattle.kc_run.specs.declared.beginning.Beginning.{Beginning}
 use Rattle.kc_run.specs.declared.beginning.Beginning.TheVariants as beginnings
-use Rattle.kc_run.specs.Plans.{Path}
+use Rattle.kc_args.specs.Jobs.{Path}
 
 -- the bytes of the file at each path, where the files tell them
 abbrev pub Held : Type 0

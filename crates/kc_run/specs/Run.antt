@@ -23,17 +23,15 @@ use Rattle.kc_cli.specs.Engine.{IsReplayText, IsLeftText}
 use Rattle.kc_cli.specs.Custody.{IsCustodyText, TellsCustody, origin_of}
 use Rattle.kc_cli.specs.Answers.{AreAnswered}
 use Rattle.kc_cli.specs.Live.{IsLiveText, CouldRun, HasBadActor}
-use Rattle.kc_run.specs.declared.plan.Start.{Start}
-use Rattle.kc_run.specs.declared.plan.Start.TheVariants as starts
-use Rattle.kc_run.specs.declared.plan.Plan.{Plan}
-use Rattle.kc_run.specs.declared.plan.Plan.TheVariants as plans
-use Rattle.kc_run.specs.declared.clash.Clash.{Clash}
+use Rattle.kc_args.specs.declared.job.Start.{Start}
+use Rattle.kc_args.specs.declared.job.Start.TheVariants as starts
+use Rattle.kc_args.specs.declared.job.Action.{Action}
+use Rattle.kc_args.specs.declared.job.Action.TheVariants as actions
+use Rattle.kc_args.specs.Jobs.{Path, path_of, origin_at, form_of, start_in}
 use Rattle.kc_run.specs.declared.ending.Ending.{Ending}
 use Rattle.kc_run.specs.declared.ending.Ending.TheVariants as endings
-use Rattle.kc_run.specs.Clashes.{clash_text}
-use Rattle.kc_run.specs.Plans.{Path, plan_of, path_of, origin_at, form_of, start_in, input_of}
 use Rattle.kc_run.specs.Opening.{Held, text_at, IsOpenFault}
-use Rattle.kc_run.specs.Endings.{Ended, Took, Takes, status_after, fault_in, answered_in, IsReported}
+use Rattle.kc_run.specs.Endings.{Ended, Took, status_after, fault_in, answered_in, IsReported}
 
 -- what a run finds and leaves: what the files hold, the path that could not be opened, if one could not; standard input, and that nothing was read of it; the sink, and that it is as it was
 pub record Ends : Type 1 where
@@ -150,51 +148,33 @@ pub record RedactsHost (origin : Origin) (start : Seen) (ends : Ends) (ended : E
 abbrev pub BeginsAt : Start → (Seen → Ends → Ended → Type 0) → Ends → Ended → Type 0
 BeginsAt start Runs ends ended = IsUnopened (path_of start) ends ended ⊎ ((source : Seen) × (source.had ≡ text_at ends.held (path_of start)) × Runs source ends ended)
 
--- how what is planned ended
-abbrev pub IsEnding : Plan → Ends → Ended → Type 0
-IsEnding (plans.Replay start to form blank workers) ends ended = BeginsAt start (ReplaysTo (origin_at start) form blank workers to) ends ended
-IsEnding (plans.Live config workers) ends ended = BeginsAt (starts.Boot config) (RunsLive workers) ends ended
-IsEnding (plans.Custody account scope) ends ended = BeginsAt (start_in account) (ReportsCustody (form_of account) scope) ends ended
-IsEnding (plans.Audit all) ends ended = AuditsDump all ends ended
-IsEnding plans.Redact ends ended = RedactsTrace ends ended
-IsEnding (plans.RedactHost start) ends ended = BeginsAt start (RedactsHost (origin_at start)) ends ended
+-- how an action ended
+abbrev pub IsEnding : Action → Ends → Ended → Type 0
+IsEnding (actions.Replay start to form blank workers) ends ended = BeginsAt start (ReplaysTo (origin_at start) form blank workers to) ends ended
+IsEnding (actions.Live config workers) ends ended = BeginsAt (starts.Boot config) (RunsLive workers) ends ended
+IsEnding (actions.Custody account scope) ends ended = BeginsAt (start_in account) (ReportsCustody (form_of account) scope) ends ended
+IsEnding (actions.Audit all) ends ended = AuditsDump all ends ended
+IsEnding actions.Redact ends ended = RedactsTrace ends ended
+IsEnding (actions.RedactHost start) ends ended = BeginsAt start (RedactsHost (origin_at start)) ends ended
 
--- how what is planned ended over the file that is named, by all the bytes that it held; `left` and `failed` say of a file what is left of it, and whether a read of it failed. Nothing was read of standard input
-pub record ReadsFile {S : Type 0} (left : S → Option (List ℕ)) (failed : S → Bool) (path : Path) (plan : Plan) (ends : Ends) (ended : Ended) : Type 0 where
+-- how an action ended over the file that is named, by all the bytes that it held; `left` and `failed` say of a file what is left of it, and whether a read of it failed. Nothing was read of standard input
+pub record ReadsFile {S : Type 0} (left : S → Option (List ℕ)) (failed : S → Bool) (path : Path) (action : Action) (ends : Ends) (ended : Ended) : Type 0 where
   pub old : S
   pub new : S
   pub bytes : left old ≡ ends.held path.now
   pub unread : ends.unread
-  pub ending : IsEnding plan (ends_of ends.held ends.refused (seen (failed new) (left old) (left new)) (new ≡ old) ends.out ends.untouched) ended
+  pub ending : IsEnding action (ends_of ends.held ends.refused (seen (failed new) (left old) (left new)) (new ≡ old) ends.out ends.untouched) ended
 
 -- how it ended over the file that is named, or over standard input if none is
-abbrev pub IsEndingOf : {S : Type 0} → (S → Option (List ℕ)) → (S → Bool) → Option Path → Plan → Ends → Ended → Type 0
-IsEndingOf left failed None plan ends ended = IsEnding plan ends ended
-IsEndingOf left failed (Some path) plan ends ended = IsUnopened (Some path) ends ended ⊎ ReadsFile left failed path plan ends ended
+abbrev pub IsEndingOf : {S : Type 0} → (S → Option (List ℕ)) → (S → Bool) → Option Path → Action → Ends → Ended → Type 0
+IsEndingOf left failed None action ends ended = IsEnding action ends ended
+IsEndingOf left failed (Some path) action ends ended = IsUnopened (Some path) ends ended ⊎ ReadsFile left failed path action ends ended
 
--- a plan was run; the exit status and the error sink say how that ended
-pub record IsPlanRun {S : Type 0} (left : S → Option (List ℕ)) (failed : S → Bool) (path : Option Path) (plan : Plan) (ends : Ends) (err : Took) (silent : Type 0) (status : ℕ) (fault : Option TextFault) (answered : Option Answered) : Type 0 where
+-- what a run of a job leaves, and the exit status, the fault and the counts that it answers: the exit status and the error sink say how the job ended
+pub record IsRun {S : Type 0} (left : S → Option (List ℕ)) (failed : S → Bool) (job : Job) (ends : Ends) (err : Took) (silent : Type 0) (status : ℕ) (fault : Option TextFault) (answered : Option Answered) : Type 0 where
   pub ended : Ended
-  pub ending : IsEndingOf left failed path plan ends ended
+  pub ending : IsEndingOf left failed job.input job.action ends ended
   pub status_is : status ≡ status_after ended
   pub fault_is : fault ≡ fault_in ended
   pub answered_is : answered ≡ answered_in ended
   pub reported : IsReported ended err silent
-
--- options that contradict each other are refused before anything is opened, read or written
-pub record IsRefusedRun (clash : Clash) (ends : Ends) (err : Took) (status : ℕ) (fault : Option TextFault) (answered : Option Answered) : Type 0 where
-  pub opened : ends.refused ≡ None
-  pub unread : ends.unread
-  pub untouched : ends.untouched
-  pub status_is : status ≡ 2
-  pub fault_is : fault ≡ None
-  pub answered_is : answered ≡ None
-  pub reported : Takes err (clash_text clash)
-
-abbrev pub IsRunOf : {S : Type 0} → (S → Option (List ℕ)) → (S → Bool) → Option Path → Result Plan Clash → Ends → Took → Type 0 → ℕ → Option TextFault → Option Answered → Type 0
-IsRunOf left failed path (Ok plan) ends err silent status fault answered = IsPlanRun left failed path plan ends err silent status fault answered
-IsRunOf left failed path (Err clash) ends err silent status fault answered = IsRefusedRun clash ends err status fault answered
-
--- what a run of a job leaves, and the exit status, the fault and the counts that it answers
-abbrev pub IsRun : {S : Type 0} → (S → Option (List ℕ)) → (S → Bool) → Job → Ends → Took → Type 0 → ℕ → Option TextFault → Option Answered → Type 0
-IsRun left failed job ends err silent status fault answered = IsRunOf left failed (input_of job) (plan_of job) ends err silent status fault answered

@@ -1,10 +1,10 @@
 //! What calls begin with, as a source.
 ghost use Rattle.std.specs.Prelude.{◌≡◌, false, Some, None, IfOk, IfErr, OnOk};
-ghost use Rattle.kc_run.specs.Plans.{path_of};
+ghost use Rattle.kc_args.specs.Jobs.{path_of};
 ghost use Rattle.kc_run.specs.Opening.{left_of, failed_of, text_at, IsOpenFault, default_config};
 
 use crate::files::{Files, Unopened};
-use crate::plan::Start;
+use kc_args::Start;
 use kc_cli::{DEFAULT_CONFIG, Failed, Mem, Source, TextFault};
 use std::alloc::Global;
 

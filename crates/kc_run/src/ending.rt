@@ -2,10 +2,10 @@
 ghost use Rattle.std.specs.Prelude.{◌≡◌, ℕ, take, false, true, None};
 ghost use Rattle.std.specs.Io.KnownBytes.{Appends};
 ghost use Rattle.kc_remarks.specs.Denials.{is_mostly_outside};
-ghost use Rattle.kc_run.specs.Clashes.{clash_text};
+ghost use Rattle.kc_args.specs.Clashes.{clash_text};
 ghost use Rattle.kc_run.specs.Endings.{Takes, took, status_after, fault_in, answered_in, IsWarned, IsReported};
 
-use crate::clash::Clash;
+use kc_args::Clash;
 use kc_cli::{Answered, Sink, TextFault, tell, write_whole};
 
 /// How a job ends that meets no fault.
@@ -103,8 +103,9 @@ pub(crate) fn end<L: Sink>(ended: Result<Ending, TextFault>, err: &mut L) -> Exi
     }
 }
 
-/// Reports options that contradict each other.
-pub(crate) fn refuse<L: Sink>(clash: Clash, err: &mut L) -> Exit
+/// Reports options that contradict each other, in the form in which a wrong command line is reported. The exit status is 2,
+/// even if the sink fails.
+pub fn refuse<L: Sink>(clash: Clash, err: &mut L) -> Exit
     requires { L.failed err.old ≡ false }
     ensures status { result.status ≡ 2 }
     ensures fault { result.fault ≡ None }

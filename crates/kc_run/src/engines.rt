@@ -1,7 +1,7 @@
 //! The engines, over the files that a job names, an input and a sink.
 ghost use Rattle.std.specs.Prelude.{◌≡◌, false, None};
 ghost use Rattle.kc_texts.specs.Outcomes.{seen};
-ghost use Rattle.kc_run.specs.Plans.{origin_at, form_of, start_in};
+ghost use Rattle.kc_args.specs.Jobs.{origin_at, form_of, start_in};
 ghost use Rattle.kc_run.specs.Opening.{Held};
 ghost use Rattle.kc_run.specs.Endings.{took, done_as, answered_as, ending_of, judged_as};
 ghost use Rattle.kc_run.specs.Run.{ends_of, BeginsAt, ReplaysTo, ReportsCustody, RunsLive, AuditsDump, RedactsTrace, RedactsHost};
@@ -9,7 +9,7 @@ ghost use Rattle.kc_run.specs.Run.{ends_of, BeginsAt, ReplaysTo, ReportsCustody,
 use crate::beginning::{begin, close, open};
 use crate::ending::Ending;
 use crate::files::Files;
-use crate::plan::{Account, Start};
+use kc_args::{Account, Start};
 use kc_cli::{
     Answered, CustodyOrder, Lanes, ReplayOrder, Scope, Sink, Source, TextFault, audit_text,
     custody_text, live_text, replay_text, replay_to_text,

@@ -5,29 +5,29 @@ ghost use Rattle.kc_run.specs.Endings.{took};
 ghost use Rattle.kc_run.specs.Run.{ends_of, IsEnding, IsEndingOf, IsRun};
 
 use crate::beginning::open;
-use crate::ending::{Ending, Exit, end, refuse};
+use crate::ending::{Ending, Exit, end};
 use crate::engines::{System, audit, custody, live, redact, redact_host, replay};
 use crate::files::Files;
-use crate::plan::{Plan, input_of, plan_of};
-use kc_cli::{Job, ReplayOrder, Sink, Source, TextFault};
+use kc_args::{Action, Job};
+use kc_cli::{ReplayOrder, Sink, Source, TextFault};
 use std::sync::Wait;
 use std::thread::Threads;
 
-/// Runs the engine of a plan.
-fn run_plan<F: Files, T: Source, K: Sink, R: Threads + Wait + Sync>(
+/// Runs the engine of an action.
+fn run_action<F: Files, T: Source, K: Sink, R: Threads + Wait + Sync>(
     system: &System<'_, R>,
     files: &mut F,
-    plan: Plan<'_>,
+    action: Action<'_>,
     input: &mut T,
     out: &mut K,
 ) -> Result<Ending, TextFault>
     requires files { F.refused files.old ≡ None }
     requires input { T.failed input.old ≡ false }
     requires out { K.failed out.old ≡ false }
-    ensures { IsEnding plan.entry (ends_of (F.held files.old) (F.refused files.new) (seen (T.failed input.new) (T.left input.old) (T.left input.new)) (input.new ≡ input.old) (took (K.failed out.new) (K.taken out.old) (K.taken out.new)) (out.new ≡ out.old)) result }
+    ensures { IsEnding action.entry (ends_of (F.held files.old) (F.refused files.new) (seen (T.failed input.new) (T.left input.old) (T.left input.new)) (input.new ≡ input.old) (took (K.failed out.new) (K.taken out.old) (K.taken out.new)) (out.new ≡ out.old)) result }
 {
-    match plan {
-        Plan::Replay {
+    match action {
+        Action::Replay {
             start,
             to,
             form,
@@ -43,40 +43,40 @@ fn run_plan<F: Files, T: Source, K: Sink, R: Threads + Wait + Sync>(
             };
             replay(system, files, start, to, input, out, order)
         },
-        Plan::Live { config, workers } => live(system, files, config, workers, input, out),
-        Plan::Custody { account, scope } => custody(system, files, account, scope, input, out),
-        Plan::Audit { all } => audit(system, all, input, out),
-        Plan::Redact => redact(system.alloc, input, out),
-        Plan::RedactHost { start } => redact_host(system, files, start, input, out),
+        Action::Live { config, workers } => live(system, files, config, workers, input, out),
+        Action::Custody { account, scope } => custody(system, files, account, scope, input, out),
+        Action::Audit { all } => audit(system, all, input, out),
+        Action::Redact => redact(system.alloc, input, out),
+        Action::RedactHost { start } => redact_host(system, files, start, input, out),
     }
 }
 
-/// Runs the engine of a plan over the file that is named, or over standard input if none is.
+/// Runs the engine of an action over the file that is named, or over standard input if none is.
 fn run_over<F: Files, T: Source, K: Sink, R: Threads + Wait + Sync>(
     system: &System<'_, R>,
     files: &mut F,
     path: Option<&str>,
-    plan: Plan<'_>,
+    action: Action<'_>,
     input: &mut T,
     out: &mut K,
 ) -> Result<Ending, TextFault>
     requires files { F.refused files.old ≡ None }
     requires input { T.failed input.old ≡ false }
     requires out { K.failed out.old ≡ false }
-    ensures { IsEndingOf F.File.left F.File.failed path.entry plan.entry (ends_of (F.held files.old) (F.refused files.new) (seen (T.failed input.new) (T.left input.old) (T.left input.new)) (input.new ≡ input.old) (took (K.failed out.new) (K.taken out.old) (K.taken out.new)) (out.new ≡ out.old)) result }
+    ensures { IsEndingOf F.File.left F.File.failed path.entry action.entry (ends_of (F.held files.old) (F.refused files.new) (seen (T.failed input.new) (T.left input.old) (T.left input.new)) (input.new ≡ input.old) (took (K.failed out.new) (K.taken out.old) (K.taken out.new)) (out.new ≡ out.old)) result }
 {
     let Some(path) = path else {
-        return run_plan(system, files, plan, input, out);
+        return run_action(system, files, action, input, out);
     };
     let mut file = open(files, path)?;
-    let ended = run_plan(system, files, plan, &mut file, out);
+    let ended = run_action(system, files, action, &mut file, out);
     files.close(file);
     ended
 }
 
 /// Does what a job asks for: opens the files that it names, reads its input, which is one of these or standard input, writes onto
-/// the sink what is asked for, and onto the error sink the line of a fault, of another state, of a trace that may be of another
-/// machine, or of options that contradict each other. Each file that was opened is given back.
+/// the sink what is asked for, and onto the error sink the line of a fault, of another state, or of a trace that may be of
+/// another machine. Each file that was opened is given back.
 pub fn run_job<F: Files, T: Source, K: Sink, L: Sink, R: Threads + Wait + Sync>(
     system: &System<'_, R>,
     files: &mut F,
@@ -91,11 +91,6 @@ pub fn run_job<F: Files, T: Source, K: Sink, L: Sink, R: Threads + Wait + Sync>(
     requires err { L.failed err.old ≡ false }
     ensures { IsRun F.File.left F.File.failed job.entry (ends_of (F.held files.old) (F.refused files.new) (seen (T.failed input.new) (T.left input.old) (T.left input.new)) (input.new ≡ input.old) (took (K.failed out.new) (K.taken out.old) (K.taken out.new)) (out.new ≡ out.old)) (took (L.failed err.new) (L.taken err.old) (L.taken err.new)) (err.new ≡ err.old) result.status result.fault result.answered }
 {
-    match plan_of(job) {
-        Ok(plan) => {
-            let ended = run_over(system, files, input_of(job), plan, input, out);
-            end(ended, err)
-        },
-        Err(clash) => refuse(clash, err),
-    }
+    let ended = run_over(system, files, job.input, job.action, input, out);
+    end(ended, err)
 }

@@ -1,24 +1,13 @@
 //! Whether a lawful state may have a frame.
 ghost use Rattle.std.specs.Prelude.{◌≡◌, ◌<◌, ◌↔◌, ℕ, length, map, slice_index_or, IsTrue, IfSome, None};
 ghost use Rattle.sha2.specs.Sha256.{sha256};
-ghost use Rattle.kc_model.specs.State.{zero_page};
 ghost use Rattle.kc_model.specs.Lawful.{IsPage};
 ghost use Rattle.kc_dump.specs.Dump.{empty_dump, line_at};
 ghost use Rattle.kc_state.specs.Unlawful.{IsFrameOf, AreFramesOf, page_of};
 
 use kc_dump::{Dump, FrameLine, SlotDump};
 use kc_page::PageBytes;
-use kc_types::{Owner, PAGE_SIZE, Phase};
-
-/// A page of zero bytes.
-const ZERO_PAGE: [u8; PAGE_SIZE as usize] = [0; PAGE_SIZE as usize];
-
-#[tactic(auto, unfolding(kc_model::specs::State::zero_page))]
-fn is_zero(page: &[u8]) -> bool
-    ensures { IsTrue result ↔ (page.now ≡ zero_page) }
-{
-    page == &ZERO_PAGE[..]
-}
+use kc_types::{Owner, Phase};
 
 /// Shows that a page has 4,096 bytes, each of which is one.
 fn check_page(bytes: &PageBytes)
@@ -50,7 +39,7 @@ fn is_frame_of(dump: &Dump, line: &FrameLine, bytes: &PageBytes, digest: &[u8; 3
         return false;
     }
     match line.owner {
-        Owner::Free => is_zero(bytes.as_slice()),
+        Owner::Free => bytes.is_zero(),
         Owner::Vm(vm) => line.share == 0 || is_active(dump.slots(), vm.index()),
         Owner::Core | Owner::Host => true,
     }

@@ -1,8 +1,10 @@
 -- What the core is started with.
-use Rattle.std.specs.Prelude.{ℕ, ◌+◌, ◌≤◌, ◌<◌, List, length}
+use Rattle.std.specs.Prelude.{ℕ, ◌+◌, ◌≤◌, ◌<◌, nat_lt, List, length, if◌then◌else◌}
 use Rattle.kc_types.specs.Limits.{frame_limit, first_frame_limit, slot_limit, first_slot_limit, leaf_limit, digest_limit}
 use Rattle.kc_types.specs.declared.version.Version.{Version}
 use Rattle.kc_types.specs.declared.version.Version.TheVariants.{One, Two}
+use Rattle.kc_types.specs.declared.owner.Owner.{Owner}
+use Rattle.kc_types.specs.declared.owner.Owner.TheVariants.{Core, Host, Free}
 
 -- the most frames of a configuration
 abbrev pub most_frames : Version → ℕ
@@ -27,6 +29,10 @@ pub record Configuration : Type 0 where
 -- the number of VM slots
 unfoldable pub slot_count : Configuration → ℕ
 slot_count c = slots_of c.version
+
+-- who owns a frame at boot: the first frames are the core's, the next the host's, and the rest are free
+abbrev pub boot_owner : Configuration → ℕ → Owner
+boot_owner c f = if nat_lt f c.core then Core else (if nat_lt f (c.core + c.host) then Host else Free)
 
 -- every configuration keeps these limits
 pub record IsConfiguration (c : Configuration) : Type 0 where

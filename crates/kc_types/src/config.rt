@@ -1,10 +1,10 @@
 //! What the core is started with.
 ghost use Rattle.std.specs.Prelude.{◌≡◌, ◌<◌, ◌≤◌, ◌↔◌, IsSome, IfSome, IfOk};
 ghost use Rattle.kc_types.specs.Limits.{frame_limit, slot_limit, leaf_limit};
-ghost use Rattle.kc_types.specs.Configuration.{IsConfiguration, slot_count};
+ghost use Rattle.kc_types.specs.Configuration.{IsConfiguration, boot_owner, slot_count};
 ghost use Rattle.kc_types.specs.ConfigFaults.{Configures};
 
-use crate::{DIGEST_LIMIT, FrameNo, LEAF_LIMIT, Memory, Version, VmId};
+use crate::{DIGEST_LIMIT, FrameNo, LEAF_LIMIT, Memory, Owner, Version, VmId};
 use std::marker::Model;
 use thiserror::Error;
 
@@ -175,6 +175,19 @@ impl Config {
         ensures few { result ≤ slot_limit }
     {
         self.version.slots()
+    }
+
+    /// Who owns a frame at boot; a frame that does not exist is free.
+    pub fn owner_at_boot(&self, frame: u32) -> Owner
+        ensures { result ≡ boot_owner self.now frame }
+    {
+        if frame < self.core {
+            Owner::Core
+        } else if frame < self.core + self.host {
+            Owner::Host
+        } else {
+            Owner::Free
+        }
     }
 
     /// The frame of this number; `None` if there is none.

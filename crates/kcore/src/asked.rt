@@ -1,5 +1,5 @@
 //! What a job asks for, as far as its files and their faults are concerned.
-use kc_cli::Job;
+use kc_args::{Action, Job, Start};
 
 /// What a text is to the job.
 #[derive(Clone, Copy, Debug, PartialEq, Eq)]
@@ -50,65 +50,40 @@ pub struct Asked<'a> {
     /// What the input is.
     pub kind: Kind,
     input: Option<&'a str>,
-    config: Option<&'a str>,
-    from: Option<&'a str>,
+    start: Start<'a>,
     pub explain: bool,
 }
 
 impl<'a> Asked<'a> {
     /// What this job asks for.
     pub fn of(job: &Job<'a>) -> Asked<'a> {
-        let (kind, input, config, from, explain) = match *job {
-            Job::Replay {
-                input,
-                config,
-                from,
-                explain,
-                ..
-            } => (Kind::Trace, input, config, from, explain),
-            Job::Live {
-                input,
-                config,
-                explain,
-                ..
-            } => (Kind::Trace, input, config, None, explain),
-            Job::Custody {
-                input,
-                config,
-                from,
-                explain,
-                ..
-            } => (Kind::Trace, input, config, from, explain),
-            Job::Audit { input, explain, .. } => (Kind::Dump, input, None, None, explain),
-            Job::Redact {
-                input,
-                config,
-                from,
-                explain,
-                ..
-            } => (Kind::Trace, input, config, from, explain),
+        let (kind, start) = match job.action {
+            Action::Replay { start, .. } | Action::RedactHost { start } => (Kind::Trace, start),
+            Action::Live { config, .. } => (Kind::Trace, Start::Boot(config)),
+            Action::Custody { account, .. } => (Kind::Trace, account.start()),
+            Action::Redact => (Kind::Trace, Start::Boot(None)),
+            Action::Audit { .. } => (Kind::Dump, Start::Boot(None)),
         };
         Asked {
             kind,
-            input,
-            config,
-            from,
-            explain,
+            input: job.input,
+            start,
+            explain: job.explain,
         }
     }
 
     /// Whether calls begin in the boot state of the default configuration.
     pub fn is_default(&self) -> bool {
-        self.config.is_none() && self.from.is_none()
+        self.start == Start::Boot(None)
     }
 
     /// What the file at a path is to the job.
     pub fn kind_of(&self, path: &str) -> Kind {
-        if self.config == Some(path) {
+        if self.start == Start::Boot(Some(path)) {
             Kind::Config
         } else if self.input == Some(path) {
             self.kind
-        } else if self.from == Some(path) {
+        } else if self.start == Start::State(path) {
             Kind::State
         } else {
             Kind::Compared

@@ -12,7 +12,8 @@ use crate::asked::Asked;
 use crate::denials::{explain_default, explain_denials};
 use crate::explaining::{Reading, explain_arguments, explain_open};
 use crate::folder::{Folder, Named};
-use kc_cli::{Answered, ArgFault, Job, Lanes, Std, TextFault, job_of, tell};
+use kc_args::{ArgFault, Job, job_of};
+use kc_cli::{Answered, Lanes, Std, TextFault, tell};
 use kc_explain::{Erasing, Progress};
 use kc_run::{Exit, System, run_job};
 use std::env;
@@ -87,10 +88,11 @@ fn run_with<'a, R: Threads + Wait + Sync>(
     exit.status
 }
 
-/// Prints what comes in place of a job, and returns the exit status.
+/// Reports a command line that asks for no job, and returns the exit status.
 fn refuse(rt: &HostRuntime, arguments: &[&str], fault: ArgFault) -> u8 {
     match fault {
         ArgFault::Memory => fail(rt, TextFault::Memory),
+        ArgFault::Clash(clash) => kc_run::refuse(clash, &mut Std::new(rt.stderr())).status,
         ArgFault::Message(text, 0) => {
             if rt.print(text).is_err() {
                 return fail(rt, TextFault::Write);

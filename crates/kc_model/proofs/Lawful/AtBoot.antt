@@ -7,10 +7,10 @@ use Rattle.std.proofs.lemmas.Bool.{cases_lt}
 use Rattle.std.specs.List.{range_with_len}
 use Rattle.std.specs.Ordering.{nat_cmp}
 use Rattle.std.specs.FinMap.{get-empty}
-use Rattle.kc_types.specs.Configuration.{Configuration, IsConfiguration, slot_count}
+use Rattle.kc_types.specs.Configuration.{Configuration, IsConfiguration, slot_count, boot_owner}
 use Rattle.kc_types.specs.declared.owner.Owner.TheVariants.{Core, Free, Vm}
 use Rattle.kc_model.specs.State.{Frame, frame_at, slot_at, untouched, empty_slot}
-use Rattle.kc_model.specs.Boot.{boot, boot_owner, boot_frame, no_vms}
+use Rattle.kc_model.specs.Boot.{boot, boot_frame, no_vms}
 use Rattle.kc_model.specs.Lawful.{IsLawful, IsLawfulFrame, ListsOnce, same_owner, times_in}
 use Rattle.kc_model.proofs.States.ZeroPage.{zero_page-is}
 use Rattle.kc_model.proofs.States.Slots.{lawful-empty_slot, get_or-same}

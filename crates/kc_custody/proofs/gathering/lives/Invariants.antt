@@ -3,7 +3,7 @@ use Rattle.kc_types.specs.declared.custody.Event.{Event}
 use Rattle.kc_custody.specs.Behind.{IsBehind}
 use Rattle.kc_custody.proofs.gathering.lives.Given as goal
 
--- the events that were taken, and what they tell
+-- the events that were taken, and what they say
 abbrev pub invariant-loop-event : goal.invariant-loop-event
 invariant-loop-event l = record {
   more : List Event;

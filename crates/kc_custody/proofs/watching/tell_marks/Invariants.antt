@@ -3,7 +3,7 @@ use Rattle.std.specs.Vec.{vec_capacity}
 use Rattle.kc_custody.specs.Marks.{changed_from}
 use Rattle.kc_custody.proofs.watching.tell_marks.Given as goal
 
--- the marks so far that differ are told, and the room for those to come is kept
+-- the marks so far that differ are reported, and the room for those to come is kept
 abbrev pub invariant-loop-mark : goal.invariant-loop-mark
 invariant-loop-mark l = record {
   told : l.told.items ≡ l.fn.told.items ++ changed_from l.core (take l.mark-index l.marks);

@@ -1,4 +1,4 @@
-use Rattle.kc_run.proofs.job.run_plan.Goals as goal
+use Rattle.kc_run.proofs.job.run_action.Goals as goal
 
 pub returns-in-Audit : goal.returns-in-Audit
 returns-in-Audit g c = rw (c.in-Audit.is, c.requires.files) (c.audit.ensures _)

@@ -5,9 +5,9 @@ use Rattle.std.specs.Prelude.{Some, None}
 use Rattle.clap.specs.Walk.{byte_or_zero}
 use Rattle.clap.specs.Words.{found_of}
 use Rattle.clap.proofs.WalkLemmas.{one_text-rows}
-use Rattle.kc_args.specs.Jobs.{in_range}
+use Rattle.kc_args.specs.Options.{in_range}
 use Rattle.kc_args.proofs.Asking.{number_read}
-use Rattle.kc_args.proofs.job.workers_in.Goals as goal
+use Rattle.kc_args.proofs.options.workers_in.Goals as goal
 
 pub returns-in-Some : goal.returns-in-Some
 returns-in-Some c =

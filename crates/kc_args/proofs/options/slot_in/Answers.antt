@@ -6,7 +6,7 @@ use Rattle.clap.specs.Walk.{byte_or_zero}
 use Rattle.clap.specs.Words.{found_of}
 use Rattle.clap.proofs.WalkLemmas.{one_text-rows}
 use Rattle.kc_args.proofs.Asking.{number_read}
-use Rattle.kc_args.proofs.job.slot_in.Goals as goal
+use Rattle.kc_args.proofs.options.slot_in.Goals as goal
 
 pub returns-in-Some : goal.returns-in-Some
 returns-in-Some c =

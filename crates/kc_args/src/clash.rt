@@ -1,7 +1,7 @@
 //! Options that contradict each other.
 ghost use Rattle.std.specs.Prelude.{◌≡◌, ◌≤◌};
 ghost use Rattle.arrayvec.specs.ArrayString.{array_string_len};
-ghost use Rattle.kc_run.specs.Clashes.{first_option, link_of, other_option, command_of, clash_text};
+ghost use Rattle.kc_args.specs.Clashes.{first_option, link_of, other_option, command_of, clash_text};
 
 use arrayvec::ArrayString;
 
@@ -103,7 +103,7 @@ impl Clash {
     }
 
     /// What is reported of it, in the form in which a wrong command line is reported.
-    pub(crate) fn text(&self) -> ArrayString<256>
+    pub fn text(&self) -> ArrayString<256>
         ensures { result.bytes ≡ clash_text self.now }
     {
         let mut text = ArrayString::new();

@@ -1,7 +1,7 @@
 -- What is reported of options that contradict each other.
 use Rattle.std.specs.Prelude.{ℕ, List, ◌++◌, codes}
-use Rattle.kc_run.specs.declared.clash.Clash.{Clash}
-use Rattle.kc_run.specs.declared.clash.Clash.TheVariants as clashes
+use Rattle.kc_args.specs.declared.clash.Clash.{Clash}
+use Rattle.kc_args.specs.declared.clash.Clash.TheVariants as clashes
 
 abbrev pub first_option : Clash → List ℕ
 first_option clashes.DumpState = codes "--dump"
