@@ -11,10 +11,11 @@ use Rattle.kc_types.specs.Configuration.{Configuration, IsConfiguration, slot_co
 use Rattle.kc_types.specs.declared.version.Version.{Version}
 use Rattle.kc_types.specs.declared.version.Version.TheVariants.{One, Two}
 use Rattle.kc_types.specs.declared.link.Ends.{Ends}
+use Rattle.kc_types.specs.declared.link.Link.{Link}
 use Rattle.kc_types.specs.declared.owner.Owner.TheVariants.{Core, Host, Free}
 use Rattle.kc_types.specs.declared.resource.Resource.{Resource}
 use Rattle.kc_types.specs.declared.resource.Resource.TheVariants as resource
-use Rattle.kc_model.specs.State.{Frame, frame_at, untouched}
+use Rattle.kc_model.specs.State.{Frame, untouched}
 use Rattle.kc_model.specs.Boot.{boot, boot_owner, boot_frame}
 use Rattle.kc_model.specs.Links.{link_after, link_in, list_of, first_of}
 use Rattle.kc_model.specs.Linked.{frame_and_link, slot_and_ends, free_ends, linked_slot, linked_part_of, ends_of, last_of}
@@ -51,9 +52,7 @@ module _ (config : Configuration) where
   ends-boot : boot_ends config ≡ ends_of frees
   ends-boot = by_count (config.frames - first_free config) refl
     where
-      by_count : (n : ℕ) → config.frames - first_free config ≡ n
-          → record { head = cond (nat_lt (first_free config) config.frames) (Some (first_free config)) None; tail = cond (nat_lt (first_free config) config.frames) (Some (config.frames - 1)) None; count = n }
-          ≡ ends_of (range_with_len (first_free config) n)
+      by_count : (n : ℕ) → config.frames - first_free config ≡ n → record (boot_ends config) { count = n } ≡ ends_of (range_with_len (first_free config) n)
       by_count zero e = rw (le-ltb (first_free config) config.frames (omega (arith, e))) refl
       by_count (suc n) e =
           let last : config.frames - 1 ≡ first_free config + n = omega (arith, e) in
@@ -63,14 +62,18 @@ module _ (config : Configuration) where
             count = sym (length-range_with_len (first_free config) (suc n)) i;
           })
 
+  abbrev boot_link : ℕ → Link
+  boot_link f = record { prev = boot_prev config f; next = boot_next config f }
+
   -- the free frames from one on, each with the one before it and the one after it
-  link-boot : (a n f : ℕ) → first_free config ≤ a → a + n ≡ config.frames → a ≤ f → f < config.frames → link_after (boot_prev config a) (range_with_len a n) f ≡ record { prev = boot_prev config f; next = boot_next config f }
+  link-boot : (a n f : ℕ) → first_free config ≤ a → a + n ≡ config.frames → a ≤ f → f < config.frames → link_after (boot_prev config a) (range_with_len a n) f ≡ boot_link f
   link-boot a zero f free end from low = absurd (omega (arith, end, from, low))
   link-boot a (suc n) f free end from low = elim (cases_eq a f) [
     | inl same ↦ rw (← same, eq-eqb a a refl) (λ i. record { prev = boot_prev config a; next = next n end i })
     | inr other ↦
         rw (ne_eqb a f other)
-        (ap (λ prev. link_after prev (range_with_len (a + 1) n) f) prev ∙ link-boot (a + 1) n f (omega (arith, free)) (omega (arith, end)) (omega (arith, from, other)) low)
+        (ap (λ prev. link_after prev (range_with_len (a + 1) n) f) prev
+        ∙ link-boot (a + 1) n f (omega (arith, free)) (omega (arith, end)) (omega (arith, from, other)) low)
   ]
     where
       next : (n : ℕ) → a + suc n ≡ config.frames → first_of (range_with_len (a + 1) n) ≡ boot_next config a
@@ -81,11 +84,11 @@ module _ (config : Configuration) where
       prev = rw (lt-ltb (first_free config) (a + 1) (omega (arith, free))) (let e : a ≡ a + 1 - 1 = omega arith in ap Some e)
 
   -- a page has the neighbours that the boot state gives its frame
-  links-boot : (f : ℕ) → f < config.frames → seen_link (boot_owner config f) (record { prev = boot_prev config f; next = boot_next config f }) ≡ link_in (list_of (boot config) (boot_owner config f)) f
+  links-boot : (f : ℕ) → f < config.frames → seen_link (boot_owner config f) (boot_link f) ≡ link_in (list_of (boot config) (boot_owner config f)) f
   links-boot f low = by_place (nat_lt f config.core) (nat_lt f (first_free config)) refl
     where
       by_place : (core host : Bool) → nat_lt f (first_free config) ≡ host
-          → seen_link (cond core Core (cond host Host Free)) (record { prev = boot_prev config f; next = boot_next config f }) ≡ link_in (list_of (boot config) (cond core Core (cond host Host Free))) f
+          → seen_link (cond core Core (cond host Host Free)) (boot_link f) ≡ link_in (list_of (boot config) (cond core Core (cond host Host Free))) f
       by_place true host is = refl
       by_place false true is = rw (le-ltb (first_free config) f (let h = ltb-true f (first_free config) is in omega (arith, h)), is) refl
       by_place false false is =
@@ -99,22 +102,28 @@ module _ (config : Configuration) where
   abbrev vms : List (Option VmSlot)
   vms = replicate (slot_count config) (Some (empty_vm config.leaves))
 
+  many-pages : length pages ≡ config.frames
+  many-pages = length-map-range_with_len (boot_page config) 0 config.frames
+
+  many-vms : length vms ≡ slot_count config
+  many-vms = length-replicate (slot_count config) (Some (empty_vm config.leaves))
+
   abbrev pub booted : Held
   booted = parts_of pages vms (boot_ends config)
 
   page-boot : (f : ℕ) → f < config.frames → page_at booted f ≡ Some (boot_page config f)
   page-boot f low =
-      let long = length-map-range_with_len (boot_page config) 0 config.frames in
-      whole-page pages vms (boot_ends config) f (boot_page config 0) (omega (arith, low, long)) ∙ ap Some (get_or-map-range_with_len (boot_page config) 0 config.frames f f (boot_page config 0) low (omega arith))
+      whole-page pages vms (boot_ends config) f (boot_page config 0) (omega (arith, low, many-pages))
+      ∙ ap Some (get_or-map-range_with_len (boot_page config) 0 config.frames f f (boot_page config 0) low (omega arith))
 
   page-none : (f : ℕ) → config.frames ≤ f → page_at booted f ≡ None
-  page-none f past = let long = length-map-range_with_len (boot_page config) 0 config.frames in page-past booted (length pages) f refl refl (omega (arith, past, long))
+  page-none f past = page-past booted (length pages) f refl refl (omega (arith, past, many-pages))
 
   vm-boot : (v : ℕ) → v < slot_count config → vm_at booted v ≡ Some (empty_vm config.leaves)
   vm-boot v low = whole-vm pages vms (boot_ends config) v ∙ get_or-replicate (slot_count config) v (Some (empty_vm config.leaves)) None low
 
   vm-none : (v : ℕ) → slot_count config ≤ v → vm_at booted v ≡ None
-  vm-none v past = whole-vm pages vms (boot_ends config) v ∙ get_or_past vms v None (rw length-replicate past)
+  vm-none v past = whole-vm pages vms (boot_ends config) v ∙ get_or_past vms v None (omega (arith, past, many-vms))
 
   -- they are all of the boot state's
   restricted-boot : IsRestricted (boot config) (exists_in config) booted
@@ -123,14 +132,17 @@ module _ (config : Configuration) where
       parts : (r : Resource) → seen_at booted r ≡ cond (exists_in config r) (Some (linked_part_of (boot config) r)) None
       parts (resource.Frame f) = elim (cases_lt f config.frames) [
         | inl low ↦
-            let frame : frame_at (boot config) f ≡ boot_frame config f = get_or-map-range_with_len (boot_frame config) 0 config.frames f f (untouched Core) low (omega arith) in
+            let frame = get_or-map-range_with_len (boot_frame config) 0 config.frames f f (untouched Core) low (omega arith) in
             rw (lt-ltb f config.frames low)
-            (ap (λ there. option_map seen_part (option_map page_part there)) (page-boot f low) ∙ ap (λ link. Some (frame_and_link (boot_frame config f) link)) (links-boot f low)
+            (ap (λ there. option_map seen_part (option_map page_part there)) (page-boot f low)
+            ∙ ap (λ link. Some (frame_and_link (boot_frame config f) link)) (links-boot f low)
             ∙ ap (λ (frame : Frame). Some (frame_and_link frame (link_in (list_of (boot config) frame.owner) f))) (sym frame))
         | inr past ↦ rw (le-ltb f config.frames past) (ap (λ there. option_map seen_part (option_map page_part there)) (page-none f past))
       ]
       parts (resource.Vm v) = elim (cases_lt v (slot_count config)) [
-        | inl low ↦ rw (lt-ltb v (slot_count config) low) (ap (λ there. option_map seen_part (option_map slot_part there)) (vm-boot v low) ∙ ap (λ slot. Some (slot_and_ends (linked_slot slot))) (sym (slot_at-boot config v)))
+        | inl low ↦
+            rw (lt-ltb v (slot_count config) low)
+            (ap (λ there. option_map seen_part (option_map slot_part there)) (vm-boot v low) ∙ ap (λ slot. Some (slot_and_ends (linked_slot slot))) (sym (slot_at-boot config v)))
         | inr past ↦ rw (le-ltb v (slot_count config) past) (ap (λ there. option_map seen_part (option_map slot_part there)) (vm-none v past))
       ]
       parts resource.Free = ap (λ ends. Some (free_ends ends)) ends-boot
@@ -148,11 +160,12 @@ module _ (config : Configuration) where
   state-boot is = state-again (boot config) booted (lawful-boot config is) restricted-boot
 
   pub whole-boot : IsWhole config booted
-  whole-boot = whole-parts pages vms (boot_ends config) config (sym (length-map-range_with_len (boot_page config) 0 config.frames)) (sym (length-replicate (slot_count config) (Some (empty_vm config.leaves)))) filled
+  whole-boot = whole-parts pages vms (boot_ends config) config (sym many-pages) (sym many-vms) filled
     where
       filled : All (λ (vm : Option VmSlot). is_some vm ≡ true) vms
-      filled v d low = let long = length-replicate (slot_count config) (Some (empty_vm config.leaves)) in ap is_some (get_or-replicate (slot_count config) v (Some (empty_vm config.leaves)) d (omega (arith, low, long)))
+      filled v d low = ap is_some (get_or-replicate (slot_count config) v (Some (empty_vm config.leaves)) d (omega (arith, low, many-vms)))
 
   -- the parts made one by one
-  pub made : (parts : Held) (ps : List Page) (vs : List (Option VmSlot)) (free : Ends) → parts ≡ parts_of ps vs free → ps ≡ pages → vs ≡ vms → free ≡ boot_ends config → parts ≡ booted
+  pub made : (parts : Held) (ps : List Page) (vs : List (Option VmSlot)) (free : Ends)
+      → parts ≡ parts_of ps vs free → ps ≡ pages → vs ≡ vms → free ≡ boot_ends config → parts ≡ booted
   made parts ps vs free is p v f = is ∙ (λ i. parts_of (p i) (v i) (f i))

@@ -80,7 +80,8 @@ module _ (config : Configuration) (h : Held) (f : ℕ) (fs : List ℕ) (page : P
   loose-first loose = record {
     linked = linked-moved config h f page (untouched_page page) loose.linked is refl (loose.absent f (first-among f fs)) (λ host. cc);
     here = λ g some. subst (λ (l : Links). IsSome (l g)) (sym links-mid) (loose.here g (omega (arith, some)));
-    absent = λ g some p e there. subst (λ (l : Links). times_in (listed l e) g ≡ 0) (sym links-mid) (loose.absent g (omega (arith, some)) p e (sym (ends-page h f (untouched_page page) p) ∙ there));
+    absent = λ g some p e there. subst (λ (l : Links). times_in (listed l e) g ≡ 0) (sym links-mid)
+        (loose.absent g (omega (arith, some)) p e (sym (ends-page h f (untouched_page page) p) ∙ there));
   }
 
   scrubbed-first : (new : Held) → AreScrubbed config mid fs new → AreScrubbed config h (f ∷ fs) new
@@ -92,7 +93,8 @@ module _ (config : Configuration) (h : Held) (f : ℕ) (fs : List ℕ) (page : P
       ]
       | inr other ↦ rest.owners g (rw (times-other f fs g other) at some)
     ];
-    others = λ g none. rest.others g (omega (arith, none)) ∙ other-owner g (λ same. let one = first-among f fs in let gone : times_in (f ∷ fs) f ≡ 0 = rw same at none in omega (arith, one, gone));
+    others = λ g none. rest.others g (omega (arith, none))
+        ∙ other-owner g (λ same. let one = first-among f fs in let gone : times_in (f ∷ fs) f ≡ 0 = rw same at none in omega (arith, one, gone));
     state = rest.state ∙ ap (λ (m : State). record m { frames = scrubbed m.frames fs }) (state-page config h f page (untouched_page page) is refl);
     linked = rest.linked;
   }
@@ -168,7 +170,8 @@ module _ (old : Held) (v : ℕ) (vm : VmSlot) (at : vm_at old v ≡ Some vm) whe
       let are = linked.lists in
       let owned = slot-owned old v vm are at in
       let at' = vm-set old v vm (with_ends vm no_ends) at in
-      let moved = slot-moved old old v vm no_ends fs (rest_kept old) at are (λ g none. refl) owned (none-list (links_of old)) (λ g some. let no : 0 < times_in [] g = rw (listed-none (links_of old)) at some in absurd (omega (arith, no))) in
+      let moved = slot-moved old old v vm no_ends fs (rest_kept old) at are (λ g none. refl) owned (none-list (links_of old))
+      (λ g some. let no : 0 < times_in [] g = rw (listed-none (links_of old)) at some in absurd (omega (arith, no))) in
       subst (λ h. AreLoose config h fs) reset-unlisted (record {
         linked = linked-vm config unlisted v (with_ends vm no_ends) (empty_vm vm.capacity) (moved.linked config linked) at' refl refl;
         here = λ g some. inside-held (links_of old) vm.slot.frames g (are.spelled (Vm v) vm.slot.frames (ends-here old v vm at)) some;

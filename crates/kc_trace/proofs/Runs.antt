@@ -39,7 +39,8 @@ front_then new two (Ok x) = of (feed x.0 two)
     of (Err f) = refl
 front_then new two (Err f) = refl
 
-first_then : (one two : List ℕ) (first : Result (Progress × List Call) TraceFault) → ((p : Progress) → feed p (one ++ two) ≡ and_then_feed two (feed p one)) → and_then_feed (one ++ two) first ≡ and_then_feed two (and_then_feed one first)
+first_then : (one two : List ℕ) (first : Result (Progress × List Call) TraceFault) → ((p : Progress) → feed p (one ++ two) ≡ and_then_feed two (feed p one))
+    → and_then_feed (one ++ two) first ≡ and_then_feed two (and_then_feed one first)
 first_then one two (Ok x) rest = ap (with_front x.1) (rest x.0) ∙ front_then x.1 two (feed x.0 one)
 first_then one two (Err f) rest = refl
 
@@ -49,7 +50,8 @@ unfolding feed
 feed-append [] two p = sym (front_nothing (feed p two))
 feed-append (byte ∷ one) two p = first_then one two (fed_byte p byte) (λ q. feed-append one two q)
 
-pieces_then : (pieces : List (List ℕ)) (first : Result (Progress × List Call) TraceFault) → ((p : Progress) → feed_each p pieces ≡ feed p (concat pieces)) → (first >>= λ a. with_front a.1 (feed_each a.0 pieces)) ≡ and_then_feed (concat pieces) first
+pieces_then : (pieces : List (List ℕ)) (first : Result (Progress × List Call) TraceFault) → ((p : Progress) → feed_each p pieces ≡ feed p (concat pieces))
+    → (first >>= λ a. with_front a.1 (feed_each a.0 pieces)) ≡ and_then_feed (concat pieces) first
 pieces_then pieces (Ok x) rest = ap (with_front x.1) (rest x.0)
 pieces_then pieces (Err f) rest = refl
 
@@ -147,7 +149,8 @@ feed_begun p (byte ∷ bytes) some one =
     let parts = and_parts (not (byte == 10)) (list_all (λ b. not (b == 10)) bytes) one in
     rw (not-true (byte == 10) parts.0) (of bytes (begun_cases (longer p (byte ∷ []))) (λ q some. feed_begun q bytes some parts.1))
   where
-    of : (more : List ℕ) → BegunCases (longer p (byte ∷ [])) → ((q : Progress) → 0 < length more → feed q more ≡ begun (longer q more)) → and_then_feed more (begun (longer p (byte ∷ []))) ≡ begun (longer p (byte ∷ more))
+    of : (more : List ℕ) → BegunCases (longer p (byte ∷ [])) → ((q : Progress) → 0 < length more → feed q more ≡ begun (longer q more))
+        → and_then_feed more (begun (longer p (byte ∷ []))) ≡ begun (longer p (byte ∷ more))
     of [] cases rest = read_alone (begun (longer p (byte ∷ [])))
     of (next ∷ more) (inl so) rest =
         rw so (front_nothing (feed (longer p (byte ∷ [])) (next ∷ more)) ∙ rest (longer p (byte ∷ [])) (omega arith) ∙ ap begun (longer_twice p (byte ∷ []) (next ∷ more)))

@@ -215,7 +215,9 @@ reading_is text = refl
 pub reading_reads : (text : List ℕ) → Reads text (reading text)
 reading_reads text = elim (through_header text [] refl) [
   | inl h ↦ subst (Reads text) (sym (reading_is text ∙ past_header h.0 text h.1 h.2)) (with_header h.0 text h.1 (outcome (at_line h.0 0) h.1) h.2 (after h.0 h.1))
-  | inr none ↦ subst (Reads text) (sym (reading_is text ∙ none)) (λ v rest is. let wrong : Answers v 0 rest (Err NoHeader) = subst (Answers v 0 rest) (sym (past_header v text rest is) ∙ none) (after v rest) in wrong.4)
+  | inr none ↦ subst (Reads text) (sym (reading_is text ∙ none)) (λ v rest is.
+      let wrong : Answers v 0 rest (Err NoHeader) = subst (Answers v 0 rest) (sym (past_header v text rest is) ∙ none) (after v rest) in
+      wrong.4)
 ]
   where
     after : (v : Version) (rest : List ℕ) → Answers v 0 rest (outcome (at_line v 0) rest)
