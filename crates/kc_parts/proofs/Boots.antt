@@ -55,21 +55,6 @@ rising-range n i j less within =
     let b = get_or-range_with_len 0 n j 0 high in
     omega (arith, less, a, b)
 
-cell-range : {X : Type 0} (a n k : ℕ) (c : Option X) → k < n → cell_in (range_with_len a n) (replicate n c) (a + k) ≡ c
-cell-range a zero k c lt = absurd (omega (arith, lt))
-cell-range a (suc n) zero c lt = rw (eq-eqb (a + 0) a (omega arith)) refl
-cell-range a (suc n) (suc k) c lt =
-    let e : a + suc k ≡ (a + 1) + k = omega arith in
-    rw (ne_eqb (a + suc k) a (λ same. omega (arith, same))) (ap (cell_in (range_with_len (a + 1) n) (replicate n c)) e ∙ cell-range (a + 1) n k c (omega (arith, lt)))
-
--- the element for a number if all places have the same
-pub cell-whole : {X : Type 0} (n k : ℕ) (c : Option X) → k < n → cell_in (range_with_len 0 n) (replicate n c) k ≡ c
-cell-whole n k c lt = let e : k ≡ 0 + k = omega arith in ap (cell_in (range_with_len 0 n) (replicate n c)) e ∙ cell-range 0 n k c lt
-
-pub cell-past : {X : Type 0} (a n k : ℕ) (c : Option X) → a + n ≤ k → cell_in (range_with_len a n) (replicate n c) k ≡ None
-cell-past a zero k c le = refl
-cell-past a (suc n) k c le = rw (ne_eqb k a (λ same. omega (arith, le, same))) (cell-past (a + 1) n k c (omega (arith, le)))
-
 cell-range-at : {X : Type 0} (a n k : ℕ) (cs : List (Option X)) → length cs ≡ n → cell_in (range_with_len a n) cs (a + k) ≡ get_or cs k None
 cell-range-at a zero k [] e = refl
 cell-range-at a zero k (c ∷ cs) e = absurd (omega (arith, e))

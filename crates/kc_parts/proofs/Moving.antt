@@ -33,7 +33,7 @@ same_or_other (Vm v) Core = inr (λ e. cc)
 same_or_other (Vm v) Host = inr (λ e. cc)
 same_or_other (Vm v) Free = inr (λ e. cc)
 
-none-or-some : (n : ℕ) → (n ≡ 0) ⊎ (0 < n)
+pub none-or-some : (n : ℕ) → (n ≡ 0) ⊎ (0 < n)
 none-or-some zero = inl refl
 none-or-some (suc n) = inr (omega arith)
 

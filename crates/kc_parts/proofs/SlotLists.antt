@@ -110,18 +110,18 @@ module _ (old mid : Held) (v : ℕ) (vm : VmSlot) (e' : Ends) (frames : List ℕ
           vm-in None = vm
 
   -- a frame that was taken off the list is in no list
-  pub loose-left : (f : ℕ) → 0 < times_in frames f → times_in (listed (links_of mid) e') f ≡ 0 → links_of mid f ≡ Some unlinked → IsLoose moved f
-  loose-left f mine gone alone = record { alone = alone; absent = absent-from }
+  pub absent-left : (f : ℕ) → 0 < times_in frames f → times_in (listed (links_of mid) e') f ≡ 0 → (p : Owner) (ends : Ends) → ends_at moved p ≡ Some ends → times_in (listed (links_of mid) ends) f ≡ 0
+  absent-left f mine gone p ends is = elim (same_or_other p (Vm v)) [
+    | inl same ↦ let own : e' ≡ ends = ap (λ o. ends-in o) (sym (ap (option_map (λ (vm : VmSlot). vm.slot.frames)) at-moved) ∙ ap (ends_at moved) (sym same) ∙ is) in rw (← own) gone
+    | inr other ↦ absent-others old mid (Vm v) frames rest are keeps owned p ends other (sym (ends-others p other) ∙ is) f (owned f mine)
+  ]
     where
-      absent-from : (p : Owner) (ends : Ends) → ends_at moved p ≡ Some ends → times_in (listed (links_of mid) ends) f ≡ 0
-      absent-from p ends is = elim (same_or_other p (Vm v)) [
-        | inl same ↦ let own : e' ≡ ends = ap (λ o. ends-in o) (sym (ap (option_map (λ (vm : VmSlot). vm.slot.frames)) at-moved) ∙ ap (ends_at moved) (sym same) ∙ is) in rw (← own) gone
-        | inr other ↦ absent-others old mid (Vm v) frames rest are keeps owned p ends other (sym (ends-others p other) ∙ is) f (owned f mine)
-      ]
-        where
-          ends-in : Option Ends → Ends
-          ends-in (Some x) = x
-          ends-in None = e'
+      ends-in : Option Ends → Ends
+      ends-in (Some x) = x
+      ends-in None = e'
+
+  pub loose-left : (f : ℕ) → 0 < times_in frames f → times_in (listed (links_of mid) e') f ≡ 0 → links_of mid f ≡ Some unlinked → IsLoose moved f
+  loose-left f mine gone alone = record { alone = alone; absent = absent-left f mine gone }
 
 -- the list of a slot that is here
 pub frames-here : (h : Held) (v : ℕ) (vm : VmSlot) → vm_at h v ≡ Some vm → listed_frames h v ≡ listed (links_of h) vm.slot.frames

@@ -5,7 +5,7 @@ use Rattle.kc_types.specs.Configuration.{Configuration, slot_count, boot_owner}
 use Rattle.kc_types.specs.declared.link.Ends.{Ends}
 use Rattle.kc_model.specs.State.{zero_page}
 use Rattle.kc_page.specs.declared.page.Page.{Page}
-use Rattle.kc_vms.specs.Vm.{VmSlot, empty_vm}
+use Rattle.kc_vms.specs.Vm.{VmSlot}
 use Rattle.kc_parts.specs.Parts.{Held, HeldSlots, page_at, vm_at}
 
 -- the first frame that is free at boot
@@ -45,10 +45,6 @@ parts_of pages vms free = record {
   vms = slots_of vms;
   free = Some free;
 }
-
--- every slot of the configuration, empty, in the place of its number
-abbrev pub boot_slots : Configuration → HeldSlots
-boot_slots config = record { numbers = range_with_len 0 (slot_count config); slots = replicate (slot_count config) (Some (empty_vm config.leaves)) }
 
 -- everything that the configuration has is here, in the places of its numbers, and there is no slot past the last
 pub record IsWhole (config : Configuration) (h : Held) : Type 0 where

@@ -1,5 +1,5 @@
 -- What the calls of a wave left goes back into the store.
-use Rattle.std.proofs.Common.{ℕ, suc, ◌≡◌, ◌≢◌, ◌<◌, ◌≤◌, ◌+◌, ◌⊎◌, inl, inr, Bool, true, false, cond, nat_lt, List, [], ◌∷◌, length, get_or, set, Option, Some, None, refl, sym, ap, ◌∙◌, subst, arith}
+use Rattle.std.proofs.Common.{ℕ, suc, ◌≡◌, ◌≢◌, ◌<◌, ◌≤◌, ◌+◌, ◌⊎◌, inl, inr, Bool, true, false, cond, List, [], length, get_or, set, Option, Some, None, refl, sym, ap, ◌∙◌, subst, arith}
 use Rattle.std.specs.List.{range_with_len}
 use Rattle.std.specs.Option.{option_map}
 use Rattle.std.proofs.lemmas.Bool.{ltb-true, lt-ltb, cases_eq}
@@ -10,14 +10,11 @@ use Rattle.std.proofs.lemmas.List.FromFn.{get_or-range_with_len, length-range_wi
 use Rattle.kc_types.specs.Configuration.{slot_count}
 use Rattle.kc_types.specs.declared.call.Call.{Call}
 use Rattle.kc_types.specs.declared.link.Ends.{Ends}
-use Rattle.kc_types.specs.declared.owner.Owner.{Owner}
-use Rattle.kc_types.specs.declared.owner.Owner.TheVariants.{Core, Host, Free, Vm}
+use Rattle.kc_types.specs.declared.owner.Owner.TheVariants.{Free, Vm}
 use Rattle.kc_types.specs.declared.resource.Resource.TheVariants as resource
-use Rattle.kc_model.specs.State.{State, frame_at, untouched, empty_slot}
+use Rattle.kc_model.specs.State.{State}
 use Rattle.kc_model.specs.Lawful.{IsLawful}
-use Rattle.kc_model.specs.Resources.{Resource, Resources, is_in, pick}
-use Rattle.kc_model.specs.Local.{cut}
-use Rattle.kc_model.specs.Links.{list_of}
+use Rattle.kc_model.specs.Resources.{Resource, Resources}
 use Rattle.kc_model.specs.Linked.{LinkedPart, linked_part_of}
 use Rattle.kc_model.specs.Footprints.{state_at, reply_at}
 use Rattle.kc_model.proofs.Lawful.LawfulTraces.{lawful-at}
@@ -26,15 +23,13 @@ use Rattle.kc_vms.specs.Vm.{VmSlot}
 use Rattle.kc_parts.specs.Cuts.{HeldPart, held_at, IsJoin, FitsInto}
 use Rattle.kc_parts.specs.Cuts.HeldPart.{page_part, slot_part, ends_part}
 use Rattle.kc_parts.specs.Parts.{Held, IsRising, place_of, page_at, vm_at}
-use Rattle.kc_parts.specs.States.{state_of, here_of}
+use Rattle.kc_parts.specs.States.{state_of}
 use Rattle.kc_parts.proofs.Places.{place-found}
 use Rattle.kc_core.specs.KCore.{IsCore}
-use Rattle.kc_model.proofs.States.Changes.{exists}
-use Rattle.kc_parts.specs.Restricted.{seen_part, exists_in, IsRestricted, IsClosed}
+use Rattle.kc_parts.specs.Restricted.{seen_part, exists_in, IsRestricted}
 use Rattle.kc_replay.specs.Wave.{IsRest, HasPlaces, down_from, wave_calls, footprints_at, IsWave, IsFinishedAt}
 use Rattle.kc_replay.specs.declared.task.Finished.{Finished}
-use Rattle.kc_model.proofs.Local.Orderly.{owned-is}
-use Rattle.kc_parts.proofs.Restricting.{linked-cut, state-cut, here-is}
+use Rattle.kc_parts.proofs.Complete.{linked-again, state-again, here-again}
 use Rattle.kc_replay.proofs.Apart.{config-at, all-out, back}
 use Rattle.kc_replay.proofs.Taking.{out-earlier, out-all, low-in, wave-length}
 
@@ -73,52 +68,22 @@ ends-none : (there : Option Ends) → option_map ends_part there ≡ None → th
 ends-none None e = refl
 ends-none (Some x) e = cc
 
--- a listed frame exists
-listed-low : (m : State) → IsLawful m → (p : Owner) (f : ℕ) → is_in (list_of m p) f ≡ true → f < m.config.frames
-listed-low m is Core f inside = cc
-listed-low m is Host f inside = cc
-listed-low m is Free f inside = rw is.frames at (exists m f (λ core. let own : (frame_at m f).owner ≡ Free = owned-is m is Free f inside in let no = sym core ∙ own in cc))
-listed-low m is (Vm v) f inside = rw is.frames at (exists m f (λ core. let own : (frame_at m f).owner ≡ Vm v = owned-is m is (Vm v) f inside in let no = sym core ∙ own in cc))
-
-pick-whole : {X : Type 0} (test : ℕ → Bool) (d : X) (xs : List X) → ((i : ℕ) → i < length xs → test i ≡ true) → pick test d xs [] ≡ xs
-pick-whole test d [] all = refl
-pick-whole test d (x ∷ xs) all = rw (all 0 (omega arith), pick-whole (λ i. test (suc i)) d xs (λ i low. all (suc i) (omega (arith, low)))) refl
-
--- the cut of everything is the state
-cut-whole : (m : State) → IsLawful m → cut m (exists_in m.config) ≡ m
-cut-whole m is = λ i. record {
-  config = m.config;
-  frames = pick-whole (λ f. nat_lt f m.config.frames) (untouched Core) m.frames (λ f low. lt-ltb f m.config.frames (rw is.frames at low)) i;
-  free = m.free;
-  slots = pick-whole (λ v. nat_lt v (slot_count m.config)) empty_slot m.slots (λ v low. lt-ltb v (slot_count m.config) (rw is.slots at low)) i;
-}
-
 -- parts that are all of a state's are a whole core's
-module _ (m : State) (h : Held) (lawful : IsLawful m) (restricted : IsRestricted m (exists_in m.config) h) where
-  closed : IsClosed m (exists_in m.config)
-  closed = record { exist = λ r e. e; lists = λ p f ends inside. lt-ltb f m.config.frames (listed-low m lawful p f inside) }
-
-  state-again : state_of m.config h ≡ m
-  state-again = state-cut m (exists_in m.config) h lawful closed restricted ∙ cut-whole m lawful
-
-  here-again : (r : Resource) → exists_in m.config r ≡ true → here_of h r ≡ true
-  here-again r e = here-is m (exists_in m.config) h lawful closed restricted r ∙ e
-
-  pub core-again : HasPlaces m.config h → IsCore m.config h × (state_of m.config h ≡ m)
-  core-again places = (
-    record {
-      lawful = subst IsLawful (sym state-again) lawful;
-      linked = linked-cut m (exists_in m.config) h lawful closed restricted;
-      whole = record {
-        numbers = places.numbers;
-        frames = λ f low. here-again (resource.Frame f) (lt-ltb f m.config.frames low);
-        vms = λ v low. here-again (resource.Vm v) (lt-ltb v (slot_count m.config) low);
-        past = λ v some. ltb-true v (slot_count m.config) (sym (here-is m (exists_in m.config) h lawful closed restricted (resource.Vm v)) ∙ some);
-        free = here-again resource.Free refl;
-      };
-    },
-    state-again,
-  )
+pub core-again : (m : State) (h : Held) → IsLawful m → IsRestricted m (exists_in m.config) h → HasPlaces m.config h → IsCore m.config h × (state_of m.config h ≡ m)
+core-again m h lawful restricted places = (
+  record {
+    lawful = subst IsLawful (sym (state-again m h lawful restricted)) lawful;
+    linked = linked-again m h lawful restricted;
+    whole = record {
+      numbers = places.numbers;
+      frames = λ f low. here-again m h lawful restricted (resource.Frame f) ∙ lt-ltb f m.config.frames low;
+      vms = λ v low. here-again m h lawful restricted (resource.Vm v) ∙ lt-ltb v (slot_count m.config) low;
+      past = λ v some. ltb-true v (slot_count m.config) (sym (here-again m h lawful restricted (resource.Vm v)) ∙ some);
+      free = here-again m h lawful restricted resource.Free;
+    };
+  },
+  state-again m h lawful restricted,
+)
 
 module _ (m : State) (calls : List Call) (footprints : ℕ → Resources) (members : List ℕ) (wave : IsWave m calls footprints members) where
   abbrev pub last : State

@@ -1,7 +1,6 @@
 -- A stream that is fed in pieces.
 use Rattle.std.proofs.Common.{◌≡◌, ◌≤◌, ◌<◌, ◌+◌, ℕ, Bool, true, false, List, [], ◌∷◌, ◌++◌, length, Option, Some, None, Result, Ok, Err, refl, ap, ◌∙◌, append_assoc, arith, inr, length-append}
 use Rattle.std.specs.Prelude.{MatchOption, IfSome, IfOk, OnOk, ◌==◌, nat_le, if◌then◌else◌}
-use Rattle.std.specs.List.{slice_split}
 use Rattle.std.proofs.lemmas.Bool.{leb-false}
 use Rattle.std.proofs.lemmas.List.{append-nil, nil_from_length}
 use Rattle.std.proofs.KnownBytes.{Consumes-nil, Consumes-trans}
@@ -13,9 +12,9 @@ use Rattle.kc_texts.specs.Ends.{ReadFailed}
 use Rattle.kc_trace.specs.declared.fault.TraceFault.{TraceFault}
 use Rattle.kc_trace.specs.declared.fault.TraceFault.TheVariants.{NoHeader, BadLine, NoNewline, TooManyCalls, Memory}
 use Rattle.kc_trace.specs.Trace.{IsTrace, IsRefused}
-use Rattle.kc_trace.specs.Machine.{◌>>=◌, Progress, Fails, start, longer, version_in, begins_header, call_in, after_line, begun_by, begun, after_header, line_ended_by, line_ended, last_begun, feed_lines, feed, fed, fed_after, ended, reading}
-use Rattle.kc_trace.proofs.Runs.{feed_nothing}
-use Rattle.kc_trace.proofs.Traces.{feed-append, and_then_feed, added, Reads, reading_reads}
+use Rattle.kc_trace.specs.Machine.{◌>>=◌, Progress, Fails, start, longer, version_in, begins_header, call_in, after_line, begun_by, begun, after_header, line_ended_by, line_ended, with_front, fed_byte, feed, fed, fed_after, ended, reading}
+use Rattle.kc_trace.proofs.Runs.{feed_nothing, feed-append, and_then_feed}
+use Rattle.kc_trace.proofs.Traces.{Reads, reading_reads}
 use Rattle.sha2.specs.declared.Sha256.{Sha256}
 use Rattle.sha2.specs.Hashers.{Holds256}
 use Rattle.sha2.specs.Sha256.{sha256}
@@ -23,12 +22,12 @@ use Rattle.kc_texts.specs.Streamed.{Streamed, answer, AreHashed, HasRead, GoesOn
 
 fed_ok : (fault : Option TraceFault) (p q : Progress) (bytes piece : List ℕ) (calls more : List Call) → feed start bytes ≡ answer fault p calls → fed_after fault p piece ≡ Ok (q, more) → feed start (bytes ++ piece) ≡ Ok (q, calls ++ more)
 fed_ok None p q bytes piece calls more h e =
-    feed-append bytes piece start ∙ ap (and_then_feed piece) h ∙ ap (λ (read : Result (Progress × List Call) TraceFault). read >>= added calls) e
+    feed-append bytes piece start ∙ ap (and_then_feed piece) h ∙ ap (with_front calls) e
 fed_ok (Some f) p q bytes piece calls more h e = absurd cc
 
 fed_err : (fault : Option TraceFault) (p : Progress) (bytes piece : List ℕ) (calls : List Call) (f : TraceFault) → feed start bytes ≡ answer fault p calls → fed_after fault p piece ≡ Err f → feed start (bytes ++ piece) ≡ Err f
 fed_err None p bytes piece calls f h e =
-    feed-append bytes piece start ∙ ap (and_then_feed piece) h ∙ ap (λ (read : Result (Progress × List Call) TraceFault). read >>= added calls) e
+    feed-append bytes piece start ∙ ap (and_then_feed piece) h ∙ ap (with_front calls) e
 fed_err (Some g) p bytes piece calls f h e = feed-append bytes piece start ∙ ap (and_then_feed piece) h ∙ e
 
 fails_is : (e : TraceFault) (read : Result (Progress × List Call) TraceFault) → (e ≡ Memory → ⊥) → Fails e read → read ≡ Err e
@@ -60,10 +59,6 @@ begun_counts (Some version) p le = by_test (nat_le call_limit p.calls)
     by_test true = tt
     by_test false = (omega arith, le)
 
-last_counts : (last : List ℕ) (p : Progress) → p.calls ≤ call_limit → IfOk (last_begun p last) (Counts p)
-last_counts [] p le = (omega arith, le)
-last_counts (byte ∷ bytes) p le = begun_counts p.version (longer p (byte ∷ bytes)) le
-
 ended_counts : (version : Option Version) (p : Progress) → p.calls ≤ call_limit → IfOk (line_ended_by version p) (Counts p)
 ended_counts None p le = by_version (version_in p.line)
   where
@@ -80,20 +75,21 @@ rest_counts : (p p1 : Progress) (new : List Call) (rest : Result (Progress × Li
 rest_counts p p1 new (Err f) one more = tt
 rest_counts p p1 new (Ok (p2, calls)) one more = (omega (arith, one.0, more.0, length-append new calls), more.1)
 
-first_counts : (p : Progress) (lines : List (List ℕ)) (first : Result (Progress × List Call) TraceFault) → IfOk first (Counts p) → ((p1 : Progress) → p1.calls ≤ call_limit → IfOk (feed_lines p1 lines) (Counts p1))
-    → IfOk (first >>= λ one. feed_lines one.0 lines >>= λ others. Ok (others.0, one.1 ++ others.1)) (Counts p)
-first_counts p lines (Err f) one more = tt
-first_counts p lines (Ok (p1, new)) one more = rest_counts p p1 new (feed_lines p1 lines) one (more p1 one.1)
+byte_counts : (byte : ℕ) (p : Progress) → p.calls ≤ call_limit → IfOk (fed_byte p byte) (Counts p)
+byte_counts byte p le = by_newline (byte == 10)
+  where
+    by_newline : (b : Bool) → IfOk (if b then line_ended (longer p []) else begun (longer p (byte ∷ []))) (Counts p)
+    by_newline true = ended_counts p.version (longer p []) le
+    by_newline false = begun_counts p.version (longer p (byte ∷ [])) le
 
-lines_counts : (lines : List (List ℕ)) (p : Progress) → p.calls ≤ call_limit → IfOk (feed_lines p lines) (Counts p)
-unfolding feed_lines
-lines_counts [] p le = (omega arith, le)
-lines_counts (last ∷ []) p le = last_counts last p le
-lines_counts (line ∷ next ∷ lines) p le = first_counts p (next ∷ lines) (line_ended (longer p line)) (ended_counts p.version (longer p line) le) (λ p1 le1. lines_counts (next ∷ lines) p1 le1)
+first_counts : (p : Progress) (bytes : List ℕ) (first : Result (Progress × List Call) TraceFault) → IfOk first (Counts p) → ((p1 : Progress) → p1.calls ≤ call_limit → IfOk (feed p1 bytes) (Counts p1)) → IfOk (and_then_feed bytes first) (Counts p)
+first_counts p bytes (Err f) one more = tt
+first_counts p bytes (Ok (p1, new)) one more = rest_counts p p1 new (feed p1 bytes) one (more p1 one.1)
 
 feed_counts : (bytes : List ℕ) (p : Progress) → p.calls ≤ call_limit → IfOk (feed p bytes) (Counts p)
 unfolding feed
-feed_counts bytes p le = lines_counts (slice_split (λ b. b == 10) bytes) p le
+feed_counts [] p le = (omega arith, le)
+feed_counts (byte ∷ bytes) p le = first_counts p bytes (fed_byte p byte) (byte_counts byte p le) (λ p1 le1. feed_counts bytes p1 le1)
 
 -- ---- one more piece
 

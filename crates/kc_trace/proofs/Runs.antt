@@ -1,61 +1,173 @@
--- Reading line after line, as a loop does.
-use Rattle.std.proofs.Common.{◌≡◌, ℕ, ◌<◌, Bool, List, [], ◌∷◌, ◌++◌, length, take, drop, Result, Ok, refl, sym, ap, ◌∙◌, arith, ◌-◌}
-use Rattle.std.specs.Prelude.{◌==◌, not}
-use Rattle.std.specs.List.{list_all, slice_split}
-use Rattle.std.proofs.lemmas.Bool.{and_parts, not-true}
+-- Reading byte after byte, as a loop does line after line.
+use Rattle.std.proofs.Common.{◌≡◌, ◌⊎◌, inl, inr, ℕ, ◌<◌, ◌-◌, Bool, true, false, cond, List, [], ◌∷◌, ◌++◌, length, take, drop, Option, Some, None, Result, Ok, Err, refl, sym, ap, subst, ◌∙◌, append_assoc, length-append, arith}
+use Rattle.std.specs.Prelude.{◌==◌, not, nat_le}
+use Rattle.std.specs.List.{concat, list_all, starts_with}
+use Rattle.std.specs.Str.{bytes_eq}
+use Rattle.std.proofs.lemmas.Bool.{and_parts, and_from, not-true, le-leb, lt-leb, leb-false, cases_lt, cases_Bool, or_cases, or_right, false_from_ne_true}
 use Rattle.std.proofs.lemmas.List.{append-nil, drop_all}
-use Rattle.std.proofs.lemmas.List.Splits.{slice_split-cons_yes, slice_split-cons_no, length-slice_split}
+use Rattle.std.proofs.lemmas.Slice.Eq.{bytes_eq-Decides}
+use Rattle.kc_types.specs.declared.version.Version.{Version}
+use Rattle.kc_types.specs.declared.version.Version.TheVariants.{One, Two}
 use Rattle.kc_types.specs.declared.call.Call.{Call}
+use Rattle.kc_types.specs.Limits.{line_limit}
 use Rattle.kc_trace.specs.declared.fault.TraceFault.{TraceFault}
 use Rattle.kc_trace.specs.declared.fault.TraceFault.TheVariants.{NoHeader, BadLine, NoNewline, TooManyCalls, Memory}
-use Rattle.kc_trace.specs.Machine.{◌>>=◌, Fails, Progress, longer, begun, line_ended, with_front, feed_lines, feed}
+use Rattle.kc_trace.specs.Spelling.{header_line}
+use Rattle.kc_trace.specs.Machine.{◌>>=◌, Fails, Progress, kept, longer_line, longer, version_in, begins_header, begun, after_header, line_ended, with_front, fed_byte, feed, feed_each}
 use Rattle.kc_lines.specs.Lines.{IsOneLine}
 use Rattle.kc_lines.proofs.Newlines.{tail_is}
 
--- ---- lines of a piece
+-- ---- two pieces
 
-abbrev pub is_newline : ℕ → Bool
-is_newline b = b == 10
+front_nothing : (read : Result (Progress × List Call) TraceFault) → with_front [] read ≡ read
+front_nothing (Ok x) = refl
+front_nothing (Err f) = refl
 
--- bytes without a newline are its last line
-cut_none : (line : List ℕ) → IsOneLine line → slice_split is_newline line ≡ line ∷ []
-cut_none [] one = refl
-cut_none (byte ∷ line) one =
-    let parts = and_parts (not (byte == 10)) (list_all (λ b. not (b == 10)) line) one in
-    rw (slice_split-cons_no is_newline byte line (not-true (byte == 10) parts.0), cut_none line parts.1) refl
-
--- a line before its newline is the first
-pub cut_first : (line rest : List ℕ) → IsOneLine line → slice_split is_newline (line ++ 10 ∷ rest) ≡ line ∷ slice_split is_newline rest
-cut_first [] rest one = slice_split-cons_yes is_newline 10 rest refl
-cut_first (byte ∷ line) rest one =
-    let parts = and_parts (not (byte == 10)) (list_all (λ b. not (b == 10)) line) one in
-    rw (slice_split-cons_no is_newline byte (line ++ 10 ∷ rest) (not-true (byte == 10) parts.0), cut_first line rest parts.1) refl
-
-abbrev pub IsCut : List ℕ → List ℕ → List (List ℕ) → Type 0
-IsCut bytes next lines = slice_split is_newline bytes ≡ next ∷ lines
-
--- there is a first line
-pub some_line : (bytes : List ℕ) → (next : List ℕ) × (lines : List (List ℕ)) × IsCut bytes next lines
-some_line bytes = by_lines (slice_split is_newline bytes) refl
-  where
-    by_lines : (lines : List (List ℕ)) → slice_split is_newline bytes ≡ lines → (next : List ℕ) × (more : List (List ℕ)) × IsCut bytes next more
-    by_lines [] is = let none = ap length is in let some = length-slice_split is_newline bytes in absurd (omega (arith, none, some))
-    by_lines (next ∷ more) is = (next, more, is)
+abbrev pub and_then_feed : List ℕ → Result (Progress × List Call) TraceFault → Result (Progress × List Call) TraceFault
+and_then_feed bytes read = read >>= λ a. with_front a.1 (feed a.0 bytes)
 
 pub feed_nothing : (p : Progress) → feed p [] ≡ Ok (p, [])
-unfolding feed feed_lines
+unfolding feed
 feed_nothing p = refl
+
+-- what is read after some calls is read on after them
+front_then : (new : List Call) (two : List ℕ) (read : Result (Progress × List Call) TraceFault) → with_front new (and_then_feed two read) ≡ and_then_feed two (with_front new read)
+front_then new two (Ok x) = of (feed x.0 two)
+  where
+    of : (read : Result (Progress × List Call) TraceFault) → with_front new (with_front x.1 read) ≡ with_front (new ++ x.1) read
+    of (Ok y) = ap (λ (calls : List Call). Ok (y.0, calls)) (sym (append_assoc new x.1 y.1))
+    of (Err f) = refl
+front_then new two (Err f) = refl
+
+first_then : (one two : List ℕ) (first : Result (Progress × List Call) TraceFault) → ((p : Progress) → feed p (one ++ two) ≡ and_then_feed two (feed p one))
+    → and_then_feed (one ++ two) first ≡ and_then_feed two (and_then_feed one first)
+first_then one two (Ok x) rest = ap (with_front x.1) (rest x.0) ∙ front_then x.1 two (feed x.0 one)
+first_then one two (Err f) rest = refl
+
+-- reading two pieces in turn is reading them as one
+pub feed-append : (one two : List ℕ) (p : Progress) → feed p (one ++ two) ≡ and_then_feed two (feed p one)
+unfolding feed
+feed-append [] two p = sym (front_nothing (feed p two))
+feed-append (byte ∷ one) two p = first_then one two (fed_byte p byte) (λ q. feed-append one two q)
+
+pieces_then : (pieces : List (List ℕ)) (first : Result (Progress × List Call) TraceFault) → ((p : Progress) → feed_each p pieces ≡ feed p (concat pieces))
+    → (first >>= λ a. with_front a.1 (feed_each a.0 pieces)) ≡ and_then_feed (concat pieces) first
+pieces_then pieces (Ok x) rest = ap (with_front x.1) (rest x.0)
+pieces_then pieces (Err f) rest = refl
+
+-- and so it is with any cutting
+pub feed_each-concat : (p : Progress) (pieces : List (List ℕ)) → feed_each p pieces ≡ feed p (concat pieces)
+unfolding feed_each
+feed_each-concat p [] = sym (feed_nothing p)
+feed_each-concat p (piece ∷ pieces) = pieces_then pieces (feed p piece) (λ q. feed_each-concat q pieces) ∙ sym (feed-append piece (concat pieces) p)
+
+-- ---- a line that has begun
+
+longer_twice : (p : Progress) (one two : List ℕ) → longer (longer p one) two ≡ longer p (one ++ two)
+longer_twice p one two = ap (λ line. record p { line = line }) (twice p.line)
+  where
+    short : (line : List ℕ) (b : Bool) → nat_le (length (line ++ one)) line_limit ≡ b → longer_line (cond b (Some (line ++ one)) None) two ≡ kept (line ++ (one ++ two))
+    short line true h = ap kept (append_assoc line one two)
+    short line false h =
+        let past = leb-false (length (line ++ one)) line_limit h in
+        let sizes = length-append (line ++ one) two in
+        let more : line_limit < length (line ++ (one ++ two)) = rw append_assoc at (let more : line_limit < length ((line ++ one) ++ two) = omega (arith, past, sizes) in more) in
+        rw (lt-leb (length (line ++ (one ++ two))) line_limit more) refl
+
+    twice : (line : Option (List ℕ)) → longer_line (longer_line line one) two ≡ longer_line line (one ++ two)
+    twice None = refl
+    twice (Some line) = short line (nat_le (length (line ++ one)) line_limit) refl
+
+starts_back : (header line more : List ℕ) → starts_with ◌==◌ header (line ++ more) ≡ true → starts_with ◌==◌ header line ≡ true
+starts_back header [] more h = refl
+starts_back [] (x ∷ line) more h = cc
+starts_back (b ∷ header) (x ∷ line) more h = let parts = and_parts (x == b) _ h in and_from (x == b) _ parts.0 (starts_back header line more parts.1)
+
+begins_back : (line : Option (List ℕ)) (more : List ℕ) → begins_header (longer_line line more) ≡ true → begins_header line ≡ true
+begins_back None more h = h
+begins_back (Some line) more h = by_length (nat_le (length (line ++ more)) line_limit) h
+  where
+    by_length : (b : Bool) → begins_header (cond b (Some (line ++ more)) None) ≡ true → begins_header (Some line) ≡ true
+    by_length false h = absurd cc
+    by_length true h = elim (or_cases (starts_with ◌==◌ (header_line One) (line ++ more)) (starts_with ◌==◌ (header_line Two) (line ++ more)) h) [
+      | inl one ↦ rw (starts_back (header_line One) line more one) refl
+      | inr two ↦ or_right (starts_with ◌==◌ (header_line One) line) (starts_with ◌==◌ (header_line Two) line) (starts_back (header_line Two) line more two)
+    ]
+
+pub version_of_line : (v : Version) (line : List ℕ) → version_in (Some line) ≡ Some v → line ≡ header_line v
+version_of_line v line = by_tests (bytes_eq line (header_line One)) (bytes_eq line (header_line Two)) refl refl
+  where
+    by_tests : (one two : Bool) → bytes_eq line (header_line One) ≡ one → bytes_eq line (header_line Two) ≡ two → cond one (Some One) (cond two (Some Two) None) ≡ Some v → line ≡ header_line v
+    by_tests true two h k e = let same : One ≡ v = cc in subst (λ v. line ≡ header_line v) same ((bytes_eq-Decides line (header_line One)).0 h)
+    by_tests false true h k e = let same : Two ≡ v = cc in subst (λ v. line ≡ header_line v) same ((bytes_eq-Decides line (header_line Two)).0 k)
+    by_tests false false h k e = absurd cc
+
+-- a header begins with its own line
+told_begins : (v : Version) (line : Option (List ℕ)) → version_in line ≡ Some v → begins_header line ≡ true
+told_begins v None e = absurd cc
+told_begins v (Some line) e = rw (version_of_line v line e) (own v)
+  where
+    own : (v : Version) → begins_header (Some (header_line v)) ≡ true
+    own One = refl
+    own Two = refl
+
+-- a line that has begun like this, or one that no further bytes make valid
+abbrev BegunCases : Progress → Type 0
+BegunCases p = (begun p ≡ Ok (p, [])) ⊎ ((f : TraceFault) × (begun p ≡ Err f) × ((more : List ℕ) → begun (longer p more) ≡ Err f) × ((more : List ℕ) → line_ended (longer p more) ≡ Err f))
+
+begun_cases : (p : Progress) → BegunCases p
+begun_cases p = by_version p.version refl
+  where
+    no_version : (more : List ℕ) → begins_header p.line ≡ false → (found : Option Version) → version_in (longer_line p.line more) ≡ found → after_header (longer p more) found ≡ Err NoHeader
+    no_version more refused None e = refl
+    no_version more refused (Some v) e = let yes = begins_back p.line more (told_begins v (longer_line p.line more) e) in cc
+
+    still : (more : List ℕ) → begins_header p.line ≡ false → begins_header (longer_line p.line more) ≡ false
+    still more refused = false_from_ne_true (begins_header (longer_line p.line more)) (λ yes. let back = begins_back p.line more yes in cc)
+
+    by_version : (version : Option Version) → p.version ≡ version → BegunCases p
+    by_version None is = elim (cases_Bool (begins_header p.line)) [
+      | inl begins ↦ inl (rw (is, begins) refl)
+      | inr refused ↦ inr (NoHeader, rw (is, refused) refl, (λ more. rw (is, still more refused) refl), λ more. rw is (no_version more refused (version_in (longer_line p.line more)) refl))
+    ]
+    by_version (Some v) is = elim (cases_lt p.calls 65536) [
+      | inl lt ↦ inl (rw (is, lt-leb 65536 p.calls lt) refl)
+      | inr le ↦ inr (TooManyCalls, rw (is, le-leb 65536 p.calls le) refl, (λ more. rw (is, le-leb 65536 p.calls le) refl), λ more. rw (is, le-leb 65536 p.calls le) refl)
+    ]
+
+-- ---- lines of a piece
+
+read_alone : (read : Result (Progress × List Call) TraceFault) → and_then_feed [] read ≡ read
+read_alone (Ok x) = ap (with_front x.1) (feed_nothing x.0) ∙ ap (λ (calls : List Call). Ok (x.0, calls)) (append-nil x.1)
+read_alone (Err f) = refl
 
 -- some bytes of a line that has begun
 pub feed_begun : (p : Progress) (bytes : List ℕ) → 0 < length bytes → IsOneLine bytes → feed p bytes ≡ begun (longer p bytes)
-unfolding feed feed_lines
+unfolding feed
 feed_begun p [] some one = absurd (omega arith)
-feed_begun p (byte ∷ bytes) some one = rw (cut_none (byte ∷ bytes) one) refl
+feed_begun p (byte ∷ bytes) some one =
+    let parts = and_parts (not (byte == 10)) (list_all (λ b. not (b == 10)) bytes) one in
+    rw (not-true (byte == 10) parts.0) (of bytes (begun_cases (longer p (byte ∷ []))) (λ q some. feed_begun q bytes some parts.1))
+  where
+    of : (more : List ℕ) → BegunCases (longer p (byte ∷ [])) → ((q : Progress) → 0 < length more → feed q more ≡ begun (longer q more))
+        → and_then_feed more (begun (longer p (byte ∷ []))) ≡ begun (longer p (byte ∷ more))
+    of [] cases rest = read_alone (begun (longer p (byte ∷ [])))
+    of (next ∷ more) (inl so) rest =
+        rw so (front_nothing (feed (longer p (byte ∷ [])) (next ∷ more)) ∙ rest (longer p (byte ∷ [])) (omega arith) ∙ ap begun (longer_twice p (byte ∷ []) (next ∷ more)))
+    of (next ∷ more) (inr stuck) rest = rw stuck.1 (sym (stuck.2 (next ∷ more)) ∙ ap begun (longer_twice p (byte ∷ []) (next ∷ more)))
 
 -- a line that ends
-pub feed_ended : (p : Progress) (line rest : List ℕ) → IsOneLine line → feed p (line ++ 10 ∷ rest) ≡ (line_ended (longer p line) >>= λ first. with_front first.1 (feed first.0 rest))
-unfolding feed feed_lines
-feed_ended p line rest one = let cut = some_line rest in rw (cut_first line rest one, cut.2) refl
+pub feed_ended : (p : Progress) (line rest : List ℕ) → IsOneLine line → feed p (line ++ 10 ∷ rest) ≡ and_then_feed rest (line_ended (longer p line))
+unfolding feed
+feed_ended p [] rest one = refl
+feed_ended p (byte ∷ line) rest one =
+    let parts = and_parts (not (byte == 10)) (list_all (λ b. not (b == 10)) line) one in
+    rw (not-true (byte == 10) parts.0) (of (begun_cases (longer p (byte ∷ []))) (feed_ended (longer p (byte ∷ [])) line rest parts.1))
+  where
+    of : BegunCases (longer p (byte ∷ [])) → feed (longer p (byte ∷ [])) (line ++ 10 ∷ rest) ≡ and_then_feed rest (line_ended (longer (longer p (byte ∷ [])) line))
+        → and_then_feed (line ++ 10 ∷ rest) (begun (longer p (byte ∷ []))) ≡ and_then_feed rest (line_ended (longer p (byte ∷ line)))
+    of (inl so) later = rw so (front_nothing (feed (longer p (byte ∷ [])) (line ++ 10 ∷ rest)) ∙ later ∙ ap (λ q. and_then_feed rest (line_ended q)) (longer_twice p (byte ∷ []) line))
+    of (inr stuck) later = rw stuck.1 (ap (and_then_feed rest) (sym (stuck.3 line) ∙ ap line_ended (longer_twice p (byte ∷ []) line)))
 
 pub is_done : (front : List Call) (p : Progress) (rest : List ℕ) (total : Result (Progress × List Call) TraceFault) → length rest ≡ 0 → with_front front (feed p rest) ≡ total → total ≡ Ok (p, front)
 is_done front p [] total none so_far = sym so_far ∙ ap (with_front front) (feed_nothing p) ∙ ap (λ (cs : List Call). Ok (p, cs)) (append-nil front)

@@ -1,6 +1,6 @@
 -- Reading a trace line by line; the first line is its header.
 use Rattle.std.specs.Prelude.{◌+◌, ◌==◌, ◌||◌, Bool, false, nat_le, ℕ, List, [], ◌∷◌, ◌++◌, length, Option, Some, None, if◌then◌else◌, Result, Ok, Err, ◌≡◌}
-use Rattle.std.specs.List.{slice_split, starts_with}
+use Rattle.std.specs.List.{starts_with}
 use Rattle.std.specs.Str.{bytes_eq}
 use Rattle.kc_types.specs.declared.version.Version.{Version}
 use Rattle.kc_types.specs.declared.version.Version.TheVariants.{One, Two}
@@ -104,23 +104,17 @@ line_ended_by (Some version) progress = if nat_le call_limit progress.calls then
 abbrev pub line_ended : Progress → Result (Progress × List Call) TraceFault
 line_ended progress = line_ended_by progress.version progress
 
--- how far it is after the last line of a piece, which has not ended and may have no bytes
-abbrev pub last_begun : Progress → List ℕ → Result (Progress × List Call) TraceFault
-last_begun progress [] = Ok (progress, [])
-last_begun progress (byte ∷ bytes) = begun (longer progress (byte ∷ bytes))
-
--- how far it is after the lines of a piece, and the calls in them
-unfoldable pub feed_lines : Progress → List (List ℕ) → Result (Progress × List Call) TraceFault
-feed_lines progress [] = Ok (progress, [])
-feed_lines progress (last ∷ []) = last_begun progress last
-feed_lines progress (line ∷ next ∷ lines) = do
-  first ← line_ended (longer progress line)
-  others ← feed_lines first.0 (next ∷ lines)
-  Ok (others.0, first.1 ++ others.1)
+-- how far it is after one more byte, and the call whose line it ends
+abbrev pub fed_byte : Progress → ℕ → Result (Progress × List Call) TraceFault
+fed_byte progress byte = if byte == 10 then line_ended (longer progress []) else begun (longer progress (byte ∷ []))
 
 -- how far it is after a piece, and the calls whose lines the piece ends
 unfoldable pub feed : Progress → List ℕ → Result (Progress × List Call) TraceFault
-feed progress bytes = feed_lines progress (slice_split (λ b. b == 10) bytes)
+feed progress [] = Ok (progress, [])
+feed progress (byte ∷ bytes) = do
+  first ← fed_byte progress byte
+  others ← feed first.0 bytes
+  Ok (others.0, first.1 ++ others.1)
 
 -- what is read after some calls, and these calls
 abbrev pub with_front : List Call → Result (Progress × List Call) TraceFault → Result (Progress × List Call) TraceFault

@@ -33,10 +33,14 @@ pub record IsTrace (text : List ℕ) (calls : List Call) : Type 0 where
   pub each : AreCalls version calls
   pub few : length calls ≤ call_limit
 
+-- after its header and some calls the text has no further call, for this reason
+abbrev pub Stops : List ℕ → TraceFault → Type 0
+Stops text fault = (version : Version) × (calls : List Call) × (rest : List ℕ) × (text ≡ trace_header version ++ (lines_of calls ++ rest)) × AreCalls version calls × StopsAt version (length calls) rest fault
+
 -- the text is not a trace, and this is the first reason
 abbrev pub IsRefused : List ℕ → TraceFault → Type 0
 IsRefused text NoHeader = (version : Version) (rest : List ℕ) → text ≡ trace_header version ++ rest → ⊥
+IsRefused text (BadLine number) = Stops text (BadLine number)
+IsRefused text NoNewline = Stops text NoNewline
+IsRefused text TooManyCalls = Stops text TooManyCalls
 IsRefused text Memory = Unit {0}
-IsRefused text (BadLine number) = (version : Version) × (calls : List Call) × (rest : List ℕ) × (text ≡ trace_header version ++ (lines_of calls ++ rest)) × AreCalls version calls × StopsAt version (length calls) rest (BadLine number)
-IsRefused text NoNewline = (version : Version) × (calls : List Call) × (rest : List ℕ) × (text ≡ trace_header version ++ (lines_of calls ++ rest)) × AreCalls version calls × StopsAt version (length calls) rest NoNewline
-IsRefused text TooManyCalls = (version : Version) × (calls : List Call) × (rest : List ℕ) × (text ≡ trace_header version ++ (lines_of calls ++ rest)) × AreCalls version calls × StopsAt version (length calls) rest TooManyCalls

@@ -1,4 +1,4 @@
-use Rattle.kc_trace.proofs.Traces.{feed_each-concat}
+use Rattle.kc_trace.proofs.Runs.{feed_each-concat}
 use Rattle.kc_trace.proofs.laws.cutting.Goals as goal
 
 pub returns : goal.returns
