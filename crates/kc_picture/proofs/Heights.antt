@@ -55,7 +55,7 @@ met-is lines count from to c first end column some low less at_first at_end past
           rw (lt-ltb from to less, le-ltb a ((c + 1) * lines) past_first, lt-leb first c left) refl
     ]
 
--- a step's number is counted where a line on which it holds falls into the column
+-- a step's number is counted if a line on which it holds falls into the column
 met-at : (lines count c from to line : ℕ) → FallsInto lines count line c → from ≤ line → line < to → is_met lines count from to c ≡ true
 met-at lines count c from to line falls low less =
     let left : (from - 1) * count ≤ (line - 1) * count = mul-le-mul_right count (omega (arith, low)) in
@@ -76,7 +76,7 @@ no-line-above which lines count c (step ∷ more) line falls =
     let this = one-below lines count c step.line (next_step (lines + 1) more) line (number_of which step) falls in
     omega (arith, rest, this)
 
--- where lines meet a column one of them falls into it
+-- if lines meet a column one of them falls into it
 line-at : (lines count c from to : ℕ) → 0 < lines → 0 < count → is_met lines count from to c ≡ true → (line : ℕ) × FallsInto lines count line c × ((from ≤ line) × (line < to))
 line-at lines count c from to some_lines some met =
     let a = (from - 1) * count in

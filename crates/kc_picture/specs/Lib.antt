@@ -2,6 +2,7 @@ pub mod Cells
 pub mod Columns
 pub mod Foot
 pub mod Frames
+pub mod LaneTitles
 pub mod Marks
 pub mod OutlineWords
 pub mod Outlines

@@ -14,8 +14,8 @@ use Rattle.kc_remarks.specs.declared.remark.Note.TheVariants as note
 use Rattle.kc_trace.specs.RemarkText.{kind_text}
 use Rattle.kc_picture.specs.declared.marks.Mark.{Mark}
 use Rattle.kc_picture.specs.declared.marks.Mark.TheVariants as mark
-use Rattle.kc_picture.specs.declared.marks.MarkKind.{MarkKind}
-use Rattle.kc_picture.specs.declared.marks.MarkKind.TheVariants.{Read, Write, Refused, Rejected}
+use Rattle.kc_picture.specs.declared.shapes.MarkKind.{MarkKind}
+use Rattle.kc_picture.specs.declared.shapes.MarkKind.TheVariants.{Read, Write, Refused, Rejected}
 use Rattle.kc_picture.specs.Titles.{place_words, owner_words}
 
 -- a note's mark: each has one but a change

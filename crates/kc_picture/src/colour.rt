@@ -1,121 +1,68 @@
-//! The colours of a picture. Those of the first VMs are Okabe and Ito's, which the colour-blind tell apart.
-ghost use Rattle.std.specs.Prelude.{◌≡◌, ◌<◌, slice_index_or};
+//! The colours of a picture. Those of the first VMs are Okabe and Ito's, which the colour-blind can distinguish.
+ghost use Rattle.std.specs.Prelude.{◌≡◌, ◌<◌, ◌≤◌, slice_index_or};
 
-use kc_types::{Memory, Owner};
+use kc_types::Owner;
+use std::fmt;
 
-/// Red, green and blue.
+/// Red, green and blue, 0 to 255 each, as one number: 0xRRGGBB.
 #[derive(Clone, Copy, PartialEq, Eq)]
-pub(crate) struct Colour(u8, u8, u8);
+pub(crate) struct Colour(u32);
 
 /// One for each slot. Of the first eight, in this order, neighbours differ in lightness too, and the second eight are these,
 /// darker. Each of the others is as far as it can be from all before it and from the colours below, by CIELAB's distance.
-const HUES: [Colour; 64] = [
-    Colour(0x00, 0x72, 0xb2),
-    Colour(0xe6, 0x9f, 0x00),
-    Colour(0x00, 0x9e, 0x73),
-    Colour(0xcc, 0x79, 0xa7),
-    Colour(0x56, 0xb4, 0xe9),
-    Colour(0xd5, 0x5e, 0x00),
-    Colour(0xf0, 0xe4, 0x42),
-    Colour(0x88, 0x22, 0x55),
-    Colour(0x00, 0x44, 0x6a),
-    Colour(0x8a, 0x5f, 0x00),
-    Colour(0x00, 0x5e, 0x45),
-    Colour(0x7a, 0x48, 0x64),
-    Colour(0x33, 0x6c, 0x8b),
-    Colour(0x7f, 0x38, 0x00),
-    Colour(0x90, 0x88, 0x27),
-    Colour(0x51, 0x14, 0x33),
-    Colour(0x00, 0x00, 0xff),
-    Colour(0xff, 0x00, 0xdd),
-    Colour(0x00, 0xdd, 0x11),
-    Colour(0x33, 0x22, 0x99),
-    Colour(0xff, 0x00, 0x88),
-    Colour(0xff, 0xaa, 0x88),
-    Colour(0xbb, 0x88, 0xff),
-    Colour(0x00, 0x88, 0x00),
-    Colour(0xaa, 0x44, 0xff),
-    Colour(0x99, 0xdd, 0x77),
-    Colour(0x55, 0xdd, 0xdd),
-    Colour(0xff, 0x66, 0x77),
-    Colour(0xaa, 0x22, 0x99),
-    Colour(0xcc, 0xbb, 0xff),
-    Colour(0x11, 0x88, 0xff),
-    Colour(0x33, 0x44, 0x00),
-    Colour(0x99, 0x00, 0x22),
-    Colour(0x88, 0xcc, 0x00),
-    Colour(0x00, 0x55, 0xff),
-    Colour(0xaa, 0xbb, 0x88),
-    Colour(0x44, 0x33, 0x77),
-    Colour(0x00, 0xdd, 0x77),
-    Colour(0xff, 0x77, 0xee),
-    Colour(0xaa, 0x66, 0x55),
-    Colour(0x33, 0x00, 0xbb),
-    Colour(0xee, 0xbb, 0x66),
-    Colour(0x44, 0x99, 0x99),
-    Colour(0x00, 0x66, 0x22),
-    Colour(0xff, 0x44, 0x00),
-    Colour(0x99, 0xaa, 0x00),
-    Colour(0xbb, 0x00, 0x55),
-    Colour(0xff, 0xaa, 0xff),
-    Colour(0x88, 0xdd, 0xaa),
-    Colour(0xbb, 0x11, 0x00),
-    Colour(0x77, 0x77, 0xcc),
-    Colour(0x55, 0x33, 0x11),
-    Colour(0x66, 0x99, 0x44),
-    Colour(0x99, 0x44, 0xcc),
-    Colour(0xff, 0x77, 0x55),
-    Colour(0xdd, 0xaa, 0xbb),
-    Colour(0xee, 0x55, 0xaa),
-    Colour(0xaa, 0x88, 0x55),
-    Colour(0x99, 0x55, 0xaa),
-    Colour(0x66, 0x77, 0x44),
-    Colour(0xcc, 0xcc, 0x66),
-    Colour(0xdd, 0x88, 0x44),
-    Colour(0xee, 0x00, 0x55),
-    Colour(0x66, 0x11, 0x66),
+const HUES: [u32; 64] = [
+    0x0072b2, 0xe69f00, 0x009e73, 0xcc79a7, 0x56b4e9, 0xd55e00, 0xf0e442, 0x882255, 0x00446a,
+    0x8a5f00, 0x005e45, 0x7a4864, 0x336c8b, 0x7f3800, 0x908827, 0x511433, 0x0000ff, 0xff00dd,
+    0x00dd11, 0x332299, 0xff0088, 0xffaa88, 0xbb88ff, 0x008800, 0xaa44ff, 0x99dd77, 0x55dddd,
+    0xff6677, 0xaa2299, 0xccbbff, 0x1188ff, 0x334400, 0x990022, 0x88cc00, 0x0055ff, 0xaabb88,
+    0x443377, 0x00dd77, 0xff77ee, 0xaa6655, 0x3300bb, 0xeebb66, 0x449999, 0x006622, 0xff4400,
+    0x99aa00, 0xbb0055, 0xffaaff, 0x88ddaa, 0xbb1100, 0x7777cc, 0x553311, 0x669944, 0x9944cc,
+    0xff7755, 0xddaabb, 0xee55aa, 0xaa8855, 0x9955aa, 0x667744, 0xcccc66, 0xdd8844, 0xee0055,
+    0x661166,
 ];
 
 /// What the core owns.
-pub(crate) const CORE: Colour = Colour(0x3a, 0x3a, 0x3a);
+pub(crate) const CORE: Colour = Colour(0x3a3a3a);
 /// What the host owns.
-pub(crate) const HOST: Colour = Colour(0xdc, 0xdc, 0xdc);
+pub(crate) const HOST: Colour = Colour(0xdcdcdc);
 /// What nobody owns.
-pub(crate) const FREE: Colour = Colour(0xff, 0xff, 0xff);
-/// Where no VM had more than half of what VMs had.
-pub(crate) const SEVERAL: Colour = Colour(0x7d, 0x6b, 0x91);
+pub(crate) const FREE: Colour = Colour(0xffffff);
+/// What several VMs had, none of them more than half of it.
+pub(crate) const SEVERAL: Colour = Colour(0x7d6b91);
 /// The mark of a VM whose images were not approved.
-pub(crate) const DEAD: Colour = Colour(0xff, 0x00, 0x33);
+pub(crate) const DEAD: Colour = Colour(0xff0033);
 /// The mark of a refused call.
-pub(crate) const REFUSED: Colour = Colour(0xff, 0xd7, 0x00);
+pub(crate) const REFUSED: Colour = Colour(0xffd700);
 /// Words and marks.
-pub(crate) const INK: Colour = Colour(0x22, 0x22, 0x22);
+pub(crate) const INK: Colour = Colour(0x222222);
 /// Lesser words.
-pub(crate) const FAINT: Colour = Colour(0x66, 0x66, 0x66);
+pub(crate) const FAINT: Colour = Colour(0x666666);
 /// Edges and base lines.
-pub(crate) const EDGE: Colour = Colour(0x99, 0x99, 0x99);
+pub(crate) const EDGE: Colour = Colour(0x999999);
 /// The stretch of a life.
-pub(crate) const LIFE: Colour = Colour(0xf0, 0xf0, 0xf0);
+pub(crate) const LIFE: Colour = Colour(0xf0f0f0);
 
-/// Moves a part towards white, by 0 to 100 hundredths of the way.
-fn nearer_white(part: u8, percent: u32) -> u8 {
-    let part = u32::from(part);
-    let rest = 255u32.saturating_sub(part);
-    let lighter = part.saturating_add(rest.saturating_mul(percent) / 100);
-    lighter.min(255) as u8
+/// Moves the last byte of a number towards 255, by 0 to 100 hundredths of the way.
+fn nearer_white(number: u32, percent: u32) -> u32
+    ensures { result ≤ 255 }
+{
+    let part = number % 256;
+    let more = (255 - part).saturating_mul(percent) / 100;
+    part.saturating_add(more).min(255)
 }
 
 impl Colour {
     /// The colour of the VM in a slot.
     pub fn of_vm(vm: u32) -> Colour
-        ensures { vm < 64 → result ≡ slice_index_or HUES vm result }
+        ensures { vm < 64 → result.0 ≡ slice_index_or HUES vm result.0 }
     {
         match HUES.get(vm as usize) {
-            Some(hue) => *hue,
+            Some(hue) => Colour(*hue),
             None => INK,
         }
     }
 
+    /// The colour of what an owner owns.
     pub fn of_owner(owner: Owner) -> Colour {
         match owner {
             Owner::Core => CORE,
@@ -127,23 +74,23 @@ impl Colour {
 
     /// Moves it towards white, by 0 to 100 hundredths of the way.
     pub fn paler(self, percent: u32) -> Colour {
-        Colour(
-            nearer_white(self.0, percent),
-            nearer_white(self.1, percent),
-            nearer_white(self.2, percent),
-        )
+        let red = nearer_white(self.0 / 65_536, percent);
+        let green = nearer_white(self.0 / 256, percent);
+        let blue = nearer_white(self.0, percent);
+        Colour(65_536 * red + 256 * green + blue)
     }
 
-    /// Whether white words are read on it better than dark ones.
+    /// Whether white words are easier to read on it than dark ones.
     pub fn is_dark(self) -> bool {
-        let light = 299 * u32::from(self.0) + 587 * u32::from(self.1) + 114 * u32::from(self.2);
-        light < 130_000
+        let (red, green, blue) = (self.0 / 65_536 % 256, self.0 / 256 % 256, self.0 % 256);
+        299 * red + 587 * green + 114 * blue < 130_000
     }
+}
 
-    /// Appends it as `#0072b2`.
-    pub fn push(self, text: &mut String) -> Result<(), Memory> {
-        let number = 65_536 * u32::from(self.0) + 256 * u32::from(self.1) + u32::from(self.2);
-        write!(text, "#{number:06x}")?;
-        Ok(())
+/// As `#0072b2`.
+impl fmt::Display for Colour {
+    fn fmt<W: fmt::Write>(&self, f: &mut fmt::Formatter<W>) -> fmt::Result {
+        let number = self.0;
+        write!(f, "#{number:06x}")
     }
 }

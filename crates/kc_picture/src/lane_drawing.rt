@@ -1,19 +1,20 @@
-//! The lane of a VM: its frames over time, of them those that it shares, and when it was there.
+//! The lane of a VM: how many frames it has over time, how many of them it shares, and when it was there.
 ghost use Rattle.std.specs.Prelude.{◌≡◌, false, string_bytes, IfOk};
 ghost use Rattle.kc_picture.specs.Words.{Puts};
 ghost use Rattle.kc_picture.specs.OutlineWords.{top_of, approach_words, edge_words, outline_words, underline_words, IsOutline, IsUnderline};
 
 use crate::colour::{Colour, EDGE};
+use crate::coordinate::{Coordinate, Points};
 use crate::outlines::{Which, heights_of};
-use crate::scale::{LEFT, PLOT, Scale};
+use crate::scale::{NAMES, PLOT, START, Scale};
 use crate::stay_drawing::{draw_marks, draw_stays, stays_of};
-use crate::svg::{Anchor, Area, HEADING, Style, Svg};
+use crate::svg::{Anchor, Area, HEADING, Paint, Svg};
 use crate::vms::{Lane, Step};
 use crate::words::Text;
 use kc_types::Memory;
 use std::alloc::Global;
 
-/// Whose a lane is, where it lies, and what its height stands for.
+/// Whose a lane is, where it lies, and how many frames its height is.
 #[derive(Clone, Copy)]
 pub(crate) struct LanePlace {
     pub scale: Scale,
@@ -26,6 +27,18 @@ pub(crate) struct LanePlace {
     pub top: u64,
     /// Whether there is room for words on it.
     pub roomy: bool,
+}
+
+impl LanePlace {
+    /// The rectangle of this width and height on its base line.
+    pub fn area(&self, x: Coordinate, width: u64, height: u64) -> Area {
+        Area::new(x, Coordinate(self.base) - height, width, height)
+    }
+
+    /// The base line of words above it.
+    pub fn words_base(&self) -> Coordinate {
+        Coordinate(self.base) - self.height - 100
+    }
 }
 
 /// The least height of a number that is not 0.
@@ -125,42 +138,27 @@ fn underline_of_steps(alloc: Global, scale: Scale, y: u64, steps: &[Step]) -> Re
     Ok(underline_of(alloc, scale, y, &heights))
 }
 
+/// Draws how many frames a VM has over time, and how many of them it shares.
 fn draw_numbers(svg: &mut Svg, place: &LanePlace, steps: &[Step]) -> Result<(), Memory> {
     let all = outline_of_steps(svg.alloc(), place, steps, Which::All)?;
-    svg.path(&all, Colour::of_vm(place.vm));
+    svg.path(&all, Paint::Thin(Colour::of_vm(place.vm)));
     let shared = outline_of_steps(svg.alloc(), place, steps, Which::Shared)?;
-    svg.hatched_path(&shared);
+    svg.path(&shared, Paint::WhiteHatched);
     let below = place.base.saturating_add(BELOW);
     let underline = underline_of_steps(svg.alloc(), place.scale, below, steps)?;
-    svg.long_lines(&underline, BELOW);
+    svg.path(&underline, Paint::LongLines(Points(BELOW)));
     Ok(())
 }
 
-/// Draws what happened to a VM over time.
-fn draw_time(svg: &mut Svg, place: &LanePlace, lane: &Lane) -> Result<(), Memory> {
+/// Draws the lane of a VM, with its name. `Memory` if there was none for it.
+pub(crate) fn draw_lane(svg: &mut Svg, place: &LanePlace, lane: &Lane) -> Result<(), Memory> {
+    let base = Coordinate(place.base);
+    let style = HEADING.anchored(Anchor::End);
+    svg.numbered(NAMES, base - 100, style, "vm ", u64::from(place.vm));
+    svg.rect(&Area::new(START, base, PLOT, 80), Paint::Plain(EDGE));
     let stays = stays_of(svg.alloc(), place.scale, &lane.stays)?;
     draw_stays(svg, place, &stays);
     draw_numbers(svg, place, &lane.steps)?;
     draw_marks(svg, place, &stays);
     Ok(())
-}
-
-/// Draws the lane of a VM, with its name.
-pub(crate) fn draw_lane(svg: &mut Svg, place: &LanePlace, lane: &Lane) {
-    let style = Style {
-        anchor: Anchor::End,
-        ..HEADING
-    };
-    let base = place.base.saturating_sub(100);
-    svg.numbered(LEFT - 800, base, &style, "vm ", u64::from(place.vm));
-    let base = Area {
-        x: LEFT,
-        y: place.base,
-        width: PLOT,
-        height: 80,
-    };
-    svg.rect(&base, EDGE);
-    if let Err(Memory) = draw_time(svg, place, lane) {
-        svg.text.refuse();
-    }
 }

@@ -1,9 +1,9 @@
 //! What each colour and mark of a picture says.
 use crate::colour::{CORE, Colour, DEAD, EDGE, FREE, HOST, INK, LIFE, SEVERAL};
-use crate::mark_drawing::draw_shape;
-use crate::marks::MarkKind;
-use crate::scale::LEFT;
-use crate::svg::{Area, PLAIN, Style, Svg};
+use crate::coordinate::Coordinate;
+use crate::scale::START;
+use crate::shapes::{MarkKind, draw_shape};
+use crate::svg::{Area, PLAIN, Paint, Svg};
 
 /// How a legend shows what its words say.
 #[derive(Clone, Copy)]
@@ -24,122 +24,54 @@ enum Sample {
     Call(MarkKind),
 }
 
-fn draw_sample(svg: &mut Svg, x: u64, y: u64, sample: Sample) {
-    let area = Area {
-        x,
-        y,
-        width: 1_400,
-        height: 1_100,
-    };
+/// Draws a sample from its upper left corner on.
+fn draw_sample(svg: &mut Svg, x: Coordinate, y: Coordinate, sample: Sample) {
+    let area = Area::new(x, y, 1_400, 1_100);
     match sample {
-        Sample::Plain(colour) => svg.edged(&area, colour, EDGE),
+        Sample::Plain(colour) => svg.rect(&area, Paint::Edged(colour, EDGE)),
         Sample::Shared(colour) => {
-            svg.rect(&area, colour);
-            svg.hatched(&area);
+            svg.rect(&area, Paint::Plain(colour));
+            svg.hatch(&area);
         },
-        Sample::Vms => draw_hues(svg, x, y),
+        Sample::Vms => {
+            for vm in 0..4u32 {
+                let hue = Area::new(x + 350 * u64::from(vm), y, 350, 1_100);
+                svg.rect(&hue, Paint::Plain(Colour::of_vm(vm)));
+            }
+        },
         Sample::Footed(colour, height) => {
-            svg.rect(&area, colour);
+            svg.rect(&area, Paint::Plain(colour));
             svg.foot(&area, height);
         },
-        Sample::Underlined(colour) => draw_underlined(svg, &area, colour),
-        Sample::Tick(colour) => {
-            let x = x.saturating_add(650);
-            svg.rect(
-                &Area {
-                    x,
-                    width: 100,
-                    ..area
-                },
-                colour,
-            );
+        Sample::Underlined(colour) => {
+            svg.rect(&Area::new(x, y, 1_400, 800), Paint::Plain(colour));
+            svg.rect(&Area::new(x, y + 900, 1_400, 200), Paint::Plain(INK));
         },
-        Sample::Dead => {
-            let x = x.saturating_add(575);
-            svg.rect(
-                &Area {
-                    x,
-                    width: 250,
-                    ..area
-                },
-                DEAD,
-            );
-        },
-        Sample::Call(kind) => draw_shape(svg, kind, x.saturating_add(700), y, 1_100),
+        Sample::Tick(colour) => svg.rect(&Area::new(x + 650, y, 100, 1_100), Paint::Plain(colour)),
+        Sample::Dead => svg.rect(&Area::new(x + 575, y, 250, 1_100), Paint::Plain(DEAD)),
+        Sample::Call(kind) => draw_shape(svg, kind, x + 700, y, 1_100),
     }
 }
 
-/// Draws a part of a lane, and the line below it which says that a frame is shared.
-fn draw_underlined(svg: &mut Svg, area: &Area, colour: Colour) {
-    let lane = Area {
-        height: 800,
-        ..*area
-    };
-    svg.rect(&lane, colour);
-    let line = Area {
-        y: area.y.saturating_add(900),
-        height: 200,
-        ..*area
-    };
-    svg.rect(&line, INK);
+/// A line of a legend, up to where the next sample begins.
+#[derive(Clone, Copy)]
+struct Line {
+    x: Coordinate,
+    y: Coordinate,
 }
 
-/// The colours of the first slots, side by side.
-fn draw_hues(svg: &mut Svg, x: u64, y: u64) {
-    for vm in 0..4u32 {
-        let area = Area {
-            x: x.saturating_add(u64::from(vm) * 350),
-            y,
-            width: 350,
-            height: 1_100,
-        };
-        svg.rect(&area, Colour::of_vm(vm));
+impl Line {
+    /// A line that has nothing yet.
+    fn new(y: Coordinate) -> Line {
+        Line { x: START, y }
     }
-}
 
-/// Draws a sample and its words, and says where the next one begins.
-fn draw_entry(svg: &mut Svg, x: u64, y: u64, sample: Sample, words: &str) -> u64 {
-    draw_sample(svg, x, y, sample);
-    let style = Style {
-        size: 1_100,
-        ..PLAIN
-    };
-    let (left, base) = (x.saturating_add(1_900), y.saturating_add(1_000));
-    svg.words(left, base, &style, words);
-    let width = 590u64.saturating_mul(words.len() as u64);
-    x.saturating_add(3_800).saturating_add(width)
-}
-
-/// The first entries: whose the colours are.
-fn draw_owners(svg: &mut Svg, y: u64, lanes: u64, vm: Option<u32>) -> u64 {
-    if let Some(vm) = vm {
-        let x = draw_entry(svg, LEFT, y, Sample::Plain(Colour::of_vm(vm)), "the VM's");
-        return draw_entry(svg, x, y, Sample::Plain(FREE), "others'");
+    /// Draws a sample and its words.
+    fn add(&mut self, svg: &mut Svg, sample: Sample, words: &str) {
+        draw_sample(svg, self.x, self.y, sample);
+        svg.words(self.x + 1_900, self.y + 1_000, PLAIN.sized(1_100), words);
+        self.x = self.x + 3_800 + 590u64.saturating_mul(words.len() as u64);
     }
-    let x = draw_entry(svg, LEFT, y, Sample::Plain(CORE), "core");
-    let x = draw_entry(svg, x, y, Sample::Plain(HOST), "host");
-    let x = draw_entry(svg, x, y, Sample::Plain(FREE), "free");
-    if lanes > 0 {
-        return draw_entry(svg, x, y, Sample::Vms, "a VM's: the colour of its lane");
-    }
-    x
-}
-
-/// Draws what each mark of a lane says.
-fn draw_lane_marks(svg: &mut Svg, y: u64, hue: Colour) {
-    let x = draw_entry(svg, LEFT, y, Sample::Underlined(hue), "shares a frame");
-    let x = draw_entry(svg, x, y, Sample::Plain(LIFE), "a VM's life");
-    let x = draw_entry(svg, x, y, Sample::Tick(EDGE), "registered");
-    let words = "measured and active, or cleared";
-    let x = draw_entry(svg, x, y, Sample::Tick(INK), words);
-    draw_entry(svg, x, y, Sample::Dead, "measured and dead");
-}
-
-/// Draws what each mark of a call says.
-fn draw_call_marks(svg: &mut Svg, y: u64) {
-    let x = draw_entry(svg, LEFT, y, Sample::Call(MarkKind::Read), "hread served");
-    let x = draw_entry(svg, x, y, Sample::Call(MarkKind::Write), "hwrite served");
-    draw_entry(svg, x, y, Sample::Call(MarkKind::Refused), "refused");
 }
 
 /// How frames are shown.
@@ -153,50 +85,90 @@ pub(crate) enum Shown {
     Rows,
 }
 
-/// Draws what each colour of frames says.
-fn draw_colours(svg: &mut Svg, y: u64, shown: Shown, lanes: u64, vm: Option<u32>) {
-    let hue = Colour::of_vm(vm.unwrap_or(0));
-    let mut x = draw_owners(svg, y, lanes, vm);
-    if shown == Shown::Cells && lanes > 0 && vm.is_none() {
-        x = draw_entry(svg, x, y, Sample::Plain(SEVERAL), "several VMs'");
-    }
-    if lanes > 0 {
-        x = draw_entry(svg, x, y, Sample::Shared(hue), "shared with the host");
-    }
-    if shown != Shown::Cells {
-        let sample = Sample::Footed(if vm.is_some() { hue } else { HOST }, 250);
-        draw_entry(svg, x, y, sample, "reached by the host");
-    } else if lanes > 0 {
-        let sample = Sample::Footed(hue.paler(50), 120);
-        draw_entry(svg, x, y, sample, "some of it shared");
-    }
+/// What there is to explain: how frames are shown, how many lanes there are, and the slot of the one VM that is drawn, if
+/// it is one.
+#[derive(Clone, Copy)]
+pub(crate) struct Legend {
+    pub shown: Shown,
+    pub lanes: u64,
+    pub vm: Option<u32>,
 }
 
-/// Says what a picture of all VMs cannot show.
-fn say_what_lacks(svg: &mut Svg, y: u64, shown: Shown) {
-    let style = Style {
-        size: 1_000,
-        ..PLAIN
-    };
-    let words = if shown == Shown::Cells {
-        "Not shown: which frame of a cell was whose on which line, what was refused, what the host read and wrote. --vm V shows a VM's frames one by one, with marks of these."
-    } else {
-        "Not shown: what was refused, and what the host read and wrote. --vm V shows them for one VM."
-    };
-    svg.words(LEFT, y, &style, words);
-}
-
-/// Draws what each colour and mark says.
-pub(crate) fn draw_legend(svg: &mut Svg, y: u64, shown: Shown, lanes: u64, vm: Option<u32>) {
-    draw_colours(svg, y, shown, lanes, vm);
-    let mut below = y.saturating_add(1_900);
-    if lanes > 0 {
-        draw_lane_marks(svg, below, Colour::of_vm(vm.unwrap_or(0)));
-        below = below.saturating_add(1_900);
+impl Legend {
+    /// The colour of the VM that is drawn, or of the first.
+    fn hue(&self) -> Colour {
+        Colour::of_vm(self.vm.unwrap_or(0))
     }
-    if vm.is_some() {
-        draw_call_marks(svg, below);
-    } else {
-        say_what_lacks(svg, below.saturating_add(1_000), shown);
+
+    /// Draws whose each colour is.
+    fn draw_owners(&self, svg: &mut Svg, line: &mut Line) {
+        if self.vm.is_some() {
+            line.add(svg, Sample::Plain(self.hue()), "the VM's");
+            line.add(svg, Sample::Plain(FREE), "others'");
+            return;
+        }
+        line.add(svg, Sample::Plain(CORE), "core");
+        line.add(svg, Sample::Plain(HOST), "host");
+        line.add(svg, Sample::Plain(FREE), "free");
+        if self.lanes > 0 {
+            line.add(svg, Sample::Vms, "a VM's: the colour of its lane");
+            if self.shown == Shown::Cells {
+                line.add(svg, Sample::Plain(SEVERAL), "several VMs'");
+            }
+        }
+    }
+
+    /// Draws what each colour of frames says.
+    fn draw_colours(&self, svg: &mut Svg, y: Coordinate) {
+        let mut line = Line::new(y);
+        self.draw_owners(svg, &mut line);
+        if self.lanes > 0 {
+            line.add(svg, Sample::Shared(self.hue()), "shared with the host");
+        }
+        if self.shown != Shown::Cells {
+            let colour = if self.vm.is_some() { self.hue() } else { HOST };
+            line.add(svg, Sample::Footed(colour, 250), "reached by the host");
+        } else if self.lanes > 0 {
+            let colour = self.hue().paler(50);
+            line.add(svg, Sample::Footed(colour, 120), "some of it shared");
+        }
+    }
+
+    /// Draws what each mark of a lane says.
+    fn draw_lane_marks(&self, svg: &mut Svg, y: Coordinate) {
+        let mut line = Line::new(y);
+        line.add(svg, Sample::Underlined(self.hue()), "shares a frame");
+        line.add(svg, Sample::Plain(LIFE), "a VM's life");
+        line.add(svg, Sample::Tick(EDGE), "registered");
+        line.add(svg, Sample::Tick(INK), "measured and active, or cleared");
+        line.add(svg, Sample::Dead, "measured and dead");
+    }
+
+    /// Draws what each mark of a call says or, in a picture of all VMs, what it cannot show.
+    fn draw_calls(&self, svg: &mut Svg, y: Coordinate) {
+        if self.vm.is_some() {
+            let mut line = Line::new(y);
+            line.add(svg, Sample::Call(MarkKind::Read), "hread served");
+            line.add(svg, Sample::Call(MarkKind::Write), "hwrite served");
+            line.add(svg, Sample::Call(MarkKind::Refused), "refused");
+        } else {
+            let words = if self.shown == Shown::Cells {
+                "Not shown: which frame of a cell was whose on which line, what was refused, what the host read and wrote. --vm V shows a VM's frames one by one, with marks of these."
+            } else {
+                "Not shown: what was refused, and what the host read and wrote. --vm V shows them for one VM."
+            };
+            svg.words(START, y + 1_000, PLAIN, words);
+        }
+    }
+
+    /// Draws what each colour and mark says.
+    pub fn draw(&self, svg: &mut Svg, y: Coordinate) {
+        self.draw_colours(svg, y);
+        let mut below = y + 1_900;
+        if self.lanes > 0 {
+            self.draw_lane_marks(svg, below);
+            below = below + 1_900;
+        }
+        self.draw_calls(svg, below);
     }
 }

@@ -3,6 +3,8 @@ ghost use Rattle.std.specs.Prelude.{◌≡◌, ◌++◌, IfOk, OnOk, string_byte
 ghost use Rattle.kc_trace.specs.RemarkText.{kind_text};
 ghost use Rattle.kc_picture.specs.Marks.{mark_of, marks, line_of, denied_kind, access_kind, kind_of, frame_if_held, frame_of, reason_words, named_words, access_words, mark_title, kind_words, marks_title};
 
+use crate::lane_titles::Run;
+use crate::shapes::MarkKind;
 use crate::titles::{push_owner, push_place};
 use crate::vm_rows::is_owned_by;
 use kc_remarks::{Access, CallKind, Denial, Denied, NamedFrame, Note};
@@ -18,15 +20,7 @@ pub enum Mark {
     Access(Access),
 }
 
-/// What a mark looks like.
-#[derive(Clone, Copy, PartialEq, Eq)]
-pub(crate) enum MarkKind {
-    Read,
-    Write,
-    Refused,
-    Rejected,
-}
-
+/// The mark of a note, if it has one.
 fn mark_of(note: &Note) -> Option<Mark>
     ensures { result ≡ mark_of note.now }
 {
@@ -37,7 +31,7 @@ fn mark_of(note: &Note) -> Option<Mark>
     }
 }
 
-/// Makes the marks of notes, in their order. `Memory` if a growth was refused.
+/// Makes the marks of notes, in their order. `Memory` if there was none for them.
 pub fn marks_of(alloc: Global, notes: &[Note]) -> Result<Vec<Mark>, Memory>
     ensures { IfOk result (λ made. made.items ≡ marks notes.now) }
 {
@@ -48,6 +42,7 @@ pub fn marks_of(alloc: Global, notes: &[Note]) -> Result<Vec<Mark>, Memory>
     Ok(made)
 }
 
+/// What the mark of a call that was denied looks like.
 fn denied_kind(reason: Denial) -> MarkKind
     ensures { result ≡ denied_kind reason }
 {
@@ -57,6 +52,7 @@ fn denied_kind(reason: Denial) -> MarkKind
     }
 }
 
+/// What the mark of an access looks like.
 fn access_kind(call: CallKind) -> MarkKind
     ensures { result ≡ access_kind call }
 {
@@ -87,6 +83,7 @@ impl Mark {
         }
     }
 
+    /// What it looks like.
     pub(crate) fn kind(self) -> MarkKind
         ensures { result ≡ kind_of self }
     {
@@ -108,7 +105,7 @@ impl Mark {
 }
 
 /// The name of a call, as in traces.
-fn name_of(call: CallKind) -> &'static str
+fn call_name(call: CallKind) -> &'static str
     ensures { result.now ≡ kind_text call }
 {
     match call {
@@ -160,25 +157,27 @@ fn push_named(words: &mut String, named: Option<NamedFrame>) -> Result<(), Memor
     Ok(())
 }
 
+/// The title of a call that was denied.
 fn denied_title(alloc: Global, denied: &Denied) -> Result<String, Memory>
     ensures { IfOk result (λ title. string_bytes title ≡ mark_title (Mark.Denied denied.now)) }
 {
-    let (line, name) = (denied.line, name_of(denied.call));
+    let (line, name) = (denied.line, call_name(denied.call));
     let mut title = format!(in alloc; "line {line}: {name}")?;
     push_reason(&mut title, denied.reason)?;
     push_named(&mut title, denied.named)?;
     Ok(title)
 }
 
-/// Which bytes of which frame were accessed, and by which call.
+/// Spells which bytes of which frame were accessed, and by which call.
 fn access_words(alloc: Global, access: &Access) -> Result<String, Memory>
     ensures { IfOk result (λ words. string_bytes words ≡ access_words access.now) }
 {
-    let (line, name) = (access.line, name_of(access.call));
+    let (line, name) = (access.line, call_name(access.call));
     let (len, offset, frame) = (access.len, access.offset, access.frame);
     Ok(format!(in alloc; "line {line}: {name} of {len} bytes from byte {offset} of frame {frame}")?)
 }
 
+/// The title of an access.
 fn access_title(alloc: Global, access: &Access) -> Result<String, Memory>
     ensures { IfOk result (λ title. string_bytes title ≡ mark_title (Mark.Access access.now)) }
 {
@@ -187,7 +186,7 @@ fn access_title(alloc: Global, access: &Access) -> Result<String, Memory>
     Ok(title)
 }
 
-/// All that a mark says: "line 25: hwrite refused, not-present: frame 3, vm 0 at guest frame 7".
+/// The title of a mark: "line 25: hwrite refused, not-present: frame 3, vm 0 at guest frame 7".
 pub(crate) fn mark_title(alloc: Global, mark: Mark) -> Result<String, Memory>
     ensures { IfOk result (λ title. string_bytes title ≡ mark_title mark) }
 {
@@ -197,6 +196,7 @@ pub(crate) fn mark_title(alloc: Global, mark: Mark) -> Result<String, Memory>
     }
 }
 
+/// What several marks of a kind are.
 fn words_of(kind: MarkKind) -> &'static str
     ensures { result.now ≡ kind_words kind }
 {
@@ -208,16 +208,11 @@ fn words_of(kind: MarkKind) -> &'static str
     }
 }
 
-/// What marks say that are drawn as one: "12 refused, lines 17 to 40".
-pub(crate) fn marks_title(
-    alloc: Global,
-    count: u64,
-    kind: MarkKind,
-    first: u32,
-    last: u32,
-) -> Result<String, Memory>
-    ensures { IfOk result (λ title. string_bytes title ≡ marks_title count kind first last) }
+/// The title of marks that are drawn as one: "12 refused, lines 17 to 40".
+pub(crate) fn marks_title(alloc: Global, kind: MarkKind, run: &Run) -> Result<String, Memory>
+    ensures { IfOk result (λ title. string_bytes title ≡ marks_title run.now.count kind run.now.first run.now.last) }
 {
     let words = words_of(kind);
+    let (count, first, last) = (run.count, run.first, run.last);
     Ok(format!(in alloc; "{count} {words}, lines {first} to {last}")?)
 }

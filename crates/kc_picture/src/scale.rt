@@ -1,15 +1,22 @@
-//! Where lines of the trace lie from left to right, and at which of them marks stand.
+//! Where lines of the trace lie from left to right, and which of them have marks.
 ghost use Rattle.std.specs.Prelude.{◌≡◌, ◌+◌, ◌^◌, ◌<◌, ◌≤◌};
 ghost use Rattle.kc_picture.specs.Columns.{columns_of, column_x};
 
+use crate::coordinate::Coordinate;
 use crate::svg::WIDTH;
 
 /// Where the first line lies.
 pub(crate) const LEFT: u64 = 9_200;
-/// What is left free behind the end.
+/// What is left free after the end.
 pub(crate) const RIGHT: u64 = 2_000;
 /// The width between the two.
 pub(crate) const PLOT: u64 = WIDTH - LEFT - RIGHT;
+/// Where it begins and ends.
+pub(crate) const START: Coordinate = Coordinate(LEFT);
+
+pub(crate) const END: Coordinate = Coordinate(LEFT + PLOT);
+/// Where what is written at the left of it ends.
+pub(crate) const NAMES: Coordinate = Coordinate(LEFT - 800);
 /// The number of columns, a point wide each, in that width.
 pub(crate) const MOST_POINTS: u64 = PLOT / 100;
 
@@ -23,7 +30,7 @@ pub(crate) struct Scale {
 }
 
 impl Scale {
-    /// Makes that of a trace with a number of calls; more calls than a line's number can count are taken as the most it can.
+    /// Makes that of a trace with a number of calls; more than a line's number can count are taken as the most that it can.
     pub fn of_calls(calls: usize) -> Scale {
         let calls = (calls as u64).min(u64::from(u32::MAX) - 2);
         Scale { last: calls + 1 }
@@ -37,14 +44,17 @@ impl Scale {
     }
 
     /// Where a line begins; lines after the last begin at the right end.
-    pub fn x(self, line: u32) -> u64
-        ensures from { LEFT ≤ result }
-        ensures to { result ≤ LEFT + PLOT }
+    pub fn x(self, line: u32) -> Coordinate
+        ensures from { LEFT ≤ result.0 }
+        ensures to { result.0 ≤ LEFT + PLOT }
     {
-        let last = self.last.max(1);
-        let behind = u64::from(line).saturating_sub(1).min(last);
-        let x = LEFT.saturating_add(PLOT.saturating_mul(behind) / last);
-        x.min(LEFT + PLOT)
+        let lines = u64::from(line).saturating_sub(1).min(self.last);
+        Coordinate((LEFT + PLOT * lines / self.last).min(LEFT + PLOT))
+    }
+
+    /// How wide the lines from one up to another are.
+    pub fn width(self, from: u32, to: u32) -> u64 {
+        self.x(to).distance(self.x(from))
     }
 
     /// How many columns there are: one for each line, or, of a long trace, one for each point.
@@ -63,7 +73,7 @@ impl Scale {
     }
 }
 
-/// The most lines that fall into one of some columns, even in part.
+/// The greatest number of lines that fall into one of some columns, even in part.
 pub(crate) fn lines_of_column(lines: u64, columns: u64) -> u64 {
     let columns = columns.max(1);
     let whole = lines / columns;

@@ -3,20 +3,27 @@ ghost use Rattle.std.specs.Prelude.{IfOk};
 ghost use Rattle.kc_picture.specs.Foot.{HasFoot};
 
 use crate::colour::FAINT;
+use crate::coordinate::Coordinate;
 use crate::lane_drawing::{LanePlace, draw_lane};
-use crate::legend::{Shown, draw_legend};
-use crate::scale::{LEFT, PLOT, Scale, lines_of_column, nice};
-use crate::svg::{Anchor, Area, HEADING, REMARK, Style, Svg};
+use crate::legend::{Legend, Shown};
+use crate::scale::{END, LEFT, PLOT, Scale, lines_of_column, nice};
+use crate::svg::{Anchor, Area, HEADING, MARGIN, Paint, REMARK, Svg};
 use crate::vms::{Lane, lanes_of};
-use crate::words::Text;
+use crate::words::{Count, Text, put};
 use kc_trace::Heading;
 use kc_types::{Event, Memory};
 use std::alloc::Global;
 
 /// The most lines through which marks of lanes have words: a line is half a point wide then.
 pub(crate) const FEW_LINES: u64 = 2_001;
+/// The base line of the heading of the lanes, and where the first lane begins.
+const LANES_HEAD: Coordinate = Coordinate(4_600);
 
-/// The height of a lane among so many.
+const LANES: Coordinate = Coordinate(5_800);
+/// Lanes that are higher have room for words.
+const ROOMY: u64 = 3_000;
+
+/// The height of a lane, by the number of lanes.
 fn lane_height(lanes: u64) -> u64 {
     if lanes <= 6 {
         3_600
@@ -27,168 +34,53 @@ fn lane_height(lanes: u64) -> u64 {
     }
 }
 
-/// Where each part of a picture begins, from above to below.
-#[derive(Clone, Copy)]
-pub(crate) struct Layout {
-    lanes: u64,
-    lane_height: u64,
-    pub frames: u64,
-    axis: u64,
-    legend: u64,
-    /// The base line of the foot.
-    foot: u64,
-    height: u64,
-}
-
-/// The parts of a picture with a number of lanes and frames of this height.
-fn layout_of(lanes: u64, frames_height: u64) -> Layout {
-    let lane_height = lane_height(lanes);
-    let first = if lanes > 0 { 5_800u64 } else { 2_200 };
-    let behind = first.saturating_add(lanes.saturating_mul(lane_height));
-    let below = behind.saturating_add(2_800);
-    let axis = below.saturating_add(frames_height).saturating_add(400);
-    let legend = axis.saturating_add(4_600);
-    let foot = legend.saturating_add(if lanes > 0 { 6_800 } else { 4_900 });
-    Layout {
-        lanes: first,
-        lane_height,
-        frames: below,
-        axis,
-        legend,
-        foot,
-        height: foot.saturating_add(800),
-    }
-}
-
-/// Whether a VM has a lane: each to which something happened, or the one that is named alone.
+/// Whether the VM in a slot has a lane: each to which something happened, or the one that is named alone.
 fn has_lane(lane: &Lane, slot: u32, vm: Option<u32>) -> bool {
-    let named = match vm {
-        Some(vm) => slot == vm,
-        None => true,
-    };
-    named && lane.is_used()
+    slot == vm.unwrap_or(slot) && lane.is_used()
 }
 
-/// How many lanes there are, of how many VMs, and the most frames of one.
-#[derive(Clone, Copy)]
-struct Extent {
-    used: u64,
-    lanes: u64,
-    top: u64,
-}
-
-fn extent_of(lanes: &[Lane], vm: Option<u32>) -> Extent {
-    let mut extent = Extent {
-        used: 0,
-        lanes: 0,
-        top: 0,
-    };
-    let mut slot = 0u32;
-    for lane in lanes {
-        if lane.is_used() {
-            extent.used = extent.used.saturating_add(1);
-        }
-        if has_lane(lane, slot, vm) {
-            extent.lanes = extent.lanes.saturating_add(1);
-            extent.top = extent.top.max(lane.most());
-        }
-        slot = slot.saturating_add(1);
-    }
-    extent
-}
-
-fn title_of(alloc: Global, frames: u64, calls: usize, used: u64, vm: Option<u32>) -> Text {
-    let mut title = Text::new(alloc);
-    title.put("Custody of ");
-    title.put_count(frames, "frame");
-    title.put(" of 4,096 bytes through ");
-    title.put_count(calls as u64, "call");
-    title.put(", ");
-    title.put_count(used, "VM");
-    if let Some(vm) = vm {
-        title.put_number(": vm ", u64::from(vm));
-        title.put(" alone");
-    }
-    title
-}
-
-/// Writes the heading of the lanes.
-fn head_lanes(svg: &mut Svg, vm: Option<u32>) {
-    svg.begin_words(800, 4_600, &HEADING);
-    match vm {
-        Some(vm) => svg.text.put_number("Frames of vm ", u64::from(vm)),
-        None => svg.text.put("Frames of each VM"),
-    }
-    svg.text.put(", and of them shared with the host (hatched)");
-    svg.end_words();
-}
-
-/// Writes at the right what the height of the lanes stands for.
-fn explain_lanes(svg: &mut Svg, scale: Scale, top: u64, vm: Option<u32>) {
-    svg.begin_words(LEFT + PLOT, 4_600, &REMARK);
-    svg.text.put(if vm.is_some() {
-        "at most "
-    } else {
-        "highest lane: "
-    });
-    svg.text.put_count(top, "frame");
-    let wide = lines_of_column(scale.last, scale.columns());
-    if wide > 1 {
-        svg.text.put("; each point shows the most on any of up to ");
-        svg.text.put_count(wide, "line");
-    }
-    svg.end_words();
-}
-
-/// Draws a mark of the axis with its line.
-fn draw_mark(svg: &mut Svg, scale: Scale, axis: u64, line: u32) {
+/// Draws the mark of a line on the axis.
+fn draw_mark(svg: &mut Svg, scale: Scale, axis: Coordinate, line: u32) {
     let x = scale.x(line);
-    let mark = Area {
-        x,
-        y: axis,
-        width: 80,
-        height: 400,
-    };
-    svg.rect(&mark, FAINT);
-    let style = Style {
-        anchor: Anchor::Middle,
-        ..REMARK
-    };
-    svg.numbered(x, axis.saturating_add(1_500), &style, "", u64::from(line));
+    svg.rect(&Area::new(x, axis, 80, 400), Paint::Plain(FAINT));
+    let style = REMARK.anchored(Anchor::Middle);
+    svg.numbered(x, axis + 1_500, style, "", u64::from(line));
 }
 
 /// Draws the axis: marks at the first line and at round ones.
-fn draw_axis(svg: &mut Svg, scale: Scale, axis: u64) {
+fn draw_axis(svg: &mut Svg, scale: Scale, axis: Coordinate) {
     let step = nice(scale.last, 12);
     draw_mark(svg, scale, axis, 1);
     for i in 1..13u64 {
         let line = step.saturating_mul(i);
-        if line > 1 && line <= scale.last && line <= 4_000_000_000 {
+        if line > 1 && line <= scale.last {
             draw_mark(svg, scale, axis, line as u32);
         }
     }
-    let style = Style {
-        size: 1_100,
-        anchor: Anchor::Middle,
-        ..REMARK
-    };
+    let style = REMARK.sized(1_100).anchored(Anchor::Middle);
     let words = "line of the trace (its header is line 1)";
-    svg.words(LEFT + PLOT / 2, axis.saturating_add(3_000), &style, words);
+    svg.words(Coordinate(LEFT + PLOT / 2), axis + 3_000, style, words);
 }
 
 /// The parts of a picture that every picture has.
 #[derive(Drop)]
 pub(crate) struct Sheet {
     pub scale: Scale,
-    pub layout: Layout,
-    lanes: Vec<Lane>,
-    extent: Extent,
+    calls: u64,
     /// The slot of the one VM that is drawn, if it is one.
     vm: Option<u32>,
+    lanes: Vec<Lane>,
+    /// How many VMs there are, how many of them have lanes, and the most frames of one of these.
+    used: u64,
+    shown: u64,
+    most: u64,
+    /// Where the frames begin, and the axis below them.
+    pub frames: Coordinate,
+    axis: Coordinate,
 }
 
 impl Sheet {
-    /// Makes that of a trace's events, with room of this height for frames. `Memory` if a growth was refused.
+    /// Lays out a picture of a trace's events, with room of this height for frames. `Memory` if a growth was refused.
     pub fn new(
         alloc: Global,
         calls: usize,
@@ -197,60 +89,126 @@ impl Sheet {
         frames_height: u64,
     ) -> Result<Sheet, Memory> {
         let lanes = lanes_of(alloc, events)?;
-        let extent = extent_of(&lanes, vm);
+        let (mut used, mut shown, mut most, mut slot) = (0u64, 0u64, 0u64, 0u32);
+        for lane in &lanes {
+            if lane.is_used() {
+                used = used.saturating_add(1);
+            }
+            if has_lane(lane, slot, vm) {
+                shown = shown.saturating_add(1);
+                most = most.max(lane.most());
+            }
+            slot = slot.saturating_add(1);
+        }
+        let frames = if shown > 0 {
+            LANES + shown.saturating_mul(lane_height(shown)) + 2_800
+        } else {
+            Coordinate(5_000)
+        };
         Ok(Sheet {
             scale: Scale::of_calls(calls),
-            layout: layout_of(extent.lanes, frames_height),
-            lanes,
-            extent,
+            calls: calls as u64,
             vm,
+            lanes,
+            used,
+            shown,
+            most,
+            frames,
+            axis: frames + frames_height + 400,
         })
     }
 
-    fn draw_lanes(&self, svg: &mut Svg) {
-        let height = self.layout.lane_height;
+    /// Writes the title of a picture of a machine with this number of frames.
+    fn title(&self, alloc: Global, frames: u64) -> Text {
+        let mut title = Text::new(alloc);
+        let frames = Count(frames, "frame");
+        let (calls, vms) = (Count(self.calls, "call"), Count(self.used, "VM"));
+        put!(
+            title,
+            "Custody of {frames} of 4,096 bytes through {calls}, {vms}"
+        );
+        if let Some(vm) = self.vm {
+            put!(title, ": vm {vm} alone");
+        }
+        title
+    }
+
+    /// Writes the heading of the lanes and, at the right, how many frames their height is.
+    fn head_lanes(&self, svg: &mut Svg) {
+        svg.begin_words(MARGIN, LANES_HEAD, HEADING);
+        match self.vm {
+            Some(vm) => put!(svg.text, "Frames of vm {vm}"),
+            None => svg.text.put("Frames of each VM"),
+        }
+        svg.text.put(", and of them shared with the host (hatched)");
+        svg.end_words();
+        svg.begin_words(END, LANES_HEAD, REMARK);
+        let most = Count(self.most, "frame");
+        match self.vm {
+            Some(_) => put!(svg.text, "at most {most}"),
+            None => put!(svg.text, "highest lane: {most}"),
+        }
+        let wide = lines_of_column(self.scale.last, self.scale.columns());
+        if wide > 1 {
+            let lines = Count(wide, "line");
+            put!(
+                svg.text,
+                "; each point shows the most on any of up to {lines}"
+            );
+        }
+        svg.end_words();
+    }
+
+    /// Draws the lanes. `Memory` if there was none for one of them.
+    fn draw_lanes(&self, svg: &mut Svg) -> Result<(), Memory> {
+        let height = lane_height(self.shown);
+        let is_roomy = height > ROOMY;
         let mut place = LanePlace {
             scale: self.scale,
             vm: 0,
-            base: self.layout.lanes.saturating_add(height).saturating_sub(400),
-            height: height.saturating_sub(if height > 3_000 { 1_200 } else { 900 }),
-            top: self.extent.top,
-            roomy: height > 3_000 && self.scale.last <= FEW_LINES,
+            base: (LANES + height - 400).0,
+            height: height.saturating_sub(if is_roomy { 1_200 } else { 900 }),
+            top: self.most,
+            roomy: is_roomy && self.scale.last <= FEW_LINES,
         };
         for lane in &self.lanes {
             if has_lane(lane, place.vm, self.vm) {
-                draw_lane(svg, &place, lane);
+                draw_lane(svg, &place, lane)?;
                 place.base = place.base.saturating_add(height);
             }
             place.vm = place.vm.saturating_add(1);
         }
+        Ok(())
     }
 
-    /// Begins a picture of a machine with a number of frames: its title and its lanes.
-    pub fn open(&self, alloc: Global, frames: u64, calls: usize) -> Svg {
-        let title = title_of(alloc, frames, calls, self.extent.used, self.vm);
-        let mut svg = Svg::open(alloc, self.layout.height, &title);
-        if self.extent.lanes > 0 {
-            head_lanes(&mut svg, self.vm);
-            explain_lanes(&mut svg, self.scale, self.extent.top, self.vm);
-            self.draw_lanes(&mut svg);
+    /// The base line of the foot.
+    fn foot(&self) -> Coordinate {
+        self.axis + if self.shown > 0 { 11_400 } else { 9_500 }
+    }
+
+    /// Begins a picture of a machine with this number of frames: its title and its lanes. `Memory` if there was none for
+    /// these.
+    pub fn open(&self, alloc: Global, frames: u64) -> Result<Svg, Memory> {
+        let height = self.foot() + 800;
+        let mut svg = Svg::open(alloc, height, &self.title(alloc, frames));
+        if self.shown > 0 {
+            self.head_lanes(&mut svg);
+            self.draw_lanes(&mut svg)?;
         }
-        svg
+        Ok(svg)
     }
 
     /// Draws the axis, what the legend says of frames that are shown so, and the foot, and ends the picture.
-    pub fn close(&self, svg: Svg, shown: Shown, heading: &Heading) -> Result<Vec<u8>, Memory>
+    pub fn close(&self, mut svg: Svg, shown: Shown, heading: &Heading) -> Result<Vec<u8>, Memory>
         ensures { IfOk result (λ text. HasFoot heading.now text.items) }
     {
-        let mut svg = svg;
-        draw_axis(&mut svg, self.scale, self.layout.axis);
-        draw_legend(
-            &mut svg,
-            self.layout.legend,
+        draw_axis(&mut svg, self.scale, self.axis);
+        let legend = Legend {
             shown,
-            self.extent.lanes,
-            self.vm,
-        );
-        svg.close(self.layout.foot, heading)
+            lanes: self.shown,
+            vm: self.vm,
+        };
+        legend.draw(&mut svg, self.axis + 4_600);
+        svg.close(self.foot(), heading)
     }
 }

@@ -1,30 +1,62 @@
-//! A picture as a text of SVG 1.1. Lengths are in hundredths of a point, from the left and from above.
+//! A picture as a text of SVG 1.1. Lengths are in hundredths of a point, coordinates from the left and from above.
 ghost use Rattle.std.specs.Prelude.{IfOk};
 ghost use Rattle.kc_picture.specs.Foot.{HasFoot};
 
 use crate::colour::{Colour, FAINT, FREE, INK};
+use crate::coordinate::{Coordinate, Points};
 use crate::foot::put_foot;
-use crate::words::Text;
+use crate::words::{Text, put};
 use kc_trace::Heading;
 use kc_types::Memory;
 use std::alloc::Global;
+use std::fmt;
 
 /// The width of a picture.
 pub(crate) const WIDTH: u64 = 120_000;
+/// Where titles, headings and the foot begin.
+pub(crate) const MARGIN: Coordinate = Coordinate(800);
 
 /// Slanted stripes, on what lies below them and on white.
 const STRIPES: &str =
     "<defs>\n<pattern id=\"shared\" width=\"5\" height=\"5\" patternUnits=\"userSpaceOnUse\" patternTransform=\"rotate(45)\"><rect width=\"5\" height=\"5\" fill=\"none\"/><rect width=\"2\" height=\"5\" fill=\"#111111\"/></pattern>\n<pattern id=\"white\" width=\"5\" height=\"5\" patternUnits=\"userSpaceOnUse\" patternTransform=\"rotate(45)\"><rect width=\"5\" height=\"5\" fill=\"#ffffff\"/><rect width=\"2\" height=\"5\" fill=\"#111111\"/></pattern>\n</defs>\n";
 
+/// A rectangle.
 #[derive(Clone, Copy)]
 pub(crate) struct Area {
-    pub x: u64,
-    pub y: u64,
+    pub x: Coordinate,
+    pub y: Coordinate,
     pub width: u64,
     pub height: u64,
 }
 
-/// Which end of some words stands at their place.
+impl Area {
+    /// The rectangle from its upper left corner on.
+    pub fn new(x: Coordinate, y: Coordinate, width: u64, height: u64) -> Area {
+        Area {
+            x,
+            y,
+            width,
+            height,
+        }
+    }
+
+    /// Where it ends below.
+    pub fn bottom(&self) -> Coordinate {
+        self.y + self.height
+    }
+}
+
+impl fmt::Display for Area {
+    fn fmt<W: fmt::Write>(&self, f: &mut fmt::Formatter<W>) -> fmt::Result {
+        let (x, y, width, height) = (self.x, self.y, Points(self.width), Points(self.height));
+        write!(
+            f,
+            "x=\"{x}\" y=\"{y}\" width=\"{width}\" height=\"{height}\""
+        )
+    }
+}
+
+/// Which part of some words is at their place.
 #[derive(Clone, Copy)]
 pub(crate) enum Anchor {
     Start,
@@ -35,10 +67,10 @@ pub(crate) enum Anchor {
 /// How words look.
 #[derive(Clone, Copy)]
 pub(crate) struct Style {
-    pub size: u64,
-    pub anchor: Anchor,
-    pub colour: Colour,
-    pub bold: bool,
+    size: u64,
+    anchor: Anchor,
+    colour: Colour,
+    bold: bool,
 }
 
 /// What most words are like.
@@ -47,13 +79,6 @@ pub(crate) const PLAIN: Style = Style {
     anchor: Anchor::Start,
     colour: INK,
     bold: false,
-};
-/// A title of the whole picture.
-const TITLE: Style = Style {
-    size: 1_500,
-    anchor: Anchor::Start,
-    colour: INK,
-    bold: true,
 };
 /// A heading of a part.
 pub(crate) const HEADING: Style = Style {
@@ -69,13 +94,82 @@ pub(crate) const REMARK: Style = Style {
     colour: FAINT,
     bold: false,
 };
-/// The foot, of which 180 letters are to fit into the width.
-const FOOT: Style = Style {
-    size: 900,
-    anchor: Anchor::Start,
-    colour: FAINT,
-    bold: false,
-};
+
+impl Style {
+    /// The same, in letters of this size.
+    pub fn sized(self, size: u64) -> Style {
+        Style { size, ..self }
+    }
+
+    /// The same, with this part of the words at their place.
+    pub fn anchored(self, anchor: Anchor) -> Style {
+        Style { anchor, ..self }
+    }
+
+    /// The same, in this colour.
+    pub fn coloured(self, colour: Colour) -> Style {
+        Style { colour, ..self }
+    }
+
+    /// The same, in bold letters.
+    pub fn bold(self) -> Style {
+        Style { bold: true, ..self }
+    }
+}
+
+/// How a shape is painted.
+#[derive(Clone, Copy)]
+pub(crate) enum Paint {
+    Plain(Colour),
+    /// With an edge of the second colour.
+    Edged(Colour, Colour),
+    /// An edge alone.
+    Edge(Colour),
+    /// With a thin edge.
+    Thin(Colour),
+    /// Paler than before.
+    Pale,
+    /// Hatched, over what is below it.
+    Hatched,
+    /// Hatched, over white.
+    WhiteHatched,
+    /// Lines of this width along a path.
+    Lines(Points),
+    /// Such lines, each longer by half their width at both ends, so that the shortest is seen.
+    LongLines(Points),
+}
+
+/// Writes a fill, with an edge of this colour and this width in points.
+fn write_edged<W: fmt::Write, T: fmt::Display>(
+    f: &mut fmt::Formatter<W>,
+    fill: &T,
+    edge: Colour,
+    width: &str,
+) -> fmt::Result {
+    write!(
+        f,
+        "fill=\"{fill}\" stroke=\"{edge}\" stroke-width=\"{width}\""
+    )
+}
+
+impl fmt::Display for Paint {
+    fn fmt<W: fmt::Write>(&self, f: &mut fmt::Formatter<W>) -> fmt::Result {
+        match self {
+            Paint::Plain(fill) => write!(f, "fill=\"{fill}\""),
+            Paint::Edged(fill, edge) => write_edged(f, fill, *edge, "0.6"),
+            Paint::Edge(edge) => write_edged(f, &"none", *edge, "0.6"),
+            Paint::Thin(fill) => write_edged(f, fill, INK, "0.4"),
+            Paint::Pale => write!(f, "fill=\"{FREE}\" fill-opacity=\"0.55\""),
+            Paint::Hatched => write_edged(f, &"url(#shared)", INK, "0.8"),
+            Paint::WhiteHatched => write_edged(f, &"url(#white)", INK, "0.6"),
+            Paint::Lines(width) => write!(f, "stroke=\"{INK}\" stroke-width=\"{width}\""),
+            Paint::LongLines(width) => write!(
+                f,
+                "fill=\"none\" stroke=\"{INK}\" stroke-width=\"{width}\" stroke-linecap=\"square\""
+            ),
+        }
+    }
+}
 
 /// The picture so far.
 #[derive(Drop)]
@@ -85,28 +179,24 @@ pub(crate) struct Svg {
 }
 
 impl Svg {
-    /// A white picture of this height with a title.
-    pub fn open(alloc: Global, height: u64, title: &Text) -> Svg {
-        let mut svg = Svg {
-            alloc,
-            text: Text::new(alloc),
-        };
-        svg.text.put_length(
-            "<svg xmlns=\"http://www.w3.org/2000/svg\" version=\"1.1\" width=\"",
-            WIDTH,
+    /// Begins a white picture of this height with a title.
+    pub fn open(alloc: Global, height: Coordinate, title: &Text) -> Svg {
+        let mut text = Text::new(alloc);
+        let width = Points(WIDTH);
+        put!(
+            text,
+            "<svg xmlns=\"http://www.w3.org/2000/svg\" version=\"1.1\" width=\"{width}\" height=\"{height}\" viewBox=\"0 0 {width} {height}\" font-family=\"DejaVu Sans, Verdana, Arial, sans-serif\">\n<title>"
         );
-        svg.text.put_length("\" height=\"", height);
-        svg.text.put_length("\" viewBox=\"0 0 ", WIDTH);
-        svg.text.put_length(" ", height);
-        svg.text.put("\" font-family=\"DejaVu Sans, Verdana, Arial, sans-serif\">\n<title>");
-        svg.text.put_text(title);
-        svg.text.put("</title>\n");
-        svg.text.put(STRIPES);
-        svg.text.put_length("<rect width=\"", WIDTH);
-        svg.text.put_length("\" height=\"", height);
-        svg.text.put_colour("\" fill=\"", FREE);
-        svg.text.put("\"/>\n");
-        svg.begin_words(800, 2_200, &TITLE);
+        text.put_text(title);
+        text.put("</title>\n");
+        text.put(STRIPES);
+        put!(
+            text,
+            "<rect width=\"{width}\" height=\"{height}\" fill=\"{FREE}\"/>\n"
+        );
+        let mut svg = Svg { alloc, text };
+        let base = Coordinate(2_200);
+        svg.begin_words(MARGIN, base, HEADING.sized(1_500));
         svg.text.put_text(title);
         svg.end_words();
         svg
@@ -118,180 +208,126 @@ impl Svg {
     }
 
     /// Writes the foot on a base line and ends the picture: the whole text, or `Memory` if a growth of it was refused.
-    pub fn close(mut self, y: u64, heading: &Heading) -> Result<Vec<u8>, Memory>
+    pub fn close(mut self, y: Coordinate, heading: &Heading) -> Result<Vec<u8>, Memory>
         ensures { IfOk result (λ text. HasFoot heading.now text.items) }
     {
         let alloc = self.alloc;
-        self.begin_words(800, y, &FOOT);
+        // 180 letters of the foot are to fit into the width.
+        self.begin_words(MARGIN, y, PLAIN.sized(900).coloured(FAINT));
         put_foot(&mut self.text, alloc, heading);
         self.text.put("</text>\n</svg>\n");
         let Svg { alloc: _, text } = self;
         Ok(text.finish()?.into_bytes())
     }
 
-    /// What follows up to the group's end has this title.
+    /// Begins a group with a title.
     pub fn begin_titled(&mut self, title: &Result<String, Memory>) {
         self.text.put("<g><title>");
         self.text.put_made(title);
         self.text.put("</title>");
     }
 
-    /// What follows up to the group's end are lines of this width.
+    /// Begins a group of lines of this width.
     pub fn begin_lines(&mut self, width: u64) {
-        self.text
-            .put_length("<g fill=\"none\" stroke-width=\"", width);
-        self.text.put("\" shape-rendering=\"crispEdges\">\n");
+        let width = Points(width);
+        put!(
+            self.text,
+            "<g fill=\"none\" stroke-width=\"{width}\" shape-rendering=\"crispEdges\">\n"
+        );
     }
 
+    /// Ends a group.
     pub fn end_group(&mut self) {
         self.text.put("</g>\n");
+    }
+
+    /// Draws a rectangle with a title.
+    pub fn titled_rect(&mut self, area: &Area, paint: Paint, title: &Result<String, Memory>) {
+        self.begin_titled(title);
+        self.rect(area, paint);
+        self.end_group();
     }
 
     /// Draws a line to the right, with a title.
     pub fn line(
         &mut self,
-        x: u64,
-        y: u64,
+        x: Coordinate,
+        y: Coordinate,
         width: u64,
         colour: Colour,
         title: &Result<String, Memory>,
     ) {
-        self.text.put_length("<path d=\"M", x);
-        self.text.put_length(" ", y);
-        self.text.put_length("h", width);
-        self.text.put_colour("\" stroke=\"", colour);
-        self.text.put("\"><title>");
+        let width = Points(width);
+        put!(
+            self.text,
+            "<path d=\"M{x} {y}h{width}\" stroke=\"{colour}\"><title>"
+        );
         self.text.put_made(title);
         self.text.put("</title></path>\n");
     }
 
-    fn begin_rect(&mut self, area: &Area) {
-        self.text.put_length("<rect x=\"", area.x);
-        self.text.put_length("\" y=\"", area.y);
-        self.text.put_length("\" width=\"", area.width);
-        self.text.put_length("\" height=\"", area.height);
+    /// Draws a rectangle.
+    pub fn rect(&mut self, area: &Area, paint: Paint) {
+        put!(self.text, "<rect {area} {paint}/>\n");
     }
 
-    pub fn rect(&mut self, area: &Area, fill: Colour) {
-        self.begin_rect(area);
-        self.text.put_colour("\" fill=\"", fill);
-        self.text.put("\"/>\n");
+    /// Makes a rectangle paler, and hatches it.
+    pub fn hatch(&mut self, area: &Area) {
+        self.rect(area, Paint::Pale);
+        self.rect(area, Paint::Hatched);
     }
 
-    /// A rectangle with an edge.
-    pub fn edged(&mut self, area: &Area, fill: Colour, edge: Colour) {
-        self.begin_rect(area);
-        self.text.put_colour("\" fill=\"", fill);
-        self.text.put_colour("\" stroke=\"", edge);
-        self.text.put("\" stroke-width=\"0.6\"/>\n");
-    }
-
-    /// An edge alone.
-    pub fn edge(&mut self, area: &Area, edge: Colour) {
-        self.begin_rect(area);
-        self.text.put_colour("\" fill=\"none\" stroke=\"", edge);
-        self.text.put("\" stroke-width=\"0.6\"/>\n");
-    }
-
-    /// A rectangle made paler and hatched.
-    pub fn hatched(&mut self, area: &Area) {
-        self.begin_rect(area);
-        self.text.put_colour("\" fill=\"", FREE);
-        self.text.put("\" fill-opacity=\"0.55\"/>\n");
-        self.begin_rect(area);
-        self.text
-            .put_colour("\" fill=\"url(#shared)\" stroke=\"", INK);
-        self.text.put("\" stroke-width=\"0.8\"/>\n");
-    }
-
-    /// A foot of this height in a rectangle.
+    /// Draws a foot of this height in a rectangle.
     pub fn foot(&mut self, area: &Area, height: u64) {
-        let top = area.y.saturating_add(area.height).saturating_sub(height);
-        let foot = Area {
-            y: top,
-            height,
-            ..*area
+        let foot = Area::new(area.x, area.bottom() - height, area.width, height);
+        self.rect(&foot, Paint::Plain(INK));
+    }
+
+    /// Draws a path; nothing if it has no step.
+    pub fn path(&mut self, steps: &Text, paint: Paint) {
+        if !steps.is_empty() {
+            self.text.put("<path d=\"");
+            self.text.put_text(steps);
+            put!(self.text, "\" {paint}/>\n");
+        }
+    }
+
+    /// Begins words of plain ASCII, without marks that SVG reads, on a base line.
+    pub fn begin_words(&mut self, x: Coordinate, y: Coordinate, style: Style) {
+        let anchor = match style.anchor {
+            Anchor::Start => "start",
+            Anchor::Middle => "middle",
+            Anchor::End => "end",
         };
-        self.rect(&foot, INK);
+        let weight = if style.bold { "bold" } else { "normal" };
+        let (size, colour) = (Points(style.size), style.colour);
+        put!(
+            self.text,
+            "<text x=\"{x}\" y=\"{y}\" font-size=\"{size}\" text-anchor=\"{anchor}\" font-weight=\"{weight}\" fill=\"{colour}\">"
+        );
     }
 
-    fn begin_path(&mut self, steps: &Text) {
-        self.text.put("<path d=\"");
-        self.text.put_text(steps);
-    }
-
-    /// A path's inside, with a thin edge; nothing where the path has no step.
-    pub fn path(&mut self, steps: &Text, fill: Colour) {
-        if !steps.is_empty() {
-            self.begin_path(steps);
-            self.text.put_colour("\" fill=\"", fill);
-            self.text.put_colour("\" stroke=\"", INK);
-            self.text.put("\" stroke-width=\"0.4\"/>\n");
-        }
-    }
-
-    /// A path's inside, white and hatched; nothing where the path has no step.
-    pub fn hatched_path(&mut self, steps: &Text) {
-        if !steps.is_empty() {
-            self.begin_path(steps);
-            self.text
-                .put_colour("\" fill=\"url(#white)\" stroke=\"", INK);
-            self.text.put("\" stroke-width=\"0.6\"/>\n");
-        }
-    }
-
-    /// Draws lines of this width along a path; nothing if the path has no step.
-    pub fn lines(&mut self, steps: &Text, width: u64) {
-        if !steps.is_empty() {
-            self.begin_path(steps);
-            self.text.put_colour("\" stroke=\"", INK);
-            self.text.put_length("\" stroke-width=\"", width);
-            self.text.put("\"/>\n");
-        }
-    }
-
-    /// Draws such lines, each longer by half their width at both ends, so that the shortest is seen.
-    pub fn long_lines(&mut self, steps: &Text, width: u64) {
-        if !steps.is_empty() {
-            self.begin_path(steps);
-            self.text.put_colour("\" fill=\"none\" stroke=\"", INK);
-            self.text.put_length("\" stroke-width=\"", width);
-            self.text.put("\" stroke-linecap=\"square\"/>\n");
-        }
-    }
-
-    /// What follows up to the words' end are words of plain ASCII, without marks that SVG reads, on a base line.
-    pub fn begin_words(&mut self, x: u64, y: u64, style: &Style) {
-        self.text.put_length("<text x=\"", x);
-        self.text.put_length("\" y=\"", y);
-        self.text.put_length("\" font-size=\"", style.size);
-        self.text.put(match style.anchor {
-            Anchor::Start => "\" text-anchor=\"start",
-            Anchor::Middle => "\" text-anchor=\"middle",
-            Anchor::End => "\" text-anchor=\"end",
-        });
-        self.text.put(if style.bold {
-            "\" font-weight=\"bold"
-        } else {
-            "\" font-weight=\"normal"
-        });
-        self.text.put_colour("\" fill=\"", style.colour);
-        self.text.put("\">");
-    }
-
+    /// Ends such words.
     pub fn end_words(&mut self) {
         self.text.put("</text>\n");
     }
 
-    /// Such words.
-    pub fn words(&mut self, x: u64, y: u64, style: &Style, words: &str) {
+    /// Writes such words.
+    pub fn words(&mut self, x: Coordinate, y: Coordinate, style: Style, words: &str) {
         self.begin_words(x, y, style);
         self.text.put(words);
         self.end_words();
     }
 
-    /// Such words and a number behind them.
-    pub fn numbered(&mut self, x: u64, y: u64, style: &Style, words: &str, number: u64) {
+    /// Writes such words and a number.
+    pub fn numbered(
+        &mut self,
+        x: Coordinate,
+        y: Coordinate,
+        style: Style,
+        words: &str,
+        number: u64,
+    ) {
         self.begin_words(x, y, style);
         self.text.put_number(words, number);
         self.end_words();

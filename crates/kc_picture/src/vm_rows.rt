@@ -17,6 +17,7 @@ pub(crate) fn is_owned_by(owner: Owner, vm: u32) -> bool
     }
 }
 
+/// Whether a bar is the VM's in a slot.
 fn is_held_by(bar: &Bar, vm: u32) -> bool
     ensures { result ≡ is_held_by vm bar.now }
 {
@@ -41,7 +42,7 @@ pub(crate) fn rows_of(alloc: Global, bars: &[Bar]) -> Result<IndexSet<u32>, Memo
     Ok(rows)
 }
 
-/// The numbers of the bars of each row, in their order.
+/// Lists the numbers of the bars of each row, in their order.
 pub(crate) fn bars_in_rows(
     alloc: Global,
     rows: &IndexSet<u32>,

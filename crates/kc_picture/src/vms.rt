@@ -1,7 +1,11 @@
 //! What happened to each VM: how many frames it had, line by line, and when it was there.
-use crate::sums::{ONE_FEWER, ONE_MORE};
 use kc_types::{Change, Custody, Event, Memory, Owner, Phase, SLOT_LIMIT};
 use std::alloc::Global;
+
+/// A change of a sum modulo 2^64, by one.
+pub(crate) const ONE_MORE: u64 = 1;
+/// The other way.
+pub(crate) const ONE_FEWER: u64 = u64::MAX;
 
 /// How many frames a VM has from a line on, and how many of them it shares.
 #[derive(Clone, Copy)]
@@ -62,19 +66,7 @@ impl Lane {
         most
     }
 
-    /// From a line on it has so many frames more, and shares so many more.
-    fn count(&mut self, line: u32, frames: u64, shared: u64) -> Result<(), Memory> {
-        self.frames = self.frames.wrapping_add(frames);
-        self.shared = self.shared.wrapping_add(shared);
-        self.steps.push(Step {
-            line,
-            frames: self.frames,
-            shared: self.shared,
-        })?;
-        Ok(())
-    }
-
-    /// From a line on its slot is in another phase.
+    /// Notes that its slot is in another phase from a line on.
     fn turn(&mut self, line: u32, phase: Phase) -> Result<(), Memory> {
         if phase == Phase::Booting {
             self.stays.push(Stay {
@@ -94,19 +86,27 @@ impl Lane {
     }
 }
 
-/// From a line on the owner of such a frame has so many of them more, where that is a VM.
-fn count(lanes: &mut Vec<Lane>, line: u32, custody: &Custody, frames: u64) -> Result<(), Memory> {
+/// Counts a frame of this custody, from a line on, as one more or one fewer of its owner, if that is a VM.
+fn count(lanes: &mut Vec<Lane>, line: u32, custody: &Custody, by: u64) -> Result<(), Memory> {
     let Owner::Vm(vm) = custody.owner else {
         return Ok(());
     };
-    let shared = if custody.share > 0 { frames } else { 0 };
-    match lanes.get_mut(vm.index()) {
-        Some(lane) => lane.count(line, frames, shared),
-        None => Ok(()),
+    if let Some(lane) = lanes.get_mut(vm.index()) {
+        lane.frames = lane.frames.wrapping_add(by);
+        if custody.share > 0 {
+            lane.shared = lane.shared.wrapping_add(by);
+        }
+        let (frames, shared) = (lane.frames, lane.shared);
+        lane.steps.push(Step {
+            line,
+            frames,
+            shared,
+        })?;
     }
+    Ok(())
 }
 
-/// What happened to the VM in each slot, by slots.
+/// Collects what happened to the VM in each slot, by slots. `Memory` if there was none for it.
 pub(crate) fn lanes_of(alloc: Global, events: &[Event]) -> Result<Vec<Lane>, Memory> {
     let mut lanes = Vec::new(alloc);
     for _ in 0..SLOT_LIMIT {
@@ -114,13 +114,13 @@ pub(crate) fn lanes_of(alloc: Global, events: &[Event]) -> Result<Vec<Lane>, Mem
     }
     for event in events {
         match event {
-            Event::Change(Change::Frame(told)) => {
-                count(&mut lanes, told.line, &told.before, ONE_FEWER)?;
-                count(&mut lanes, told.line, &told.after, ONE_MORE)?;
+            Event::Change(Change::Frame(change)) => {
+                count(&mut lanes, change.line, &change.before, ONE_FEWER)?;
+                count(&mut lanes, change.line, &change.after, ONE_MORE)?;
             },
-            Event::Change(Change::Phase(told)) => {
-                if let Some(lane) = lanes.get_mut(told.vm as usize) {
-                    lane.turn(told.line, told.phase)?;
+            Event::Change(Change::Phase(change)) => {
+                if let Some(lane) = lanes.get_mut(change.vm as usize) {
+                    lane.turn(change.line, change.phase)?;
                 }
             },
             Event::Read { .. } | Event::Write { .. } => {},
