@@ -2,14 +2,13 @@
 ghost use Rattle.std.specs.Prelude.{◌≡◌, ◌*◌, ◌^◌, ◌<◌, ◌≤◌, sum, slice_index, EachIndex};
 ghost use Rattle.kc_picture.specs.Cells.{IsOf, IsTrueToShare};
 
-use crate::colour::{CORE, Colour, EDGE, FREE, HOST, SEVERAL};
-use crate::coordinate::{Coordinate, Points};
 use crate::rows::{first_of_row, row_of};
-use crate::scale::{END, NAMES, PLOT, START, lines_of_column, nice};
 use crate::sums::{FIRST_VM, MOST_COLUMNS, OWNERS, Sums, at, sums_of, weigh};
-use crate::svg::{Area, Paint, REMARK, Svg};
 use crate::titles::{Block, cell_title};
-use crate::words::{Count, Text, put};
+use kc_svg::{
+    Area, CORE, Colour, Coordinate, Count, EDGE, END, FREE, HOST, NAMES, PLOT, Paint, Points,
+    REMARK, SEVERAL, START, Svg, Text, lines_of_column, nice, put,
+};
 use kc_types::{Bar, Memory};
 use std::alloc::Global;
 
@@ -18,7 +17,7 @@ const MOST_ROWS: u64 = 128;
 
 /// The rows and columns of cells.
 #[derive(Clone, Copy)]
-pub(crate) struct Grid {
+pub struct Grid {
     frames: u64,
     lines: u64,
     pub rows: u64,
@@ -27,8 +26,8 @@ pub(crate) struct Grid {
     pub height: u64,
 }
 
-/// Returns the grid of this number of frames through this number of lines.
-pub(crate) fn grid_of(frames: u64, lines: u64) -> Grid {
+/// Returns the grid of this number of frames through this number of lines: at most 128 rows.
+pub fn grid_of(frames: u64, lines: u64) -> Grid {
     let rows = frames.min(MOST_ROWS);
     Grid {
         frames,
@@ -291,8 +290,8 @@ fn name_rows(svg: &mut Svg, top: Coordinate, grid: &Grid) {
     }
 }
 
-/// Writes at the right what a cell is, on a base line.
-pub(crate) fn explain_cells(svg: &mut Svg, base: Coordinate, grid: &Grid, vm: Option<u32>) {
+/// Writes at the right what a cell is, on a base line; of one slot's VM alone if one is named (0 to 63).
+pub fn explain_cells(svg: &mut Svg, base: Coordinate, grid: &Grid, vm: Option<u32>) {
     let tall = grid.frames.div_ceil(grid.rows.max(1));
     let wide = lines_of_column(grid.lines, grid.columns);
     svg.begin_words(END, base, REMARK);
@@ -310,8 +309,9 @@ pub(crate) fn explain_cells(svg: &mut Svg, base: Coordinate, grid: &Grid, vm: Op
     svg.end_words();
 }
 
-/// Draws the cells of all frames from a height on, or of what one VM had alone. `Memory` if there was none for a row.
-pub(crate) fn draw_cells(
+/// Draws the cells of all frames from a height on, by the numbers of the bars in each row; if `alone`, those of what one VM
+/// had. `Memory` if there was none for a row.
+pub fn draw_cells(
     svg: &mut Svg,
     grid: &Grid,
     top: Coordinate,

@@ -1,13 +1,12 @@
 //! The picture of all frames.
 ghost use Rattle.std.specs.Prelude.{IfOk};
-ghost use Rattle.kc_picture.specs.Foot.{HasFoot};
+ghost use Rattle.kc_svg.specs.Foot.{HasFoot};
 
 use crate::cells::{draw_cells, explain_cells, grid_of};
 use crate::exact::{Strip, draw_bars, row_height};
-use crate::legend::Shown;
 use crate::rows::bars_by_row;
-use crate::sheet::{FEW_LINES, Sheet};
-use crate::svg::{HEADING, MARGIN};
+use kc_lanes::{FEW_LINES, Sheet, Shown};
+use kc_svg::{HEADING, MARGIN};
 use kc_trace::Heading;
 use kc_types::{Bar, Config, Event, Memory};
 use std::alloc::Global;
@@ -15,7 +14,7 @@ use std::alloc::Global;
 /// The most frames that are drawn bar by bar, each in a row that has room for words.
 const EXACT_FRAMES: u64 = 64;
 /// The most bars of a picture, which have some 7 MB: browsers are slow with more.
-pub(crate) const MOST_BARS: usize = 20_000;
+pub const MOST_BARS: usize = 20_000;
 
 /// Draws the custody of all frames through a trace of this number of calls as one text of SVG 1.1, from its events and
 /// their bars. `Memory` if a growth was refused.

@@ -1,10 +1,9 @@
 //! Every frame by its number, a bar a stretch.
-use crate::colour::{Colour, FAINT, FREE, INK, LIFE};
-use crate::coordinate::{Coordinate, Points};
-use crate::scale::{NAMES, Scale};
-use crate::svg::{Anchor, Area, PLAIN, Paint, REMARK, Svg};
 use crate::titles::bar_title;
-use crate::words::Text;
+use kc_svg::{
+    Anchor, Area, Colour, Coordinate, FAINT, FREE, INK, LIFE, NAMES, PLAIN, Paint, Points, REMARK,
+    Scale, Svg, Text, put,
+};
 use kc_types::{Bar, Custody, Owner};
 
 /// Rows and bars that are higher have larger words.
@@ -24,9 +23,11 @@ fn put_name(name: &mut Text, custody: &Custody) {
         Owner::Host => name.put("host"),
         Owner::Free => name.put("free"),
         Owner::Vm(vm) => {
-            name.put_number("vm ", vm.index() as u64);
+            let vm = vm.index();
+            put!(name, "vm {vm}");
             if let Some(gfn) = custody.gfn {
-                name.put_number(" @", u64::from(gfn.number()));
+                let gfn = gfn.number();
+                put!(name, " @{gfn}");
             }
             if custody.share > 0 {
                 name.put(" shared");
@@ -114,7 +115,7 @@ fn name_bar(svg: &mut Svg, area: &Area, custody: &Custody) -> bool {
 
 /// Where the row of a frame, or of calls, lies.
 #[derive(Clone, Copy)]
-pub(crate) struct Strip {
+pub struct Strip {
     pub scale: Scale,
     pub top: Coordinate,
     pub height: u64,

@@ -13,7 +13,7 @@ pub(crate) fn first_of_row(row: u64, rows: u64, frames: u64) -> u64 {
 }
 
 /// Lists the numbers of the bars of each row, in their order. `Memory` if there was none for them.
-pub(crate) fn bars_by_row(
+pub fn bars_by_row(
     alloc: Global,
     bars: &[Bar],
     rows: u64,

@@ -8,7 +8,7 @@ use kc_types::{Bar, Custody, Gfn, Memory, Owner};
 use std::alloc::Global;
 
 /// Appends the guest frame at which a VM sees a frame, if it does.
-pub(crate) fn push_place(words: &mut String, gfn: Option<Gfn>) -> Result<(), Memory>
+pub fn push_place(words: &mut String, gfn: Option<Gfn>) -> Result<(), Memory>
     ensures { OnOk result (string_bytes words.new ≡ string_bytes words.old ++ place_words gfn) }
 {
     if let Some(gfn) = gfn {
@@ -18,7 +18,7 @@ pub(crate) fn push_place(words: &mut String, gfn: Option<Gfn>) -> Result<(), Mem
 }
 
 /// Appends who owns a frame, and of a VM's at which guest frame.
-pub(crate) fn push_owner(words: &mut String, owner: Owner, gfn: Option<Gfn>) -> Result<(), Memory>
+pub fn push_owner(words: &mut String, owner: Owner, gfn: Option<Gfn>) -> Result<(), Memory>
     ensures { OnOk result (string_bytes words.new ≡ string_bytes words.old ++ owner_words owner gfn) }
 {
     match owner {
