@@ -215,7 +215,9 @@ def place(crate, path, function):
         files = sorted((crate / "src").glob("**/*.rt"))
         path = next((it.relative_to(crate) for it in files if declares.search(it.read_text())), path)
     modules = [it for it in pathlib.PurePath(path).with_suffix("").parts[1:] if it not in ("lib", "main", "mod")]
-    # Of a name like u32x4, rattle's has a capital.
-    trait = f"{owner[1] or ''}{owner[2] or ''}" if owner and owner[1] != "Drop" else ""
-    names = [f"{owner[3][0].upper()}{owner[3][1:]}{trait}"] if owner else []
+    names = []
+    if owner:
+        # Of a name like u32x4 or u64, rattle's has a capital.
+        own, trait, applied = (f"{it[:1].upper()}{it[1:]}" for it in (owner[3], owner[1] or "", owner[2] or ""))
+        names = [own if trait == "Drop" else own + trait + applied]
     return (*modules, *names, function.name)

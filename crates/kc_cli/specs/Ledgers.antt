@@ -18,7 +18,7 @@ use Rattle.kc_trace.specs.RemarkText.{notes_text_of}
 use Rattle.kc_cli.specs.declared.account.CustodyForm.{CustodyForm}
 use Rattle.kc_cli.specs.declared.account.CustodyForm.TheVariants.{Changes, Summary, Picture, Html}
 use Rattle.kc_html.specs.Html.{html_text_of}
-use Rattle.kc_picture.specs.Foot.{HasFoot}
+use Rattle.kc_svg.specs.Foot.{HasFoot}
 use Rattle.kc_cli.specs.Custody.{page_remarks, reported}
 use Rattle.kc_cli.specs.declared.ledger.Ledger.{Ledger}
 use Rattle.kc_cli.specs.declared.ledger.Ledger.TheVariants as kept

@@ -8,9 +8,9 @@ ghost use Rattle.kc_model.specs.Lives.{lives, selected_lives};
 ghost use Rattle.kc_custody.specs.Within.{IsWithin};
 ghost use Rattle.kc_custody.specs.Chosen.{chosen};
 ghost use Rattle.kc_remarks.specs.Remarks.{events_in};
-ghost use Rattle.kc_picture.specs.Foot.{HasFoot};
+ghost use Rattle.kc_svg.specs.Foot.{HasFoot};
 ghost use Rattle.kc_picture.specs.Frames.{IsIn};
-ghost use Rattle.kc_picture.specs.Marks.{marks};
+ghost use Rattle.kc_vm_picture.specs.Marks.{marks};
 ghost use Rattle.kc_html.specs.Html.{html_head, html_tail, html_text_of};
 ghost use Rattle.kc_trace.specs.CustodyText.{header_line, end_line};
 ghost use Rattle.kc_trace.specs.SummaryText.{summary_text_of};
@@ -23,11 +23,12 @@ ghost use Rattle.kc_cli.specs.Ledgers.{attempts_kept, events_kept, is_remark, Is
 use crate::ledger::Ledger;
 use kc_custody::{choose, lives, select, select_lives};
 use kc_html::{HEAD, TAIL};
-use kc_picture::{Mark, bars, marks_of, picture, picture_of_vm};
+use kc_picture::{bars, picture};
 use kc_remarks::{Answered, Attempt, Note, Remarks};
 use kc_texts::{Failed, Line, Origin, Sink, TextFault, empty_piece, give_lines, write_whole};
 use kc_trace::{Heading, push_custody_end, push_custody_header, summary_text};
 use kc_types::{Config, Event, Memory};
+use kc_vm_picture::{Mark, marks_of, picture_of_vm};
 use std::alloc::Global;
 
 /// The line of a trace's first call: its header is line 1.

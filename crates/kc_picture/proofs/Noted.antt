@@ -27,7 +27,7 @@ pub record AreNoted (frames end i : ℕ) (events : List Event) (made : List Bar)
 behind : (P : Change → Type 0) (x : Change) (xs : List Change) → All P (x ∷ xs) → All P xs
 behind P x xs each = λ k d low. each (suc k) d (omega arith)
 
--- what some events tell of exists, so what the later of them tell of does
+-- the frames that some events change exist, so those that the later of them change do
 in-drop : (frames i : ℕ) (events : List Event) → All (IsIn frames) (changes_in events) → All (IsIn frames) (changes_in (drop i events))
 in-drop frames zero events each = each
 in-drop frames (suc i) [] each = each
@@ -35,11 +35,11 @@ in-drop frames (suc i) (event.Change change ∷ more) each = in-drop frames i mo
 in-drop frames (suc i) (event.Read vm ∷ more) each = in-drop frames i more each
 in-drop frames (suc i) (event.Write vm ∷ more) each = in-drop frames i more each
 
--- an event that stands there is the first of those from there on
+-- an event at a place is the first of those from there on
 split-at : (i : ℕ) (events : List Event) (e : Event) → i < length events → e ≡ slice_index_or events i e → drop i events ≡ e ∷ drop (i + 1) events
 split-at i events e low at = drop-cons events i e low ∙ rw (← at, add-one) refl
 
--- a frame that an event tells of exists
+-- a frame that an event changes exists
 in-first : (frames : ℕ) (e : Event) (more : List Event) (told : FrameChange) → Some told ≡ told_in e → All (IsIn frames) (changes_in (e ∷ more)) → told.frame < frames
 in-first frames (event.Change (change.Frame t)) more told is each = let same : told ≡ t = cc in rw same (each 0 (change.Frame t) (omega arith))
 in-first frames (event.Change (change.Phase t)) more told is each = cc
@@ -49,7 +49,7 @@ in-first frames (event.Write vm) more told is each = cc
 pub in-at : (frames i : ℕ) (events : List Event) (e : Event) (told : FrameChange) → i < length events → e ≡ slice_index_or events i e → Some told ≡ told_in e → All (IsIn frames) (changes_in events) → told.frame < frames
 in-at frames i events e told low at is each = in-first frames e (drop (i + 1) events) told is (subst (λ es. All (IsIn frames) (changes_in es)) (split-at i events e low at) (in-drop frames i events each))
 
--- an event that tells of a frame adds the bar from its change on, and its line is the frame's next
+-- a change of a frame adds the bar from it on, and its line is the frame's next
 noted-first : (frames end : ℕ) (e : Event) (more : List Event) (told : FrameChange) (made : List Bar) (next : List ℕ) → Some told ≡ told_in e → told.frame < frames
     → reverse made ≡ later_bars end (changes_in more) → AreNextLines frames end (changes_in more) next
     → (reverse (made ++ bar_from told (slice_index_or next told.frame 0) ∷ []) ≡ later_bars end (changes_in (e ∷ more))) × AreNextLines frames end (changes_in (e ∷ more)) (slice_set next told.frame told.line)

@@ -17,7 +17,7 @@ pub record AreNextLines (frames end : ℕ) (changes : List Change) (lines : List
   pub long : length lines ≡ frames
   pub each : (f : ℕ) → f < frames → slice_index lines f ≡ next_line end f changes
 
--- the change of a frame that an event tells of, if it tells of one
+-- the change of a frame that an event is, if it is one
 abbrev pub told_in : Event → Option FrameChange
 told_in (event.Change (change.Frame told)) = Some told
 told_in _ = None

@@ -1,13 +1,10 @@
--- The words that tell of a bar, of a cell, of a life, and of a mark in it.
+-- The titles of bars and of cells.
 use Rattle.std.specs.Prelude.{ℕ, ◌-◌, Bool, true, false, ◌==◌, List, [], ◌++◌, codes, Option, Some, None, if◌then◌else◌}
 use Rattle.std.specs.Fmt.{decimal}
 use Rattle.kc_types.specs.declared.owner.Owner.{Owner}
 use Rattle.kc_types.specs.declared.owner.Owner.TheVariants.{Core, Host, Free, Vm}
 use Rattle.kc_types.specs.declared.custody.Custody.{Custody}
 use Rattle.kc_types.specs.declared.custody.Bar.{Bar}
-use Rattle.kc_picture.specs.declared.vms.Measured.{Measured}
-use Rattle.kc_picture.specs.declared.vms.Measured.TheVariants.{Not, Active, Dead}
-use Rattle.kc_picture.specs.declared.vms.Stay.{Stay}
 use Rattle.kc_picture.specs.declared.cells.Whose.{Whose}
 use Rattle.kc_picture.specs.declared.cells.Whose.TheVariants as whose
 use Rattle.kc_picture.specs.declared.titles.Block.{Block}
@@ -17,18 +14,18 @@ abbrev pub place_words : Option ℕ → List ℕ
 place_words None = []
 place_words (Some g) = codes " at guest frame " ++ decimal g
 
--- who owns a frame; the guest frame is told of a VM's
+-- who owns a frame, and of a VM's the guest frame
 abbrev pub owner_words : Owner → Option ℕ → List ℕ
 owner_words Core g = codes "core"
 owner_words Host g = codes "host"
 owner_words Free g = codes "free"
 owner_words (Vm v) g = codes "vm " ++ decimal v ++ place_words g
 
--- how often its VM has granted it, where it has
+-- how often its VM has granted it, if it has
 abbrev pub grant_words : ℕ → List ℕ
 grant_words n = if n == 0 then [] else (if n == 1 then codes ", 1 grant" else codes ", " ++ decimal n ++ codes " grants")
 
--- that the host reaches it, where it does
+-- that the host reaches it, if it does
 abbrev pub reach_words : Bool → List ℕ
 reach_words true = codes ", reached by the host"
 reach_words false = []
@@ -39,33 +36,6 @@ custody_words custody = owner_words custody.owner custody.gfn ++ grant_words cus
 -- as "frame 3, lines 17 to 22: vm 0 at guest frame 7, 1 grant": the last line is the one before that at which it ends
 abbrev pub bar_title : Bar → List ℕ
 bar_title bar = codes "frame " ++ decimal bar.frame ++ codes ", lines " ++ decimal bar.from ++ codes " to " ++ decimal (bar.to - 1) ++ codes ": " ++ custody_words bar.custody
-
--- how the measuring of a VM's images ended
-abbrev pub measured_words : Measured → List ℕ
-measured_words Not = codes ", never measured"
-measured_words (Active n) = codes ", measured and active from line " ++ decimal n
-measured_words (Dead n) = codes ", measured and dead from line " ++ decimal n
-
--- when a life ended
-abbrev pub cleared_words : Option ℕ → List ℕ
-cleared_words None = codes ", there at the end"
-cleared_words (Some n) = codes ", cleared at line " ++ decimal n
-
--- as "vm 0: registered at line 4, measured and active from line 8, cleared at line 29"
-abbrev pub stay_title : ℕ → Stay → List ℕ
-stay_title v stay = codes "vm " ++ decimal v ++ codes ": registered at line " ++ decimal stay.registered ++ measured_words stay.measured ++ cleared_words stay.cleared
-
--- as "vm 0 registered at line 4"
-abbrev pub tick_title : ℕ → List ℕ → ℕ → List ℕ
-tick_title v what n = codes "vm " ++ decimal v ++ codes " " ++ what ++ codes " at line " ++ decimal n
-
--- lives that are drawn as one
-abbrev pub lives_title : (v count first last : ℕ) → List ℕ
-lives_title v count first last = codes "vm " ++ (decimal v ++ (codes ": " ++ (decimal count ++ (codes " lives, lines " ++ (decimal first ++ (codes " to " ++ decimal last))))))
-
--- one mark of several dead VMs
-abbrev pub deaths_title : (v count first last : ℕ) → List ℕ
-deaths_title v count first last = codes "vm " ++ decimal v ++ codes ": " ++ decimal count ++ codes " measured and dead, lines " ++ decimal first ++ codes " to " ++ decimal last
 
 abbrev pub frames_words : (first last : ℕ) → List ℕ
 frames_words first last = if first == last then codes "frame " ++ decimal first else codes "frames " ++ decimal first ++ codes " to " ++ decimal last

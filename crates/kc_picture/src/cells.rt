@@ -2,31 +2,32 @@
 ghost use Rattle.std.specs.Prelude.{◌≡◌, ◌*◌, ◌^◌, ◌<◌, ◌≤◌, sum, slice_index, EachIndex};
 ghost use Rattle.kc_picture.specs.Cells.{IsOf, IsTrueToShare};
 
-use crate::colour::{CORE, Colour, EDGE, FREE, HOST, SEVERAL};
 use crate::rows::{first_of_row, row_of};
-use crate::scale::{LEFT, PLOT, lines_of_column, nice};
 use crate::sums::{FIRST_VM, MOST_COLUMNS, OWNERS, Sums, at, sums_of, weigh};
-use crate::svg::{Area, REMARK, Svg};
 use crate::titles::{Block, cell_title};
-use crate::words::Text;
+use kc_svg::{
+    Area, CORE, Colour, Coordinate, Count, EDGE, END, FREE, HOST, NAMES, PLOT, Paint, Points,
+    REMARK, SEVERAL, START, Svg, Text, lines_of_column, nice, put,
+};
 use kc_types::{Bar, Memory};
 use std::alloc::Global;
 
+/// The most rows of cells.
 const MOST_ROWS: u64 = 128;
 
 /// The rows and columns of cells.
 #[derive(Clone, Copy)]
-pub(crate) struct Grid {
+pub struct Grid {
     frames: u64,
     lines: u64,
     pub rows: u64,
     columns: u64,
-    /// Of a row.
+    /// The height of a row.
     pub height: u64,
 }
 
-/// The cells of so many frames through so many lines.
-pub(crate) fn grid_of(frames: u64, lines: u64) -> Grid {
+/// Returns the grid of this number of frames through this number of lines: at most 128 rows.
+pub fn grid_of(frames: u64, lines: u64) -> Grid {
     let rows = frames.min(MOST_ROWS);
     Grid {
         frames,
@@ -37,9 +38,11 @@ pub(crate) fn grid_of(frames: u64, lines: u64) -> Grid {
     }
 }
 
-/// Where a column begins.
-fn x_of(column: u64, columns: u64) -> u64 {
-    LEFT.saturating_add(PLOT.saturating_mul(column) / columns.max(1))
+impl Grid {
+    /// Where a column begins.
+    fn x(&self, column: u64) -> Coordinate {
+        START + PLOT.saturating_mul(column) / self.columns.max(1)
+    }
 }
 
 /// What VMs had of a cell: the one that had most, how much that is, and how much all together had.
@@ -83,7 +86,7 @@ fn rest_of(weights: &[u64]) -> Colour {
     }
 }
 
-/// Whose a cell is: a VM's that had more than half of what VMs had of it, or several VMs', or where VMs had nothing that of
+/// Whose a cell is: a VM's that had more than half of what VMs had of it, or several VMs', or, if VMs had nothing, that of
 /// the other owner that had most.
 #[derive(Clone, Copy, PartialEq, Eq)]
 pub(crate) enum Whose {
@@ -92,6 +95,7 @@ pub(crate) enum Whose {
     Rest(Colour),
 }
 
+/// Decides whose a cell is, by what VMs had of it and the colour of the other owner that had most.
 fn holder_of(most: &Most, rest: Colour) -> Whose
     ensures { IsOf most.now result }
 {
@@ -104,8 +108,8 @@ fn holder_of(most: &Most, rest: Colour) -> Whose
     }
 }
 
-/// How many hundredths of the way to white the colour of a cell goes of which VMs had this much: as many as others had of it,
-/// to within ten; none if VMs had all.
+/// How many hundredths of the way to white the colour of a cell of this size goes of which VMs had this much: as many as
+/// others had of it, to within ten; none if VMs had all.
 fn paleness_of(of_vms: u64, size: u64) -> u32
     ensures most { result ≤ 100 }
     ensures true_to_share { 5 * of_vms < 2 ^ 64 → of_vms ≤ size → IsTrueToShare of_vms size result }
@@ -123,11 +127,6 @@ fn paleness_of(of_vms: u64, size: u64) -> u32
     }
 }
 
-/// A colour, the paler the less VMs had of a cell of this size.
-fn shaded(colour: Colour, of_vms: u64, size: u64) -> Colour {
-    colour.paler(paleness_of(of_vms, size))
-}
-
 /// How a cell is drawn.
 #[derive(Clone, Copy, PartialEq, Eq)]
 struct Cell {
@@ -142,15 +141,16 @@ fn cell_of(weights: &[u64], size: u64) -> Cell {
         None => most_of(&[]),
     };
     let whose = holder_of(&most, rest_of(weights));
+    let paleness = paleness_of(most.of_vms, size);
     let colour = match whose {
-        Whose::Vm(vm) => shaded(Colour::of_vm(vm.min(63) as u32), most.of_vms, size),
-        Whose::Several => shaded(SEVERAL, most.of_vms, size),
+        Whose::Vm(vm) => Colour::of_vm(vm.min(63) as u32).paler(paleness),
+        Whose::Several => SEVERAL.paler(paleness),
         Whose::Rest(colour) => colour,
     };
     Cell { whose, colour }
 }
 
-/// A row's cells, from left to right.
+/// Returns a row's cells, from left to right.
 fn cells_of(alloc: Global, sums: &Sums, size: u64) -> Result<Vec<Cell>, Memory> {
     let mut running = [0u64; OWNERS];
     let mut weights = [0u64; OWNERS];
@@ -169,44 +169,103 @@ struct Row {
     /// Its first frame, and that of the next row.
     first: u64,
     next: u64,
-    top: u64,
-    /// Whether the cells tell of one VM alone.
+    top: Coordinate,
+    /// Whether the cells show one VM alone.
     alone: bool,
 }
 
-/// The frames and lines of a row's cells from one column up to another.
-fn block_of(row: &Row, from: u64, to: u64) -> Block {
-    let (lines, columns) = (row.grid.lines, row.grid.columns.max(1));
-    Block {
-        first_frame: row.first,
-        last_frame: row.next.saturating_sub(1),
-        first_line: (from.saturating_mul(lines) / columns).saturating_add(1),
-        last_line: to.saturating_mul(lines).div_ceil(columns),
+impl Row {
+    /// The weight of all its frames through all lines of a column.
+    fn size(&self) -> u64 {
+        self.next
+            .saturating_sub(self.first)
+            .saturating_mul(self.grid.lines)
     }
-}
 
-/// Draws equal cells from one column up to another, with a title.
-fn draw_run(svg: &mut Svg, row: &Row, cell: &Cell, from: u64, to: u64) {
-    let title = cell_title(svg.alloc(), &block_of(row, from, to), cell.whose, row.alone);
-    let x = x_of(from, row.grid.columns);
-    let width = x_of(to, row.grid.columns).saturating_sub(x);
-    let middle = row.top.saturating_add(row.grid.height / 2);
-    svg.line(x, middle, width, cell.colour, &title);
-}
-
-/// Draws the cells of a row, equal ones side by side as one.
-fn draw_cells(svg: &mut Svg, row: &Row, cells: &[Cell]) {
-    let mut from = 0usize;
-    for (i, cell) in cells.iter().enumerate() {
-        let next = i.saturating_add(1);
-        let goes_on = match cells.get(next) {
-            Some(other) => *other == *cell,
-            None => false,
-        };
-        if !goes_on {
-            draw_run(svg, row, cell, from as u64, next as u64);
-            from = next;
+    /// The frames and lines of its cells from one column up to another.
+    fn block(&self, from: u64, to: u64) -> Block {
+        let (lines, columns) = (self.grid.lines, self.grid.columns.max(1));
+        Block {
+            first_frame: self.first,
+            last_frame: self.next.saturating_sub(1),
+            first_line: (from.saturating_mul(lines) / columns).saturating_add(1),
+            last_line: to.saturating_mul(lines).div_ceil(columns),
         }
+    }
+
+    /// Draws equal cells from one column up to another, with a title.
+    fn draw_run(&self, svg: &mut Svg, cell: &Cell, from: u64, to: u64) {
+        let title = cell_title(svg.alloc(), &self.block(from, to), cell.whose, self.alone);
+        let x = self.grid.x(from);
+        let width = self.grid.x(to).distance(x);
+        svg.line(
+            x,
+            self.top + self.grid.height / 2,
+            width,
+            cell.colour,
+            &title,
+        );
+    }
+
+    /// Draws its cells, equal ones side by side as one.
+    fn draw_cells(&self, svg: &mut Svg, cells: &[Cell]) {
+        let mut from = 0usize;
+        for (i, cell) in cells.iter().enumerate() {
+            let next = i.saturating_add(1);
+            let goes_on = match cells.get(next) {
+                Some(other) => *other == *cell,
+                None => false,
+            };
+            if !goes_on {
+                self.draw_run(svg, cell, from as u64, next as u64);
+                from = next;
+            }
+        }
+    }
+
+    /// Draws an edge where a VM's cells begin and end, which is read in grey too.
+    fn draw_edges(&self, svg: &mut Svg, cells: &[Cell]) {
+        let mut path = Text::new(svg.alloc());
+        let mut before = Whose::Rest(FREE);
+        for (column, cell) in cells.iter().enumerate() {
+            if has_edge(before, cell.whose) {
+                path.begin_line(self.grid.x(column as u64) + 50, self.top);
+                path.put_length("v", self.grid.height);
+            }
+            before = cell.whose;
+        }
+        svg.path(&path, Paint::Lines(Points(60)));
+    }
+
+    /// Underlines the cells in which any frame was shared.
+    fn underline(&self, svg: &mut Svg, sums: &Sums) {
+        let mut path = Text::new(svg.alloc());
+        let y = self.top + self.grid.height - 60;
+        let mut count = 0u64;
+        let mut from = 0u64;
+        // (after the last column no frame is shared any more)
+        for column in 0..sums.columns.min(MOST_COLUMNS) + 1 {
+            let before = count;
+            count = count.wrapping_add(at(&sums.shared, column as usize));
+            if before > 0 && count == 0 {
+                let x = self.grid.x(from);
+                path.begin_line(x, y);
+                path.put_length("h", self.grid.x(column).distance(x));
+            }
+            if before == 0 {
+                from = column;
+            }
+        }
+        svg.path(&path, Paint::Lines(Points(120)));
+    }
+
+    /// Draws it by what each owner had of it.
+    fn draw(&self, svg: &mut Svg, sums: &Sums) -> Result<(), Memory> {
+        let cells = cells_of(svg.alloc(), sums, self.size())?;
+        self.draw_cells(svg, &cells);
+        self.draw_edges(svg, &cells);
+        self.underline(svg, sums);
+        Ok(())
     }
 }
 
@@ -219,86 +278,30 @@ fn has_edge(left: Whose, right: Whose) -> bool {
     }
 }
 
-/// Draws an edge where a VM's cells of a row begin and end, which is read in grey too.
-fn draw_edges(svg: &mut Svg, columns: u64, cells: &[Cell], top: u64, height: u64) {
-    let mut path = Text::new(svg.alloc());
-    let mut before = Whose::Rest(FREE);
-    let mut column = 0u64;
-    for cell in cells {
-        if has_edge(before, cell.whose) {
-            let x = x_of(column, columns).saturating_add(50);
-            path.put_length("M", x);
-            path.put_length(" ", top);
-            path.put_length("v", height);
-        }
-        before = cell.whose;
-        column = column.saturating_add(1);
-    }
-    svg.lines(&path, 60);
-}
-
-/// Adds a line through the columns from one up to another.
-fn add_mark(path: &mut Text, columns: u64, from: u64, to: u64, middle: u64) {
-    if to > from {
-        let x = x_of(from, columns);
-        path.put_length("M", x);
-        path.put_length(" ", middle);
-        path.put_length("h", x_of(to, columns).saturating_sub(x));
-    }
-}
-
-/// Underlines the cells of a row in which any frame was shared.
-fn draw_shared(svg: &mut Svg, sums: &Sums, middle: u64) {
-    let mut path = Text::new(svg.alloc());
-    let mut count = 0u64;
-    let mut from = 0u64;
-    let columns = sums.columns.min(MOST_COLUMNS);
-    for column in 0..columns {
-        let before = count;
-        count = count.wrapping_add(at(&sums.shared, column as usize));
-        if before > 0 && count == 0 {
-            add_mark(&mut path, columns, from, column, middle);
-        }
-        if before == 0 {
-            from = column;
-        }
-    }
-    if count > 0 {
-        add_mark(&mut path, columns, from, columns, middle);
-    }
-    svg.lines(&path, 120);
-}
-
 /// Writes the numbers of some frames beside their rows.
-fn name_rows(svg: &mut Svg, top: u64, grid: &Grid) {
+fn name_rows(svg: &mut Svg, top: Coordinate, grid: &Grid) {
     let step = nice(grid.frames, 8);
     for i in 0..9u64 {
         let frame = step.saturating_mul(i);
         if frame < grid.frames {
-            let row = row_of(frame, grid.rows, grid.frames);
-            let base = top
-                .saturating_add(row.saturating_mul(grid.height))
-                .saturating_add(800);
-            svg.numbered(LEFT - 800, base, &REMARK, "", frame);
+            let above = row_of(frame, grid.rows, grid.frames).saturating_mul(grid.height);
+            svg.numbered(NAMES, top + above + 800, REMARK, "", frame);
         }
     }
 }
 
-/// Says at the right what a cell stands for, on a base line.
-pub(crate) fn explain(svg: &mut Svg, base: u64, grid: &Grid, vm: Option<u32>) {
+/// Writes at the right what a cell is, on a base line; of one slot's VM alone if one is named (0 to 63).
+pub fn explain_cells(svg: &mut Svg, base: Coordinate, grid: &Grid, vm: Option<u32>) {
     let tall = grid.frames.div_ceil(grid.rows.max(1));
     let wide = lines_of_column(grid.lines, grid.columns);
-    svg.begin_words(LEFT + PLOT, base, &REMARK);
-    svg.text.put("a cell: up to ");
-    svg.text.put_count(tall, "frame");
-    svg.text.put(" through up to ");
-    svg.text.put_count(wide, "line");
+    svg.begin_words(END, base, REMARK);
+    let (frames, lines) = (Count(tall, "frame"), Count(wide, "line"));
+    put!(svg.text, "a cell: up to {frames} through up to {lines}");
     match vm {
-        Some(vm) => {
-            svg.text
-                .put_number("; paler the less of it vm ", u64::from(vm));
-            svg.text.put(" had; underlined where it shared any");
-        },
+        Some(vm) => put!(
+            svg.text,
+            "; paler the less of it vm {vm} had; underlined where it shared any"
+        ),
         None => svg.text.put(
             "; in a VM's colour where it had most of what VMs had, paler the less that was; underlined where any was shared",
         ),
@@ -306,65 +309,34 @@ pub(crate) fn explain(svg: &mut Svg, base: u64, grid: &Grid, vm: Option<u32>) {
     svg.end_words();
 }
 
-/// Draws a row by what each owner had of it.
-fn draw_row(svg: &mut Svg, row: &Row, sums: &Sums) -> Result<(), Memory> {
-    // All frames of the row through all lines of a column.
-    let size = row
-        .next
-        .saturating_sub(row.first)
-        .saturating_mul(row.grid.lines);
-    let cells = cells_of(svg.alloc(), sums, size)?;
-    let (top, height) = (row.top, row.grid.height);
-    draw_cells(svg, row, &cells);
-    draw_edges(svg, sums.columns, &cells, top, height);
-    draw_shared(svg, sums, top.saturating_add(height).saturating_sub(60));
-    Ok(())
-}
-
-/// Draws the rows of cells from a height on.
-fn draw_rows(
+/// Draws the cells of all frames from a height on, by the numbers of the bars in each row; if `alone`, those of what one VM
+/// had. `Memory` if there was none for a row.
+pub fn draw_cells(
     svg: &mut Svg,
     grid: &Grid,
-    top: u64,
+    top: Coordinate,
     bars: &[Bar],
     by_row: &[Vec<usize>],
     alone: bool,
 ) -> Result<(), Memory> {
+    name_rows(svg, top, grid);
+    svg.begin_lines(grid.height);
     for (i, list) in by_row.iter().enumerate() {
         let number = i as u64;
         let row = Row {
             grid: *grid,
             first: first_of_row(number, grid.rows, grid.frames),
             next: first_of_row(number.saturating_add(1), grid.rows, grid.frames),
-            top: top.saturating_add(number.saturating_mul(grid.height)),
+            top: top + number.saturating_mul(grid.height),
             alone,
         };
-        let sums = sums_of(svg.alloc(), grid.columns, grid.lines, bars, list)?;
-        draw_row(svg, &row, &sums)?;
-    }
-    Ok(())
-}
-
-/// Draws the cells of all frames from a height on; perhaps by what one VM had alone.
-pub(crate) fn draw_frames(
-    svg: &mut Svg,
-    grid: &Grid,
-    top: u64,
-    bars: &[Bar],
-    by_row: &[Vec<usize>],
-    alone: bool,
-) {
-    name_rows(svg, top, grid);
-    svg.begin_lines(grid.height);
-    if let Err(Memory) = draw_rows(svg, grid, top, bars, by_row, alone) {
-        svg.text.refuse();
+        row.draw(
+            svg,
+            &sums_of(svg.alloc(), grid.columns, grid.lines, bars, list)?,
+        )?;
     }
     svg.end_group();
-    let area = Area {
-        x: LEFT,
-        y: top,
-        width: PLOT,
-        height: grid.rows.saturating_mul(grid.height),
-    };
-    svg.edge(&area, EDGE);
+    let height = grid.rows.saturating_mul(grid.height);
+    svg.rect(&Area::new(START, top, PLOT, height), Paint::Edge(EDGE));
+    Ok(())
 }

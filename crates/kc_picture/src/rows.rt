@@ -12,8 +12,8 @@ pub(crate) fn first_of_row(row: u64, rows: u64, frames: u64) -> u64 {
     row.saturating_mul(frames).div_ceil(rows.max(1))
 }
 
-/// The numbers of the bars of each row, in their order.
-pub(crate) fn bars_by_row(
+/// Lists the numbers of the bars of each row, in their order. `Memory` if there was none for them.
+pub fn bars_by_row(
     alloc: Global,
     bars: &[Bar],
     rows: u64,

@@ -28,7 +28,7 @@ fn first_bar(config: &Config, frame: u32, to: u32) -> Bar
     }
 }
 
-/// The change of a frame that an event tells of, if it tells of one.
+/// The change of a frame that an event is, if it is one.
 fn told_in(event: &Event) -> Option<FrameChange>
     ensures { result ≡ told_in event.now }
 {
@@ -38,7 +38,7 @@ fn told_in(event: &Event) -> Option<FrameChange>
     }
 }
 
-/// The bars from each change on, the last first, and of each frame the line of its first change.
+/// Makes the bars from each change on, the last first, and finds the line of the first change of each frame.
 fn bars_from_changes(
     alloc: Global,
     frames: u32,
@@ -66,10 +66,10 @@ fn bars_from_changes(
     Ok((bars, next))
 }
 
-/// The bars of all frames: those from the first line on, and from each change on, up to the line `end`. `Memory` where a
-/// growth was refused.
+/// Makes the bars of all frames: those from the first line on, and from each change on, up to the line `end`. `Memory` if
+/// there was none for them.
 pub fn bars(alloc: Global, config: &Config, end: u32, events: &[Event]) -> Result<Vec<Bar>, Memory>
-    // The events of a trace tell of frames that there are.
+    // The changes of a trace are of frames that exist.
     requires { All (IsIn config.now.frames) (changes_in events.now) }
     ensures { IfOk result (λ made. made.items ≡ bars (boot config.now) end (changes_in events.now)) }
 {

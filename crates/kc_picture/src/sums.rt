@@ -1,24 +1,22 @@
 //! How much of each column of a row each owner had.
-use crate::scale::PLOT;
+use kc_lanes::{ONE_FEWER, ONE_MORE};
+use kc_svg::PLOT;
 use kc_types::{Bar, Memory, Owner};
 use std::alloc::Global;
 
 /// The least width of a cell.
 const CELL_WIDTH: u64 = 400;
 
-/// As many columns as there are.
+/// The most columns.
 pub(crate) const MOST_COLUMNS: u64 = PLOT / CELL_WIDTH;
 
 /// The core, the host, nobody, and 64 VMs.
 pub(crate) const OWNERS: usize = 67;
 
+/// The number of the first VM among these.
 pub(crate) const FIRST_VM: usize = 3;
 
-/// A change of a sum modulo 2^64, by one.
-pub(crate) const ONE_MORE: u64 = 1;
-/// The other way.
-pub(crate) const ONE_FEWER: u64 = u64::MAX;
-
+/// The number of an owner.
 fn number_of(owner: Owner) -> usize {
     match owner {
         Owner::Core => 0,
@@ -28,12 +26,14 @@ fn number_of(owner: Owner) -> usize {
     }
 }
 
+/// Adds to a sum modulo 2^64, if it exists.
 fn add(sums: &mut [u64], place: usize, by: u64) {
     if let Some(sum) = sums.get_mut(place) {
         *sum = sum.wrapping_add(by);
     }
 }
 
+/// The sum at a place, or 0.
 pub(crate) fn at(sums: &[u64], place: usize) -> u64 {
     match sums.get(place) {
         Some(sum) => *sum,
@@ -55,6 +55,7 @@ pub(crate) struct Sums {
 }
 
 impl Sums {
+    /// None, for this number of columns and this number of lines.
     fn new(alloc: Global, columns: u64, last: u64) -> Result<Sums, Memory> {
         let places = (columns.min(MOST_COLUMNS) as usize + 2) * OWNERS;
         Ok(Sums {
@@ -68,8 +69,8 @@ impl Sums {
 
     /// Where a line begins, in parts of a line.
     fn at(&self, line: u32) -> u64 {
-        let behind = u64::from(line).saturating_sub(1).min(self.last);
-        behind.saturating_mul(self.columns)
+        let lines = u64::from(line).saturating_sub(1).min(self.last);
+        lines.saturating_mul(self.columns)
     }
 
     /// The column of a part of a line.
@@ -77,25 +78,26 @@ impl Sums {
         (at / self.last.max(1)).min(self.columns)
     }
 
-    /// From a part of a line on an owner has one frame more, or one fewer.
+    /// Counts one frame more of an owner, or one fewer, from a part of a line on.
     fn change(&mut self, owner: usize, at: u64, frames: u64) {
         let column = self.column(at);
         let place = place_of(column, owner);
-        let behind = column.saturating_add(1).saturating_mul(self.last);
-        let rest = behind.saturating_sub(at);
+        let end = column.saturating_add(1).saturating_mul(self.last);
+        let rest = end.saturating_sub(at);
         add(&mut self.parts, place, rest.wrapping_mul(frames));
         let next = place.saturating_add(OWNERS);
         add(&mut self.wholes, next, self.last.wrapping_mul(frames));
     }
 
-    /// A frame is shared between two parts of lines.
+    /// Counts a frame that is shared from one part of a line up to another.
     fn share(&mut self, from: u64, to: u64) {
         let first = self.column(from);
-        let behind = self.column(to.saturating_add(self.last.saturating_sub(1)));
+        let end = self.column(to.saturating_add(self.last.saturating_sub(1)));
         add(&mut self.shared, first as usize, ONE_MORE);
-        add(&mut self.shared, behind as usize, ONE_FEWER);
+        add(&mut self.shared, end as usize, ONE_FEWER);
     }
 
+    /// Adds a bar.
     fn add_bar(&mut self, bar: &Bar) {
         let owner = number_of(bar.custody.owner);
         let from = self.at(bar.from);
@@ -108,13 +110,14 @@ impl Sums {
     }
 }
 
+/// The place of an owner's sum of a column.
 fn place_of(column: u64, owner: usize) -> usize {
     (column as usize)
         .saturating_mul(OWNERS)
         .saturating_add(owner)
 }
 
-/// The weights of a row's bars.
+/// Adds up a row's bars. `Memory` if there was none for it.
 pub(crate) fn sums_of(
     alloc: Global,
     columns: u64,

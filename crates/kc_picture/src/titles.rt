@@ -1,15 +1,14 @@
-//! The words that tell of a bar, of a cell, of a life, and of a mark in it.
+//! The titles of bars and of cells.
 ghost use Rattle.std.specs.Prelude.{◌≡◌, ◌++◌, IfOk, OnOk, codes};
 ghost use Rattle.std.specs.String.{string_bytes};
-ghost use Rattle.kc_picture.specs.Titles.{place_words, owner_words, grant_words, reach_words, custody_words, bar_title, measured_words, cleared_words, stay_title, tick_title, lives_title, deaths_title, frames_words, whose_words, cell_title};
+ghost use Rattle.kc_picture.specs.Titles.{place_words, owner_words, grant_words, reach_words, custody_words, bar_title, frames_words, whose_words, cell_title};
 
 use crate::cells::Whose;
-use crate::vms::{Measured, Stay};
 use kc_types::{Bar, Custody, Gfn, Memory, Owner};
 use std::alloc::Global;
 
 /// Appends the guest frame at which a VM sees a frame, if it does.
-pub(crate) fn push_place(words: &mut String, gfn: Option<Gfn>) -> Result<(), Memory>
+pub fn push_place(words: &mut String, gfn: Option<Gfn>) -> Result<(), Memory>
     ensures { OnOk result (string_bytes words.new ≡ string_bytes words.old ++ place_words gfn) }
 {
     if let Some(gfn) = gfn {
@@ -19,7 +18,7 @@ pub(crate) fn push_place(words: &mut String, gfn: Option<Gfn>) -> Result<(), Mem
 }
 
 /// Appends who owns a frame, and of a VM's at which guest frame.
-pub(crate) fn push_owner(words: &mut String, owner: Owner, gfn: Option<Gfn>) -> Result<(), Memory>
+pub fn push_owner(words: &mut String, owner: Owner, gfn: Option<Gfn>) -> Result<(), Memory>
     ensures { OnOk result (string_bytes words.new ≡ string_bytes words.old ++ owner_words owner gfn) }
 {
     match owner {
@@ -34,7 +33,7 @@ pub(crate) fn push_owner(words: &mut String, owner: Owner, gfn: Option<Gfn>) -> 
     Ok(())
 }
 
-/// Appends how often a frame is granted, where it is.
+/// Appends how often a frame is granted, if it is.
 fn push_grants(words: &mut String, grants: u32) -> Result<(), Memory>
     ensures { OnOk result (string_bytes words.new ≡ string_bytes words.old ++ grant_words grants) }
 {
@@ -46,7 +45,7 @@ fn push_grants(words: &mut String, grants: u32) -> Result<(), Memory>
     Ok(())
 }
 
-/// Appends that the host reaches a frame, where it does.
+/// Appends that the host reaches a frame, if it does.
 fn push_reach(words: &mut String, reached: bool) -> Result<(), Memory>
     ensures { OnOk result (string_bytes words.new ≡ string_bytes words.old ++ reach_words reached) }
 {
@@ -56,6 +55,7 @@ fn push_reach(words: &mut String, reached: bool) -> Result<(), Memory>
     Ok(())
 }
 
+/// Appends a frame's custody.
 fn push_custody(words: &mut String, custody: &Custody) -> Result<(), Memory>
     ensures { OnOk result (string_bytes words.new ≡ string_bytes words.old ++ custody_words custody.now) }
 {
@@ -64,7 +64,7 @@ fn push_custody(words: &mut String, custody: &Custody) -> Result<(), Memory>
     push_reach(words, custody.present)
 }
 
-/// All that a bar tells: "frame 3, lines 17 to 22: vm 0 at guest frame 7, 1 grant, reached by the host".
+/// The title of a bar: "frame 3, lines 17 to 22: vm 0 at guest frame 7, 1 grant, reached by the host".
 pub(crate) fn bar_title(alloc: Global, bar: &Bar) -> Result<String, Memory>
     ensures { IfOk result (λ title. string_bytes title ≡ bar_title bar.now) }
 {
@@ -72,73 +72,6 @@ pub(crate) fn bar_title(alloc: Global, bar: &Bar) -> Result<String, Memory>
     let mut title = format!(in alloc; "frame {frame}, lines {from} to {last}: ")?;
     push_custody(&mut title, &bar.custody)?;
     Ok(title)
-}
-
-/// Appends how the measuring of a VM's images ended, and at which line.
-fn push_measured(words: &mut String, measured: Measured) -> Result<(), Memory>
-    ensures { OnOk result (string_bytes words.new ≡ string_bytes words.old ++ measured_words measured) }
-{
-    match measured {
-        Measured::Not => words.push_str(", never measured")?,
-        Measured::Active(line) => write!(words, ", measured and active from line {line}")?,
-        Measured::Dead(line) => write!(words, ", measured and dead from line {line}")?,
-    }
-    Ok(())
-}
-
-/// Appends at which line a life ended, if it did.
-fn push_cleared(words: &mut String, cleared: Option<u32>) -> Result<(), Memory>
-    ensures { OnOk result (string_bytes words.new ≡ string_bytes words.old ++ cleared_words cleared) }
-{
-    match cleared {
-        Some(line) => write!(words, ", cleared at line {line}")?,
-        None => words.push_str(", there at the end")?,
-    }
-    Ok(())
-}
-
-/// All that a life tells: "vm 0: registered at line 4, measured and active from line 8, cleared at line 29".
-pub(crate) fn stay_title(alloc: Global, vm: u32, stay: &Stay) -> Result<String, Memory>
-    ensures { IfOk result (λ title. string_bytes title ≡ stay_title vm stay.now) }
-{
-    let registered = stay.registered;
-    let mut title = format!(in alloc; "vm {vm}: registered at line {registered}")?;
-    push_measured(&mut title, stay.measured)?;
-    push_cleared(&mut title, stay.cleared)?;
-    Ok(title)
-}
-
-/// What a mark tells: "vm 0 registered at line 4".
-pub(crate) fn tick_title(alloc: Global, vm: u32, what: &str, line: u32) -> Result<String, Memory>
-    ensures { IfOk result (λ title. string_bytes title ≡ tick_title vm what.now line) }
-{
-    Ok(format!(in alloc; "vm {vm} {what} at line {line}")?)
-}
-
-/// What lives say that are drawn as one: "vm 0: 12 lives, lines 4 to 90".
-pub(crate) fn lives_title(
-    alloc: Global,
-    vm: u32,
-    count: u64,
-    first: u32,
-    last: u32,
-) -> Result<String, Memory>
-    ensures { IfOk result (λ title. string_bytes title ≡ lives_title vm count first last) }
-{
-    Ok(format!(in alloc; "vm {vm}: {count} lives, lines {first} to {last}")?)
-}
-
-/// What the mark of several dead VMs says: "vm 0: 3 measured and dead, lines 17 to 40".
-pub(crate) fn deaths_title(
-    alloc: Global,
-    vm: u32,
-    count: u64,
-    first: u32,
-    last: u32,
-) -> Result<String, Memory>
-    ensures { IfOk result (λ title. string_bytes title ≡ deaths_title vm count first last) }
-{
-    Ok(format!(in alloc; "vm {vm}: {count} measured and dead, lines {first} to {last}")?)
 }
 
 /// Cells side by side in one row: their frames, and the lines that fall into them, each from the first to the last.
@@ -150,7 +83,7 @@ pub(crate) struct Block {
     pub last_line: u64,
 }
 
-/// The frames of some cells.
+/// Spells the frames of some cells.
 fn frames_words(alloc: Global, first: u64, last: u64) -> Result<String, Memory>
     ensures { IfOk result (λ words. string_bytes words ≡ frames_words first last) }
 {
@@ -176,7 +109,7 @@ fn push_whose(words: &mut String, whose: Whose, alone: bool) -> Result<(), Memor
     Ok(())
 }
 
-/// All that cells of one owner say: "frames 64 to 95, lines 17 to 256: vm 3 had more of it than all other VMs together".
+/// The title of cells of one owner: "frames 64 to 95, lines 17 to 256: vm 3 had more of it than all other VMs together".
 pub(crate) fn cell_title(
     alloc: Global,
     block: &Block,

@@ -1,0 +1,3 @@
+pub mod LaneTitles
+pub mod OutlineWords
+pub mod Outlines

@@ -1,0 +1,60 @@
+//! The foot of a picture: the version of kcore, and what the picture is of.
+ghost use Rattle.std.specs.Prelude.{◌≡◌, ◌++◌};
+ghost use Rattle.hex.specs.Hex.{encode_lower};
+ghost use Rattle.kc_svg.specs.Words.{Puts};
+ghost use Rattle.kc_svg.specs.Foot.{start_words, digests_words, unseen_words, foot_words};
+
+use crate::words::Text;
+use kc_trace::{Digests, Heading, StartDigest, VERSION};
+use std::alloc::Global;
+
+/// Puts some words and a digest, in 64 digits.
+fn put_digest(text: &mut Text, alloc: Global, words: &str, digest: &[u8])
+    ensures { Puts text.old text.new (words.now ++ encode_lower digest.now) }
+{
+    text.put(words);
+    match hex::encode(alloc, digest) {
+        Ok(digits) => text.put(&digits),
+        Err(_) => text.refuse(),
+    }
+}
+
+/// Puts what calls begin with.
+fn put_start(text: &mut Text, alloc: Global, start: &StartDigest)
+    ensures { Puts text.old text.new (start_words start.now) }
+{
+    match start {
+        StartDigest::Default => text.put(", default configuration"),
+        StartDigest::Config(digest) => put_digest(text, alloc, ", configuration SHA-256 ", digest),
+        StartDigest::State(digest) => put_digest(text, alloc, ", state SHA-256 ", digest),
+    }
+}
+
+/// Puts which texts were read, if they are named.
+fn put_digests(text: &mut Text, alloc: Global, digests: &Option<Digests>)
+    ensures { Puts text.old text.new (digests_words digests.now) }
+{
+    if let Some(digests) = digests {
+        put_digest(text, alloc, ", trace SHA-256 ", &digests.trace);
+        put_start(text, alloc, &digests.start);
+    }
+}
+
+/// Puts that the machine's own accesses are not in the trace, if they are not.
+fn put_unseen(text: &mut Text, is_unseen: bool)
+    ensures { Puts text.old text.new (unseen_words is_unseen) }
+{
+    if is_unseen {
+        text.put(", accesses unseen");
+    }
+}
+
+/// Puts the words of a foot.
+pub(crate) fn put_foot(text: &mut Text, alloc: Global, heading: &Heading)
+    ensures { Puts text.old text.new (foot_words heading.now) }
+{
+    text.put("kcore ");
+    text.put(VERSION);
+    put_digests(text, alloc, &heading.digests);
+    put_unseen(text, heading.is_unseen);
+}
