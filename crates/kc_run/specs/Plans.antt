@@ -3,8 +3,8 @@ use Rattle.std.specs.Prelude.{ℕ, Bool, true, false, ◌&&◌, List, Option, So
 use Rattle.std.specs.Borrow.{Bor}
 use Rattle.kc_args.specs.declared.job.Job.{Job}
 use Rattle.kc_args.specs.declared.job.Job.TheVariants as jobs
-use Rattle.kc_texts.specs.declared.origin.Origin.{Origin}
-use Rattle.kc_texts.specs.declared.origin.Origin.TheVariants as origins
+use Rattle.kc_faults.specs.declared.origin.Origin.{Origin}
+use Rattle.kc_faults.specs.declared.origin.Origin.TheVariants as origins
 use Rattle.kc_remarks.specs.declared.remark.Remarks.{Remarks}
 use Rattle.kc_cli.specs.declared.order.ReplayForm.{ReplayForm}
 use Rattle.kc_cli.specs.declared.order.ReplayForm.TheVariants as replies
@@ -76,7 +76,7 @@ replay_plan None start to blank workers = Err clashes.DumpState
 replay_plan (Some form) None to blank workers = Err clashes.ReplayConfigFrom
 replay_plan (Some form) (Some start) to blank workers = blank_plan (is_alone blank form to) (plans.Replay start to form blank workers)
 
--- which texts are named by their digests, by `--digests`: of the default configuration there is no text to be named
+-- which texts are named by their digests, by `--digests`: the default configuration has no text to be named
 abbrev pub named_by : Bool → Start → Named
 named_by false start = names.Nothing
 named_by true (starts.Boot None) = names.Trace

@@ -14,8 +14,8 @@ pub enum Start<'a> {
     State(&'a str),
 }
 
-/// What is written of custody, and where calls begin. What came before the state of a text is not known, so that a summary
-/// and a picture begin in a boot state, with the configuration in a file or the default one.
+/// What is written of custody, and where calls begin. What came before the state of a text is not known, so that a
+/// summary and a picture begin in a boot state, with the configuration in a file or the default one.
 #[derive(Clone, Copy, Debug, PartialEq, Eq)]
 pub enum Account<'a> {
     /// Every change of a frame or slot, and what else is asked for of the calls.
@@ -31,8 +31,8 @@ pub enum Account<'a> {
 /// What is to be done with the trace or dump.
 #[derive(Clone, Copy, Debug, PartialEq, Eq)]
 pub enum Plan<'a> {
-    /// Replay the trace, and compare the state that it leaves with the text in the file `to`, if that is named. Blank: with
-    /// the pages of active VMs zeroed, in what is written and compared of the core.
+    /// Replay the trace, and compare the state that it leaves with the text in the file `to`, if that is named. Blank:
+    /// with the pages of active VMs zeroed, in what is written and compared of the core.
     Replay {
         start: Start<'a>,
         to: Option<&'a str>,
@@ -141,7 +141,7 @@ fn account_of<'a>(
     }
 }
 
-/// Which texts are named by their digests, by `--digests`: of the default configuration there is no text to be named.
+/// Which texts are named by their digests, by `--digests`: the default configuration has no text to be named.
 fn named_by(digests: bool, start: Start<'_>) -> Named
     ensures { result ≡ named_by digests start.entry }
 {
