@@ -39,7 +39,7 @@ MISTAKES = (
     Mistake("contracts", "crates/kcore_c/src/handle.rt", "ghost agrees:", "ghost fits:"),
     Mistake("contracts", "docs/ASSURANCE.md", "`IsSafe`, field `measured`", "`IsSafe`, field `measures`"),
     Mistake("contracts", "docs/ASSURANCE.md", "proved: clause `wiped`", "proved: clause `zeroed`"),
-    Mistake("contracts", "docs/CONTRACTS.md", "| `kc_state`, `dump`", "| `kc_cli`, `dump`"),
+    Mistake("contracts", "docs/CONTRACTS.md", "| `kc_dumping`, `dump`", "| `kc_cli`, `dump`"),
     Mistake("contracts", "docs/CONTRACTS.md", "field `waves` of", "field `kc_waves` of"),
     Mistake("contracts", "docs/CONTRACTS.md", "(`test_libraries`, `volumes.rt`)", "(`test_libraries`, `volume.rt`)"),
     Mistake("names", "crates/kc_core/src/shares.rt", "", "crates/kc_core/src/sharing.rt"),

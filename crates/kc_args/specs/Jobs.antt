@@ -1,8 +1,8 @@
 -- What options ask for, unless they contradict each other.
 use Rattle.std.specs.Prelude.{ℕ, Bool, true, false, ◌&&◌, List, Option, Some, None, Result, Ok, Err}
 use Rattle.std.specs.Borrow.{Bor}
-use Rattle.kc_texts.specs.declared.origin.Origin.{Origin}
-use Rattle.kc_texts.specs.declared.origin.Origin.TheVariants as origins
+use Rattle.kc_faults.specs.declared.origin.Origin.{Origin}
+use Rattle.kc_faults.specs.declared.origin.Origin.TheVariants as origins
 use Rattle.kc_remarks.specs.declared.remark.Remarks.{Remarks}
 use Rattle.kc_cli.specs.declared.order.ReplayForm.{ReplayForm}
 use Rattle.kc_cli.specs.declared.order.ReplayForm.TheVariants as replies
@@ -77,7 +77,7 @@ replay_action None start to blank workers = Err clashes.DumpState
 replay_action (Some form) None to blank workers = Err clashes.ReplayConfigFrom
 replay_action (Some form) (Some start) to blank workers = blank_action (is_alone blank form to) (actions.Replay start to form blank workers)
 
--- which texts are named by their digests, by `--digests`: of the default configuration there is no text to be named
+-- which texts are named by their digests, by `--digests`: the default configuration has no text to be named
 abbrev pub named_by : Bool → Start → Named
 named_by false start = names.Nothing
 named_by true (starts.Boot None) = names.Trace

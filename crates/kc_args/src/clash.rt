@@ -1,6 +1,5 @@
 //! Options that contradict each other.
-ghost use Rattle.std.specs.Prelude.{◌≡◌, ◌≤◌};
-ghost use Rattle.arrayvec.specs.ArrayString.{array_string_len};
+ghost use Rattle.std.specs.Prelude.{◌≡◌};
 ghost use Rattle.kc_args.specs.Clashes.{first_option, link_of, other_option, command_of, clash_text};
 
 use arrayvec::ArrayString;

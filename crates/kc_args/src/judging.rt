@@ -86,7 +86,7 @@ fn account_of<'a>(
     }
 }
 
-/// Which texts are named by their digests, by `--digests`: of the default configuration there is no text to be named.
+/// Which texts are named by their digests, by `--digests`: the default configuration has no text to be named.
 fn named_by(digests: bool, start: Start<'_>) -> Named
     ensures { result ≡ named_by digests start.entry }
 {

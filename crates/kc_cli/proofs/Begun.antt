@@ -1,5 +1,5 @@
 -- A beginning of a live run's text is given.
-use Rattle.std.proofs.Common.{ℕ, ◌≡◌, ◌≤◌, ◌⊎◌, ◌∙◌, inl, inr, ap, List, length, Option, Some, None, Err, take, refl, arith}
+use Rattle.std.proofs.Common.{ℕ, ◌≡◌, ◌≤◌, ◌⊎◌, ◌∙◌, inl, inr, ap, List, length, Option, Some, None, Err, take, refl, arith, Ok}
 use Rattle.std.specs.Prelude.{IfSome}
 use Rattle.std.specs.Io.KnownBytes.{Appends}
 use Rattle.kc_types.specs.Configuration.{Configuration}
@@ -8,18 +8,19 @@ use Rattle.kc_model.specs.Boot.{boot}
 use Rattle.kc_model.specs.Promises.{KeepsPromises}
 use Rattle.kc_live.specs.Cuts.{KeepsOrders, MayRun}
 use Rattle.kc_trace.specs.Spelling.{trace_of}
-use Rattle.kc_texts.specs.Reading.{HaveRead, Begins}
+use Rattle.kc_cli.specs.Reading.{HaveRead}
+use Rattle.kc_texts.specs.Written.{Begins}
 use Rattle.kc_types.specs.Limits.{call_limit}
-use Rattle.kc_trace.specs.ConfigText.{config_in}
-use Rattle.std.proofs.Common.{Ok}
-use Rattle.kc_texts.specs.Outcomes.{Seen, TellsTexts}
-use Rattle.kc_texts.specs.declared.origin.Origin.TheVariants as origins
-use Rattle.kc_texts.specs.declared.fault.TextFault.{TextFault}
-use Rattle.kc_texts.proofs.Told.{boots, texts_trace}
+use Rattle.kc_config_text.specs.ConfigText.{config_in}
+use Rattle.kc_texts.specs.Ends.{Seen}
+use Rattle.kc_faults.specs.Outcomes.{TellsTexts}
+use Rattle.kc_faults.specs.declared.origin.Origin.TheVariants as origins
+use Rattle.kc_faults.specs.declared.fault.TextFault.{TextFault}
+use Rattle.kc_faults.proofs.Told.{boots, texts_trace}
 use Rattle.kc_trace.specs.declared.fault.TraceFault.TheVariants as traces
 use Rattle.kc_live.specs.declared.stop.LiveCause.{LiveCause}
 use Rattle.kc_live.specs.declared.stop.LiveCause.TheVariants as causes
-use Rattle.kc_texts.specs.declared.fault.TextFault.TheVariants as texts
+use Rattle.kc_faults.specs.declared.fault.TextFault.TheVariants as texts
 use Rattle.kc_cli.specs.Live.{IsLiveText, IsLiveFault, live_fault}
 
 pub begins_live : (config_source trace_source old new : Option (List ℕ)) (config : Configuration) (calls made : List Call) → HaveRead config_source trace_source config calls → MayRun config calls → KeepsOrders made calls → KeepsPromises (boot config) made

@@ -8,8 +8,8 @@ use Rattle.kc_remarks.specs.declared.denials.Answered.{Answered}
 use Rattle.kc_remarks.specs.Denials.{Counts, IsAnsweredBy}
 use Rattle.kc_remarks.proofs.Counts.{outside_is}
 use Rattle.kc_trace.specs.Trace.{IsTrace}
-use Rattle.kc_texts.specs.declared.origin.Origin.{Origin}
-use Rattle.kc_texts.specs.Reading.{BeginsIn}
+use Rattle.kc_faults.specs.declared.origin.Origin.{Origin}
+use Rattle.kc_faults.specs.Origins.{BeginsIn}
 use Rattle.kc_cli.specs.Answers.{AreAnsweredFrom, AreAnswered}
 
 one_each : (m : State) (calls : List Call) → length (replies_from m calls) ≡ length calls
@@ -28,7 +28,7 @@ pub answered_from : (source : Option (List ℕ)) (m : State) (calls : List Call)
 answered_from None m calls answered traced count denials = tt
 answered_from (Some text) m calls answered traced count denials = (calls, traced, answered_by m calls answered count denials)
 
--- and they begin in the state that the other tells
+-- and they begin in the state that the other text is of
 pub are_answered : (origin : Origin) (start trace : Option (List ℕ)) (m : State) (answered : Answered) → IfSome start (λ text. BeginsIn origin text m) → IfSome trace (λ text. AreAnsweredFrom m text answered) → AreAnswered origin start trace answered
 are_answered origin None trace m answered s t = tt
 are_answered origin (Some start) None m answered s t = tt

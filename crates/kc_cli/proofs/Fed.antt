@@ -8,7 +8,7 @@ use Rattle.kc_model.specs.Lawful.{IsLawful}
 use Rattle.kc_model.proofs.Lawful.LawfulTraces.{lawful-after}
 use Rattle.kc_model.proofs.Promises.{promises_kept}
 use Rattle.kc_model.proofs.Redaction.Blank.{audited_blank}
-use Rattle.kc_state.proofs.Drawn.{sound-drawn}
+use Rattle.kc_dumping.proofs.Drawn.{sound-drawn}
 use Rattle.kc_trace.specs.Trace.{IsTrace}
 use Rattle.kc_cli.specs.Engine.{IsReplayed, left_as}
 use Rattle.kc_model.specs.Next.{replies_from, state_after}

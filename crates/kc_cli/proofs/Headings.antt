@@ -1,16 +1,15 @@
 -- The heading that comes of digests is that of the texts.
-use Rattle.std.proofs.Common.{ℕ, ◌≡◌, Bool, true, false, List, Option, Some, None, Result, Ok, Err, refl, ap, ◌∙◌}
-use Rattle.std.specs.Prelude.{IfSome, IfOk, is_some}
-use Rattle.sha2.specs.Sha256.{sha256}
-use Rattle.kc_texts.specs.declared.origin.Origin.{Origin}
-use Rattle.kc_texts.specs.declared.origin.Origin.TheVariants as origins
+use Rattle.std.proofs.Common.{ℕ, ◌≡◌, true, false, List, Option, Some, None, Result, Ok, Err, refl, ap, ◌∙◌}
+use Rattle.std.specs.Prelude.{IfOk}
+use Rattle.kc_faults.specs.declared.origin.Origin.{Origin}
+use Rattle.kc_faults.specs.declared.origin.Origin.TheVariants as origins
 use Rattle.kc_trace.specs.declared.custody_writer.Heading.{Heading}
 use Rattle.kc_trace.specs.declared.custody_writer.Digests.{Digests}
 use Rattle.kc_cli.specs.declared.account.Named.{Named}
 use Rattle.kc_cli.specs.declared.account.Named.TheVariants as names
 use Rattle.kc_cli.specs.declared.account.Scope.{Scope}
 use Rattle.kc_cli.specs.declared.account.Told.{Told}
-use Rattle.kc_cli.specs.Custody.{names_trace, names_start, digests_of, heading_of}
+use Rattle.kc_cli.specs.Custody.{names_trace, names_start, digests_of}
 use Rattle.kc_cli.specs.Headings.{HasDigest, digests_by, heading_by, IsHeaded}
 
 digests_are : (named : Named) (origin : Origin) (start trace : List ℕ) (of_start of_trace : Option (List ℕ)) → HasDigest (names_start named) (Some start) of_start → HasDigest (names_trace named) (Some trace) of_trace → digests_by origin of_start of_trace ≡ digests_of named origin start trace

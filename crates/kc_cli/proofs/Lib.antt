@@ -2,6 +2,7 @@ pub mod Begun
 pub mod Replayed
 pub mod Fed
 mod Plain
+mod Reported
 mod Ledgers
 mod Headings
 mod Marked

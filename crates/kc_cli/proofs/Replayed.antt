@@ -5,10 +5,11 @@ use Rattle.std.specs.Io.KnownBytes.{Appends}
 use Rattle.kc_types.specs.declared.reply.Reply.{Reply}
 use Rattle.kc_model.specs.State.{State}
 use Rattle.kc_dump.specs.Sound.{IsSound}
-use Rattle.kc_state.specs.Dumping.{dump_of}
+use Rattle.kc_dumping.specs.Dumping.{dump_of}
 use Rattle.kc_state_text.specs.StateText.{state_text}
-use Rattle.kc_texts.specs.declared.origin.Origin.{Origin}
-use Rattle.kc_texts.specs.Reading.{BeginsIn, Writes, Begins}
+use Rattle.kc_faults.specs.declared.origin.Origin.{Origin}
+use Rattle.kc_faults.specs.Origins.{BeginsIn}
+use Rattle.kc_texts.specs.Written.{Writes, Begins}
 use Rattle.kc_cli.specs.declared.order.ReplayForm.{ReplayForm}
 use Rattle.kc_cli.specs.Engine.{IsReplayed, AreReplayed, IsReplayText, IsLeftText, written_text, left_as}
 

@@ -1,9 +1,9 @@
--- What is told of two sources where there is a third.
+-- What is said of two sources if there is a third.
 use Rattle.std.proofs.Common.{◌≡◌, Bool, true, false, [], ◌∷◌, Result, Ok, Err, inl, inr}
-use Rattle.kc_texts.specs.Ends.{ReadFailed}
-use Rattle.kc_texts.specs.Outcomes.{Seen, HasFailedRead, HasFailed, TellsSources, TellsSink}
-use Rattle.kc_texts.specs.declared.fault.TextFault.{TextFault}
-use Rattle.kc_texts.specs.declared.fault.TextFault.TheVariants as texts
+use Rattle.kc_texts.specs.Ends.{ReadFailed, Seen, HasFailedRead, HasFailed}
+use Rattle.kc_faults.specs.Outcomes.{TellsSources, TellsSink}
+use Rattle.kc_faults.specs.declared.fault.TextFault.{TextFault}
+use Rattle.kc_faults.specs.declared.fault.TextFault.TheVariants as texts
 
 one_more : (start trace last : Seen) → HasFailedRead (start ∷ trace ∷ []) → HasFailedRead (start ∷ trace ∷ last ∷ [])
 one_more start trace last (inl is) = inl is
@@ -20,7 +20,7 @@ sources_with {A} {B} start trace last f h whole = record { ended = tt; read = λ
     by_source (inr (inr (inl bad))) = cc
     by_source (inr (inr (inr never))) = absurd never
 
--- a fault of the third, behind the two
+-- a fault of the third, after the two
 pub sources_last : {A B : Type 0} (start trace last : Seen) (x : A) (f : TextFault) → TellsSources (start ∷ trace ∷ []) (Ok x) → (f ≡ texts.Read → ReadFailed last.failed last.had last.has) → (last.failed ≡ true → f ≡ texts.Read) → TellsSources {A = B} (start ∷ trace ∷ last ∷ []) (Err f)
 sources_last {A} {B} start trace last x f h read bad = record { ended = tt; read = λ e. inr (inr (inl (read (let same : f ≡ texts.Read = cc in same)))); failed = by_source }
   where
@@ -30,7 +30,7 @@ sources_last {A} {B} start trace last x f h read bad = record { ended = tt; read
     by_source (inr (inr (inl is))) = let same = bad is in cc
     by_source (inr (inr (inr never))) = absurd never
 
--- a fault of giving, of an engine that answers more; the sink took a beginning of what stands for more
+-- a fault of giving, of an engine that answers more; the sink took a beginning of what more is said of
 pub sink_err : {A B : Type 0} (failed : Bool) (begun more untouched : Type 0) (f : TextFault) → (begun → more) → TellsSink {A = A} failed begun untouched (Err f) → TellsSink {A = B} failed more untouched (Err f)
 sink_err failed begun more untouched f step h = record {
   write = λ e. (let one = h.write (let same : f ≡ texts.Write = cc in cc) in (one.0, step one.1));

@@ -1,4 +1,4 @@
--- What is told of calls that come after others, and what the sink takes of it.
+-- What is reported of calls that come after others, and what the sink takes of it.
 use Rattle.std.proofs.Common.{ℕ, ◌≡◌, ◌+◌, ◌++◌, List, [], length, filter, take, refl, ap, sym, ◌∙◌, Option, Some, None, Err, subst, arith, inl, inr, append_assoc}
 use Rattle.std.proofs.lemmas.Bool.{cases_lt}
 use Rattle.std.proofs.lemmas.List.{take_all, append-nil}
@@ -28,10 +28,11 @@ use Rattle.kc_model.proofs.Custody.Bars.{bars_are}
 use Rattle.kc_model.proofs.Custody.Laws.{custody_is}
 use Rattle.kc_model.proofs.Summaries.Summed.{summaries_are}
 use Rattle.kc_model.proofs.States.Runs.{state_after-append, replies_from-append}
-use Rattle.kc_texts.specs.declared.fault.TextFault.{TextFault}
-use Rattle.kc_texts.specs.declared.fault.TextFault.TheVariants as texts
-use Rattle.kc_texts.specs.declared.origin.Origin.{Origin}
-use Rattle.kc_texts.specs.Reading.{BeginsIn, Writes, Begins}
+use Rattle.kc_faults.specs.declared.fault.TextFault.{TextFault}
+use Rattle.kc_faults.specs.declared.fault.TextFault.TheVariants as texts
+use Rattle.kc_faults.specs.declared.origin.Origin.{Origin}
+use Rattle.kc_faults.specs.Origins.{BeginsIn}
+use Rattle.kc_texts.specs.Written.{Writes, Begins}
 use Rattle.kc_cli.specs.declared.account.CustodyForm.{CustodyForm}
 use Rattle.kc_cli.specs.declared.ledger.Ledger.{Ledger}
 use Rattle.kc_trace.specs.declared.custody_writer.Heading.{Heading}

@@ -6,8 +6,8 @@ use Rattle.kc_model.specs.Next.{replies_from}
 use Rattle.kc_remarks.specs.declared.denials.Answered.{Answered}
 use Rattle.kc_remarks.specs.Denials.{IsAnsweredBy}
 use Rattle.kc_trace.specs.Trace.{IsTrace}
-use Rattle.kc_texts.specs.declared.origin.Origin.{Origin}
-use Rattle.kc_texts.specs.Reading.{BeginsIn}
+use Rattle.kc_faults.specs.declared.origin.Origin.{Origin}
+use Rattle.kc_faults.specs.Origins.{BeginsIn}
 
 -- the counts are of the trace's calls, made in order from this state on
 abbrev pub AreAnsweredFrom : State → List ℕ → Answered → Type 0

@@ -6,23 +6,24 @@ use Rattle.kc_model.specs.State.{State}
 use Rattle.kc_model.specs.Promises.{KeepsPromises}
 use Rattle.kc_model.specs.Blanking.{blank_state}
 use Rattle.kc_model.specs.Next.{replies_from, state_after}
-use Rattle.kc_state.specs.Dumping.{dump_of}
+use Rattle.kc_dumping.specs.Dumping.{dump_of}
 use Rattle.kc_dump.specs.Sound.{IsSound}
 use Rattle.kc_dump_text.specs.DumpText.{dump_text}
 use Rattle.kc_trace.specs.Trace.{IsTrace}
 use Rattle.kc_trace.specs.ReplyText.{reply_text_of}
-use Rattle.kc_trace.specs.declared.config_text.ConfigTextFault.{ConfigTextFault}
+use Rattle.kc_config_text.specs.declared.config_text.ConfigTextFault.{ConfigTextFault}
 use Rattle.kc_state_text.specs.StateText.{state_text}
 use Rattle.kc_state_text.specs.declared.fault.StateFault.{StateFault}
 use Rattle.kc_state_text.specs.declared.fault.StateFault.TheVariants as states
-use Rattle.kc_texts.specs.declared.origin.Origin.{Origin}
-use Rattle.kc_texts.specs.Reading.{BeginsIn, IsTold}
+use Rattle.kc_faults.specs.declared.origin.Origin.{Origin}
+use Rattle.kc_faults.specs.Origins.{BeginsIn}
+use Rattle.kc_faults.specs.Outcomes.{IsTold}
 use Rattle.kc_cli.specs.declared.order.ReplayForm.{ReplayForm}
 use Rattle.kc_cli.specs.declared.order.ReplayForm.TheVariants as forms
-use Rattle.kc_texts.specs.declared.fault.TextFault.{TextFault}
-use Rattle.kc_texts.specs.declared.fault.TextFault.TheVariants as texts
+use Rattle.kc_faults.specs.declared.fault.TextFault.{TextFault}
+use Rattle.kc_faults.specs.declared.fault.TextFault.TheVariants as texts
 
--- the state's text is refused, or memory, and out of memory is never told as a fault of the text
+-- the state's text is refused, or memory, and out of memory is never reported as a fault of the text
 abbrev pub IsStateFault : TextFault → Type 0
 IsStateFault (texts.State fault) = fault ≢ states.Memory
 IsStateFault fault = fault ≡ texts.Memory
@@ -52,7 +53,7 @@ pub record IsReplayed (start : State) (trace_text : List ℕ) (replies : List Re
   pub promises : KeepsPromises start calls
   pub sound : (blank : Bool) → IsSound (dump_of (left_as blank core))
 
--- the same from the state that one source tells, for the trace that the other held, where they tell their texts
+-- the same from the state that one source's text is of, for the trace that the other held, if they report their texts
 abbrev pub AreReplayed : Origin → Option (List ℕ) → Option (List ℕ) → List Reply → State → Type 0
 AreReplayed origin None trace replies core = Unit {0}
 AreReplayed origin (Some start) None replies core = Unit {0}
@@ -64,7 +65,7 @@ written_text forms.Replies replies m = reply_text_of replies
 written_text forms.Dump replies m = dump_text (dump_of m)
 written_text forms.State replies m = state_text m
 
--- the text is made of the replies of one thread, which takes the trace's calls in order from the state that the first text tells, and of the state that it leaves, with the pages of active VMs zeroed if asked for; the calls keep the promises, and an audit finds nothing in that state
+-- the text is made of the replies of one thread, which takes the trace's calls in order from the state that the first text is of, and of the state that it leaves, with the pages of active VMs zeroed if asked for; the calls keep the promises, and an audit finds nothing in that state
 pub record IsReplayText (origin : Origin) (form : ReplayForm) (blank : Bool) (start_text trace_text text : List ℕ) : Type 0 where
   pub start : State
   pub calls : List Call

@@ -1,10 +1,13 @@
 -- What the engine of custody keeps of the notes on a trace: all of them, or their events, with the attempts at pages of VMs, if these are enough.
-use Rattle.std.specs.Prelude.{◌≡◌, ℕ, Bool, true, false, List, [], Option}
+use Rattle.std.specs.Prelude.{◌≡◌, ◌++◌, ℕ, Bool, true, false, List, [], length, take, Option}
+use Rattle.std.specs.List.{flat_map}
+use Rattle.std.specs.Io.KnownBytes.{Appends}
 use Rattle.kc_types.specs.Configuration.{Configuration}
 use Rattle.kc_types.specs.declared.custody.Event.{Event}
 use Rattle.kc_remarks.specs.declared.remark.Note.{Note}
 use Rattle.kc_remarks.specs.declared.remark.Note.TheVariants as note
 use Rattle.kc_remarks.specs.Remarks.{events_in}
+use Rattle.kc_remarks.specs.declared.denials.Answered.{Answered}
 use Rattle.kc_remarks.specs.declared.attempt.Attempt.{Attempt}
 use Rattle.kc_remarks.specs.Attempts.{attempts_in}
 use Rattle.kc_model.specs.Lives.{lives, selected_lives}
@@ -12,7 +15,7 @@ use Rattle.kc_model.specs.Events.{changes_in}
 use Rattle.kc_custody.specs.Selected.{selected}
 use Rattle.kc_custody.specs.Chosen.{no_remarks, chosen}
 use Rattle.kc_trace.specs.declared.custody_writer.Heading.{Heading}
-use Rattle.kc_trace.specs.CustodyText.{custody_text_of}
+use Rattle.kc_trace.specs.CustodyText.{header_line, end_line, custody_text_of}
 use Rattle.kc_trace.specs.SummaryText.{summary_text_of}
 use Rattle.kc_trace.specs.RemarkText.{notes_text_of}
 use Rattle.kc_cli.specs.declared.account.CustodyForm.{CustodyForm}
@@ -55,6 +58,20 @@ IsGiven vm heading config count refused (kept.Summary events attempts) text = te
 IsGiven vm heading config count refused (kept.Picture events) text = HasFoot heading text
 IsGiven vm heading config count refused (kept.VmPicture v notes) text = HasFoot heading text
 IsGiven vm heading config count refused (kept.Html notes) text = text ≡ html_text_of (notes_text_of heading config count refused (chosen vm (page_remarks heading.is_unseen) notes.items))
+
+-- the sink took the text that is given of what was kept
+abbrev pub GivesAccount : Option ℕ → Heading → Configuration → Answered → Ledger → Option (List ℕ) → Option (List ℕ) → Type 0
+GivesAccount vm heading config answered ledger old new =
+    (text : List ℕ) × IsGiven vm heading config answered.calls answered.denials.total ledger text × Appends old new text
+
+-- the same for a beginning of it
+abbrev pub BeginsAccount : Option ℕ → Heading → Configuration → Answered → Ledger → Option (List ℕ) → Option (List ℕ) → Type 0
+BeginsAccount vm heading config answered ledger old new =
+    (text : List ℕ) × (n : ℕ) × IsGiven vm heading config answered.calls answered.denials.total ledger text × Appends old new (take n text)
+
+-- the text of custody that has a line for each of these, given the numbers of calls and of those that were refused or rejected
+abbrev pub lined_text : {X : Type 0} → (X → List ℕ) → Heading → Configuration → ℕ → ℕ → List X → List ℕ
+lined_text line heading config calls refused xs = header_line heading config ++ (flat_map line xs ++ end_line calls (length xs) refused)
 
 -- a note that is not an event: of what was refused or served
 abbrev pub is_remark : Note → Bool

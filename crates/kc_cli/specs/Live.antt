@@ -10,19 +10,19 @@ use Rattle.kc_model.specs.Promises.{KeepsPromises}
 use Rattle.kc_live.specs.Cuts.{KeepsOrders, MayRun, StopsTrace}
 use Rattle.kc_dump_text.specs.declared.fault.DumpFault.{DumpFault}
 use Rattle.kc_state_text.specs.declared.fault.StateFault.{StateFault}
-use Rattle.kc_trace.specs.declared.config_text.ConfigTextFault.{ConfigTextFault}
+use Rattle.kc_config_text.specs.declared.config_text.ConfigTextFault.{ConfigTextFault}
 use Rattle.kc_trace.specs.declared.fault.TraceFault.{TraceFault}
 use Rattle.kc_trace.specs.declared.fault.TraceFault.TheVariants as traces
 use Rattle.kc_trace.specs.Spelling.{trace_of}
-use Rattle.kc_texts.specs.Reading.{AreRead}
-use Rattle.kc_texts.specs.declared.fault.TextFault.{TextFault}
-use Rattle.kc_texts.specs.declared.fault.TextFault.TheVariants as texts
+use Rattle.kc_cli.specs.Reading.{AreRead}
+use Rattle.kc_faults.specs.declared.fault.TextFault.{TextFault}
+use Rattle.kc_faults.specs.declared.fault.TextFault.TheVariants as texts
 
 -- the text is the trace of these calls in an order in which each actor's calls keep theirs, and they keep the promises in that order
 abbrev pub IsRearranged : Configuration → List Call → List ℕ → Type 0
 IsRearranged config calls text = (made : List Call) × KeepsOrders made calls × KeepsPromises (boot config) made × (text ≡ trace_of made)
 
--- both texts were read, where the sources tell them, and the trace may run
+-- both texts were read, if the sources report them, and the trace may run
 abbrev pub CouldRun : Option (List ℕ) → Option (List ℕ) → Type 0
 CouldRun None trace = Unit {0}
 CouldRun (Some config) None = Unit {0}
@@ -33,7 +33,7 @@ CouldRun (Some config_text) (Some trace_text) =
 abbrev pub IsLiveText : List ℕ → List ℕ → List ℕ → Type 0
 IsLiveText config_text trace_text text = (config : Configuration) × (calls : List Call) × AreRead config_text trace_text config calls × MayRun config calls × IsRearranged config calls text
 
--- the program of this number, of those that the trace is cut into, has an actor that is none of the core's
+-- the program of this number, of those that the trace is cut into, has an actor that is not one of the core's
 abbrev pub HasBadActor : Option (List ℕ) → Option (List ℕ) → ℕ → Type 0
 HasBadActor None trace program = Unit {0}
 HasBadActor (Some config) None program = Unit {0}

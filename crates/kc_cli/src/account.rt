@@ -1,5 +1,6 @@
-//! What is written of what was kept of a trace: every change, an object for each life of a VM, a picture, or a page for a browser.
-ghost use Rattle.std.specs.Prelude.{◌≡◌, ◌<◌, ◌≤◌, ◌+◌, ◌^◌, ◌++◌, ◌⊎◌, ℕ, List, All, Some, map, filter, length, take, false, is_err, vec_capacity, IfOk, IfErr, OnOk, OnErr};
+//! What is written of what was kept of a trace: every change, an object for each life of a VM, a picture, or a page for
+//! a browser.
+ghost use Rattle.std.specs.Prelude.{◌≡◌, ◌<◌, ◌≤◌, ◌+◌, ◌++◌, ◌⊎◌, All, Some, filter, false, is_err, vec_capacity, IfOk, IfErr, OnOk, OnErr};
 ghost use Rattle.std.specs.List.{flat_map};
 ghost use Rattle.std.specs.Io.KnownBytes.{Appends};
 ghost use Rattle.kc_types.specs.Limits.{call_limit};
@@ -11,21 +12,22 @@ ghost use Rattle.kc_remarks.specs.Remarks.{events_in};
 ghost use Rattle.kc_svg.specs.Foot.{HasFoot};
 ghost use Rattle.kc_picture.specs.Frames.{IsIn};
 ghost use Rattle.kc_vm_picture.specs.Marks.{marks};
-ghost use Rattle.kc_html.specs.Html.{html_head, html_tail, html_text_of};
-ghost use Rattle.kc_trace.specs.CustodyText.{header_line, end_line};
+ghost use Rattle.kc_html.specs.Html.{html_text_of};
 ghost use Rattle.kc_trace.specs.SummaryText.{summary_text_of};
 ghost use Rattle.kc_trace.specs.Spelling.{longest_call};
-ghost use Rattle.kc_texts.specs.Outcomes.{TellsSink};
+ghost use Rattle.kc_texts.specs.Written.{AppendsBeginning};
+ghost use Rattle.kc_faults.specs.Outcomes.{TellsSink};
 ghost use Rattle.kc_cli.specs.Custody.{origin_of, names_trace, names_start, page_remarks, reported};
 ghost use Rattle.kc_remarks.specs.Attempts.{AreInOrder};
-ghost use Rattle.kc_cli.specs.Ledgers.{attempts_kept, events_kept, is_remark, IsGiven};
+ghost use Rattle.kc_cli.specs.Ledgers.{attempts_kept, events_kept, is_remark, GivesAccount, BeginsAccount, lined_text};
 
 use crate::ledger::Ledger;
 use kc_custody::{choose, lives, select, select_lives};
+use kc_faults::{Origin, TextFault};
 use kc_html::{HEAD, TAIL};
 use kc_picture::{bars, picture};
 use kc_remarks::{Answered, Attempt, Note, Remarks};
-use kc_texts::{Failed, Line, Origin, Sink, TextFault, empty_piece, give_lines, write_whole};
+use kc_texts::{Failed, Line, Sink, empty_piece, give_lines, write_whole};
 use kc_trace::{Heading, push_custody_end, push_custody_header, summary_text};
 use kc_types::{Config, Event, Memory};
 use kc_vm_picture::{Mark, marks_of, picture_of_vm};
@@ -37,12 +39,14 @@ pub(crate) const FIRST_LINE: u32 = 2;
 /// What is written of what happened.
 #[derive(Clone, Copy, Debug, PartialEq, Eq)]
 pub enum CustodyForm {
-    /// Every change of a frame or slot, a line each, from where the calls begin, and what else is asked for of the calls.
+    /// Every change of a frame or slot, a line each, with where the calls begin, and what else is asked for of the
+    /// calls.
     Changes(Origin, Remarks),
-    /// Each life of a VM, a line each. Calls begin in a configuration's boot state: lives that are under way in the state of a
-    /// text began before it.
+    /// Each life of a VM, a line each. Calls begin in a configuration's boot state: lives that are under way in the
+    /// state of a text began before it.
     Summary,
-    /// A picture, SVG 1.1. Calls begin in a configuration's boot state, since frames are drawn from their owners there on.
+    /// A picture, SVG 1.1. Calls begin in a configuration's boot state, since frames are drawn from their owners there
+    /// on.
     Picture,
     /// A page for a browser, which has in it what `Changes` gives, with what was refused and served.
     Html(Origin),
@@ -117,8 +121,8 @@ pub(crate) struct Told {
     pub ledger: Ledger,
 }
 
-/// Gives a sink what the piece holds, then some lines, and then an end: memory does not grow. After an `Err` the sink has
-/// taken a beginning of it.
+/// Gives a sink what the piece holds, then some lines, and then an end: memory does not grow. After an `Err` the sink
+/// has taken a beginning of it.
 fn give_text<K: Sink, L: Line + Drop>(
     out: &mut K,
     piece: Vec<u8>,
@@ -127,8 +131,10 @@ fn give_text<K: Sink, L: Line + Drop>(
 ) -> Result<(), Failed>
     requires out { K.failed out.old ≡ false }
     requires room { longest_call ≤ vec_capacity piece }
-    ensures ok { OnOk result (Appends (K.taken out.old) (K.taken out.new) (piece.items ++ (flat_map L.line lines.items ++ end.now))) }
-    ensures begun { OnErr result ((n : ℕ) × Appends (K.taken out.old) (K.taken out.new) (take n (piece.items ++ (flat_map L.line lines.items ++ end.now)))) }
+    ensures ok { OnOk result
+        (Appends (K.taken out.old) (K.taken out.new) (piece.items ++ (flat_map L.line lines.items ++ end.now))) }
+    ensures begun { OnErr result (AppendsBeginning (K.taken out.old) (K.taken out.new)
+        (piece.items ++ (flat_map L.line lines.items ++ end.now))) }
     ensures mark { K.failed out.new ≡ is_err result }
 {
     give_lines(out, piece, lines)?;
@@ -146,8 +152,10 @@ fn give_changes<K: Sink, L: Line + Drop>(
     out: &mut K,
 ) -> Result<(), TextFault>
     requires { K.failed out.old ≡ false }
-    ensures ok { OnOk result (Appends (K.taken out.old) (K.taken out.new) (header_line heading.now config.now ++ (flat_map L.line lines.items ++ end_line calls (length lines.items) refused))) }
-    ensures sink { TellsSink (K.failed out.new) ((n : ℕ) × Appends (K.taken out.old) (K.taken out.new) (take n (header_line heading.now config.now ++ (flat_map L.line lines.items ++ end_line calls (length lines.items) refused)))) (out.new ≡ out.old) result }
+    ensures ok { OnOk result (Appends (K.taken out.old) (K.taken out.new)
+        (lined_text L.line heading.now config.now calls refused lines.items)) }
+    ensures sink { TellsSink (K.failed out.new) (AppendsBeginning (K.taken out.old) (K.taken out.new)
+        (lined_text L.line heading.now config.now calls refused lines.items)) (out.new ≡ out.old) result }
     ensures fault { IfErr result (λ fault. (fault ≡ TextFault.Memory) ⊎ (fault ≡ TextFault.Write)) }
 {
     // All memory that writing takes is there before the first byte is written.
@@ -162,7 +170,8 @@ fn give_changes<K: Sink, L: Line + Drop>(
     }
 }
 
-/// Gives a sink the text that `give_text` gives, in a page for a browser. After an `Err` the sink has taken a beginning of it.
+/// Gives a sink the text that `give_text` gives, in a page for a browser. After an `Err` the sink has taken a beginning
+/// of it.
 fn give_page<K: Sink, L: Line + Drop>(
     out: &mut K,
     piece: Vec<u8>,
@@ -171,8 +180,10 @@ fn give_page<K: Sink, L: Line + Drop>(
 ) -> Result<(), Failed>
     requires out { K.failed out.old ≡ false }
     requires room { longest_call ≤ vec_capacity piece }
-    ensures ok { OnOk result (Appends (K.taken out.old) (K.taken out.new) (html_text_of (piece.items ++ (flat_map L.line lines.items ++ end.now)))) }
-    ensures begun { OnErr result ((n : ℕ) × Appends (K.taken out.old) (K.taken out.new) (take n (html_text_of (piece.items ++ (flat_map L.line lines.items ++ end.now))))) }
+    ensures ok { OnOk result (Appends (K.taken out.old) (K.taken out.new)
+        (html_text_of (piece.items ++ (flat_map L.line lines.items ++ end.now)))) }
+    ensures begun { OnErr result (AppendsBeginning (K.taken out.old) (K.taken out.new)
+        (html_text_of (piece.items ++ (flat_map L.line lines.items ++ end.now)))) }
     ensures mark { K.failed out.new ≡ is_err result }
 {
     write_whole(out, HEAD.as_bytes())?;
@@ -191,8 +202,11 @@ fn give_html<K: Sink, L: Line + Drop>(
     out: &mut K,
 ) -> Result<(), TextFault>
     requires { K.failed out.old ≡ false }
-    ensures ok { OnOk result (Appends (K.taken out.old) (K.taken out.new) (html_text_of (header_line heading.now config.now ++ (flat_map L.line lines.items ++ end_line calls (length lines.items) refused)))) }
-    ensures sink { TellsSink (K.failed out.new) ((n : ℕ) × Appends (K.taken out.old) (K.taken out.new) (take n (html_text_of (header_line heading.now config.now ++ (flat_map L.line lines.items ++ end_line calls (length lines.items) refused))))) (out.new ≡ out.old) result }
+    ensures ok { OnOk result (Appends (K.taken out.old) (K.taken out.new)
+        (html_text_of (lined_text L.line heading.now config.now calls refused lines.items))) }
+    ensures sink { TellsSink (K.failed out.new) (AppendsBeginning (K.taken out.old) (K.taken out.new)
+        (html_text_of (lined_text L.line heading.now config.now calls refused lines.items)))
+        (out.new ≡ out.old) result }
     ensures fault { IfErr result (λ fault. (fault ≡ TextFault.Memory) ⊎ (fault ≡ TextFault.Write)) }
 {
     let (Ok(mut piece), Ok(mut end)) = (empty_piece(alloc), empty_piece(alloc)) else {
@@ -210,7 +224,8 @@ fn give_html<K: Sink, L: Line + Drop>(
 fn give_whole<K: Sink>(text: &[u8], out: &mut K) -> Result<(), TextFault>
     requires { K.failed out.old ≡ false }
     ensures ok { OnOk result (Appends (K.taken out.old) (K.taken out.new) text.now) }
-    ensures sink { TellsSink (K.failed out.new) ((n : ℕ) × Appends (K.taken out.old) (K.taken out.new) (take n text.now)) (out.new ≡ out.old) result }
+    ensures sink { TellsSink (K.failed out.new) (AppendsBeginning (K.taken out.old) (K.taken out.new) text.now)
+        (out.new ≡ out.old) result }
     ensures fault { IfErr result (λ fault. fault ≡ TextFault.Write) }
 {
     match write_whole(out, text) {
@@ -243,7 +258,8 @@ fn summary_of(
 ) -> Result<Vec<u8>, Memory>
     requires within { All (IsWithin config.now.frames) events.items }
     requires order { AreInOrder attempts.now }
-    ensures { IfOk result (λ text. text.items ≡ summary_text_of heading.now config.now calls refused attempts.now (selected_lives vm (lives (reported heading.now.is_unseen events.items)))) }
+    ensures { IfOk result (λ text. text.items ≡ summary_text_of heading.now config.now calls refused attempts.now
+        (selected_lives vm (lives (reported heading.now.is_unseen events.items)))) }
 {
     let events = reported(events, heading.is_unseen);
     let mut lives = lives(alloc, config.frames(), events)?;
@@ -267,8 +283,8 @@ fn picture_of(
     picture(alloc, heading, config, calls, events, &bars)
 }
 
-/// What is reported beside the changes in a picture or on a page: what was refused, and what was served if the machine's own
-/// accesses are in the trace.
+/// What is reported beside the changes in a picture or on a page: what was refused, and what was served if the
+/// machine's own accesses are in the trace.
 fn page_remarks(is_unseen: bool) -> Remarks
     ensures { result ≡ page_remarks is_unseen }
 {
@@ -303,7 +319,8 @@ fn marked(
     is_unseen: bool,
 ) -> Result<(Vec<Event>, Vec<Mark>), Memory>
     ensures events { IfOk result (λ parts. parts.0.items ≡ events_in notes.items) }
-    ensures marks { IfOk result (λ parts. parts.1.items ≡ marks (chosen (Some vm) (page_remarks is_unseen) notes.items)) }
+    ensures marks { IfOk result
+        (λ parts. parts.1.items ≡ marks (chosen (Some vm) (page_remarks is_unseen) notes.items)) }
 {
     let (events, mut remarks) = split(alloc, notes)?;
     choose(&mut remarks, Some(vm), page_remarks(is_unseen));
@@ -341,8 +358,11 @@ pub(crate) fn give_told<K: Sink>(
     requires within { All (IsWithin told.config.frames) (events_kept told.ledger) }
     requires changes { All (IsIn told.config.frames) (changes_in (events_kept told.ledger)) }
     requires order { AreInOrder (attempts_kept told.ledger) }
-    ensures ok { OnOk result ((text : List ℕ) × IsGiven vm told.heading told.config told.answered.calls told.answered.denials.total told.ledger text × Appends (K.taken out.old) (K.taken out.new) text) }
-    ensures sink { TellsSink (K.failed out.new) ((text : List ℕ) × (n : ℕ) × IsGiven vm told.heading told.config told.answered.calls told.answered.denials.total told.ledger text × Appends (K.taken out.old) (K.taken out.new) (take n text)) (out.new ≡ out.old) result }
+    ensures ok { OnOk result
+        (GivesAccount vm told.heading told.config told.answered told.ledger (K.taken out.old) (K.taken out.new)) }
+    ensures sink { TellsSink (K.failed out.new)
+        (BeginsAccount vm told.heading told.config told.answered told.ledger (K.taken out.old) (K.taken out.new))
+        (out.new ≡ out.old) result }
     ensures fault { IfErr result (λ fault. (fault ≡ TextFault.Memory) ⊎ (fault ≡ TextFault.Write)) }
 {
     let Told {

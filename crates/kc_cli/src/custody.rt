@@ -1,18 +1,19 @@
 //! The engine that reports what happened to each frame and slot, over any sources and any sink.
-ghost use Rattle.std.specs.Prelude.{◌≡◌, ◌≢◌, ◌<◌, ◌≤◌, ◌+◌, ◌^◌, ◌∷◌, ◌⊎◌, [], ℕ, List, All, length, take, false, true, Option, Some, None, is_some, IfOk, IfErr, IfSome, OnOk, Err};
-ghost use Rattle.std.specs.Io.KnownBytes.{Appends, IsAtEnd};
+ghost use Rattle.std.specs.Prelude.{◌≡◌, ◌≢◌, ◌<◌, ◌≤◌, ◌+◌, ◌∷◌, ◌⊎◌, [], ℕ, List, All, false, true, Option, Some, None, is_some, IfOk, IfErr, IfSome, OnOk, Err};
+ghost use Rattle.std.specs.Io.KnownBytes.{IsAtEnd};
 ghost use Rattle.kc_types.specs.Limits.{call_limit};
 ghost use Rattle.kc_types.specs.declared.call.Call.{Call};
 ghost use Rattle.kc_types.specs.Configuration.{slot_count};
 ghost use Rattle.kc_trace.specs.declared.fault.TraceFault.{TraceFault};
 ghost use Rattle.kc_trace.specs.Trace.{IsRefused};
-ghost use Rattle.kc_texts.specs.Ends.{ReadFailed};
+ghost use Rattle.kc_texts.specs.Ends.{ReadFailed, seen};
 ghost use Rattle.kc_texts.specs.Streamed.{HasRead};
 ghost use Rattle.kc_model.specs.Events.{changes_in};
 ghost use Rattle.kc_model.specs.Lawful.{IsLawful};
 ghost use Rattle.kc_model.specs.State.{State};
-ghost use Rattle.kc_texts.specs.Reading.{BeginsIn, Writes, Begins};
-ghost use Rattle.kc_texts.specs.Outcomes.{seen, TellsSources, TellsTexts, TellsSink};
+ghost use Rattle.kc_faults.specs.Origins.{BeginsIn};
+ghost use Rattle.kc_texts.specs.Written.{Writes, Begins};
+ghost use Rattle.kc_faults.specs.Outcomes.{TellsSources, TellsTexts, TellsSink};
 ghost use Rattle.kc_cli.specs.Engine.{IsReplayFault};
 ghost use Rattle.kc_custody.specs.Within.{IsWithin};
 ghost use Rattle.kc_picture.specs.Frames.{IsIn};
@@ -21,15 +22,16 @@ ghost use Rattle.kc_cli.specs.Custody.{AreNotesOf, IsCustodyTold, IsCustodyText,
 ghost use Rattle.kc_cli.specs.Answers.{AreAnsweredFrom, AreAnswered};
 ghost use Rattle.kc_cli.specs.Headings.{HasDigest, heading_by, IsHeaded};
 ghost use Rattle.kc_remarks.specs.Attempts.{AreInOrder};
-ghost use Rattle.kc_cli.specs.Ledgers.{Keeps, attempts_kept, events_kept, IsGiven};
+ghost use Rattle.kc_cli.specs.Ledgers.{Keeps, attempts_kept, events_kept, GivesAccount, BeginsAccount};
 
 use crate::account::{CustodyForm, FIRST_LINE, Scope, Told, give_told};
 use crate::ledger::Ledger;
 use crate::starting::{Begun, begin};
 use kc_core::KCore;
 use kc_digests::Lanes;
+use kc_faults::{Origin, TextFault};
 use kc_remarks::{Answered, Denials};
-use kc_texts::{CallStream, Origin, PIECE, Sink, Source, TextFault};
+use kc_texts::{CallStream, PIECE, Sink, Source};
 use kc_trace::{Digests, Heading, StartDigest};
 use std::alloc::Global;
 use std::thread::Threads;
@@ -58,7 +60,8 @@ fn stream_of(is_hashed: bool) -> CallStream
 /// The digest of a stream that was read to its end, if it is asked for.
 fn digest_of(stream: &CallStream, is_hashed: bool) -> Option<[u8; 32]>
     requires { is_hashed ≡ true → is_some stream.now.hasher ≡ true }
-    ensures { (bytes : List ℕ) (calls : List Call) (first now : Option (List ℕ)) → HasRead stream.now bytes calls first now → IsAtEnd now → HasDigest is_hashed first result }
+    ensures { (bytes : List ℕ) (calls : List Call) (first now : Option (List ℕ))
+        → HasRead stream.now bytes calls first now → IsAtEnd now → HasDigest is_hashed first result }
 {
     if is_hashed { stream.digest() } else { None }
 }
@@ -73,12 +76,16 @@ fn tell_source<T: Source>(
     is_hashed: bool,
 ) -> Result<Traced, TextFault>
     requires { T.failed trace.old ≡ false }
-    ensures ok { IfOk result (λ kept. (told : List Note) × AreNotesOf core.old (T.left trace.old) kept.answered.calls kept.answered.denials.total told × Keeps form told kept.ledger) }
-    ensures answered { IfOk result (λ kept. IfSome (T.left trace.old) (λ text. AreAnsweredFrom core.old text kept.answered)) }
+    ensures ok { IfOk result (λ kept. (told : List Note)
+        × AreNotesOf core.old (T.left trace.old) kept.answered.calls kept.answered.denials.total told
+        × Keeps form told kept.ledger) }
+    ensures answered { IfOk result
+        (λ kept. IfSome (T.left trace.old) (λ text. AreAnsweredFrom core.old text kept.answered)) }
     ensures digest { IfOk result (λ kept. HasDigest is_hashed (T.left trace.old) kept.digest) }
     ensures config { OnOk result (core.new.config ≡ core.old.config) }
     ensures ended { OnOk result (IsAtEnd (T.left trace.new)) }
-    ensures trace { (fault : TraceFault) → result ≡ Err (TextFault.Trace fault) → IfSome (T.left trace.old) (λ text. IsRefused text fault) × IsAtEnd (T.left trace.new) }
+    ensures trace { (fault : TraceFault) → result ≡ Err (TextFault.Trace fault)
+        → IfSome (T.left trace.old) (λ text. IsRefused text fault) × IsAtEnd (T.left trace.new) }
     ensures read { result ≡ Err TextFault.Read → ReadFailed (T.failed trace.new) (T.left trace.old) (T.left trace.new) }
     ensures source { T.failed trace.new ≡ true → result ≡ Err TextFault.Read }
     ensures started { result ≢ Err TextFault.Start }
@@ -139,8 +146,8 @@ fn heading_by(
     }
 }
 
-/// Makes the calls of the trace that a source has left, as it is read, on a core: what is kept of them for the form. The
-/// core is wiped before it goes, whatever the outcome.
+/// Makes the calls of the trace that a source has left, as it is read, on a core, and returns what is kept of them for
+/// the form. The core is wiped before it is dropped, whatever the outcome.
 fn told_source<T: Source>(
     rt: &(impl Threads + Sync),
     alloc: Global,
@@ -151,11 +158,17 @@ fn told_source<T: Source>(
     requires lawful { IsLawful begun.core }
     requires trace { T.failed trace.old ≡ false }
     ensures config { IfOk result (λ told. told.config ≡ begun.core.config) }
-    ensures ok { IfOk result (λ kept. (told : List Note) × IsCustodyTold begun.core (T.left trace.old) kept.answered.calls kept.answered.denials.total told × Keeps order.form told kept.ledger) }
-    ensures answered { IfOk result (λ kept. IfSome (T.left trace.old) (λ text. AreAnsweredFrom begun.core text kept.answered)) }
-    ensures heading { IfOk result (λ kept. (digest : Option (List ℕ)) × HasDigest (names_trace order.scope.named) (T.left trace.old) digest × (kept.heading ≡ heading_by order.scope (origin_of order.form) begun.digest digest)) }
+    ensures ok { IfOk result (λ kept. (told : List Note)
+        × IsCustodyTold begun.core (T.left trace.old) kept.answered.calls kept.answered.denials.total told
+        × Keeps order.form told kept.ledger) }
+    ensures answered { IfOk result
+        (λ kept. IfSome (T.left trace.old) (λ text. AreAnsweredFrom begun.core text kept.answered)) }
+    ensures heading { IfOk result (λ kept. (digest : Option (List ℕ))
+        × HasDigest (names_trace order.scope.named) (T.left trace.old) digest
+        × (kept.heading ≡ heading_by order.scope (origin_of order.form) begun.digest digest)) }
     ensures ended { OnOk result (IsAtEnd (T.left trace.new)) }
-    ensures trace { (fault : TraceFault) → result ≡ Err (TextFault.Trace fault) → IfSome (T.left trace.old) (λ text. IsRefused text fault) × IsAtEnd (T.left trace.new) }
+    ensures trace { (fault : TraceFault) → result ≡ Err (TextFault.Trace fault)
+        → IfSome (T.left trace.old) (λ text. IsRefused text fault) × IsAtEnd (T.left trace.new) }
     ensures read { result ≡ Err TextFault.Read → ReadFailed (T.failed trace.new) (T.left trace.old) (T.left trace.new) }
     ensures source { T.failed trace.new ≡ true → result ≡ Err TextFault.Read }
     ensures started { result ≢ Err TextFault.Start }
@@ -197,7 +210,8 @@ fn missing(core: &KCore, vm: Option<u32>) -> Option<u32>
     }
 }
 
-/// Reads what the calls begin with to its end and a trace as its calls are made: what is kept of them for the form.
+/// Reads what the calls begin with to its end and a trace as its calls are made, and returns what is kept of them for
+/// the form.
 fn told_texts<C: Source, T: Source>(
     rt: &(impl Threads + Sync),
     alloc: Global,
@@ -207,12 +221,21 @@ fn told_texts<C: Source, T: Source>(
 ) -> Result<Told, TextFault>
     requires start { C.failed start.old ≡ false }
     requires trace { T.failed trace.old ≡ false }
-    ensures ok { IfOk result (λ kept. (m : State) × IfSome (C.left start.old) (λ text. BeginsIn (origin_of order.form) text m) × (kept.config ≡ m.config) × (told : List Note) × IsCustodyTold m (T.left trace.old) kept.answered.calls kept.answered.denials.total told × Keeps order.form told kept.ledger) }
-    ensures answered { IfOk result (λ kept. AreAnswered (origin_of order.form) (C.left start.old) (T.left trace.old) kept.answered) }
-    ensures heading { IfOk result (λ kept. IsHeaded order.scope (origin_of order.form) (C.left start.old) (T.left trace.old) kept.heading) }
-    ensures sources { TellsSources (seen (C.failed start.new) (C.left start.old) (C.left start.new) ∷ seen (T.failed trace.new) (T.left trace.old) (T.left trace.new) ∷ []) result }
-    ensures texts { TellsTexts (origin_of order.form) (seen (C.failed start.new) (C.left start.old) (C.left start.new)) (seen (T.failed trace.new) (T.left trace.old) (T.left trace.new)) (trace.new ≡ trace.old) result }
-    ensures custody { TellsCustody order.scope.vm (origin_of order.form) (C.left start.old) (trace.new ≡ trace.old) result }
+    ensures ok { IfOk result (λ kept. (m : State)
+        × IfSome (C.left start.old) (λ text. BeginsIn (origin_of order.form) text m)
+        × (kept.config ≡ m.config) × (told : List Note)
+        × IsCustodyTold m (T.left trace.old) kept.answered.calls kept.answered.denials.total told
+        × Keeps order.form told kept.ledger) }
+    ensures answered { IfOk result
+        (λ kept. AreAnswered (origin_of order.form) (C.left start.old) (T.left trace.old) kept.answered) }
+    ensures heading { IfOk result
+        (λ kept. IsHeaded order.scope (origin_of order.form) (C.left start.old) (T.left trace.old) kept.heading) }
+    ensures sources { TellsSources
+        (seen C.failed C.left start.old start.new ∷ seen T.failed T.left trace.old trace.new ∷ []) result }
+    ensures texts { TellsTexts (origin_of order.form) (seen C.failed C.left start.old start.new)
+        (seen T.failed T.left trace.old trace.new) (trace.new ≡ trace.old) result }
+    ensures custody { TellsCustody
+        order.scope.vm (origin_of order.form) (C.left start.old) (trace.new ≡ trace.old) result }
     ensures write { result ≢ Err TextFault.Write }
 {
     let is_hashed = order.scope.named.names_start();
@@ -231,7 +254,7 @@ fn told_texts<C: Source, T: Source>(
     told_source(rt, alloc, begun, trace, order)
 }
 
-/// Gives what was kept in its form, of one slot's VM alone if one is named; the result says how the calls were answered.
+/// Gives what was kept in its form, of one slot's VM alone if one is named; returns how the calls were answered.
 fn give_answered<K: Sink>(
     alloc: Global,
     told: Told,
@@ -244,10 +267,11 @@ fn give_answered<K: Sink>(
     requires changes { All (IsIn told.config.frames) (changes_in (events_kept told.ledger)) }
     requires order { AreInOrder (attempts_kept told.ledger) }
     ensures answered { IfOk result (λ answered. answered ≡ told.answered) }
-    ensures ok { OnOk result ((text : List ℕ) × IsGiven vm told.heading told.config told.answered.calls told.answered.denials.total told.ledger text
-        × Appends (K.taken out.old) (K.taken out.new) text) }
-    ensures sink { TellsSink (K.failed out.new) ((text : List ℕ) × (n : ℕ) × IsGiven vm told.heading told.config told.answered.calls told.answered.denials.total told.ledger text
-        × Appends (K.taken out.old) (K.taken out.new) (take n text)) (out.new ≡ out.old) result }
+    ensures ok { OnOk result
+        (GivesAccount vm told.heading told.config told.answered told.ledger (K.taken out.old) (K.taken out.new)) }
+    ensures sink { TellsSink (K.failed out.new)
+        (BeginsAccount vm told.heading told.config told.answered told.ledger (K.taken out.old) (K.taken out.new))
+        (out.new ≡ out.old) result }
     ensures fault { IfErr result (λ fault. (fault ≡ TextFault.Memory) ⊎ (fault ≡ TextFault.Write)) }
 {
     let answered = told.answered;
@@ -268,12 +292,12 @@ pub struct CustodyOrder {
     pub scope: Scope,
 }
 
-/// Reads what the calls begin with and a trace, each to its end, makes the trace's calls on one thread as they are read, and
-/// writes what happened to each frame and slot; the result counts the calls, and those that were refused or rejected. A slot
-/// that the machine lacks is `NoSlot`, before the trace is read.
+/// Reads what the calls begin with and a trace, each to its end, makes the trace's calls on one thread as they are
+/// read, and writes what happened to each frame and slot; the result counts the calls, and those that were refused or
+/// rejected. A slot that the machine lacks is `NoSlot`, before the trace is read.
 ///
-/// Nothing is written but after the whole trace was read and answered. A source that fails, or that has more than
-/// 1,073,741,824 bytes, is `Read`, also if its bytes so far are refused already. Out of memory comes before a fault of
+/// Nothing is written before the whole trace was read and answered. A source that fails, or that has more than
+/// 1,073,741,824 bytes, is `Read`, even if its bytes so far are refused already. Out of memory comes before a fault of
 /// the trace that is further on.
 pub fn custody_text<C: Source, T: Source, K: Sink>(
     rt: &(impl Threads + Sync),
@@ -288,12 +312,18 @@ pub fn custody_text<C: Source, T: Source, K: Sink>(
     requires out { K.failed out.old ≡ false }
 
     // What is written is made of the notes on the trace, and the result is counted of its replies.
-    ensures answered { IfOk result (λ answered. AreAnswered (origin_of order.form) (C.left start.old) (T.left trace.old) answered) }
-    ensures ok { OnOk result (Writes (IsCustodyText order.form order.scope) (C.left start.old) (T.left trace.old) (K.taken out.old) (K.taken out.new)) }
-    ensures sources { TellsSources (seen (C.failed start.new) (C.left start.old) (C.left start.new) ∷ seen (T.failed trace.new) (T.left trace.old) (T.left trace.new) ∷ []) result }
-    ensures texts { TellsTexts (origin_of order.form) (seen (C.failed start.new) (C.left start.old) (C.left start.new)) (seen (T.failed trace.new) (T.left trace.old) (T.left trace.new)) (trace.new ≡ trace.old) result }
-    ensures custody { TellsCustody order.scope.vm (origin_of order.form) (C.left start.old) (trace.new ≡ trace.old) result }
-    ensures sink { TellsSink (K.failed out.new) (Begins (IsCustodyText order.form order.scope) (C.left start.old) (T.left trace.old) (K.taken out.old) (K.taken out.new)) (out.new ≡ out.old) result }
+    ensures answered { IfOk result
+        (λ answered. AreAnswered (origin_of order.form) (C.left start.old) (T.left trace.old) answered) }
+    ensures ok { OnOk result (Writes (IsCustodyText order.form order.scope)
+        (C.left start.old) (T.left trace.old) (K.taken out.old) (K.taken out.new)) }
+    ensures sources { TellsSources
+        (seen C.failed C.left start.old start.new ∷ seen T.failed T.left trace.old trace.new ∷ []) result }
+    ensures texts { TellsTexts (origin_of order.form) (seen C.failed C.left start.old start.new)
+        (seen T.failed T.left trace.old trace.new) (trace.new ≡ trace.old) result }
+    ensures custody { TellsCustody
+        order.scope.vm (origin_of order.form) (C.left start.old) (trace.new ≡ trace.old) result }
+    ensures sink { TellsSink (K.failed out.new) (Begins (IsCustodyText order.form order.scope)
+        (C.left start.old) (T.left trace.old) (K.taken out.old) (K.taken out.new)) (out.new ≡ out.old) result }
 {
     let told = told_texts(rt, alloc, start, trace, order)?;
     give_answered(alloc, told, order.scope.vm, out)

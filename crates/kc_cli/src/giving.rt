@@ -1,22 +1,24 @@
 //! What is written of a replay: its replies, or the core that it leaves.
-ghost use Rattle.std.specs.Prelude.{◌≡◌, ◌≤◌, ◌⊎◌, ℕ, take, false, is_err, vec_capacity, IfErr, IfOk, OnOk, OnErr};
+ghost use Rattle.std.specs.Prelude.{◌≡◌, ◌≤◌, ◌⊎◌, false, is_err, vec_capacity, IfErr, IfOk, OnOk, OnErr};
 ghost use Rattle.std.specs.Io.KnownBytes.{Appends};
 ghost use Rattle.kc_trace.specs.ReplyText.{reply_text_of};
 ghost use Rattle.kc_dump_text.specs.DumpText.{dump_text};
-ghost use Rattle.kc_state.specs.Dumping.{dump_of};
+ghost use Rattle.kc_dumping.specs.Dumping.{dump_of};
 ghost use Rattle.kc_state_text.specs.StateText.{state_text};
 ghost use Rattle.kc_state_text.specs.Pieces.{longest_page_line, to_come};
-ghost use Rattle.kc_texts.specs.Outcomes.{TellsSink};
+ghost use Rattle.kc_texts.specs.Written.{AppendsBeginning};
+ghost use Rattle.kc_faults.specs.Outcomes.{TellsSink};
 ghost use Rattle.kc_cli.specs.Engine.{written_text};
 
 use crate::order::{ReplayForm, ReplayOrder};
 use kc_core::KCore;
 use kc_digests::Lanes;
 use kc_dump_text::write_dump;
+use kc_dumping::dump;
+use kc_faults::TextFault;
 use kc_replay::Outcome;
-use kc_state::dump;
 use kc_state_text::StatePieces;
-use kc_texts::{Failed, Sink, TextFault, empty_piece, give_replies, write_whole};
+use kc_texts::{Failed, Sink, empty_piece, give_replies, write_whole};
 use kc_types::{Memory, Reply, SecretBytes};
 use std::alloc::Global;
 use std::thread::Threads;
@@ -25,7 +27,9 @@ use std::thread::Threads;
 fn give_text<K: Sink>(alloc: Global, replies: Vec<Reply>, out: &mut K) -> Result<(), TextFault>
     requires { K.failed out.old ≡ false }
     ensures ok { OnOk result (Appends (K.taken out.old) (K.taken out.new) (reply_text_of replies.items)) }
-    ensures sink { TellsSink (K.failed out.new) ((n : ℕ) × Appends (K.taken out.old) (K.taken out.new) (take n (reply_text_of replies.items))) (out.new ≡ out.old) result }
+    ensures sink { TellsSink (K.failed out.new)
+        (AppendsBeginning (K.taken out.old) (K.taken out.new) (reply_text_of replies.items))
+        (out.new ≡ out.old) result }
     ensures fault { IfErr result (λ fault. (fault ≡ TextFault.Memory) ⊎ (fault ≡ TextFault.Write)) }
 {
     // All memory that writing takes is there before the first byte is written.
@@ -61,7 +65,9 @@ fn give_dump<K: Sink>(
 ) -> Result<(), TextFault>
     requires { K.failed out.old ≡ false }
     ensures ok { OnOk result (Appends (K.taken out.old) (K.taken out.new) (dump_text (dump_of core.now))) }
-    ensures sink { TellsSink (K.failed out.new) ((n : ℕ) × Appends (K.taken out.old) (K.taken out.new) (take n (dump_text (dump_of core.now)))) (out.new ≡ out.old) result }
+    ensures sink { TellsSink (K.failed out.new)
+        (AppendsBeginning (K.taken out.old) (K.taken out.new) (dump_text (dump_of core.now)))
+        (out.new ≡ out.old) result }
     ensures fault { IfErr result (λ fault. (fault ≡ TextFault.Memory) ⊎ (fault ≡ TextFault.Write)) }
 {
     let Ok(text) = text_of(rt, alloc, core, lanes) else {
@@ -83,7 +89,7 @@ fn give_pieces<K: Sink>(
     requires room { longest_page_line ≤ vec_capacity piece.old }
     requires out { K.failed out.old ≡ false }
     ensures ok { OnOk result (Appends (K.taken out.old) (K.taken out.new) (to_come core.now pieces)) }
-    ensures begun { OnErr result ((n : ℕ) × Appends (K.taken out.old) (K.taken out.new) (take n (to_come core.now pieces))) }
+    ensures begun { OnErr result (AppendsBeginning (K.taken out.old) (K.taken out.new) (to_come core.now pieces)) }
     ensures mark { K.failed out.new ≡ is_err result }
 {
     let mut pieces = pieces;
@@ -106,7 +112,8 @@ fn give_state<K: Sink>(
 ) -> Result<(), TextFault>
     requires { K.failed out.old ≡ false }
     ensures ok { OnOk result (Appends (K.taken out.old) (K.taken out.new) (state_text core.now)) }
-    ensures sink { TellsSink (K.failed out.new) ((n : ℕ) × Appends (K.taken out.old) (K.taken out.new) (take n (state_text core.now))) (out.new ≡ out.old) result }
+    ensures sink { TellsSink (K.failed out.new)
+        (AppendsBeginning (K.taken out.old) (K.taken out.new) (state_text core.now)) (out.new ≡ out.old) result }
     ensures fault { IfErr result (λ fault. (fault ≡ TextFault.Memory) ⊎ (fault ≡ TextFault.Write)) }
 {
     // All memory that writing takes is there before the first byte is written.
@@ -124,7 +131,7 @@ fn give_state<K: Sink>(
     }
 }
 
-/// Gives what is wanted of replies and of the core behind them.
+/// Gives what is wanted of replies and of the core after them.
 fn give_wanted<K: Sink>(
     rt: &(impl Threads + Sync),
     alloc: Global,
@@ -134,8 +141,11 @@ fn give_wanted<K: Sink>(
     out: &mut K,
 ) -> Result<(), TextFault>
     requires { K.failed out.old ≡ false }
-    ensures ok { OnOk result (Appends (K.taken out.old) (K.taken out.new) (written_text order.form replies.items core.now)) }
-    ensures sink { TellsSink (K.failed out.new) ((n : ℕ) × Appends (K.taken out.old) (K.taken out.new) (take n (written_text order.form replies.items core.now))) (out.new ≡ out.old) result }
+    ensures ok { OnOk result
+        (Appends (K.taken out.old) (K.taken out.new) (written_text order.form replies.items core.now)) }
+    ensures sink { TellsSink (K.failed out.new)
+        (AppendsBeginning (K.taken out.old) (K.taken out.new) (written_text order.form replies.items core.now))
+        (out.new ≡ out.old) result }
     ensures fault { IfErr result (λ fault. (fault ≡ TextFault.Memory) ⊎ (fault ≡ TextFault.Write)) }
 {
     match order.form {
@@ -154,8 +164,10 @@ pub(crate) fn give_outcome<K: Sink>(
     out: &mut K,
 ) -> Result<(), TextFault>
     requires { K.failed out.old ≡ false }
-    ensures ok { OnOk result (Appends (K.taken out.old) (K.taken out.new) (written_text order.form outcome.replies.items outcome.core)) }
-    ensures sink { TellsSink (K.failed out.new) ((n : ℕ) × Appends (K.taken out.old) (K.taken out.new) (take n (written_text order.form outcome.replies.items outcome.core))) (out.new ≡ out.old) result }
+    ensures ok { OnOk result
+        (Appends (K.taken out.old) (K.taken out.new) (written_text order.form outcome.replies.items outcome.core)) }
+    ensures sink { TellsSink (K.failed out.new) (AppendsBeginning (K.taken out.old) (K.taken out.new)
+        (written_text order.form outcome.replies.items outcome.core)) (out.new ≡ out.old) result }
     ensures fault { IfErr result (λ fault. (fault ≡ TextFault.Memory) ⊎ (fault ≡ TextFault.Write)) }
 {
     let Outcome { replies, core } = outcome;

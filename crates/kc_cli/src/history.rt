@@ -25,11 +25,11 @@ fn copied_calls(alloc: Global, entries: &[Entry]) -> Result<Vec<Call>, Memory>
     Ok(calls)
 }
 
-/// Makes the calls of a history of one volume once more, on a core of their own with this configuration, by 1 to 64 workers:
-/// the replies and the core are those of the history. The gate is told each call by its place in the history.
+/// Makes the calls of a history of one volume once more, on a core of their own with this configuration, by 1 to 64
+/// workers: the replies and the core are those of the history. The gate is given each call by its place in the history.
 ///
-/// `BadWorkers` for any other number of workers, which is judged first; `Start` where a worker could not be started,
-/// else `Memory` where a growth was refused.
+/// `BadWorkers` for any other number of workers, which is judged first; `Start` if a worker could not be started, else
+/// `Memory` if a growth was refused.
 pub fn replay_history<R: Threads + Wait + Sync, G: Gate + Sync>(
     rt: &R,
     alloc: Global,

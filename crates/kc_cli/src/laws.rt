@@ -12,5 +12,7 @@ ghost use Rattle.kc_trace.specs.RemarkText.{notes_text_of};
 
 /// If neither denied calls nor accesses are asked for, the text is that of the changes alone.
 pub fn plain()
-    ensures { (heading : Heading) (config : Configuration) (calls refused : ℕ) (vm : Option ℕ) (told : List Note) → notes_text_of heading config calls refused (chosen vm no_remarks told) ≡ custody_text_of heading config calls refused (selected vm (changes_in (events_in told))) }
+    ensures { (heading : Heading) (config : Configuration) (calls refused : ℕ) (vm : Option ℕ) (told : List Note)
+        → notes_text_of heading config calls refused (chosen vm no_remarks told)
+        ≡ custody_text_of heading config calls refused (selected vm (changes_in (events_in told))) }
 {}

@@ -14,8 +14,8 @@ use kc_remarks::{Attempt, Denials, Note, Remarks};
 use kc_types::{Call, Event, Memory};
 use std::alloc::Global;
 
-/// What is kept to be written in a form: the notes on the calls if remarks are asked for, else their events, which take less time
-/// and memory, for a summary with the attempts at pages of VMs.
+/// What is kept to be written in a form: the notes on the calls if remarks are asked for, else their events, which take
+/// less time and memory, for a summary with the attempts at pages of VMs.
 #[derive(Drop)]
 pub(crate) enum Ledger {
     Changes(Vec<Event>),
@@ -28,7 +28,7 @@ pub(crate) enum Ledger {
 }
 
 impl Ledger {
-    /// One without calls, for this form, perhaps of one slot's VM alone.
+    /// Makes a ledger without calls, for this form, perhaps of one slot's VM alone.
     pub(crate) fn new(alloc: Global, form: CustodyForm, vm: Option<u32>) -> Ledger
         ensures { Keeps form [] result }
     {
@@ -50,8 +50,8 @@ impl Ledger {
         }
     }
 
-    /// Makes some calls in order, of which the first has this line in the trace, keeps what its form is written of, and counts
-    /// those that are refused or rejected. After `Memory`, where a growth was refused, some calls are done.
+    /// Makes some calls in order, of which the first has this line in the trace, keeps what its form is written of, and
+    /// counts those that are refused or rejected. After `Memory`, if a growth was refused, some calls are done.
     pub(crate) fn note(
         &mut self,
         alloc: Global,
@@ -62,11 +62,14 @@ impl Ledger {
     ) -> Result<(), Memory>
         requires lines { first + length calls.now < 2 ^ 32 }
         requires counts { denials.old.total + length calls.now < 2 ^ 32 }
-        ensures kept { OnOk result ((form : CustodyForm) (told : List Note) → Keeps form told self.old → Keeps form (told ++ notes_from first core.old calls.now) self.new) }
+        ensures kept { OnOk result ((form : CustodyForm) (told : List Note)
+            → Keeps form told self.old → Keeps form (told ++ notes_from first core.old calls.now) self.new) }
         ensures state { OnOk result (core.new ≡ state_after core.old calls.now) }
-        ensures denied { OnOk result (denials.new.total ≡ denials.old.total + length (filter is_denied (notes_from first core.old calls.now))) }
+        ensures denied { OnOk result
+            (denials.new.total ≡ denials.old.total + length (filter is_denied (notes_from first core.old calls.now))) }
         ensures few { OnOk result (denials.new.total ≤ denials.old.total + length calls.now) }
-        ensures counted { OnOk result ((replies : List Reply) → Counts replies denials.old → Counts (replies ++ replies_from core.old calls.now) denials.new) }
+        ensures counted { OnOk result ((replies : List Reply)
+            → Counts replies denials.old → Counts (replies ++ replies_from core.old calls.now) denials.new) }
     {
         match self {
             Ledger::Changes(events) => tell_calls(alloc, core, calls, first, events, denials),

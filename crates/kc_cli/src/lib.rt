@@ -1,14 +1,18 @@
-//! The engines that replay a trace, into replies, a dump or the text of a state, that write its custody, and that make
-//! its calls live. Re-exports `kc_texts`.
+//! The engines that replay a trace, into replies, a dump or the text of a state, that write its custody, that make its
+//! calls live, and that audit a dump. Re-exports `kc_texts` and `kc_faults`.
 //!
 //! - a trace replayed as it is read: `src/replaying.rt`, `specs/Engine.antt`; what it begins in: `src/starting.rt`;
 //!   what is written of it, and how the state left is compared: `src/giving.rt`
-//! - how custody is written as changes, summary, picture or page: `specs/Custody.antt`, `src/custody.rt`, `src/account.rt`;
-//!   what is kept of the calls until then: `specs/Ledgers.antt`, `src/ledger.rt`; how many were refused: `specs/Answers.antt`
-//! - a live run: `specs/Live.antt`, `src/live.rt`; its history replayed: `src/history.rt`
+//! - how custody is written as changes, summary, picture or page: `specs/Custody.antt`, `src/custody.rt`,
+//!   `src/account.rt`; what is kept of the calls until then: `specs/Ledgers.antt`, `src/ledger.rt`; how many were
+//!   refused: `specs/Answers.antt`
+//! - a live run: `specs/Live.antt`, `src/live.rt`; what it reads: `src/reading.rt`, `specs/Reading.antt`; its history
+//!   replayed: `src/history.rt`
+//! - an audit of a dump: `specs/Audit.antt`, `src/auditing.rt`
 #![tactic(auto)]
 
 mod account;
+mod auditing;
 mod custody;
 mod giving;
 mod history;
@@ -16,19 +20,20 @@ pub mod laws;
 mod ledger;
 mod live;
 mod order;
+mod reading;
 mod replaying;
 mod starting;
 
 pub use account::{CustodyForm, Named, Scope};
+pub use auditing::audit_text;
 pub use custody::{CustodyOrder, custody_text};
 pub use history::replay_history;
 pub use kc_digests::Lanes;
+pub use kc_faults::{Origin, TextFault, tell};
 pub use kc_remarks::{Answered, Denials, Remarks, refusals};
-pub use kc_texts::{
-    DEFAULT_CONFIG, Failed, Mem, Origin, ReadFault, Sink, Source, Std, TextFault, audit_text,
-    read_whole, tell, write_whole,
-};
+pub use kc_texts::{Failed, Mem, ReadFault, Sink, Source, Std, read_whole, write_whole};
 pub use live::live_text;
 pub use order::{ReplayForm, ReplayOrder};
+pub use reading::{DEFAULT_CONFIG, read_both, read_configuration};
 pub use replaying::{replay_text, replay_to_text};
 pub use starting::read_start;

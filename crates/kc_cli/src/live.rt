@@ -1,21 +1,23 @@
 //! The engine that runs a trace live, over any sources and any sink.
-ghost use Rattle.std.specs.Prelude.{◌≡◌, ◌≢◌, ◌<◌, ◌≤◌, ◌⊎◌, ◌↔◌, ◌∷◌, [], ℕ, length, take, false, IfOk, IfErr, OnOk, Err, IsErrOf};
+ghost use Rattle.std.specs.Prelude.{◌≡◌, ◌≢◌, ◌<◌, ◌≤◌, ◌⊎◌, ◌↔◌, ◌∷◌, [], ℕ, false, IfOk, IfErr, OnOk, Err, IsErrOf};
 ghost use Rattle.std.specs.Io.KnownBytes.{Appends};
-ghost use Rattle.kc_types.specs.Limits.{call_limit, worker_limit};
+ghost use Rattle.kc_types.specs.Limits.{worker_limit};
 ghost use Rattle.kc_model.specs.Boot.{boot};
 ghost use Rattle.kc_model.specs.Promises.{KeepsPromises};
 ghost use Rattle.kc_live.specs.Cuts.{KeepsOrders, MayRun};
 ghost use Rattle.kc_live.specs.Book.{IsMadeFrom, calls_of, volume_in};
 ghost use Rattle.kc_trace.specs.Spelling.{trace_of};
-ghost use Rattle.kc_texts.specs.Reading.{Writes, Begins};
-ghost use Rattle.kc_texts.specs.Outcomes.{seen, TellsSources, TellsTexts, TellsSink};
-ghost use Rattle.kc_cli.specs.Live.{live_fault};
-ghost use Rattle.kc_cli.specs.Live.{IsLiveFault, CouldRun, IsLiveText, HasBadActor};
+ghost use Rattle.kc_texts.specs.Written.{AppendsBeginning, Writes, Begins};
+ghost use Rattle.kc_texts.specs.Ends.{seen};
+ghost use Rattle.kc_faults.specs.Outcomes.{TellsSources, TellsTexts, TellsSink};
+ghost use Rattle.kc_cli.specs.Live.{live_fault, IsLiveFault, CouldRun, IsLiveText, HasBadActor};
 
 use crate::history::replay_history;
+use crate::reading::read_both;
+use kc_faults::{Origin, TextFault};
 use kc_live::{Entry, History, LiveCause, LiveStop, Volume, run_trace};
 use kc_replay::{Gate, OpenGate, Outcome, ReplayFault};
-use kc_texts::{Origin, Sink, Source, TextFault, empty_piece, give_trace, read_both};
+use kc_texts::{Sink, Source, empty_piece, give_trace};
 use kc_trace::TraceFault;
 use kc_types::{Call, Config, Memory, WORKER_LIMIT};
 use std::alloc::Global;
@@ -71,7 +73,7 @@ fn volume_of(rt: &(impl Threads + Sync), history: History) -> Volume
     volume
 }
 
-/// Has so many workers replay the volume of a history, and wipes the core that they leave.
+/// Has this many workers replay the volume of a history, and wipes the core that they leave.
 fn replay_wiped<R: Threads + Wait + Sync>(
     rt: &R,
     alloc: Global,
@@ -94,7 +96,7 @@ fn replay_wiped<R: Threads + Wait + Sync>(
     }
 }
 
-/// The calls of the volume of a history, which so many workers replay first. The core that they leave is wiped.
+/// The calls of the volume of a history, which this many workers replay first. The core that they leave is wiped.
 fn replayed<R: Threads + Wait + Sync>(
     rt: &R,
     alloc: Global,
@@ -114,8 +116,8 @@ fn replayed<R: Threads + Wait + Sync>(
     Ok(calls)
 }
 
-/// The calls of the history of a live run of some calls, which so many workers replay. The cores are wiped before they
-/// go, whatever the outcome, and that of the run before the replay makes its own.
+/// The calls of the history of a live run of some calls, which this many workers replay. The cores are wiped before
+/// they are dropped, whatever the outcome, and that of the run before the replay makes its own.
 fn made_live<G: Gate + Sync, R: Threads + Wait + Sync>(
     rt: &R,
     alloc: Global,
@@ -147,7 +149,8 @@ fn made_live<G: Gate + Sync, R: Threads + Wait + Sync>(
 fn give_made<K: Sink>(alloc: Global, made: Vec<Call>, out: &mut K) -> Result<(), TextFault>
     requires { K.failed out.old ≡ false }
     ensures ok { OnOk result (Appends (K.taken out.old) (K.taken out.new) (trace_of made.items)) }
-    ensures sink { TellsSink (K.failed out.new) ((n : ℕ) × Appends (K.taken out.old) (K.taken out.new) (take n (trace_of made.items))) (out.new ≡ out.old) result }
+    ensures sink { TellsSink (K.failed out.new)
+        (AppendsBeginning (K.taken out.old) (K.taken out.new) (trace_of made.items)) (out.new ≡ out.old) result }
     ensures fault { IfErr result (λ fault. (fault ≡ TextFault.Memory) ⊎ (fault ≡ TextFault.Write)) }
 {
     // All memory that writing takes is there before the first byte is written.
@@ -161,11 +164,11 @@ fn give_made<K: Sink>(alloc: Global, made: Vec<Call>, out: &mut K) -> Result<(),
 }
 
 /// Reads a configuration and a trace, each to its end, makes the trace's calls live, each actor's in a thread of its
-/// own, has 1 to 64 workers replay the history, and writes it as a trace. The number of workers is judged before anything
-/// is read.
+/// own, has 1 to 64 workers replay the history, and writes it as a trace. The number of workers is judged before
+/// anything is read.
 ///
-/// Nothing is written but after the whole run. A source that fails, or that has more than 1,073,741,824 bytes, is
-/// `Read`, also where its bytes so far are refused already.
+/// Nothing is written before the whole run is done. A source that fails, or that has more than 1,073,741,824 bytes, is
+/// `Read`, even if its bytes so far are refused already.
 pub fn live_text<C: Source, T: Source, K: Sink, G: Gate + Sync, R: Threads + Wait + Sync>(
     rt: &R,
     alloc: Global,
@@ -180,14 +183,20 @@ pub fn live_text<C: Source, T: Source, K: Sink, G: Gate + Sync, R: Threads + Wai
     requires out { K.failed out.old ≡ false }
 
     // What is written is the trace read, which may run, in an order that keeps each actor's.
-    ensures ok { OnOk result (Writes IsLiveText (C.left config.old) (T.left trace.old) (K.taken out.old) (K.taken out.new)) }
-    ensures sources { TellsSources (seen (C.failed config.new) (C.left config.old) (C.left config.new) ∷ seen (T.failed trace.new) (T.left trace.old) (T.left trace.new) ∷ []) result }
-    ensures texts { TellsTexts Origin.Boot (seen (C.failed config.new) (C.left config.old) (C.left config.new)) (seen (T.failed trace.new) (T.left trace.old) (T.left trace.new)) (trace.new ≡ trace.old) result }
-    ensures sink { TellsSink (K.failed out.new) (Begins IsLiveText (C.left config.old) (T.left trace.old) (K.taken out.old) (K.taken out.new)) (out.new ≡ out.old) result }
+    ensures ok { OnOk result
+        (Writes IsLiveText (C.left config.old) (T.left trace.old) (K.taken out.old) (K.taken out.new)) }
+    ensures sources { TellsSources
+        (seen C.failed C.left config.old config.new ∷ seen T.failed T.left trace.old trace.new ∷ []) result }
+    ensures texts { TellsTexts Origin.Boot (seen C.failed C.left config.old config.new)
+        (seen T.failed T.left trace.old trace.new) (trace.new ≡ trace.old) result }
+    ensures sink { TellsSink (K.failed out.new)
+        (Begins IsLiveText (C.left config.old) (T.left trace.old) (K.taken out.old) (K.taken out.new))
+        (out.new ≡ out.old) result }
 
-    // The run comes only behind both texts, and only of a trace that may run.
+    // The run comes only after both texts, and only of a trace that may run.
     ensures workers { IsErrOf result TextFault.Workers ↔ ((workers ≡ 0) ⊎ (worker_limit < workers)) }
-    ensures actor { (program : ℕ) → result ≡ Err (TextFault.BadActor program) → HasBadActor (C.left config.old) (T.left trace.old) program }
+    ensures actor { (program : ℕ) → result ≡ Err (TextFault.BadActor program)
+        → HasBadActor (C.left config.old) (T.left trace.old) program }
     ensures slot { (number : ℕ) → result ≢ Err (TextFault.NoSlot number) }
     ensures started { result ≡ Err TextFault.Start → CouldRun (C.left config.old) (T.left trace.old) }
     ensures unsettled { result ≡ Err TextFault.Unsettled → CouldRun (C.left config.old) (T.left trace.old) }

@@ -1,6 +1,6 @@
 //! How a trace is replayed.
 use kc_digests::Lanes;
-use kc_texts::Origin;
+use kc_faults::Origin;
 
 /// What is written of a replay.
 #[derive(Clone, Copy, Debug, PartialEq, Eq)]
@@ -20,7 +20,8 @@ pub struct ReplayOrder {
     pub origin: Origin,
     /// What is written.
     pub form: ReplayForm,
-    /// Whether the pages of active VMs are zeroed once the trace is replayed, in what is written and compared of the core.
+    /// Whether the pages of active VMs are zeroed once the trace is replayed, in what is written and compared of the
+    /// core.
     pub is_blank: bool,
     /// How many workers may make the calls, 1 to 64.
     pub workers: u32,

@@ -5,9 +5,9 @@ ghost use Rattle.kc_types.specs.declared.call.Call.{Call};
 ghost use Rattle.kc_trace.specs.declared.fault.TraceFault.{TraceFault};
 ghost use Rattle.kc_trace.specs.Trace.{IsTrace, IsRefused};
 ghost use Rattle.kc_state_text.specs.StateText.{state_text};
-ghost use Rattle.kc_texts.specs.Ends.{ReadFailed};
-ghost use Rattle.kc_texts.specs.Reading.{Writes, Begins};
-ghost use Rattle.kc_texts.specs.Outcomes.{seen, TellsSources, TellsTexts, TellsReplay, TellsSink};
+ghost use Rattle.kc_texts.specs.Ends.{ReadFailed, seen};
+ghost use Rattle.kc_texts.specs.Written.{Writes, Begins};
+ghost use Rattle.kc_faults.specs.Outcomes.{TellsSources, TellsTexts, TellsReplay, TellsSink};
 ghost use Rattle.kc_replay.specs.Replayer.{IsFed};
 ghost use Rattle.kc_cli.specs.Engine.{AreReplayed, IsReplayFault, IsReplayText, IsLeftText, left_as};
 
@@ -16,9 +16,10 @@ use crate::order::ReplayOrder;
 use crate::starting::read_start;
 use kc_core::KCore;
 use kc_digests::Lanes;
+use kc_faults::TextFault;
 use kc_replay::{OpenGate, Outcome, ReplayFault, Replayer};
 use kc_state_text::is_state_text;
-use kc_texts::{CallStream, PIECE, Sink, Source, TextFault, read_secret};
+use kc_texts::{CallStream, PIECE, Sink, Source, read_secret};
 use kc_types::{Reply, WORKER_LIMIT};
 use std::alloc::Global;
 use std::sync::Wait;
@@ -34,9 +35,11 @@ fn feed_source<T: Source, R: Threads + Wait + Sync>(
     requires trace { T.failed trace.old ≡ false }
     requires start { replayer.old.fed ≡ 0 }
     requires whole { IsSome replayer.old.state }
-    ensures ok { IfOk result (λ replies. IfSome (T.left trace.old) (λ text. (calls : List Call) × IsTrace text calls × IsFed replayer.old replayer.new calls replies.items)) }
+    ensures ok { IfOk result (λ replies. IfSome (T.left trace.old)
+        (λ text. (calls : List Call) × IsTrace text calls × IsFed replayer.old replayer.new calls replies.items)) }
     ensures ended { OnOk result (IsAtEnd (T.left trace.new)) }
-    ensures trace { (fault : TraceFault) → result ≡ Err (TextFault.Trace fault) → IfSome (T.left trace.old) (λ text. IsRefused text fault) × IsAtEnd (T.left trace.new) }
+    ensures trace { (fault : TraceFault) → result ≡ Err (TextFault.Trace fault)
+        → IfSome (T.left trace.old) (λ text. IsRefused text fault) × IsAtEnd (T.left trace.new) }
     ensures read { result ≡ Err TextFault.Read → ReadFailed (T.failed trace.new) (T.left trace.old) (T.left trace.new) }
     ensures source { T.failed trace.new ≡ true → result ≡ Err TextFault.Read }
     ensures started { result ≡ Err TextFault.Start → 1 < replayer.old.workers }
@@ -74,8 +77,9 @@ fn wipe_left(rt: &(impl Threads + Sync), replayer: Replayer) {
     }
 }
 
-/// Reads what the calls begin with to its end and a trace as it is replayed by so many workers: the replies and the core.
-/// The number of workers, 1 to 64, is judged before anything is read. Where there is no outcome the core is wiped.
+/// Reads what the calls begin with to its end and a trace as it is replayed by this many workers, and returns the
+/// replies and the core. The number of workers, 1 to 64, is judged before anything is read. If there is no outcome, the
+/// core is wiped.
 fn replay_texts<C: Source, T: Source, R: Threads + Wait + Sync>(
     rt: &R,
     alloc: Global,
@@ -85,9 +89,12 @@ fn replay_texts<C: Source, T: Source, R: Threads + Wait + Sync>(
 ) -> Result<Outcome, TextFault>
     requires start { C.failed start.old ≡ false }
     requires trace { T.failed trace.old ≡ false }
-    ensures ok { IfOk result (λ outcome. AreReplayed order.origin (C.left start.old) (T.left trace.old) outcome.replies.items outcome.core) }
-    ensures sources { TellsSources (seen (C.failed start.new) (C.left start.old) (C.left start.new) ∷ seen (T.failed trace.new) (T.left trace.old) (T.left trace.new) ∷ []) result }
-    ensures texts { TellsTexts order.origin (seen (C.failed start.new) (C.left start.old) (C.left start.new)) (seen (T.failed trace.new) (T.left trace.old) (T.left trace.new)) (trace.new ≡ trace.old) result }
+    ensures ok { IfOk result
+        (λ outcome. AreReplayed order.origin (C.left start.old) (T.left trace.old) outcome.replies.items outcome.core) }
+    ensures sources { TellsSources
+        (seen C.failed C.left start.old start.new ∷ seen T.failed T.left trace.old trace.new ∷ []) result }
+    ensures texts { TellsTexts order.origin (seen C.failed C.left start.old start.new)
+        (seen T.failed T.left trace.old trace.new) (trace.new ≡ trace.old) result }
     ensures replay { TellsReplay order.workers order.origin (C.left start.old) result }
     ensures write { result ≢ Err TextFault.Write }
 {
@@ -122,13 +129,13 @@ fn left_as(outcome: Outcome, is_blank: bool) -> Outcome
     outcome
 }
 
-/// Reads what the calls begin with and a trace, each to its end, has 1 to 64 workers make the trace's calls as they are read,
-/// and writes what is wanted: the reply text, the dump of the core that the trace leaves, or the text of its state. The number
-/// of workers is judged before anything is read.
+/// Reads what the calls begin with and a trace, each to its end, has 1 to 64 workers make the trace's calls as they are
+/// read, and writes what is wanted: the reply text, the dump of the core that the trace leaves, or the text of its
+/// state. The number of workers is judged before anything is read.
 ///
-/// Nothing is written but after the whole trace was read and answered. A source that fails, or that has more than
-/// 1,073,741,824 bytes, is `Read`, also where its bytes so far are refused already. Out of memory or a worker that cannot be
-/// started is reported before a fault of the trace that stands further on.
+/// Nothing is written before the whole trace was read and answered. A source that fails, or that has more than
+/// 1,073,741,824 bytes, is `Read`, even if its bytes so far are refused already. Out of memory or a worker that cannot
+/// be started is reported before a fault of the trace that is further on.
 pub fn replay_text<C: Source, T: Source, K: Sink, R: Threads + Wait + Sync>(
     rt: &R,
     alloc: Global,
@@ -142,11 +149,15 @@ pub fn replay_text<C: Source, T: Source, K: Sink, R: Threads + Wait + Sync>(
     requires out { K.failed out.old ≡ false }
 
     // What is written is the text wanted for what the sources held.
-    ensures ok { OnOk result (Writes (IsReplayText order.origin order.form order.is_blank) (C.left start.old) (T.left trace.old) (K.taken out.old) (K.taken out.new)) }
-    ensures sources { TellsSources (seen (C.failed start.new) (C.left start.old) (C.left start.new) ∷ seen (T.failed trace.new) (T.left trace.old) (T.left trace.new) ∷ []) result }
-    ensures texts { TellsTexts order.origin (seen (C.failed start.new) (C.left start.old) (C.left start.new)) (seen (T.failed trace.new) (T.left trace.old) (T.left trace.new)) (trace.new ≡ trace.old) result }
+    ensures ok { OnOk result (Writes (IsReplayText order.origin order.form order.is_blank)
+        (C.left start.old) (T.left trace.old) (K.taken out.old) (K.taken out.new)) }
+    ensures sources { TellsSources
+        (seen C.failed C.left start.old start.new ∷ seen T.failed T.left trace.old trace.new ∷ []) result }
+    ensures texts { TellsTexts order.origin (seen C.failed C.left start.old start.new)
+        (seen T.failed T.left trace.old trace.new) (trace.new ≡ trace.old) result }
     ensures replay { TellsReplay order.workers order.origin (C.left start.old) result }
-    ensures sink { TellsSink (K.failed out.new) (Begins (IsReplayText order.origin order.form order.is_blank) (C.left start.old) (T.left trace.old) (K.taken out.old) (K.taken out.new)) (out.new ≡ out.old) result }
+    ensures sink { TellsSink (K.failed out.new) (Begins (IsReplayText order.origin order.form order.is_blank)
+        (C.left start.old) (T.left trace.old) (K.taken out.old) (K.taken out.new)) (out.new ≡ out.old) result }
 {
     let outcome = replay_texts(rt, alloc, start, trace, order)?;
     give_outcome(rt, alloc, left_as(outcome, order.is_blank), order, out)
@@ -174,8 +185,8 @@ fn is_left<S: Source>(
     }
 }
 
-/// What `replay_text` does, and answers whether what a third source holds, which is read to its end, is the text of the state
-/// that the trace leaves. That source is read behind the trace and before anything is written.
+/// Does what `replay_text` does, and returns whether what a third source holds, which is read to its end, is the text
+/// of the state that the trace leaves. That source is read after the trace and before anything is written.
 pub fn replay_to_text<C: Source, T: Source, S: Source, K: Sink, R: Threads + Wait + Sync>(
     rt: &R,
     alloc: Global,
@@ -191,12 +202,17 @@ pub fn replay_to_text<C: Source, T: Source, S: Source, K: Sink, R: Threads + Wai
     requires out { K.failed out.old ≡ false }
 
     // What is written is the text wanted for what the sources held, and what is answered is of the third one.
-    ensures ok { OnOk result (Writes (IsReplayText order.origin order.form order.is_blank) (C.left start.old) (T.left trace.old) (K.taken out.old) (K.taken out.new)) }
-    ensures same { IfOk result (IsLeftText order.origin order.is_blank (C.left start.old) (T.left trace.old) (S.left to.old)) }
-    ensures sources { TellsSources (seen (C.failed start.new) (C.left start.old) (C.left start.new) ∷ seen (T.failed trace.new) (T.left trace.old) (T.left trace.new) ∷ seen (S.failed to.new) (S.left to.old) (S.left to.new) ∷ []) result }
-    ensures texts { TellsTexts order.origin (seen (C.failed start.new) (C.left start.old) (C.left start.new)) (seen (T.failed trace.new) (T.left trace.old) (T.left trace.new)) (trace.new ≡ trace.old) result }
+    ensures ok { OnOk result (Writes (IsReplayText order.origin order.form order.is_blank)
+        (C.left start.old) (T.left trace.old) (K.taken out.old) (K.taken out.new)) }
+    ensures same { IfOk result
+        (IsLeftText order.origin order.is_blank (C.left start.old) (T.left trace.old) (S.left to.old)) }
+    ensures sources { TellsSources (seen C.failed C.left start.old start.new
+        ∷ seen T.failed T.left trace.old trace.new ∷ seen S.failed S.left to.old to.new ∷ []) result }
+    ensures texts { TellsTexts order.origin (seen C.failed C.left start.old start.new)
+        (seen T.failed T.left trace.old trace.new) (trace.new ≡ trace.old) result }
     ensures replay { TellsReplay order.workers order.origin (C.left start.old) result }
-    ensures sink { TellsSink (K.failed out.new) (Begins (IsReplayText order.origin order.form order.is_blank) (C.left start.old) (T.left trace.old) (K.taken out.old) (K.taken out.new)) (out.new ≡ out.old) result }
+    ensures sink { TellsSink (K.failed out.new) (Begins (IsReplayText order.origin order.form order.is_blank)
+        (C.left start.old) (T.left trace.old) (K.taken out.old) (K.taken out.new)) (out.new ≡ out.old) result }
 {
     let outcome = replay_texts(rt, alloc, start, trace, order)?;
     let outcome = left_as(outcome, order.is_blank);

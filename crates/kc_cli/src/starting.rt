@@ -3,20 +3,22 @@ ghost use Rattle.std.specs.Prelude.{◌≡◌, ◌≢◌, ◌≤◌, false, true
 ghost use Rattle.std.specs.Io.KnownBytes.{IsAtEnd};
 ghost use Rattle.kc_types.specs.Limits.{byte_limit};
 ghost use Rattle.kc_model.specs.Lawful.{IsLawful};
-ghost use Rattle.kc_trace.specs.ConfigText.{config_in};
-ghost use Rattle.kc_trace.specs.declared.config_text.ConfigTextFault.{ConfigTextFault};
+ghost use Rattle.kc_config_text.specs.ConfigText.{config_in};
+ghost use Rattle.kc_config_text.specs.declared.config_text.ConfigTextFault.{ConfigTextFault};
 ghost use Rattle.kc_state_text.specs.Refused.{IsRefusedState};
 ghost use Rattle.kc_state_text.specs.declared.fault.StateFault.{StateFault};
 ghost use Rattle.kc_texts.specs.Ends.{ReadFailed};
-ghost use Rattle.kc_texts.specs.Reading.{BeginsIn, IsConfigFault, IsStartFault};
+ghost use Rattle.kc_faults.specs.Origins.{BeginsIn};
+ghost use Rattle.kc_faults.specs.Outcomes.{IsConfigFault, IsStartFault};
 ghost use Rattle.kc_cli.specs.Engine.{IsStateFault};
 ghost use Rattle.kc_cli.specs.Headings.{HasDigest};
 
+use kc_config_text::read_config;
 use kc_core::KCore;
 use kc_digests::Lanes;
+use kc_faults::{Origin, TextFault};
 use kc_state_text::read_state;
-use kc_texts::{Origin, Source, TextFault, read_secret, read_whole};
-use kc_trace::read_config;
+use kc_texts::{Source, read_secret, read_whole};
 use sha2::{Digest, Sha256};
 use std::alloc::Global;
 use std::thread::Threads;
@@ -44,7 +46,8 @@ fn digest_of(text: &[u8], is_hashed: bool) -> Option<[u8; 32]>
 fn boot_of(alloc: Global, text: &[u8]) -> Result<KCore, TextFault>
     ensures ok { IfOk result (λ core. BeginsIn Origin.Boot text.now core) }
     ensures lawful { IfOk result IsLawful }
-    ensures config { (fault : ConfigTextFault) → result ≡ Err (TextFault.Config fault) → config_in text.now ≡ Err fault }
+    ensures config { (fault : ConfigTextFault) → result ≡ Err (TextFault.Config fault)
+        → config_in text.now ≡ Err fault }
     ensures read { result ≢ Err TextFault.Read }
     ensures fault { IfErr result IsConfigFault }
 {
@@ -63,7 +66,8 @@ fn boot_core<C: Source>(alloc: Global, start: &mut C, is_hashed: bool) -> Result
     ensures lawful { IfOk result (λ begun. IsLawful begun.core) }
     ensures ended { OnOk result (IsAtEnd (C.left start.new)) }
     ensures mark { OnOk result (C.failed start.new ≡ false) }
-    ensures config { (fault : ConfigTextFault) → result ≡ Err (TextFault.Config fault) → IfSome (C.left start.old) (λ text. config_in text ≡ Err fault) × IsAtEnd (C.left start.new) }
+    ensures config { (fault : ConfigTextFault) → result ≡ Err (TextFault.Config fault)
+        → IfSome (C.left start.old) (λ text. config_in text ≡ Err fault) × IsAtEnd (C.left start.new) }
     ensures read { result ≡ Err TextFault.Read → ReadFailed (C.failed start.new) (C.left start.old) (C.left start.new) }
     ensures source { C.failed start.new ≡ true → result ≡ Err TextFault.Read }
     ensures fault { IfErr result IsConfigFault }
@@ -105,7 +109,8 @@ fn read_core<C: Source>(
     ensures lawful { IfOk result (λ begun. IsLawful begun.core) }
     ensures ended { OnOk result (IsAtEnd (C.left start.new)) }
     ensures mark { OnOk result (C.failed start.new ≡ false) }
-    ensures state { (fault : StateFault) → result ≡ Err (TextFault.State fault) → IfSome (C.left start.old) (λ text. IsRefusedState text fault) × IsAtEnd (C.left start.new) }
+    ensures state { (fault : StateFault) → result ≡ Err (TextFault.State fault)
+        → IfSome (C.left start.old) (λ text. IsRefusedState text fault) × IsAtEnd (C.left start.new) }
     ensures read { result ≡ Err TextFault.Read → ReadFailed (C.failed start.new) (C.left start.old) (C.left start.new) }
     ensures source { C.failed start.new ≡ true → result ≡ Err TextFault.Read }
     ensures fault { IfErr result IsStartFault }
@@ -117,8 +122,9 @@ fn read_core<C: Source>(
     Ok(Begun { core, digest })
 }
 
-/// Reads what the calls begin with to its end: the core in the boot state of a configuration, or in the state of a text, and
-/// the digest of what was read, if that is asked for. A source that fails, or that has more than 1,073,741,824 bytes, is `Read`.
+/// Reads what the calls begin with to its end: the core in the boot state of a configuration, or in the state of a
+/// text, and the digest of what was read, if that is asked for. A source that fails, or that has more than
+/// 1,073,741,824 bytes, is `Read`.
 pub(crate) fn begin<C: Source>(
     rt: &(impl Threads + Sync),
     alloc: Global,
@@ -134,8 +140,10 @@ pub(crate) fn begin<C: Source>(
     ensures ended { OnOk result (IsAtEnd (C.left start.new)) }
     ensures mark { OnOk result (C.failed start.new ≡ false) }
     // The fault is of what the bytes are read as.
-    ensures config { (fault : ConfigTextFault) → result ≡ Err (TextFault.Config fault) → (origin ≡ Origin.Boot) × IfSome (C.left start.old) (λ text. config_in text ≡ Err fault) × IsAtEnd (C.left start.new) }
-    ensures state { (fault : StateFault) → result ≡ Err (TextFault.State fault) → (origin ≡ Origin.State) × IfSome (C.left start.old) (λ text. IsRefusedState text fault) × IsAtEnd (C.left start.new) }
+    ensures config { (fault : ConfigTextFault) → result ≡ Err (TextFault.Config fault) → (origin ≡ Origin.Boot)
+        × IfSome (C.left start.old) (λ text. config_in text ≡ Err fault) × IsAtEnd (C.left start.new) }
+    ensures state { (fault : StateFault) → result ≡ Err (TextFault.State fault) → (origin ≡ Origin.State)
+        × IfSome (C.left start.old) (λ text. IsRefusedState text fault) × IsAtEnd (C.left start.new) }
     ensures read { result ≡ Err TextFault.Read → ReadFailed (C.failed start.new) (C.left start.old) (C.left start.new) }
     ensures source { C.failed start.new ≡ true → result ≡ Err TextFault.Read }
     ensures fault { IfErr result IsStartFault }
@@ -146,7 +154,7 @@ pub(crate) fn begin<C: Source>(
     }
 }
 
-/// What `begin` reads, without the digest.
+/// Reads what `begin` reads, without the digest.
 pub fn read_start<C: Source>(
     rt: &(impl Threads + Sync),
     alloc: Global,
@@ -160,8 +168,10 @@ pub fn read_start<C: Source>(
     ensures ended { OnOk result (IsAtEnd (C.left start.new)) }
     ensures mark { OnOk result (C.failed start.new ≡ false) }
     // The fault is of what the bytes are read as.
-    ensures config { (fault : ConfigTextFault) → result ≡ Err (TextFault.Config fault) → (origin ≡ Origin.Boot) × IfSome (C.left start.old) (λ text. config_in text ≡ Err fault) × IsAtEnd (C.left start.new) }
-    ensures state { (fault : StateFault) → result ≡ Err (TextFault.State fault) → (origin ≡ Origin.State) × IfSome (C.left start.old) (λ text. IsRefusedState text fault) × IsAtEnd (C.left start.new) }
+    ensures config { (fault : ConfigTextFault) → result ≡ Err (TextFault.Config fault) → (origin ≡ Origin.Boot)
+        × IfSome (C.left start.old) (λ text. config_in text ≡ Err fault) × IsAtEnd (C.left start.new) }
+    ensures state { (fault : StateFault) → result ≡ Err (TextFault.State fault) → (origin ≡ Origin.State)
+        × IfSome (C.left start.old) (λ text. IsRefusedState text fault) × IsAtEnd (C.left start.new) }
     ensures read { result ≡ Err TextFault.Read → ReadFailed (C.failed start.new) (C.left start.old) (C.left start.new) }
     ensures source { C.failed start.new ≡ true → result ≡ Err TextFault.Read }
     ensures fault { IfErr result IsStartFault }

@@ -6,8 +6,9 @@ use Rattle.kc_types.specs.declared.call.Call.{Call}
 use Rattle.kc_model.specs.State.{State}
 use Rattle.kc_model.specs.Lawful.{IsLawful}
 use Rattle.kc_trace.specs.Spelling.{lines_of, trace_header, text_of}
-use Rattle.kc_texts.specs.declared.origin.Origin.{Origin}
-use Rattle.kc_texts.specs.Reading.{BeginsIn, Writes, Begins}
+use Rattle.kc_faults.specs.declared.origin.Origin.{Origin}
+use Rattle.kc_faults.specs.Origins.{BeginsIn}
+use Rattle.kc_texts.specs.Written.{Writes, Begins}
 use Rattle.kc_redact.specs.Redacted.{IsRedaction, IsHostRedaction}
 use Rattle.kc_redact.proofs.Redacted.{is_redaction, is_host_redaction, header-taken}
 use Rattle.kc_redact_text.specs.Made.{redacted_by}

@@ -17,10 +17,10 @@ use Rattle.kc_trace.specs.Spelling.{trace_header, lines_of}
 use Rattle.kc_trace.specs.Trace.{IsTrace}
 use Rattle.kc_texts.specs.Ends.{ReadFailed}
 use Rattle.kc_texts.specs.Streamed.{HasRead}
-use Rattle.kc_texts.specs.Faults.{read_fault}
+use Rattle.kc_faults.specs.Faults.{read_fault}
 use Rattle.kc_texts.specs.declared.whole.ReadFault.{ReadFault}
 use Rattle.kc_texts.specs.declared.whole.ReadFault.TheVariants as reads
-use Rattle.kc_texts.specs.declared.fault.TextFault.TheVariants as texts
+use Rattle.kc_faults.specs.declared.fault.TextFault.TheVariants as texts
 use Rattle.kc_texts.proofs.Fed.{stays, goes_on_ok, goes_on_err, goes_on_nothing, too_many}
 use Rattle.kc_model.specs.State.{State}
 use Rattle.kc_redact_text.specs.Made.{redacted_by, core_after}

@@ -6,8 +6,8 @@ use Rattle.kc_model.specs.State.{State}
 use Rattle.kc_trace.specs.Trace.{IsTrace}
 use Rattle.kc_trace.specs.declared.fault.TraceFault.TheVariants as traces
 use Rattle.kc_texts.specs.Streamed.{Streamed, GoesOn}
-use Rattle.kc_texts.specs.declared.fault.TextFault.{TextFault}
-use Rattle.kc_texts.specs.declared.fault.TextFault.TheVariants as texts
+use Rattle.kc_faults.specs.declared.fault.TextFault.{TextFault}
+use Rattle.kc_faults.specs.declared.fault.TextFault.TheVariants as texts
 use Rattle.kc_redact_text.specs.Made.{redacted_by, core_after}
 use Rattle.kc_redact_text.specs.declared.reading.Redacting.{Redacting}
 

@@ -1,16 +1,19 @@
 //! Reading a trace, redacting it and writing it.
-ghost use Rattle.std.specs.Prelude.{◌≡◌, ◌⊎◌, ◌++◌, ◌∷◌, [], ℕ, List, take, false, IfErr, IfSome, OnOk, Err};
+ghost use Rattle.std.specs.Prelude.{◌≡◌, ◌⊎◌, ◌++◌, ◌∷◌, [], false, IfErr, IfSome, OnOk, Err};
 ghost use Rattle.std.specs.Io.KnownBytes.{Appends, IsAtEnd};
 ghost use Rattle.kc_trace.specs.declared.fault.TraceFault.{TraceFault};
 ghost use Rattle.kc_trace.specs.Spelling.{lines_of};
 ghost use Rattle.kc_trace.specs.Trace.{IsRefused};
-ghost use Rattle.kc_texts.specs.Outcomes.{seen, TellsSources, TellsSink};
+ghost use Rattle.kc_texts.specs.Written.{AppendsBeginning};
+ghost use Rattle.kc_texts.specs.Ends.{seen};
+ghost use Rattle.kc_faults.specs.Outcomes.{TellsSources, TellsSink};
 ghost use Rattle.kc_redact_text.specs.Redacts.{Redacts, BeginsRedaction, IsRedactFault};
 
 use crate::calls::RedactedCall;
 use crate::reading::{HEADER, read_redacted};
+use kc_faults::TextFault;
 use kc_lines::push_bytes;
-use kc_texts::{Sink, Source, TextFault, give_lines};
+use kc_texts::{Sink, Source, give_lines};
 use std::alloc::Global;
 
 /// How many bytes are written at once: no more than a processor's nearest cache holds, since most are zeros that were
@@ -26,7 +29,9 @@ pub(crate) fn give_redacted<K: Sink>(
 ) -> Result<(), TextFault>
     requires { K.failed out.old ≡ false }
     ensures ok { OnOk result (Appends (K.taken out.old) (K.taken out.new) (head.now ++ lines_of calls.items)) }
-    ensures sink { TellsSink (K.failed out.new) ((n : ℕ) × Appends (K.taken out.old) (K.taken out.new) (take n (head.now ++ lines_of calls.items))) (out.new ≡ out.old) result }
+    ensures sink { TellsSink (K.failed out.new)
+        (AppendsBeginning (K.taken out.old) (K.taken out.new) (head.now ++ lines_of calls.items))
+        (out.new ≡ out.old) result }
     ensures fault { IfErr result (λ fault. (fault ≡ TextFault.Memory) ⊎ (fault ≡ TextFault.Write)) }
 {
     let Ok(mut piece) = Vec::with_capacity(alloc, PIECE) else {
@@ -55,11 +60,13 @@ pub fn redact_text<T: Source, K: Sink>(
 
     // What is written is the redacted trace of the trace that the source held.
     ensures ok { OnOk result (Redacts (T.left trace.old) (K.taken out.old) (K.taken out.new)) }
-    ensures sources { TellsSources (seen (T.failed trace.new) (T.left trace.old) (T.left trace.new) ∷ []) result }
-    ensures sink { TellsSink (K.failed out.new) (BeginsRedaction (T.left trace.old) (K.taken out.old) (K.taken out.new)) (out.new ≡ out.old) result }
+    ensures sources { TellsSources (seen T.failed T.left trace.old trace.new ∷ []) result }
+    ensures sink { TellsSink (K.failed out.new) (BeginsRedaction (T.left trace.old) (K.taken out.old) (K.taken out.new))
+        (out.new ≡ out.old) result }
 
     // A fault of the trace is that of all the bytes that the source held, and there are no other faults.
-    ensures trace { (fault : TraceFault) → result ≡ Err (TextFault.Trace fault) → IfSome (T.left trace.old) (λ text. IsRefused text fault) × IsAtEnd (T.left trace.new) }
+    ensures trace { (fault : TraceFault) → result ≡ Err (TextFault.Trace fault)
+        → IfSome (T.left trace.old) (λ text. IsRefused text fault) × IsAtEnd (T.left trace.new) }
     ensures others { IfErr result IsRedactFault }
 {
     let mut core = None;

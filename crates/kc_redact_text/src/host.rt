@@ -1,13 +1,14 @@
 //! Reading a trace, making its calls as they are read, redacting and writing it.
-ghost use Rattle.std.specs.Prelude.{◌≡◌, ◌∷◌, [], List, false, true, Some, IfOk, IfErr, IfSome, OnOk, Err};
+ghost use Rattle.std.specs.Prelude.{◌≡◌, ◌∷◌, [], false, true, Some, IfOk, IfErr, IfSome, OnOk, Err};
 ghost use Rattle.std.specs.Io.KnownBytes.{IsAtEnd};
 ghost use Rattle.kc_model.specs.State.{State};
 ghost use Rattle.kc_model.specs.Lawful.{IsLawful};
 ghost use Rattle.kc_trace.specs.declared.fault.TraceFault.{TraceFault};
 ghost use Rattle.kc_trace.specs.Trace.{IsRefused};
-ghost use Rattle.kc_texts.specs.Ends.{ReadFailed};
-ghost use Rattle.kc_texts.specs.Reading.{BeginsIn, Writes, Begins};
-ghost use Rattle.kc_texts.specs.Outcomes.{seen, TellsSources, TellsTexts, TellsSink};
+ghost use Rattle.kc_texts.specs.Ends.{ReadFailed, seen};
+ghost use Rattle.kc_faults.specs.Origins.{BeginsIn};
+ghost use Rattle.kc_texts.specs.Written.{Writes, Begins};
+ghost use Rattle.kc_faults.specs.Outcomes.{TellsSources, TellsTexts, TellsSink};
 ghost use Rattle.kc_redact_text.specs.Reading.{IsHeadAndCalls, IsReadingFault};
 ghost use Rattle.kc_redact_text.specs.Redacts.{IsHostRedacted, IsHostRedactFault, IsHostReadingFault};
 
@@ -16,7 +17,8 @@ use crate::engine::give_redacted;
 use crate::reading::{HEADER, read_redacted};
 use kc_cli::{Lanes, read_start};
 use kc_core::KCore;
-use kc_texts::{Origin, Sink, Source, TextFault};
+use kc_faults::{Origin, TextFault};
+use kc_texts::{Sink, Source};
 use std::alloc::Global;
 use std::thread::Threads;
 
@@ -29,9 +31,11 @@ fn read_made<T: Source>(
     trace: &mut T,
 ) -> Result<([u8; HEADER], Vec<RedactedCall>), TextFault>
     requires { T.failed trace.old ≡ false }
-    ensures ok { IfOk result (λ read. IfSome (T.left trace.old) (λ text. IsHeadAndCalls (Some core) text read.0 read.1.items)) }
+    ensures ok { IfOk result
+        (λ read. IfSome (T.left trace.old) (λ text. IsHeadAndCalls (Some core) text read.0 read.1.items)) }
     ensures ended { OnOk result (IsAtEnd (T.left trace.new)) }
-    ensures trace { (fault : TraceFault) → result ≡ Err (TextFault.Trace fault) → IfSome (T.left trace.old) (λ text. IsRefused text fault) × IsAtEnd (T.left trace.new) }
+    ensures trace { (fault : TraceFault) → result ≡ Err (TextFault.Trace fault)
+        → IfSome (T.left trace.old) (λ text. IsRefused text fault) × IsAtEnd (T.left trace.new) }
     ensures read { result ≡ Err TextFault.Read → ReadFailed (T.failed trace.new) (T.left trace.old) (T.left trace.new) }
     ensures failed { T.failed trace.new ≡ true → result ≡ Err TextFault.Read }
     ensures fault { IfErr result IsReadingFault }
@@ -56,9 +60,13 @@ fn read_both<C: Source, T: Source>(
 ) -> Result<([u8; HEADER], Vec<RedactedCall>), TextFault>
     requires start { C.failed start.old ≡ false }
     requires trace { T.failed trace.old ≡ false }
-    ensures ok { IfOk result (λ read. (m : State) × IsLawful m × IfSome (C.left start.old) (λ text. BeginsIn origin text m) × IfSome (T.left trace.old) (λ text. IsHeadAndCalls (Some m) text read.0 read.1.items)) }
-    ensures sources { TellsSources (seen (C.failed start.new) (C.left start.old) (C.left start.new) ∷ seen (T.failed trace.new) (T.left trace.old) (T.left trace.new) ∷ []) result }
-    ensures texts { TellsTexts origin (seen (C.failed start.new) (C.left start.old) (C.left start.new)) (seen (T.failed trace.new) (T.left trace.old) (T.left trace.new)) (trace.new ≡ trace.old) result }
+    ensures ok { IfOk result
+        (λ read. (m : State) × IsLawful m × IfSome (C.left start.old) (λ text. BeginsIn origin text m)
+        × IfSome (T.left trace.old) (λ text. IsHeadAndCalls (Some m) text read.0 read.1.items)) }
+    ensures sources { TellsSources
+        (seen C.failed C.left start.old start.new ∷ seen T.failed T.left trace.old trace.new ∷ []) result }
+    ensures texts { TellsTexts origin (seen C.failed C.left start.old start.new)
+        (seen T.failed T.left trace.old trace.new) (trace.new ≡ trace.old) result }
     ensures fault { IfErr result IsHostReadingFault }
 {
     let core = read_start(rt, alloc, start, origin, lanes)?;
@@ -86,10 +94,15 @@ pub fn redact_host_text<C: Source, T: Source, K: Sink>(
     requires out { K.failed out.old ≡ false }
 
     // What is written is the redacted trace of the trace, from the state on that the start's text describes.
-    ensures ok { OnOk result (Writes (IsHostRedacted origin) (C.left start.old) (T.left trace.old) (K.taken out.old) (K.taken out.new)) }
-    ensures sources { TellsSources (seen (C.failed start.new) (C.left start.old) (C.left start.new) ∷ seen (T.failed trace.new) (T.left trace.old) (T.left trace.new) ∷ []) result }
-    ensures texts { TellsTexts origin (seen (C.failed start.new) (C.left start.old) (C.left start.new)) (seen (T.failed trace.new) (T.left trace.old) (T.left trace.new)) (trace.new ≡ trace.old) result }
-    ensures sink { TellsSink (K.failed out.new) (Begins (IsHostRedacted origin) (C.left start.old) (T.left trace.old) (K.taken out.old) (K.taken out.new)) (out.new ≡ out.old) result }
+    ensures ok { OnOk result
+        (Writes (IsHostRedacted origin) (C.left start.old) (T.left trace.old) (K.taken out.old) (K.taken out.new)) }
+    ensures sources { TellsSources
+        (seen C.failed C.left start.old start.new ∷ seen T.failed T.left trace.old trace.new ∷ []) result }
+    ensures texts { TellsTexts origin (seen C.failed C.left start.old start.new)
+        (seen T.failed T.left trace.old trace.new) (trace.new ≡ trace.old) result }
+    ensures sink { TellsSink (K.failed out.new)
+        (Begins (IsHostRedacted origin) (C.left start.old) (T.left trace.old) (K.taken out.old) (K.taken out.new))
+        (out.new ≡ out.old) result }
     // There are no other faults.
     ensures others { IfErr result IsHostRedactFault }
 {

@@ -1,9 +1,9 @@
 //! Redacting a trace as it is read.
-ghost use Rattle.std.specs.Prelude.{◌≡◌, ◌≢◌, ◌<◌, ◌≤◌, ◌+◌, ◌++◌, [], ℕ, List, Option, false, true, length, take, is_err, IfOk, IfErr, IfSome, OnOk, Err};
+ghost use Rattle.std.specs.Prelude.{◌≡◌, ◌<◌, ◌≤◌, ◌+◌, ◌++◌, [], ℕ, List, Option, false, true, length, take, is_err, IfOk, IfErr, IfSome, OnOk, Err};
 ghost use Rattle.std.specs.Io.KnownBytes.{Consumes, IsAtEnd};
 ghost use Rattle.kc_types.specs.Limits.{byte_limit};
 ghost use Rattle.kc_types.specs.declared.call.Call.{Call};
-ghost use Rattle.kc_trace.specs.Trace.{IsTrace, IsRefused};
+ghost use Rattle.kc_trace.specs.Trace.{IsRefused};
 ghost use Rattle.kc_trace.specs.declared.fault.TraceFault.{TraceFault};
 ghost use Rattle.kc_texts.specs.Ends.{ReadFailed};
 ghost use Rattle.kc_texts.specs.Streamed.{HasRead};
@@ -13,7 +13,8 @@ ghost use Rattle.kc_redact_text.specs.Reading.{stream_of, HasTaken, HasGoneOn, I
 use crate::calls::RedactedCall;
 use crate::next::redact_next;
 use kc_core::KCore;
-use kc_texts::{Failed, PIECE, ReadFault, Source, TextFault};
+use kc_faults::TextFault;
+use kc_texts::{Failed, PIECE, ReadFault, Source};
 use kc_trace::{TraceFault, TraceReader};
 use kc_types::{BYTE_LIMIT, Call, Memory, SecretBytes};
 use std::alloc::Global;
@@ -116,10 +117,13 @@ impl Redacting {
     ) -> Result<(), ReadFault>
         requires few { self.old.total ≤ byte_limit }
         requires whole { T.failed source.old ≡ false }
-        ensures ok { OnOk result (HasGoneOn core.old core.new self.old self.new (T.left source.old) (T.left source.new)) }
+        ensures ok { OnOk result
+            (HasGoneOn core.old core.new self.old self.new (T.left source.old) (T.left source.new)) }
         ensures ended { OnOk result (IsAtEnd (T.left source.new)) }
         ensures mark { OnOk result (T.failed source.new ≡ false) }
-        ensures read { result ≡ Err ReadFault.Read → (bytes : List ℕ) (calls : List Call) (first : Option (List ℕ)) → HasRead (stream_of self.old) bytes calls first (T.left source.old) → ReadFailed (T.failed source.new) first (T.left source.new) }
+        ensures read { result ≡ Err ReadFault.Read → (bytes : List ℕ) (calls : List Call) (first : Option (List ℕ))
+            → HasRead (stream_of self.old) bytes calls first (T.left source.old)
+            → ReadFailed (T.failed source.new) first (T.left source.new) }
         // A read that failed is never reported as out of memory.
         ensures memory { result ≡ Err ReadFault.Memory → T.failed source.new ≡ false }
     {
@@ -147,10 +151,13 @@ pub fn read_redacted<T: Source>(
     source: &mut T,
 ) -> Result<([u8; HEADER], Vec<RedactedCall>), TextFault>
     requires { T.failed source.old ≡ false }
-    ensures ok { IfOk result (λ read. IfSome (T.left source.old) (λ text. IsHeadAndCalls core.old text read.0 read.1.items)) }
+    ensures ok { IfOk result
+        (λ read. IfSome (T.left source.old) (λ text. IsHeadAndCalls core.old text read.0 read.1.items)) }
     ensures ended { OnOk result (IsAtEnd (T.left source.new)) }
-    ensures trace { (fault : TraceFault) → result ≡ Err (TextFault.Trace fault) → IfSome (T.left source.old) (λ text. IsRefused text fault) × IsAtEnd (T.left source.new) }
-    ensures read { result ≡ Err TextFault.Read → ReadFailed (T.failed source.new) (T.left source.old) (T.left source.new) }
+    ensures trace { (fault : TraceFault) → result ≡ Err (TextFault.Trace fault)
+        → IfSome (T.left source.old) (λ text. IsRefused text fault) × IsAtEnd (T.left source.new) }
+    ensures read { result ≡ Err TextFault.Read
+        → ReadFailed (T.failed source.new) (T.left source.old) (T.left source.new) }
     ensures failed { T.failed source.new ≡ true → result ≡ Err TextFault.Read }
     ensures fault { IfErr result IsReadingFault }
 {

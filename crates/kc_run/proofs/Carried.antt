@@ -1,4 +1,4 @@
--- What is told of an engine's answer is told of the ending that it is.
+-- What is said of an engine's answer is said of the ending that it is.
 use Rattle.std.proofs.Common.{◌≡◌, ◌≢◌, ◌<◌, ◌⊎◌, ◌∷◌, ◌↔◌, ℕ, Bool, true, false, List, [], Option, None, Some, Result, Ok, Err, inl, inr, refl}
 use Rattle.std.specs.Prelude.{IfOk, IfErr, IfSome, OnOk, IsErrOf}
 use Rattle.std.specs.Io.KnownBytes.{IsAtEnd}
@@ -8,14 +8,15 @@ use Rattle.kc_trace.specs.Trace.{IsRefused}
 use Rattle.kc_remarks.specs.declared.denials.Answered.{Answered}
 use Rattle.kc_dump_text.specs.declared.fault.DumpFault.{DumpFault}
 use Rattle.kc_dump_text.specs.Refused.{IsRefusedDump}
-use Rattle.kc_texts.specs.declared.origin.Origin.{Origin}
-use Rattle.kc_texts.specs.declared.origin.Origin.TheVariants as origins
-use Rattle.kc_texts.specs.declared.fault.TextFault.{TextFault}
-use Rattle.kc_texts.specs.declared.fault.TextFault.TheVariants as texts
-use Rattle.kc_texts.specs.Audit.{Audits, BeginsAudit, IsDumpFault}
-use Rattle.kc_texts.specs.Outcomes.{Seen, TellsSources, TellsTexts, TellsReplay, TellsSink}
-use Rattle.kc_texts.specs.Reading.{Writes, Begins}
-use Rattle.kc_texts.proofs.Told.{sources_after, texts_after, replay_after, sources_err, texts_err, replay_err}
+use Rattle.kc_faults.specs.declared.origin.Origin.{Origin}
+use Rattle.kc_faults.specs.declared.origin.Origin.TheVariants as origins
+use Rattle.kc_faults.specs.declared.fault.TextFault.{TextFault}
+use Rattle.kc_faults.specs.declared.fault.TextFault.TheVariants as texts
+use Rattle.kc_cli.specs.Audit.{Audits, BeginsAudit, IsDumpFault}
+use Rattle.kc_texts.specs.Ends.{Seen}
+use Rattle.kc_faults.specs.Outcomes.{TellsSources, TellsTexts, TellsReplay, TellsSink}
+use Rattle.kc_texts.specs.Written.{Writes, Begins}
+use Rattle.kc_faults.proofs.Told.{sources_after, texts_after, replay_after, sources_err, texts_err, replay_err}
 use Rattle.kc_cli.proofs.Sources.{sink_ok}
 use Rattle.kc_redact_text.specs.Redacts.{Redacts, BeginsRedaction, IsRedactFault, IsHostRedacted, IsHostRedactFault}
 use Rattle.kc_cli.specs.declared.order.ReplayForm.{ReplayForm}

@@ -1,10 +1,11 @@
 -- How the program ends: its exit status, and what it reports on the error sink.
-use Rattle.std.specs.Prelude.{◌≡◌, ℕ, Bool, true, false, List, codes, take, Option, Some, None, Result, Ok, Err}
+use Rattle.std.specs.Prelude.{◌≡◌, ℕ, Bool, true, false, List, codes, Option, Some, None, Result, Ok, Err}
 use Rattle.std.specs.Io.KnownBytes.{Appends}
 use Rattle.kc_remarks.specs.declared.denials.Answered.{Answered}
 use Rattle.kc_remarks.specs.Denials.{is_mostly_outside}
-use Rattle.kc_texts.specs.declared.fault.TextFault.{TextFault}
-use Rattle.kc_texts.specs.Faults.{status_of, fault_line}
+use Rattle.kc_texts.specs.Written.{AppendsBeginning}
+use Rattle.kc_faults.specs.declared.fault.TextFault.{TextFault}
+use Rattle.kc_faults.specs.Faults.{status_of, fault_line}
 use Rattle.kc_run.specs.declared.ending.Ending.{Ending}
 use Rattle.kc_run.specs.declared.ending.Ending.TheVariants as endings
 
@@ -30,7 +31,7 @@ abbrev pub answered_as : Result Answered TextFault → Ended
 answered_as (Ok answered) = Ok (endings.Answered answered)
 answered_as (Err fault) = Err fault
 
--- 0 where all is as it was asked, 1 where the state is another one or something is found in the dump, else that of the fault
+-- 0 if all is as it was asked, 1 if the state is another one or something is found in the dump, else that of the fault
 abbrev pub status_after : Ended → ℕ
 status_after (Ok endings.Done) = 0
 status_after (Ok (endings.Answered answered)) = 0
@@ -47,19 +48,20 @@ abbrev pub answered_in : Ended → Option Answered
 answered_in (Ok (endings.Answered answered)) = Some answered
 answered_in _ = None
 
--- a sink as a run found and left it: whether a write to it failed, and the bytes that it had taken before and has now, where it tells them
+-- a sink as a run found and left it: whether a write to it failed, and the bytes that it had taken before and after, if it reports them
 pub record Took : Type 0 where
   pub failed : Bool
   pub had : Option (List ℕ)
   pub has : Option (List ℕ)
 
-abbrev pub took : Bool → Option (List ℕ) → Option (List ℕ) → Took
-took failed had has = record { failed = failed; had = had; has = has }
+-- of a sink, by whether a write to one has failed and what one has taken: as it was found and as it was left
+abbrev pub took : {Sink : Type 0} → (Sink → Bool) → (Sink → Option (List ℕ)) → Sink → Sink → Took
+took failed taken old new = record { failed = failed new; had = taken old; has = taken new }
 
--- it took this text, or a beginning of it where a write failed
+-- it took this text, or a beginning of it if a write failed
 pub record Takes (sink : Took) (text : List ℕ) : Type 0 where
   pub whole : sink.failed ≡ false → Appends sink.had sink.has text
-  pub begun : sink.failed ≡ true → (n : ℕ) × Appends sink.had sink.has (take n text)
+  pub begun : sink.failed ≡ true → AppendsBeginning sink.had sink.has text
 
 -- what is reported if more than half of the calls name a frame or a slot that the machine does not have
 abbrev pub outside_line : List ℕ

@@ -1,16 +1,16 @@
 -- What a job's files hold, and how opening them fails.
 use Rattle.std.specs.Prelude.{◌≡◌, ℕ, Bool, List, codes, drop, Option, Some, None}
-use Rattle.kc_texts.specs.declared.fault.TextFault.{TextFault}
-use Rattle.kc_texts.specs.declared.fault.TextFault.TheVariants as texts
+use Rattle.kc_faults.specs.declared.fault.TextFault.{TextFault}
+use Rattle.kc_faults.specs.declared.fault.TextFault.TheVariants as texts
 use Rattle.kc_run.specs.declared.beginning.Beginning.{Beginning}
 use Rattle.kc_run.specs.declared.beginning.Beginning.TheVariants as beginnings
 use Rattle.kc_args.specs.Jobs.{Path}
 
--- the bytes of the file at each path, where the files tell them
+-- the bytes of the file at each path, if the files report them
 abbrev pub Held : Type 0
 Held = List ℕ → Option (List ℕ)
 
--- the configuration where no other is named: 8 frames, of which the first is the core's and the next four are the host's, one leaf table a VM, and the digest of `abc` approved
+-- the configuration if no other is named: 8 frames, of which the first is the core's and the next four are the host's, one leaf table a VM, and the digest of `abc` approved
 abbrev pub default_config : List ℕ
 default_config = codes "{\"frames\":8,\"core\":1,\"host\":4,\"leaves\":1,\"approved\":[\"ba7816bf8f01cfea414140de5dae2223b00361a396177a9cb410ff61f20015ad\"]}"
 

@@ -8,13 +8,14 @@ use Rattle.kc_dump_text.specs.declared.fault.DumpFault.{DumpFault}
 use Rattle.kc_dump_text.specs.Refused.{IsRefusedDump}
 use Rattle.kc_trace.specs.declared.fault.TraceFault.{TraceFault}
 use Rattle.kc_trace.specs.Trace.{IsRefused}
-use Rattle.kc_texts.specs.declared.origin.Origin.{Origin}
-use Rattle.kc_texts.specs.declared.origin.Origin.TheVariants as origins
-use Rattle.kc_texts.specs.declared.fault.TextFault.{TextFault}
-use Rattle.kc_texts.specs.declared.fault.TextFault.TheVariants as texts
-use Rattle.kc_texts.specs.Audit.{Audits, BeginsAudit, IsDumpFault}
-use Rattle.kc_texts.specs.Outcomes.{Seen, seen, TellsSources, TellsTexts, TellsReplay, TellsSink}
-use Rattle.kc_texts.specs.Reading.{Writes, Begins}
+use Rattle.kc_faults.specs.declared.origin.Origin.{Origin}
+use Rattle.kc_faults.specs.declared.origin.Origin.TheVariants as origins
+use Rattle.kc_faults.specs.declared.fault.TextFault.{TextFault}
+use Rattle.kc_faults.specs.declared.fault.TextFault.TheVariants as texts
+use Rattle.kc_cli.specs.Audit.{Audits, BeginsAudit, IsDumpFault}
+use Rattle.kc_texts.specs.Ends.{Seen, seen}
+use Rattle.kc_faults.specs.Outcomes.{TellsSources, TellsTexts, TellsReplay, TellsSink}
+use Rattle.kc_texts.specs.Written.{Writes, Begins}
 use Rattle.kc_redact_text.specs.Redacts.{Redacts, BeginsRedaction, IsRedactFault, IsHostRedacted, IsHostRedactFault}
 use Rattle.kc_cli.specs.declared.order.ReplayForm.{ReplayForm}
 use Rattle.kc_cli.specs.declared.account.CustodyForm.{CustodyForm}
@@ -163,7 +164,7 @@ pub record ReadsFile {S : Type 0} (left : S → Option (List ℕ)) (failed : S �
   pub new : S
   pub bytes : left old ≡ ends.held path.now
   pub unread : ends.unread
-  pub ending : IsEnding action (ends_of ends.held ends.refused (seen (failed new) (left old) (left new)) (new ≡ old) ends.out ends.untouched) ended
+  pub ending : IsEnding action (ends_of ends.held ends.refused (seen failed left old new) (new ≡ old) ends.out ends.untouched) ended
 
 -- how it ended over the file that is named, or over standard input if none is
 abbrev pub IsEndingOf : {S : Type 0} → (S → Option (List ℕ)) → (S → Bool) → Option Path → Action → Ends → Ended → Type 0

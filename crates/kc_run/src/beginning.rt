@@ -72,7 +72,8 @@ pub(crate) fn begin<F: Files>(
     start: Start<'_>,
 ) -> Result<Beginning<F::File>, TextFault>
     requires { F.refused files.old ≡ None }
-    ensures text { IfOk result (λ beginning. left_of F.File.left beginning ≡ text_at (F.held files.old) (path_of start.entry)) }
+    ensures text { IfOk result
+        (λ beginning. left_of F.File.left beginning ≡ text_at (F.held files.old) (path_of start.entry)) }
     ensures ready { IfOk result (λ beginning. failed_of F.File.failed beginning ≡ false) }
     ensures opened { OnOk result (F.refused files.new ≡ None) }
     ensures fault { IfErr result (IsOpenFault (path_of start.entry) (F.refused files.new)) }

@@ -1,6 +1,7 @@
 //! How the program ends: its exit status, and what it reports on the error sink.
-ghost use Rattle.std.specs.Prelude.{◌≡◌, ℕ, take, false, true, None};
+ghost use Rattle.std.specs.Prelude.{◌≡◌, false, true, None};
 ghost use Rattle.std.specs.Io.KnownBytes.{Appends};
+ghost use Rattle.kc_texts.specs.Written.{AppendsBeginning};
 ghost use Rattle.kc_remarks.specs.Denials.{is_mostly_outside};
 ghost use Rattle.kc_args.specs.Clashes.{clash_text};
 ghost use Rattle.kc_run.specs.Endings.{Takes, took, status_after, fault_in, answered_in, IsWarned, IsReported};
@@ -51,7 +52,7 @@ impl Exit {
 fn say<L: Sink>(text: &str, err: &mut L)
     requires { L.failed err.old ≡ false }
     ensures whole { L.failed err.new ≡ false → Appends (L.taken err.old) (L.taken err.new) text.now }
-    ensures begun { L.failed err.new ≡ true → (n : ℕ) × Appends (L.taken err.old) (L.taken err.new) (take n text.now) }
+    ensures begun { L.failed err.new ≡ true → AppendsBeginning (L.taken err.old) (L.taken err.new) text.now }
 {
     let _ = write_whole(err, text.as_bytes());
 }
@@ -59,7 +60,7 @@ fn say<L: Sink>(text: &str, err: &mut L)
 /// Warns of a trace that may be of another machine.
 fn warn<L: Sink>(answered: &Answered, err: &mut L)
     requires { L.failed err.old ≡ false }
-    ensures { IsWarned (is_mostly_outside answered.now) (took (L.failed err.new) (L.taken err.old) (L.taken err.new)) (err.new ≡ err.old) }
+    ensures { IsWarned (is_mostly_outside answered.now) (took L.failed L.taken err.old err.new) (err.new ≡ err.old) }
 {
     if answered.is_mostly_outside() {
         say(
@@ -75,7 +76,7 @@ pub(crate) fn end<L: Sink>(ended: Result<Ending, TextFault>, err: &mut L) -> Exi
     ensures status { result.status ≡ status_after ended }
     ensures fault { result.fault ≡ fault_in ended }
     ensures answered { result.answered ≡ answered_in ended }
-    ensures reported { IsReported ended (took (L.failed err.new) (L.taken err.old) (L.taken err.new)) (err.new ≡ err.old) }
+    ensures reported { IsReported ended (took L.failed L.taken err.old err.new) (err.new ≡ err.old) }
 {
     match ended {
         Ok(Ending::Done) => Exit::with_status(0),
@@ -110,7 +111,7 @@ pub fn refuse<L: Sink>(clash: Clash, err: &mut L) -> Exit
     ensures status { result.status ≡ 2 }
     ensures fault { result.fault ≡ None }
     ensures answered { result.answered ≡ None }
-    ensures reported { Takes (took (L.failed err.new) (L.taken err.old) (L.taken err.new)) (clash_text clash) }
+    ensures reported { Takes (took L.failed L.taken err.old err.new) (clash_text clash) }
 {
     say(clash.text().as_str(), err);
     Exit::with_status(2)

@@ -1,6 +1,6 @@
 //! The engines, over the files that a job names, an input and a sink.
 ghost use Rattle.std.specs.Prelude.{◌≡◌, false, None};
-ghost use Rattle.kc_texts.specs.Outcomes.{seen};
+ghost use Rattle.kc_texts.specs.Ends.{seen};
 ghost use Rattle.kc_args.specs.Jobs.{origin_at, form_of, start_in};
 ghost use Rattle.kc_run.specs.Opening.{Held};
 ghost use Rattle.kc_run.specs.Endings.{took, done_as, answered_as, ending_of, judged_as};
@@ -66,7 +66,8 @@ fn judged(answer: Result<bool, TextFault>, other: Ending) -> Result<Ending, Text
     }
 }
 
-/// Replays the trace from an open start, and compares the state that it leaves with what the file `to` holds, if it is named.
+/// Replays the trace from an open start, and compares the state that it leaves with what the file `to` holds, if it is
+/// named.
 fn replay_to<F: Files, C: Source, T: Source, K: Sink, R: Threads + Wait + Sync>(
     system: &System<'_, R>,
     files: &mut F,
@@ -80,7 +81,10 @@ fn replay_to<F: Files, C: Source, T: Source, K: Sink, R: Threads + Wait + Sync>(
     requires start { C.failed start.old ≡ false }
     requires input { T.failed input.old ≡ false }
     requires out { K.failed out.old ≡ false }
-    ensures { ReplaysTo order.origin order.form order.is_blank order.workers to.entry (seen (C.failed start.new) (C.left start.old) (C.left start.new)) (ends_of (F.held files.old) (F.refused files.new) (seen (T.failed input.new) (T.left input.old) (T.left input.new)) (input.new ≡ input.old) (took (K.failed out.new) (K.taken out.old) (K.taken out.new)) (out.new ≡ out.old)) result }
+    ensures { ReplaysTo order.origin order.form order.is_blank order.workers to.entry
+        (seen C.failed C.left start.old start.new)
+        (ends_of (F.held files.old) (F.refused files.new) (seen T.failed T.left input.old input.new)
+        (input.new ≡ input.old) (took K.failed K.taken out.old out.new) (out.new ≡ out.old)) result }
 {
     let Some(path) = to else {
         return done(replay_text(system.threads, system.alloc, start, input, out, order));
@@ -114,7 +118,9 @@ pub(crate) fn replay<F: Files, T: Source, K: Sink, R: Threads + Wait + Sync>(
     requires files { F.refused files.old ≡ None }
     requires input { T.failed input.old ≡ false }
     requires out { K.failed out.old ≡ false }
-    ensures { BeginsAt start.entry (ReplaysTo order.origin order.form order.is_blank order.workers to.entry) (ends_of (F.held files.old) (F.refused files.new) (seen (T.failed input.new) (T.left input.old) (T.left input.new)) (input.new ≡ input.old) (took (K.failed out.new) (K.taken out.old) (K.taken out.new)) (out.new ≡ out.old)) result }
+    ensures { BeginsAt start.entry (ReplaysTo order.origin order.form order.is_blank order.workers to.entry)
+        (ends_of (F.held files.old) (F.refused files.new) (seen T.failed T.left input.old input.new)
+        (input.new ≡ input.old) (took K.failed K.taken out.old out.new) (out.new ≡ out.old)) result }
 {
     let mut beginning = begin(system.alloc, files, start)?;
     let ended = replay_to(system, files, &mut beginning, input, to, out, order);
@@ -135,7 +141,9 @@ pub(crate) fn custody<F: Files, T: Source, K: Sink, R: Threads + Wait + Sync>(
     requires files { F.refused files.old ≡ None }
     requires input { T.failed input.old ≡ false }
     requires out { K.failed out.old ≡ false }
-    ensures { BeginsAt (start_in account.entry) (ReportsCustody (form_of account.entry) scope) (ends_of (F.held files.old) (F.refused files.new) (seen (T.failed input.new) (T.left input.old) (T.left input.new)) (input.new ≡ input.old) (took (K.failed out.new) (K.taken out.old) (K.taken out.new)) (out.new ≡ out.old)) result }
+    ensures { BeginsAt (start_in account.entry) (ReportsCustody (form_of account.entry) scope)
+        (ends_of (F.held files.old) (F.refused files.new) (seen T.failed T.left input.old input.new)
+        (input.new ≡ input.old) (took K.failed K.taken out.old out.new) (out.new ≡ out.old)) result }
 {
     let form = account.form();
     let mut beginning = begin(system.alloc, files, account.start())?;
@@ -169,7 +177,9 @@ pub(crate) fn live<F: Files, T: Source, K: Sink, R: Threads + Wait + Sync>(
     requires files { F.refused files.old ≡ None }
     requires input { T.failed input.old ≡ false }
     requires out { K.failed out.old ≡ false }
-    ensures { BeginsAt (Start.Boot config.entry) (RunsLive workers) (ends_of (F.held files.old) (F.refused files.new) (seen (T.failed input.new) (T.left input.old) (T.left input.new)) (input.new ≡ input.old) (took (K.failed out.new) (K.taken out.old) (K.taken out.new)) (out.new ≡ out.old)) result }
+    ensures { BeginsAt (Start.Boot config.entry) (RunsLive workers)
+        (ends_of (F.held files.old) (F.refused files.new) (seen T.failed T.left input.old input.new)
+        (input.new ≡ input.old) (took K.failed K.taken out.old out.new) (out.new ≡ out.old)) result }
 {
     let mut beginning = begin(system.alloc, files, Start::Boot(config))?;
     let answer = live_text(
@@ -195,7 +205,8 @@ pub(crate) fn audit<T: Source, K: Sink, R: Threads + Wait + Sync>(
 ) -> Result<Ending, TextFault>
     requires input { T.failed input.old ≡ false }
     requires out { K.failed out.old ≡ false }
-    ensures { (held : Held) → AuditsDump all (ends_of held None (seen (T.failed input.new) (T.left input.old) (T.left input.new)) (input.new ≡ input.old) (took (K.failed out.new) (K.taken out.old) (K.taken out.new)) (out.new ≡ out.old)) result }
+    ensures { (held : Held) → AuditsDump all (ends_of held None (seen T.failed T.left input.old input.new)
+        (input.new ≡ input.old) (took K.failed K.taken out.old out.new) (out.new ≡ out.old)) result }
 {
     judged(
         audit_text(system.threads, system.alloc, input, all, out),
@@ -212,7 +223,8 @@ pub(crate) fn redact<T: Source, K: Sink>(
 ) -> Result<Ending, TextFault>
     requires input { T.failed input.old ≡ false }
     requires out { K.failed out.old ≡ false }
-    ensures { (held : Held) → RedactsTrace (ends_of held None (seen (T.failed input.new) (T.left input.old) (T.left input.new)) (input.new ≡ input.old) (took (K.failed out.new) (K.taken out.old) (K.taken out.new)) (out.new ≡ out.old)) result }
+    ensures { (held : Held) → RedactsTrace (ends_of held None (seen T.failed T.left input.old input.new)
+        (input.new ≡ input.old) (took K.failed K.taken out.old out.new) (out.new ≡ out.old)) result }
 {
     done(redact_text(alloc, input, out))
 }
@@ -229,7 +241,9 @@ pub(crate) fn redact_host<F: Files, T: Source, K: Sink, R: Threads + Wait + Sync
     requires files { F.refused files.old ≡ None }
     requires input { T.failed input.old ≡ false }
     requires out { K.failed out.old ≡ false }
-    ensures { BeginsAt start.entry (RedactsHost (origin_at start.entry)) (ends_of (F.held files.old) (F.refused files.new) (seen (T.failed input.new) (T.left input.old) (T.left input.new)) (input.new ≡ input.old) (took (K.failed out.new) (K.taken out.old) (K.taken out.new)) (out.new ≡ out.old)) result }
+    ensures { BeginsAt start.entry (RedactsHost (origin_at start.entry))
+        (ends_of (F.held files.old) (F.refused files.new) (seen T.failed T.left input.old input.new)
+        (input.new ≡ input.old) (took K.failed K.taken out.old out.new) (out.new ≡ out.old)) result }
 {
     let origin = start.origin();
     let mut beginning = begin(system.alloc, files, start)?;

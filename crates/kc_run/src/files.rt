@@ -17,7 +17,7 @@ pub trait Files {
     /// A file that is open to be read.
     type File: Source + Drop;
 
-    /// The bytes of the file at a path, where the files tell them.
+    /// The bytes of the file at a path, if the files report them.
     ghost held: { Self → List ℕ → Option (List ℕ) };
 
     /// The path of the file that could not be opened, if there is one. After that none is opened.

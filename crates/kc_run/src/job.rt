@@ -1,6 +1,6 @@
 //! A run of the program.
 ghost use Rattle.std.specs.Prelude.{◌≡◌, false, None};
-ghost use Rattle.kc_texts.specs.Outcomes.{seen};
+ghost use Rattle.kc_texts.specs.Ends.{seen};
 ghost use Rattle.kc_run.specs.Endings.{took};
 ghost use Rattle.kc_run.specs.Run.{ends_of, IsEnding, IsEndingOf, IsRun};
 
@@ -24,7 +24,9 @@ fn run_action<F: Files, T: Source, K: Sink, R: Threads + Wait + Sync>(
     requires files { F.refused files.old ≡ None }
     requires input { T.failed input.old ≡ false }
     requires out { K.failed out.old ≡ false }
-    ensures { IsEnding action.entry (ends_of (F.held files.old) (F.refused files.new) (seen (T.failed input.new) (T.left input.old) (T.left input.new)) (input.new ≡ input.old) (took (K.failed out.new) (K.taken out.old) (K.taken out.new)) (out.new ≡ out.old)) result }
+    ensures { IsEnding action.entry
+        (ends_of (F.held files.old) (F.refused files.new) (seen T.failed T.left input.old input.new)
+        (input.new ≡ input.old) (took K.failed K.taken out.old out.new) (out.new ≡ out.old)) result }
 {
     match action {
         Action::Replay {
@@ -63,7 +65,9 @@ fn run_over<F: Files, T: Source, K: Sink, R: Threads + Wait + Sync>(
     requires files { F.refused files.old ≡ None }
     requires input { T.failed input.old ≡ false }
     requires out { K.failed out.old ≡ false }
-    ensures { IsEndingOf F.File.left F.File.failed path.entry action.entry (ends_of (F.held files.old) (F.refused files.new) (seen (T.failed input.new) (T.left input.old) (T.left input.new)) (input.new ≡ input.old) (took (K.failed out.new) (K.taken out.old) (K.taken out.new)) (out.new ≡ out.old)) result }
+    ensures { IsEndingOf F.File.left F.File.failed path.entry action.entry
+        (ends_of (F.held files.old) (F.refused files.new) (seen T.failed T.left input.old input.new)
+        (input.new ≡ input.old) (took K.failed K.taken out.old out.new) (out.new ≡ out.old)) result }
 {
     let Some(path) = path else {
         return run_action(system, files, action, input, out);
@@ -74,9 +78,9 @@ fn run_over<F: Files, T: Source, K: Sink, R: Threads + Wait + Sync>(
     ended
 }
 
-/// Does what a job asks for: opens the files that it names, reads its input, which is one of these or standard input, writes onto
-/// the sink what is asked for, and onto the error sink the line of a fault, of another state, or of a trace that may be of
-/// another machine. Each file that was opened is given back.
+/// Does what a job asks for: opens the files that it names, reads its input, which is one of these or standard input,
+/// writes onto the sink what is asked for, and onto the error sink the line of a fault, of another state, or of a
+/// trace that may be of another machine. Each file that was opened is given back.
 pub fn run_job<F: Files, T: Source, K: Sink, L: Sink, R: Threads + Wait + Sync>(
     system: &System<'_, R>,
     files: &mut F,
@@ -89,7 +93,10 @@ pub fn run_job<F: Files, T: Source, K: Sink, L: Sink, R: Threads + Wait + Sync>(
     requires input { T.failed input.old ≡ false }
     requires out { K.failed out.old ≡ false }
     requires err { L.failed err.old ≡ false }
-    ensures { IsRun F.File.left F.File.failed job.entry (ends_of (F.held files.old) (F.refused files.new) (seen (T.failed input.new) (T.left input.old) (T.left input.new)) (input.new ≡ input.old) (took (K.failed out.new) (K.taken out.old) (K.taken out.new)) (out.new ≡ out.old)) (took (L.failed err.new) (L.taken err.old) (L.taken err.new)) (err.new ≡ err.old) result.status result.fault result.answered }
+    ensures { IsRun F.File.left F.File.failed job.entry
+        (ends_of (F.held files.old) (F.refused files.new) (seen T.failed T.left input.old input.new)
+        (input.new ≡ input.old) (took K.failed K.taken out.old out.new) (out.new ≡ out.old))
+        (took L.failed L.taken err.old err.new) (err.new ≡ err.old) result.status result.fault result.answered }
 {
     let ended = run_over(system, files, job.input, job.action, input, out);
     end(ended, err)

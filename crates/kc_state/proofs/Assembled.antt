@@ -16,9 +16,8 @@ use Rattle.kc_model.specs.Links.{link_at}
 use Rattle.kc_page.specs.declared.page.Page.{Page}
 use Rattle.kc_page.specs.Page.{frame_of}
 use Rattle.kc_vms.specs.Vm.{VmSlot}
-use Rattle.kc_parts.specs.Parts.{Held, page_at, vm_at}
+use Rattle.kc_parts.specs.Parts.{Held, page_at, vm_at, links_of}
 use Rattle.kc_parts.specs.States.{frame_in, slot_in, unlinked_slot, state_of}
-use Rattle.kc_parts.specs.Parts.{links_of}
 use Rattle.kc_parts.specs.Booting.{parts_of, IsWhole}
 use Rattle.kc_parts.proofs.Whole.{whole-page, whole-vm, whole-parts}
 use Rattle.kc_parts.proofs.Seen.{frame-seen}
@@ -31,7 +30,7 @@ use Rattle.kc_dump.specs.declared.line.FrameLine.{FrameLine}
 use Rattle.kc_dump.specs.Dump.{Dumped, SlotDump, absent_line, line_at, empty_dump, slot_dump_at}
 use Rattle.kc_dump.specs.Sound.{IsSoundFrame}
 use Rattle.sha2.specs.Sha256.{sha256}
-use Rattle.kc_state.specs.Dumping.{frame_line, frame_lines, slot_dump, dump_of}
+use Rattle.kc_dumping.specs.Dumping.{frame_line, frame_lines, slot_dump, dump_of}
 use Rattle.kc_state.specs.Told.{Told, SlotRest, slot_rest, told_of, config_of}
 use Rattle.kc_state.specs.Unlawful.{IsSized, slot_rest_at, page_of}
 use Rattle.kc_state.specs.Making.{IsJudged, IsVmTold, IsPlaceTold, AreVmsTold, page_told}

@@ -1,7 +1,3 @@
-pub mod Digests
-pub mod Drawn
-pub mod InRange
-mod Made
 pub mod OneState
 mod Mapped
 mod Mappings
@@ -9,4 +5,3 @@ mod Shows
 mod Shown
 mod Assembled
 mod Refused
-pub mod InForm

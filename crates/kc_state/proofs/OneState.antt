@@ -5,7 +5,7 @@ use Rattle.std.specs.Option.{option_map}
 use Rattle.std.specs.FinMap as finite
 use Rattle.std.proofs.lemmas.List.{ext_get_or, get_or-map, length-map}
 use Rattle.std.proofs.lemmas.Option.{slice_get-get_or}
-use Rattle.kc_types.specs.Configuration.{slot_count}
+use Rattle.kc_types.specs.Configuration.{slot_count, Configuration}
 use Rattle.kc_types.specs.declared.owner.Owner.{Owner}
 use Rattle.kc_types.specs.declared.owner.Owner.TheVariants.{Core, Host, Free, Vm}
 use Rattle.kc_model.specs.State.{State, Frame, Slot, frame_at, slot_at, untouched, empty_slot}
@@ -18,9 +18,8 @@ use Rattle.kc_links.proofs.Chains.{chain-listed}
 use Rattle.kc_links.proofs.Neighbours.{chain-each}
 use Rattle.kc_dump.specs.declared.line.FrameLine.{FrameLine}
 use Rattle.kc_dump.specs.Dump.{Dumped, SlotDump, absent_line, line_at, line_link, line_links, empty_dump, slot_dump_at}
-use Rattle.kc_state.specs.Dumping.{frame_line, slot_dump, dump_of}
-use Rattle.kc_state.proofs.Drawn.{long, line-low, slot-low, slots, below, member, at-most}
-use Rattle.kc_types.specs.Configuration.{Configuration}
+use Rattle.kc_dumping.specs.Dumping.{frame_line, slot_dump, dump_of}
+use Rattle.kc_dumping.proofs.Drawn.{long, line-low, slot-low, slots, below, member, at-most}
 use Rattle.kc_state.specs.Told.{Told, SlotRest, slot_rest, told_of, config_of}
 
 module _ (m : State) (is : IsLawful m) where

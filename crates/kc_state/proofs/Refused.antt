@@ -14,10 +14,10 @@ use Rattle.kc_audit.specs.Findings.{AreFindings}
 use Rattle.kc_audit.proofs.AllSound.{none-sound}
 use Rattle.kc_state.specs.declared.unlawful.Unlawful.{Unlawful}
 use Rattle.kc_state.specs.declared.unlawful.Unlawful.TheVariants as unlawful
-use Rattle.kc_state.specs.Dumping.{frame_line, slot_dump, dump_of}
+use Rattle.kc_dumping.specs.Dumping.{frame_line, slot_dump, dump_of}
 use Rattle.kc_state.specs.Told.{SlotRest, slot_rest, told_of}
 use Rattle.kc_state.specs.Unlawful.{IsSized, IsSlotOf, IsFrameOf, IsSlotTold, IsFrameTold, IsUnlawful, slot_rest_at, page_of}
-use Rattle.kc_state.proofs.Drawn.{long, line-low, slot-low, slots, sound-drawn}
+use Rattle.kc_dumping.proofs.Drawn.{long, line-low, slot-low, slots, sound-drawn}
 use Rattle.kc_state.proofs.OneState.{config-told}
 use Rattle.kc_state.proofs.Mapped.{entry-key}
 

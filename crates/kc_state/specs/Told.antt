@@ -3,7 +3,7 @@ use Rattle.std.specs.Prelude.{ℕ, List, length, map}
 use Rattle.kc_types.specs.Configuration.{Configuration}
 use Rattle.kc_model.specs.State.{State, Frame, Slot, Vcpu, Image}
 use Rattle.kc_dump.specs.Dump.{Dumped}
-use Rattle.kc_state.specs.Dumping.{dump_of}
+use Rattle.kc_dumping.specs.Dumping.{dump_of}
 
 -- what a dump leaves out of a slot: its virtual processors, and its images
 pub record SlotRest : Type 0 where

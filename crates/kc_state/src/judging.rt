@@ -7,13 +7,13 @@ ghost use Rattle.kc_state.specs.Told.{config_of};
 ghost use Rattle.kc_state.specs.Unlawful.{IsSized, IsUnlawful, AreSlotsTold};
 ghost use Rattle.kc_state.specs.Making.{IsJudged};
 
-use crate::digesting::bytes_digests_alone;
 use crate::frames::first_wrong_frame;
 use crate::slots::first_wrong_slot;
 use crate::told::Told;
 use crate::unlawful::Unlawful;
 use kc_audit::{Finding, audit, audit_parallel};
 use kc_digests::{Lanes, bytes_digests};
+use kc_dumping::bytes_digests_alone;
 use kc_types::Config;
 use std::alloc::Global;
 use std::thread::Threads;

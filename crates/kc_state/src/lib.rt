@@ -1,15 +1,11 @@
-//! A core as a dump and what a dump leaves out, and a core that is made from these again.
+//! A state as its dump and what that leaves out, and a core that is made from these again.
 //!
-//! - how a core is dumped: `specs/Dumping.antt`, `src/dumping.rt`
 //! - what a dump leaves out of a state, and when a description is that of no lawful state: `specs/Told.antt`,
 //!   `specs/Unlawful.antt`
 //! - how a core is made from a description, and what is judged first: `src/making.rt`, `src/judging.rt`,
 //!   `src/slots.rt`, `src/frames.rt`
 #![tactic(auto)]
 
-mod digesting;
-mod dumping;
-mod form;
 mod frames;
 mod judging;
 pub mod laws;
@@ -18,8 +14,6 @@ mod slots;
 mod told;
 mod unlawful;
 
-pub use dumping::{dump, dump_alone};
-pub use form::{StateForm, bytes_in};
 pub use making::{core_alone, core_of};
 pub use told::{SlotRest, Told};
 pub use unlawful::Unlawful;

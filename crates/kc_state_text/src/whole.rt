@@ -1,14 +1,14 @@
 //! The whole text of a core's state, made by the calling thread.
 ghost use Rattle.std.specs.Prelude.{◌≡◌, ◌≤◌, ◌++◌, vec_capacity, IfOk, OnOk};
 ghost use Rattle.sha2.specs.Sha256.{sha256};
-ghost use Rattle.kc_state.specs.Form.{in_form};
+ghost use Rattle.kc_dumping.specs.Form.{in_form};
 ghost use Rattle.kc_state_text.specs.StateText.{state_text};
 ghost use Rattle.kc_state_text.specs.Pieces.{longest_page_line, to_come};
 
 use crate::pieces::StatePieces;
 use crate::writing::push_short;
 use kc_core::KCore;
-use kc_state::StateForm;
+use kc_dumping::StateForm;
 use kc_types::{Memory, SecretBytes};
 use sha2::{Digest, Sha256};
 use std::alloc::Global;

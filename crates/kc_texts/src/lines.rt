@@ -1,11 +1,12 @@
 //! Giving text to a sink: whole, or in lines, a piece at a time.
-ghost use Rattle.std.specs.Prelude.{◌≡◌, ◌≤◌, ◌+◌, ◌++◌, ◌∷◌, [], false, ℕ, List, take, vec_len, vec_capacity, is_err, IfOk, OnOk, OnErr};
+ghost use Rattle.std.specs.Prelude.{◌≡◌, ◌≤◌, ◌+◌, ◌++◌, ◌∷◌, [], false, ℕ, List, vec_len, vec_capacity, is_err, IfOk, OnOk, OnErr};
 ghost use Rattle.std.specs.List.{flat_map};
 ghost use Rattle.std.specs.Io.KnownBytes.{Appends};
 ghost use Rattle.kc_trace.specs.CustodyText.{event_line};
 ghost use Rattle.kc_trace.specs.RemarkText.{note_line};
 ghost use Rattle.kc_trace.specs.ReplyText.{reply_line_of, reply_text_of};
 ghost use Rattle.kc_trace.specs.Spelling.{line_of, trace_of, longest_call};
+ghost use Rattle.kc_texts.specs.Written.{AppendsBeginning};
 
 use crate::source::{Failed, PIECE, Sink};
 use kc_remarks::Note;
@@ -20,7 +21,7 @@ use std::alloc::Global;
 pub fn write_whole<S: Sink>(sink: &mut S, bytes: &[u8]) -> Result<(), Failed>
     requires { S.failed sink.old ≡ false }
     ensures ok { OnOk result (Appends (S.taken sink.old) (S.taken sink.new) bytes.now) }
-    ensures begun { OnErr result ((n : ℕ) × Appends (S.taken sink.old) (S.taken sink.new) (take n bytes.now)) }
+    ensures begun { OnErr result (AppendsBeginning (S.taken sink.old) (S.taken sink.new) bytes.now) }
     ensures mark { S.failed sink.new ≡ is_err result }
 {
     let mut rest = bytes;
@@ -102,8 +103,10 @@ pub fn give_lines<K: Sink, L: Line + Drop>(
 ) -> Result<(), Failed>
     requires out { K.failed out.old ≡ false }
     requires room { longest_call ≤ vec_capacity piece }
-    ensures ok { OnOk result (Appends (K.taken out.old) (K.taken out.new) (piece.items ++ flat_map L.line lines.items)) }
-    ensures begun { OnErr result ((n : ℕ) × Appends (K.taken out.old) (K.taken out.new) (take n (piece.items ++ flat_map L.line lines.items))) }
+    ensures ok { OnOk result
+        (Appends (K.taken out.old) (K.taken out.new) (piece.items ++ flat_map L.line lines.items)) }
+    ensures begun { OnErr result
+        (AppendsBeginning (K.taken out.old) (K.taken out.new) (piece.items ++ flat_map L.line lines.items)) }
     ensures mark { K.failed out.new ≡ is_err result }
 {
     for line in lines {
@@ -123,7 +126,7 @@ pub fn give_replies<K: Sink>(out: &mut K, piece: Vec<u8>, replies: Vec<Reply>) -
     requires empty { piece.items ≡ [] }
     requires room { longest_call ≤ vec_capacity piece }
     ensures ok { OnOk result (Appends (K.taken out.old) (K.taken out.new) (reply_text_of replies.items)) }
-    ensures begun { OnErr result ((n : ℕ) × Appends (K.taken out.old) (K.taken out.new) (take n (reply_text_of replies.items))) }
+    ensures begun { OnErr result (AppendsBeginning (K.taken out.old) (K.taken out.new) (reply_text_of replies.items)) }
     ensures mark { K.failed out.new ≡ is_err result }
 {
     give_lines(out, piece, replies)
@@ -136,7 +139,7 @@ pub fn give_trace<K: Sink>(out: &mut K, mut piece: Vec<u8>, calls: Vec<Call>) ->
     requires empty { piece.items ≡ [] }
     requires room { longest_call ≤ vec_capacity piece }
     ensures ok { OnOk result (Appends (K.taken out.old) (K.taken out.new) (trace_of calls.items)) }
-    ensures begun { OnErr result ((n : ℕ) × Appends (K.taken out.old) (K.taken out.new) (take n (trace_of calls.items))) }
+    ensures begun { OnErr result (AppendsBeginning (K.taken out.old) (K.taken out.new) (trace_of calls.items)) }
     ensures mark { K.failed out.new ≡ is_err result }
 {
     push_header(&mut piece, version_of(&calls));

@@ -45,7 +45,8 @@ impl Source for Mem {
 
     fn read(&mut self, buffer: &mut [u8]) -> Result<usize, Failed>
         requires { self.old.failed ≡ false }
-        ensures bytes { ReadConsumes (Some (drop self.old.position self.old.bytes.items)) (Some (drop self.new.position self.new.bytes.items)) result buffer.new }
+        ensures bytes { ReadConsumes (Some (drop self.old.position self.old.bytes.items))
+            (Some (drop self.new.position self.new.bytes.items)) result buffer.new }
         ensures bound { IfOk result (λ n. n ≤ length buffer.new) }
         ensures mark { self.new.failed ≡ is_err result }
         // Bytes in memory can always be read.

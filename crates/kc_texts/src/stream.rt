@@ -128,7 +128,9 @@ impl CallStream {
 
     /// The SHA-256 digest (FIPS 180-4) of what was read so far, if the bytes are hashed.
     pub fn digest(&self) -> Option<[u8; 32]>
-        ensures digest { (bytes : List ℕ) (calls : List Call) (first now : Option (List ℕ)) → HasRead self.now bytes calls first now → IsAtEnd now → IfSome result (λ digest. IfSome first (λ text. digest ≡ sha256 text)) }
+        ensures digest { (bytes : List ℕ) (calls : List Call) (first now : Option (List ℕ))
+            → HasRead self.now bytes calls first now → IsAtEnd now
+            → IfSome result (λ digest. IfSome first (λ text. digest ≡ sha256 text)) }
         ensures some { is_some result ≡ is_some self.now.hasher }
     {
         match &self.hasher {
@@ -150,13 +152,16 @@ impl CallStream {
         buffer: &mut [u8; PIECE],
     ) -> Result<NextCalls, ReadFault>
         requires { T.failed source.old ≡ false }
-        ensures calls { IfOk result (λ part. GoesOn self.old self.new (T.left source.old) (T.left source.new) part.calls.items) }
+        ensures calls { IfOk result
+            (λ part. GoesOn self.old self.new (T.left source.old) (T.left source.new) part.calls.items) }
         ensures last { IfOk result (λ part. part.is_last ≡ true → IsAtEnd (T.left source.new)) }
         ensures more { IfOk result (λ part. part.is_last ≡ false → self.old.total < self.new.total) }
         ensures few { self.new.total ≤ byte_limit }
         ensures hashed { is_some self.new.hasher ≡ is_some self.old.hasher }
         ensures mark { OnOk result (T.failed source.new ≡ false) }
-        ensures read { result ≡ Err ReadFault.Read → (bytes : List ℕ) (calls : List Call) (first : Option (List ℕ)) → HasRead self.old bytes calls first (T.left source.old) → ReadFailed (T.failed source.new) first (T.left source.new) }
+        ensures read { result ≡ Err ReadFault.Read → (bytes : List ℕ) (calls : List Call) (first : Option (List ℕ))
+            → HasRead self.old bytes calls first (T.left source.old)
+            → ReadFailed (T.failed source.new) first (T.left source.new) }
         // A read that failed is never reported as out of memory.
         ensures memory { result ≡ Err ReadFault.Memory → T.failed source.new ≡ false }
     {
@@ -199,8 +204,11 @@ impl CallStream {
 
     /// Whether what was read is a trace, once the source has no more bytes.
     pub fn finish(self) -> Result<(), TraceFault>
-        ensures ok { OnOk result ((bytes : List ℕ) (calls : List Call) (first now : Option (List ℕ)) → HasRead self bytes calls first now → IsAtEnd now → IfSome first (λ text. IsTrace text calls)) }
-        ensures trace { (fault : TraceFault) → result ≡ Err fault → (bytes : List ℕ) (calls : List Call) (first now : Option (List ℕ)) → HasRead self bytes calls first now → IsAtEnd now → IfSome first (λ text. IsRefused text fault) }
+        ensures ok { OnOk result ((bytes : List ℕ) (calls : List Call) (first now : Option (List ℕ))
+            → HasRead self bytes calls first now → IsAtEnd now → IfSome first (λ text. IsTrace text calls)) }
+        ensures trace { (fault : TraceFault) → result ≡ Err fault
+            → (bytes : List ℕ) (calls : List Call) (first now : Option (List ℕ))
+            → HasRead self bytes calls first now → IsAtEnd now → IfSome first (λ text. IsRefused text fault) }
         // Out of memory is not a fault of the trace.
         ensures told { result ≢ Err TraceFault.Memory }
     {
@@ -214,13 +222,16 @@ pub fn read_calls<T: Source>(alloc: Global, source: &mut T) -> Result<Vec<Call>,
     ensures ok { IfOk result (λ calls. IfSome (T.left source.old) (λ text. IsTrace text calls.items)) }
     ensures short { IfOk result (λ calls. length calls.items ≤ call_limit) }
     ensures ended { OnOk result (IsAtEnd (T.left source.new)) }
-    ensures trace { (fault : TraceFault) → result ≡ Err (StreamFault.Trace fault) → IfSome (T.left source.old) (λ text. IsRefused text fault) × IsAtEnd (T.left source.new) }
-    ensures read { result ≡ Err StreamFault.Read → ReadFailed (T.failed source.new) (T.left source.old) (T.left source.new) }
+    ensures trace { (fault : TraceFault) → result ≡ Err (StreamFault.Trace fault)
+        → IfSome (T.left source.old) (λ text. IsRefused text fault) × IsAtEnd (T.left source.new) }
+    ensures read { result ≡ Err StreamFault.Read
+        → ReadFailed (T.failed source.new) (T.left source.old) (T.left source.new) }
     // Out of memory is not a fault of the trace.
     ensures told { result ≢ Err (StreamFault.Trace TraceFault.Memory) }
     // A read that failed is reported as nothing else, and too many bytes as nothing else but out of memory.
     ensures failure { T.failed source.new ≡ true → result ≡ Err StreamFault.Read }
-    ensures few { result ≢ Err StreamFault.Read → result ≢ Err StreamFault.Memory → IfSome (T.left source.old) (λ text. length text ≤ byte_limit) }
+    ensures few { result ≢ Err StreamFault.Read → result ≢ Err StreamFault.Memory
+        → IfSome (T.left source.old) (λ text. length text ≤ byte_limit) }
 {
     let mut buffer = [0u8; PIECE];
     let mut stream = CallStream::new();

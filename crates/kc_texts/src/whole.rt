@@ -1,5 +1,5 @@
 //! All that a source has.
-ghost use Rattle.std.specs.Prelude.{◌≡◌, ◌<◌, ◌≤◌, false, ℕ, length, take, is_err, IfOk, OnOk, OnErr};
+ghost use Rattle.std.specs.Prelude.{◌≡◌, ◌<◌, ◌≤◌, false, ℕ, length, take, is_err, IfOk, OnOk};
 ghost use Rattle.std.specs.Io.KnownBytes.{Consumes, IsAtEnd};
 ghost use Rattle.kc_texts.specs.Ends.{ReadFailed};
 ghost use Rattle.kc_types.specs.Limits.{byte_limit};
@@ -29,7 +29,8 @@ pub fn read_whole<S: Source>(alloc: Global, source: &mut S) -> Result<Vec<u8>, R
     ensures mark { OnOk result (S.failed source.new ≡ false) }
     // A read that failed is never reported as out of memory.
     ensures memory { result ≡ Err ReadFault.Memory → S.failed source.new ≡ false }
-    ensures read { result ≡ Err ReadFault.Read → ReadFailed (S.failed source.new) (S.left source.old) (S.left source.new) }
+    ensures read { result ≡ Err ReadFault.Read
+        → ReadFailed (S.failed source.new) (S.left source.old) (S.left source.new) }
 {
     let mut buffer = [0u8; PIECE];
     let mut all = Vec::new(alloc);
@@ -78,7 +79,8 @@ fn read_into<S: Source>(
     ensures ended { OnOk result (IsAtEnd (S.left source.new)) }
     ensures mark { OnOk result (S.failed source.new ≡ false) }
     ensures memory { result ≡ Err ReadFault.Memory → S.failed source.new ≡ false }
-    ensures read { result ≡ Err ReadFault.Read → ReadFailed (S.failed source.new) (S.left source.old) (S.left source.new) }
+    ensures read { result ≡ Err ReadFault.Read
+        → ReadFailed (S.failed source.new) (S.left source.old) (S.left source.new) }
 {
     let awaited = source.size_hint();
     let mut used = 0;
@@ -109,7 +111,8 @@ pub fn read_secret<S: Source>(alloc: Global, source: &mut S) -> Result<SecretByt
     ensures mark { OnOk result (S.failed source.new ≡ false) }
     // A read that failed is never reported as out of memory.
     ensures memory { result ≡ Err ReadFault.Memory → S.failed source.new ≡ false }
-    ensures read { result ≡ Err ReadFault.Read → ReadFailed (S.failed source.new) (S.left source.old) (S.left source.new) }
+    ensures read { result ≡ Err ReadFault.Read
+        → ReadFailed (S.failed source.new) (S.left source.old) (S.left source.new) }
 {
     let mut text = SecretBytes::new(Vec::new(alloc));
     match read_into(alloc, source, &mut text) {

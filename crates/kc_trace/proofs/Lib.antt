@@ -3,8 +3,5 @@ pub mod Spelled
 pub mod Cuts
 pub mod Runs
 pub mod Traces
-pub mod ConfigMembers
-pub mod KeptValues
-pub mod Turns
 pub mod Written
 mod Pushed

@@ -3,8 +3,6 @@ pub mod Reading
 pub mod Machine
 pub mod Trace
 pub mod ReplyText
-pub mod ConfigText
-pub mod ConfigValue
 pub mod Faults
 pub mod CustodyText
 pub mod SummaryText

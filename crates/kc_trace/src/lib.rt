@@ -1,17 +1,12 @@
-//! Texts in and out: traces of calls, whole or in pieces, replies, configurations, and what is reported of custody.
+//! Texts in and out: traces of calls, whole or in pieces, replies, and what is reported of custody.
 //!
-//! - how a trace, a reply or a configuration is spelled: `specs/Spelling.antt`, `specs/Trace.antt`,
-//!   `specs/ReplyText.antt`, `specs/ConfigText.antt`
+//! - how a trace or a reply is spelled: `specs/Spelling.antt`, `specs/Trace.antt`, `specs/ReplyText.antt`
 //! - how a trace is read: `src/reader.rt`, `src/line.rt`; why it is refused: `src/fault.rt`, `specs/Faults.antt`
-//! - how a configuration is read: `src/config_text.rt`; what is kept of its text meanwhile: `src/config_value.rt`,
-//!   `specs/ConfigValue.antt`
 //! - a line of a trace, a reply, a change, a remark, a summary: `src/writer.rt`, `src/reply_writer.rt`,
 //!   `src/custody_writer.rt` (`specs/CustodyText.antt`), `src/remark_writer.rt` (`specs/RemarkText.antt`),
 //!   `src/summary_writer.rt` (`specs/SummaryText.antt`)
 #![tactic(auto)]
 
-mod config_text;
-mod config_value;
 mod custody_writer;
 mod fault;
 pub mod laws;
@@ -22,7 +17,6 @@ mod reply_writer;
 mod summary_writer;
 mod writer;
 
-pub use config_text::{ConfigTextFault, read_config};
 pub use custody_writer::{
     Digests, Heading, LONGEST_CHANGE, StartDigest, VERSION, push_change, push_custody_end,
     push_custody_header,

@@ -2,13 +2,14 @@
 use crate::asked::Kind;
 use crate::folder::{Folder, Named, Opened};
 use kc_cli::{Source, Std, TextFault};
+use kc_config_text::ConfigTextFault;
 use kc_dump_text::DumpFault;
 use kc_explain::{
     Header, LineFault, LineFinder, Masked, Noted, Shortened, explain_config, fault_of_line,
     fault_of_text_line, look_of,
 };
 use kc_state_text::StateFault;
-use kc_trace::{ConfigTextFault, TraceFault};
+use kc_trace::TraceFault;
 use kc_types::{Actor, BYTE_LIMIT, ConfigFault};
 use std::fs::{File, OpenFile, metadata};
 use std::io::{ErrorKind, Read};

@@ -9,18 +9,18 @@ use Rattle.kc_types.specs.declared.config.ConfigFault.TheVariants as numbers
 use Rattle.kc_model.specs.State.{mapped_at}
 use Rattle.kc_model.specs.Custody.{custody_at}
 use Rattle.kc_model.specs.Volumes.{IsCoreState}
-use Rattle.kc_state.specs.Dumping.{dump_of}
-use Rattle.kc_state.specs.Form.{in_form}
-use Rattle.kc_state.specs.declared.form.StateForm.{StateForm}
-use Rattle.kc_state.specs.declared.form.StateForm.TheVariants.{Blank}
+use Rattle.kc_dumping.specs.Dumping.{dump_of}
+use Rattle.kc_dumping.specs.Form.{in_form}
+use Rattle.kc_dumping.specs.declared.form.StateForm.{StateForm}
+use Rattle.kc_dumping.specs.declared.form.StateForm.TheVariants.{Blank}
 use Rattle.kc_state_text.specs.Refused.{IsRefusedState}
 use Rattle.kc_state_text.specs.StateText.{state_text}
 use Rattle.kc_state_text.specs.declared.fault.StateFault.{StateFault}
 use Rattle.kc_state_text.specs.declared.fault.StateFault.TheVariants as states
 use Rattle.kc_dump_text.specs.DumpText.{dump_text}
-use Rattle.kc_trace.specs.ConfigText.{config_in, ConfigFails}
+use Rattle.kc_config_text.specs.ConfigText.{config_in, ConfigFails}
 use Rattle.kc_trace.specs.ReplyText.{longest_reply}
-use Rattle.kc_trace.specs.declared.config_text.ConfigTextFault.TheVariants as texts
+use Rattle.kc_config_text.specs.declared.config_text.ConfigTextFault.TheVariants as texts
 use Rattle.sha2.specs.Sha256.{sha256}
 use Rattle.kc_session.specs.Session.{Kept, new_session, begun, turned, IsAnswer, IsUnanswered, lines_in, redacted_lines}
 use Rattle.kc_session.specs.declared.session.Form.{Form}

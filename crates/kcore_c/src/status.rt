@@ -2,9 +2,9 @@
 ghost use Rattle.std.specs.Prelude.{◌≡◌};
 ghost use Rattle.kcore_c.specs.Status.{code_of};
 
+use kc_config_text::ConfigTextFault;
 use kc_session::AskFault;
 use kc_state_text::StateFault;
-use kc_trace::ConfigTextFault;
 use kc_types::ConfigFault;
 
 /// What a function returns to C.

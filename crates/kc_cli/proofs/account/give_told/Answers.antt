@@ -1,5 +1,5 @@
 use Rattle.std.proofs.lemmas.Result.{on_ok_weaker}
-use Rattle.kc_texts.proofs.Told.{sink_more}
+use Rattle.kc_faults.proofs.Told.{sink_more}
 use Rattle.kc_cli.proofs.Plain.{changes_text, notes_text, page_text}
 use Rattle.kc_cli.proofs.Ledgers.{changes_reported}
 use Rattle.kc_cli.proofs.account.give_told.Goals as goal

@@ -3,7 +3,7 @@ use Rattle.std.proofs.lemmas.Result.{err_from_is_err_and, on_ok_weaker, IfOk-wea
 use Rattle.kc_model.specs.Custody.{first_line}
 use Rattle.kc_custody.specs.Within.{IsWithin}
 use Rattle.kc_custody.proofs.Traced.{events-within}
-use Rattle.kc_texts.proofs.Told.{sources_err, texts_err, sink_more}
+use Rattle.kc_faults.proofs.Told.{sources_err, texts_err, sink_more}
 use Rattle.kc_types.specs.declared.custody.Event.{Event}
 use Rattle.kc_remarks.specs.declared.remark.Note.{Note}
 use Rattle.kc_remarks.specs.Attempts.{AreInOrder, attempts_in}

@@ -1,6 +1,6 @@
 use Rattle.std.proofs.Common.{Err, ap, refl, sym}
 use Rattle.std.proofs.lemmas.Result.{err_from_is_err_and, IfOk-weaker}
-use Rattle.kc_texts.proofs.Told.{texts_start}
+use Rattle.kc_faults.proofs.Told.{texts_start}
 use Rattle.kc_cli.specs.Custody.{origin_of}
 use Rattle.kc_cli.proofs.Headings.{headed}
 use Rattle.kc_cli.proofs.Counted.{are_answered}

@@ -1,6 +1,6 @@
 use Rattle.std.proofs.lemmas.Result.{err_from_is_err_and}
 use Rattle.kc_cli.proofs.Begun.{begins_live, live_refused}
-use Rattle.kc_texts.proofs.Told.{sources_err, texts_err, sink_more}
+use Rattle.kc_faults.proofs.Told.{sources_err, texts_err, sink_more}
 use Rattle.kc_cli.proofs.live.live_text.Goals as goal
 
 pub returns-in_err-config-clause-sources : goal.returns-in_err-config-clause-sources

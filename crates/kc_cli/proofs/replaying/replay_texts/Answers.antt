@@ -1,7 +1,7 @@
 use Rattle.std.proofs.Common.{Err, ap, refl}
 use Rattle.std.proofs.lemmas.Result.{err_from_is_err_and}
 use Rattle.kc_replay.specs.Replayer.{Replaying}
-use Rattle.kc_texts.proofs.Told.{texts_start, texts_trace}
+use Rattle.kc_faults.proofs.Told.{texts_start, texts_trace}
 use Rattle.kc_cli.proofs.Fed.{replayed}
 use Rattle.kc_cli.proofs.Replayed.{are_replayed}
 use Rattle.kc_cli.proofs.replaying.replay_texts.Goals as goal

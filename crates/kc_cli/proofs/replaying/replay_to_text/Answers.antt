@@ -1,7 +1,7 @@
 use Rattle.std.proofs.Common.{◌≡◌, ap, Err}
 use Rattle.std.proofs.lemmas.Result.{err_from_is_err_and}
-use Rattle.kc_texts.specs.declared.fault.TextFault.TheVariants as texts
-use Rattle.kc_texts.proofs.Told.{texts_err}
+use Rattle.kc_faults.specs.declared.fault.TextFault.TheVariants as texts
+use Rattle.kc_faults.proofs.Told.{texts_err}
 use Rattle.kc_cli.proofs.Sources.{sources_with, sources_last, sink_err}
 use Rattle.kc_cli.proofs.Replayed.{gives, begins, left_text}
 use Rattle.kc_cli.proofs.replaying.replay_to_text.Goals as goal

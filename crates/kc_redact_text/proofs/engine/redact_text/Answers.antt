@@ -1,7 +1,7 @@
 use Rattle.std.proofs.Common.{◌≡◌, ◌∙◌, Err, sym, ap}
 use Rattle.std.proofs.lemmas.Result.{err_from_is_err_and, on_ok_weaker}
-use Rattle.kc_texts.specs.declared.fault.TextFault.TheVariants as texts
-use Rattle.kc_texts.proofs.Told.{sink_more}
+use Rattle.kc_faults.specs.declared.fault.TextFault.TheVariants as texts
+use Rattle.kc_faults.proofs.Told.{sink_more}
 use Rattle.kc_redact_text.proofs.Given.{redacts, begins}
 use Rattle.kc_redact_text.proofs.engine.redact_text.Goals as goal
 

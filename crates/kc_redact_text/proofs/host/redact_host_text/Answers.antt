@@ -1,5 +1,5 @@
 use Rattle.std.proofs.lemmas.Result.{err_from_is_err_and, on_ok_weaker}
-use Rattle.kc_texts.proofs.Told.{sources_err, texts_err, sink_more}
+use Rattle.kc_faults.proofs.Told.{sources_err, texts_err, sink_more}
 use Rattle.kc_redact_text.proofs.Given.{writes_host, begins_host}
 use Rattle.kc_redact_text.proofs.host.redact_host_text.Goals as goal
 

@@ -1,7 +1,7 @@
 use Rattle.std.proofs.Common.{◌≡◌, ◌∙◌, Err, sym, ap}
 use Rattle.std.proofs.lemmas.Result.{err_from_is_err_and}
 use Rattle.kc_texts.proofs.Fed.{ends_a_trace, ends_refused}
-use Rattle.kc_texts.specs.declared.fault.TextFault.TheVariants as texts
+use Rattle.kc_faults.specs.declared.fault.TextFault.TheVariants as texts
 use Rattle.kc_redact_text.specs.Reading.{stream_of}
 use Rattle.kc_redact_text.proofs.Taken.{begun_read, whole_read, read_is}
 use Rattle.kc_redact_text.proofs.reading.read_redacted.Goals as goal

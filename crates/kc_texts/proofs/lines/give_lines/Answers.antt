@@ -1,4 +1,4 @@
-use Rattle.std.proofs.Common.{◌≡◌, ◌≤◌, ℕ, List, [], Result, Ok, Err, false, length, take, sym, ◌∙◌, arith, rules}
+use Rattle.std.proofs.Common.{◌≡◌, ◌≤◌, [], Result, Ok, Err, false, length, sym, ◌∙◌, arith, rules}
 use Rattle.std.specs.Prelude.{OnErr}
 use Rattle.std.specs.Vec.{vec_capacity}
 use Rattle.std.proofs.lemmas.Iterator.Adapters.{YieldsList-from_vec}

@@ -1,0 +1,59 @@
+//! The configuration and the trace that an engine starts from.
+ghost use Rattle.std.specs.Prelude.{◌≡◌, ◌≤◌, ◌∷◌, [], length, false, true, IfOk, IfErr, IfSome, OnOk, Ok, Err};
+ghost use Rattle.std.specs.Io.KnownBytes.{IsAtEnd};
+ghost use Rattle.kc_types.specs.Limits.{call_limit};
+ghost use Rattle.kc_config_text.specs.declared.config_text.ConfigTextFault.{ConfigTextFault};
+ghost use Rattle.kc_config_text.specs.ConfigText.{config_in};
+ghost use Rattle.kc_texts.specs.Ends.{ReadFailed, seen};
+ghost use Rattle.kc_cli.specs.Reading.{HaveRead};
+ghost use Rattle.kc_faults.specs.Outcomes.{IsReadingFault, IsConfigFault, TellsSources, TellsTexts};
+
+use kc_config_text::read_config;
+use kc_faults::{Origin, TextFault};
+use kc_texts::{Source, read_calls, read_whole};
+use kc_types::{Call, Config};
+use std::alloc::Global;
+
+/// The configuration if no other is named: 8 frames, of which the first is the core's and the next four are the host's,
+/// one leaf table for each VM, and the digest of `abc` approved (from the examples of FIPS 180-4).
+pub const DEFAULT_CONFIG: &str =
+    "{\"frames\":8,\"core\":1,\"host\":4,\"leaves\":1,\"approved\":[\"ba7816bf8f01cfea414140de5dae2223b00361a396177a9cb410ff61f20015ad\"]}";
+
+/// Reads a configuration to its end.
+pub fn read_configuration<C: Source>(alloc: Global, source: &mut C) -> Result<Config, TextFault>
+    requires { C.failed source.old ≡ false }
+    ensures ok { IfOk result (λ config. IfSome (C.left source.old) (λ text. config_in text ≡ Ok config)) }
+    ensures ended { OnOk result (IsAtEnd (C.left source.new)) }
+    ensures mark { OnOk result (C.failed source.new ≡ false) }
+    ensures config { (fault : ConfigTextFault) → result ≡ Err (TextFault.Config fault)
+        → IfSome (C.left source.old) (λ text. config_in text ≡ Err fault) × IsAtEnd (C.left source.new) }
+    ensures read { result ≡ Err TextFault.Read
+        → ReadFailed (C.failed source.new) (C.left source.old) (C.left source.new) }
+    ensures source { C.failed source.new ≡ true → result ≡ Err TextFault.Read }
+    ensures fault { IfErr result IsConfigFault }
+{
+    let text = read_whole(alloc, source)?;
+    let config = read_config(alloc, &text)?;
+    Ok(config)
+}
+
+/// Reads a configuration and then a trace, each to its end; the trace only if the configuration is accepted.
+pub fn read_both<C: Source, T: Source>(
+    alloc: Global,
+    config: &mut C,
+    trace: &mut T,
+) -> Result<(Config, Vec<Call>), TextFault>
+    requires config { C.failed config.old ≡ false }
+    requires trace { T.failed trace.old ≡ false }
+    ensures ok { IfOk result (λ read. HaveRead (C.left config.old) (T.left trace.old) read.0 read.1.items) }
+    ensures short { IfOk result (λ read. length read.1.items ≤ call_limit) }
+    ensures sources { TellsSources
+        (seen C.failed C.left config.old config.new ∷ seen T.failed T.left trace.old trace.new ∷ []) result }
+    ensures texts { TellsTexts Origin.Boot (seen C.failed C.left config.old config.new)
+        (seen T.failed T.left trace.old trace.new) (trace.new ≡ trace.old) result }
+    ensures fault { IfErr result IsReadingFault }
+{
+    let config = read_configuration(alloc, config)?;
+    let calls = read_calls(alloc, trace)?;
+    Ok((config, calls))
+}

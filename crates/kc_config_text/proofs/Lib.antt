@@ -1,0 +1,3 @@
+pub mod ConfigMembers
+pub mod KeptValues
+pub mod Turns

@@ -1,0 +1,3 @@
+pub mod ConfigText
+pub mod ConfigValue
+pub mod Faults

@@ -1,0 +1,5 @@
+pub mod Digests
+pub mod Drawn
+pub mod InRange
+mod Made
+pub mod InForm

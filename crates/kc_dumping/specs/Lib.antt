@@ -1,0 +1,2 @@
+pub mod Dumping
+pub mod Form

@@ -1,0 +1,108 @@
+-- What is reported of the ends stays true in the last step of an engine.
+use Rattle.std.proofs.Common.{◌≡◌, ◌≢◌, ◌⊎◌, ℕ, Bool, true, List, Option, Some, None, Result, Ok, Err, inl, inr, refl}
+use Rattle.std.specs.Prelude.{IfErr, IfSome, is_err, OnErr}
+use Rattle.std.specs.Io.KnownBytes.{IsAtEnd}
+use Rattle.kc_config_text.specs.declared.config_text.ConfigTextFault.{ConfigTextFault}
+use Rattle.kc_trace.specs.declared.fault.TraceFault.{TraceFault}
+use Rattle.kc_trace.specs.Trace.{IsRefused}
+use Rattle.kc_types.specs.Configuration.{Configuration}
+use Rattle.kc_config_text.specs.ConfigText.{config_in}
+use Rattle.kc_model.specs.State.{State}
+use Rattle.kc_model.specs.Boot.{boot}
+use Rattle.kc_state_text.specs.declared.fault.StateFault.{StateFault}
+use Rattle.kc_state_text.specs.Refused.{IsRefusedState}
+use Rattle.kc_faults.specs.declared.origin.Origin.{Origin}
+use Rattle.kc_faults.specs.declared.origin.Origin.TheVariants as origins
+use Rattle.kc_faults.specs.Origins.{BeginsIn, IsBegun}
+use Rattle.kc_faults.specs.Outcomes.{IsStartFault, IsTold, TellsSources, TellsTexts, TellsReplay, TellsSink}
+use Rattle.kc_texts.specs.Ends.{Seen}
+use Rattle.kc_faults.specs.declared.fault.TextFault.{TextFault}
+use Rattle.kc_faults.specs.declared.fault.TextFault.TheVariants as texts
+
+-- the last step is refused for memory or its sink only
+abbrev pub IsLastFault : TextFault → Type 0
+IsLastFault fault = (fault ≡ texts.Memory) ⊎ (fault ≡ texts.Write)
+
+pub sources_after : {A B : Type 0} (sources : List Seen) (x : A) (last : Result B TextFault) → TellsSources sources (Ok x) → IfErr last IsLastFault → TellsSources sources last
+sources_after sources x (Ok y) h fault = record { ended = h.ended; read = λ e. absurd cc; failed = λ bad. let e = h.failed bad in absurd cc }
+sources_after sources x (Err f) h (inl memory) = record { ended = tt; read = λ e. absurd cc; failed = λ bad. let e = h.failed bad in absurd cc }
+sources_after sources x (Err f) h (inr write) = record { ended = tt; read = λ e. absurd cc; failed = λ bad. let e = h.failed bad in absurd cc }
+
+pub texts_after : {A B : Type 0} (origin : Origin) (start trace : Seen) (unread : Type 0) (x : A) (last : Result B TextFault) → TellsTexts origin start trace unread (Ok x) → IfErr last IsLastFault → TellsTexts origin start trace unread last
+texts_after origin start trace unread x (Ok y) h fault = record { config_fault = λ f e. absurd cc; state_fault = λ f e. absurd cc; trace_fault = λ f e. absurd cc; behind = h.behind; begun = λ f e. absurd cc; told = tt }
+texts_after origin start trace unread x (Err f) h (inl memory) = record { config_fault = λ g e. absurd cc; state_fault = λ g e. absurd cc; trace_fault = λ g e. absurd cc; behind = h.behind; begun = λ g e. absurd cc; told = (λ e. cc, λ e. cc, λ e. cc, λ d e. cc) }
+texts_after origin start trace unread x (Err f) h (inr write) = record { config_fault = λ g e. absurd cc; state_fault = λ g e. absurd cc; trace_fault = λ g e. absurd cc; behind = h.behind; begun = λ g e. absurd cc; told = (λ e. cc, λ e. cc, λ e. cc, λ d e. cc) }
+
+pub replay_after : {A B : Type 0} (workers : ℕ) (origin : Origin) (start : Option (List ℕ)) (x : A) (last : Result B TextFault) → TellsReplay workers origin start (Ok x) → IfErr last IsLastFault → TellsReplay workers origin start last
+replay_after workers origin start x (Ok y) h fault = record { judged = (λ e. absurd cc, λ bad. let e = h.judged.1 bad in absurd cc); started = λ e. absurd cc; settled = λ e. cc; actor = λ p e. cc; slot = λ n e. cc }
+replay_after workers origin start x (Err f) h (inl memory) = record { judged = (λ e. absurd cc, λ bad. let e = h.judged.1 bad in absurd cc); started = λ e. absurd cc; settled = λ e. cc; actor = λ p e. cc; slot = λ n e. cc }
+replay_after workers origin start x (Err f) h (inr write) = record { judged = (λ e. absurd cc, λ bad. let e = h.judged.1 bad in absurd cc); started = λ e. absurd cc; settled = λ e. cc; actor = λ p e. cc; slot = λ n e. cc }
+
+-- a fault from which nothing was written
+pub sources_err : {A B : Type 0} (sources : List Seen) (f : TextFault) → TellsSources {A = A} sources (Err f) → TellsSources {A = B} sources (Err f)
+sources_err sources f h = record { ended = tt; read = λ e. h.read (let same : f ≡ texts.Read = cc in cc); failed = λ bad. let e = h.failed bad in let same : f ≡ texts.Read = cc in cc }
+
+pub texts_err : {A B : Type 0} (origin : Origin) (start trace : Seen) (unread : Type 0) (f : TextFault) → TellsTexts {A = A} origin start trace unread (Err f) → TellsTexts {A = B} origin start trace unread (Err f)
+texts_err origin start trace unread f h = record {
+  config_fault = λ g e. h.config_fault g (let same : f ≡ texts.Config g = cc in cc);
+  state_fault = λ g e. h.state_fault g (let same : f ≡ texts.State g = cc in cc);
+  trace_fault = λ g e. h.trace_fault g (let same : f ≡ texts.Trace g = cc in cc);
+  behind = h.behind;
+  begun = λ g e. h.begun g (let same : f ≡ texts.Trace g = cc in cc);
+  told = h.told;
+}
+
+pub replay_err : {A B : Type 0} (workers : ℕ) (origin : Origin) (start : Option (List ℕ)) (f : TextFault) → TellsReplay {A = A} workers origin start (Err f) → TellsReplay {A = B} workers origin start (Err f)
+replay_err workers origin start f h = record {
+  judged = (λ e. h.judged.0 (let same : f ≡ texts.Workers = cc in cc), λ bad. let e = h.judged.1 bad in let same : f ≡ texts.Workers = cc in cc);
+  started = λ e. h.started (let same : f ≡ texts.Start = cc in cc);
+  settled = λ e. h.settled (let same : f ≡ texts.Unsettled = cc in cc);
+  actor = λ p e. h.actor p (let same : f ≡ texts.BadActor p = cc in cc);
+  slot = λ n e. h.slot n (let same : f ≡ texts.NoSlot n = cc in cc);
+}
+
+-- the sink took a beginning, and more follows from that
+pub sink_more : {A : Type 0} (failed : Bool) (begun more untouched : Type 0) (result : Result A TextFault) → (begun → more) → TellsSink failed begun untouched result → TellsSink failed more untouched result
+sink_more failed begun more untouched result step h = record { write = λ e. let one = h.write e in (one.0, step one.1); failed_is = h.failed_is; kept = h.kept }
+
+-- a source that reports its text reports a start
+pub begun_is : (origin : Origin) (had : Option (List ℕ)) (m : State) → IfSome had (λ text. BeginsIn origin text m) → IsBegun origin had
+begun_is origin None m h = tt
+begun_is origin (Some text) m h = (m, h)
+
+-- that of a configuration is its boot state
+pub boots : (had : Option (List ℕ)) (config : Configuration) → IfSome had (λ text. config_in text ≡ Ok config) → IfSome had (λ text. BeginsIn origins.Boot text (boot config))
+boots None config h = tt
+boots (Some text) config h = (config, h, refl)
+
+-- both were read
+pub texts_ok : {A : Type 0} (origin : Origin) (start trace : Seen) (unread : Type 0) (m : State) (x : A) → IfSome start.had (λ text. BeginsIn origin text m) → TellsTexts origin start trace unread (Ok x)
+texts_ok origin start trace unread m x known = record { config_fault = λ f e. absurd cc; state_fault = λ f e. absurd cc; trace_fault = λ f e. absurd cc; behind = inr (begun_is origin start.had m known); begun = λ f e. absurd cc; told = tt }
+
+-- what the calls begin with was refused
+pub texts_start : {A : Type 0} (origin : Origin) (start trace : Seen) (unread : Type 0) (f : TextFault) → ((said : ConfigTextFault) → f ≡ texts.Config said → (origin ≡ origins.Boot) × IfSome start.had (λ text. config_in text ≡ Err said) × IsAtEnd start.has)
+    → ((said : StateFault) → f ≡ texts.State said → (origin ≡ origins.State) × IfSome start.had (λ text. IsRefusedState text said) × IsAtEnd start.has) → IsStartFault f → unread → TellsTexts {A = A} origin start trace unread (Err f)
+texts_start origin start trace unread f config state fault none = record {
+  config_fault = λ said e. let is = config said (let same : f ≡ texts.Config said = cc in same) in (is.0, is.1, is.2, none);
+  state_fault = λ said e. let is = state said (let same : f ≡ texts.State said = cc in same) in (is.0, is.1, is.2, none);
+  trace_fault = λ said e. absurd (fault.trace said (let same : f ≡ texts.Trace said = cc in same));
+  behind = inl none;
+  begun = λ said e. absurd (fault.trace said (let same : f ≡ texts.Trace said = cc in same));
+  told = fault.reading.told;
+}
+
+-- the trace was refused, after a start
+pub texts_trace : {A : Type 0} (origin : Origin) (start trace : Seen) (unread : Type 0) (m : State) (f : TextFault) → IfSome start.had (λ text. BeginsIn origin text m) → ((said : TraceFault) → f ≡ texts.Trace said → IfSome trace.had (λ text. IsRefused text said) × IsAtEnd trace.has)
+    → ((said : ConfigTextFault) → f ≢ texts.Config said) → ((said : StateFault) → f ≢ texts.State said) → IsTold f → TellsTexts {A = A} origin start trace unread (Err f)
+texts_trace origin start trace unread m f known refused config state told = record {
+  config_fault = λ said e. absurd (config said (let same : f ≡ texts.Config said = cc in same));
+  state_fault = λ said e. absurd (state said (let same : f ≡ texts.State said = cc in same));
+  trace_fault = λ said e. refused said (let same : f ≡ texts.Trace said = cc in same);
+  behind = inr (begun_is origin start.had m known);
+  begun = λ said e. begun_is origin start.had m known;
+  told = told;
+}
+
+pub on_err : {T E P : Type 0} (r : Result T E) → is_err r ≡ true → OnErr r P → P
+on_err (Ok x) e h = cc
+on_err (Err f) e h = h
