@@ -3,10 +3,9 @@ ghost use Rattle.std.specs.Prelude.{◌≡◌, ◌++◌, IfOk, OnOk, string_byte
 ghost use Rattle.kc_trace.specs.RemarkText.{kind_text};
 ghost use Rattle.kc_vm_picture.specs.Marks.{mark_of, marks, line_of, denied_kind, access_kind, kind_of, frame_if_held, frame_of, reason_words, named_words, access_words, mark_title, kind_words, marks_title};
 
-use crate::vm_rows::is_owned_by;
 use kc_lanes::{MarkKind, Run};
 use kc_picture::{push_owner, push_place};
-use kc_remarks::{Access, CallKind, Denial, Denied, NamedFrame, Note};
+use kc_remarks::{Access, CallKind, Denial, Denied, NamedFrame, Note, is_owned_by};
 use kc_types::Memory;
 use std::alloc::Global;
 

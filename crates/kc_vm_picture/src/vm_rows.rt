@@ -1,21 +1,11 @@
 //! The rows of the picture of one VM: a frame each, in the order in which they came, and the bars in them.
 ghost use Rattle.std.specs.Prelude.{◌≡◌, IfOk};
-ghost use Rattle.kc_model.specs.Lives.{is_owned_by};
 ghost use Rattle.kc_vm_picture.specs.VmRows.{is_held_by, bars_of_vm, rows};
 
 use indexmap::IndexSet;
-use kc_types::{Bar, Memory, Owner};
+use kc_remarks::is_owned_by;
+use kc_types::{Bar, Memory};
 use std::alloc::Global;
-
-/// Whether the owner is the VM in a slot.
-pub(crate) fn is_owned_by(owner: Owner, vm: u32) -> bool
-    ensures { result ≡ is_owned_by vm owner }
-{
-    match owner {
-        Owner::Vm(owner) => owner.index() as u32 == vm,
-        Owner::Core | Owner::Host | Owner::Free => false,
-    }
-}
 
 /// Whether a bar is the VM's in a slot.
 fn is_held_by(bar: &Bar, vm: u32) -> bool
