@@ -50,7 +50,7 @@ MISTAKES = (
     Mistake("names", "docs/WITNESS.md", "## What is seen", "## What is detected"),
     Mistake("scripts", "fleet/witness", "", "fleet/witnesses"),
     Mistake("scripts", "docs/FLEET.md", "fleet/audit --by parallel", "fleet/audit --using parallel"),
-    Mistake("crates", "crates.txt", "kc_args: kc_types", "kc_args: kc_lines"),
+    Mistake("crates", "crates.txt", "kc_config_text: kc_types", "kc_config_text: kc_lines"),
     Mistake("crates", "docs/MAP.md", "| `kc_state_text` |", "| `kc_states_text` |"),
     Mistake("crates", "docs/MAP.md", "kc_custody  kc_html", "kc_custody"),
     Mistake("trusted crates", "docs/CONTRACTS.md", "| `kc_state`, `kc_state_text` |", "| `kc_state_text` |"),
