@@ -24,7 +24,7 @@ pub use custody_writer::{
 pub use fault::TraceFault;
 pub use line::call_of_line;
 pub use reader::{TraceReader, read_trace};
-pub use remark_writer::{push_access, push_denied};
+pub use remark_writer::{call_name, push_access, push_denied};
 pub use reply_writer::{LONGEST_REPLY, push_reply, write_replies};
 pub use summary_writer::summary_text;
 pub use writer::{LONGEST_CALL, push_call, push_header, version_of, write_trace};

@@ -10,34 +10,42 @@ use kc_lines::push_bytes;
 use kc_remarks::{Access, CallKind, Denial, Denied, NamedFrame};
 use kc_types::Refusal;
 
-/// Appends the name of a call, as in traces.
+/// The name of a call, as in traces.
+pub fn call_name(kind: CallKind) -> &'static str
+    ensures name { result.now ≡ kind_text kind }
+    ensures short { length result.now ≤ 7 }
+{
+    match kind {
+        CallKind::Take => "take",
+        CallKind::Give => "give",
+        CallKind::HostFault => "hfault",
+        CallKind::HostRead => "hread",
+        CallKind::HostWrite => "hwrite",
+        CallKind::RegisterVm => "regvm",
+        CallKind::RegisterVcpu => "regvcpu",
+        CallKind::SetBoot => "setboot",
+        CallKind::Remap => "remap",
+        CallKind::Verify => "verify",
+        CallKind::Map => "map",
+        CallKind::GuestRead => "gread",
+        CallKind::GuestWrite => "gwrite",
+        CallKind::Grant => "grant",
+        CallKind::Revoke => "revoke",
+        CallKind::GrantRange => "grantr",
+        CallKind::RevokeRange => "revoker",
+        CallKind::Drop => "drop",
+        CallKind::Clear => "clear",
+    }
+}
+
+/// Appends the name of a call.
 fn push_kind(text: &mut Vec<u8>, kind: CallKind)
     requires { vec_len text.old + 7 ≤ vec_capacity text.old }
     ensures items { text.new.items ≡ text.old.items ++ kind_text kind }
     ensures len { vec_len text.new ≤ vec_len text.old + 7 }
     ensures capacity { vec_capacity text.old ≤ vec_capacity text.new }
 {
-    match kind {
-        CallKind::Take => push_bytes(text, b"take"),
-        CallKind::Give => push_bytes(text, b"give"),
-        CallKind::HostFault => push_bytes(text, b"hfault"),
-        CallKind::HostRead => push_bytes(text, b"hread"),
-        CallKind::HostWrite => push_bytes(text, b"hwrite"),
-        CallKind::RegisterVm => push_bytes(text, b"regvm"),
-        CallKind::RegisterVcpu => push_bytes(text, b"regvcpu"),
-        CallKind::SetBoot => push_bytes(text, b"setboot"),
-        CallKind::Remap => push_bytes(text, b"remap"),
-        CallKind::Verify => push_bytes(text, b"verify"),
-        CallKind::Map => push_bytes(text, b"map"),
-        CallKind::GuestRead => push_bytes(text, b"gread"),
-        CallKind::GuestWrite => push_bytes(text, b"gwrite"),
-        CallKind::Grant => push_bytes(text, b"grant"),
-        CallKind::Revoke => push_bytes(text, b"revoke"),
-        CallKind::GrantRange => push_bytes(text, b"grantr"),
-        CallKind::RevokeRange => push_bytes(text, b"revoker"),
-        CallKind::Drop => push_bytes(text, b"drop"),
-        CallKind::Clear => push_bytes(text, b"clear"),
-    }
+    push_bytes(text, call_name(kind).as_bytes());
 }
 
 /// Appends what the line of each remark begins with: the line of its call, and the call's name.

@@ -1,11 +1,11 @@
 //! The marks of the picture of one VM: what each is of, where it is drawn, and what its title says.
 ghost use Rattle.std.specs.Prelude.{◌≡◌, ◌++◌, IfOk, OnOk, string_bytes};
-ghost use Rattle.kc_trace.specs.RemarkText.{kind_text};
 ghost use Rattle.kc_vm_picture.specs.Marks.{mark_of, marks, line_of, denied_kind, access_kind, kind_of, frame_if_held, frame_of, reason_words, named_words, access_words, mark_title, kind_words, marks_title};
 
 use kc_lanes::{MarkKind, Run};
 use kc_picture::{push_owner, push_place};
 use kc_remarks::{Access, CallKind, Denial, Denied, NamedFrame, Note, is_owned_by};
+use kc_trace::call_name;
 use kc_types::Memory;
 use std::alloc::Global;
 
@@ -99,33 +99,6 @@ impl Mark {
             Mark::Denied(denied) => frame_if_held(denied.named, vm),
             Mark::Access(access) => Some(access.frame),
         }
-    }
-}
-
-/// The name of a call, as in traces.
-fn call_name(call: CallKind) -> &'static str
-    ensures { result.now ≡ kind_text call }
-{
-    match call {
-        CallKind::Take => "take",
-        CallKind::Give => "give",
-        CallKind::HostFault => "hfault",
-        CallKind::HostRead => "hread",
-        CallKind::HostWrite => "hwrite",
-        CallKind::RegisterVm => "regvm",
-        CallKind::RegisterVcpu => "regvcpu",
-        CallKind::SetBoot => "setboot",
-        CallKind::Remap => "remap",
-        CallKind::Verify => "verify",
-        CallKind::Map => "map",
-        CallKind::GuestRead => "gread",
-        CallKind::GuestWrite => "gwrite",
-        CallKind::Grant => "grant",
-        CallKind::Revoke => "revoke",
-        CallKind::GrantRange => "grantr",
-        CallKind::RevokeRange => "revoker",
-        CallKind::Drop => "drop",
-        CallKind::Clear => "clear",
     }
 }
 
