@@ -1,5 +1,5 @@
 -- The program's command, in clap's terms.
-use Rattle.std.specs.Prelude.{◌-◌, List, [], ◌∷◌, codes, pos, Some, true}
+use Rattle.std.specs.Prelude.{◌-◌, codes, pos, Some, true}
 use Rattle.clap.specs.Words.{App, Rule, Text, new_app, new_rule, with_rule, with_subcommand}
 use Rattle.clap.specs.Simple.{on_top}
 use Rattle.clap.specs.declared.builder.action.ArgAction.TheVariants.{SetTrue}
@@ -26,28 +26,41 @@ vm_rule = record (new_rule (codes "vm")) { long = Some (codes "vm"); value_names
 abbrev pub file_rule : Rule
 file_rule = record (new_rule (codes "file")) { value_names = 1 }
 
--- a command with these options and flags, in order, and the two arguments that each subcommand has
-abbrev pub with_rules : App → List Rule → App
-with_rules app [] = with_rule (with_rule app (flag_rule (codes "explain"))) file_rule
-with_rules app (rule ∷ rules) = with_rules (with_rule app rule) rules
+-- the two options for what calls begin with
+abbrev pub with_start : App → App
+with_start app = with_rule (with_rule app (path_rule (codes "config"))) (path_rule (codes "from"))
+
+-- the flags for what a replay writes
+abbrev pub with_outputs : App → App
+with_outputs app = with_rule (with_rule (with_rule app (flag_rule (codes "dump"))) (flag_rule (codes "state"))) (flag_rule (codes "blank"))
+
+-- the flags for the form in which custody is reported
+abbrev pub with_forms : App → App
+with_forms app = with_rule (with_rule (with_rule app (flag_rule (codes "summary"))) (flag_rule (codes "svg"))) (flag_rule (codes "html"))
+
+-- the flags for what else is reported
+abbrev pub with_contents : App → App
+with_contents app = with_rule (with_rule (with_rule (with_rule app (flag_rule (codes "refused"))) (flag_rule (codes "accesses")))
+    (flag_rule (codes "unseen"))) (flag_rule (codes "digests"))
+
+-- the two arguments that each subcommand has
+abbrev pub ended : App → App
+ended app = with_rule (with_rule app (flag_rule (codes "explain"))) file_rule
 
 abbrev pub replay : App
-replay = with_rules (new_app (codes "replay")) (path_rule (codes "config") ∷ path_rule (codes "from") ∷ path_rule (codes "to") ∷ workers_rule
-    ∷ flag_rule (codes "dump") ∷ flag_rule (codes "state") ∷ flag_rule (codes "blank") ∷ [])
+replay = ended (with_outputs (with_rule (with_rule (with_start (new_app (codes "replay"))) (path_rule (codes "to"))) workers_rule))
 
 abbrev pub live : App
-live = with_rules (new_app (codes "live")) (path_rule (codes "config") ∷ workers_rule ∷ [])
+live = ended (with_rule (with_rule (new_app (codes "live")) (path_rule (codes "config"))) workers_rule)
 
 abbrev pub custody : App
-custody = with_rules (new_app (codes "custody")) (path_rule (codes "config") ∷ path_rule (codes "from") ∷ vm_rule
-    ∷ flag_rule (codes "summary") ∷ flag_rule (codes "svg") ∷ flag_rule (codes "html") ∷ flag_rule (codes "refused") ∷ flag_rule (codes "accesses")
-    ∷ flag_rule (codes "unseen") ∷ flag_rule (codes "digests") ∷ [])
+custody = ended (with_contents (with_forms (with_rule (with_start (new_app (codes "custody"))) vm_rule)))
 
 abbrev pub audit : App
-audit = with_rules (new_app (codes "audit")) (flag_rule (codes "all") ∷ [])
+audit = ended (with_rule (new_app (codes "audit")) (flag_rule (codes "all")))
 
 abbrev pub redact : App
-redact = with_rules (new_app (codes "redact")) (path_rule (codes "config") ∷ path_rule (codes "from") ∷ flag_rule (codes "host") ∷ [])
+redact = ended (with_rule (with_start (new_app (codes "redact"))) (flag_rule (codes "host")))
 
 -- the command with `replay` alone
 abbrev pub base : App

@@ -20,8 +20,8 @@ use std::alloc::{AllocError, Global};
 pub enum ArgFault {
     /// Memory could not be had.
     Memory,
-    /// What is to be printed, and the exit status: 0 for help or the version, which was asked for, and 2 for a wrong command
-    /// line.
+    /// What is to be printed, and the exit status: 0 for help or the version, which was asked for, and 2 for a wrong
+    /// command line.
     Message(String, u8),
     /// Two options contradict each other.
     Clash(Clash),
@@ -88,8 +88,8 @@ fn plain_job<'a>() -> Job<'a>
 /// `--config PATH`, `--from PATH` and `--host`; each also with `--explain` and the file to be read; and `replay` if
 /// there are no arguments.
 pub fn job_of<'a>(alloc: Global, arguments: &'a [&'a str]) -> Result<Job<'a>, ArgFault>
-    // The job is what the arguments say by the command's rules. Only a command line that breaks them is refused, or one with
-    // options that contradict each other.
+    // The job is what the arguments say by the command's rules. Only a command line that breaks them is refused, or one
+    // with options that contradict each other.
     ensures job { IfOk result (IsJob (map (λ w. w.now) arguments.entry.now)) }
     ensures refused { IfErr result (IsRefusal (map (λ w. w.now) arguments.entry.now)) }
 {

@@ -2,14 +2,14 @@
 ghost use Rattle.std.specs.Prelude.{◌≡◌, IfOk, codes, false};
 ghost use Rattle.clap.specs.declared.builder.command.Command.TheViews.{out-Command as fields_of};
 ghost use Rattle.clap.specs.Words.{app_of, rule_of, new_app, with_rule};
-ghost use Rattle.kc_args.specs.Commands.{kcore, replay, live, custody, audit, redact, path_rule, flag_rule, workers_rule, vm_rule, file_rule};
+ghost use Rattle.kc_args.specs.Commands.{kcore, replay, live, custody, audit, redact, with_start, with_outputs, with_forms, with_contents, ended, path_rule, flag_rule, workers_rule, vm_rule, file_rule};
 
 use clap::{Arg, ArgAction, Command};
 use kc_types::{SLOT_LIMIT, WORKER_LIMIT};
 use std::alloc::{AllocError, Global};
 
-/// What `--version` prints after the program's name: the version, which the first line of custody names too, and on a second
-/// line the toolchain that proves it.
+/// What `--version` prints after the program's name: the version, which the first line of custody names too, and on a
+/// second line the toolchain that proves it.
 const VERSION: &str = "2.0.0\nrattle-kit-13f";
 
 const TRACE_HELP: &str = "The trace; standard input if this is - or not given";
@@ -103,7 +103,7 @@ fn with_own<'a>(command: Command<'a>, arg: Arg<'a>) -> Result<Command<'a>, Alloc
 /// Adds the two options for what the calls begin with.
 fn with_start<'a>(alloc: Global, command: Command<'a>) -> Result<Command<'a>, AllocError>
     requires { (fields_of command).has_globals ≡ false }
-    ensures app { IfOk result (λ c. app_of c ≡ with_rule (with_rule (app_of command.entry) (path_rule (codes "config"))) (path_rule (codes "from"))) }
+    ensures app { IfOk result (λ c. app_of c ≡ with_start (app_of command.entry)) }
     ensures local { IfOk result (λ c. (fields_of c).has_globals ≡ false) }
 {
     let command = with_own(command, config_arg(alloc))?;
@@ -132,7 +132,7 @@ fn with_flag<'a>(
 /// Adds the two arguments that each subcommand has.
 fn ended<'a>(alloc: Global, command: Command<'a>, help: &'a str) -> Result<Command<'a>, AllocError>
     requires { (fields_of command).has_globals ≡ false }
-    ensures app { IfOk result (λ c. app_of c ≡ with_rule (with_rule (app_of command.entry) (flag_rule (codes "explain"))) file_rule) }
+    ensures app { IfOk result (λ c. app_of c ≡ ended (app_of command.entry)) }
     ensures local { IfOk result (λ c. (fields_of c).has_globals ≡ false) }
 {
     let about = "Say more of a fault, in further lines";
@@ -143,7 +143,7 @@ fn ended<'a>(alloc: Global, command: Command<'a>, help: &'a str) -> Result<Comma
 /// Adds the flags for what a replay writes.
 fn with_outputs<'a>(alloc: Global, command: Command<'a>) -> Result<Command<'a>, AllocError>
     requires { (fields_of command).has_globals ≡ false }
-    ensures app { IfOk result (λ c. app_of c ≡ with_rule (with_rule (with_rule (app_of command.entry) (flag_rule (codes "dump"))) (flag_rule (codes "state"))) (flag_rule (codes "blank"))) }
+    ensures app { IfOk result (λ c. app_of c ≡ with_outputs (app_of command.entry)) }
     ensures local { IfOk result (λ c. (fields_of c).has_globals ≡ false) }
 {
     let help = "Write the dump of the core that the trace leaves, in place of the replies";
@@ -194,7 +194,7 @@ fn live_command<'a>(alloc: Global) -> Result<Command<'a>, AllocError>
 /// Adds the flags for the form in which custody is reported.
 fn with_forms<'a>(alloc: Global, command: Command<'a>) -> Result<Command<'a>, AllocError>
     requires { (fields_of command).has_globals ≡ false }
-    ensures app { IfOk result (λ c. app_of c ≡ with_rule (with_rule (with_rule (app_of command.entry) (flag_rule (codes "summary"))) (flag_rule (codes "svg"))) (flag_rule (codes "html"))) }
+    ensures app { IfOk result (λ c. app_of c ≡ with_forms (app_of command.entry)) }
     ensures local { IfOk result (λ c. (fields_of c).has_globals ≡ false) }
 {
     let help = "Write an object for each life of a VM, in place of the changes";
@@ -208,7 +208,7 @@ fn with_forms<'a>(alloc: Global, command: Command<'a>) -> Result<Command<'a>, Al
 /// Adds the flags for what else is reported.
 fn with_contents<'a>(alloc: Global, command: Command<'a>) -> Result<Command<'a>, AllocError>
     requires { (fields_of command).has_globals ≡ false }
-    ensures app { IfOk result (λ c. app_of c ≡ with_rule (with_rule (with_rule (with_rule (app_of command.entry) (flag_rule (codes "refused"))) (flag_rule (codes "accesses"))) (flag_rule (codes "unseen"))) (flag_rule (codes "digests"))) }
+    ensures app { IfOk result (λ c. app_of c ≡ with_contents (app_of command.entry)) }
     ensures local { IfOk result (λ c. (fields_of c).has_globals ≡ false) }
 {
     let help = "Also write each call that was refused or rejected";

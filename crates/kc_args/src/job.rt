@@ -13,8 +13,8 @@ pub enum Start<'a> {
     State(&'a str),
 }
 
-/// What is written of custody, and where calls begin. What came before the state of a text is not known, so a summary and
-/// a picture begin in a boot state, with the configuration in a file or the default one.
+/// What is written of custody, and where calls begin. What came before the state of a text is not known, so a summary
+/// and a picture begin in a boot state, with the configuration in a file or the default one.
 #[derive(Clone, Copy, Debug, PartialEq, Eq)]
 pub enum Account<'a> {
     /// Every change of a frame or slot, and what else is asked for of the calls.
@@ -30,8 +30,8 @@ pub enum Account<'a> {
 /// What is to be done with a trace or a dump.
 #[derive(Clone, Copy, Debug, PartialEq, Eq)]
 pub enum Action<'a> {
-    /// Replay the trace with 1 to 64 workers, and compare the state that it leaves with the text in the file `to`, if that
-    /// is named. Blank: with the pages of active VMs zeroed, in what is written and compared of the core.
+    /// Replay the trace with 1 to 64 workers, and compare the state that it leaves with the text in the file `to`, if
+    /// that is named. Blank: with the pages of active VMs zeroed, in what is written and compared of the core.
     Replay {
         start: Start<'a>,
         to: Option<&'a str>,
@@ -39,7 +39,8 @@ pub enum Action<'a> {
         is_blank: bool,
         workers: u32,
     },
-    /// Run the trace live, with the configuration in a file or the default one, and replay the history with 1 to 64 workers.
+    /// Run the trace live, with the configuration in a file or the default one, and replay the history with 1 to 64
+    /// workers.
     Live {
         config: Option<&'a str>,
         workers: u32,

@@ -1,9 +1,10 @@
 //! The command line, and what it asks for.
 //!
 //! - the program's command, as `clap` has it: `specs/Commands.antt`, `src/commands.rt`
-//! - which job a command line asks for, and which command lines are refused: `specs/Arguments.antt`, `src/arguments.rt`; the
-//!   options as they are given: `specs/Options.antt`, `src/options.rt`; what they ask for together: `specs/Jobs.antt`,
-//!   `src/judging.rt`, `src/job.rt`; which contradict each other: `specs/Clashes.antt`, `src/clash.rt`
+//! - which job a command line asks for, and which command lines are refused: `specs/Arguments.antt`,
+//!   `src/arguments.rt`; the options as they are given: `specs/Options.antt`, `src/options.rt`; what they ask for
+//!   together: `specs/Jobs.antt`, `src/judging.rt`, `src/job.rt`; which contradict each other: `specs/Clashes.antt`,
+//!   `src/clash.rt`
 #![tactic(auto)]
 
 mod arguments;

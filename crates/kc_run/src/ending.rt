@@ -104,8 +104,8 @@ pub(crate) fn end<L: Sink>(ended: Result<Ending, TextFault>, err: &mut L) -> Exi
     }
 }
 
-/// Reports options that contradict each other, in the form in which a wrong command line is reported. The exit status is 2,
-/// even if the sink fails.
+/// Reports options that contradict each other, in the form in which a wrong command line is reported. The exit status
+/// is 2, even if the sink fails.
 pub fn refuse<L: Sink>(clash: Clash, err: &mut L) -> Exit
     requires { L.failed err.old ≡ false }
     ensures status { result.status ≡ 2 }
