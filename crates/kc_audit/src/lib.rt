@@ -12,6 +12,7 @@ mod collect;
 mod counts;
 mod finding;
 mod frames;
+mod judgement;
 mod leaves;
 mod line;
 mod lists;

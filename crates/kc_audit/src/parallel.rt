@@ -2,19 +2,17 @@
 ghost use Rattle.std.specs.Prelude.{◌≡◌, ◌+◌, ◌≤◌, ◌↔◌, [], length, map, IfOk};
 ghost use Rattle.std.specs.List.{range_with_len};
 ghost use Rattle.sha2.specs.Sha256.{sha256};
-ghost use Rattle.kc_types.specs.Limits.{frame_limit, slot_limit};
+ghost use Rattle.kc_types.specs.Limits.{slot_limit};
 ghost use Rattle.kc_model.specs.State.{zero_page};
 ghost use Rattle.kc_audit.specs.Counts.{AreOwnerCounts};
 ghost use Rattle.kc_audit.specs.Marks.{AreMarks};
-ghost use Rattle.kc_audit.specs.Findings.{AreFindings, AreGoodLists, AreListsFrom, verdicts_of, verdict_of};
+ghost use Rattle.kc_audit.specs.Findings.{AreFindings, AreListsFrom, verdicts_of, verdict_of};
 ghost use Rattle.kc_dump.specs.Sound.{IsSound};
 
 use crate::Finding;
-use crate::collect::findings;
-use crate::counts::counts;
 use crate::frames::judge_frames;
+use crate::judgement::Judgement;
 use crate::lists::judge_lists;
-use crate::marks::marks;
 use crate::verdict::FrameVerdict;
 use kc_digests::zero_digest;
 use kc_dump::Dump;
@@ -69,36 +67,6 @@ fn judge_all_lists(rt: &(impl Threads + Sync), dump: &Dump, counts: &[u32], out:
     );
 }
 
-fn verdicts(
-    rt: &(impl Threads + Sync),
-    alloc: Global,
-    dump: &Dump,
-) -> Result<Vec<FrameVerdict>, Memory>
-    ensures verdicts { IfOk result (λ verdicts. verdicts.items ≡ verdicts_of dump.now) }
-    ensures few { IfOk result (λ verdicts. length verdicts.items ≤ frame_limit) }
-{
-    let marks = marks(alloc, dump)?;
-    let mut verdicts = vec![in alloc; FrameVerdict::default(); dump.frames().len()]?;
-    judge_all_frames(
-        rt,
-        dump,
-        marks.as_slice(),
-        &zero_digest(),
-        verdicts.as_mut_slice(),
-    );
-    Ok(verdicts)
-}
-
-fn lists(rt: &(impl Threads + Sync), alloc: Global, dump: &Dump) -> Result<Vec<bool>, Memory>
-    ensures lists { IfOk result (λ lists. AreGoodLists dump.now lists.items) }
-    ensures few { IfOk result (λ lists. length lists.items ≤ slot_limit + 1) }
-{
-    let counts = counts(alloc, dump)?;
-    let mut lists = vec![in alloc; false; dump.slots().len() + 1]?;
-    judge_all_lists(rt, dump, counts.as_slice(), lists.as_mut_slice());
-    Ok(lists)
-}
-
 /// Does what `audit` does, with several threads that judge the frames and the lists.
 pub fn audit_parallel(
     rt: &(impl Threads + Sync),
@@ -109,7 +77,19 @@ pub fn audit_parallel(
     ensures found { IfOk result (λ found. AreFindings dump.now found.items) }
     ensures sound { IfOk result (λ found. (found.items ≡ []) ↔ IsSound dump.now) }
 {
-    let verdicts = verdicts(rt, alloc, dump)?;
-    let lists = lists(rt, alloc, dump)?;
-    findings(alloc, dump, verdicts.as_slice(), lists.as_slice())
+    let mut judgement = Judgement::new(alloc, dump)?;
+    judge_all_frames(
+        rt,
+        dump,
+        judgement.marks.as_slice(),
+        &zero_digest(),
+        judgement.verdicts.as_mut_slice(),
+    );
+    judge_all_lists(
+        rt,
+        dump,
+        judgement.counts.as_slice(),
+        judgement.lists.as_mut_slice(),
+    );
+    judgement.findings(alloc, dump)
 }
