@@ -1,10 +1,11 @@
 //! What events say of one slot.
 ghost use Rattle.std.specs.Prelude.{◌≡◌, ◌+◌, ◌-◌, ◌∷◌, ◌^◌, ◌<◌, ◌==◌, ◌&&◌, nat_lt, Some, IfOk, OnOk};
+ghost use Rattle.kc_model.specs.Lives.{is_owned_by};
 ghost use Rattle.kc_custody.specs.Tally.{no_tally, told_life, owning, HasRoomFor, TalliesFrame};
 
 use crate::different::count_different;
 use kc_remarks::is_owned_by;
-use kc_types::{FrameChange, Gfn, Life, MeasuredImages, Memory, Sharing, Sharings, VmId};
+use kc_types::{FrameChange, Gfn, Life, MeasuredImages, Memory, Owner, Sharing, Sharings, VmId};
 use std::alloc::Global;
 use std::marker::Model;
 use std::mem;
@@ -177,9 +178,8 @@ impl Tally {
     ) -> Result<(), Memory>
         ensures { OnOk result (TalliesFrame vm told.now to self.old self.new) }
     {
-        let slot = vm.index() as u32;
-        let has = is_owned_by(told.after.owner, slot);
-        self.own(is_owned_by(told.before.owner, slot), has, told.frame)?;
+        let has = is_owned(told.after.owner, vm);
+        self.own(is_owned(told.before.owner, vm), has, told.frame)?;
         if has && begins_sharing(told) {
             self.share(told.frame, told.after.gfn, told.line, to)?;
         }
@@ -220,6 +220,13 @@ impl Tally {
             shared: Sharings::of(shared),
         }
     }
+}
+
+/// Whether the owner is this VM.
+fn is_owned(owner: Owner, vm: VmId) -> bool
+    ensures { result ≡ is_owned_by vm owner }
+{
+    is_owned_by(owner, vm.index() as u32)
 }
 
 /// Whether the frame is shared after the change, and was not before.
